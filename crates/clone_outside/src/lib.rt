@@ -1,0 +1,47 @@
+//! The outside of the program: sources and sinks of bytes, what they tell, and how often they failed.
+#![tactic(auto)]
+
+mod fault_plan;
+mod mem_sink;
+mod mem_source;
+mod stream;
+#[cfg(test)]
+mod tests;
+
+pub use mem_sink::MemSink;
+pub use mem_source::MemSource;
+pub use stream::{Sink, Source, write_all};
+
+/// Want of memory. It is the one answer that no clause ties to a cause.
+pub type NoMemory = std::alloc::AllocError;
+
+/// Why a call of the outside gave up.
+#[derive(Clone, Copy, Debug, PartialEq, Eq)]
+pub enum Refusal {
+    /// The outside failed, and its count of faults rose.
+    Fault,
+    /// There was no memory.
+    NoMemory,
+}
+
+impl From<NoMemory> for Refusal {
+    ghost use Rattle.std.specs.Prelude.{◌≡◌};
+    ghost use Rattle.clone_outside.specs.declared.Refusal.TheVariants.{NoMemory};
+
+    ghost from_gives = { λ _ refusal. refusal ≡ NoMemory };
+
+    fn from(_: NoMemory) -> Self {
+        Refusal::NoMemory
+    }
+}
+
+impl<T: Drop> From<std::alloc::AllocFailed<T>> for Refusal {
+    ghost use Rattle.std.specs.Prelude.{◌≡◌};
+    ghost use Rattle.clone_outside.specs.declared.Refusal.TheVariants.{NoMemory};
+
+    ghost from_gives = { λ _ refusal. refusal ≡ NoMemory };
+
+    fn from(_: std::alloc::AllocFailed<T>) -> Self {
+        Refusal::NoMemory
+    }
+}
