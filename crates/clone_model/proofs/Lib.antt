@@ -1,0 +1,3 @@
+pub mod RowMaps
+pub mod TextLemmas
+pub mod Ordered

@@ -1,0 +1,5 @@
+pub mod Keys
+pub mod History
+pub mod Room
+pub mod Texts
+pub mod Lines

@@ -1,0 +1,111 @@
+ghost use Rattle.std.specs.Prelude.{◌≡◌, ◌≤◌, ◌<◌, ◌⊎◌, IfSome, IfNone};
+
+use crate::Value;
+use std::marker::Model;
+
+/// The number of a table, from 1 to 1,000,000.
+#[derive(Clone, Copy, Debug, PartialEq, Eq)]
+pub struct TableNumber {
+    number: u32,
+}
+
+impl Model for TableNumber {
+    ghost use Rattle.std.specs.Prelude.{ℕ, ◌≤◌};
+
+    ghost Value = { ℕ };
+
+    ghost view = { λ t. t.number };
+
+    ghost invariant = { λ t. (1 ≤ t.number) × (t.number ≤ 1000000) };
+
+    ghost inverse = { λ n. record { number = n } };
+}
+
+impl TableNumber {
+    /// The table of this number, or none where it is out of range.
+    pub fn new(number: u32) -> Option<TableNumber>
+        ensures some { IfSome result (λ t. t ≡ number) }
+        ensures none { IfNone result ((number ≡ 0) ⊎ (1000000 < number)) }
+    {
+        if number == 0 || number > 1_000_000 {
+            return None;
+        }
+        Some(TableNumber { number })
+    }
+
+    /// The number itself.
+    pub fn get(self) -> u32
+        ensures value { result ≡ self }
+        ensures low { 1 ≤ self }
+        ensures high { self ≤ 1000000 }
+    {
+        self.number
+    }
+}
+
+/// A number of buckets, from 1 to 1,024.
+#[derive(Clone, Copy, Debug, PartialEq, Eq)]
+pub struct BucketCount {
+    count: u32,
+}
+
+impl Model for BucketCount {
+    ghost use Rattle.std.specs.Prelude.{ℕ, ◌≤◌};
+
+    ghost Value = { ℕ };
+
+    ghost view = { λ b. b.count };
+
+    ghost invariant = { λ b. (1 ≤ b.count) × (b.count ≤ 1024) };
+
+    ghost inverse = { λ n. record { count = n } };
+}
+
+impl BucketCount {
+    /// So many buckets, or none where that is out of range.
+    pub fn new(count: u32) -> Option<BucketCount>
+        ensures some { IfSome result (λ b. b ≡ count) }
+        ensures none { IfNone result ((count ≡ 0) ⊎ (1024 < count)) }
+    {
+        if count == 0 || count > 1024 {
+            return None;
+        }
+        Some(BucketCount { count })
+    }
+
+    /// The number itself.
+    pub fn get(self) -> u32
+        ensures value { result ≡ self }
+        ensures low { 1 ≤ self }
+        ensures high { self ≤ 1024 }
+    {
+        self.count
+    }
+}
+
+/// A line of a script.
+#[derive(Debug, PartialEq, Eq, Drop)]
+pub enum Line {
+    /// `create T B`: table T is made with B buckets.
+    Create {
+        /// The number of the table.
+        table: TableNumber,
+        /// How many buckets it gets.
+        buckets: BucketCount,
+    },
+    /// `set W T K V`: writer W commits a transaction that gives a row its value.
+    Set {
+        /// The writer.
+        writer: u32,
+        /// The number of the row's table.
+        table: TableNumber,
+        /// The key of the row in its table.
+        key: u64,
+        /// The value that the row gets.
+        value: Value,
+    },
+    /// `clone`: a clone is taken.
+    Clone,
+    /// `rows`: the rows of the clone are shown.
+    Rows,
+}

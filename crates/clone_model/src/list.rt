@@ -1,0 +1,134 @@
+ghost use Rattle.std.specs.Prelude.{◌≡◌, ◌↔◌, ◌++◌, ◌∷◌, [], IsTrue, OnOk, OnErr, IfOk, length, take, ◌-◌, option_to_list};
+
+use crate::{Change, Commit, NoMemory};
+use std::alloc::Global;
+use std::marker::Model;
+
+/// Changes in their order.
+#[derive(Debug, Drop)]
+pub struct Changes {
+    list: Vec<Change>,
+}
+
+impl Model for Changes {
+    ghost use Rattle.std.specs.Prelude.{List};
+    ghost use Rattle.clone_model.specs.declared.change.Change.{Change};
+
+    ghost Value = { List Change };
+
+    ghost view = { λ c. c.list.items };
+}
+
+impl Changes {
+    /// No changes. This takes no memory.
+    pub fn new(alloc: Global) -> Changes
+        ensures { result ≡ [] }
+    {
+        Changes {
+            list: Vec::new(alloc),
+        }
+    }
+
+    /// One change.
+    pub fn with(alloc: Global, change: Change) -> Result<Changes, NoMemory>
+        ensures { IfOk result (λ changes. changes ≡ change ∷ []) }
+    {
+        let mut changes = Changes::new(alloc);
+        changes.push(change)?;
+        Ok(changes)
+    }
+
+    /// Adds a change behind the others. After a refusal the list is as before.
+    pub fn push(&mut self, change: Change) -> Result<(), NoMemory>
+        ensures ok { OnOk result (self.new ≡ self.old ++ change ∷ []) }
+        ensures err { OnErr result (self.new ≡ self.old) }
+    {
+        self.list.push(change)?;
+        Ok(())
+    }
+
+    /// How many changes there are.
+    pub fn len(&self) -> usize
+        ensures { result ≡ length self.now }
+    {
+        self.list.len()
+    }
+
+    /// Whether there is no change.
+    pub fn is_empty(&self) -> bool
+        ensures { IsTrue result ↔ (self.now ≡ []) }
+    {
+        self.list.is_empty()
+    }
+
+    /// The changes, the first one first.
+    pub fn as_slice(&self) -> &[Change]
+        ensures { result.now ≡ self.now }
+    {
+        &self.list
+    }
+}
+
+/// Commits in their order.
+#[derive(Debug, Drop)]
+pub struct Binlog {
+    list: Vec<Commit>,
+}
+
+impl Model for Binlog {
+    ghost use Rattle.std.specs.Prelude.{List};
+    ghost use Rattle.clone_model.specs.declared.change.Commit.{Commit};
+
+    ghost Value = { List Commit };
+
+    ghost view = { λ c. c.list.items };
+}
+
+impl Binlog {
+    /// No commits. This takes no memory.
+    pub fn new(alloc: Global) -> Binlog
+        ensures { result ≡ [] }
+    {
+        Binlog {
+            list: Vec::new(alloc),
+        }
+    }
+
+    /// Adds a commit behind the others. After a refusal the binlog is as before.
+    pub fn push(&mut self, commit: Commit) -> Result<(), NoMemory>
+        ensures ok { OnOk result (self.new ≡ self.old ++ commit ∷ []) }
+        ensures err { OnErr result (self.new ≡ self.old) }
+    {
+        self.list.push(commit)?;
+        Ok(())
+    }
+
+    /// Takes the last commit away, if there is one.
+    pub fn pop(&mut self) -> Option<Commit>
+        ensures rest { self.new ≡ take (length self.old - 1) self.old }
+        ensures last { self.old ≡ self.new ++ option_to_list result }
+    {
+        self.list.pop()
+    }
+
+    /// How many commits there are.
+    pub fn len(&self) -> usize
+        ensures { result ≡ length self.now }
+    {
+        self.list.len()
+    }
+
+    /// Whether there is no commit.
+    pub fn is_empty(&self) -> bool
+        ensures { IsTrue result ↔ (self.now ≡ []) }
+    {
+        self.list.is_empty()
+    }
+
+    /// The commits, the first one first.
+    pub fn as_slice(&self) -> &[Commit]
+        ensures { result.now ≡ self.now }
+    {
+        &self.list
+    }
+}

@@ -1,0 +1,106 @@
+ghost use Rattle.std.specs.Prelude.{◌≡◌, ◌++◌, IfOk, OnOk};
+ghost use Rattle.std.specs.String.{string_bytes};
+ghost use Rattle.clone_model.specs.Texts as texts;
+ghost use Rattle.clone_model.specs.Lines as lines;
+
+use crate::{Binlog, Change, Commit, Line, NoMemory, Value};
+use std::alloc::Global;
+use std::fmt::Write;
+
+/// The rows, each on a line: table, key and value.
+pub fn rows_text(alloc: Global, rows: &[(u32, u64, Value)]) -> Result<String, NoMemory>
+    ensures { IfOk result (λ text. string_bytes text ≡ texts.rows_text rows.now) }
+{
+    let mut text = String::new(alloc);
+    for row in rows {
+        push_row(&mut text, row)?;
+    }
+    Ok(text)
+}
+
+/// The commits in their order, each with its changes.
+pub fn binlog_text(alloc: Global, binlog: &Binlog) -> Result<String, NoMemory>
+    ensures { IfOk result (λ text. string_bytes text ≡ texts.binlog_text binlog.now) }
+{
+    let mut text = String::new(alloc);
+    for commit in binlog.as_slice() {
+        push_commit(&mut text, commit)?;
+    }
+    Ok(text)
+}
+
+/// The text of a line of a script.
+pub fn line_text(alloc: Global, line: &Line) -> Result<String, NoMemory>
+    ensures { IfOk result (λ text. string_bytes text ≡ lines.line_text line.now) }
+{
+    let mut text = String::new(alloc);
+    match line {
+        Line::Create { table, buckets } => {
+            write!(text, "create {} {}", table.get(), buckets.get())?;
+        }
+        Line::Set {
+            writer,
+            table,
+            key,
+            value,
+        } => {
+            write!(text, "set {writer} {} {key} ", table.get())?;
+            push_value(&mut text, value)?;
+        }
+        Line::Clone => text.push_str("clone")?,
+        Line::Rows => text.push_str("rows")?,
+    }
+    Ok(text)
+}
+
+fn push_row(text: &mut String, row: &(u32, u64, Value)) -> Result<(), NoMemory>
+    ensures { OnOk result (string_bytes text.new ≡ string_bytes text.old ++ texts.ended (texts.row_text row.now)) }
+{
+    let (table, key, value) = row;
+    write!(text, "{table} {key} ")?;
+    push_value(text, value)?;
+    text.push('\n')
+}
+
+fn push_commit(text: &mut String, commit: &Commit) -> Result<(), NoMemory>
+    ensures { OnOk result (string_bytes text.new ≡ string_bytes text.old ++ texts.commit_text commit.now) }
+{
+    let changes = commit.changes.as_slice();
+    let Commit { writer, index, .. } = commit;
+    writeln!(text, "commit {writer} {index} {}", changes.len())?;
+    for change in changes {
+        push_change(text, change)?;
+    }
+    Ok(())
+}
+
+fn push_change(text: &mut String, change: &Change) -> Result<(), NoMemory>
+    ensures { OnOk result (string_bytes text.new ≡ string_bytes text.old ++ texts.ended (texts.change_text change.now)) }
+{
+    let Change { table, key, value } = change;
+    write!(text, "{table} {key} ")?;
+    match value {
+        Some(value) => push_value(text, value)?,
+        None => text.push_str("none")?,
+    }
+    text.push('\n')
+}
+
+fn push_value(text: &mut String, value: &Value) -> Result<(), NoMemory>
+    ensures { OnOk result (string_bytes text.new ≡ string_bytes text.old ++ texts.value_text value.now) }
+{
+    let bytes = value.bytes();
+    if bytes.is_empty() {
+        return text.push('-');
+    }
+    push_hex(text, bytes)
+}
+
+fn push_hex(text: &mut String, bytes: &[u8]) -> Result<(), NoMemory>
+    ensures { OnOk result (string_bytes text.new ≡ string_bytes text.old ++ texts.hex bytes.now) }
+{
+    for byte in bytes {
+        write!(text, "{byte:02x}")?;
+    }
+    Ok(())
+}
