@@ -1,0 +1,4 @@
+pub mod Reading
+pub mod Choices
+pub mod Laying
+pub mod Parts

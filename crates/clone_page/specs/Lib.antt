@@ -1,0 +1,5 @@
+pub mod Bytes
+pub mod Kinds
+pub mod Header
+pub mod Slots
+pub mod Dictionary

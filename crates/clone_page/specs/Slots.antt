@@ -1,0 +1,36 @@
+-- A bucket page or an overflow page as 50 slots of 80 bytes each.
+use Rattle.std.specs.Prelude.{ℕ, ◌+◌, ◌-◌, ◌*◌, List, ◌∷◌, ◌++◌, length, replicate, slice_index, if◌then◌else◌, nat_le, ◌==◌, ◌&&◌, None, Some}
+use Rattle.std.specs.declared.option.Option.{Option}
+use Rattle.byteorder.specs.Endian.{big_bytes}
+use Rattle.clone_page.specs.Bytes.{part, field}
+
+abbrev pub slot_count : ℕ
+slot_count = 50
+
+abbrev pub slot_at : ℕ → ℕ
+slot_at j = 48 + 80 * j
+
+-- the 80 bytes of a slot
+abbrev pub slot : ℕ → List ℕ → List ℕ
+slot j page = part (slot_at j) 80 page
+
+-- 0 never used, 1 present, 2 absent
+abbrev pub state_of : List ℕ → ℕ
+state_of bytes = slice_index bytes 0
+
+abbrev pub length_of : List ℕ → ℕ
+length_of bytes = slice_index bytes 1
+
+abbrev pub key_of : List ℕ → ℕ
+key_of bytes = field 8 8 bytes
+
+abbrev pub value_of : List ℕ → List ℕ
+value_of bytes = part 16 (length_of bytes) bytes
+
+-- The key and the value of a slot that holds a row. A slot whose length is above 64 holds none.
+abbrev pub row_of : List ℕ → Option (ℕ × List ℕ)
+row_of bytes = if (state_of bytes == 1) && nat_le (length_of bytes) 64 then Some (key_of bytes, value_of bytes) else None
+
+-- a slot that holds a row
+abbrev pub present_slot : ℕ → List ℕ → List ℕ
+present_slot key value = 1 ∷ length value ∷ (replicate 6 0 ++ (big_bytes 8 key ++ (value ++ replicate (64 - length value) 0)))
