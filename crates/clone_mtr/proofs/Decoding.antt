@@ -1,0 +1,173 @@
+-- Reading record after record, as the decoder does.
+use Rattle.std.proofs.Common.{◌≡◌, ℕ, ◌+◌, ◌-◌, ◌<◌, ◌≤◌, List, [], ◌∷◌, ◌++◌, length, take, drop, None, Some, Ok, Err, refl, sym, ap, subst, ◌∙◌, append_assoc, arith, nat_le, inl, inr}
+use Rattle.std.specs.List.{AllByRecursion}
+use Rattle.std.proofs.lemmas.Bool.{leb-true, leb-false}
+use Rattle.std.proofs.lemmas.List.{append-nil, length-append, take_at}
+use Rattle.clone_mtr.specs.Records.{IsRecord}
+use Rattle.clone_mtr.specs.Spelling.{record_spelling, spelling, Spells}
+use Rattle.clone_mtr.specs.Answers.{BeginsNone, Decodes}
+use Rattle.clone_mtr.specs.declared.record.Record.{Record}
+use Rattle.clone_mtr.specs.declared.refusal.DecodeRefusal.{DecodeRefusal}
+use Rattle.clone_mtr.specs.declared.refusal.DecodeRefusal.TheVariants.{Short, BadKind, OutOfPage, TooLong, NoMemory}
+use Rattle.clone_mtr.specs.declared.record.Record.TheVariants.{Init, Write, Extend, Create, Drop}
+use Rattle.clone_mtr.specs.Reading.{item_at, next_at}
+use Rattle.clone_mtr.proofs.Numbers.{IsBytes, chosen}
+use Rattle.clone_mtr.proofs.Items.{IsShort, Found, answer, item_takes, item_ends, item_again, end_again}
+use Rattle.clone_mtr.proofs.Spellings.{text_of, spelling-append, spelling_is, spelling_some, first_same, not_end, short_first}
+
+-- the bytes are these records and then a rest
+pub record Splits (bytes : List ℕ) (rs : List Record) (rest : List ℕ) : Type 0 where
+  pub parts : bytes ≡ text_of rs ++ rest
+  pub each : AllByRecursion IsRecord rs
+  pub short : AllByRecursion IsShort rs
+  pub fits : IsBytes rest
+
+text-push : (rs : List Record) (r : Record) → text_of (rs ++ r ∷ []) ≡ text_of rs ++ record_spelling r
+text-push [] r = append-nil (record_spelling r)
+text-push (s ∷ rs) r = ap (λ t. record_spelling s ++ t) (text-push rs r) ∙ sym (append_assoc (record_spelling s) (text_of rs) (record_spelling r))
+
+all-push : (P : Record → Type 0) (rs : List Record) (r : Record) → AllByRecursion P rs → P r → AllByRecursion P (rs ++ r ∷ [])
+all-push P [] r all one = (one, tt)
+all-push P (s ∷ rs) r all one = (all.0, all-push P rs r all.1 one)
+
+-- one more record
+pub Splits-more : (bytes rest after : List ℕ) (rs : List Record) (r : Record) (at : ℕ) → Splits bytes rs rest → item_at at rest ≡ Ok (Some (r, after)) → Splits bytes (rs ++ r ∷ []) after
+Splits-more bytes rest after rs r at so_far found =
+    let taken = item_takes at rest (r, after) so_far.fits found in
+    record {
+      parts = so_far.parts ∙ ap (λ t. text_of rs ++ t) taken.0.parts ∙ sym (append_assoc (text_of rs) (record_spelling r) after) ∙ ap (λ t. t ++ after) (sym (text-push rs r));
+      each = all-push IsRecord rs r so_far.each taken.1;
+      short = all-push IsShort rs r so_far.short taken.2;
+      fits = taken.0.rest_fits;
+    }
+
+-- a spelling at the front has the records that were read, and goes on in the rest
+record Goes_on (rs all : List Record) (rest after : List ℕ) : Type 0 where
+  more : List Record
+  whole : all ≡ rs ++ more
+  parts : rest ≡ spelling more ++ after
+  each : AllByRecursion IsRecord more
+  short : length (spelling more) ≤ 1024
+
+goes_on : (rs all : List Record) (rest after : List ℕ) → AllByRecursion IsRecord rs → AllByRecursion IsShort rs → AllByRecursion IsRecord all → length (spelling all) ≤ 1024
+    → text_of rs ++ rest ≡ spelling all ++ after → Goes_on rs all rest after
+goes_on [] all rest after each short each_all short_all e = record { more = all; whole = refl; parts = e; each = each_all; short = short_all }
+goes_on (r ∷ rs) [] rest after each short each_all short_all e =
+    absurd (not_end r (text_of rs ++ rest) after each.0 short.0 (sym (append_assoc (record_spelling r) (text_of rs) rest) ∙ e))
+goes_on (r ∷ rs) (s ∷ all) rest after each short each_all short_all e =
+    let b = short_first s all short_all in
+    let split : record_spelling r ++ (text_of rs ++ rest) ≡ record_spelling s ++ (spelling all ++ after) =
+    sym (append_assoc (record_spelling r) (text_of rs) rest) ∙ e ∙ append_assoc (record_spelling s) (spelling all) after in
+    let first = first_same r s (text_of rs ++ rest) (spelling all ++ after) each.0 each_all.0 short.0 b.0 split in
+    let rest_on = goes_on rs all rest after each.1 short.1 each_all.1 b.1 first.1 in
+    record { more = rest_on.more; whole = (let p = rest_on.whole in let q = first.0 in cc); parts = rest_on.parts; each = rest_on.each; short = rest_on.short }
+
+begun : (bytes rest front after : List ℕ) (rs all : List Record) → Splits bytes rs rest → bytes ≡ front ++ after → Spells front all → Goes_on rs all rest after
+begun bytes rest front after rs all so_far split spells =
+    let short : length (spelling all) ≤ 1024 = rw (← spells.text) spells.short in
+    goes_on rs all rest after so_far.each so_far.short spells.mtr.1 short (sym so_far.parts ∙ split ∙ ap (λ t. t ++ after) spells.text)
+
+-- what stands in a spelling's place is read
+item_there : (at : ℕ) (more : List Record) (after : List ℕ) → AllByRecursion IsRecord more → length (spelling more) ≤ 1024 → (x : Found) × (item_at at (spelling more ++ after) ≡ answer x)
+item_there at [] after each short = (None, end_again at after)
+item_there at (r ∷ more) after each short =
+    (Some (r, spelling more ++ after), ap (item_at at) (append_assoc (record_spelling r) (spelling more) after) ∙ item_again at r (spelling more ++ after) each.0 (short_first r more short).0)
+
+answer_is : {x : Found} {e : DecodeRefusal} → answer x ≡ Err e → ⊥
+answer_is h = cc
+
+-- where reading is refused no front is a spelling
+pub refused : (bytes rest : List ℕ) (rs : List Record) (at : ℕ) (e : DecodeRefusal) → Splits bytes rs rest → item_at at rest ≡ Err e → BeginsNone bytes
+refused bytes rest rs at e so_far failed front after all split spells =
+    let on = begun bytes rest front after rs all so_far split spells in
+    let there = item_there at on.more after on.each on.short in
+    answer_is (sym there.1 ∙ ap (item_at at) (sym on.parts) ∙ failed)
+
+-- where too much was read no front is a spelling
+pub too_long : (bytes rest : List ℕ) (rs : List Record) → Splits bytes rs rest → 1024 ≤ length (text_of rs) → BeginsNone bytes
+too_long bytes rest rs so_far long front after all split spells =
+    let on = begun bytes rest front after rs all so_far split spells in
+    let whole : spelling all ≡ text_of rs ++ spelling on.more = ap spelling on.whole ∙ spelling-append rs on.more in
+    let lengths = ap length whole ∙ length-append (text_of rs) (spelling on.more) in
+    let some = spelling_some on.more in
+    let short : length (spelling all) ≤ 1024 = rw (← spells.text) spells.short in
+    absurd (omega arith)
+
+-- an end mark alone is no spelling
+pub no_record : (bytes : List ℕ) (at : ℕ) → item_at at bytes ≡ Ok None → BeginsNone bytes
+no_record bytes at ended front after [] split spells = absurd (omega (arith, spells.mtr.0))
+no_record bytes at ended front after (r ∷ all) split spells =
+    let short : length (spelling (r ∷ all)) ≤ 1024 = rw (← spells.text) spells.short in
+    let parts : record_spelling r ++ (spelling all ++ after) ≡ 6 ∷ drop 1 bytes =
+    sym (append_assoc (record_spelling r) (spelling all) after) ∙ ap (λ t. t ++ after) (sym spells.text) ∙ sym split ∙ item_ends at bytes ended in
+    not_end r (spelling all ++ after) (drop 1 bytes) spells.mtr.1.0 (short_first r all short).0 parts
+
+-- where the end mark is read the front is a spelling
+pub ended : (bytes rest : List ℕ) (rs : List Record) (at : ℕ) → Splits bytes rs rest → item_at at rest ≡ Ok None → 1 ≤ length rs → length (text_of rs) ≤ 1023
+    → Spells (take (length (text_of rs) + 1) bytes) rs × (length (text_of rs) + 1 ≤ length bytes)
+ended bytes rest rs at so_far end some short =
+    let mark = item_ends at rest end in
+    let parts : bytes ≡ spelling rs ++ drop 1 rest = so_far.parts ∙ ap (λ t. text_of rs ++ t) mark ∙ sym (append_assoc (text_of rs) (6 ∷ []) (drop 1 rest)) ∙ ap (λ t. t ++ drop 1 rest) (sym (spelling_is rs)) in
+    let long : length (spelling rs) ≡ length (text_of rs) + 1 = ap length (spelling_is rs) ∙ length-append (text_of rs) (6 ∷ []) in
+    let whole = ap length parts ∙ length-append (spelling rs) (drop 1 rest) in
+    let text : take (length (text_of rs) + 1) bytes ≡ spelling rs = ap (take (length (text_of rs) + 1)) parts ∙ take_at (spelling rs) (drop 1 rest) (length (text_of rs) + 1) long in
+    (record { mtr = (some, so_far.each); text = text; short = rw text (omega arith) }, omega arith)
+
+-- nothing was read yet
+pub Splits-none : (bytes : List ℕ) → IsBytes bytes → Splits bytes [] bytes
+Splits-none bytes fits = record { parts = refl; each = tt; short = tt; fits = fits }
+
+-- how far the reading has come
+pub place : (bytes rest : List ℕ) (rs : List Record) → Splits bytes rs rest → length bytes - length rest ≡ length (text_of rs)
+place bytes rest rs so_far = let whole = ap length so_far.parts ∙ length-append (text_of rs) rest in omega arith
+
+record_some : (r : Record) → 1 ≤ length (record_spelling r)
+record_some (Init space page kind) = omega arith
+record_some (Write space page patch) = omega arith
+record_some (Extend space pages) = omega arith
+record_some (Create space pages) = omega arith
+record_some (Drop space) = omega arith
+
+-- a refusal where no front is a spelling
+pub refuses : (bytes : List ℕ) (e : DecodeRefusal) → BeginsNone bytes → Decodes bytes (Err e)
+refuses bytes Short none = none
+refuses bytes (BadKind at) none = none
+refuses bytes (OutOfPage at) none = none
+refuses bytes TooLong none = none
+refuses bytes NoMemory none = tt
+
+-- the next item is refused
+pub next_refused : (bytes rest : List ℕ) (rs : List Record) (e : DecodeRefusal) → Splits bytes rs rest → next_at (length bytes - length rest) rest ≡ Err e → BeginsNone bytes
+next_refused bytes rest rs e so_far failed =
+    let at = length bytes - length rest in
+    let stands = place bytes rest rs so_far in
+    elim (chosen (nat_le 1024 at) (Err TooLong) (item_at at rest) (Err e) failed) [
+      | inl over ↦ too_long bytes rest rs so_far (let le : 1024 ≤ at = leb-true 1024 at over.0 in omega arith)
+      | inr within ↦ refused bytes rest rs at e so_far within.1
+    ]
+
+-- the next item begins before 1,024
+pub next_found : (at : ℕ) (rest : List ℕ) (x : Found) → next_at at rest ≡ answer x → (item_at at rest ≡ answer x) × (at ≤ 1023)
+next_found at rest x found =
+    elim (chosen (nat_le 1024 at) (Err TooLong) (item_at at rest) (answer x) found) [
+      | inl over ↦ absurd (answer_is (sym over.1))
+      | inr within ↦ (within.1, (let lt : at < 1024 = leb-false 1024 at within.0 in omega arith))
+    ]
+
+pub next_more : (bytes rest after : List ℕ) (rs : List Record) (r : Record) → Splits bytes rs rest → next_at (length bytes - length rest) rest ≡ answer (Some (r, after)) → Splits bytes (rs ++ r ∷ []) after × (length after < length rest)
+next_more bytes rest after rs r so_far found =
+    let at = length bytes - length rest in
+    let item = next_found at rest (Some (r, after)) found in
+    let taken = item_takes at rest (r, after) so_far.fits item.0 in
+    let whole = ap length taken.0.parts ∙ length-append (record_spelling r) after in
+    let some = record_some r in
+    (Splits-more bytes rest after rs r at so_far item.0, omega arith)
+
+pub next_ended : (bytes rest : List ℕ) (rs : List Record) → Splits bytes rs rest → next_at (length bytes - length rest) rest ≡ answer None → 1 ≤ length rs
+    → Spells (take (length bytes - length rest + 1) bytes) rs × (length bytes - length rest + 1 ≤ length bytes)
+next_ended bytes rest rs so_far found some =
+    let at = length bytes - length rest in
+    let item = next_found at rest None found in
+    let stands = place bytes rest rs so_far in
+    let P : ℕ → Type 0 = λ n. Spells (take (n + 1) bytes) rs × (n + 1 ≤ length bytes) in
+    subst P (sym stands) (ended bytes rest rs at so_far item.0 some (omega arith))

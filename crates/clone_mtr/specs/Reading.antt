@@ -1,0 +1,109 @@
+-- Reading from left to right: a value and the bytes behind it, or the first refusal.
+use Rattle.std.specs.Prelude.{ℕ, ◌≡◌, ◌+◌, Bool, List, [], ◌∷◌, length, take, drop, if◌then◌else◌, nat_lt, nat_le, ◌==◌, ◌&&◌, ◌||◌, None, Some, Ok, Err, Result}
+use Rattle.std.specs.declared.option.Option.{Option}
+use Rattle.byteorder.specs.Endian.{big_number}
+use Rattle.clone_page.specs.declared.kind.PageKind.{PageKind}
+use Rattle.clone_page.specs.declared.kind.PageKind.TheVariants.{System, Undo, Bucket, Overflow}
+use Rattle.clone_mtr.specs.Patches.{Patched}
+use Rattle.clone_mtr.specs.declared.record.Record.{Record}
+use Rattle.clone_mtr.specs.declared.record.Record.TheVariants.{Init, Write, Extend, Create, Drop}
+use Rattle.clone_mtr.specs.declared.refusal.DecodeRefusal.{DecodeRefusal}
+use Rattle.clone_mtr.specs.declared.refusal.DecodeRefusal.TheVariants.{Short, BadKind, OutOfPage, TooLong}
+
+infixl 10 ◌>>=◌
+abbrev pub ◌>>=◌ : {A B : Type 0} → Result A DecodeRefusal → (A → Result B DecodeRefusal) → Result B DecodeRefusal
+(Ok x) >>= f = f x
+(Err e) >>= f = Err e
+
+-- what a function returned, seen by view, is what reading gives
+abbrev pub Gives : {X Y : Type 0} → (X → Y) → Result X DecodeRefusal → Result Y DecodeRefusal → Type 0
+Gives view (Ok x) read = read ≡ Ok (view x)
+Gives view (Err e) read = read ≡ Err e
+
+-- a number of n bytes
+abbrev pub number_at : ℕ → List ℕ → Result (ℕ × List ℕ) DecodeRefusal
+number_at n bytes = if nat_lt (length bytes) n then Err Short else Ok (big_number n bytes, drop n bytes)
+
+-- so many bytes
+abbrev pub bytes_at : ℕ → List ℕ → Result (List ℕ × List ℕ) DecodeRefusal
+bytes_at n bytes = if nat_lt (length bytes) n then Err Short else Ok (take n bytes, drop n bytes)
+
+-- the kind of this number, which stands at this place
+abbrev pub kind_numbered : ℕ → ℕ → Result PageKind DecodeRefusal
+kind_numbered at n =
+    if n == 1 then Ok System else (if n == 2 then Ok Undo else (if n == 3 then Ok Bucket else (if n == 4 then Ok Overflow else Err (BadKind at))))
+
+-- whether a write may name so many bytes from an offset on
+abbrev pub allows : ℕ → ℕ → Bool
+allows offset long = nat_le 1 long && ((nat_le 8 offset && nat_le (offset + long) 16) || (nat_le 38 offset && nat_le (offset + long) 4088))
+
+-- two numbers of 4 bytes each
+unfoldable pub pair_at : List ℕ → Result (ℕ × ℕ × List ℕ) DecodeRefusal
+pair_at bytes = do
+  first ← number_at 4 bytes
+  second ← number_at 4 first.1
+  Ok (first.0, second.0, second.1)
+
+-- The fields of each record behind the byte of its kind. The record begins at this place.
+unfoldable pub init_at : ℕ → List ℕ → Result (Record × List ℕ) DecodeRefusal
+init_at at bytes = do
+  page ← pair_at bytes
+  number ← number_at 2 page.2
+  kind ← kind_numbered (at + 9) number.0
+  Ok (Init page.0 page.1 kind, number.1)
+
+-- so many bytes of a patch, whose offset stands at this place
+abbrev pub body_at : ℕ → ℕ → ℕ → List ℕ → Result (Patched × List ℕ) DecodeRefusal
+body_at at offset long bytes =
+    if allows offset long then (if nat_lt 1010 long then Err TooLong else (do
+      body ← bytes_at long bytes
+      Ok (record { offset = offset; bytes = body.0 }, body.1))) else Err (OutOfPage at)
+
+-- a patch, whose offset stands at this place
+unfoldable pub patch_at : ℕ → List ℕ → Result (Patched × List ℕ) DecodeRefusal
+patch_at at bytes = do
+  offset ← number_at 2 bytes
+  long ← number_at 2 offset.1
+  body_at at offset.0 long.0 long.1
+
+unfoldable pub write_at : ℕ → List ℕ → Result (Record × List ℕ) DecodeRefusal
+write_at at bytes = do
+  page ← pair_at bytes
+  patch ← patch_at (at + 9) page.2
+  Ok (Write page.0 page.1 patch.0, patch.1)
+
+unfoldable pub extend_at : List ℕ → Result (Record × List ℕ) DecodeRefusal
+extend_at bytes = do
+  pair ← pair_at bytes
+  Ok (Extend pair.0 pair.1, pair.2)
+
+unfoldable pub create_at : List ℕ → Result (Record × List ℕ) DecodeRefusal
+create_at bytes = do
+  pair ← pair_at bytes
+  Ok (Create pair.0 pair.1, pair.2)
+
+unfoldable pub drop_at : List ℕ → Result (Record × List ℕ) DecodeRefusal
+drop_at bytes = do
+  space ← number_at 4 bytes
+  Ok (Drop space.0, space.1)
+
+-- the record of this kind
+unfoldable pub record_at : ℕ → ℕ → List ℕ → Result (Record × List ℕ) DecodeRefusal
+record_at kind at bytes =
+    if kind == 1 then init_at at bytes
+    else (if kind == 2 then write_at at bytes
+    else (if kind == 3 then extend_at bytes
+    else (if kind == 4 then create_at bytes
+    else (if kind == 5 then drop_at bytes
+    else Err (BadKind at)))))
+
+-- the record at the front, or none where the end mark stands there
+unfoldable pub item_at : ℕ → List ℕ → Result (Option (Record × List ℕ)) DecodeRefusal
+item_at at [] = Err Short
+item_at at (kind ∷ rest) = if kind == 6 then Ok None else (do
+  found ← record_at kind at rest
+  Ok (Some found))
+
+-- the next item, which has to begin before 1,024
+abbrev pub next_at : ℕ → List ℕ → Result (Option (Record × List ℕ)) DecodeRefusal
+next_at at bytes = if nat_le 1024 at then Err TooLong else item_at at bytes

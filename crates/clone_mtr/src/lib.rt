@@ -1,0 +1,23 @@
+//! Mini-transactions: lists of redo records, their one spelling as bytes, and what a record does to a
+//! page.
+#![tactic(auto)]
+
+mod effects;
+mod fields;
+mod laws;
+mod patch;
+mod reading;
+mod record;
+mod refusal;
+mod writing;
+
+pub use effects::apply;
+pub use laws::one_spelling;
+pub use patch::Patch;
+pub use reading::decode;
+pub use record::{Mtr, Record};
+pub use refusal::{DecodeRefusal, EncodeRefusal};
+pub use writing::encode;
+
+#[cfg(test)]
+mod tests;
