@@ -1,0 +1,4 @@
+pub mod Spaces
+pub mod Records
+pub mod Adding
+pub mod Shown

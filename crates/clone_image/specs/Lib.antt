@@ -1,0 +1,5 @@
+pub mod Spaces
+pub mod Image
+pub mod Replay
+pub mod Rows
+pub mod Added

@@ -1,0 +1,22 @@
+-- The image that a log leaves of the empty one. An LSN counts the bytes of the log from 8,192 on, and the pages that a mini-transaction changes take its end as their page LSN. From the empty image each mini-transaction is newer than every page, so all of them count.
+use Rattle.std.specs.Prelude.{ℕ, ◌+◌, List, [], ◌∷◌, length}
+use Rattle.std.specs.FinMap as finite
+use Rattle.clone_mtr.specs.declared.record.Record.{Record}
+use Rattle.clone_mtr.specs.Spelling.{spelling}
+use Rattle.clone_image.specs.Image.{Image, after_records}
+
+-- where the log begins
+abbrev pub first_lsn : ℕ
+first_lsn = 8192
+
+-- the end of a mini-transaction that begins here
+abbrev pub end_of : ℕ → List Record → ℕ
+end_of start records = start + length (spelling records)
+
+-- mini-transactions in their order, the first of which begins at start
+abbrev pub after_log : ℕ → Image → List (List Record) → Image
+after_log start image [] = image
+after_log start image (m ∷ ms) = after_log (end_of start m) (after_records (end_of start m) image m) ms
+
+abbrev pub replayed : List (List Record) → Image
+replayed mtrs = after_log first_lsn finite.empty mtrs
