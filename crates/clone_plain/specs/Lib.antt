@@ -1,0 +1,4 @@
+pub mod Buckets
+pub mod Plain
+pub mod Runs
+pub mod Headline
