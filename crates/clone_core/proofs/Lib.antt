@@ -1,0 +1,12 @@
+pub mod Keys
+pub mod Rows
+pub mod Buckets
+pub mod Tables
+pub mod Setting
+pub mod Images
+pub mod Effects
+pub mod Logs
+pub mod Slots
+pub mod Counts
+pub mod Sound
+pub mod Steps

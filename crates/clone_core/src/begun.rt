@@ -1,0 +1,55 @@
+ghost use Rattle.std.specs.Prelude.{◌≡◌, ◌+◌, ◌<◌, ◌-◌, ◌^◌, OnOk, OnErr, unwrap_or};
+ghost use Rattle.std.specs.FinMap as finite;
+
+use clone_outside::NoMemory;
+use std::alloc::{AllocError, Global};
+use std::collections::BTreeMap;
+use std::marker::Model;
+
+/// How many transactions each writer has begun.
+#[derive(Drop)]
+pub struct Begun {
+    counts: BTreeMap<u32, u64>,
+}
+
+impl Model for Begun {
+    ghost use Rattle.std.specs.Prelude.{ℕ};
+    ghost use Rattle.std.specs.FinMap as finite;
+    ghost use Rattle.std.specs.Ordering.{nat_cmp};
+    ghost use Rattle.std.specs.Coded.{coded_ℕ};
+
+    ghost Value = { finite.FinMap nat_cmp ℕ };
+
+    ghost coded = { finite.code coded_ℕ coded_ℕ };
+
+    ghost view = { λ b. finite.from_entries b.counts.entries };
+}
+
+impl Begun {
+    /// No writer has begun a transaction.
+    pub fn new(alloc: Global) -> Begun
+        ensures { result ≡ finite.empty }
+    {
+        Begun {
+            counts: BTreeMap::new(alloc),
+        }
+    }
+
+    /// How many transactions a writer has begun, which is the index of its next one.
+    pub fn next_index(&self, writer: u32) -> u64
+        ensures { result ≡ unwrap_or (finite.get self.now writer) 0 }
+    {
+        self.counts.get(&writer).copied().unwrap_or(0)
+    }
+
+    /// A writer begins a transaction. After a refusal nothing has changed.
+    pub fn begin(&mut self, writer: u32) -> Result<(), NoMemory>
+        requires { unwrap_or (finite.get self.old writer) 0 < 2 ^ 64 - 1 }
+        ensures ok { OnOk result (self.new ≡ finite.insert self.old writer (unwrap_or (finite.get self.old writer) 0 + 1)) }
+        ensures err { OnErr result (self.new ≡ self.old) }
+    {
+        let next = self.next_index(writer) + 1;
+        self.counts.insert(writer, next)?;
+        Ok(())
+    }
+}
