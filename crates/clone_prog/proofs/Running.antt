@@ -1,0 +1,96 @@
+-- How far a run has come: what was carried out, and what of its answers was written.
+use Rattle.std.proofs.Common.{◌≡◌, ℕ, ◌+◌, ◌≤◌, ◌<◌, List, [], ◌∷◌, ◌++◌, length, take, drop, get_or, refl, sym, ap, ◌∙◌, subst, Some, None, Result, Ok, Err, OnOk, OnErr, append_assoc, arith}
+use Rattle.std.proofs.lemmas.List.{take_more, take-append-drop, append-nil, take_all, length-take}
+use Rattle.std.proofs.Math.Seq.{take-length, take-append-add}
+use Rattle.std.specs.declared.option.Option.{Option}
+use Rattle.clone_outside.specs.Bytes.{appended, TakesSome}
+use Rattle.clone_model.specs.Texts.{ended, binlog_text}
+use Rattle.clone_model.specs.declared.line.Line.{Line}
+use Rattle.clone_plain.specs.Plain.{Plain, opened, IsWithin}
+use Rattle.clone_plain.specs.Runs.{Runs, output}
+use Rattle.clone_plain.proofs.Runs.{Runs-push, output-push}
+use Rattle.clone_plain.proofs.Reached.{Runs-IsWithin}
+use Rattle.clone_prog.specs.Carrying.{Answered, AnsweredAll, AnsweredSome, Finished, StoppedAtLine, before_it, behind_it}
+
+pub nothing_taken : (old new : Option (List ℕ)) (text : List ℕ) → new ≡ old → TakesSome old new text
+nothing_taken None new text same = (0, same)
+nothing_taken (Some xs) new text same = (0, same ∙ ap Some (sym (append-nil xs)))
+
+pub all_taken : (old new : Option (List ℕ)) (text : List ℕ) → new ≡ appended old text → TakesSome old new text
+all_taken old new text is = (length text, is ∙ ap (appended old) (sym (take-length text)))
+
+appended_twice : (old : Option (List ℕ)) (xs ys : List ℕ) → appended (appended old xs) ys ≡ appended old (xs ++ ys)
+appended_twice None xs ys = refl
+appended_twice (Some zs) xs ys = ap Some (append_assoc zs xs ys)
+
+-- all of the front, and then some
+some_behind : (old mid new : Option (List ℕ)) (xs ys : List ℕ) → mid ≡ appended old xs → TakesSome mid new ys → TakesSome old new (xs ++ ys)
+some_behind old mid new xs ys front some = (
+  length xs + some.0,
+  some.1 ∙ ap (λ o. appended o (take some.0 ys)) front ∙ appended_twice old xs (take some.0 ys) ∙ ap (appended old) (sym (take-append-add xs ys some.0)),
+)
+
+-- the lines before i were carried out, and their answers were written
+abbrev pub Sofar : List Line → ℕ → Plain → Option (List ℕ) → Option (List ℕ) → Type 0
+Sofar lines i world old now = AnsweredAll (take i lines) world old now
+
+pub begun : (lines : List Line) (world : Plain) (old : Option (List ℕ)) → world ≡ opened → Sofar lines 0 world old old
+begun lines world None is = record { answers = []; run = sym is; out = refl }
+begun lines world (Some xs) is = record { answers = []; run = sym is; out = ap Some (sym (append-nil xs)) }
+
+-- the lines before i and the line at i are those before i + 1
+front : (lines : List Line) (i : ℕ) (l : Line) → l ≡ get_or lines i l → i < length lines → take i lines ++ l ∷ [] ≡ take (i + 1) lines
+front lines i l at lt = ap (λ x. take i lines ++ x ∷ []) at ∙ sym (take_more lines i l lt)
+
+pub one_more : (lines : List Line) (i : ℕ) (l : Line) (w u : Plain) (old now new : Option (List ℕ)) → l ≡ get_or lines i l → i < length lines → Sofar lines i w old now → Answered l w u now new → Sofar lines (i + 1) u old new
+one_more lines i l w u old now new at lt far next =
+    let P : List Line → Type 0 = λ ls. Runs opened ls (far.answers ++ next.answer ∷ []) u in
+    record {
+      answers = far.answers ++ next.answer ∷ [];
+      run = subst P (front lines i l at lt) (Runs-push opened (take i lines) far.answers w l next.answer u far.run next.step);
+      out = next.out ∙ ap (λ o. appended o (ended next.answer)) far.out ∙ appended_twice old (output far.answers) (ended next.answer) ∙ ap (appended old) (output-push far.answers next.answer);
+    }
+
+-- it stopped at line i
+pub stopped : (lines : List Line) (i : ℕ) (l : Line) (w u : Plain) (old now new : Option (List ℕ)) → l ≡ get_or lines i l → i < length lines → Sofar lines i w old now → StoppedAtLine l w u now new → AnsweredSome lines u old new
+stopped lines i l w u old now new at lt far (before_it world out) =
+    let P : Plain → Type 0 = Runs opened (take i lines) far.answers in
+    record {
+      answers = far.answers;
+      carried = record { carried = take i lines; rest = drop i lines; split = sym (take-append-drop i lines); run = subst P (sym world) far.run };
+      out = all_taken old new (output far.answers) (out ∙ far.out);
+    }
+stopped lines i l w u old now new at lt far (behind_it answer step out) =
+    let P : List ℕ → Type 0 = TakesSome old new in
+    record {
+      answers = far.answers ++ answer ∷ [];
+      carried = record {
+        carried = take i lines ++ l ∷ [];
+        rest = drop (i + 1) lines;
+        split = sym (ap (λ xs. xs ++ drop (i + 1) lines) (front lines i l at lt) ∙ take-append-drop (i + 1) lines);
+        run = Runs-push opened (take i lines) far.answers w l answer u far.run step;
+      };
+      out = subst P (output-push far.answers answer) (some_behind old now new (output far.answers) (ended answer) far.out out);
+    }
+
+-- it went on to the end
+pub at_end : (lines : List Line) (i : ℕ) (w : Plain) (old now : Option (List ℕ)) → length lines ≤ i → Sofar lines i w old now → AnsweredAll lines w old now
+at_end lines i w old now le far = let P : List Line → Type 0 = λ ls. AnsweredAll ls w old now in subst P (take_all i lines le) far
+
+-- so many commits and transactions at most as lines were carried out
+pub within : (lines : List Line) (i n : ℕ) (w : Plain) (old now : Option (List ℕ)) → Sofar lines i w old now → i ≤ n → IsWithin n w
+within lines i n w old now far le = Runs-IsWithin (take i lines) far.answers w n far.run (omega (arith, length-take i lines))
+
+pub on_err : {T E P : Type 0} (r : Result T E) → P → OnErr r P
+on_err (Ok x) p = tt
+on_err (Err e) p = p
+
+-- none of the lines was carried out
+pub none_answered : (lines : List Line) (old : Option (List ℕ)) → AnsweredSome lines opened old old
+none_answered lines old = record { answers = []; carried = record { carried = []; rest = lines; split = refl; run = refl }; out = nothing_taken old old [] refl }
+
+-- the lines were carried out, and where the binlog was written, all is done
+pub finished : {T E : Type 0} (r : Result T E) (lines : List Line) (final : Plain) (out_old out_new binlog_old binlog_new : Option (List ℕ)) (text : List ℕ) → AnsweredAll lines final out_old out_new → text ≡ binlog_text final.history
+    → OnOk r (binlog_new ≡ appended binlog_old text) → OnOk r (Finished lines out_old out_new binlog_old binlog_new)
+finished (Ok x) lines final out_old out_new binlog_old binlog_new text answered is all = record { final = final; answered = answered; binlog = all ∙ ap (appended binlog_old) is }
+finished (Err e) lines final out_old out_new binlog_old binlog_new text answered is all = tt

@@ -1,0 +1,105 @@
+-- What a run of the program is: when each status comes, and what was written by then.
+use Rattle.std.specs.Prelude.{ℕ, ◌≡◌, ◌⊎◌, ◌<◌, ◌≤◌, List, [], ◌∷◌, ◌++◌, length, None, codes}
+use Rattle.std.specs.Fmt.{decimal}
+use Rattle.std.specs.declared.option.Option.{Option}
+use Rattle.clone_outside.specs.Causes.{Rose}
+use Rattle.clone_outside.specs.Bytes.{appended, prepended, IsSpent, TakesSome}
+use Rattle.clone_model.specs.Texts.{ended, binlog_text}
+use Rattle.clone_model.specs.declared.line.Line.{Line}
+use Rattle.clone_plain.specs.Plain.{Plain, opened}
+use Rattle.clone_plain.specs.Runs.{Text, Runs, output}
+use Rattle.clone_plain.specs.Headline.{AreCommits, ShowsStop}
+use Rattle.clone_prog.specs.declared.status.Status.{Status}
+use Rattle.clone_prog.specs.declared.status.Status.TheVariants.{Done, Memory, Usage, BadLine, SourceFault, SinkFault, TooLong}
+use Rattle.clone_prog.specs.Script.{longest_script, IsScript, IsFirstBad}
+
+-- what is told of a source or a sink, and how often it has failed
+pub record End : Type 0 where
+  pub told : Option (List ℕ)
+  pub faults : ℕ
+
+-- the source and the sinks before a run, or after it
+pub record Ends : Type 0 where
+  pub source : End
+  pub out : End
+  pub binlog : End
+
+-- the source and the sinks by what is told of each and how often it has failed
+abbrev pub ends : Option (List ℕ) → ℕ → Option (List ℕ) → ℕ → Option (List ℕ) → ℕ → Ends
+ends left source_faults taken out_faults binlog binlog_faults =
+    record { source = record { told = left; faults = source_faults }; out = record { told = taken; faults = out_faults }; binlog = record { told = binlog; faults = binlog_faults } }
+
+-- the words of a command line
+abbrev pub IsCommand : List (List ℕ) → Type 0
+IsCommand words = words ≡ codes "steps" ∷ []
+
+-- the bytes that the source gave
+abbrev pub Gave : Ends → Ends → List ℕ → Type 0
+Gave before after script = before.source.told ≡ prepended script after.source.told
+
+-- the source was read to its end, and gave no more than a script may have
+pub record GaveAll (before after : Ends) (script : List ℕ) : Type 0 where
+  pub given : Gave before after script
+  pub spent : IsSpent after.source.told
+  pub short : length script ≤ longest_script
+
+-- Some of the lines were carried out, from the first on, and they had these answers. This much of the plain donor's run was made.
+pub record Carried (lines : List Line) (answers : List Text) (final : Plain) : Type 0 where
+  pub carried : List Line
+  pub rest : List Line
+  pub split : lines ≡ carried ++ rest
+  pub run : Runs opened carried answers final
+
+-- one line was written to the output, and nothing to the binlog
+pub record Said (before after : Ends) (text : Text) : Type 0 where
+  pub out : after.out.told ≡ appended before.out.told (ended text)
+  pub binlog : after.binlog.told ≡ before.binlog.told
+
+-- The script was carried out to its end. The output is the answers of its lines, which are a run of the plain donor, and the binlog is the text of the commits of that run. These commits are the `set` lines that were answered `committed`, in order, each whole. Where `clone` answered position n, each `rows` behind it showed exactly the rows that the first n of these commits leave, in ascending order.
+pub record Steps (before after : Ends) : Type 0 where
+  pub script : List ℕ
+  pub lines : List Line
+  pub answers : List Text
+  pub final : Plain
+  pub gave : GaveAll before after script
+  pub read : IsScript script lines
+  pub run : Runs opened lines answers final
+  pub commits : AreCommits 0 lines answers final.history
+  pub clone : ShowsStop final.history None lines answers
+  pub out : after.out.told ≡ appended before.out.told (output answers)
+  pub binlog : after.binlog.told ≡ appended before.binlog.told (binlog_text final.history)
+
+-- What the program had to write to its output and to its binlog, as far as that is determined by what it was given.
+pub data Defined (words : List (List ℕ)) (before after : Ends) (out binlog : List ℕ) : Type 0 where
+  no_command : (IsCommand words → ⊥) → out ≡ ended (codes "usage") → binlog ≡ [] → Defined words before after out binlog
+  no_source : IsCommand words → Rose before.source.faults after.source.faults → out ≡ ended (codes "source fault") → binlog ≡ [] → Defined words before after out binlog
+  too_long : IsCommand words → (script : List ℕ) → Gave before after script → longest_script < length script → out ≡ ended (codes "script too long") → binlog ≡ [] → Defined words before after out binlog
+  bad_line : IsCommand words → (script : List ℕ) (number : ℕ) → GaveAll before after script → IsFirstBad script number → out ≡ ended (codes "bad line " ++ decimal number) → binlog ≡ [] → Defined words before after out binlog
+  -- some of the lines, and no binlog yet
+  some_lines : IsCommand words → (script : List ℕ) (all : List Line) (answers : List Text) (final : Plain) → GaveAll before after script → IsScript script all → Carried all answers final
+      → out ≡ output answers → binlog ≡ [] → Defined words before after out binlog
+  -- all of the lines, and then the binlog
+  all_lines : IsCommand words → (script : List ℕ) (all : List Line) (answers : List Text) (final : Plain) → GaveAll before after script → IsScript script all → Runs opened all answers final
+      → out ≡ output answers → binlog ≡ binlog_text final.history → Defined words before after out binlog
+
+-- a front of the output and nothing of the binlog, or the whole output and a front of the binlog
+abbrev pub TakesInOrder : Ends → Ends → List ℕ → List ℕ → Type 0
+TakesInOrder before after out binlog =
+    (TakesSome before.out.told after.out.told out × (after.binlog.told ≡ before.binlog.told))
+    ⊎ ((after.out.told ≡ appended before.out.told out) × TakesSome before.binlog.told after.binlog.told binlog)
+
+-- nothing was written, or a front of what had to be
+abbrev pub Front : List (List ℕ) → Ends → Ends → Type 0
+Front words before after =
+    ((after.out.told ≡ before.out.told) × (after.binlog.told ≡ before.binlog.told))
+    ⊎ ((out binlog : List ℕ) × Defined words before after out binlog × TakesInOrder before after out binlog)
+
+-- When each status comes, and what was written by then. Want of memory is free.
+abbrev pub Outcome : Status → List (List ℕ) → Ends → Ends → Type 0
+Outcome Done words before after = IsCommand words × Steps before after
+Outcome Memory words before after = Front words before after
+Outcome Usage words before after = (IsCommand words → ⊥) × Said before after (codes "usage")
+Outcome BadLine words before after = IsCommand words × (script : List ℕ) × (number : ℕ) × GaveAll before after script × IsFirstBad script number × Said before after (codes "bad line " ++ decimal number)
+Outcome SourceFault words before after = IsCommand words × Rose before.source.faults after.source.faults × Said before after (codes "source fault")
+Outcome SinkFault words before after = (Rose before.out.faults after.out.faults ⊎ Rose before.binlog.faults after.binlog.faults) × Front words before after
+Outcome TooLong words before after = IsCommand words × (script : List ℕ) × Gave before after script × (longest_script < length script) × Said before after (codes "script too long")

@@ -1,0 +1,66 @@
+ghost use Rattle.std.specs.Prelude.{◌≡◌, ◌≤◌, ◌<◌, List, ℕ, OnOk, IfOk, IsErrOf, length};
+ghost use Rattle.clone_outside.specs.Bytes.{prepended, IsSpent};
+ghost use Rattle.clone_outside.specs.Causes.{Rose};
+ghost use Rattle.clone_outside.specs.declared.Refusal.TheVariants.{NoMemory};
+ghost use Rattle.clone_prog.specs.Script.{longest_script};
+ghost use Rattle.clone_prog.specs.Stops.{stop_of};
+
+use clone_outside::{Refusal, Source};
+use std::alloc::{AllocError, Global};
+
+/// The most bytes that a script may have.
+const LONGEST_SCRIPT: usize = 1_048_576;
+
+/// How many bytes of the source are asked for at once.
+const PIECE: usize = 4_096;
+
+/// Why a script was not read.
+#[derive(Clone, Copy, Debug, PartialEq, Eq)]
+pub enum ReadStop {
+    /// There was no memory.
+    Memory,
+    /// The source failed.
+    Fault,
+    /// The source gave more bytes than a script may have.
+    TooLong,
+}
+
+impl From<Refusal> for ReadStop {
+    ghost from_gives = { λ refusal stop. stop ≡ stop_of refusal };
+
+    fn from(refusal: Refusal) -> ReadStop {
+        match refusal {
+            Refusal::Fault => ReadStop::Fault,
+            Refusal::NoMemory => ReadStop::Memory,
+        }
+    }
+}
+
+impl From<AllocError> for ReadStop {
+    ghost from_gives = { λ _ stop. stop ≡ stop_of NoMemory };
+
+    fn from(_: AllocError) -> ReadStop {
+        ReadStop::Memory
+    }
+}
+
+/// Reads the source to its end, or until it gave more bytes than a script may have.
+pub fn read_all<S: Source>(alloc: Global, source: &mut S) -> Result<Vec<u8>, ReadStop>
+    ensures gave { IfOk result (λ script. S.left source.old ≡ prepended script.items (S.left source.new)) }
+    ensures spent { OnOk result (IsSpent (S.left source.new)) }
+    ensures short { IfOk result (λ script. length script.items ≤ longest_script) }
+    ensures fault { IsErrOf result ReadStop.Fault → Rose (S.failures source.old) (S.failures source.new) }
+    ensures long { IsErrOf result ReadStop.TooLong → (script : List ℕ) × (S.left source.old ≡ prepended script (S.left source.new)) × (longest_script < length script) }
+    ensures later { S.failures source.old ≤ S.failures source.new }
+{
+    let mut script = Vec::new(alloc);
+    let mut piece = [0; PIECE];
+    while script.len() <= LONGEST_SCRIPT {
+        let count = source.read(&mut piece)?;
+        if count == 0 {
+            return Ok(script);
+        }
+        script.extend_from_slice(&piece[..count])?;
+    }
+    Err(ReadStop::TooLong)
+}
