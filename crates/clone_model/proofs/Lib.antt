@@ -1,3 +1,11 @@
 pub mod RowMaps
 pub mod TextLemmas
 pub mod Ordered
+pub mod Cuts
+pub mod Decimals
+pub mod HexTexts
+pub mod LineTexts
+pub mod BinlogLines
+pub mod Beginnings
+pub mod Values
+pub mod OneAnswer

@@ -3,3 +3,5 @@ pub mod History
 pub mod Room
 pub mod Texts
 pub mod Lines
+pub mod Reading
+pub mod Following

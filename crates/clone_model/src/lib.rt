@@ -1,10 +1,11 @@
 //! What a donor keeps, apart from how it keeps it: values, changes, commits, the rows that a history
-//! leaves, and the texts of all these.
+//! leaves, the texts of all these, and how a binlog is read back from its text.
 #![tactic(auto)]
 
 mod change;
 mod line;
 mod list;
+mod reading;
 mod tables;
 #[cfg(test)]
 mod tests;
@@ -15,6 +16,10 @@ pub use change::{Change, Commit};
 pub use clone_outside::NoMemory;
 pub use line::{BucketCount, Line, TableNumber};
 pub use list::{Binlog, Changes};
+pub use reading::{
+    ReadRefusal, as_u32, binlog_reads_back, leading_number, number_of, one_answer, one_binlog,
+    read_binlog, split_once, value_of,
+};
 pub use tables::{Tables, fold};
 pub use text::{binlog_text, line_text, rows_text};
 pub use value::Value;

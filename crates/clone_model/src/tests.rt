@@ -1,6 +1,6 @@
 use crate::{
-    Binlog, BucketCount, Change, Changes, Commit, Line, TableNumber, Tables, Value, binlog_text,
-    fold, line_text, rows_text,
+    Binlog, BucketCount, Change, Changes, Commit, Line, ReadRefusal, TableNumber, Tables, Value,
+    binlog_text, fold, line_text, read_binlog, rows_text,
 };
 use std::alloc::Global;
 use std::process::Abort;
@@ -34,6 +34,92 @@ fn commits_with_their_changes(rt: HostRuntime) -> Result<(), Fail> {
         text.as_str(),
         "commit 0 0 1\n1 7 6869\ncommit 3 1 1\n1 7 none\n"
     );
+    Ok(())
+}
+
+/// Texts of binlogs, with the number of their commits.
+const GOOD: [(&[u8], usize); 6] = [
+    (b"", 0),
+    (b"commit 0 0 1\n1 7 6869\n", 1),
+    (b"commit 0 0 0\n", 1),
+    (b"commit 0 0 0\ncommit 0 1 0\n", 2),
+    (
+        b"commit 0 0 1\n1 7 6869\ncommit 4294967295 1 2\n0 18446744073709551615 none\n4294967295 0 -\n",
+        2,
+    ),
+    (
+        b"commit 0 18446744073709551615 1\n1 7 000102030405060708090a0b0c0d0e0f101112131415161718191a1b1c1d1e1f202122232425262728292a2b2c2d2e2f303132333435363738393a3b3c3d3e3f\n",
+        1,
+    ),
+];
+
+/// Texts with the number of their first bad or missing line.
+const BAD: [(&[u8], u64); 24] = [
+    (b"\n", 1),
+    (b"commit 0 0 0", 1),
+    (b"1 7 6869\n", 1),
+    (b"commit 0 0\n", 1),
+    (b"commit 0 0 0 \n", 1),
+    (b"commit 0 0 00\n", 1),
+    (b"commit 4294967296 0 0\n", 1),
+    (b"commit 0 18446744073709551616 0\n", 1),
+    (b"commit 0 0 18446744073709551616\n", 1),
+    (b"commit 0 0 18446744073709551615\n", 2),
+    (b"commit 0 0 1\n", 2),
+    (b"commit 0 0 1\ncommit 0 1 0\n", 2),
+    (b"commit 0 0 1\n1 7 6869", 2),
+    (b"commit 0 0 1\n1 7 6869\n1 8 6869\n", 3),
+    (b"commit 0 0 1\n1 7 6869\n\n", 3),
+    (b"commit 0 0 2\n1 7 6869\n", 3),
+    (b"commit 0 0 0\ncommit 0 1 1\n", 3),
+    (b"commit 0 0 1\n4294967296 7 -\n", 2),
+    (b"commit 0 0 1\n1 18446744073709551616 -\n", 2),
+    (b"commit 0 0 1\n1 7 None\n", 2),
+    (b"commit 0 0 1\n1 7 686\n", 2),
+    (b"commit 0 0 1\n1 7 6F\n", 2),
+    (b"commit 0 0 1\n1 7 \n", 2),
+    (
+        b"commit 0 0 1\n1 7 000102030405060708090a0b0c0d0e0f101112131415161718191a1b1c1d1e1f202122232425262728292a2b2c2d2e2f303132333435363738393a3b3c3d3e3f40\n",
+        2,
+    ),
+];
+
+#[test]
+fn good_binlogs(rt: HostRuntime) -> Result<(), ReadRefusal> {
+    for (text, count) in GOOD {
+        assert_eq!(rt; read_binlog(rt.alloc(), text)?.len(), count);
+    }
+    Ok(())
+}
+
+#[test]
+fn bad_binlogs(rt: HostRuntime) {
+    for (text, number) in BAD {
+        let read = read_binlog(rt.alloc(), text);
+        assert!(rt; matches!(read, Err(ReadRefusal::BadLine { line }) if line == number));
+    }
+}
+
+#[test]
+fn a_binlog_read_back(rt: HostRuntime) -> Result<(), ReadRefusal> {
+    let binlog = read_binlog(
+        rt.alloc(),
+        b"commit 0 0 1\n1 7 6869\ncommit 3 1 1\n2 8 none\n",
+    )?;
+    let [first, second] = binlog.as_slice() else {
+        assert!(rt; false);
+        return Ok(());
+    };
+    assert_eq!(rt; (first.writer, first.index), (0, 0));
+    assert_eq!(rt; (second.writer, second.index), (3, 1));
+    for change in first.changes.as_slice() {
+        assert_eq!(rt; (change.table, change.key), (1, 7));
+        assert!(rt; matches!(&change.value, Some(value) if value.bytes() == b"hi".as_slice()));
+    }
+    for change in second.changes.as_slice() {
+        assert_eq!(rt; (change.table, change.key), (2, 8));
+        assert!(rt; change.value.is_none());
+    }
     Ok(())
 }
 

@@ -1,6 +1,4 @@
 pub mod Cuts
-pub mod Decimals
-pub mod HexTexts
 pub mod SetTexts
 pub mod ReadLines
 pub mod Ending

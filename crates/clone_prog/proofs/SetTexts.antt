@@ -5,7 +5,7 @@ use Rattle.clone_model.specs.Texts.{value_text}
 use Rattle.clone_model.specs.Lines.{line_text, IsInRange}
 use Rattle.clone_model.specs.declared.line.Line.{Line}
 use Rattle.clone_model.specs.declared.line.Line.TheVariants.{Create, Set, Clone, Rows}
-use Rattle.clone_prog.specs.Reading.{IsValue}
+use Rattle.clone_model.specs.Reading.{IsValue}
 
 -- the line is a `set` of which this is the text of the fields
 pub record HasFields (fields : List ℕ) (l : Line) : Type 0 where

@@ -1,6 +1,5 @@
 -- What reading a script answers.
-use Rattle.std.specs.Prelude.{ℕ, ◌≡◌, ◌<◌, ◌≤◌, List, length, Option, Some, IfSome, Result, Ok, Err, Vec, ⊤}
-use Rattle.std.specs.List.{AllByRecursion}
+use Rattle.std.specs.Prelude.{ℕ, ◌≡◌, List, Option, Some, IfSome, Result, Ok, Err, Vec, ⊤}
 use Rattle.std.specs.declared.alloc.Global.{Global}
 use Rattle.clone_model.specs.Lines.{line_text, IsInRange}
 use Rattle.clone_model.specs.declared.line.Line.{Line}
@@ -18,7 +17,3 @@ Reads bytes (Err NoMemory) = ⊤
 pub record Parses (text : List ℕ) (result : Option Line) : Type 0 where
   pub some : IfSome result (λ l. (text ≡ line_text l) × IsInRange l)
   pub only : (l : Line) → text ≡ line_text l → IsInRange l → result ≡ Some l
-
--- the bytes of a value, no more than 64
-abbrev pub IsValue : List ℕ → Type 0
-IsValue value = (length value ≤ 64) × AllByRecursion (λ b. b < 256) value

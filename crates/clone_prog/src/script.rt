@@ -4,11 +4,9 @@ ghost use Rattle.clone_prog.specs.Reading.{Reads};
 ghost use Rattle.clone_prog.specs.declared.script.ReadRefusal.TheVariants.{NoMemory};
 
 mod line;
-mod number;
 mod split;
 #[cfg(test)]
 mod tests;
-mod value;
 
 use clone_model::Line;
 use line::line_behind;

@@ -1,12 +1,10 @@
-ghost use Rattle.std.specs.Prelude.{◌<◌, ◌≤◌, ◌^◌, ◌↔◌, ◌++◌, IfSome, IfNone, IsTrue, codes};
+ghost use Rattle.std.specs.Prelude.{◌≤◌, ◌↔◌, ◌++◌, IfSome, IfNone, IsTrue, codes};
 ghost use Rattle.std.specs.Option.{SomeIff};
 ghost use Rattle.clone_model.specs.declared.line.Line.{Line};
 ghost use Rattle.clone_prog.specs.Script.{Admits, IsLine};
 ghost use Rattle.clone_prog.specs.Reading.{Parses};
 
-use super::number::{leading_number, number};
-use super::value::value_of;
-use clone_model::{BucketCount, Line, TableNumber};
+use clone_model::{BucketCount, Line, TableNumber, as_u32, leading_number, number_of, value_of};
 
 /// The line that has this text, where it may stand behind these.
 pub fn line_behind(before: &[Line], text: &[u8]) -> Option<Line>
@@ -51,7 +49,7 @@ fn create(fields: &[u8]) -> Option<Line>
     let (table, buckets) = leading_number(fields)?;
     Some(Line::Create {
         table: table_number(table)?,
-        buckets: bucket_count(number(buckets)?)?,
+        buckets: bucket_count(number_of(buckets)?)?,
     })
 }
 
@@ -82,11 +80,4 @@ fn bucket_count(number: u64) -> Option<BucketCount>
     ensures { SomeIff result ((1 ≤ number) × (number ≤ 1024)) number }
 {
     BucketCount::new(as_u32(number)?)
-}
-
-/// The number in four bytes, where it is below 2^32.
-fn as_u32(number: u64) -> Option<u32>
-    ensures { SomeIff result (number < 2 ^ 32) number }
-{
-    u32::try_from(number).ok()
 }

@@ -1,4 +1,5 @@
-use Rattle.clone_prog.proofs.Cuts.{lacks_from_All, texts_of-ended, texts_of-last}
+use Rattle.clone_model.proofs.Cuts.{lacks_from_All}
+use Rattle.clone_prog.proofs.Cuts.{texts_of-ended, texts_of-last}
 use Rattle.clone_prog.proofs.script.split.first_text.Goals as goal
 
 pub returns-in-Some-clause-text : goal.returns-in-Some-clause-text

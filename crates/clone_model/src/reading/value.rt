@@ -1,8 +1,9 @@
-ghost use Rattle.std.specs.Prelude.{ℕ, ◌≡◌, ◌<◌, ◌++◌, List, IfSome, IsSomeAnd};
+ghost use Rattle.std.specs.Prelude.{ℕ, ◌≡◌, ◌<◌, ◌++◌, List, Option, IfSome, IsSomeAnd};
 ghost use Rattle.clone_model.specs.Texts.{hex_digit, hex_byte, hex, value_text};
-ghost use Rattle.clone_prog.specs.Reading.{IsValue};
+ghost use Rattle.clone_model.specs.Texts as texts;
+ghost use Rattle.clone_model.specs.Reading.{IsValue, IsValueOrNone};
 
-use clone_model::Value;
+use crate::Value;
 
 /// The value that the whole text shows: a dash for the empty one, or two lower-case hex digits for each of its bytes.
 pub fn value_of(text: &[u8]) -> Option<Value>
@@ -16,6 +17,17 @@ pub fn value_of(text: &[u8]) -> Option<Value>
         return None;
     }
     decoded(text)
+}
+
+/// The value that the whole text shows, or none where the text says that there is none.
+pub fn value_or_none(text: &[u8]) -> Option<Option<Value>>
+    ensures some { IfSome result (λ v. IsValueOrNone v × (text.now ≡ texts.value_or_none v)) }
+    ensures only { (v : Option (List ℕ)) → IsValueOrNone v → text.now ≡ texts.value_or_none v → result ≡ Some v }
+{
+    if text == b"none".as_slice() {
+        return Some(None);
+    }
+    Some(Some(value_of(text)?))
 }
 
 /// The value of which the text is the hex digits.

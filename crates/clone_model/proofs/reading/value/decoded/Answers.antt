@@ -1,8 +1,8 @@
 use Rattle.std.proofs.Common.{◌≡◌, ◌<◌, ◌≤◌, length, subst, arith}
 use Rattle.std.proofs.lemmas.Bool.Decides.{nat_tests}
 use Rattle.std.proofs.lemmas.Option.{IfSome_then}
-use Rattle.clone_prog.proofs.HexTexts.{full, next_byte, Decoded-all, only_decoded, made}
-use Rattle.clone_prog.proofs.script.value.decoded.Goals as goal
+use Rattle.clone_model.proofs.HexTexts.{full, next_byte, Decoded-all, only_decoded, made}
+use Rattle.clone_model.proofs.reading.value.decoded.Goals as goal
 
 pub returns-then-len-eq64-clause-only : goal.returns-then-len-eq64-clause-only
 returns-then-len-eq64-clause-only c = λ v value e.

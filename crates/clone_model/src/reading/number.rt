@@ -1,10 +1,11 @@
 ghost use Rattle.std.specs.Prelude.{ℕ, ◌≡◌, ◌≢◌, ◌<◌, ◌^◌, ◌∷◌, ◌++◌, ◌↔◌, List, IfSome, IsSomeAnd, IsTrue, length, slice_index};
+ghost use Rattle.std.specs.Option.{SomeIff};
 ghost use Rattle.std.specs.Fmt.{decimal};
 
 use super::split::split_once;
 
 /// The number that the whole text shows in decimal digits, with no zero in front of others.
-pub fn number(text: &[u8]) -> Option<u64>
+pub fn number_of(text: &[u8]) -> Option<u64>
     ensures some { IfSome result (λ n. (n < 2 ^ 64) × (text.now ≡ decimal n)) }
     ensures only { (n : ℕ) → n < 2 ^ 64 → text.now ≡ decimal n → result ≡ Some n }
 {
@@ -34,5 +35,12 @@ pub fn leading_number(text: &[u8]) -> Option<(u64, &[u8])>
         → IsSomeAnd result (λ found. (found.0 ≡ n) × (found.1.now ≡ rest)) }
 {
     let (word, rest) = split_once(text, b' ')?;
-    Some((number(word)?, rest))
+    Some((number_of(word)?, rest))
+}
+
+/// The number in four bytes, where it is below 2^32.
+pub fn as_u32(number: u64) -> Option<u32>
+    ensures { SomeIff result (number < 2 ^ 32) number }
+{
+    u32::try_from(number).ok()
 }

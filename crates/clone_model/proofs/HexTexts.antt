@@ -4,7 +4,7 @@ use Rattle.std.specs.List.{AllByRecursion}
 use Rattle.std.proofs.lemmas.Bool.Decides.{nat_tests}
 use Rattle.std.proofs.lemmas.List.{length-take-le, nil_from_length}
 use Rattle.clone_model.specs.Texts.{hex_digit, hex_byte, hex}
-use Rattle.clone_prog.specs.Reading.{IsValue}
+use Rattle.clone_model.specs.Reading.{IsValue}
 
 -- each is a byte
 abbrev pub AreBytes : List ℕ → Type 0
@@ -31,7 +31,7 @@ hex_byte-injective b c xs ys p q e =
     (omega arith, cc)
 
 -- Where the digits of a value begin with those of some bytes, the rest are those of the value's other bytes.
-hex_rest : (front rest v : List ℕ) → AreBytes front → AreBytes v → hex front ++ rest ≡ hex v
+pub hex_rest : (front rest v : List ℕ) → AreBytes front → AreBytes v → hex front ++ rest ≡ hex v
     → (others : List ℕ) × (v ≡ front ++ others) × (rest ≡ hex others) × AreBytes others
 hex_rest [] rest v p q e = (v, refl, e, q)
 hex_rest (b ∷ front) rest [] p q e = absurd (omega (arith, ap length e))

@@ -11,7 +11,7 @@ use Rattle.std.proofs.lemmas.Str.{IsUtf8-from_ascii}
 use Rattle.std.proofs.lemmas.List.Elements.{All-from_get_or}
 use Rattle.std.proofs.lemmas.Result.{OkIff-at_ok}
 use Rattle.std.proofs.lemmas.Str.Parse.{IsNumeralModel, numerals_by_value, tells_digits, parse_plain, not_in_digits}
-use Rattle.clone_prog.proofs.Cuts.{Lacks, lacks_from_All}
+use Rattle.clone_model.proofs.Cuts.{Lacks, lacks_from_All}
 
 -- std's own words for digits and their value
 numerals : IsNumeralModel (AllDigits 10) (digits_value 10)
@@ -54,7 +54,7 @@ pub error_of_match : {S E : Type 0} (r : Result S E) (P : S → Type 0) (Q : E �
 error_of_match (Ok x) P Q h e = absurd (cc)
 error_of_match (Err x) P Q h e = (x, h)
 
--- no blank stands in a number
-pub Lacks-decimal : (n : ℕ) → n < 2 ^ 64 → Lacks 32 (decimal n)
-Lacks-decimal n small =
-    lacks_from_All 32 (decimal n) (All-from_get_or (λ b. b ≢ 32) (decimal n) 0 (λ i within. not_in_digits numerals (decimal n) 32 (digits_decimal numerals n small) (λ r. omega (arith, r)) i within))
+-- only digits stand in a number
+pub Lacks-decimal : (byte n : ℕ) → byte < 48 → n < 2 ^ 64 → Lacks byte (decimal n)
+Lacks-decimal byte n low small =
+    lacks_from_All byte (decimal n) (All-from_get_or (λ b. b ≢ byte) (decimal n) 0 (λ i within. not_in_digits numerals (decimal n) byte (digits_decimal numerals n small) (λ r. omega (arith, r)) i within))

@@ -1,6 +1,6 @@
 use Rattle.std.proofs.Common.{sym, subst, ◌∙◌}
-use Rattle.clone_prog.proofs.Decimals.{IsPlain, decimal_is_plain, IfSome-parse, parse-of_decimal, IsUtf8-decimal, value_of_match, error_of_match}
-use Rattle.clone_prog.proofs.script.number.number.Goals as goal
+use Rattle.clone_model.proofs.Decimals.{IsPlain, decimal_is_plain, IfSome-parse, parse-of_decimal, IsUtf8-decimal, value_of_match, error_of_match}
+use Rattle.clone_model.proofs.reading.number.number_of.Goals as goal
 
 pub returns-then-not-is_plain-clause-only : goal.returns-then-not-is_plain-clause-only
 returns-then-not-is_plain-clause-only c = λ n small e.
