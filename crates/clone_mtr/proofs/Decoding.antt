@@ -1,23 +1,25 @@
 -- Reading record after record, as the decoder does.
-use Rattle.std.proofs.Common.{◌≡◌, ℕ, ◌+◌, ◌-◌, ◌<◌, ◌≤◌, List, [], ◌∷◌, ◌++◌, length, take, drop, None, Some, Ok, Err, refl, sym, ap, subst, ◌∙◌, append_assoc, arith, nat_le, inl, inr}
+use Rattle.std.proofs.Common.{◌≡◌, ℕ, ◌+◌, ◌-◌, ◌<◌, ◌≤◌, List, [], ◌∷◌, ◌++◌, length, take, drop, None, Some, Ok, Err, refl, sym, ap, subst, ◌∙◌, append_assoc, arith, inl, inr}
 use Rattle.std.specs.List.{AllByRecursion}
-use Rattle.std.proofs.lemmas.Bool.{leb-true, leb-false}
 use Rattle.std.proofs.lemmas.List.{append-nil, length-append, take_at}
 use Rattle.clone_mtr.specs.Records.{IsRecord}
 use Rattle.clone_mtr.specs.Spelling.{record_spelling, spelling, Spells}
-use Rattle.clone_mtr.specs.Answers.{BeginsNone, Decodes}
+use Rattle.clone_mtr.specs.Answers.{BeginsNone, IsLost, IsFront, Stops, Decodes}
 use Rattle.clone_mtr.specs.declared.record.Record.{Record}
 use Rattle.clone_mtr.specs.declared.refusal.DecodeRefusal.{DecodeRefusal}
 use Rattle.clone_mtr.specs.declared.refusal.DecodeRefusal.TheVariants.{Short, BadKind, OutOfPage, TooLong, NoMemory}
 use Rattle.clone_mtr.specs.declared.record.Record.TheVariants.{Init, Write, Extend, Create, Drop}
-use Rattle.clone_mtr.specs.Reading.{item_at, next_at}
-use Rattle.clone_mtr.proofs.Numbers.{IsBytes, chosen}
+use Rattle.clone_mtr.specs.Reading.{item_at}
+use Rattle.clone_bytes.specs.Fields.{IsBytes}
 use Rattle.clone_mtr.proofs.Items.{IsShort, Found, answer, item_takes, item_ends, item_again, end_again}
+use Rattle.clone_mtr.proofs.Fronts.{item_grown}
+use Rattle.clone_mtr.proofs.Openings.{bytes_append, item_opens}
 use Rattle.clone_mtr.proofs.Spellings.{text_of, spelling-append, spelling_is, spelling_some, first_same, not_end, short_first}
 
 -- the bytes are these records and then a rest
 pub record Splits (bytes : List ℕ) (rs : List Record) (rest : List ℕ) : Type 0 where
   pub parts : bytes ≡ text_of rs ++ rest
+  pub below : length (text_of rs) ≤ 1023
   pub each : AllByRecursion IsRecord rs
   pub short : AllByRecursion IsShort rs
   pub fits : IsBytes rest
@@ -31,13 +33,15 @@ all-push P [] r all one = (one, tt)
 all-push P (s ∷ rs) r all one = (all.0, all-push P rs r all.1 one)
 
 -- one more record
-pub Splits-more : (bytes rest after : List ℕ) (rs : List Record) (r : Record) (at : ℕ) → Splits bytes rs rest → item_at at rest ≡ Ok (Some (r, after)) → Splits bytes (rs ++ r ∷ []) after
-Splits-more bytes rest after rs r at so_far found =
+pub Splits-more : (bytes rest after : List ℕ) (rs : List Record) (r : Record) (at : ℕ) → at ≡ length (text_of rs) → Splits bytes rs rest → item_at at rest ≡ Ok (Some (r, after)) → Splits bytes (rs ++ r ∷ []) after
+Splits-more bytes rest after rs r at here so_far found =
     let taken = item_takes at rest (r, after) so_far.fits found in
+    let longer = ap length (text-push rs r) ∙ length-append (text_of rs) (record_spelling r) in
     record {
+      below = omega (arith, taken.2);
       parts = so_far.parts ∙ ap (λ t. text_of rs ++ t) taken.0.parts ∙ sym (append_assoc (text_of rs) (record_spelling r) after) ∙ ap (λ t. t ++ after) (sym (text-push rs r));
       each = all-push IsRecord rs r so_far.each taken.1;
-      short = all-push IsShort rs r so_far.short taken.2;
+      short = all-push IsShort rs r so_far.short (omega (arith, taken.2));
       fits = taken.0.rest_fits;
     }
 
@@ -62,36 +66,31 @@ goes_on (r ∷ rs) (s ∷ all) rest after each short each_all short_all e =
     let rest_on = goes_on rs all rest after each.1 short.1 each_all.1 b.1 first.1 in
     record { more = rest_on.more; whole = (let p = rest_on.whole in let q = first.0 in cc); parts = rest_on.parts; each = rest_on.each; short = rest_on.short }
 
-begun : (bytes rest front after : List ℕ) (rs all : List Record) → Splits bytes rs rest → bytes ≡ front ++ after → Spells front all → Goes_on rs all rest after
-begun bytes rest front after rs all so_far split spells =
+begun : (bytes rest front after : List ℕ) (rs all : List Record) → AllByRecursion IsRecord rs → AllByRecursion IsShort rs → bytes ≡ text_of rs ++ rest → bytes ≡ front ++ after → Spells front all → Goes_on rs all rest after
+begun bytes rest front after rs all each small parts split spells =
     let short : length (spelling all) ≤ 1024 = rw (← spells.text) spells.short in
-    goes_on rs all rest after so_far.each so_far.short spells.mtr.1 short (sym so_far.parts ∙ split ∙ ap (λ t. t ++ after) spells.text)
+    goes_on rs all rest after each small spells.mtr.1 short (sym parts ∙ split ∙ ap (λ t. t ++ after) spells.text)
 
 -- what stands in a spelling's place is read
-item_there : (at : ℕ) (more : List Record) (after : List ℕ) → AllByRecursion IsRecord more → length (spelling more) ≤ 1024 → (x : Found) × (item_at at (spelling more ++ after) ≡ answer x)
+item_there : (at : ℕ) (more : List Record) (after : List ℕ) → AllByRecursion IsRecord more → at + length (spelling more) ≤ 1024 → (x : Found) × (item_at at (spelling more ++ after) ≡ answer x)
 item_there at [] after each short = (None, end_again at after)
 item_there at (r ∷ more) after each short =
-    (Some (r, spelling more ++ after), ap (item_at at) (append_assoc (record_spelling r) (spelling more) after) ∙ item_again at r (spelling more ++ after) each.0 (short_first r more short).0)
+    let whole = length-append (record_spelling r) (spelling more) in
+    let some = spelling_some more in
+    (Some (r, spelling more ++ after), ap (item_at at) (append_assoc (record_spelling r) (spelling more) after) ∙ item_again at r (spelling more ++ after) each.0 (omega arith))
 
 answer_is : {x : Found} {e : DecodeRefusal} → answer x ≡ Err e → ⊥
 answer_is h = cc
 
 -- where reading is refused no front is a spelling
-pub refused : (bytes rest : List ℕ) (rs : List Record) (at : ℕ) (e : DecodeRefusal) → Splits bytes rs rest → item_at at rest ≡ Err e → BeginsNone bytes
-refused bytes rest rs at e so_far failed front after all split spells =
-    let on = begun bytes rest front after rs all so_far split spells in
-    let there = item_there at on.more after on.each on.short in
-    answer_is (sym there.1 ∙ ap (item_at at) (sym on.parts) ∙ failed)
-
--- where too much was read no front is a spelling
-pub too_long : (bytes rest : List ℕ) (rs : List Record) → Splits bytes rs rest → 1024 ≤ length (text_of rs) → BeginsNone bytes
-too_long bytes rest rs so_far long front after all split spells =
-    let on = begun bytes rest front after rs all so_far split spells in
+pub refused : (bytes rest : List ℕ) (rs : List Record) (at : ℕ) (e : DecodeRefusal) → at ≡ length (text_of rs) → AllByRecursion IsRecord rs → AllByRecursion IsShort rs → bytes ≡ text_of rs ++ rest → item_at at rest ≡ Err e → BeginsNone bytes
+refused bytes rest rs at e here each small parts failed front after all split spells =
+    let on = begun bytes rest front after rs all each small parts split spells in
     let whole : spelling all ≡ text_of rs ++ spelling on.more = ap spelling on.whole ∙ spelling-append rs on.more in
     let lengths = ap length whole ∙ length-append (text_of rs) (spelling on.more) in
-    let some = spelling_some on.more in
     let short : length (spelling all) ≤ 1024 = rw (← spells.text) spells.short in
-    absurd (omega arith)
+    let there = item_there at on.more after on.each (omega arith) in
+    answer_is (sym there.1 ∙ ap (item_at at) (sym on.parts) ∙ failed)
 
 -- an end mark alone is no spelling
 pub no_record : (bytes : List ℕ) (at : ℕ) → item_at at bytes ≡ Ok None → BeginsNone bytes
@@ -115,7 +114,7 @@ ended bytes rest rs at so_far end some short =
 
 -- nothing was read yet
 pub Splits-none : (bytes : List ℕ) → IsBytes bytes → Splits bytes [] bytes
-Splits-none bytes fits = record { parts = refl; each = tt; short = tt; fits = fits }
+Splits-none bytes fits = record { parts = refl; below = omega arith; each = tt; short = tt; fits = fits }
 
 -- how far the reading has come
 pub place : (bytes rest : List ℕ) (rs : List Record) → Splits bytes rs rest → length bytes - length rest ≡ length (text_of rs)
@@ -128,46 +127,67 @@ record_some (Extend space pages) = omega arith
 record_some (Create space pages) = omega arith
 record_some (Drop space) = omega arith
 
--- a refusal where no front is a spelling
-pub refuses : (bytes : List ℕ) (e : DecodeRefusal) → BeginsNone bytes → Decodes bytes (Err e)
-refuses bytes Short none = none
-refuses bytes (BadKind at) none = none
-refuses bytes (OutOfPage at) none = none
-refuses bytes TooLong none = none
-refuses bytes NoMemory none = tt
+-- where a refusal other than `Short` comes, nothing that follows makes a spelling
+lost : (bytes rest : List ℕ) (rs : List Record) (at : ℕ) (e : DecodeRefusal) → (Short ≡ e → ⊥) → at ≡ length (text_of rs) → Splits bytes rs rest → item_at at rest ≡ Err e → IsLost bytes
+lost bytes rest rs at e other here so_far failed more =
+    refused (bytes ++ more) (rest ++ more) rs at e here so_far.each so_far.short (ap (λ t. t ++ more) so_far.parts ∙ append_assoc (text_of rs) rest more) (item_grown at rest more e other failed)
+
+-- the records and an end mark
+spelled : (bytes : List ℕ) (rs : List Record) → bytes ≡ text_of rs ++ 6 ∷ [] → 1 ≤ length rs → AllByRecursion IsRecord rs → length (text_of rs) ≤ 1023 → Spells bytes rs
+spelled bytes rs parts some each below =
+    let long = ap length parts ∙ length-append (text_of rs) (6 ∷ []) in
+    record { mtr = (some, each); text = parts ∙ sym (spelling_is rs); short = omega arith }
+
+-- where too few bytes are there, further ones make a spelling
+front : (bytes rest : List ℕ) (rs : List Record) (at : ℕ) → at ≡ length (text_of rs) → Splits bytes rs rest → item_at at rest ≡ Err Short → IsFront bytes
+front bytes [] [] at here so_far failed =
+    (5 ∷ 0 ∷ 0 ∷ 0 ∷ 0 ∷ 6 ∷ [], (Drop 0 ∷ [], (omega arith, spelled (bytes ++ 5 ∷ 0 ∷ 0 ∷ 0 ∷ 0 ∷ 6 ∷ []) (Drop 0 ∷ []) (ap (λ t. t ++ 5 ∷ 0 ∷ 0 ∷ 0 ∷ 0 ∷ 6 ∷ []) so_far.parts) (omega arith) (omega arith, tt) (omega arith))))
+front bytes [] (r ∷ rs) at here so_far failed =
+    (6 ∷ [], (r ∷ rs, (omega arith, spelled (bytes ++ 6 ∷ []) (r ∷ rs) (ap (λ t. t ++ 6 ∷ []) (so_far.parts ∙ append-nil (text_of (r ∷ rs)))) (omega arith) so_far.each so_far.below)))
+front bytes (kind ∷ rest) rs at here so_far failed =
+    let x = item_opens at kind rest failed in
+    let taken = item_takes at ((kind ∷ rest) ++ x.more) (x.value, []) (bytes_append (kind ∷ rest) x.more so_far.fits x.fit) x.gives in
+    let all = rs ++ x.value ∷ [] in
+    let made : (kind ∷ rest) ++ x.more ≡ record_spelling x.value = taken.0.parts ∙ append-nil (record_spelling x.value) in
+    let longer = ap length (text-push rs x.value) ∙ length-append (text_of rs) (record_spelling x.value) in
+    let parts : bytes ++ (x.more ++ 6 ∷ []) ≡ text_of all ++ 6 ∷ [] =
+    sym (append_assoc bytes x.more (6 ∷ [])) ∙ ap (λ t. (t ++ x.more) ++ 6 ∷ []) so_far.parts ∙ ap (λ t. t ++ 6 ∷ []) (append_assoc (text_of rs) (kind ∷ rest) x.more ∙ ap (λ t. text_of rs ++ t) made ∙ sym (text-push rs x.value)) in
+    let counted = length-append rs (x.value ∷ []) in
+    (x.more ++ 6 ∷ [], (all, (omega (arith, length-append x.more (6 ∷ [])), spelled (bytes ++ (x.more ++ 6 ∷ [])) all parts (omega arith) (all-push IsRecord rs x.value so_far.each taken.1) (omega (arith, taken.2)))))
+
+stops : (bytes rest : List ℕ) (rs : List Record) (at : ℕ) (e : DecodeRefusal) → at ≡ length (text_of rs) → Splits bytes rs rest → item_at at rest ≡ Err e → Stops bytes e
+stops bytes rest rs at e here so_far failed = record { records = rs; rest = rest; each = so_far.each; parts = so_far.parts; below = omega (arith, so_far.below); refused = subst (λ n. item_at n rest ≡ Err e) here failed }
+
+-- the answer where an item is refused
+pub refuses : (bytes rest : List ℕ) (rs : List Record) (at : ℕ) (e : DecodeRefusal) → at ≡ length (text_of rs) → Splits bytes rs rest → item_at at rest ≡ Err e → Decodes bytes (Err e)
+refuses bytes rest rs at Short here so_far failed = (refused bytes rest rs at Short here so_far.each so_far.short so_far.parts failed, front bytes rest rs at here so_far failed)
+refuses bytes rest rs at (BadKind place) here so_far failed = (refused bytes rest rs at (BadKind place) here so_far.each so_far.short so_far.parts failed, lost bytes rest rs at (BadKind place) (λ d. cc) here so_far failed, inl (stops bytes rest rs at (BadKind place) here so_far failed))
+refuses bytes rest rs at (OutOfPage place) here so_far failed = (refused bytes rest rs at (OutOfPage place) here so_far.each so_far.short so_far.parts failed, lost bytes rest rs at (OutOfPage place) (λ d. cc) here so_far failed, stops bytes rest rs at (OutOfPage place) here so_far failed)
+refuses bytes rest rs at TooLong here so_far failed = (refused bytes rest rs at TooLong here so_far.each so_far.short so_far.parts failed, lost bytes rest rs at TooLong (λ d. cc) here so_far failed, stops bytes rest rs at TooLong here so_far failed)
+refuses bytes rest rs at NoMemory here so_far failed = tt
+
+-- the answer where the end mark stands first
+pub ends_first : (bytes : List ℕ) → item_at 0 bytes ≡ Ok None → Decodes bytes (Err (BadKind 0))
+ends_first bytes e =
+    let mark = item_ends 0 bytes e in
+    (no_record bytes 0 e, (λ more. no_record (bytes ++ more) 0 (ap (λ t. item_at 0 (t ++ more)) mark ∙ end_again 0 (drop 1 bytes ++ more))), inr (refl, mark))
 
 -- the next item is refused
-pub next_refused : (bytes rest : List ℕ) (rs : List Record) (e : DecodeRefusal) → Splits bytes rs rest → next_at (length bytes - length rest) rest ≡ Err e → BeginsNone bytes
-next_refused bytes rest rs e so_far failed =
-    let at = length bytes - length rest in
-    let stands = place bytes rest rs so_far in
-    elim (chosen (nat_le 1024 at) (Err TooLong) (item_at at rest) (Err e) failed) [
-      | inl over ↦ too_long bytes rest rs so_far (let le : 1024 ≤ at = leb-true 1024 at over.0 in omega arith)
-      | inr within ↦ refused bytes rest rs at e so_far within.1
-    ]
+pub next_refused : (bytes rest : List ℕ) (rs : List Record) (e : DecodeRefusal) → Splits bytes rs rest → item_at (length bytes - length rest) rest ≡ Err e → Decodes bytes (Err e)
+next_refused bytes rest rs e so_far failed = refuses bytes rest rs (length bytes - length rest) e (place bytes rest rs so_far) so_far failed
 
--- the next item begins before 1,024
-pub next_found : (at : ℕ) (rest : List ℕ) (x : Found) → next_at at rest ≡ answer x → (item_at at rest ≡ answer x) × (at ≤ 1023)
-next_found at rest x found =
-    elim (chosen (nat_le 1024 at) (Err TooLong) (item_at at rest) (answer x) found) [
-      | inl over ↦ absurd (answer_is (sym over.1))
-      | inr within ↦ (within.1, (let lt : at < 1024 = leb-false 1024 at within.0 in omega arith))
-    ]
-
-pub next_more : (bytes rest after : List ℕ) (rs : List Record) (r : Record) → Splits bytes rs rest → next_at (length bytes - length rest) rest ≡ answer (Some (r, after)) → Splits bytes (rs ++ r ∷ []) after × (length after < length rest)
+pub next_more : (bytes rest after : List ℕ) (rs : List Record) (r : Record) → Splits bytes rs rest → item_at (length bytes - length rest) rest ≡ answer (Some (r, after)) → Splits bytes (rs ++ r ∷ []) after × (length after < length rest)
 next_more bytes rest after rs r so_far found =
     let at = length bytes - length rest in
-    let item = next_found at rest (Some (r, after)) found in
-    let taken = item_takes at rest (r, after) so_far.fits item.0 in
+    let taken = item_takes at rest (r, after) so_far.fits found in
     let whole = ap length taken.0.parts ∙ length-append (record_spelling r) after in
     let some = record_some r in
-    (Splits-more bytes rest after rs r at so_far item.0, omega arith)
+    (Splits-more bytes rest after rs r at (place bytes rest rs so_far) so_far found, omega arith)
 
-pub next_ended : (bytes rest : List ℕ) (rs : List Record) → Splits bytes rs rest → next_at (length bytes - length rest) rest ≡ answer None → 1 ≤ length rs
+pub next_ended : (bytes rest : List ℕ) (rs : List Record) → Splits bytes rs rest → item_at (length bytes - length rest) rest ≡ answer None → 1 ≤ length rs
     → Spells (take (length bytes - length rest + 1) bytes) rs × (length bytes - length rest + 1 ≤ length bytes)
 next_ended bytes rest rs so_far found some =
     let at = length bytes - length rest in
-    let item = next_found at rest None found in
     let stands = place bytes rest rs so_far in
     let P : ℕ → Type 0 = λ n. Spells (take (n + 1) bytes) rs × (n + 1 ≤ length bytes) in
-    subst P (sym stands) (ended bytes rest rs at so_far item.0 some (omega arith))
+    subst P (sym stands) (ended bytes rest rs at so_far found some so_far.below)

@@ -1,26 +1,14 @@
 -- A field that is read is the field that was written, and what was written is read again.
-use Rattle.std.proofs.Common.{◌≡◌, ℕ, ◌+◌, ◌^◌, ◌<◌, ◌≤◌, ◌⊎◌, Bool, true, false, cond, ltb, List, ◌∷◌, ◌++◌, length, get_or, take, drop, Result, Ok, Err, refl, sym, ap, subst, ◌∙◌, append_assoc, arith, inl, inr}
-use Rattle.std.proofs.lemmas.Bool.{cases_lt, ltb-false, le-ltb}
-use Rattle.std.proofs.lemmas.List.{take_at, drop_at, take-append-drop, length-append, length-take, get_or-drop, get_or-take, get_or_past}
-use Rattle.std.proofs.lemmas.Nat.{be_bytes_2, be_bytes_4}
+use Rattle.std.proofs.Common.{◌≡◌, ℕ, ◌^◌, ◌<◌, ◌≤◌, ◌⊎◌, Bool, true, false, cond, ltb, List, ◌∷◌, ◌++◌, length, take, drop, Result, Ok, Err, refl, sym, ap, subst, ◌∙◌, append_assoc, arith, inl, inr}
+use Rattle.std.proofs.lemmas.Bool.{ltb-false, le-ltb}
+use Rattle.std.proofs.lemmas.List.{take_at, drop_at, take-append-drop, length-append, length-take}
 use Rattle.byteorder.specs.Endian.{big_bytes, big_number}
-use Rattle.byteorder.specs.Numbers.{big_from-take, big_from-lt, big_number-reads_back, length-bytes_high_first}
+use Rattle.byteorder.specs.Numbers.{big_from-lt, big_number-reads_back, length-bytes_high_first}
+use Rattle.clone_bytes.specs.Fields.{IsBytes}
+use Rattle.clone_bytes.proofs.Numbers.{IsBytes-drop, IsBytes-take, big_bytes-big_number}
 use Rattle.clone_mtr.specs.declared.refusal.DecodeRefusal.{DecodeRefusal}
 use Rattle.clone_mtr.specs.declared.refusal.DecodeRefusal.TheVariants.{Short}
 use Rattle.clone_mtr.specs.Reading.{◌>>=◌, number_at, bytes_at, pair_at}
-
-abbrev pub IsBytes : List ℕ → Type 0
-IsBytes bytes = (i : ℕ) → get_or bytes i 0 < 256
-
-pub IsBytes-drop : (n : ℕ) (bytes : List ℕ) → IsBytes bytes → IsBytes (drop n bytes)
-IsBytes-drop n bytes fits i = rw get_or-drop (fits (n + i))
-
-pub IsBytes-take : (n : ℕ) (bytes : List ℕ) → IsBytes bytes → IsBytes (take n bytes)
-IsBytes-take n bytes fits i =
-    elim (cases_lt i n) [
-      | inl lt ↦ rw (get_or-take n bytes i 0 lt) (fits i)
-      | inr le ↦ rw (get_or_past (take n bytes) i 0 (omega (arith, length-take n bytes))) (omega arith)
-    ]
 
 -- the value of a step that did not fail
 pub bind_ok : {A B : Type 0} (r : Result A DecodeRefusal) (f : A → Result B DecodeRefusal) (y : B) → (r >>= f) ≡ Ok y → (x : A) × (r ≡ Ok x) × (f x ≡ Ok y)
@@ -62,15 +50,14 @@ Takes-cons a b x c p = record { parts = ap (λ t. a ∷ t) p.parts; rest_fits = 
 -- ---- numbers
 
 -- the numbers of n bytes are those below a limit
-pub record IsWide (n limit : ℕ) : Type 0 where
-  pub same : limit ≡ 256 ^ n
-  pub back : (bytes : List ℕ) → length bytes ≡ n → IsBytes bytes → big_bytes n (big_number n bytes) ≡ bytes
+abbrev pub IsWide : ℕ → ℕ → Type 0
+IsWide n limit = limit ≡ 256 ^ n
 
 pub wide2 : IsWide 2 (2 ^ 16)
-wide2 = record { same = refl; back = λ bytes long fits. be_bytes_2 bytes (big_number 2 bytes) long fits (omega arith) }
+wide2 = refl
 
 pub wide4 : IsWide 4 (2 ^ 32)
-wide4 = record { same = refl; back = λ bytes long fits. be_bytes_4 bytes (big_number 4 bytes) long fits (omega arith) }
+wide4 = refl
 
 pub number_takes : (n limit : ℕ) (wide : IsWide n limit) (bytes : List ℕ) (x : ℕ) (rest : List ℕ) → IsBytes bytes → number_at n bytes ≡ Ok (x, rest) → Takes bytes (big_bytes n x) rest × (x < limit)
 number_takes n limit wide bytes x rest fits e =
@@ -78,15 +65,14 @@ number_takes n limit wide bytes x rest fits e =
     let long : n ≤ length bytes = ltb-false _ _ g.0 in
     let x-is : big_number n bytes ≡ x = ap (λ (p : ℕ × List ℕ). p.0) g.1 in
     let rest-is : drop n bytes ≡ rest = ap (λ (p : ℕ × List ℕ). p.1) g.1 in
-    let cut : big_number n (take n bytes) ≡ big_number n bytes = big_from-take 0 n n bytes (omega arith) in
-    let front : big_bytes n x ≡ take n bytes = ap (big_bytes n) (sym x-is ∙ sym cut) ∙ wide.back (take n bytes) (omega (arith, length-take n bytes)) (IsBytes-take n bytes fits) in
+    let front : big_bytes n x ≡ take n bytes = ap (big_bytes n) (sym x-is) ∙ big_bytes-big_number n bytes long fits in
     let below : big_number n bytes < 256 ^ n = big_from-lt 0 n bytes fits in
-    (record { parts = rw (front, ← rest-is) (sym (take-append-drop n bytes)); rest_fits = rw (← rest-is) (IsBytes-drop n bytes fits) }, rw (← x-is, wide.same) below)
+    (record { parts = rw (front, ← rest-is) (sym (take-append-drop n bytes)); rest_fits = rw (← rest-is) (IsBytes-drop n bytes fits) }, rw (← x-is, wide) below)
 
 pub number_again : (n limit : ℕ) (wide : IsWide n limit) (x : ℕ) (rest : List ℕ) → x < limit → number_at n (big_bytes n x ++ rest) ≡ Ok (x, rest)
 number_again n limit wide x rest lt =
     let len = length-bytes_high_first n x in
-    let below : x < 256 ^ n = rw (← wide.same) lt in
+    let below : x < 256 ^ n = rw (← wide) lt in
     let long : ltb (length (big_bytes n x ++ rest)) n ≡ false = le-ltb _ _ (omega (arith, length-append (big_bytes n x) rest)) in
     rw (long, drop_at (big_bytes n x) rest n len, big_number-reads_back n x rest below) refl
 

@@ -27,13 +27,13 @@ spelling_some rs = rw (spelling_is rs, length-append) (omega arith)
 -- what is at the front of two equal texts is one record
 pub first_same : (r s : Record) (x y : List ℕ) → IsRecord r → IsRecord s → IsShort r → IsShort s → record_spelling r ++ x ≡ record_spelling s ++ y → (r ≡ s) × (x ≡ y)
 first_same r s x y r_fits s_fits r_short s_short e =
-    let both : answer (Some (r, x)) ≡ answer (Some (s, y)) = sym (item_again 0 r x r_fits r_short) ∙ ap (item_at 0) e ∙ item_again 0 s y s_fits s_short in
+    let both : answer (Some (r, x)) ≡ answer (Some (s, y)) = sym (item_again 0 r x r_fits (omega arith)) ∙ ap (item_at 0) e ∙ item_again 0 s y s_fits (omega arith) in
     let pair = found_is (r, x) (s, y) both in
     (ap (λ (p : Record × List ℕ). p.0) pair, ap (λ (p : Record × List ℕ). p.1) pair)
 
 -- no record begins with the end mark
 pub not_end : (r : Record) (x y : List ℕ) → IsRecord r → IsShort r → record_spelling r ++ x ≡ 6 ∷ y → ⊥
-not_end r x y fits short e = some_is (sym (end_again 0 y) ∙ ap (item_at 0) (sym e) ∙ item_again 0 r x fits short)
+not_end r x y fits short e = some_is (sym (end_again 0 y) ∙ ap (item_at 0) (sym e) ∙ item_again 0 r x fits (omega arith))
 
 -- the first record of a text that isn't too long
 pub short_first : (r : Record) (rs : List Record) → length (spelling (r ∷ rs)) ≤ 1024 → IsShort r × (length (spelling rs) ≤ 1024)

@@ -1,13 +1,17 @@
 -- What the encoder and the decoder answer.
-use Rattle.std.specs.Prelude.{ℕ, ◌≡◌, ◌<◌, ◌≤◌, ◌++◌, List, take, length, Result, Ok, Err, Vec, ⊤}
+use Rattle.std.specs.Prelude.{ℕ, ◌∷◌, ◌⊎◌, ◌≡◌, ◌<◌, ◌≤◌, ◌++◌, List, take, drop, length, min, ◌-◌, ◌^◌, Result, Ok, Err, Vec, ⊤}
 use Rattle.std.specs.declared.alloc.Global.{Global}
 use Rattle.clone_mtr.specs.declared.record.Record.{Record}
 use Rattle.clone_mtr.specs.declared.record.Mtr.{Mtr}
 use Rattle.clone_mtr.specs.declared.refusal.EncodeRefusal.{EncodeRefusal}
 use Rattle.clone_mtr.specs.declared.refusal.EncodeRefusal.TheVariants as encode
+use Rattle.clone_mtr.specs.declared.refusal.TooLong.{TooLong}
 use Rattle.clone_mtr.specs.declared.refusal.DecodeRefusal.{DecodeRefusal}
 use Rattle.clone_mtr.specs.declared.refusal.DecodeRefusal.TheVariants as decode
-use Rattle.clone_mtr.specs.Spelling.{Spells, longest}
+use Rattle.std.specs.List.{flat_map, AllByRecursion}
+use Rattle.clone_mtr.specs.Records.{IsRecord}
+use Rattle.clone_mtr.specs.Spelling.{record_spelling, Spells, longest}
+use Rattle.clone_mtr.specs.Reading.{item_at}
 
 -- the text, unless it is too long or memory runs out
 abbrev pub Encodes : List ℕ → Result (Vec ℕ Global) EncodeRefusal → Type 0
@@ -15,15 +19,37 @@ Encodes text (Ok v) = (v.items ≡ text) × (length text ≤ longest)
 Encodes text (Err (encode.TooLong n)) = (n ≡ length text) × (longest < n)
 Encodes text (Err encode.NoMemory) = ⊤
 
+-- the text at the front of the bytes, unless it is too long. All other bytes are as they were.
+abbrev pub EncodesInto : List ℕ → List ℕ → List ℕ → Result ℕ TooLong → Type 0
+EncodesInto text old new (Ok n) = (n ≡ length text) × (n ≤ longest) × (new ≡ text ++ drop n old)
+EncodesInto text old new (Err refusal) = (refusal.length ≡ min (length text) (2 ^ 64 - 1)) × (longest < length text) × (new ≡ old)
+
 -- no front of the bytes is the spelling of a mini-transaction
 abbrev pub BeginsNone : List ℕ → Type 0
 BeginsNone bytes = (front rest : List ℕ) (records : List Record) → bytes ≡ front ++ rest → Spells front records → ⊥
 
--- The mini-transaction whose spelling is at the front, and the length of that front. A refusal other than want of memory comes only where no front is one.
+-- further bytes, at least one, make the spelling of a mini-transaction of these
+abbrev pub IsFront : List ℕ → Type 0
+IsFront bytes = (more : List ℕ) × ((records : List Record) × ((1 ≤ length more) × Spells (bytes ++ more) records))
+
+-- whatever follows the bytes, no front of all that is the spelling of a mini-transaction
+abbrev pub IsLost : List ℕ → Type 0
+IsLost bytes = (more : List ℕ) → BeginsNone (bytes ++ more)
+
+-- Whole records stand at the front, and what stands behind them, read from left to right, is refused first for this cause.
+pub record Stops (bytes : List ℕ) (cause : DecodeRefusal) : Type 0 where
+  pub records : List Record
+  pub rest : List ℕ
+  pub each : AllByRecursion IsRecord records
+  pub parts : bytes ≡ flat_map record_spelling records ++ rest
+  pub below : length (flat_map record_spelling records) < longest
+  pub refused : item_at (length (flat_map record_spelling records)) rest ≡ Err cause
+
+-- The mini-transaction whose spelling is at the front, and the length of that front. A refusal other than want of memory comes only where no front is one: `Short` exactly where further bytes would make one, and the others exactly where none could, with the first cause.
 abbrev pub Decodes : List ℕ → Result (Mtr × ℕ) DecodeRefusal → Type 0
 Decodes bytes (Ok found) = Spells (take found.1 bytes) found.0 × (found.1 ≤ length bytes)
-Decodes bytes (Err decode.Short) = BeginsNone bytes
-Decodes bytes (Err (decode.BadKind at)) = BeginsNone bytes
-Decodes bytes (Err (decode.OutOfPage at)) = BeginsNone bytes
-Decodes bytes (Err decode.TooLong) = BeginsNone bytes
+Decodes bytes (Err decode.Short) = BeginsNone bytes × IsFront bytes
+Decodes bytes (Err (decode.BadKind at)) = BeginsNone bytes × IsLost bytes × (Stops bytes (decode.BadKind at) ⊎ ((at ≡ 0) × (bytes ≡ 6 ∷ drop 1 bytes)))
+Decodes bytes (Err (decode.OutOfPage at)) = BeginsNone bytes × IsLost bytes × Stops bytes (decode.OutOfPage at)
+Decodes bytes (Err decode.TooLong) = BeginsNone bytes × IsLost bytes × Stops bytes decode.TooLong
 Decodes bytes (Err decode.NoMemory) = ⊤

@@ -1,5 +1,5 @@
 -- Reading from left to right: a value and the bytes behind it, or the first refusal.
-use Rattle.std.specs.Prelude.{ℕ, ◌≡◌, ◌+◌, Bool, List, [], ◌∷◌, length, take, drop, if◌then◌else◌, nat_lt, nat_le, ◌==◌, ◌&&◌, ◌||◌, None, Some, Ok, Err, Result}
+use Rattle.std.specs.Prelude.{ℕ, ◌≡◌, ◌+◌, ◌*◌, max, Bool, List, [], ◌∷◌, length, take, drop, if◌then◌else◌, nat_lt, nat_le, ◌==◌, ◌&&◌, ◌||◌, None, Some, Ok, Err, Result}
 use Rattle.std.specs.declared.option.Option.{Option}
 use Rattle.byteorder.specs.Endian.{big_number}
 use Rattle.clone_page.specs.declared.kind.PageKind.{PageKind}
@@ -19,6 +19,11 @@ abbrev pub ◌>>=◌ : {A B : Type 0} → Result A DecodeRefusal → (A → Resu
 abbrev pub Gives : {X Y : Type 0} → (X → Y) → Result X DecodeRefusal → Result Y DecodeRefusal → Type 0
 Gives view (Ok x) read = read ≡ Ok (view x)
 Gives view (Err e) read = read ≡ Err e
+
+-- a byte
+abbrev pub byte_at : List ℕ → Result (ℕ × List ℕ) DecodeRefusal
+byte_at [] = Err Short
+byte_at (byte ∷ rest) = Ok (byte, rest)
 
 -- a number of n bytes
 abbrev pub number_at : ℕ → List ℕ → Result (ℕ × List ℕ) DecodeRefusal
@@ -44,27 +49,44 @@ pair_at bytes = do
   second ← number_at 4 first.1
   Ok (first.0, second.0, second.1)
 
+-- the kind of a page, a number of two bytes that begins at this place
+unfoldable pub kind_at : ℕ → List ℕ → Result (PageKind × List ℕ) DecodeRefusal
+kind_at at bytes = do
+  high ← byte_at bytes
+  if nat_lt 0 high.0 then Err (BadKind at) else (do
+    low ← byte_at high.1
+    kind ← kind_numbered at low.0
+    Ok (kind, low.1))
+
 -- The fields of each record behind the byte of its kind. The record begins at this place.
 unfoldable pub init_at : ℕ → List ℕ → Result (Record × List ℕ) DecodeRefusal
 init_at at bytes = do
   page ← pair_at bytes
-  number ← number_at 2 page.2
-  kind ← kind_numbered (at + 9) number.0
-  Ok (Init page.0 page.1 kind, number.1)
+  kind ← kind_at (at + 9) page.2
+  Ok (Init page.0 page.1 kind.0, kind.1)
 
--- so many bytes of a patch, whose offset stands at this place
-abbrev pub body_at : ℕ → ℕ → ℕ → List ℕ → Result (Patched × List ℕ) DecodeRefusal
-body_at at offset long bytes =
-    if allows offset long then (if nat_lt 1010 long then Err TooLong else (do
-      body ← bytes_at long bytes
-      Ok (record { offset = offset; bytes = body.0 }, body.1))) else Err (OutOfPage at)
+-- A write whose offset stands at this place may have so many bytes: they lie where a write may, and an end mark behind them is within 1,024 bytes.
+abbrev pub fits : ℕ → ℕ → ℕ → Result (Unit {0}) DecodeRefusal
+fits at offset long =
+    if allows offset long then (if nat_lt 1023 (at + (4 + long)) then Err TooLong else Ok tt) else Err (OutOfPage at)
+
+-- The length and the bytes of a patch, whose offset stands at this place. Each byte of the length is refused where no length that begins so fits.
+unfoldable pub long_at : ℕ → ℕ → List ℕ → Result (Patched × List ℕ) DecodeRefusal
+long_at at offset bytes = do
+  high ← byte_at bytes
+  least ← fits at offset (max 1 (high.0 * 256))
+  low ← byte_at high.1
+  whole ← fits at offset (high.0 * 256 + low.0)
+  body ← bytes_at (high.0 * 256 + low.0) low.1
+  Ok (record { offset = offset; bytes = body.0 }, body.1)
 
 -- a patch, whose offset stands at this place
 unfoldable pub patch_at : ℕ → List ℕ → Result (Patched × List ℕ) DecodeRefusal
 patch_at at bytes = do
-  offset ← number_at 2 bytes
-  long ← number_at 2 offset.1
-  body_at at offset.0 long.0 long.1
+  high ← byte_at bytes
+  if nat_lt 15 high.0 then Err (OutOfPage at) else (do
+    low ← byte_at high.1
+    if allows (high.0 * 256 + low.0) 1 then long_at at (high.0 * 256 + low.0) low.1 else Err (OutOfPage at))
 
 unfoldable pub write_at : ℕ → List ℕ → Result (Record × List ℕ) DecodeRefusal
 write_at at bytes = do
@@ -87,23 +109,24 @@ drop_at bytes = do
   space ← number_at 4 bytes
   Ok (Drop space.0, space.1)
 
+-- a record of so many bytes or more, which has to leave place for an end mark
+abbrev pub room : ℕ → ℕ → Result (Record × List ℕ) DecodeRefusal → Result (Record × List ℕ) DecodeRefusal
+room at least read = if nat_lt 1023 (at + least) then Err TooLong else read
+
 -- the record of this kind
 unfoldable pub record_at : ℕ → ℕ → List ℕ → Result (Record × List ℕ) DecodeRefusal
 record_at kind at bytes =
-    if kind == 1 then init_at at bytes
-    else (if kind == 2 then write_at at bytes
-    else (if kind == 3 then extend_at bytes
-    else (if kind == 4 then create_at bytes
-    else (if kind == 5 then drop_at bytes
+    if kind == 1 then room at 11 (init_at at bytes)
+    else (if kind == 2 then room at 14 (write_at at bytes)
+    else (if kind == 3 then room at 9 (extend_at bytes)
+    else (if kind == 4 then room at 9 (create_at bytes)
+    else (if kind == 5 then room at 5 (drop_at bytes)
     else Err (BadKind at)))))
 
 -- the record at the front, or none where the end mark stands there
 unfoldable pub item_at : ℕ → List ℕ → Result (Option (Record × List ℕ)) DecodeRefusal
-item_at at [] = Err Short
-item_at at (kind ∷ rest) = if kind == 6 then Ok None else (do
-  found ← record_at kind at rest
-  Ok (Some found))
-
--- the next item, which has to begin before 1,024
-abbrev pub next_at : ℕ → List ℕ → Result (Option (Record × List ℕ)) DecodeRefusal
-next_at at bytes = if nat_le 1024 at then Err TooLong else item_at at bytes
+item_at at bytes = do
+  kind ← byte_at bytes
+  if kind.0 == 6 then Ok None else (do
+    found ← record_at kind.0 at kind.1
+    Ok (Some found))

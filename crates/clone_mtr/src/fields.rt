@@ -1,74 +1,118 @@
 ghost use Rattle.std.specs.Prelude.{◌≤◌};
-ghost use Rattle.clone_mtr.specs.Reading.{Gives, number_at, bytes_at, kind_numbered, pair_at, patch_at, init_at, write_at, extend_at, create_at, drop_at};
+ghost use Rattle.clone_mtr.specs.Reading.{Gives, byte_at, number_at, bytes_at, kind_numbered, kind_at, pair_at, fits, long_at, patch_at, init_at, write_at, extend_at, create_at, drop_at};
 
 use crate::{DecodeRefusal, Patch, Record};
-use byteorder::{BigEndian, ByteOrder};
+use clone_bytes::Reader;
 use clone_page::{PageKind, is_allowed};
 
-// Each reader answers a value and the bytes behind it. `at` is the place where the record begins.
+// Each function answers a value, which the reader is behind then. `at` is the place where the record
+// begins.
 
 #[tactic(auto, unfolding(crate::specs::Reading::init_at))]
-pub(crate) fn init_of(at: usize, bytes: &[u8]) -> Result<(Record, &[u8]), DecodeRefusal>
+pub(crate) fn init_of(at: usize, reader: &mut Reader) -> Result<Record, DecodeRefusal>
     requires { at ≤ 1024 }
-    ensures { Gives (λ x. (x.0, x.1.now)) result (init_at at bytes.now) }
+    ensures { Gives (λ x. (x, reader.new)) result (init_at at reader.old) }
 {
-    let (space, page, rest) = pair_of(bytes)?;
-    let (number, rest) = u16_of(rest)?;
-    let kind = kind_of(at + 9, number)?;
-    Ok((Record::Init { space, page, kind }, rest))
+    let (space, page) = pair_of(reader)?;
+    let kind = kind_of(at + 9, reader)?;
+    Ok(Record::Init { space, page, kind })
 }
 
 #[tactic(auto, unfolding(crate::specs::Reading::write_at))]
-pub(crate) fn write_of(at: usize, bytes: &[u8]) -> Result<(Record, &[u8]), DecodeRefusal>
+pub(crate) fn write_of(at: usize, reader: &mut Reader) -> Result<Record, DecodeRefusal>
     requires { at ≤ 1024 }
-    ensures { Gives (λ x. (x.0, x.1.now)) result (write_at at bytes.now) }
+    ensures { Gives (λ x. (x, reader.new)) result (write_at at reader.old) }
 {
-    let (space, page, rest) = pair_of(bytes)?;
-    let (patch, rest) = patch_of(at + 9, rest)?;
-    Ok((Record::Write { space, page, patch }, rest))
+    let (space, page) = pair_of(reader)?;
+    let patch = patch_of(at + 9, reader)?;
+    Ok(Record::Write { space, page, patch })
 }
 
 #[tactic(auto, unfolding(crate::specs::Reading::extend_at))]
-pub(crate) fn extend_of(bytes: &[u8]) -> Result<(Record, &[u8]), DecodeRefusal>
-    ensures { Gives (λ x. (x.0, x.1.now)) result (extend_at bytes.now) }
+pub(crate) fn extend_of(reader: &mut Reader) -> Result<Record, DecodeRefusal>
+    ensures { Gives (λ x. (x, reader.new)) result (extend_at reader.old) }
 {
-    let (space, pages, rest) = pair_of(bytes)?;
-    Ok((Record::Extend { space, pages }, rest))
+    let (space, pages) = pair_of(reader)?;
+    Ok(Record::Extend { space, pages })
 }
 
 #[tactic(auto, unfolding(crate::specs::Reading::create_at))]
-pub(crate) fn create_of(bytes: &[u8]) -> Result<(Record, &[u8]), DecodeRefusal>
-    ensures { Gives (λ x. (x.0, x.1.now)) result (create_at bytes.now) }
+pub(crate) fn create_of(reader: &mut Reader) -> Result<Record, DecodeRefusal>
+    ensures { Gives (λ x. (x, reader.new)) result (create_at reader.old) }
 {
-    let (space, pages, rest) = pair_of(bytes)?;
-    Ok((Record::Create { space, pages }, rest))
+    let (space, pages) = pair_of(reader)?;
+    Ok(Record::Create { space, pages })
 }
 
 #[tactic(auto, unfolding(crate::specs::Reading::drop_at))]
-pub(crate) fn drop_of(bytes: &[u8]) -> Result<(Record, &[u8]), DecodeRefusal>
-    ensures { Gives (λ x. (x.0, x.1.now)) result (drop_at bytes.now) }
+pub(crate) fn drop_of(reader: &mut Reader) -> Result<Record, DecodeRefusal>
+    ensures { Gives (λ x. (x, reader.new)) result (drop_at reader.old) }
 {
-    let (space, rest) = u32_of(bytes)?;
-    Ok((Record::Drop { space }, rest))
+    let space = u32_of(reader)?;
+    Ok(Record::Drop { space })
 }
 
+// `at` is the place of the offset.
 #[tactic(auto, unfolding(crate::specs::Reading::patch_at))]
-fn patch_of(at: usize, bytes: &[u8]) -> Result<(Patch, &[u8]), DecodeRefusal>
-    ensures { Gives (λ x. (x.0, x.1.now)) result (patch_at at bytes.now) }
+fn patch_of(at: usize, reader: &mut Reader) -> Result<Patch, DecodeRefusal>
+    requires low { 9 ≤ at }
+    requires high { at ≤ 1033 }
+    ensures { Gives (λ x. (x, reader.new)) result (patch_at at reader.old) }
 {
-    let (offset, rest) = u16_of(bytes)?;
-    let (long, rest) = u16_of(rest)?;
-    if !is_allowed(offset, long as usize) {
+    let high = u8_of(reader)?;
+    if high > 15 {
         return Err(DecodeRefusal::OutOfPage { at });
     }
-    if long > 1010 {
-        return Err(DecodeRefusal::TooLong);
+    let low = u8_of(reader)?;
+    let offset = high as u16 * 256 + low as u16;
+    if !is_allowed(offset, 1) {
+        return Err(DecodeRefusal::OutOfPage { at });
     }
-    let (body, rest) = bytes_of(rest, long as usize)?;
-    Ok((Patch::new(offset, body), rest))
+    long_of(at, offset, reader)
 }
 
-fn kind_of(at: usize, number: u16) -> Result<PageKind, DecodeRefusal>
+#[tactic(auto, unfolding(crate::specs::Reading::long_at))]
+fn long_of(at: usize, offset: u16, reader: &mut Reader) -> Result<Patch, DecodeRefusal>
+    requires low { 9 ≤ at }
+    requires high { at ≤ 1033 }
+    ensures { Gives (λ x. (x, reader.new)) result (long_at at offset reader.old) }
+{
+    let high = u8_of(reader)?;
+    fitting(at, offset, (high as usize * 256).max(1))?;
+    let low = u8_of(reader)?;
+    let long = high as usize * 256 + low as usize;
+    fitting(at, offset, long)?;
+    let body = bytes_of(reader, long)?;
+    Ok(Patch::new(offset, body))
+}
+
+// Whether a write may have so many bytes.
+fn fitting(at: usize, offset: u16, long: usize) -> Result<(), DecodeRefusal>
+    requires high { at ≤ 1033 }
+    requires short { long ≤ 65535 }
+    ensures { Gives (λ x. x) result (fits at offset long) }
+{
+    if !is_allowed(offset, long) {
+        return Err(DecodeRefusal::OutOfPage { at });
+    }
+    if at + 4 + long > 1023 {
+        return Err(DecodeRefusal::TooLong);
+    }
+    Ok(())
+}
+
+#[tactic(auto, unfolding(crate::specs::Reading::kind_at))]
+fn kind_of(at: usize, reader: &mut Reader) -> Result<PageKind, DecodeRefusal>
+    ensures { Gives (λ x. (x, reader.new)) result (kind_at at reader.old) }
+{
+    if u8_of(reader)? > 0 {
+        return Err(DecodeRefusal::BadKind { at });
+    }
+    let number = u8_of(reader)?;
+    kind_numbered(at, number as u16)
+}
+
+fn kind_numbered(at: usize, number: u16) -> Result<PageKind, DecodeRefusal>
     ensures { Gives (λ kind. kind) result (kind_numbered at number) }
 {
     match PageKind::from_number(number) {
@@ -78,30 +122,28 @@ fn kind_of(at: usize, number: u16) -> Result<PageKind, DecodeRefusal>
 }
 
 #[tactic(auto, unfolding(crate::specs::Reading::pair_at))]
-fn pair_of(bytes: &[u8]) -> Result<(u32, u32, &[u8]), DecodeRefusal>
-    ensures { Gives (λ x. (x.0, x.1, x.2.now)) result (pair_at bytes.now) }
+fn pair_of(reader: &mut Reader) -> Result<(u32, u32), DecodeRefusal>
+    ensures { Gives (λ x. (x.0, x.1, reader.new)) result (pair_at reader.old) }
 {
-    let (first, rest) = u32_of(bytes)?;
-    let (second, rest) = u32_of(rest)?;
-    Ok((first, second, rest))
+    let first = u32_of(reader)?;
+    let second = u32_of(reader)?;
+    Ok((first, second))
 }
 
-fn u32_of(bytes: &[u8]) -> Result<(u32, &[u8]), DecodeRefusal>
-    ensures { Gives (λ x. (x.0, x.1.now)) result (number_at 4 bytes.now) }
+pub(crate) fn u8_of(reader: &mut Reader) -> Result<u8, DecodeRefusal>
+    ensures { Gives (λ x. (x, reader.new)) result (byte_at reader.old) }
 {
-    let (front, rest) = bytes_of(bytes, 4)?;
-    Ok((BigEndian::read_u32(front), rest))
+    Ok(reader.u8()?)
 }
 
-fn u16_of(bytes: &[u8]) -> Result<(u16, &[u8]), DecodeRefusal>
-    ensures { Gives (λ x. (x.0, x.1.now)) result (number_at 2 bytes.now) }
+fn u32_of(reader: &mut Reader) -> Result<u32, DecodeRefusal>
+    ensures { Gives (λ x. (x, reader.new)) result (number_at 4 reader.old) }
 {
-    let (front, rest) = bytes_of(bytes, 2)?;
-    Ok((BigEndian::read_u16(front), rest))
+    Ok(reader.u32()?)
 }
 
-fn bytes_of(bytes: &[u8], n: usize) -> Result<(&[u8], &[u8]), DecodeRefusal>
-    ensures { Gives (λ x. (x.0.now, x.1.now)) result (bytes_at n bytes.now) }
+fn bytes_of<'a>(reader: &mut Reader<'a>, n: usize) -> Result<&'a [u8], DecodeRefusal>
+    ensures { Gives (λ x. (x.now, reader.new)) result (bytes_at n reader.old) }
 {
-    bytes.split_at_checked(n).ok_or(DecodeRefusal::Short)
+    Ok(reader.take(n)?)
 }

@@ -6,17 +6,19 @@ mod effects;
 mod fields;
 mod laws;
 mod patch;
+mod placing;
 mod reading;
 mod record;
 mod refusal;
 mod writing;
 
 pub use effects::apply;
-pub use laws::one_spelling;
+pub use laws::{one_answer, one_spelling};
 pub use patch::Patch;
+pub use placing::encode_into;
 pub use reading::decode;
 pub use record::{Mtr, Record};
-pub use refusal::{DecodeRefusal, EncodeRefusal};
+pub use refusal::{DecodeRefusal, EncodeRefusal, TooLong};
 pub use writing::encode;
 
 #[cfg(test)]

@@ -1,5 +1,5 @@
 ghost use Rattle.std.specs.Prelude.{◌≡◌};
-ghost use Rattle.clone_mtr.specs.declared.refusal.DecodeRefusal.TheVariants.{NoMemory};
+ghost use Rattle.clone_mtr.specs.declared.refusal.DecodeRefusal.TheVariants.{NoMemory, Short};
 
 use std::alloc::AllocError;
 
@@ -12,15 +12,23 @@ pub enum EncodeRefusal {
     NoMemory,
 }
 
-/// Why no mini-transaction was read. Each but want of memory comes only where no front of the bytes
-/// is the spelling of one.
+/// The spelling of a mini-transaction would have so many bytes, which is above 1,024.
+#[derive(Clone, Copy, Debug, PartialEq, Eq)]
+pub struct TooLong {
+    /// How many bytes, or the greatest number where there would be more.
+    pub length: usize,
+}
+
+/// Why no mini-transaction was read. `Short` comes exactly where further bytes would make one. The
+/// others but want of memory come exactly where no further bytes could, each for the first cause that
+/// reading from left to right meets.
 #[derive(Clone, Copy, Debug, PartialEq, Eq)]
 pub enum DecodeRefusal {
     /// The bytes end inside a record, or before the end mark.
     Short,
     /// The byte at this place begins no record, or names no kind of page.
     BadKind { at: usize },
-    /// The write at this place lies outside the bytes that a write may name.
+    /// The write whose offset is at this place lies outside the bytes that a write may name.
     OutOfPage { at: usize },
     /// More than 1,024 bytes would be needed.
     TooLong,
@@ -33,5 +41,13 @@ impl From<AllocError> for DecodeRefusal {
 
     fn from(_error: AllocError) -> DecodeRefusal {
         DecodeRefusal::NoMemory
+    }
+}
+
+impl From<clone_bytes::Short> for DecodeRefusal {
+    ghost from_gives = { λ _ e. e ≡ Short };
+
+    fn from(_short: clone_bytes::Short) -> DecodeRefusal {
+        DecodeRefusal::Short
     }
 }
