@@ -6,7 +6,6 @@ pub mod Setting
 pub mod Images
 pub mod Effects
 pub mod Logs
-pub mod Slots
 pub mod Counts
 pub mod Sound
 pub mod Steps

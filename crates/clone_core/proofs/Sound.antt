@@ -11,7 +11,10 @@ use Rattle.clone_model.specs.History.{fold}
 use Rattle.clone_model.specs.declared.change.Commit.{Commit}
 use Rattle.clone_page.specs.Header.{kind_of, zero_page}
 use Rattle.clone_page.specs.Dictionary.{Lists, entry_space}
-use Rattle.clone_page.specs.Slots.{slot_count, slot, state_of}
+use Rattle.clone_page.specs.Slots.{slot_count, slot}
+use Rattle.clone_row.specs.Slots.{present, held, slots, slot_in, bound_key, Finds, FindsFree}
+use Rattle.clone_row.specs.Slots as listed
+use Rattle.clone_row.proofs.Rows.{slot_in-slots, slot_of-unused, slot_of-held}
 use Rattle.clone_image.specs.Image.{Image, page_of, after_records}
 use Rattle.clone_image.specs.Rows.{Pages}
 use Rattle.clone_plain.specs.Buckets.{has_key, keys_of, is_full}
@@ -19,7 +22,7 @@ use Rattle.clone_core.specs.Buckets.{IsBucket, IsPlace}
 use Rattle.clone_core.specs.Tables.{HasRows, HoldsNothing, HoldsTable}
 use Rattle.clone_core.specs.Sets.{create_records, row_records}
 use Rattle.clone_core.specs.Logs.{Stored, Writes, Keeps}
-use Rattle.clone_core.specs.Places.{IsBound, BindsNone, AreUsed, Places, Located}
+use Rattle.clone_core.specs.Places.{Places, Located}
 use Rattle.clone_core.specs.Sound.{HoldsHistory, IsCopy, IsSound}
 use Rattle.clone_core.specs.declared.world.Copy.{Copy}
 use Rattle.clone_core.proofs.Keys.{has_key_at, at_has_key}
@@ -52,35 +55,40 @@ IsCopy-push h c (Some copy) is =
 
 -- ---- where a row goes
 
-bound_key : (b i key j : ℕ) (ks : List ℕ) (h : List Commit) (page : List ℕ) → IsBucket b i ks (fold h) page → j < slot_count → IsBound key (slot j page) → (j < length ks) × (get_or ks j 0 ≡ key)
-bound_key b i key j ks h page bucket lt bound = at (cases_lt j (length ks))
+-- the slots of the keys are present, and those behind were never used
+key_slot : (b i j : ℕ) (ks : List ℕ) (h : List Commit) (page : List ℕ) → IsBucket b i ks (fold h) page → j < length ks → (value : List ℕ) × (slot_in (slots page) j ≡ present (get_or ks j 0) value)
+key_slot b i j ks h page bucket lt =
+    let holds = bucket.used j lt in
+    (holds.value, slot_in-slots j page (omega (arith, lt, bucket.room)) ∙ slot_of-held (slot j page) (λ zero. omega (arith, zero, holds.state)) (λ two. omega (arith, two, holds.state)) ∙ ap held holds.row)
+
+free_place : (b i j : ℕ) (ks : List ℕ) (h : List Commit) (page : List ℕ) → IsBucket b i ks (fold h) page → length ks ≤ j → j < slot_count → slot_in (slots page) j ≡ listed.unused
+free_place b i j ks h page bucket high lt = slot_in-slots j page lt ∙ slot_of-unused (slot j page) (bucket.free j high lt)
+
+key_at : (b i key j : ℕ) (ks : List ℕ) (h : List Commit) (page : List ℕ) → IsBucket b i ks (fold h) page → j < slot_count → bound_key (slot_in (slots page) j) ≡ Some key → (j < length ks) × (get_or ks j 0 ≡ key)
+key_at b i key j ks h page bucket lt bound = at (cases_lt j (length ks))
   where
-    used : (state_of (slot j page) ≡ 1) ⊎ (state_of (slot j page) ≡ 2) → state_of (slot j page) ≡ 0 → ⊥
-    used (inl one) zero = omega (arith, one, zero)
-    used (inr two) zero = omega (arith, two, zero)
-
     at : (j < length ks) ⊎ (length ks ≤ j) → (j < length ks) × (get_or ks j 0 ≡ key)
-    at (inl low) = (low, sym (bucket.used j low).named ∙ bound.1)
-    at (inr high) = absurd (used bound.0 (bucket.free j high lt))
+    at (inl low) = (low, some_is (get_or ks j 0) key (sym (ap bound_key (key_slot b i j ks h page bucket low).1) ∙ bound))
+    at (inr high) = absurd (some_none (bound_key (slot_in (slots page) j)) key bound (ap bound_key (free_place b i j ks h page bucket high lt)))
 
-unbound_key : (b i key : ℕ) (ks : List ℕ) (h : List Commit) (page : List ℕ) → IsBucket b i ks (fold h) page → BindsNone key page → (j : ℕ) → j < length ks → get_or ks j 0 ≡ key → ⊥
-unbound_key b i key ks h page bucket none j lt is = none j (omega (arith, lt, bucket.room)) (inl (bucket.used j lt).state, (bucket.used j lt).named ∙ is)
+unbound_key : (b i key : ℕ) (ks : List ℕ) (h : List Commit) (page : List ℕ) → IsBucket b i ks (fold h) page → Finds key (slots page) None → (j : ℕ) → j < length ks → get_or ks j 0 ≡ key → ⊥
+unbound_key b i key ks h page bucket none j lt is = none j (omega (arith, lt, bucket.room)) (ap bound_key (key_slot b i j ks h page bucket lt).1 ∙ ap (λ (k : ℕ). Some k) is)
 
 -- the first slot that was never used is the one behind the keys
-first_free : (b i j : ℕ) (ks : List ℕ) (h : List Commit) (page : List ℕ) → IsBucket b i ks (fold h) page → j < slot_count → state_of (slot j page) ≡ 0 → AreUsed j page → j ≡ length ks
-first_free b i j ks h page bucket lt zero used = at (cases_lt j (length ks)) (cases_lt (length ks) j)
+first_free : (b i j : ℕ) (ks : List ℕ) (h : List Commit) (page : List ℕ) → IsBucket b i ks (fold h) page → FindsFree (slots page) (Some j) → j ≡ length ks
+first_free b i j ks h page bucket found = at (cases_lt j (length ks)) (cases_lt (length ks) j)
   where
     at : (j < length ks) ⊎ (length ks ≤ j) → (length ks < j) ⊎ (j ≤ length ks) → j ≡ length ks
-    at (inl low) either = absurd (omega (arith, zero, (bucket.used j low).state))
-    at (inr high) (inl above) = absurd (used (length ks) above (bucket.free (length ks) (omega arith) (omega (arith, above, lt))))
+    at (inl low) either = absurd (some_none (bound_key (slot_in (slots page) j)) (get_or ks j 0) (ap bound_key (key_slot b i j ks h page bucket low).1) (ap bound_key found.1))
+    at (inr high) (inl above) = absurd (found.2 (length ks) above (free_place b i (length ks) ks h page bucket (omega arith) (omega (arith, above, found.0))))
     at (inr high) (inr below) = omega (arith, high, below)
 
 pub IsPlace-found : (b key j : ℕ) (h : List Commit) (page : List ℕ) → IsBucket b (key % b) (keys_of b (key % b) h) (fold h) page → Places key page (Some j) → IsPlace j key (keys_of b (key % b) h)
 IsPlace-found b key j h page bucket found = at found.1
   where
-    at : IsBound key (slot j page) ⊎ (BindsNone key page × (state_of (slot j page) ≡ 0) × AreUsed j page) → IsPlace j key (keys_of b (key % b) h)
-    at (inl bound) = inl (bound_key b (key % b) key j (keys_of b (key % b) h) h page bucket found.0 bound)
-    at (inr free) = inr (unbound_key b (key % b) key (keys_of b (key % b) h) h page bucket free.0, first_free b (key % b) j (keys_of b (key % b) h) h page bucket found.0 free.1 free.2, found.0)
+    at : Finds key (slots page) (Some j) ⊎ (Finds key (slots page) None × FindsFree (slots page) (Some j)) → IsPlace j key (keys_of b (key % b) h)
+    at (inl bound) = inl (key_at b (key % b) key j (keys_of b (key % b) h) h page bucket bound.0 bound.1)
+    at (inr free) = inr (unbound_key b (key % b) key (keys_of b (key % b) h) h page bucket free.0, first_free b (key % b) j (keys_of b (key % b) h) h page bucket free.1, found.0)
 
 no_key : (key : ℕ) (ks : List ℕ) → ((j : ℕ) → j < length ks → get_or ks j 0 ≡ key → ⊥) → has_key key ks ≡ false
 no_key key ks none = chosen (has_key key ks) refl
@@ -106,7 +114,7 @@ test_room false n (inr lt) = below (eqb n 50) refl
 pub full_found : (b key : ℕ) (h : List Commit) (page : List ℕ) → IsBucket b (key % b) (keys_of b (key % b) h) (fold h) page → Places key page None → is_full b h key ≡ true
 full_found b key h page bucket found =
     test_full (has_key key ks) (length ks) (no_key key ks (unbound_key b (key % b) key ks h page bucket found.0)) (elim (cases_lt (length ks) 50) [
-      | inl low ↦ absurd (found.1 (length ks) low (bucket.free (length ks) (omega arith) low))
+      | inl low ↦ absurd (found.1 (length ks) low (free_place b (key % b) (length ks) ks h page bucket (omega arith) low))
       | inr high ↦ omega (arith, high, bucket.room)
     ])
   where

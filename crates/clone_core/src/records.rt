@@ -3,11 +3,12 @@ ghost use Rattle.clone_page.specs.Slots.{slot_count};
 ghost use Rattle.clone_page.specs.Dictionary.{entry};
 ghost use Rattle.clone_core.specs.Sets.{opening_records, create_records, row_records};
 
-use crate::bucket::{slot_image, slot_offset};
 use byteorder::{BigEndian, ByteOrder};
+use clone_model::Value;
 use clone_mtr::{Mtr, Patch, Record};
 use clone_outside::NoMemory;
 use clone_page::PageKind;
+use clone_row::{slot_image, slot_offset};
 use std::alloc::Global;
 
 /// How many pages the system space has.
@@ -23,7 +24,7 @@ const FIRST_ENTRY_AT: u16 = 64;
 #[derive(Clone, Copy)]
 pub struct Place {
     pub bucket: u32,
-    pub slot: usize,
+    pub slot: u16,
     pub unused: bool,
 }
 
@@ -81,17 +82,17 @@ pub fn row(
     alloc: Global,
     place: Place,
     key: u64,
-    value: &[u8],
+    value: &Value,
     position: u64,
 ) -> Result<Mtr, NoMemory>
-    requires slot { place.slot < slot_count }
-    requires short { length value.now ≤ 64 }
-    ensures { IfOk result (λ mtr. mtr ≡ row_records place.unused place.bucket place.slot key value.now position) }
+    requires { place.slot < slot_count }
+    ensures short { length value.now ≤ 64 }
+    ensures mtr { IfOk result (λ mtr. mtr ≡ row_records place.unused place.bucket place.slot key value.now position) }
 {
     let write = Record::Write {
         space: 1,
         page: place.bucket,
-        patch: Patch::new(slot_offset(place.slot), &slot_image(key, value)),
+        patch: Patch::new(slot_offset(place.slot), &slot_image(key, Some(value))),
     };
     let mut mtr = if place.unused {
         let mut mtr = Mtr::new(

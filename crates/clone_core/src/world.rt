@@ -135,7 +135,7 @@ impl World {
         };
         let index = self.begun.next_index(writer);
         let position = self.binlog.len() as u64 + 1;
-        let mtr = row(alloc, place, key, value.bytes(), position)?;
+        let mtr = row(alloc, place, key, value, position)?;
         let bytes = spelled(alloc, &mtr)?;
         let answer = format!(in alloc; "committed {position}")?;
         let commit = commit_of(alloc, writer, index, key, value)?;

@@ -22,8 +22,8 @@ locate-requires-clause-there c =
 pub spelled-requires : goal.spelled-requires
 spelled-requires c =
     let p = c.in-Some-locate.place in
-    subst (λ (m : List Record). length (spelling m) ≤ longest) (sym c.in_ok-mtr.ensures)
-    (short_row p.unused p.bucket p.slot c.args.key (c.len.result + 1) c.bytes.result.now (omega (arith, ap length c.bytes.ensures.value, c.bytes.ensures.short)))
+    subst (λ (m : List Record). length (spelling m) ≤ longest) (sym c.in_ok-mtr.ensures.mtr)
+    (short_row p.unused p.bucket p.slot c.args.key (c.len.result + 1) c.args.value.now (c.in_ok-mtr.ensures.short))
 
 pub note-requires : goal.note-requires
 note-requires c =
@@ -32,10 +32,10 @@ note-requires c =
 
 pub invariant_of-self-2 : goal.invariant_of-self-2
 invariant_of-self-2 c =
-    let one : c.in_ok-commit.commit.changes ≡ change_of c.args.key c.bytes.result.now ∷ [] =
-    ap (λ (x : Commit). x.changes) c.in_ok-commit.ensures ∙ ap (λ (v : List ℕ). change_of c.args.key v ∷ []) (sym c.bytes.ensures.value) in
-    set_sound c.self.inside.store c.reserve.new.self c.write_within.new.self c.self.inside.buckets c.in-Some.buckets c.get.result c.args.key (c.len.result + 1) c.bytes.result.now c.self.inside.binlog c.note.new.binlog c.in_ok-commit.commit c.self.inside.copy c.in-Some-locate.place c.in_ok-mtr.mtr
-    c.self.invariant c.in-Some.is c.get.ensures.value (omega arith) (omega (arith, ap length c.bytes.ensures.value, c.bytes.ensures.short)) c.in-Some-locate.ensures c.in_ok-reserve.ensures.same c.in_ok-mtr.ensures c.write_within.ensures c.in_ok-note.ensures.commit one
+    let one : c.in_ok-commit.commit.changes ≡ change_of c.args.key c.args.value.now ∷ [] =
+    ap (λ (x : Commit). x.changes) c.in_ok-commit.ensures in
+    set_sound c.self.inside.store c.reserve.new.self c.write_within.new.self c.self.inside.buckets c.in-Some.buckets c.get.result c.args.key (c.len.result + 1) c.args.value.now c.self.inside.binlog c.note.new.binlog c.in_ok-commit.commit c.self.inside.copy c.in-Some-locate.place c.in_ok-mtr.mtr
+    c.self.invariant c.in-Some.is c.get.ensures.value (omega arith) (c.in_ok-mtr.ensures.short) c.in-Some-locate.ensures c.in_ok-reserve.ensures.same c.in_ok-mtr.ensures.mtr c.write_within.ensures c.in_ok-note.ensures.commit one
 
 pub returns-in_default-locate-clause-ok : goal.returns-in_default-locate-clause-ok
 returns-in_default-locate-clause-ok c =

@@ -1,8 +1,8 @@
 use Rattle.std.proofs.Common.{◌≡◌, ℕ, List, ◌∷◌, ◌++◌, length, replicate, refl, ap, ◌∙◌}
 use Rattle.byteorder.specs.Endian.{big_bytes}
 use Rattle.clone_page.specs.Bytes.{put_at}
-use Rattle.clone_core.proofs.Slots.{padded}
-use Rattle.clone_core.proofs.bucket.slot_image.Goals as goal
+use Rattle.clone_row.proofs.Rows.{padded}
+use Rattle.clone_row.proofs.slots.present_image.Goals as goal
 
 pub returns : goal.returns
 returns c =

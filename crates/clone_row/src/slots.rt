@@ -1,0 +1,173 @@
+ghost use Rattle.std.specs.Prelude.{◌≡◌, ◌+◌, ◌*◌, ◌↔◌, ◌<◌, ◌≤◌, IsTrue, length};
+ghost use Rattle.std.specs.Option.{option_copied};
+ghost use Rattle.clone_page.specs.Bytes.{put_at};
+ghost use Rattle.clone_page.specs.Slots.{slot_count, slot_at, state_of, length_of, key_of, present_slot};
+ghost use Rattle.clone_row.specs.Slots.{slots, slot_of, slot_in, bound_key, row_in, unused, Finds, FindsFree, absent_slot, image};
+
+use byteorder::{BigEndian, ByteOrder};
+use clone_model::Value;
+use clone_page::Page;
+
+/// How many slots a page has.
+const SLOTS: u16 = 50;
+
+/// How many bytes a slot has.
+const SLOT_BYTES: usize = 80;
+
+/// Where the first slot stands.
+const FIRST_SLOT_AT: usize = 48;
+
+// The state of a slot, in its first byte.
+const UNUSED: u8 = 0;
+
+const PRESENT: u8 = 1;
+
+const ABSENT: u8 = 2;
+
+// Where the fields of a slot stand.
+const LENGTH_AT: usize = 1;
+
+const KEY_AT: usize = 8;
+
+const VALUE_AT: usize = 16;
+
+/// The first slot that is bound to the key, present or absent. None exactly where no slot is.
+pub fn find(page: &Page, key: u64) -> Option<u16>
+    ensures { Finds key (slots page.now) result }
+{
+    for place in 0..SLOTS {
+        if is_bound(slot_bytes(page, place), key) {
+            return Some(place);
+        }
+    }
+    None
+}
+
+/// The least slot that was never used. None exactly where each was.
+pub fn free_slot(page: &Page) -> Option<u16>
+    ensures { FindsFree (slots page.now) result }
+{
+    for place in 0..SLOTS {
+        if is_unused(slot_bytes(page, place)) {
+            return Some(place);
+        }
+    }
+    None
+}
+
+/// The key and the value of a slot. None exactly where there is no such slot, or it isn't present. A
+/// slot whose length is above 64 isn't.
+pub fn present(page: &Page, slot: u16) -> Option<(u64, Value)>
+    ensures { result ≡ row_in (slot_in (slots page.now) slot) }
+{
+    if slot >= SLOTS {
+        return None;
+    }
+    row(slot_bytes(page, slot))
+}
+
+/// The 80 bytes of the slot of a key: present with this value, or absent where there is none.
+pub fn slot_image(key: u64, value: Option<&Value>) -> [u8; 80]
+    ensures { result ≡ image key (option_copied value.entry) }
+{
+    match value {
+        Some(value) => present_image(key, value.bytes()),
+        None => absent_image(key),
+    }
+}
+
+/// Where on its page a slot stands, for the write of its image.
+pub fn slot_offset(slot: u16) -> u16
+    requires { slot < slot_count }
+    ensures { result ≡ slot_at slot }
+{
+    (FIRST_SLOT_AT + SLOT_BYTES * slot as usize) as u16
+}
+
+// The bytes of a slot.
+fn slot_bytes(page: &Page, place: u16) -> &[u8]
+    requires { place < slot_count }
+    ensures slot { slot_of result.now ≡ slot_in (slots page.now) place }
+    ensures long { length result.now ≡ 80 }
+{
+    let at = slot_offset(place) as usize;
+    &page.bytes()[at..at + SLOT_BYTES]
+}
+
+// Whether the slot was never used.
+fn is_unused(bytes: &[u8]) -> bool
+    requires { length bytes.now ≡ 80 }
+    ensures { IsTrue result ↔ (slot_of bytes.now ≡ unused) }
+{
+    bytes[0] == UNUSED
+}
+
+// Whether the slot is bound to the key.
+fn is_bound(bytes: &[u8], key: u64) -> bool
+    requires { length bytes.now ≡ 80 }
+    ensures { IsTrue result ↔ (bound_key (slot_of bytes.now) ≡ Some key) }
+{
+    if bytes[0] == ABSENT || is_present(bytes) {
+        read_key(bytes) == key
+    } else {
+        false
+    }
+}
+
+// The row of a slot.
+fn row(bytes: &[u8]) -> Option<(u64, Value)>
+    requires { length bytes.now ≡ 80 }
+    ensures { result ≡ row_in (slot_of bytes.now) }
+{
+    if !is_present(bytes) {
+        return None;
+    }
+    let value = Value::new(&bytes[VALUE_AT..VALUE_AT + bytes[LENGTH_AT] as usize])?;
+    Some((read_key(bytes), value))
+}
+
+// Whether the slot holds a row.
+fn is_present(bytes: &[u8]) -> bool
+    requires { length bytes.now ≡ 80 }
+    ensures { IsTrue result ↔ (state_of bytes.now ≡ 1) × (length_of bytes.now ≤ 64) }
+{
+    bytes[0] == PRESENT && bytes[LENGTH_AT] <= 64
+}
+
+// The key in the bytes of a slot.
+fn read_key(bytes: &[u8]) -> u64
+    requires { length bytes.now ≡ 80 }
+    ensures { result ≡ key_of bytes.now }
+{
+    BigEndian::read_u64(&bytes[KEY_AT..VALUE_AT])
+}
+
+// A slot that holds a row.
+fn present_image(key: u64, value: &[u8]) -> [u8; 80]
+    requires { length value.now ≤ 64 }
+    ensures { result ≡ present_slot key value.now }
+{
+    let mut bytes = [0; SLOT_BYTES];
+    put(&mut bytes, 0, &[PRESENT, value.len() as u8]);
+    put(&mut bytes, KEY_AT, &key.to_be_bytes());
+    put(&mut bytes, VALUE_AT, value);
+    bytes
+}
+
+// A slot whose key has no row.
+fn absent_image(key: u64) -> [u8; 80]
+    ensures { result ≡ absent_slot key }
+{
+    let mut bytes = [0; SLOT_BYTES];
+    put(&mut bytes, 0, &[ABSENT, 0]);
+    put(&mut bytes, KEY_AT, &key.to_be_bytes());
+    bytes
+}
+
+// Writes a piece from a place on.
+fn put(bytes: &mut [u8], at: usize, piece: &[u8])
+    requires { at + length piece.now ≤ length bytes.old }
+    ensures { bytes.new ≡ put_at at piece.now bytes.old }
+{
+    bytes[at..at + piece.len()].copy_from_slice(piece);
+}
