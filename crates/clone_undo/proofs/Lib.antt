@@ -1,0 +1,5 @@
+pub mod Laying
+pub mod Entries
+pub mod Edits
+pub mod Headers
+pub mod Effects
