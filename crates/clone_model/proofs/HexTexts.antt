@@ -1,19 +1,13 @@
 -- Bytes and their hex digits.
 use Rattle.std.proofs.Common.{◌≡◌, ℕ, ◌+◌, ◌/◌, ◌%◌, ◌<◌, ◌≤◌, List, [], ◌∷◌, ◌++◌, length, take, Option, Some, None, IfSome, IfNone, refl, sym, ap, ◌∙◌, arith, append-nil, length-append}
-use Rattle.std.specs.List.{AllByRecursion}
 use Rattle.std.proofs.lemmas.Bool.Decides.{nat_tests}
 use Rattle.std.proofs.lemmas.List.{length-take-le, nil_from_length}
 use Rattle.clone_model.specs.Texts.{hex_digit, hex_byte, hex}
-use Rattle.clone_model.specs.Reading.{IsValue}
-
--- each is a byte
-abbrev pub AreBytes : List ℕ → Type 0
-AreBytes bytes = AllByRecursion (λ b. b < 256) bytes
+use Rattle.clone_model.specs.Reading.{AreBytes}
 
 -- the first bytes are what the digits before the rest show
 pub record Decoded (text bytes : List ℕ) (len : ℕ) (rest : List ℕ) : Type 0 where
-  pub room : length bytes ≡ 64
-  pub within : len ≤ 64
+  pub within : len ≤ length bytes
   pub small : AreBytes (take len bytes)
   pub same : text ≡ hex (take len bytes) ++ rest
 
@@ -46,12 +40,12 @@ others_of : (text bytes : List ℕ) (len : ℕ) (rest v : List ℕ) → Decoded 
     → (others : List ℕ) × (v ≡ take len bytes ++ others) × (rest ≡ hex others) × AreBytes others
 others_of text bytes len rest v h small e = hex_rest (take len bytes) rest v h.small small (sym h.same ∙ e)
 
--- no digits are left where 64 bytes were decoded
-pub full : (text bytes : List ℕ) (len : ℕ) (rest v : List ℕ) → Decoded text bytes len rest → len ≡ 64 → 0 < length rest → IsValue v → text ≡ hex v → ⊥
-full text bytes len rest v h limit some value e =
-    let others = others_of text bytes len rest v h value.1 e in
-    let count : length v ≡ len + length others.0 = ap length others.1 ∙ length-append (take len bytes) others.0 ∙ ap (λ n. n + length others.0) (length-take-le len bytes (omega (arith, h.room, h.within))) in
-    let none = nil_from_length others.0 (omega (arith, value.0)) in
+-- no digits are left where all the room is taken
+pub full : (text bytes : List ℕ) (len : ℕ) (rest v : List ℕ) → Decoded text bytes len rest → len ≡ length bytes → 0 < length rest → length v ≤ length bytes → AreBytes v → text ≡ hex v → ⊥
+full text bytes len rest v h limit some short small e =
+    let others = others_of text bytes len rest v h small e in
+    let count : length v ≡ len + length others.0 = ap length others.1 ∙ length-append (take len bytes) others.0 ∙ ap (λ n. n + length others.0) (length-take-le len bytes (omega (arith, h.within))) in
+    let none = nil_from_length others.0 (omega (arith, short)) in
     let empty : rest ≡ [] = others.2 ∙ ap hex none in
     omega (arith, ap length empty)
 
@@ -66,10 +60,9 @@ next_byte text bytes len rest v h some small e =
     ]) others.2 others.3
 
 -- where no digits are left, the text shows the bytes that were decoded
-pub Decoded-all : (text bytes : List ℕ) (len : ℕ) (rest v : List ℕ) → Decoded text bytes len rest → length rest ≡ 0 → v ≡ take len bytes → IsValue v × (text ≡ hex v)
-Decoded-all text bytes len rest v h none e =
-    let whole : text ≡ hex (take len bytes) = h.same ∙ ap (λ r. hex (take len bytes) ++ r) (nil_from_length rest none) ∙ append-nil (hex (take len bytes)) in
-    rw e ((omega (arith, length-take-le len bytes (omega (arith, h.room, h.within)), h.within), h.small), whole)
+pub Decoded-all : (text bytes : List ℕ) (len : ℕ) (rest : List ℕ) → Decoded text bytes len rest → length rest ≡ 0 → text ≡ hex (take len bytes)
+Decoded-all text bytes len rest h none =
+    h.same ∙ ap (λ r. hex (take len bytes) ++ r) (nil_from_length rest none) ∙ append-nil (hex (take len bytes))
 
 -- no other value has this text
 pub only_decoded : (text bytes : List ℕ) (len : ℕ) (rest v : List ℕ) → Decoded text bytes len rest → length rest ≡ 0 → AreBytes v → text ≡ hex v → v ≡ take len bytes
@@ -80,7 +73,7 @@ only_decoded text bytes len rest v h none small e =
       | b ∷ o ↦ λ whole same. absurd (omega (arith, ap length same))
     ]) others.1 others.2
 
--- a value is made of these bytes where there are no more than 64
-pub made : (result : Option (List ℕ)) (bytes : List ℕ) → IfSome result (λ v. v ≡ bytes) → IfNone result (64 < length bytes) → length bytes ≤ 64 → result ≡ Some bytes
-made (Some v) bytes value none short = ap Some value
-made None bytes value none short = absurd (omega arith)
+-- a value is made of these bytes where there are no more than so many
+pub made : (limit : ℕ) (result : Option (List ℕ)) (bytes : List ℕ) → IfSome result (λ v. v ≡ bytes) → IfNone result (limit < length bytes) → length bytes ≤ limit → result ≡ Some bytes
+made limit (Some v) bytes value none short = ap Some value
+made limit None bytes value none short = absurd (omega arith)

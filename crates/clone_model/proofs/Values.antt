@@ -6,10 +6,10 @@ use Rattle.std.specs.List.{AllByRecursion}
 use Rattle.std.specs.declared.option.Option.{Option}
 use Rattle.std.proofs.lemmas.Bool.Decides.{nat_tests}
 use Rattle.clone_model.specs.Texts.{hex_digit, hex, value_text, value_or_none, change_text}
-use Rattle.clone_model.specs.Reading.{IsValueOrNone, IsChange, AreCommits, first_line, binlog_lines}
+use Rattle.clone_model.specs.Reading.{AreBytes, IsValueOrNone, IsChange, AreCommits, first_line, binlog_lines}
 use Rattle.clone_model.specs.declared.change.Change.{Change}
 use Rattle.clone_model.specs.declared.change.Commit.{Commit}
-use Rattle.clone_model.proofs.HexTexts.{AreBytes, hex_rest}
+use Rattle.clone_model.proofs.HexTexts.{hex_rest}
 use Rattle.clone_model.proofs.LineTexts.{same_fields, regrouped, same_first_lines}
 
 -- the first byte of a text

@@ -1,5 +1,5 @@
 -- What reading a binlog back answers.
-use Rattle.std.specs.Prelude.{ℕ, ◌≡◌, ◌+◌, ◌<◌, ◌≤◌, ◌^◌, List, [], ◌∷◌, ◌++◌, length, map, codes, None, Some, Result, Ok, Err, ⊤}
+use Rattle.std.specs.Prelude.{ℕ, ◌≡◌, ◌+◌, ◌<◌, ◌≤◌, ◌^◌, List, [], ◌∷◌, ◌++◌, length, take, map, codes, None, Some, Result, Ok, Err, ⊤}
 use Rattle.std.specs.Fmt.{decimal}
 use Rattle.std.specs.List.{AllByRecursion, flat_map}
 use Rattle.std.specs.declared.option.Option.{Option}
@@ -8,6 +8,13 @@ use Rattle.clone_model.specs.declared.change.Change.{Change}
 use Rattle.clone_model.specs.declared.change.Commit.{Commit}
 use Rattle.clone_model.specs.declared.reading.ReadRefusal.{ReadRefusal}
 use Rattle.clone_model.specs.declared.reading.ReadRefusal.TheVariants.{BadLine, NoMemory}
+
+abbrev pub AreBytes : List ℕ → Type 0
+AreBytes values = AllByRecursion (λ b. b < 256) values
+
+-- so many stand in front, and they are bytes
+abbrev pub IsFront : ℕ → List ℕ → Type 0
+IsFront count values = (count ≤ length values) × AreBytes (take count values)
 
 -- the bytes of a value, no more than 64
 abbrev pub IsValue : List ℕ → Type 0

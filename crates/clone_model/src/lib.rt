@@ -6,6 +6,7 @@ mod change;
 mod line;
 mod list;
 mod reading;
+mod script_value;
 mod tables;
 #[cfg(test)]
 mod tests;
@@ -18,8 +19,9 @@ pub use line::{BucketCount, Line, TableNumber};
 pub use list::{Binlog, Changes};
 pub use reading::{
     ReadRefusal, as_u32, binlog_reads_back, leading_number, number_of, one_answer, one_binlog,
-    read_binlog, split_once, value_of,
+    read_binlog, script_value_of, split_once, value_of,
 };
+pub use script_value::ScriptValue;
 pub use tables::{Tables, fold};
-pub use text::{binlog_text, line_text, rows_text};
+pub use text::{binlog_text, line_text, push_value, rows_text};
 pub use value::Value;

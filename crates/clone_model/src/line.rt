@@ -1,6 +1,6 @@
 ghost use Rattle.std.specs.Prelude.{◌≡◌, ◌≤◌, ◌<◌, ◌⊎◌, IfSome, IfNone};
 
-use crate::Value;
+use crate::ScriptValue;
 use std::marker::Model;
 
 /// The number of a table, from 1 to 1,000,000.
@@ -93,7 +93,51 @@ pub enum Line {
         /// How many buckets it gets.
         buckets: BucketCount,
     },
-    /// `set W T K V`: writer W commits a transaction that gives a row its value.
+    /// `begin W`: writer W begins a transaction.
+    Begin {
+        /// The writer.
+        writer: u32,
+    },
+    /// `put S T K V`: transaction S gives a row its value.
+    Put {
+        /// The transaction.
+        trx: u32,
+        /// The number of the row's table.
+        table: TableNumber,
+        /// The key of the row in its table.
+        key: u64,
+        /// The value that the row gets.
+        value: ScriptValue,
+    },
+    /// `del S T K`: transaction S removes a row.
+    Delete {
+        /// The transaction.
+        trx: u32,
+        /// The number of the row's table.
+        table: TableNumber,
+        /// The key of the row in its table.
+        key: u64,
+    },
+    /// `get S T K`: transaction S reads a row.
+    Get {
+        /// The transaction.
+        trx: u32,
+        /// The number of the row's table.
+        table: TableNumber,
+        /// The key of the row in its table.
+        key: u64,
+    },
+    /// `undo S`: what transaction S changed is taken back.
+    Undo {
+        /// The transaction.
+        trx: u32,
+    },
+    /// `commit S`: transaction S is committed.
+    Commit {
+        /// The transaction.
+        trx: u32,
+    },
+    /// `set W T K V`: writer W begins a transaction, gives a row its value and commits.
     Set {
         /// The writer.
         writer: u32,
@@ -102,7 +146,7 @@ pub enum Line {
         /// The key of the row in its table.
         key: u64,
         /// The value that the row gets.
-        value: Value,
+        value: ScriptValue,
     },
     /// `clone`: a clone is taken.
     Clone,

@@ -1,4 +1,4 @@
-ghost use Rattle.std.specs.Prelude.{◌≡◌, ◌↔◌, ◌++◌, ◌∷◌, [], IsTrue, OnOk, OnErr, IfOk, length, take, ◌-◌, option_to_list};
+ghost use Rattle.std.specs.Prelude.{◌≡◌, ◌↔◌, ◌++◌, ◌∷◌, ◌<◌, [], IsTrue, OnOk, OnErr, IfOk, length, take, ◌-◌, option_to_list};
 
 use crate::{Change, Commit, NoMemory};
 use std::alloc::Global;
@@ -45,6 +45,14 @@ impl Changes {
     {
         self.list.push(change)?;
         Ok(())
+    }
+
+    /// Takes the last change away, if there is one.
+    pub fn pop(&mut self) -> Option<Change>
+        ensures rest { self.new ≡ take (length self.old - 1) self.old }
+        ensures last { self.old ≡ self.new ++ option_to_list result }
+    {
+        self.list.pop()
     }
 
     /// How many changes there are.
@@ -101,6 +109,22 @@ impl Binlog {
     {
         self.list.push(commit)?;
         Ok(())
+    }
+
+    /// Makes room for so many more commits. The binlog stays the same, whatever the answer.
+    pub fn reserve(&mut self, additional: usize) -> Result<(), NoMemory>
+        ensures same { self.new ≡ self.old }
+    {
+        self.list.reserve(additional)
+    }
+
+    /// Puts a commit in place of the last one.
+    pub fn set_last(&mut self, commit: Commit)
+        requires some { 0 < length self.old }
+        ensures value { self.new ≡ take (length self.old - 1) self.old ++ commit ∷ [] }
+    {
+        let last = self.list.len() - 1;
+        self.list[last] = commit;
     }
 
     /// Takes the last commit away, if there is one.

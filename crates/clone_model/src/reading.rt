@@ -17,7 +17,7 @@ use line::{leading_change, leading_first_line};
 pub use number::{as_u32, leading_number, number_of};
 pub use split::split_once;
 use std::alloc::Global;
-pub use value::value_of;
+pub use value::{script_value_of, value_of};
 
 /// Why a text gives no binlog.
 #[derive(Clone, Copy, Debug, PartialEq, Eq)]

@@ -1,6 +1,6 @@
 use crate::{
-    Binlog, BucketCount, Change, Changes, Commit, Line, ReadRefusal, TableNumber, Tables, Value,
-    binlog_text, fold, line_text, read_binlog, rows_text,
+    Binlog, BucketCount, Change, Changes, Commit, Line, ReadRefusal, ScriptValue, TableNumber,
+    Tables, Value, binlog_text, fold, line_text, read_binlog, rows_text, script_value_of,
 };
 use std::alloc::Global;
 use std::process::Abort;
@@ -124,19 +124,92 @@ fn a_binlog_read_back(rt: HostRuntime) -> Result<(), ReadRefusal> {
 }
 
 #[test]
-fn lines_of_a_script(rt: HostRuntime) -> Result<(), Fail> {
+fn lines_without_a_row(rt: HostRuntime) -> Result<(), Fail> {
     let table = TableNumber::new(1).ok_or("in range")?;
     let buckets = BucketCount::new(16).ok_or("in range")?;
+    check_line(&rt, &Line::Create { table, buckets }, "create 1 16")?;
+    check_line(&rt, &Line::Begin { writer: 3 }, "begin 3")?;
+    check_line(&rt, &Line::Undo { trx: 0 }, "undo 0")?;
+    check_line(&rt, &Line::Commit { trx: u32::MAX }, "commit 4294967295")?;
+    check_line(&rt, &Line::Clone, "clone")?;
+    check_line(&rt, &Line::Rows, "rows")
+}
+
+#[test]
+fn lines_with_a_row(rt: HostRuntime) -> Result<(), Fail> {
+    let (trx, key) = (2, u64::MAX);
+    let table = TableNumber::new(1_000_000).ok_or("in range")?;
+    let put = Line::Put {
+        trx,
+        table,
+        key,
+        value: script_value(rt.alloc(), b"")?,
+    };
+    check_line(&rt, &put, "put 2 1000000 18446744073709551615 -")?;
+    let delete = Line::Delete { trx, table, key };
+    check_line(&rt, &delete, "del 2 1000000 18446744073709551615")?;
+    let get = Line::Get { trx, table, key };
+    check_line(&rt, &get, "get 2 1000000 18446744073709551615")?;
     let set = Line::Set {
         writer: 0,
         table,
         key: 7,
-        value: value(b"hi")?,
+        value: script_value(rt.alloc(), b"hi")?,
     };
-    check_line(&rt, &set, "set 0 1 7 6869")?;
-    check_line(&rt, &Line::Create { table, buckets }, "create 1 16")?;
-    check_line(&rt, &Line::Clone, "clone")?;
-    check_line(&rt, &Line::Rows, "rows")
+    check_line(&rt, &set, "set 0 1000000 7 6869")
+}
+
+#[test]
+fn values_of_a_script(rt: HostRuntime) -> Result<(), Fail> {
+    let bytes = [0xab; 1_025];
+    for len in [0, 1, 64, 65, 1_024] {
+        let value = script_value(rt.alloc(), &bytes[..len])?;
+        assert_eq!(rt; value.bytes(), &bytes[..len]);
+    }
+    assert!(rt; ScriptValue::new(rt.alloc(), &bytes)?.is_none());
+    Ok(())
+}
+
+#[test]
+fn values_read_for_a_script(rt: HostRuntime) -> Result<(), Fail> {
+    let alloc = rt.alloc();
+    let digits = [b'5'; 2_050];
+    let expected = [0x55; 1_024];
+    for len in [1, 64, 65, 1_024] {
+        check_read(&rt, &digits[..2 * len], &expected[..len])?;
+    }
+    check_read(&rt, b"-", b"")?;
+    for text in [
+        b"".as_slice(),
+        b"5",
+        b"5g",
+        b"A5",
+        b"--",
+        &digits[..2_047],
+        &digits,
+    ] {
+        assert!(rt; script_value_of(alloc, text)?.is_none());
+    }
+    Ok(())
+}
+
+#[test]
+fn the_last_of_a_list(rt: HostRuntime) -> Result<(), Fail> {
+    let alloc = rt.alloc();
+    let mut binlog = Binlog::new(alloc);
+    binlog.reserve(2)?;
+    binlog.push(commit(alloc, 0, 0, removal(7))?)?;
+    binlog.push(commit(alloc, 1, 0, removal(8))?)?;
+    binlog.set_last(commit(alloc, 2, 5, removal(9))?);
+    let text = binlog_text(alloc, &binlog)?;
+    assert_eq!(rt;
+        text.as_str(),
+        "commit 0 0 1\n1 7 none\ncommit 2 5 1\n1 9 none\n"
+    );
+    let mut changes = Changes::with(alloc, removal(7))?;
+    assert!(rt; matches!(changes.pop(), Some(change) if change.key == 7));
+    assert!(rt; changes.pop().is_none());
+    Ok(())
 }
 
 #[test]
@@ -159,8 +232,18 @@ fn check_line(rt: &(impl Abort + AllocGlobal), line: &Line, expected: &str) -> R
     Ok(())
 }
 
+fn check_read(rt: &(impl Abort + AllocGlobal), text: &[u8], expected: &[u8]) -> Result<(), Fail> {
+    let value = script_value_of(rt.alloc(), text)?.ok_or("a value")?;
+    assert_eq!(rt; value.bytes(), expected);
+    Ok(())
+}
+
 fn value(bytes: &[u8]) -> Result<Value, Fail> {
     Ok(Value::new(bytes).ok_or("at most 64 bytes")?)
+}
+
+fn script_value(alloc: Global, bytes: &[u8]) -> Result<ScriptValue, Fail> {
+    Ok(ScriptValue::new(alloc, bytes)?.ok_or("at most 1,024 bytes")?)
 }
 
 fn set(key: u64, bytes: &[u8]) -> Result<Change, Fail> {

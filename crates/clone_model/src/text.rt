@@ -38,6 +38,20 @@ pub fn line_text(alloc: Global, line: &Line) -> Result<String, NoMemory>
         Line::Create { table, buckets } => {
             write!(text, "create {} {}", table.get(), buckets.get())?;
         }
+        Line::Begin { writer } => write!(text, "begin {writer}")?,
+        Line::Put {
+            trx,
+            table,
+            key,
+            value,
+        } => {
+            write!(text, "put {trx} {} {key} ", table.get())?;
+            push_value(&mut text, value.bytes())?;
+        }
+        Line::Delete { trx, table, key } => write!(text, "del {trx} {} {key}", table.get())?,
+        Line::Get { trx, table, key } => write!(text, "get {trx} {} {key}", table.get())?,
+        Line::Undo { trx } => write!(text, "undo {trx}")?,
+        Line::Commit { trx } => write!(text, "commit {trx}")?,
         Line::Set {
             writer,
             table,
@@ -45,7 +59,7 @@ pub fn line_text(alloc: Global, line: &Line) -> Result<String, NoMemory>
             value,
         } => {
             write!(text, "set {writer} {} {key} ", table.get())?;
-            push_value(&mut text, value)?;
+            push_value(&mut text, value.bytes())?;
         }
         Line::Clone => text.push_str("clone")?,
         Line::Rows => text.push_str("rows")?,
@@ -58,7 +72,7 @@ fn push_row(text: &mut String, row: &(u32, u64, Value)) -> Result<(), NoMemory>
 {
     let (table, key, value) = row;
     write!(text, "{table} {key} ")?;
-    push_value(text, value)?;
+    push_value(text, value.bytes())?;
     text.push('\n')
 }
 
@@ -80,16 +94,16 @@ fn push_change(text: &mut String, change: &Change) -> Result<(), NoMemory>
     let Change { table, key, value } = change;
     write!(text, "{table} {key} ")?;
     match value {
-        Some(value) => push_value(text, value)?,
+        Some(value) => push_value(text, value.bytes())?,
         None => text.push_str("none")?,
     }
     text.push('\n')
 }
 
-fn push_value(text: &mut String, value: &Value) -> Result<(), NoMemory>
-    ensures { OnOk result (string_bytes text.new ≡ string_bytes text.old ++ texts.value_text value.now) }
+/// Adds the text of a value with these bytes.
+pub fn push_value(text: &mut String, bytes: &[u8]) -> Result<(), NoMemory>
+    ensures { OnOk result (string_bytes text.new ≡ string_bytes text.old ++ texts.value_text bytes.now) }
 {
-    let bytes = value.bytes();
     if bytes.is_empty() {
         return text.push('-');
     }

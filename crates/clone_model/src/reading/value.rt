@@ -1,22 +1,33 @@
-ghost use Rattle.std.specs.Prelude.{ℕ, ◌≡◌, ◌<◌, ◌++◌, List, Option, IfSome, IsSomeAnd};
+ghost use Rattle.std.specs.Prelude.{ℕ, ◌≡◌, ◌<◌, ◌≤◌, ◌++◌, List, Option, IfOk, IfSome, IsSomeAnd, length, take};
 ghost use Rattle.clone_model.specs.Texts.{hex_digit, hex_byte, hex, value_text};
 ghost use Rattle.clone_model.specs.Texts as texts;
-ghost use Rattle.clone_model.specs.Reading.{IsValue, IsValueOrNone};
+ghost use Rattle.clone_model.specs.Lines.{IsScriptValue};
+ghost use Rattle.clone_model.specs.Reading.{IsValue, IsValueOrNone, AreBytes, IsFront};
 
-use crate::Value;
+use crate::{NoMemory, ScriptValue, Value};
+use std::alloc::Global;
 
 /// The value that the whole text shows: a dash for the empty one, or two lower-case hex digits for each of its bytes.
 pub fn value_of(text: &[u8]) -> Option<Value>
     ensures some { IfSome result (λ v. IsValue v × (text.now ≡ value_text v)) }
     ensures only { (v : List ℕ) → IsValue v → text.now ≡ value_text v → result ≡ Some v }
 {
-    if text == b"-".as_slice() {
-        return Value::new(&[]);
+    let mut room = [0; 64];
+    let len = decode_value(text, &mut room)?;
+    Value::new(&room[..len])
+}
+
+/// The value of at most 1,024 bytes that the whole text shows, in the form of `value_of`. None where
+/// it shows no such value.
+pub fn script_value_of(alloc: Global, text: &[u8]) -> Result<Option<ScriptValue>, NoMemory>
+    ensures some { IfOk result (λ read. IfSome read (λ v. IsScriptValue v × (text.now ≡ value_text v))) }
+    ensures only { IfOk result (λ read. (v : List ℕ) → IsScriptValue v → text.now ≡ value_text v → read ≡ Some v) }
+{
+    let mut room = [0; 1_024];
+    match decode_value(text, &mut room) {
+        Some(len) => ScriptValue::new(alloc, &room[..len]),
+        None => Ok(None),
     }
-    if text.is_empty() {
-        return None;
-    }
-    decoded(text)
 }
 
 /// The value that the whole text shows, or none where the text says that there is none.
@@ -30,24 +41,43 @@ pub fn value_or_none(text: &[u8]) -> Option<Option<Value>>
     Some(Some(value_of(text)?))
 }
 
-/// The value of which the text is the hex digits.
-fn decoded(text: &[u8]) -> Option<Value>
-    ensures some { IfSome result (λ v. IsValue v × (text.now ≡ hex v)) }
-    ensures only { (v : List ℕ) → IsValue v → text.now ≡ hex v → result ≡ Some v }
+/// Puts the bytes of the value that the whole text shows at the front of the room, and says how many
+/// they are. None where the text shows no value that fits.
+fn decode_value(text: &[u8], room: &mut [u8]) -> Option<usize>
+    ensures some { IfSome result (λ n. IsFront n room.new × (text.now ≡ value_text (take n room.new))) }
+    ensures only { (v : List ℕ) → length v ≤ length room.old → AreBytes v → text.now ≡ value_text v
+        → IsSomeAnd result (λ n. take n room.new ≡ v) }
+    ensures same_room { length room.new ≡ length room.old }
 {
-    let mut bytes = [0; 64];
+    if text == b"-".as_slice() {
+        return Some(0);
+    }
+    if text.is_empty() {
+        return None;
+    }
+    decode_hex(text, room)
+}
+
+/// Puts the bytes of which the text is the hex digits at the front of the room, and says how many
+/// they are. None where the text is not of bytes that fit.
+fn decode_hex(text: &[u8], room: &mut [u8]) -> Option<usize>
+    ensures some { IfSome result (λ n. IsFront n room.new × (text.now ≡ hex (take n room.new))) }
+    ensures only { (v : List ℕ) → length v ≤ length room.old → AreBytes v → text.now ≡ hex v
+        → IsSomeAnd result (λ n. take n room.new ≡ v) }
+    ensures same_room { length room.new ≡ length room.old }
+{
     let mut len = 0;
     let mut rest = text;
     while !rest.is_empty() {
-        if len == bytes.len() {
+        if len == room.len() {
             return None;
         }
         let (byte, behind) = leading_byte(rest)?;
-        bytes[len] = byte;
+        room[len] = byte;
         len += 1;
         rest = behind;
     }
-    Value::new(&bytes[..len])
+    Some(len)
 }
 
 /// The byte that the first two hex digits show, and what stands behind them.

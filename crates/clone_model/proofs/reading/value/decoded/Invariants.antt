@@ -1,9 +1,0 @@
-use Rattle.std.proofs.Common.{length}
-use Rattle.clone_model.proofs.HexTexts.{Decoded}
-use Rattle.clone_model.proofs.reading.value.decoded.Given as goal
-
-abbrev pub invariant-loop-rest : goal.invariant-loop-rest
-invariant-loop-rest l = Decoded l.text l.bytes l.len l.rest
-
-abbrev pub decreases-loop-rest : goal.decreases-loop-rest
-decreases-loop-rest l = length l.rest
