@@ -1,0 +1,4 @@
+pub mod Cuts
+pub mod ReadLines
+pub mod FieldTexts
+pub mod LineTexts

@@ -1,0 +1,3 @@
+pub mod Script
+pub mod Fields
+pub mod Reading

@@ -1,0 +1,103 @@
+ghost use Rattle.std.specs.Prelude.{ℕ, ◌≡◌, ◌≤◌, ◌<◌, ◌^◌, ◌∷◌, ◌++◌, List, Some, IfOk, IfSome, IsSomeAnd};
+ghost use Rattle.std.specs.Option.{SomeIff};
+ghost use Rattle.std.specs.Fmt.{decimal};
+ghost use Rattle.clone_script.specs.Fields.{IsRow, IsRowWithValue, row_text, row_with_value_text};
+ghost use Rattle.clone_script.specs.Reading.{Parses};
+ghost use Rattle.clone_script.specs.declared.fields.Row.{Row};
+
+use clone_model::{
+    BucketCount, NoMemory, ScriptValue, TableNumber, as_u32, leading_number, number_of,
+    script_value_of,
+};
+use std::alloc::Global;
+
+/// What a line says of a row: who is at work on it, and which row it is.
+#[derive(Drop)]
+pub struct Row {
+    /// The number of a transaction or of a writer.
+    pub number: u32,
+    /// The number of the row's table.
+    pub table: TableNumber,
+    /// The key of the row in its table.
+    pub key: u64,
+}
+
+/// The row that the whole text shows.
+pub fn read_row(text: &[u8]) -> Option<Row>
+    ensures { Parses IsRow row_text text.now result }
+{
+    let ((number, table), key) = leading_pair(text)?;
+    row_from(number, table, number_of(key)?)
+}
+
+/// The row that the whole text shows, and the value behind it.
+pub fn read_row_with_value(
+    alloc: Global,
+    text: &[u8],
+) -> Result<Option<(Row, ScriptValue)>, NoMemory>
+    ensures { IfOk result (λ read. Parses IsRowWithValue row_with_value_text text.now read) }
+{
+    let Some((row, value)) = leading_row(text) else {
+        return Ok(None);
+    };
+    let Some(value) = script_value_of(alloc, value)? else {
+        return Ok(None);
+    };
+    Ok(Some((row, value)))
+}
+
+/// The row in front of a blank, and what stands behind that blank.
+fn leading_row(text: &[u8]) -> Option<(Row, &[u8])>
+    ensures some { IfSome result (λ found. IsRow found.0 × (text.now ≡ row_text found.0 ++ 32 ∷ found.1.now)) }
+    ensures only { (r : Row) (rest : List ℕ) → IsRow r → text.now ≡ row_text r ++ 32 ∷ rest
+        → IsSomeAnd result (λ found. (found.0 ≡ r) × (found.1.now ≡ rest)) }
+{
+    let ((number, table), rest) = leading_pair(text)?;
+    let (key, rest) = leading_number(rest)?;
+    Some((row_from(number, table, key)?, rest))
+}
+
+/// Two numbers, each in front of a blank, and what stands behind the second blank.
+fn leading_pair(text: &[u8]) -> Option<((u64, u64), &[u8])>
+    ensures some { IfSome result (λ found. (found.0.0 < 2 ^ 64) × (found.0.1 < 2 ^ 64)
+        × (text.now ≡ decimal found.0.0 ++ 32 ∷ (decimal found.0.1 ++ 32 ∷ found.1.now))) }
+    ensures only { (m n : ℕ) (rest : List ℕ) → m < 2 ^ 64 → n < 2 ^ 64 → text.now ≡ decimal m ++ 32 ∷ (decimal n ++ 32 ∷ rest)
+        → IsSomeAnd result (λ found. (found.0.0 ≡ m) × (found.0.1 ≡ n) × (found.1.now ≡ rest)) }
+{
+    let (first, rest) = leading_number(text)?;
+    let (second, rest) = leading_number(rest)?;
+    Some(((first, second), rest))
+}
+
+/// The row of these numbers.
+fn row_from(number: u64, table: u64, key: u64) -> Option<Row>
+    ensures some { IfSome result (λ r. (r.number ≡ number) × (r.table ≡ table) × (r.key ≡ key) × IsRow r) }
+    ensures only { (r : Row) → IsRow r → number ≡ r.number → table ≡ r.table → key ≡ r.key → result ≡ Some r }
+{
+    Some(Row {
+        number: as_u32(number)?,
+        table: table_number(table)?,
+        key,
+    })
+}
+
+/// The table of this number.
+pub fn table_number(number: u64) -> Option<TableNumber>
+    ensures { SomeIff result ((1 ≤ number) × (number ≤ 1000000)) number }
+{
+    TableNumber::new(as_u32(number)?)
+}
+
+/// So many buckets.
+pub fn bucket_count(number: u64) -> Option<BucketCount>
+    ensures { SomeIff result ((1 ≤ number) × (number ≤ 1024)) number }
+{
+    BucketCount::new(as_u32(number)?)
+}
+
+/// The number below 2^32 that the whole text shows.
+pub fn small_number(text: &[u8]) -> Option<u32>
+    ensures { Parses (λ n. n < 2 ^ 32) decimal text.now result }
+{
+    as_u32(number_of(text)?)
+}

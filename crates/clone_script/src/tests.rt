@@ -1,0 +1,217 @@
+use crate::{ReadRefusal, read_script};
+use clone_model::{Line, line_text};
+use std::process::Abort;
+use std::test::*;
+
+/// Scripts with the number of their lines.
+const GOOD: [(&[u8], usize); 7] = [
+    (b"", 0),
+    (b"\n\n# comment\n#\n", 0),
+    (b"create 1 4\nset 0 1 7 6869\nclone\nrows", 4),
+    (
+        b"# 1\n\ncreate 1 1024\n\n# 2\nset 4294967295 1 18446744073709551615 -\n#",
+        2,
+    ),
+    (b"rows\ncreate 2 1\ncreate 2 1\nclone\nset 1 9 9 ff", 5),
+    (
+        b"begin 0\nput 0 1 7 -\nget 0 1 7\ndel 0 1 7\nundo 0\ncommit 0\n",
+        6,
+    ),
+    (b"commit 4294967295\n#undo\n\nundo 0", 2),
+];
+
+/// Texts of lines, each of which is read and shown again.
+const LINES: [&str; 16] = [
+    "create 1 1",
+    "create 1000000 1024",
+    "begin 0",
+    "begin 4294967295",
+    "put 0 1 0 -",
+    "put 4294967295 1000000 18446744073709551615 00",
+    "put 1 2 3 000102030405060708090a0b0c0d0e0f101112131415161718191a1b1c1d1e1f202122232425262728292a2b2c2d2e2f303132333435363738393a3b3c3d3e3f",
+    "set 1 2 3 000102030405060708090a0b0c0d0e0f101112131415161718191a1b1c1d1e1f202122232425262728292a2b2c2d2e2f303132333435363738393a3b3c3d3e3f40",
+    "del 0 1 0",
+    "del 4294967295 1000000 18446744073709551615",
+    "get 0 1 0",
+    "get 4294967295 1000000 18446744073709551615",
+    "undo 10",
+    "commit 4294967295",
+    "clone",
+    "rows",
+];
+
+/// Texts that are no lines.
+const BAD: [&[u8]; 96] = [
+    b" clone",
+    b"clone ",
+    b"clone\r",
+    b"Clone",
+    b"clones",
+    b"rows ",
+    b"rows 1",
+    b"row",
+    b" # comment",
+    b"\xff",
+    b"\t",
+    b"create 1",
+    b"create 1 4 1",
+    b"create  1 4",
+    b"create\t1 4",
+    b"create 01 4",
+    b"create 1000001 4",
+    b"begin",
+    b"begin 3 1",
+    b"begin  3",
+    b"begin\t3",
+    b"begin 03",
+    b"begin 4294967296",
+    b"put 3 1 7",
+    b"put 3 1 7 6869 1",
+    b"put  3 1 7 6869",
+    b"put\t3 1 7 6869",
+    b"put 03 1 7 6869",
+    b"put 4294967296 1 7 6869",
+    b"del 3 1",
+    b"del 3 1 7 1",
+    b"del  3 1 7",
+    b"del\t3 1 7",
+    b"del 03 1 7",
+    b"del 4294967296 1 7",
+    b"get 3 1",
+    b"get 3 1 7 1",
+    b"get  3 1 7",
+    b"get\t3 1 7",
+    b"get 03 1 7",
+    b"get 4294967296 1 7",
+    b"undo",
+    b"undo 3 1",
+    b"undo  3",
+    b"undo\t3",
+    b"undo 03",
+    b"undo 4294967296",
+    b"commit",
+    b"commit 3 1",
+    b"commit  3",
+    b"commit\t3",
+    b"commit 03",
+    b"commit 4294967296",
+    b"set 3 1 7",
+    b"set 3 1 7 6869 1",
+    b"set  3 1 7 6869",
+    b"set\t3 1 7 6869",
+    b"set 03 1 7 6869",
+    b"set 4294967296 1 7 6869",
+    b"create 0 4",
+    b"create 1 0",
+    b"create 1 1025",
+    b"create 1 04",
+    b"create +1 4",
+    b"begin",
+    b"begin -1",
+    b"begin 18446744073709551616",
+    b"begin a",
+    b"put 3 0 7 6869",
+    b"put 3 1000001 7 6869",
+    b"put 3 1 18446744073709551616 6869",
+    b"put 3 1 07 6869",
+    b"put 3 1 7 686",
+    b"put 3 1 7 6F",
+    b"put 3 1 7 6g",
+    b"put 3 1 7 ",
+    b"put 3 1 7 --",
+    b"put 3 1 7 none",
+    b"set 3 0 7 6869",
+    b"set 3 1000001 7 6869",
+    b"set 3 1 18446744073709551616 6869",
+    b"set 3 1 07 6869",
+    b"set 3 1 7 686",
+    b"set 3 1 7 6F",
+    b"set 3 1 7 6g",
+    b"set 3 1 7 ",
+    b"set 3 1 7 --",
+    b"set 3 1 7 none",
+    b"del 3 0 7",
+    b"del 3 1000001 7",
+    b"del 3 1 18446744073709551616",
+    b"del 3 1 07",
+    b"get 3 0 7",
+    b"get 3 1000001 7",
+    b"get 3 1 18446744073709551616",
+    b"get 3 1 07",
+];
+
+#[test]
+fn good_scripts(rt: HostRuntime) -> Result<(), ReadRefusal> {
+    for (script, count) in GOOD {
+        assert_eq!(rt; read_script(rt.alloc(), script)?.len(), count);
+    }
+    Ok(())
+}
+
+#[test]
+fn lines_read_back(rt: HostRuntime) -> Result<(), ReadRefusal> {
+    for text in LINES {
+        check_line(&rt, text)?;
+    }
+    Ok(())
+}
+
+#[test]
+fn fields_of_a_put(rt: HostRuntime) -> Result<(), ReadRefusal> {
+    for line in &read_script(rt.alloc(), b"put 3 2 7 6869")? {
+        let Line::Put {
+            trx,
+            table,
+            key,
+            value,
+        } = line
+        else {
+            assert!(rt; false);
+            return Ok(());
+        };
+        assert_eq!(rt; (*trx, table.get(), *key), (3, 2, 7));
+        assert_eq!(rt; value.bytes(), b"hi".as_slice());
+    }
+    Ok(())
+}
+
+#[test]
+fn bad_lines(rt: HostRuntime) {
+    for text in BAD {
+        check_refused(&rt, text, 1);
+    }
+}
+
+#[test]
+fn bad_lines_behind_others(rt: HostRuntime) {
+    check_refused(&rt, b"\n# comment\n\nrow\n", 4);
+    check_refused(&rt, b"create 1 4\n\nset 0 0 7 6869\nrow", 3);
+    check_refused(&rt, b"rows\nbegin 1\n#\nbegin", 4);
+    check_refused(&rt, b"undo 0\nundo 00\nundo\n", 2);
+}
+
+#[test]
+fn longest_values(rt: HostRuntime) -> Result<(), ReadRefusal> {
+    let mut text = String::from_str(rt.alloc(), "put 0 1 0 ")?;
+    for _ in 0..1_024 {
+        text.push_str("a5")?;
+    }
+    check_line(&rt, text.as_str())?;
+    text.push_str("a5")?;
+    check_refused(&rt, text.as_bytes(), 1);
+    Ok(())
+}
+
+fn check_line(rt: &(impl Abort + AllocGlobal), text: &str) -> Result<(), ReadRefusal> {
+    let lines = read_script(rt.alloc(), text.as_bytes())?;
+    assert_eq!(rt; lines.len(), 1);
+    for line in &lines {
+        assert_eq!(rt; line_text(rt.alloc(), line)?.as_str(), text);
+    }
+    Ok(())
+}
+
+fn check_refused(rt: &(impl Abort + AllocGlobal), script: &[u8], number: u64) {
+    let read = read_script(rt.alloc(), script);
+    assert!(rt; matches!(read, Err(ReadRefusal::BadLine { line }) if line == number));
+}
