@@ -39,8 +39,8 @@ pub enum Record {
 }
 
 impl Record {
-    // Each record is in its ranges: its numbers are of their types, and its patch is one.
-    fn known(&self)
+    /// Each record is in its ranges: its numbers are of their types, and its patch is one.
+    pub fn known(&self)
         ensures { IsRecord self.now }
     {
         match self {
