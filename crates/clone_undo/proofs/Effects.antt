@@ -315,7 +315,7 @@ part_zero : (a k : ℕ) → a + k ≤ 4096 → part a k zero_page ≡ replicate 
 part_zero a k fits = ap (take k) (drop-replicate a 4096 0) ∙ take-replicate k (4096 - a) 0 (omega arith)
 
 -- an unused page has no header of a slot in use, and no record
-no_header : (page : List ℕ) → page ≡ zero_page → active_of page ≡ 1 → ⊥
+pub no_header : (page : List ℕ) → page ≡ zero_page → active_of page ≡ 1 → ⊥
 no_header page unused active =
     let zero_there : field 40 1 zero_page ≡ 0 = field-part 40 1 1 zero_page (omega arith) ∙ ap (field 0 1) (part_zero 40 1 (omega arith)) in
     let e : 0 ≡ 1 = sym zero_there ∙ ap (field 40 1) (sym unused) ∙ active in

@@ -15,7 +15,9 @@ pub use laws::{begin_laws, change_laws, end_laws, slot_laws, taking_back_laws};
 pub use places::{header_page, record_page};
 pub use reading::{SlotHeader, has_possible_count, header, last_record, record_at};
 pub use record::{UndoRecord, is_place};
-pub use writing::{Unused, begin_records, change_records, end_records, take_back_records};
+pub use writing::{
+    begin_records, change_records, end_record, first_change_records, take_back_records,
+};
 
 #[cfg(test)]
 mod tests;

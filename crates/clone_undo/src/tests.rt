@@ -1,6 +1,5 @@
 use super::*;
-use clone_mtr::{Mtr, encode};
-use std::alloc::{AllocError, Global};
+use clone_mtr::{Record, encode_into};
 use std::test::*;
 
 // Writer 0 begins its transaction 0 in slot 0, whose first page was unused.
@@ -25,33 +24,34 @@ const COUNT: [u8; 39] = [
     2, 0, 0, 0, 1, 0, 0, 0, 3, 0, 48, 0, 80, // on it, from 48 on, 80 bytes
 ];
 
-fn change(alloc: Global) -> Result<Mtr, AllocError> {
-    let unused = Unused {
-        undo: false,
-        row: true,
-    };
+fn change() -> [Record; 5] {
     let mut image = [0; 80];
     image[0] = 1;
     let record = UndoRecord::new(1, 3, 0, 7, Before::Absent);
-    change_records(alloc, unused, 0, 0, &record, &image)
+    first_change_records(0, 0, &record, &image)
 }
 
 #[test]
 fn a_transaction_begins(rt: HostRuntime) -> Result<(), Fail> {
-    let alloc = rt.alloc();
-    let mtr = begin_records(alloc, true, 0, 0, 0)?;
-    let text = encode(alloc, &mtr).ok().ok_or("a text")?;
-    assert_eq!(rt; text.as_slice(), BEGIN.as_slice());
+    let mut text = [0; 1024];
+    let length = encode_into(&begin_records(0, 0, 0), &mut text)
+        .ok()
+        .ok_or("a text")?;
+    let text = text.get(..length).ok_or("all bytes")?;
+    assert_eq!(rt; text, BEGIN.as_slice());
     Ok(())
 }
 
 #[test]
 fn a_change(rt: HostRuntime) -> Result<(), Fail> {
-    let alloc = rt.alloc();
-    let text = encode(alloc, &change(alloc)?).ok().ok_or("a text")?;
-    assert_eq!(rt; text.len(), 229);
-    assert!(rt; text.as_slice().starts_with(&CHANGE));
-    let rest = text.as_slice().get(37..).ok_or("more bytes")?;
+    let mut text = [0; 1024];
+    let records = change();
+    let all = &records[..];
+    let length = encode_into(&all[1..], &mut text).ok().ok_or("a text")?;
+    assert_eq!(rt; length, 229);
+    let text = text.get(..length).ok_or("all bytes")?;
+    assert!(rt; text.starts_with(&CHANGE));
+    let rest = text.get(37..).ok_or("more bytes")?;
     assert!(rt; rest.starts_with(&[0; 72]));
     let rest = rest.get(72..).ok_or("more bytes")?;
     assert!(rt; rest.starts_with(&COUNT));
@@ -67,12 +67,15 @@ const END: [u8; 30] = [
 
 #[test]
 fn a_transaction_ends(rt: HostRuntime) -> Result<(), Fail> {
-    let alloc = rt.alloc();
-    let text = encode(alloc, &end_records(alloc, 0)?).ok().ok_or("a text")?;
-    assert_eq!(rt; text.as_slice(), END.as_slice());
+    let mut text = [0; 1024];
+    let length = encode_into(&[end_record(0)], &mut text)
+        .ok()
+        .ok_or("a text")?;
+    let front = text.get(..length).ok_or("all bytes")?;
+    assert_eq!(rt; front, END.as_slice());
     let record = UndoRecord::new(1, 3, 0, 7, Before::Absent);
-    let mtr = take_back_records(alloc, 0, 1, &record)?;
-    let text = encode(alloc, &mtr).ok().ok_or("a text")?;
-    assert_eq!(rt; text.len(), 109);
+    let records = take_back_records(0, 1, &record);
+    let length = encode_into(&records, &mut text).ok().ok_or("a text")?;
+    assert_eq!(rt; length, 109);
     Ok(())
 }

@@ -1,4 +1,4 @@
-ghost use Rattle.std.specs.Prelude.{◌≡◌, ◌<◌, ◌≤◌, IfOk, OnOk, ◌++◌, ◌∷◌, []};
+ghost use Rattle.std.specs.Prelude.{◌≡◌, ◌<◌, ◌≤◌, ◌∷◌, [], true, false};
 ghost use Rattle.clone_undo.specs.Entries.{entry_bytes};
 ghost use Rattle.clone_undo.specs.Places as places;
 ghost use Rattle.clone_undo.specs.Slots.{header_bytes};
@@ -7,10 +7,8 @@ ghost use Rattle.clone_undo.specs.Changes.{made_first, system_write, count_recor
 use crate::places::{ROW_BYTES, header_page, record_page, record_place};
 use crate::record::UndoRecord;
 use byteorder::{BigEndian, ByteOrder};
-use clone_mtr::{Mtr, Patch, Record};
-use clone_outside::NoMemory;
+use clone_mtr::{Patch, Record};
 use clone_page::PageKind;
-use std::alloc::Global;
 
 /// Where on its page the header stands.
 const HEADER_AT: u16 = 40;
@@ -24,115 +22,100 @@ const HEADER_BYTES: usize = 16;
 /// Where on a page of rows the first slot stands.
 const FIRST_ROW_AT: usize = 48;
 
-/// Which of the pages that a change writes are unused, so that they are made first.
-#[derive(Clone, Copy, Debug, PartialEq, Eq)]
-pub struct Unused {
-    /// The page of the undo record.
-    pub undo: bool,
-    /// The page of the row.
-    pub row: bool,
-}
-
-/// A transaction begins: the undo slot is in use and has no records. `unused` says whether the page of
-/// its header is unused, so that it is made first.
-pub fn begin_records(
-    alloc: Global,
-    unused: bool,
-    slot: u32,
-    writer: u32,
-    index: u64,
-) -> Result<Mtr, NoMemory>
+/// A transaction begins: the undo slot is in use and has no records. The first record makes the page of
+/// its header. Where that page is in use, only the second is written.
+pub fn begin_records(slot: u32, writer: u32, index: u64) -> [Record; 2]
     requires { slot < places.slot_count }
-    ensures { IfOk result (λ mtr. mtr ≡ records_of_begin unused slot writer index) }
+    ensures { result ≡ records_of_begin true slot writer index }
 {
-    let page = header_page(slot);
-    let write = Record::Write {
-        space: 0,
-        page,
-        patch: Patch::new(HEADER_AT, &header_of(writer, index)),
-    };
-    first(alloc, unused, page, write)
+    [
+        made(header_page(slot)),
+        Record::Write {
+            space: 0,
+            page: header_page(slot),
+            patch: Patch::new(HEADER_AT, &header_of(writer, index)),
+        },
+    ]
 }
 
 /// A change is made behind `count` others: its undo record, the new count, and the row slot that the
-/// record names, which gets the bytes of `image`.
-pub fn change_records(
-    alloc: Global,
-    unused: Unused,
+/// record names, which gets the bytes of `image`. The first record makes the page of the undo record.
+/// Where that page is in use, only the others are written.
+pub fn change_records(slot: u32, count: u16, entry: &UndoRecord, image: &[u8; 80]) -> [Record; 4]
+    requires slot { slot < places.slot_count }
+    requires room { count < places.capacity }
+    ensures { result ≡ records_of_change true false slot count entry.now image.now }
+{
+    let page = record_page(slot, count as usize);
+    [
+        made(page),
+        entry_write(page, count, entry),
+        count_write(slot, count + 1),
+        row_write(entry, image),
+    ]
+}
+
+/// A change as by `change_records`, where the page of the row is made first, too.
+pub fn first_change_records(
     slot: u32,
     count: u16,
     entry: &UndoRecord,
     image: &[u8; 80],
-) -> Result<Mtr, NoMemory>
+) -> [Record; 5]
     requires slot { slot < places.slot_count }
     requires room { count < places.capacity }
-    ensures { IfOk result (λ mtr. mtr ≡ records_of_change unused.undo unused.row slot count entry.now image.now) }
+    ensures { result ≡ records_of_change true true slot count entry.now image.now }
 {
     let page = record_page(slot, count as usize);
-    let mut mtr = first(alloc, unused.undo, page, entry_write(page, count, entry))?;
-    mtr.push(count_write(slot, count + 1))?;
-    if unused.row {
-        mtr.push(Record::Init {
-            space: entry.table(),
-            page: entry.page(),
-            kind: PageKind::Bucket,
-        })?;
-    }
-    mtr.push(row_write(entry, image))?;
-    Ok(mtr)
+    let row_page = Record::Init {
+        space: entry.table(),
+        page: entry.page(),
+        kind: PageKind::Bucket,
+    };
+    [
+        made(page),
+        entry_write(page, count, entry),
+        count_write(slot, count + 1),
+        row_page,
+        row_write(entry, image),
+    ]
 }
 
 /// The last of `count` changes is taken back: the row slot that its record names gets the state, the
 /// length and the value from before, and the count is one less.
-pub fn take_back_records(
-    alloc: Global,
-    slot: u32,
-    count: u16,
-    entry: &UndoRecord,
-) -> Result<Mtr, NoMemory>
+pub fn take_back_records(slot: u32, count: u16, entry: &UndoRecord) -> [Record; 2]
     requires slot { slot < places.slot_count }
     requires some { 0 < count }
     requires count { count ≤ places.capacity }
-    ensures { IfOk result (λ mtr. mtr ≡ records_of_taking_back slot count entry.now) }
+    ensures { result ≡ records_of_taking_back slot count entry.now }
 {
-    let mut mtr = Mtr::new(alloc, row_write(entry, &entry.slot_before()))?;
-    mtr.push(count_write(slot, count - 1))?;
-    Ok(mtr)
+    [
+        row_write(entry, &entry.slot_before()),
+        count_write(slot, count - 1),
+    ]
 }
 
 /// A transaction ends: the undo slot is free.
-pub fn end_records(alloc: Global, slot: u32) -> Result<Mtr, NoMemory>
+pub fn end_record(slot: u32) -> Record
     requires { slot < places.slot_count }
-    ensures { IfOk result (λ mtr. mtr ≡ records_of_end slot) }
+    ensures { result ∷ [] ≡ records_of_end slot }
 {
-    Mtr::new(
-        alloc,
-        Record::Write {
-            space: 0,
-            page: header_page(slot),
-            patch: Patch::new(HEADER_AT, &[0; HEADER_BYTES]),
-        },
-    )
+    Record::Write {
+        space: 0,
+        page: header_page(slot),
+        patch: Patch::new(HEADER_AT, &[0; HEADER_BYTES]),
+    }
 }
 
-// The first record of a mini-transaction, on a page of the system space that is made first where it is
-// unused.
-fn first(alloc: Global, unused: bool, page: u32, write: Record) -> Result<Mtr, NoMemory>
-    ensures { IfOk result (λ mtr. mtr ≡ made_first unused 0 page PageKind.Undo ++ write ∷ []) }
+// A page of the system space is made an undo page.
+fn made(page: u32) -> Record
+    ensures { result ∷ [] ≡ made_first true 0 page PageKind.Undo }
 {
-    if !unused {
-        return Mtr::new(alloc, write);
+    Record::Init {
+        space: 0,
+        page,
+        kind: PageKind::Undo,
     }
-    let mut mtr = Mtr::new(
-        alloc,
-        Record::Init {
-            space: 0,
-            page,
-            kind: PageKind::Undo,
-        },
-    )?;
-    mtr.push(write)?;
-    Ok(mtr)
 }
 
 // The header of a slot that is in use and has no records.
