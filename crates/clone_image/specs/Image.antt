@@ -1,5 +1,5 @@
 -- An image: the pages of each space that is there. A page is a list of 4,096 bytes.
-use Rattle.std.specs.Prelude.{ℕ, ◌-◌, List, [], ◌∷◌, ◌++◌, length, replicate, None, Some, slice_get, slice_set, get_or, option_map, option_and_then}
+use Rattle.std.specs.Prelude.{ℕ, ◌-◌, List, [], ◌∷◌, ◌++◌, length, replicate, None, Some, slice_get, slice_set, get_or, option_map, option_and_then, unwrap_or, ◌≡◌}
 use Rattle.std.specs.declared.option.Option.{Option}
 use Rattle.std.specs.FinMap as finite
 use Rattle.std.specs.Ordering.{nat_cmp}
@@ -53,3 +53,23 @@ MakesNoPage (Write space number patch) = Unit {0}
 MakesNoPage (Extend space count) = ⊥
 MakesNoPage (Create space count) = ⊥
 MakesNoPage (Drop space) = Unit {0}
+
+-- a record that changes pages that are there and nothing else
+abbrev pub EditsPages : Record → Type 0
+EditsPages (Init space number kind) = Unit {0}
+EditsPages (Write space number patch) = Unit {0}
+EditsPages (Extend space count) = ⊥
+EditsPages (Create space count) = ⊥
+EditsPages (Drop space) = ⊥
+
+-- the pages by space and number, where one that isn't there has no bytes
+abbrev pub all_pages : Image → ℕ → ℕ → List ℕ
+all_pages image space number = unwrap_or (page_of image space number) []
+
+-- how many pages a space has, if it is there
+abbrev pub page_count : Image → ℕ → Option ℕ
+page_count image space = option_map length (finite.get image space)
+
+-- each page has 4,096 bytes
+abbrev pub AreWholePages : Image → Type 0
+AreWholePages image = (space number : ℕ) (page : List ℕ) → page_of image space number ≡ Some page → length page ≡ 4096

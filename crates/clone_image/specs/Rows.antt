@@ -34,3 +34,8 @@ pub record IsRow (pages : Pages) (row : Row) : Type 0 where
 pub record ShowsRows (pages : Pages) (rows : Rows) : Type 0 where
   pub sound : (table key : ℕ) (value : List ℕ) → finite.get rows (table, key) ≡ Some value → IsRow pages (table, key, value)
   pub complete : (table key : ℕ) (value : List ℕ) → IsRow pages (table, key, value) → IsSome (finite.get rows (table, key))
+
+-- the rows of an image are those of a map, as a set of tables, keys and values
+pub record HasRows (pages : Pages) (rows : Rows) : Type 0 where
+  pub here : (table key : ℕ) (value : List ℕ) → IsRow pages (table, key, value) → finite.get rows (table, key) ≡ Some value
+  pub there : (table key : ℕ) (value : List ℕ) → finite.get rows (table, key) ≡ Some value → IsRow pages (table, key, value)

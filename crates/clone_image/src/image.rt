@@ -2,7 +2,8 @@ ghost use Rattle.std.specs.Prelude.{◌≡◌, ◌-◌, ◌++◌, ℕ, List, OnO
 ghost use Rattle.std.specs.List.{AllByRecursion};
 ghost use Rattle.std.specs.FinMap as finite;
 ghost use Rattle.clone_mtr.specs.Effects.{effect};
-ghost use Rattle.clone_page.specs.Header.{zero_page};
+ghost use Rattle.clone_page.specs.Bytes.{put_at};
+ghost use Rattle.clone_page.specs.Header.{zero_page, IsAllowed};
 ghost use Rattle.clone_image.specs.Image.{page_of, with_edit, edited, extended, after_record, after_records, MakesNoPage};
 ghost use Rattle.clone_image.specs.Spaces.{pages_of_spaces};
 
@@ -94,6 +95,15 @@ impl Image {
         }
         Ok(())
     }
+
+    /// Puts bytes on a page from a place on, if the page is there. The page LSN stays. It takes no
+    /// memory.
+    pub fn lay(&mut self, space: u32, number: u32, offset: u16, bytes: &[u8])
+        requires { IsAllowed offset (length bytes.now) }
+        ensures { self.new ≡ with_edit self.old space (edited number (put_at offset bytes.now)) }
+    {
+        lay_in(&mut self.spaces, space, number, offset, bytes);
+    }
 }
 
 #[tactic(auto, using(crate::proofs::Spaces::get_space))]
@@ -120,6 +130,25 @@ fn change_page(pages: &mut Vec<Page>, number: usize, entry: &Record, lsn: u64)
 {
     if number < pages.len() {
         clone_mtr::apply(entry, &mut pages[number], lsn);
+    }
+}
+
+// Puts bytes on a page, if it is there.
+fn lay_in(spaces: &mut Spaces, space: u32, number: u32, offset: u16, bytes: &[u8])
+    requires { IsAllowed offset (length bytes.now) }
+    ensures { pages_of_spaces spaces.new.entries ≡ with_edit (pages_of_spaces spaces.old.entries) space (edited number (put_at offset bytes.now)) }
+{
+    if let Some(pages) = spaces.get_mut(&space) {
+        lay_on_page(pages, number as usize, offset, bytes);
+    }
+}
+
+fn lay_on_page(pages: &mut Vec<Page>, number: usize, offset: u16, bytes: &[u8])
+    requires { IsAllowed offset (length bytes.now) }
+    ensures { pages.new.items ≡ edited number (put_at offset bytes.now) pages.old.items }
+{
+    if number < pages.len() {
+        pages[number].write_at(offset, bytes);
     }
 }
 

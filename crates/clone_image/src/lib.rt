@@ -2,9 +2,11 @@
 #![tactic(auto)]
 
 mod image;
+mod laws;
 mod rows;
 #[cfg(test)]
 mod tests;
 
 pub use image::Image;
+pub use laws::{page_laws, redone_laws, replay_laws};
 pub use rows::{rows_of, shown_is_the_map};

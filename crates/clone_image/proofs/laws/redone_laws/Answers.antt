@@ -1,0 +1,5 @@
+use Rattle.clone_image.proofs.Redoing.{replayed_is_redone}
+use Rattle.clone_image.proofs.laws.redone_laws.Goals as goal
+
+pub returns : goal.returns
+returns c = replayed_is_redone
