@@ -1,0 +1,5 @@
+pub mod Replaying
+pub mod Undoing
+pub mod Slots
+pub mod Causes
+pub mod Once

@@ -1,0 +1,101 @@
+ghost use Rattle.std.specs.Prelude.{◌≡◌, ◌<◌, ◌≤◌, OnOk, IfErr, None, IfSome, IfNone};
+ghost use Rattle.std.specs.List.{AllByRecursion};
+ghost use Rattle.clone_undo.specs.Entries.{IsEntry};
+ghost use Rattle.clone_undo.specs.Places as places;
+ghost use Rattle.clone_undo.specs.Slots.{entry_on, entries};
+ghost use Rattle.clone_image.specs.Recovered.{system_pages, undo_slot_of, undone, all_undone, taken_back, recovered};
+ghost use Rattle.clone_recover.specs.Recovers.{HasChanges, InRange, IsSlotInRange, IsFirstDamaged, IsDamage};
+
+use crate::Damage;
+use clone_image::Image;
+use clone_undo::{SlotHeader, UndoRecord, header, header_page, record_at, record_page};
+
+/// How many undo slots there are.
+const SLOT_COUNT: u32 = 64;
+
+/// Where on its page the header of an undo slot stands, and how many bytes it has.
+const HEADER_AT: u16 = 40;
+
+const HEADER_BYTES: usize = 16;
+
+/// Where on a page of rows the slots begin, and the bytes of each.
+const ROWS_AT: u16 = 48;
+
+const ROW_BYTES: u16 = 80;
+
+/// Takes back the changes of each transaction that is open, and frees its undo slot.
+pub fn take_back_open(image: &mut Image) -> Result<(), Damage>
+    ensures recovered { OnOk result (image.new ≡ recovered image.old) }
+    ensures ranges { OnOk result (InRange places.slot_count image.old) }
+    ensures damage { IfErr result (IsFirstDamaged image.old) }
+{
+    for slot in 0..SLOT_COUNT {
+        take_back(image, slot)?;
+    }
+    Ok(())
+}
+
+// Takes back the changes of an undo slot and frees it, if it is in use.
+fn take_back(image: &mut Image, slot: u32) -> Result<(), Damage>
+    requires { slot < places.slot_count }
+    ensures taken_back { OnOk result (image.new ≡ taken_back image.old slot (undo_slot_of image.old slot)) }
+    ensures ranges { OnOk result (IsSlotInRange (undo_slot_of image.old slot)) }
+    ensures damage { IfErr result (IsDamage slot (IsSlotInRange (undo_slot_of image.old slot))) }
+{
+    let Some(header) = header_of(image, slot) else {
+        return Ok(());
+    };
+    undo_changes(image, slot, header.count)?;
+    image.lay(0, header_page(slot), HEADER_AT, &[0; HEADER_BYTES]);
+    Ok(())
+}
+
+// The header of an undo slot, if it is in use.
+fn header_of(image: &Image, slot: u32) -> Option<SlotHeader>
+    requires { slot < places.slot_count }
+    ensures some { IfSome result (λ h. HasChanges h.count slot image.now) }
+    ensures none { IfNone result (undo_slot_of image.now slot ≡ None) }
+{
+    header(image.page(0, header_page(slot))?)
+}
+
+// Takes back so many changes of an undo slot, the last of them first.
+fn undo_changes(image: &mut Image, slot: u32, count: u16) -> Result<(), Damage>
+    requires slot { slot < places.slot_count }
+    requires count { count ≤ places.capacity }
+    ensures undone { OnOk result (image.new ≡ all_undone image.old (entries slot (system_pages image.old) count)) }
+    ensures ranges { OnOk result (AllByRecursion IsEntry (entries slot (system_pages image.old) count)) }
+    ensures damage { IfErr result (IsDamage slot (AllByRecursion IsEntry (entries slot (system_pages image.old) count))) }
+{
+    for number in (0..count as usize).rev() {
+        undo_change(image, slot, number)?;
+    }
+    Ok(())
+}
+
+// Takes back the change that the record of this number tells.
+fn undo_change(image: &mut Image, slot: u32, number: usize) -> Result<(), Damage>
+    requires slot { slot < places.slot_count }
+    requires number { number < places.capacity }
+    ensures undone { OnOk result (image.new ≡ undone image.old (entry_on number (system_pages image.old (places.record_page slot number)))) }
+    ensures range { OnOk result (IsEntry (entry_on number (system_pages image.old (places.record_page slot number)))) }
+    ensures damage { IfErr result (IsDamage slot (IsEntry (entry_on number (system_pages image.old (places.record_page slot number))))) }
+{
+    let Some(change) = change_at(image, slot, number) else {
+        return Err(Damage::Undo { slot });
+    };
+    let row_at = ROWS_AT + ROW_BYTES * change.slot();
+    image.lay(change.table(), change.page(), row_at, &change.slot_before());
+    Ok(())
+}
+
+// The record of this number of an undo slot, or none where one of its fields is out of range.
+fn change_at(image: &Image, slot: u32, number: usize) -> Option<UndoRecord>
+    requires slot { slot < places.slot_count }
+    requires number { number < places.capacity }
+    ensures some { IfSome result (λ r. r ≡ entry_on number (system_pages image.now (places.record_page slot number))) }
+    ensures range { IfSome result (λ r. IsEntry r) }
+    ensures none { IfNone result (IsEntry (entry_on number (system_pages image.now (places.record_page slot number))) → ⊥) }
+{
+    record_at(image.page(0, record_page(slot, number))?, number)
+}
