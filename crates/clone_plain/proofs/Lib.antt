@@ -1,3 +1,4 @@
-pub mod Reached
 pub mod Runs
+mod Effects
 pub mod Headline
+pub mod Reached

@@ -4,7 +4,8 @@ use Rattle.std.proofs.lemmas.List.{append-nil}
 use Rattle.clone_model.specs.Texts.{ended}
 use Rattle.clone_model.specs.declared.line.Line.{Line}
 use Rattle.clone_plain.specs.Plain.{Plain}
-use Rattle.clone_plain.specs.Runs.{Text, Step, Runs, output}
+use Rattle.clone_plain.specs.Answers.{Text}
+use Rattle.clone_plain.specs.Runs.{Step, Runs, output}
 
 pub Runs-append : (s : Plain) (front back : List Line) (before behind : List Text) (t u : Plain) → Runs s front before t → Runs t back behind u → Runs s (front ++ back) (before ++ behind) u
 Runs-append s [] back [] behind t u first second = let P : Plain → Type 0 = λ x. Runs x back behind u in subst P (sym first) second

@@ -1,0 +1,94 @@
+-- Why a call is refused: the first cause that stands, in the order of each call, or none.
+use Rattle.std.specs.Prelude.{ℕ, ◌==◌, ◌&&◌, not, nat_lt, Bool, true, false, length, if◌then◌else◌, None, Some}
+use Rattle.std.specs.declared.option.Option.{Option}
+use Rattle.std.specs.Option.{option_or}
+use Rattle.std.specs.List.{list_any, range_with_len, find}
+use Rattle.std.specs.FinMap as finite
+use Rattle.std.specs.Ordering.{nat_cmp}
+use Rattle.clone_model.specs.declared.change.Commit.{Commit}
+use Rattle.clone_plain.specs.declared.refusal.Cause.{Cause}
+use Rattle.clone_plain.specs.declared.refusal.Cause.TheVariants.{NoSuchTrx, NoSuchTable, TableExists, RowLocked, ValueTooLong, UndoFull, SpaceFull, TooManyTransactions, TooManyTables}
+use Rattle.clone_plain.specs.Donor.{Donor, Keys, changes_of, bucket_of}
+
+-- how many transactions may be open, and how many changes each may have
+abbrev pub transaction_limit : ℕ
+transaction_limit = 64
+
+abbrev pub change_limit : ℕ
+change_limit = 160
+
+abbrev pub table_limit : ℕ
+table_limit = 62
+
+-- how many bytes a value may have
+abbrev pub value_limit : ℕ
+value_limit = 64
+
+-- how many keys have a place in a bucket
+abbrev pub bucket_room : ℕ
+bucket_room = 50
+
+-- a cause where it stands
+abbrev pub whether : Bool → Cause → Option Cause
+whether true cause = Some cause
+whether false cause = None
+
+abbrev pub has_key : ℕ → Keys → Bool
+has_key key keys = list_any (λ k. k == key) keys
+
+-- a bucket has no place for a key: the key has none there, and all places are taken
+abbrev pub is_full : Keys → ℕ → Bool
+is_full keys key = not (has_key key keys) && (length keys == bucket_room)
+
+-- no open transaction has this number
+abbrev pub no_trx : Donor → ℕ → Option Cause
+no_trx d trx = whether (not (finite.contains_key d.active trx)) NoSuchTrx
+
+-- no table has this number
+abbrev pub no_table : Donor → ℕ → Option Cause
+no_table d table = whether (not (finite.contains_key d.tables table)) NoSuchTable
+
+-- the value has too many bytes
+abbrev pub too_long : ℕ → Option Cause
+too_long long = whether (nat_lt value_limit long) ValueTooLong
+
+-- the transaction has as many changes as it may have
+abbrev pub undo_full : Donor → ℕ → Option Cause
+undo_full d trx = whether (length (changes_of d trx) == change_limit) UndoFull
+
+-- another transaction holds the row's lock
+abbrev pub locked_by : ℕ → Option ℕ → Option Cause
+locked_by trx None = None
+locked_by trx (Some holder) = if holder == trx then None else Some (RowLocked holder)
+
+abbrev pub row_locked : Donor → ℕ → ℕ → ℕ → Option Cause
+row_locked d trx table key = locked_by trx (finite.get d.locks (table, key))
+
+-- the row's bucket has no place for its key
+abbrev pub space_full : Donor → ℕ → ℕ → Option Cause
+space_full d table key = whether (is_full (bucket_of d table key) key) SpaceFull
+
+-- the least number below the limit of which no transaction is open, or none where each is taken
+unfoldable pub least_unused : finite.FinMap nat_cmp Commit → Option ℕ
+least_unused active = find (λ trx. not (finite.contains_key active trx)) (range_with_len 0 transaction_limit)
+
+abbrev pub least_free : Donor → Option ℕ
+least_free d = least_unused d.active
+
+-- each number below the limit is that of an open transaction
+abbrev pub all_taken : Option ℕ → Option Cause
+all_taken None = Some TooManyTransactions
+all_taken (Some trx) = None
+
+abbrev pub create_cause : Donor → ℕ → Option Cause
+create_cause d table = option_or (whether (finite.contains_key d.tables table) TableExists) (whether (finite.len d.tables == table_limit) TooManyTables)
+
+abbrev pub begin_cause : Donor → Option Cause
+begin_cause d = all_taken (least_free d)
+
+-- of a change whose value has so many bytes; a removal has none
+abbrev pub change_cause : Donor → ℕ → ℕ → ℕ → ℕ → Option Cause
+change_cause d trx table key long = option_or (no_trx d trx) (option_or (too_long long) (option_or (no_table d table) (option_or (undo_full d trx) (option_or (row_locked d trx table key) (space_full d table key)))))
+
+abbrev pub get_cause : Donor → ℕ → ℕ → ℕ → Option Cause
+get_cause d trx table key = option_or (no_trx d trx) (option_or (no_table d table) (row_locked d trx table key))

@@ -1,0 +1,90 @@
+use clone_outside::NoMemory;
+use std::fmt;
+
+/// Why a call of the donor is refused. After a refusal nothing has changed.
+#[derive(Clone, Copy, Debug, PartialEq, Eq, Drop)]
+pub enum Cause {
+    /// E1: no open transaction has this number.
+    NoSuchTrx,
+    /// E2: no table has this number.
+    NoSuchTable,
+    /// E3: a table has it.
+    TableExists,
+    /// E4: another open transaction holds the row's lock.
+    RowLocked {
+        /// The transaction that holds it.
+        holder: u32,
+    },
+    /// E5: the value has more than 64 bytes.
+    ValueTooLong,
+    /// E6: the transaction has 160 changes.
+    UndoFull,
+    /// E7: the row's bucket has no place for its key and no free one.
+    SpaceFull,
+    /// E10: 64 transactions are open.
+    TooManyTransactions,
+    /// E11: 62 tables are there.
+    TooManyTables,
+}
+
+/// The answer of a script: `refused`, the number with its letter, and its values.
+impl fmt::Display for Cause {
+    ghost use Rattle.std.specs.Prelude.{Some};
+    ghost use Rattle.clone_plain.specs.Answers.{refusal_text};
+
+    ghost output = { λ c. Some (refusal_text c) };
+
+    fn fmt<W: fmt::Write>(&self, f: &mut fmt::Formatter<W>) -> fmt::Result {
+        match self {
+            Cause::NoSuchTrx => f.write_str("refused E1"),
+            Cause::NoSuchTable => f.write_str("refused E2"),
+            Cause::TableExists => f.write_str("refused E3"),
+            Cause::RowLocked { holder } => write!(f, "refused E4 {holder}"),
+            Cause::ValueTooLong => f.write_str("refused E5"),
+            Cause::UndoFull => f.write_str("refused E6"),
+            Cause::SpaceFull => f.write_str("refused E7"),
+            Cause::TooManyTransactions => f.write_str("refused E10"),
+            Cause::TooManyTables => f.write_str("refused E11"),
+        }
+    }
+}
+
+/// Why a call of the donor has no answer: a cause that stands, or want of memory, which is free.
+#[derive(Clone, Copy, Debug, PartialEq, Eq, Drop)]
+pub enum EngineRefusal {
+    /// There is a cause.
+    Because(Cause),
+    /// There was no memory.
+    NoMemory,
+}
+
+impl From<NoMemory> for EngineRefusal {
+    ghost use Rattle.std.specs.Prelude.{◌≡◌};
+    ghost use Rattle.clone_plain.specs.declared.refusal.EngineRefusal.TheVariants.{NoMemory};
+
+    ghost from_gives = { λ _ e. e ≡ NoMemory };
+
+    fn from(_refused: NoMemory) -> EngineRefusal {
+        EngineRefusal::NoMemory
+    }
+}
+
+impl From<Cause> for EngineRefusal {
+    ghost use Rattle.std.specs.Prelude.{◌≡◌};
+    ghost use Rattle.clone_plain.specs.declared.refusal.EngineRefusal.TheVariants.{Because};
+
+    ghost from_gives = { λ c e. e ≡ Because c };
+
+    fn from(cause: Cause) -> EngineRefusal {
+        EngineRefusal::Because(cause)
+    }
+}
+
+/// What taking back does.
+#[derive(Clone, Copy, Debug, PartialEq, Eq, Drop)]
+pub enum Undone {
+    /// The last change was taken back, and so many are left.
+    Left(u16),
+    /// There was no change, and the transaction ended without a commit.
+    Ended,
+}

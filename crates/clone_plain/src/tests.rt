@@ -1,0 +1,29 @@
+use crate::Cause;
+use std::test::Fail;
+
+/// Each refusal with its text.
+const REFUSALS: [(Cause, &str); 11] = [
+    (Cause::NoSuchTrx, "refused E1"),
+    (Cause::NoSuchTable, "refused E2"),
+    (Cause::TableExists, "refused E3"),
+    (Cause::RowLocked { holder: 0 }, "refused E4 0"),
+    (Cause::RowLocked { holder: 2 }, "refused E4 2"),
+    (
+        Cause::RowLocked { holder: u32::MAX },
+        "refused E4 4294967295",
+    ),
+    (Cause::ValueTooLong, "refused E5"),
+    (Cause::UndoFull, "refused E6"),
+    (Cause::SpaceFull, "refused E7"),
+    (Cause::TooManyTransactions, "refused E10"),
+    (Cause::TooManyTables, "refused E11"),
+];
+
+#[test]
+fn refusals_by_their_numbers(rt: HostRuntime) -> Result<(), Fail> {
+    for (cause, text) in REFUSALS {
+        let shown = format!(in rt.alloc(); "{cause}")?;
+        assert_eq!(rt; shown.as_str(), text);
+    }
+    Ok(())
+}
