@@ -1,0 +1,246 @@
+-- Locks stay with the open transactions that changed their rows, at each step of the plain donor.
+use Rattle.std.proofs.Common.{zero, unwrap_or, ◌≡◌, ◌≢◌, ℕ, suc, ◌+◌, ◌<◌, ◌≤◌, ◌⊎◌, not, Bool, true, false, cond, List, [], length, Option, Some, None, IsSome, is_some, refl, sym, ap, subst, ◌∙◌, inl, inr, arith, slice_get, find}
+use Rattle.std.proofs.lemmas.Bool.{cases_eq}
+use Rattle.std.proofs.lemmas.List.{length_push}
+use Rattle.std.proofs.lemmas.Option.{same_Some, none-some, slice_get_within}
+use Rattle.std.specs.List.{range_with_len}
+use Rattle.std.specs.FinMap as finite
+use Rattle.std.specs.FinMap.{nat_cmp-IsAntisymmetric}
+use Rattle.std.specs.Cmp.{nat_cmp_total}
+use Rattle.clone_model.specs.History.{fold}
+use Rattle.clone_model.specs.declared.change.Change.{Change}
+use Rattle.clone_model.specs.declared.change.Commit.{Commit}
+use Rattle.clone_model.proofs.RowMaps.{row_cmp_total, row_cmp_exact}
+use Rattle.clone_plain.specs.Donor.{Donor, changes_of}
+use Rattle.clone_plain.specs.Causes.{transaction_limit, change_limit, least_free, least_unused}
+use Rattle.clone_plain.specs.Calls.{created, begun, with_change, Begins, Changes, TakesBack, Leaves, Commits, Releases}
+use Rattle.clone_trx.specs.Sound.{IsPlaced, IsLocked}
+use Rattle.clone_trx.proofs.Entries.{get-set_same, get-set_other, get-removed_same, cases_row, cases_held, cases_pushed, slice_get-pushed_front}
+use Rattle.clone_trx.proofs.Values.{changes_of_active, others-set, others-removed, own-set, committed_other}
+use Rattle.clone_trx.proofs.Places.{same_buckets, changed_keeps, changed_placed, created_placed}
+
+-- The open transactions after a step.
+
+some_there : {X : Type 0} (o : Option X) → IsSome o → (x : X) × (o ≡ Some x)
+some_there None there = absurd cc
+some_there (Some x) there = (x, refl)
+
+-- it is the one that was set, or another that is as before
+set_cases : (d after : Donor) (trx n : ℕ) (new commit : Commit) → after.active ≡ finite.insert d.active trx new → finite.get after.active n ≡ Some commit
+    → ((n ≡ trx) × (commit ≡ new)) ⊎ ((n ≢ trx) × (finite.get d.active n ≡ Some commit))
+set_cases d after trx n new commit is there = at (cases_eq n trx)
+  where
+    at : (n ≡ trx) ⊎ (n ≢ trx) → ((n ≡ trx) × (commit ≡ new)) ⊎ ((n ≢ trx) × (finite.get d.active n ≡ Some commit))
+    at (inl same) = inl (same, same_Some commit new (sym there ∙ ap (finite.get after.active) same ∙ own-set d after trx new is))
+    at (inr other) = inr (other, sym (others-set d after trx new is n other) ∙ there)
+
+-- the one that was removed isn't there
+removed_cases : (d after : Donor) (trx n : ℕ) (commit : Commit) → after.active ≡ finite.remove d.active trx → finite.get after.active n ≡ Some commit → (n ≢ trx) × (finite.get d.active n ≡ Some commit)
+removed_cases d after trx n commit is there = (other, sym (others-removed d after trx is n other) ∙ there)
+  where
+    other : n ≢ trx
+    other same = none-some commit (sym (get-removed_same nat_cmp_total nat_cmp-IsAntisymmetric d.active trx) ∙ sym (ap (λ m. finite.get m trx) is) ∙ sym (ap (finite.get after.active) same) ∙ there)
+
+-- what a step that sets one transaction is to do to the locks
+record SetsOne (d after : Donor) (trx : ℕ) (new : Commit) : Type 0 where
+  active : after.active ≡ finite.insert d.active trx new
+  number : trx < transaction_limit
+  few : length new.changes ≤ change_limit
+  own : (i : ℕ) (change : Change) → slice_get new.changes i ≡ Some change → finite.get after.locks (change.table, change.key) ≡ Some trx
+  kept : (row : ℕ × ℕ) (n : ℕ) → n ≢ trx → finite.get d.locks row ≡ Some n → finite.get after.locks row ≡ Some n
+  held : (row : ℕ × ℕ) (n : ℕ) → finite.get after.locks row ≡ Some n → (n ≡ trx) ⊎ (finite.get d.locks row ≡ Some n)
+  places : (table key n : ℕ) → finite.get after.locks (table, key) ≡ Some n → IsPlaced after table key
+  rows : (table key : ℕ) (value : List ℕ) → finite.get (fold after.history) (table, key) ≡ Some value → IsPlaced after table key
+
+set_locked : (d after : Donor) (trx : ℕ) (new : Commit) → IsLocked d → SetsOne d after trx new → IsLocked after
+set_locked d after trx new locked s = record {
+  numbers = λ n there. let w = some_there (finite.get after.active n) there in number n w.0 (set_cases d after trx n new w.0 s.active w.1);
+  few = λ n commit is. few n commit (set_cases d after trx n new commit s.active is);
+  own = λ n commit i change is at. own n commit i change at (set_cases d after trx n new commit s.active is);
+  holders = λ table key n is. open_still (table, key) n (s.held (table, key) n is);
+  places = s.places;
+  rows = s.rows;
+}
+  where
+    number : (n : ℕ) (commit : Commit) → ((n ≡ trx) × (commit ≡ new)) ⊎ ((n ≢ trx) × (finite.get d.active n ≡ Some commit)) → n < transaction_limit
+    number n commit (inl same) = subst (λ m. m < transaction_limit) (sym same.0) s.number
+    number n commit (inr other) = locked.numbers n (ap is_some other.1)
+
+    few : (n : ℕ) (commit : Commit) → ((n ≡ trx) × (commit ≡ new)) ⊎ ((n ≢ trx) × (finite.get d.active n ≡ Some commit)) → length commit.changes ≤ change_limit
+    few n commit (inl same) = subst (λ (c : Commit). length c.changes ≤ change_limit) (sym same.1) s.few
+    few n commit (inr other) = locked.few n commit other.1
+
+    own : (n : ℕ) (commit : Commit) (i : ℕ) (change : Change) → slice_get commit.changes i ≡ Some change → ((n ≡ trx) × (commit ≡ new)) ⊎ ((n ≢ trx) × (finite.get d.active n ≡ Some commit))
+        → finite.get after.locks (change.table, change.key) ≡ Some n
+    own n commit i change is (inl same) = s.own i change (ap (λ (c : Commit). slice_get c.changes i) (sym same.1) ∙ is) ∙ ap (λ x. Some x) (sym same.0)
+    own n commit i change is (inr other) = s.kept (change.table, change.key) n other.0 (locked.own n commit i change other.1 is)
+
+    open_own : IsSome (finite.get after.active trx)
+    open_own = ap is_some (own-set d after trx new s.active)
+
+    open_other : (n : ℕ) → (n ≡ trx) ⊎ (n ≢ trx) → IsSome (finite.get d.active n) → IsSome (finite.get after.active n)
+    open_other n (inl same) was = subst (λ m. IsSome (finite.get after.active m)) (sym same) open_own
+    open_other n (inr other) was = ap is_some (others-set d after trx new s.active n other) ∙ was
+
+    open_still : (row : ℕ × ℕ) (n : ℕ) → (n ≡ trx) ⊎ (finite.get d.locks row ≡ Some n) → IsSome (finite.get after.active n)
+    open_still row n (inl same) = subst (λ m. IsSome (finite.get after.active m)) (sym same) open_own
+    open_still row n (inr held) = open_other n (cases_eq n trx) (locked.holders row.0 row.1 n held)
+
+-- what a step that ends a transaction is to do to the locks
+record EndsOne (d after : Donor) (trx : ℕ) : Type 0 where
+  active : after.active ≡ finite.remove d.active trx
+  released : Releases trx d.locks after.locks
+  tables : after.tables ≡ d.tables
+  rows : (table key : ℕ) (value : List ℕ) → finite.get (fold after.history) (table, key) ≡ Some value → IsPlaced d table key
+
+ended_locked : (d after : Donor) (trx : ℕ) → IsLocked d → EndsOne d after trx → IsLocked after
+ended_locked d after trx locked s = record {
+  numbers = λ n there. let w = some_there (finite.get after.active n) there in locked.numbers n (ap is_some (removed_cases d after trx n w.0 s.active w.1).1);
+  few = λ n commit is. locked.few n commit (removed_cases d after trx n commit s.active is).1;
+  own = λ n commit i change is at. let was = removed_cases d after trx n commit s.active is in kept (change.table, change.key) n was.0 (locked.own n commit i change was.1 at);
+  holders = λ table key n is. let was = held (table, key) n is (cases_held (finite.get d.locks (table, key)) trx) in ap is_some (others-removed d after trx s.active n was.0) ∙ locked.holders table key n was.1;
+  places = λ table key n is. placed table key (locked.places table key n (held (table, key) n is (cases_held (finite.get d.locks (table, key)) trx)).1);
+  rows = λ table key value is. placed table key (s.rows table key value is);
+}
+  where
+    kept : (row : ℕ × ℕ) (n : ℕ) → n ≢ trx → finite.get d.locks row ≡ Some n → finite.get after.locks row ≡ Some n
+    kept row n other is = s.released.others row (λ own. other (same_Some n trx (sym is ∙ own))) ∙ is
+
+    held : (row : ℕ × ℕ) (n : ℕ) → finite.get after.locks row ≡ Some n → (finite.get d.locks row ≡ Some trx) ⊎ (finite.get d.locks row ≢ Some trx) → (n ≢ trx) × (finite.get d.locks row ≡ Some n)
+    held row n is (inl own) = absurd (none-some n (sym (s.released.own row own) ∙ is))
+    held row n is (inr free) =
+        let was = sym (s.released.others row free) ∙ is in
+        (λ same. free (was ∙ ap (λ x. Some x) same), was)
+
+    placed : (table key : ℕ) → IsPlaced d table key → IsPlaced after table key
+    placed table key there = (same_buckets d after table key (ap (λ m. unwrap_or (finite.get m table) []) s.tables)).placed there
+
+-- The least number of which no transaction is open.
+
+found : (test : ℕ → Bool) (a n x : ℕ) → find test (range_with_len a n) ≡ Some x → (x < a + n) × (test x ≡ true)
+found test a zero x is = absurd (none-some x is)
+found test a (suc n) x is = at (test a) refl is (found test (a + 1) n x)
+  where
+    at : (b : Bool) → test a ≡ b → cond b (Some a) (find test (range_with_len (a + 1) n)) ≡ Some x → (find test (range_with_len (a + 1) n) ≡ Some x → (x < a + 1 + n) × (test x ≡ true)) → (x < a + suc n) × (test x ≡ true)
+    at true passes here later = let same = same_Some a x here in (omega (arith, same), ap test (sym same) ∙ passes)
+    at false passes behind later = let l = later behind in (omega (arith, l.0), l.1)
+
+none_there : {X : Type 0} (o : Option X) → not (is_some o) ≡ true → o ≡ None
+none_there None is = refl
+none_there (Some x) is = absurd cc
+
+pub least_free_is : (d : Donor) (trx : ℕ) → least_free d ≡ Some trx → (trx < transaction_limit) × (finite.get d.active trx ≡ None)
+unfolding least_unused
+least_free_is d trx is = let f = found (λ n. not (finite.contains_key d.active n)) 0 transaction_limit trx is in (omega (arith, f.0), none_there (finite.get d.active trx) f.1)
+
+-- A transaction begins.
+
+pub begun_locked : {d after : Donor} {trx : ℕ} (writer index : ℕ) → IsLocked d → Begins d writer index trx after → IsLocked after
+begun_locked {d} {after} {trx} writer index locked b =
+    subst (λ (e : Donor). IsLocked e) (sym b.1) (set_locked d (begun trx writer index d) trx (record { writer = writer; index = index; changes = [] }) locked record {
+      active = refl;
+      number = (least_free_is d trx b.0).0;
+      few = omega arith;
+      own = λ i change is. absurd (none-some change is);
+      kept = λ row n other is. is;
+      held = λ row n is. inr is;
+      places = locked.places;
+      rows = locked.rows;
+    })
+
+-- A change is made, of a row that no other transaction holds.
+
+pub changed_locked : {d after : Donor} {trx : ℕ} {change : Change} → IsLocked d → (c : Changes d trx change after) → (finite.get d.locks (change.table, change.key) ≡ None) ⊎ (finite.get d.locks (change.table, change.key) ≡ Some trx)
+    → length (changes_of d trx) < change_limit → 0 < length c.buckets → IsLocked after
+changed_locked {d} {after} {trx} {change} locked c free room some = set_locked d after trx (with_change change c.commit) locked record {
+  active = ap (λ (e : Donor). e.active) c.is;
+  number = locked.numbers trx (ap is_some c.was_active);
+  few = let count = ap length (changes_of_active d trx c.commit c.was_active) in omega (arith, room, count, length_push c.commit.changes change);
+  own = λ i x is. own i x (cases_pushed c.commit.changes change i x is);
+  kept = λ row n other is. kept row n is (cases_row row at) other free;
+  held = λ row n is. held row n is (cases_row row at);
+  places = λ table key n is. places table key n is (cases_row (table, key) at);
+  rows = λ table key value is. (changed_keeps c table key).placed (locked.rows table key value (ap (λ (e : Donor). finite.get (fold e.history) (table, key)) (sym c.is) ∙ is));
+}
+  where
+    at : ℕ × ℕ
+    at = (change.table, change.key)
+
+    lock_own : finite.get after.locks at ≡ Some trx
+    lock_own = ap (λ (e : Donor). finite.get e.locks at) c.is ∙ get-set_same row_cmp_total row_cmp_exact d.locks at trx
+
+    lock_other : (row : ℕ × ℕ) → row ≢ at → finite.get after.locks row ≡ finite.get d.locks row
+    lock_other row other = ap (λ (e : Donor). finite.get e.locks row) c.is ∙ get-set_other row_cmp_total row_cmp_exact d.locks at trx row other
+
+    by_row : (row : ℕ × ℕ) → finite.get d.locks row ≡ Some trx → (row ≡ at) ⊎ (row ≢ at) → finite.get after.locks row ≡ Some trx
+    by_row row was (inl same) = ap (finite.get after.locks) same ∙ lock_own
+    by_row row was (inr other) = lock_other row other ∙ was
+
+    own : (i : ℕ) (x : Change) → ((i < length c.commit.changes) × (slice_get c.commit.changes i ≡ Some x)) ⊎ ((i ≡ length c.commit.changes) × (x ≡ change)) → finite.get after.locks (x.table, x.key) ≡ Some trx
+    own i x (inl before) = by_row (x.table, x.key) (locked.own trx c.commit i x c.was_active before.1) (cases_row (x.table, x.key) at)
+    own i x (inr last) = ap (λ (y : Change). finite.get after.locks (y.table, y.key)) last.1 ∙ lock_own
+
+    kept : (row : ℕ × ℕ) (n : ℕ) → finite.get d.locks row ≡ Some n → (row ≡ at) ⊎ (row ≢ at) → n ≢ trx → (finite.get d.locks at ≡ None) ⊎ (finite.get d.locks at ≡ Some trx) → finite.get after.locks row ≡ Some n
+    kept row n is (inl same) other (inl none) = absurd (none-some n (sym none ∙ sym (ap (finite.get d.locks) same) ∙ is))
+    kept row n is (inl same) other (inr own_lock) = absurd (other (same_Some n trx (sym is ∙ ap (finite.get d.locks) same ∙ own_lock)))
+    kept row n is (inr apart) other either = lock_other row apart ∙ is
+
+    held : (row : ℕ × ℕ) (n : ℕ) → finite.get after.locks row ≡ Some n → (row ≡ at) ⊎ (row ≢ at) → (n ≡ trx) ⊎ (finite.get d.locks row ≡ Some n)
+    held row n is (inl same) = inl (same_Some n trx (sym is ∙ ap (finite.get after.locks) same ∙ lock_own))
+    held row n is (inr other) = inr (sym (lock_other row other) ∙ is)
+
+    places : (table key n : ℕ) → finite.get after.locks (table, key) ≡ Some n → (◌≡◌ {A = ℕ × ℕ} (table, key) at) ⊎ (◌≢◌ {A = ℕ × ℕ} (table, key) at) → IsPlaced after table key
+    places table key n is (inl same) = subst (λ (p : ℕ × ℕ). IsPlaced after p.0 p.1) (sym same) (changed_placed c some)
+    places table key n is (inr other) = (changed_keeps c table key).placed (locked.places table key n (sym (lock_other (table, key) other) ∙ is))
+
+-- A change is taken back.
+
+pub taken_locked : {d after : Donor} {trx left : ℕ} → IsLocked d → TakesBack d trx left after → IsLocked after
+taken_locked {d} {after} {trx} {left} locked t =
+    subst (λ (e : Donor). IsLocked e) (sym t.is) (set_locked d (record d { active = finite.insert d.active trx fewer }) trx fewer locked record {
+      active = refl;
+      number = locked.numbers trx (ap is_some t.was_active);
+      few = let most = locked.few trx t.commit t.was_active in let count = ap length t.split in omega (arith, most, count, length_push t.front t.last);
+      own = λ i change is. locked.own trx t.commit i change t.was_active (ap (λ (cs : List Change). slice_get cs i) t.split ∙ slice_get-pushed_front t.front t.last i (slice_get_within t.front i change is) ∙ is);
+      kept = λ row n other is. is;
+      held = λ row n is. inr is;
+      places = locked.places;
+      rows = locked.rows;
+    })
+  where
+    fewer : Commit
+    fewer = record t.commit { changes = t.front }
+
+-- A transaction ends.
+
+pub left_locked : {d after : Donor} {trx : ℕ} → IsLocked d → Leaves d trx after → IsLocked after
+left_locked {d} {after} {trx} locked l = ended_locked d after trx locked record {
+  active = ap (λ (e : Donor). e.active) l.is;
+  released = subst (λ (e : Donor). Releases trx d.locks e.locks) (sym l.is) l.released;
+  tables = ap (λ (e : Donor). e.tables) l.is;
+  rows = λ table key value is. locked.rows table key value (ap (λ (e : Donor). finite.get (fold e.history) (table, key)) (sym l.is) ∙ is);
+}
+
+pub committed_locked : {d after : Donor} {trx position : ℕ} → IsLocked d → Commits d trx position after → IsLocked after
+committed_locked {d} {after} {trx} {position} locked c = ended_locked d after trx locked record {
+  active = ap (λ (e : Donor). e.active) c.is;
+  released = subst (λ (e : Donor). Releases trx d.locks e.locks) (sym c.is) c.released;
+  tables = ap (λ (e : Donor). e.tables) c.is;
+  rows = λ table key value is. placed table key value is (cases_held (finite.get d.locks (table, key)) trx);
+}
+  where
+    placed : (table key : ℕ) (value : List ℕ) → finite.get (fold after.history) (table, key) ≡ Some value → (finite.get d.locks (table, key) ≡ Some trx) ⊎ (finite.get d.locks (table, key) ≢ Some trx) → IsPlaced d table key
+    placed table key value is (inl held) = locked.places table key trx held
+    placed table key value is (inr free) = locked.rows table key value (sym (committed_other locked c (table, key) free) ∙ is)
+
+-- A table is made.
+
+pub created_locked : (d : Donor) (table buckets : ℕ) → IsLocked d → finite.get d.tables table ≡ None → IsLocked (created table buckets d)
+created_locked d table buckets locked none = record {
+  numbers = locked.numbers;
+  few = locked.few;
+  own = locked.own;
+  holders = locked.holders;
+  places = λ t key trx is. created_placed d table buckets t key none (locked.places t key trx is);
+  rows = λ t key value is. created_placed d table buckets t key none (locked.rows t key value is);
+}

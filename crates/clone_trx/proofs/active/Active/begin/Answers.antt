@@ -1,0 +1,14 @@
+use Rattle.std.proofs.Common.{◌∙◌, ap, List}
+use Rattle.std.specs.FinMap as finite
+use Rattle.std.specs.Cmp.{nat_cmp_total}
+use Rattle.std.proofs.lemmas.Map.Lookups.{exact_unsigned}
+use Rattle.clone_model.specs.declared.change.Change.{Change}
+use Rattle.clone_trx.specs.Opened.{Opened}
+use Rattle.clone_trx.proofs.Maps.{inserted}
+use Rattle.clone_trx.proofs.active.Active.begin.Goals as goal
+
+pub returns-clause-ok : goal.returns-clause-ok
+returns-clause-ok c =
+    inserted nat_cmp_total exact_unsigned c.self.inside.commits c.insert.new.self c.args.trx (record { writer = c.args.writer; index = c.args.index; changes = c.new-changes.result }) c.in_ok-insert.ensures.updates
+    ∙ ap (λ (d : Opened). finite.insert d c.args.trx (record { writer = c.args.writer; index = c.args.index; changes = c.new-changes.result })) c.self.view_is
+    ∙ ap (λ (cs : List Change). finite.insert c.args.self.now c.args.trx (record { writer = c.args.writer; index = c.args.index; changes = cs })) c.new-changes.ensures

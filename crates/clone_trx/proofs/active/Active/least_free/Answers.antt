@@ -1,0 +1,28 @@
+use Rattle.std.proofs.Common.{◌≡◌, ◌∙◌, ◌<◌, ◌≤◌, ap, sym, not, true, false, arith}
+use Rattle.std.specs.Prelude.{is_some}
+use Rattle.std.specs.FinMap as finite
+use Rattle.std.specs.declared.option.Option.{Option}
+use Rattle.clone_model.specs.declared.change.Commit.{Commit}
+use Rattle.clone_plain.specs.Causes.{transaction_limit}
+use Rattle.clone_trx.proofs.Pops.{get_opened}
+use Rattle.clone_trx.proofs.Scans.{least_unused-found, find_skips, find_takes, find_ends}
+use Rattle.clone_trx.proofs.active.Active.least_free.Goals as goal
+
+pub loop-trx-preserved : goal.loop-trx-preserved
+loop-trx-preserved c =
+    let lt : c.loop-trx.trx-counter < transaction_limit = omega arith in
+    let at = get_opened c.self.inside.commits c.args.self.now c.loop-trx.trx-counter c.self.view_is in
+    let there : not (finite.contains_key c.args.self.now c.loop-trx.trx-counter) ≡ false = ap (λ (o : Option Commit). not (is_some o)) at ∙ ap not (sym c.contains_key.ensures ∙ c.if-not-contains_key.false) in
+    c.loop-trx.invariant ∙ find_skips (λ trx. not (finite.contains_key c.args.self.now trx)) c.loop-trx.trx-counter transaction_limit lt there
+
+pub returns-then-not-contains_key : goal.returns-then-not-contains_key
+returns-then-not-contains_key c =
+    let lt : c.loop-trx.trx-counter < transaction_limit = omega arith in
+    let at = get_opened c.self.inside.commits c.args.self.now c.loop-trx.trx-counter c.self.view_is in
+    let free : not (finite.contains_key c.args.self.now c.loop-trx.trx-counter) ≡ true = ap (λ (o : Option Commit). not (is_some o)) at ∙ ap not (sym c.contains_key.ensures ∙ c.if-not-contains_key.true) in
+    sym (least_unused-found c.args.self.now ∙ c.loop-trx.invariant ∙ find_takes (λ trx. not (finite.contains_key c.args.self.now trx)) c.loop-trx.trx-counter transaction_limit lt free)
+
+pub returns : goal.returns
+returns c =
+    let le : transaction_limit ≤ c.loop-trx.trx-counter = omega arith in
+    sym (least_unused-found c.args.self.now ∙ c.loop-trx.invariant ∙ find_ends (λ trx. not (finite.contains_key c.args.self.now trx)) c.loop-trx.trx-counter transaction_limit le)

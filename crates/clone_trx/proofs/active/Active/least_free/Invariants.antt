@@ -1,0 +1,11 @@
+use Rattle.std.proofs.Common.{◌≡◌, ◌-◌, not}
+use Rattle.std.specs.FinMap as finite
+use Rattle.std.specs.List.{find, range_with_len}
+use Rattle.clone_plain.specs.Causes.{transaction_limit}
+use Rattle.clone_trx.proofs.active.Active.least_free.Given as goal
+
+-- no number before this one is free
+abbrev pub invariant-loop-trx : goal.invariant-loop-trx
+invariant-loop-trx l =
+    find (λ trx. not (finite.contains_key l.self trx)) (range_with_len 0 transaction_limit)
+    ≡ find (λ trx. not (finite.contains_key l.self trx)) (range_with_len l.trx-counter (transaction_limit - l.trx-counter))

@@ -1,0 +1,9 @@
+use Rattle.std.proofs.Common.{◌∙◌, sym, ap}
+use Rattle.std.specs.FinMap as finite
+use Rattle.std.specs.Cmp.{nat_cmp_total}
+use Rattle.clone_trx.specs.Opened.{Opened}
+use Rattle.clone_trx.proofs.Maps.{len_listed}
+use Rattle.clone_trx.proofs.active.Active.len.Goals as goal
+
+pub returns : goal.returns
+returns c = c.len.ensures.len ∙ sym (len_listed nat_cmp_total c.self.inside.commits c.len.ensures.ordered) ∙ ap (λ (d : Opened). finite.len d) c.self.view_is

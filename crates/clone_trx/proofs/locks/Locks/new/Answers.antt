@@ -1,0 +1,10 @@
+use Rattle.std.proofs.Common.{◌≡◌, ap, arith, length}
+use Rattle.clone_plain.specs.Causes.{transaction_limit}
+use Rattle.clone_trx.specs.Locked.{holders_of}
+use Rattle.clone_trx.proofs.Listings.{none_listed}
+use Rattle.clone_trx.proofs.locks.Locks.new.Goals as goal
+
+pub invariant_of-result : goal.invariant_of-result
+invariant_of-result c =
+    let count : length c.loop.rows.items ≡ transaction_limit = omega arith in
+    none_listed (holders_of c.new-2.result.entries) c.loop.rows.items (ap holders_of c.new-2.ensures.empty) count c.loop.invariant.none

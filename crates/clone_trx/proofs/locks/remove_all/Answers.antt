@@ -1,0 +1,13 @@
+use Rattle.std.proofs.Common.{◌∙◌, get_or}
+use Rattle.clone_model.proofs.RowMaps.{row_cmp_total, row_cmp_exact}
+use Rattle.clone_trx.specs.Locked.{holders_of}
+use Rattle.clone_trx.proofs.Maps.{removed}
+use Rattle.clone_trx.proofs.Listings.{Row, without_goes_on}
+use Rattle.clone_trx.proofs.locks.remove_all.Goals as goal
+
+pub loop-row-preserved : goal.loop-row-preserved
+loop-row-preserved c =
+    let row : Row = get_or c.args.rows.now c.loop-row.row-index (0, 0) in
+    without_goes_on c.args.rows.now c.loop-row.row-index (0, 0) (holders_of c.loop-row.holders.entries) (holders_of c.remove.new.self.entries) c.loop-row-test.true
+    (removed row_cmp_total row_cmp_exact c.loop-row.holders c.remove.new.self row c.remove.ensures.updates)
+    ∙ c.loop-row.invariant

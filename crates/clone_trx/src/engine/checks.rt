@@ -1,0 +1,120 @@
+ghost use Rattle.std.specs.Prelude.{◌≡◌, [], None, Some, MatchResult, unwrap_or};
+ghost use Rattle.clone_undo.specs.Entries.{state_number, value_before, IsBefore};
+ghost use Rattle.clone_plain.specs.Causes.{change_cause, get_cause, row_locked};
+ghost use Rattle.clone_plain.specs.Calls.{Decided, Gets};
+ghost use Rattle.clone_trx.specs.Places.{IsPlaceFor, HasValue, held_value};
+ghost use Rattle.clone_trx.specs.Written.{state_of_row};
+
+use crate::Engine;
+use crate::place::place_of;
+use clone_model::Value;
+use clone_page::Page;
+use clone_plain::{Cause, EngineRefusal};
+use clone_row::{find, present};
+use clone_undo::{Before, OldValue, UndoRecord};
+
+/// How many changes a transaction may make.
+const CHANGES: usize = 160;
+
+/// How many bytes a value may have.
+const VALUE_BYTES: usize = 64;
+
+/// Where a change of a row goes.
+#[derive(Drop)]
+pub struct Place {
+    /// The row's slot, and what it holds.
+    pub entry: UndoRecord,
+    /// Whether the page of the row was never used.
+    pub unused: bool,
+    /// How many changes the transaction has made.
+    pub count: u16,
+}
+
+impl Engine {
+    /// The row's value after the history and then the transaction's own changes. No lock is taken.
+    pub fn get(&self, trx: u32, table: u32, key: u64) -> Result<Option<Value>, EngineRefusal>
+        ensures { Decided (get_cause self.now.donor trx table key) self.now.donor self.now.donor result (λ value. Gets self.now.donor trx table key value) }
+    {
+        if self.active.get(trx).is_none() {
+            return Err(Cause::NoSuchTrx.into());
+        }
+        let Some(pages) = self.pages_of(table) else {
+            return Err(Cause::NoSuchTable.into());
+        };
+        self.check_lock(trx, table, key)?;
+        let page = &pages[(key % pages.len() as u64) as usize];
+        Ok(value_on(page, key))
+    }
+
+    // Where a change of a row goes whose value has so many bytes, or the first cause against it.
+    pub(super) fn place_for(
+        &self,
+        trx: u32,
+        table: u32,
+        key: u64,
+        long: usize,
+    ) -> Result<Place, Cause>
+        ensures { MatchResult result
+            (λ place. (change_cause self.now.donor trx table key long ≡ None) × IsPlaceFor self.now trx table key place.entry place.unused place.count)
+            (λ cause. change_cause self.now.donor trx table key long ≡ Some cause) }
+    {
+        let Some(commit) = self.active.get(trx) else {
+            return Err(Cause::NoSuchTrx);
+        };
+        if long > VALUE_BYTES {
+            return Err(Cause::ValueTooLong);
+        }
+        let Some(pages) = self.pages_of(table) else {
+            return Err(Cause::NoSuchTable);
+        };
+        let count = commit.changes.len();
+        if count == CHANGES {
+            return Err(Cause::UndoFull);
+        }
+        self.check_lock(trx, table, key)?;
+        let bucket = (key % pages.len() as u64) as u32;
+        let page = &pages[bucket as usize];
+        let Some(slot) = place_of(page, key) else {
+            return Err(Cause::SpaceFull);
+        };
+        Ok(Place {
+            entry: UndoRecord::new(table, bucket, slot, key, before_on(page, slot)),
+            unused: page.kind() == 0,
+            count: count as u16,
+        })
+    }
+
+    // Refuses where another transaction holds the row's lock.
+    fn check_lock(&self, trx: u32, table: u32, key: u64) -> Result<(), Cause>
+        ensures { MatchResult result (λ _. row_locked self.now.donor trx table key ≡ None) (λ cause. row_locked self.now.donor trx table key ≡ Some cause) }
+    {
+        match self.locks.holder(table, key) {
+            Some(holder) if holder != trx => Err(Cause::RowLocked { holder }),
+            _ => Ok(()),
+        }
+    }
+}
+
+// The value of a key's row on the page of its bucket.
+fn value_on(page: &Page, key: u64) -> Option<Value>
+    ensures { HasValue page.now key result }
+{
+    let slot = find(page, key)?;
+    let (_, value) = present(page, slot)?;
+    Some(value)
+}
+
+// What a slot holds.
+fn before_on(page: &Page, slot: u16) -> Before
+    ensures state { state_number result ≡ state_of_row (held_value page.now slot) }
+    ensures value { value_before result ≡ unwrap_or (held_value page.now slot) [] }
+    ensures range { IsBefore (state_number result) (value_before result) }
+{
+    let Some((_, value)) = present(page, slot) else {
+        return Before::Absent;
+    };
+    match OldValue::new(value.bytes()) {
+        Some(value) => Before::Present(value),
+        None => unreachable!(),
+    }
+}

@@ -1,0 +1,218 @@
+use crate::tests::{Call, Tried};
+use clone_outside::NoMemory;
+use std::alloc::Global;
+use std::process::Abort;
+use std::test::Fail;
+
+// The system space of 257 pages, and its first page.
+const OPENING: [u8; 21] = [
+    4, 0, 0, 0, 0, 0, 0, 1, 1, // 257 pages in space 0
+    1, 0, 0, 0, 0, 0, 0, 0, 0, 0, 1, // page 0 of it is a system page
+    6,
+];
+
+// Table 1 of four buckets, which the dictionary's first entry names.
+const CREATE: [u8; 39] = [
+    4, 0, 0, 0, 1, 0, 0, 0, 4, // 4 pages in space 1
+    2, 0, 0, 0, 0, 0, 0, 0, 0, 0, 64, 0, 16, // on page 0 of space 0, from 64 on, 16 bytes
+    0, 0, 0, 1, 0, 0, 0, 4, 0, 0, 0, 4, 0, 0, 0, 0, // table 1, 4 buckets, 4 pages
+    6,
+];
+
+// Writer 0 begins its transaction 0 in undo slot 0.
+const BEGIN: [u8; 41] = [
+    1, 0, 0, 0, 0, 0, 0, 0, 1, 0, 2, // page 1 of space 0 is an undo page
+    2, 0, 0, 0, 0, 0, 0, 0, 1, 0, 40, 0, 16, // on it, from 40 on, 16 bytes
+    1, 0, 0, 0, 0, 0, 0, 0, 0, 0, 0, 0, 0, 0, 0, 0, // the header
+    6,
+];
+
+// Writer 3 begins its transaction 1 in undo slot 0, whose page is in use.
+const BEGIN_AGAIN: [u8; 30] = [
+    2, 0, 0, 0, 0, 0, 0, 0, 1, 0, 40, 0, 16, // on page 1 of space 0, from 40 on, 16 bytes
+    1, 0, 0, 0, 0, 0, 0, 3, 0, 0, 0, 0, 0, 0, 0, 1, // the header
+    6,
+];
+
+// An undo record of key 7, whose slot 0 on page 3 of table 1 was absent. Behind it come 72 zero bytes.
+const UNDO: [u8; 37] = [
+    2, 0, 0, 0, 0, 0, 0, 0, 1, 0, 64, 0, 96, // on page 1 of space 0, from 64 on, 96 bytes
+    0, 0, 0, 1, 0, 0, 0, 3, 0, 0, 2, 0, 0, 0, 0, 0, // table, page, slot, state, length
+    0, 0, 0, 0, 0, 0, 0, 7,
+];
+
+// The count of undo records, and the row of key 7 with the value "hi". Behind it come 62 zero bytes.
+const ROW: [u8; 57] = [
+    2, 0, 0, 0, 0, 0, 0, 0, 1, 0, 42, 0, 2, 0, 1, // the count is 1
+    1, 0, 0, 0, 1, 0, 0, 0, 3, 0, 3, // page 3 of space 1 is a bucket page
+    2, 0, 0, 0, 1, 0, 0, 0, 3, 0, 48, 0, 80, // on it, from 48 on, 80 bytes
+    1, 2, 0, 0, 0, 0, 0, 0, // present, 2 bytes
+    0, 0, 0, 0, 0, 0, 0, 7, 104, 105,
+];
+
+// The second undo record, of key 7 with the value "hi". Behind it come 70 zero bytes.
+const UNDO_HI: [u8; 39] = [
+    2, 0, 0, 0, 0, 0, 0, 0, 1, 0, 160, 0, 96, // on page 1 of space 0, from 160 on, 96 bytes
+    0, 0, 0, 1, 0, 0, 0, 3, 0, 0, 1, 2, 0, 0, 0, 0, // table, page, slot, state, length
+    0, 0, 0, 0, 0, 0, 0, 7, 104, 105,
+];
+
+// The count of undo records, and the row of key 7 with the value "ho". Behind it come 62 zero bytes.
+const ROW_HO: [u8; 46] = [
+    2, 0, 0, 0, 0, 0, 0, 0, 1, 0, 42, 0, 2, 0, 2, // the count is 2
+    2, 0, 0, 0, 1, 0, 0, 0, 3, 0, 48, 0, 80, // on page 3 of space 1, from 48 on, 80 bytes
+    1, 2, 0, 0, 0, 0, 0, 0, // present, 2 bytes
+    0, 0, 0, 0, 0, 0, 0, 7, 104, 111,
+];
+
+// The row of key 7 with the value "hi" again. Behind it come 62 zero bytes and the count.
+const ROW_HI: [u8; 31] = [
+    2, 0, 0, 0, 1, 0, 0, 0, 3, 0, 48, 0, 80, // on page 3 of space 1, from 48 on, 80 bytes
+    1, 2, 0, 0, 0, 0, 0, 0, // present, 2 bytes
+    0, 0, 0, 0, 0, 0, 0, 7, 104, 105,
+];
+
+// The row of key 7 is absent. Behind it come 64 zero bytes and the count.
+const ROW_ABSENT: [u8; 29] = [
+    2, 0, 0, 0, 1, 0, 0, 0, 3, 0, 48, 0, 80, // on page 3 of space 1, from 48 on, 80 bytes
+    2, 0, 0, 0, 0, 0, 0, 0, // absent
+    0, 0, 0, 0, 0, 0, 0, 7,
+];
+
+// Undo slot 0 is free.
+const ENDED: [u8; 30] = [
+    2, 0, 0, 0, 0, 0, 0, 0, 1, 0, 40, 0, 16, // on page 1 of space 0, from 40 on, 16 bytes
+    0, 0, 0, 0, 0, 0, 0, 0, 0, 0, 0, 0, 0, 0, 0, 0, // no header
+    6,
+];
+
+// Undo slot 0 is free, and the commit position is 1.
+const COMMIT: [u8; 51] = [
+    2, 0, 0, 0, 0, 0, 0, 0, 1, 0, 40, 0, 16, // on page 1 of space 0, from 40 on, 16 bytes
+    0, 0, 0, 0, 0, 0, 0, 0, 0, 0, 0, 0, 0, 0, 0, 0, // no header
+    2, 0, 0, 0, 0, 0, 0, 0, 0, 0, 40, 0, 8, // on page 0 of it, from 40 on, 8 bytes
+    0, 0, 0, 0, 0, 0, 0, 1, 6,
+];
+
+// The undo record of number 40, of key 6, whose slot 0 on page 2 of table 1 was absent. Behind it come
+// 72 zero bytes.
+const UNDO_ON_NEXT: [u8; 48] = [
+    1, 0, 0, 0, 0, 0, 0, 0, 2, 0, 2, // page 2 of space 0 is an undo page
+    2, 0, 0, 0, 0, 0, 0, 0, 2, 0, 64, 0, 96, // on it, from 64 on, 96 bytes
+    0, 0, 0, 1, 0, 0, 0, 2, 0, 0, 2, 0, 0, 0, 0, 0, // table, page, slot, state, length
+    0, 0, 0, 0, 0, 0, 0, 6,
+];
+
+// The count of undo records, and the row of key 6 with the value "hi". Behind it come 62 zero bytes.
+const ROW_ON_NEXT: [u8; 57] = [
+    2, 0, 0, 0, 0, 0, 0, 0, 1, 0, 42, 0, 2, 0, 41, // the count is 41
+    1, 0, 0, 0, 1, 0, 0, 0, 2, 0, 3, // page 2 of space 1 is a bucket page
+    2, 0, 0, 0, 1, 0, 0, 0, 2, 0, 48, 0, 80, // on it, from 48 on, 80 bytes
+    1, 2, 0, 0, 0, 0, 0, 0, // present, 2 bytes
+    0, 0, 0, 0, 0, 0, 0, 6, 104, 105,
+];
+
+// A put of "hi" at key 7, in an undo page that is in use and a bucket page that isn't.
+fn put_bytes(alloc: Global) -> Result<Vec<u8>, NoMemory> {
+    let mut bytes = Vec::from_slice(alloc, &UNDO)?;
+    bytes.extend_from_slice(&[0; 72])?;
+    bytes.extend_from_slice(&ROW)?;
+    bytes.extend_from_slice(&[0; 62])?;
+    bytes.push(6)?;
+    Ok(bytes)
+}
+
+// A put of "ho" at key 7, which has the value "hi".
+fn second_put_bytes(alloc: Global) -> Result<Vec<u8>, NoMemory> {
+    let mut bytes = Vec::from_slice(alloc, &UNDO_HI)?;
+    bytes.extend_from_slice(&[0; 70])?;
+    bytes.extend_from_slice(&ROW_HO)?;
+    bytes.extend_from_slice(&[0; 62])?;
+    bytes.push(6)?;
+    Ok(bytes)
+}
+
+// A put of "hi" at key 6 as the change 40, in an undo page and a bucket page that are both new.
+fn put_on_next_bytes(alloc: Global) -> Result<Vec<u8>, NoMemory> {
+    let mut bytes = Vec::from_slice(alloc, &UNDO_ON_NEXT)?;
+    bytes.extend_from_slice(&[0; 72])?;
+    bytes.extend_from_slice(&ROW_ON_NEXT)?;
+    bytes.extend_from_slice(&[0; 62])?;
+    bytes.push(6)?;
+    Ok(bytes)
+}
+
+// The last change is taken back: the row's slot and the count that is left.
+fn undo_bytes(alloc: Global, row: &[u8], zeros: usize, left: u8) -> Result<Vec<u8>, NoMemory> {
+    let mut bytes = Vec::from_slice(alloc, row)?;
+    for _ in 0..zeros {
+        bytes.push(0)?;
+    }
+    // on page 1 of space 0, from 42 on, 2 bytes
+    bytes.extend_from_slice(&[2, 0, 0, 0, 0, 0, 0, 0, 1, 0, 42, 0, 2, 0, left, 6])?;
+    Ok(bytes)
+}
+
+// An engine in which the open transaction 0 gave key 7 the value "hi", with a log of 330 bytes.
+fn with_row(rt: &impl Abort, alloc: Global) -> Result<Tried, Fail> {
+    let mut tried = Tried::new(alloc)?;
+    let steps = [
+        (Call::Create(1, 4), "created"),
+        (Call::Begin(0, 0), "trx 0"),
+        (Call::Put(0, 1, 7, b"hi".as_slice()), "ok"),
+    ];
+    tried.expect(rt, &steps)?;
+    Ok(tried)
+}
+
+#[test]
+fn the_log_of_one_row(rt: HostRuntime) -> Result<(), Fail> {
+    let alloc = rt.alloc();
+    let mut tried = with_row(&rt, alloc)?;
+    let mut log = Vec::from_slice(alloc, &OPENING)?;
+    log.extend_from_slice(&CREATE)?;
+    log.extend_from_slice(&BEGIN)?;
+    log.extend_from_slice(&put_bytes(alloc)?)?;
+    log.extend_from_slice(&COMMIT)?;
+    // the pages of the first transaction are in use
+    log.extend_from_slice(&BEGIN_AGAIN)?;
+    let steps = [
+        (Call::Commit(0), "committed 1"),
+        (Call::Begin(3, 1), "trx 0"),
+    ];
+    tried.expect(&rt, &steps)?;
+    assert_eq!(rt; tried.engine.redo(), log.as_slice());
+    Ok(())
+}
+
+#[test]
+fn the_log_of_taking_back(rt: HostRuntime) -> Result<(), Fail> {
+    let alloc = rt.alloc();
+    let mut tried = with_row(&rt, alloc)?;
+    let steps = [
+        (Call::Put(0, 1, 7, b"ho".as_slice()), "ok"),
+        (Call::Undo(0), "undone 1"),
+        (Call::Undo(0), "undone 0"),
+        (Call::Undo(0), "ended"),
+    ];
+    tried.expect(&rt, &steps)?;
+    let mut log = second_put_bytes(alloc)?;
+    log.extend_from_slice(&undo_bytes(alloc, &ROW_HI, 62, 1)?)?;
+    log.extend_from_slice(&undo_bytes(alloc, &ROW_ABSENT, 64, 0)?)?;
+    log.extend_from_slice(&ENDED)?;
+    tried.assert_end(&rt, 330, &log);
+    Ok(())
+}
+
+#[test]
+fn the_log_of_two_new_pages(rt: HostRuntime) -> Result<(), Fail> {
+    let alloc = rt.alloc();
+    let mut tried = with_row(&rt, alloc)?;
+    for _ in 1..40 {
+        assert_eq!(rt; tried.put(0, 1, 7, b"hi")?, Ok(()));
+    }
+    tried.expect(&rt, &[(Call::Put(0, 1, 6, b"hi".as_slice()), "ok")])?;
+    // behind 39 puts of 218 bytes
+    tried.assert_end(&rt, 330 + 39 * 218, &put_on_next_bytes(alloc)?);
+    Ok(())
+}

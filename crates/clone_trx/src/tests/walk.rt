@@ -1,0 +1,203 @@
+ghost use Rattle.std.specs.Prelude.{◌<◌};
+
+use crate::tests::plain::Plain;
+use crate::tests::{Tried, answered};
+use clone_model::{Binlog, fold};
+use clone_outside::NoMemory;
+use clone_plain::Cause;
+use rand_core::utils::NextWord;
+use rand_pcg::Pcg32;
+use std::alloc::Global;
+use std::fmt::Debug;
+use std::process::Abort;
+use std::test::Fail;
+
+const CALLS: u64 = 10_000;
+
+/// The engine and the plain donor, which get the same calls.
+#[derive(Drop)]
+struct Both {
+    tried: Tried,
+    plain: Plain,
+    // for which causes a call was refused, each once
+    refused: Vec<Cause>,
+}
+
+/// A row that a transaction names.
+#[derive(Clone, Copy, Drop)]
+struct Row {
+    trx: u32,
+    table: u32,
+    key: u64,
+}
+
+impl Both {
+    fn new(alloc: Global) -> Result<Both, NoMemory> {
+        Ok(Both {
+            tried: Tried::new(alloc)?,
+            plain: Plain::new(alloc),
+            refused: Vec::new(alloc),
+        })
+    }
+
+    fn create(&mut self, rt: &impl Abort, alloc: Global, number: u32) -> Result<(), Fail> {
+        let found = self.tried.create(number, number)?;
+        let expected = answered(self.plain.create(alloc, number, number))?;
+        self.compare(rt, found, expected)
+    }
+
+    fn begin(
+        &mut self,
+        rt: &impl Abort,
+        alloc: Global,
+        writer: u32,
+        index: u64,
+    ) -> Result<(), Fail> {
+        let found = self.tried.begin(writer, index)?;
+        let expected = answered(self.plain.begin(alloc, writer, index))?;
+        self.compare(rt, found, expected)
+    }
+
+    fn put(&mut self, rt: &impl Abort, alloc: Global, row: Row, value: &[u8]) -> Result<(), Fail> {
+        let found = self.tried.put(row.trx, row.table, row.key, value)?;
+        let expected = answered(self.plain.put(row.trx, row.table, row.key, value))?;
+        self.compare(rt, found, expected)
+    }
+
+    fn delete(&mut self, rt: &impl Abort, alloc: Global, row: Row) -> Result<(), Fail> {
+        let found = self.tried.delete(row.trx, row.table, row.key)?;
+        let expected = answered(self.plain.delete(row.trx, row.table, row.key))?;
+        self.compare(rt, found, expected)
+    }
+
+    fn get(&mut self, rt: &impl Abort, alloc: Global, row: Row) -> Result<(), Fail> {
+        let found = self.tried.get(row.trx, row.table, row.key)?;
+        let expected = answered(self.plain.get(alloc, row.trx, row.table, row.key))?;
+        self.compare(rt, found, expected)
+    }
+
+    fn undo_one(&mut self, rt: &impl Abort, alloc: Global, trx: u32) -> Result<(), Fail> {
+        let found = self.tried.undo_one(trx)?;
+        let expected = answered(self.plain.undo_one(trx))?;
+        self.compare(rt, found, expected)
+    }
+
+    fn commit(&mut self, rt: &impl Abort, alloc: Global, trx: u32) -> Result<(), Fail> {
+        let found = self.tried.commit(trx)?;
+        let expected = answered(self.plain.commit(trx))?;
+        self.compare(rt, found, expected)
+    }
+
+    // The two answers are equal. A refusal is noted.
+    fn compare<T: PartialEq + Debug + Drop>(
+        &mut self,
+        rt: &impl Abort,
+        found: Result<T, Cause>,
+        expected: Result<T, Cause>,
+    ) -> Result<(), Fail> {
+        if let Err(cause) = &expected {
+            self.note(*cause)?;
+        }
+        assert_eq!(rt; found, expected);
+        Ok(())
+    }
+
+    // The holder of a lock is left out.
+    fn note(&mut self, cause: Cause) -> Result<(), NoMemory> {
+        let noted = match cause {
+            Cause::RowLocked { .. } => Cause::RowLocked { holder: 0 },
+            other => other,
+        };
+        if !self.refused.contains(&noted) {
+            self.refused.push(noted)?;
+        }
+        Ok(())
+    }
+}
+
+// A word below the limit.
+fn below(words: &mut Pcg32, limit: u32) -> u32
+    requires { 0 < limit }
+    ensures { result < limit }
+{
+    words.next_word() % limit
+}
+
+// In every other thousand of calls none commits, and most are of transaction 0, so that it comes to its
+// last change, and the others to the last number.
+fn is_busy(call: u64) -> bool {
+    call / 1000 % 2 == 1
+}
+
+fn drawn_row(words: &mut Pcg32, call: u64) -> Row {
+    let mut trx = below(words, 66);
+    if is_busy(call) && below(words, 8) > 0 {
+        trx = 0;
+    }
+    Row {
+        trx,
+        // three of these four are there
+        table: 1 + below(words, 4),
+        key: below(words, 120) as u64,
+    }
+}
+
+// Which call comes next, of 16 in all, of which the last four end transactions.
+fn drawn_kind(words: &mut Pcg32, call: u64) -> u32 {
+    if is_busy(call) {
+        below(words, 12)
+    } else {
+        below(words, 16)
+    }
+}
+
+// One call, whose answers are equal.
+fn step(
+    rt: &impl Abort,
+    alloc: Global,
+    both: &mut Both,
+    words: &mut Pcg32,
+    call: u64,
+) -> Result<(), Fail> {
+    let row = drawn_row(words, call);
+    match drawn_kind(words, call) {
+        0 => both.create(rt, alloc, 1 + below(words, 3)),
+        1 | 2 => both.begin(rt, alloc, below(words, 8), call),
+        3..=7 => {
+            let byte = below(words, 256) as u8;
+            let value = [byte; 66];
+            let length = below(words, 66) as usize;
+            both.put(rt, alloc, row, &value[..length])
+        }
+        8 => both.delete(rt, alloc, row),
+        9 | 10 => both.get(rt, alloc, row),
+        11 | 12 => both.undo_one(rt, alloc, row.trx),
+        _ => both.commit(rt, alloc, row.trx),
+    }
+}
+
+// The same commits, and the same rows after them.
+fn assert_same(rt: &impl Abort, found: &Binlog, expected: &Binlog) {
+    assert_eq!(rt; found.len(), expected.len());
+    for (one, other) in found.as_slice().iter().zip(expected.as_slice()) {
+        assert_eq!(rt; one.writer, other.writer);
+        assert_eq!(rt; one.index, other.index);
+        assert_eq!(rt; one.changes.as_slice(), other.changes.as_slice());
+    }
+}
+
+#[test]
+fn a_random_walk(rt: HostRuntime) -> Result<(), Fail> {
+    let alloc = rt.alloc();
+    let mut both = Both::new(alloc)?;
+    let mut words = Pcg32::new(20, 26);
+    for call in 0..CALLS {
+        step(&rt, alloc, &mut both, &mut words, call)?;
+    }
+    // each cause came up but that of the 63rd table
+    assert_eq!(rt; both.refused.len(), 8);
+    assert_same(&rt, both.tried.engine.binlog(), both.plain.history());
+    let found = fold(alloc, both.tried.engine.binlog().as_slice())?;
+    assert_eq!(rt; found.rows(alloc)?, both.plain.rows(alloc)?.rows(alloc)?);
+    Ok(())
+}
