@@ -1,11 +1,5 @@
-pub mod Keys
-pub mod Rows
-pub mod Buckets
-pub mod Tables
-pub mod Setting
-pub mod Images
-pub mod Effects
-pub mod Logs
 pub mod Counts
-pub mod Sound
-pub mod Steps
+pub mod Copies
+pub mod Answering
+pub mod Recovered
+pub mod Rows

@@ -1,30 +1,26 @@
--- A map of rows when one row is set.
-use Rattle.std.proofs.Common.{◌≡◌, ◌≢◌, ℕ, Bool, true, false, cond, List, refl, ◌∙◌, Some}
+-- The rows that a clone shows.
+use Rattle.std.proofs.Common.{◌≡◌, ℕ, List, refl, sym, ap, ◌∙◌, subst, Some, take}
+use Rattle.std.specs.Prelude.{MatchOption, codes}
 use Rattle.std.specs.declared.option.Option.{Option}
 use Rattle.std.specs.FinMap as finite
-use Rattle.std.specs.FinMap.{get-insert}
-use Rattle.std.specs.Cmp.{eq_by_cmp_equiv}
-use Rattle.std.specs.declared.cmp.Ordering.{Ordering}
-use Rattle.std.specs.declared.cmp.Ordering.TheVariants.{Less, Equal, Greater}
-use Rattle.std.specs.Ordering.{is_eq}
-use Rattle.clone_model.specs.History.{Rows}
-use Rattle.clone_model.proofs.RowMaps.{row_cmp_total, row_cmp_exact}
+use Rattle.clone_model.specs.History.{Rows, fold, rows_in}
+use Rattle.clone_model.specs.declared.line.Line.TheVariants as lines
+use Rattle.clone_image.specs.Image.{page_of}
+use Rattle.clone_image.specs.Rows.{Pages, IsRow, ShowsRows}
+use Rattle.clone_plain.specs.Answers.{Text, rows_answer}
+use Rattle.clone_plain.specs.Plain.{Plain}
+use Rattle.clone_plain.specs.Runs.{Step}
+use Rattle.clone_core.specs.Copied.{IsCopy}
+use Rattle.clone_core.specs.declared.world.Copy.{Copy}
 
-is_equal : (r : Ordering) → is_eq r ≡ true → r ≡ Equal
-is_equal Less e = cc
-is_equal Equal e = refl
-is_equal Greater e = cc
+-- whatever shows the rows of pages is the map of which they have the rows
+abbrev pub ShownIsTheMap : Type 0
+ShownIsTheMap =
+    (pages : Pages) (rows m : Rows) → ShowsRows pages rows → ((table key : ℕ) (value : List ℕ) → IsRow pages (table, key, value) → finite.get m (table, key) ≡ Some value)
+    → ((table key : ℕ) (value : List ℕ) → finite.get m (table, key) ≡ Some value → IsRow pages (table, key, value)) → rows ≡ m
 
-ties : (b : Bool) (v : List ℕ) (o : Option (List ℕ)) → b ≡ true → cond b (Some v) o ≡ Some v
-ties true v o e = refl
-ties false v o e = cc
-
-misses : (b : Bool) (v : List ℕ) (o : Option (List ℕ)) → (b ≡ true → ⊥) → cond b (Some v) o ≡ o
-misses true v o no_tie = absurd (no_tie refl)
-misses false v o no_tie = refl
-
-pub get-set_same : (rows : Rows) (k : ℕ × ℕ) (v : List ℕ) → finite.get (finite.insert rows k v) k ≡ Some v
-get-set_same rows k v = get-insert row_cmp_total rows k v k ∙ ties _ v (finite.get rows k) ((eq_by_cmp_equiv row_cmp_total).refl k)
-
-pub get-set_other : (rows : Rows) (k q : ℕ × ℕ) (v : List ℕ) → q ≢ k → finite.get (finite.insert rows k v) q ≡ finite.get rows q
-get-set_other rows k q v other = get-insert row_cmp_total rows k v q ∙ misses _ v (finite.get rows q) (λ e. other (row_cmp_exact q k (is_equal _ e)))
+pub rows_step : (r s : Plain) (copy : Copy) (rows : Rows) (answer : Text) → ShownIsTheMap → r ≡ s → r.stop ≡ Some copy.position → IsCopy r.donor.history copy → ShowsRows (page_of copy.image) rows → answer ≡ rows_answer (rows_in rows) → Step s lines.Rows answer s
+rows_step r s copy rows answer law at stop is shows text =
+    let same : rows ≡ fold (take copy.position r.donor.history) = law (page_of copy.image) rows _ shows is.rows.here is.rows.there in
+    subst (λ (p : Plain). Step p lines.Rows answer p) at
+    (refl, subst (λ (o : Option ℕ). MatchOption o (answer ≡ codes "incomplete") (λ n. answer ≡ rows_answer (rows_in (fold (take n r.donor.history))))) (sym stop) (text ∙ ap (λ (m : Rows). rows_answer (rows_in m)) same))

@@ -1,7 +1,3 @@
-pub mod Buckets
-pub mod Tables
-pub mod Sets
-pub mod Logs
-pub mod Places
-pub mod Locating
-pub mod Sound
+pub mod Copied
+pub mod Counted
+pub mod Refused

@@ -2,10 +2,10 @@
 #![tactic(auto)]
 
 mod begun;
-mod bucket;
-mod records;
-mod store;
+mod joining;
+#[cfg(test)]
+mod tests;
 mod world;
 
-pub use store::Store;
+pub use joining::recovered_image;
 pub use world::World;

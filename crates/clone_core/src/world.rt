@@ -1,26 +1,23 @@
-ghost use Rattle.std.specs.Prelude.{◌≡◌, IfOk, OnOk, OnErr, IsSome, ◌<◌, ◌≤◌, ◌+◌, ◌-◌, ◌^◌, ◌%◌, ◌++◌, ◌∷◌, [], None, Some, codes, length, unwrap_or};
+ghost use Rattle.std.specs.Prelude.{◌≡◌, ◌-◌, ◌^◌, IfOk, option_copied};
 ghost use Rattle.std.specs.String.{string_bytes};
-ghost use Rattle.std.specs.Fmt.{decimal};
-ghost use Rattle.std.specs.FinMap as finite;
 ghost use Rattle.clone_model.specs.History.{Rows, rows_in};
 ghost use Rattle.clone_model.specs.declared.line.Line.TheVariants as lines;
-ghost use Rattle.clone_page.specs.Slots.{slot_count};
-ghost use Rattle.clone_mtr.specs.Spelling.{spelling};
 ghost use Rattle.clone_image.specs.Image.{page_of};
 ghost use Rattle.clone_image.specs.Rows.{ShowsRows};
-ghost use Rattle.clone_plain.specs.Plain.{opened, MayStep, IsWithin};
-ghost use Rattle.clone_plain.specs.Runs.{Step, rows_answer};
-ghost use Rattle.clone_core.specs.Sets.{row_records};
-ghost use Rattle.clone_core.specs.Locating.{Locates};
+ghost use Rattle.clone_plain.specs.Answers.{rows_answer, value_answer};
+ghost use Rattle.clone_plain.specs.Plain.{opened, IsWithin};
+ghost use Rattle.clone_plain.specs.Runs.{Step};
+ghost use Rattle.clone_core.specs.Counted.{Opens, Sets};
+ghost use Rattle.clone_core.specs.Refused.{SaysCause};
 
 use crate::begun::Begun;
-use crate::bucket::place_of;
-use crate::records::{Place, creation, opening, row};
-use crate::store::{Store, spelled};
-use clone_image::{Image, rows_of};
-use clone_model::{Binlog, BucketCount, Change, Changes, Commit, Line, Value, rows_text};
-use clone_mtr::Mtr;
+use crate::joining::recovered_image;
+use clone_image::{Image, shown_is_the_map};
+use clone_model::{Binlog, BucketCount, Line, TableNumber, Value, push_value, rows_text};
 use clone_outside::NoMemory;
+use clone_plain::{EngineRefusal, Undone};
+use clone_recover::open_rows;
+use clone_trx::Engine;
 use std::alloc::{AllocError, Global};
 use std::marker::Model;
 
@@ -31,29 +28,27 @@ pub struct Copy {
     pub position: u64,
 }
 
-/// A donor of one table, and the clone that was taken of it.
+/// A donor, and the clone that was taken of it.
 #[derive(Drop)]
 pub struct World {
-    store: Store,
-    buckets: Option<BucketCount>,
-    binlog: Binlog,
+    engine: Engine,
     begun: Begun,
     copy: Option<Copy>,
 }
 
 impl Model for World {
+    ghost use Rattle.std.specs.Prelude.{option_map};
+    ghost use Rattle.std.specs.Option.{ForSome};
     ghost use Rattle.clone_plain.specs.Plain.{Plain, plain_code};
+    ghost use Rattle.clone_core.specs.Copied.{IsCopy};
 
     ghost Value = { Plain };
 
     ghost coded = { plain_code };
 
-    ghost use Rattle.std.specs.Prelude.{option_map};
-    ghost use Rattle.clone_core.specs.Sound.{IsSound};
+    ghost view = { λ w. record { donor = w.engine.donor; begun = w.begun; stop = option_map (λ c. c.position) w.copy } };
 
-    ghost view = { λ w. record { buckets = w.buckets; history = w.binlog; begun = w.begun; stop = option_map (λ c. c.position) w.copy } };
-
-    ghost invariant = { λ w. IsSound w.store w.buckets w.binlog w.copy };
+    ghost invariant = { λ w. ForSome w.copy (IsCopy w.engine.donor.history) };
 }
 
 impl World {
@@ -61,12 +56,8 @@ impl World {
     pub fn new(alloc: Global) -> Result<World, NoMemory>
         ensures { IfOk result (λ world. world ≡ opened) }
     {
-        let mut store = Store::new(alloc);
-        store.write(alloc, &opening(alloc)?)?;
         Ok(World {
-            store,
-            buckets: None,
-            binlog: Binlog::new(alloc),
+            engine: Engine::new(alloc)?,
             begun: Begun::new(alloc),
             copy: None,
         })
@@ -74,97 +65,196 @@ impl World {
 
     /// The commits in their order.
     pub fn binlog(&self) -> &Binlog
-        ensures { result.now ≡ self.now.history }
+        ensures { result.now ≡ self.now.donor.history }
     {
-        &self.binlog
+        self.engine.binlog()
     }
 
-    /// Carries out a line and gives its answer. After a refusal nothing has changed.
+    /// Carries out a line and gives its answer. Nothing is said of the world once memory ran out.
     pub fn event(&mut self, alloc: Global, line: &Line) -> Result<String, NoMemory>
-        requires may { MayStep self.old line.now }
         requires within { IsWithin (2 ^ 63 - 1) self.old }
-        ensures ok { IfOk result (λ answer. Step self.old line.now (string_bytes answer) self.new) }
-        ensures err { OnErr result (self.new ≡ self.old) }
+        ensures { IfOk result (λ answer. Step self.old line.now (string_bytes answer) self.new) }
     {
         match line {
-            Line::Create { buckets, .. } => self.create(alloc, *buckets),
-            Line::Set {
-                writer,
+            Line::Create { table, buckets } => self.create(alloc, *table, *buckets),
+            Line::Begin { writer } => self.begin(alloc, *writer),
+            Line::Put {
+                trx,
+                table,
                 key,
                 value,
-                ..
-            } => self.set(alloc, *writer, *key, value),
+            } => self.put(alloc, *trx, *table, *key, value.bytes()),
+            Line::Delete { trx, table, key } => self.delete(alloc, *trx, *table, *key),
+            Line::Get { trx, table, key } => self.get(alloc, *trx, *table, *key),
+            Line::Undo { trx } => self.undo(alloc, *trx),
+            Line::Commit { trx } => self.commit(alloc, *trx),
+            Line::Set {
+                writer,
+                table,
+                key,
+                value,
+            } => self.set(alloc, *writer, *table, *key, value.bytes()),
             Line::Clone => self.take_clone(alloc),
             Line::Rows => self.rows(alloc),
         }
     }
 
-    // Makes the table.
-    fn create(&mut self, alloc: Global, buckets: BucketCount) -> Result<String, NoMemory>
-        requires { self.old.buckets ≡ None }
-        ensures ok { IfOk result (λ answer. Step self.old (lines.Create 1 buckets) (string_bytes answer) self.new) }
-        ensures err { OnErr result (self.new ≡ self.old) }
+    // Makes a table.
+    fn create(
+        &mut self,
+        alloc: Global,
+        table: TableNumber,
+        buckets: BucketCount,
+    ) -> Result<String, NoMemory>
+        ensures { IfOk result (λ answer. Step self.old (lines.Create table buckets) (string_bytes answer) self.new) }
     {
-        let answer = String::from_str(alloc, "created")?;
-        let mtr = creation(alloc, buckets.get())?;
-        self.store.write(alloc, &mtr)?;
-        self.buckets = Some(buckets);
-        Ok(answer)
+        match self.engine.create(alloc, table, buckets) {
+            Ok(()) => String::from_str(alloc, "created"),
+            Err(refusal) => refused(alloc, refusal),
+        }
     }
 
-    // Begins a transaction, and commits it where the bucket of its key has room.
+    // Begins a transaction.
+    fn begin(&mut self, alloc: Global, writer: u32) -> Result<String, NoMemory>
+        requires within { IsWithin (2 ^ 63 - 1) self.old }
+        ensures { IfOk result (λ answer. Step self.old (lines.Begin writer) (string_bytes answer) self.new) }
+    {
+        match self.start(alloc, writer) {
+            Ok(trx) => format!(in alloc; "trx {trx}"),
+            Err(refusal) => refused(alloc, refusal),
+        }
+    }
+
+    // Gives a row its value.
+    fn put(
+        &mut self,
+        alloc: Global,
+        trx: u32,
+        table: TableNumber,
+        key: u64,
+        value: &[u8],
+    ) -> Result<String, NoMemory>
+        ensures { IfOk result (λ answer. Step self.old (lines.Put trx table key value.now) (string_bytes answer) self.new) }
+    {
+        match self.engine.put(alloc, trx, table.get(), key, value) {
+            Ok(()) => String::from_str(alloc, "ok"),
+            Err(refusal) => refused(alloc, refusal),
+        }
+    }
+
+    // Removes a row.
+    fn delete(
+        &mut self,
+        alloc: Global,
+        trx: u32,
+        table: TableNumber,
+        key: u64,
+    ) -> Result<String, NoMemory>
+        ensures { IfOk result (λ answer. Step self.old (lines.Delete trx table key) (string_bytes answer) self.new) }
+    {
+        match self.engine.delete(alloc, trx, table.get(), key) {
+            Ok(()) => String::from_str(alloc, "ok"),
+            Err(refusal) => refused(alloc, refusal),
+        }
+    }
+
+    // Shows the value of a row.
+    fn get(&self, alloc: Global, trx: u32, table: TableNumber, key: u64) -> Result<String, NoMemory>
+        ensures { IfOk result (λ answer. Step self.now (lines.Get trx table key) (string_bytes answer) self.now) }
+    {
+        match self.engine.get(trx, table.get(), key) {
+            Ok(value) => value_shown(alloc, value.as_ref()),
+            Err(refusal) => refused(alloc, refusal),
+        }
+    }
+
+    // Takes the last change of a transaction back, or ends it.
+    fn undo(&mut self, alloc: Global, trx: u32) -> Result<String, NoMemory>
+        ensures { IfOk result (λ answer. Step self.old (lines.Undo trx) (string_bytes answer) self.new) }
+    {
+        match self.engine.undo_one(alloc, trx) {
+            Ok(Undone::Left(left)) => format!(in alloc; "undone {left}"),
+            Ok(Undone::Ended) => String::from_str(alloc, "ended"),
+            Err(refusal) => refused(alloc, refusal),
+        }
+    }
+
+    // Commits a transaction.
+    fn commit(&mut self, alloc: Global, trx: u32) -> Result<String, NoMemory>
+        ensures { IfOk result (λ answer. Step self.old (lines.Commit trx) (string_bytes answer) self.new) }
+    {
+        match self.engine.commit(alloc, trx) {
+            Ok(position) => format!(in alloc; "committed {position}"),
+            Err(refusal) => refused(alloc, refusal),
+        }
+    }
+
+    // Begins a transaction, gives a row its value in it, and commits it.
     fn set(
         &mut self,
         alloc: Global,
         writer: u32,
+        table: TableNumber,
         key: u64,
-        value: &Value,
+        value: &[u8],
     ) -> Result<String, NoMemory>
-        requires there { IsSome self.old.buckets }
         requires within { IsWithin (2 ^ 63 - 1) self.old }
-        ensures ok { IfOk result (λ answer. Step self.old (lines.Set writer 1 key value.now) (string_bytes answer) self.new) }
-        ensures err { OnErr result (self.new ≡ self.old) }
+        ensures { IfOk result (λ answer. Step self.old (lines.Set writer table key value.now) (string_bytes answer) self.new) }
     {
-        let Some(buckets) = self.buckets else {
-            unreachable!();
-        };
-        let Some(place) = locate(&self.store, buckets.get(), key) else {
-            let answer = String::from_str(alloc, "refused E7")?;
-            self.begun.begin(writer)?;
-            return Ok(answer);
-        };
+        match self.set_row(alloc, writer, table.get(), key, value) {
+            Ok(position) => format!(in alloc; "committed {position}"),
+            Err(refusal) => refused(alloc, refusal),
+        }
+    }
+
+    // Sets a row in a transaction of its own, and answers the new number of commits. Where the change is
+    // refused the transaction stays open.
+    fn set_row(
+        &mut self,
+        alloc: Global,
+        writer: u32,
+        table: u32,
+        key: u64,
+        value: &[u8],
+    ) -> Result<u64, EngineRefusal>
+        requires within { IsWithin (2 ^ 63 - 1) self.old }
+        ensures { Sets self.old writer table key value.now result self.new }
+    {
+        let trx = self.start(alloc, writer)?;
+        self.engine.put(alloc, trx, table, key, value)?;
+        self.engine.commit(alloc, trx)
+    }
+
+    // Begins a transaction of a writer, and counts it.
+    fn start(&mut self, alloc: Global, writer: u32) -> Result<u32, EngineRefusal>
+        requires within { IsWithin (2 ^ 63 - 1) self.old }
+        ensures { Opens self.old writer result self.new }
+    {
         let index = self.begun.next_index(writer);
-        let position = self.binlog.len() as u64 + 1;
-        let mtr = row(alloc, place, key, value, position)?;
-        let bytes = spelled(alloc, &mtr)?;
-        let answer = format!(in alloc; "committed {position}")?;
-        let commit = commit_of(alloc, writer, index, key, value)?;
-        self.store.reserve(bytes.len())?;
-        note(&mut self.binlog, &mut self.begun, writer, commit)?;
-        self.store.write_within(alloc, &mtr, &bytes);
-        Ok(answer)
+        let trx = self.engine.begin(alloc, writer, index)?;
+        self.begun.begin(writer)?;
+        Ok(trx)
     }
 
     // Takes a clone from the log alone, unless one was taken.
     fn take_clone(&mut self, alloc: Global) -> Result<String, NoMemory>
-        ensures ok { IfOk result (λ answer. Step self.old lines.Clone (string_bytes answer) self.new) }
-        ensures err { OnErr result (self.new ≡ self.old) }
+        ensures { IfOk result (λ answer. Step self.old lines.Clone (string_bytes answer) self.new) }
     {
         if let Some(copy) = &self.copy {
             let position = copy.position;
             return format!(in alloc; "complete position {position}");
         }
-        let position = self.binlog.len() as u64;
-        let answer = format!(in alloc; "complete position {position}")?;
-        let image = self.store.recovered(alloc)?;
+        let position = self.engine.binlog().len() as u64;
+        let image = recovered_image(alloc, &self.engine)?;
         self.copy = Some(Copy { image, position });
-        Ok(answer)
+        format!(in alloc; "complete position {position}")
     }
 
     // Shows the rows of the clone.
     fn rows(&self, alloc: Global) -> Result<String, NoMemory>
         ensures { IfOk result (λ answer. Step self.now lines.Rows (string_bytes answer) self.now) }
     {
+        shown_is_the_map();
         match &self.copy {
             None => String::from_str(alloc, "incomplete"),
             Some(copy) => rows_shown(alloc, &copy.image),
@@ -172,71 +262,33 @@ impl World {
     }
 }
 
-// Where the row of a key goes, or none where its bucket has no room for it.
-fn locate(store: &Store, buckets: u32, key: u64) -> Option<Place>
-    requires some { 0 < buckets }
-    requires there { IsSome (page_of store.now.image 1 (key % buckets)) }
-    ensures { Locates (page_of store.now.image) (key % buckets) key result }
+// The text of a refusal. There is none for want of memory.
+fn refused(alloc: Global, refusal: EngineRefusal) -> Result<String, NoMemory>
+    ensures { IfOk result (λ text. SaysCause refusal (string_bytes text)) }
 {
-    let bucket = (key % buckets as u64) as u32;
-    let Some(page) = store.page(1, bucket) else {
-        unreachable!();
+    match refusal {
+        EngineRefusal::Because(cause) => format!(in alloc; "{cause}"),
+        EngineRefusal::NoMemory => Err(AllocError),
+    }
+}
+
+// A value, or that there is none.
+fn value_shown(alloc: Global, value: Option<&Value>) -> Result<String, NoMemory>
+    ensures { IfOk result (λ text. string_bytes text ≡ value_answer (option_copied value.entry)) }
+{
+    let Some(value) = value else {
+        return String::from_str(alloc, "none");
     };
-    match place_of(page, key) {
-        Some(slot) => Some(Place {
-            bucket,
-            slot,
-            unused: page.kind() == 0,
-        }),
-        None => None,
-    }
-}
-
-// A commit of one change.
-fn commit_of(
-    alloc: Global,
-    writer: u32,
-    index: u64,
-    key: u64,
-    value: &Value,
-) -> Result<Commit, NoMemory>
-    ensures { IfOk result (λ commit. commit ≡ record { writer = writer; index = index; changes = record { table = 1; key = key; value = Some value.now } ∷ [] }) }
-{
-    let mut changes = Changes::new(alloc);
-    changes.push(Change {
-        table: 1,
-        key,
-        value: Some(value.copied()),
-    })?;
-    Ok(Commit {
-        writer,
-        index,
-        changes,
-    })
-}
-
-// Adds a commit, whose writer has begun one more transaction. After a refusal nothing has changed.
-fn note(binlog: &mut Binlog, begun: &mut Begun, writer: u32, commit: Commit) -> Result<(), NoMemory>
-    requires { unwrap_or (finite.get begun.old writer) 0 < 2 ^ 64 - 1 }
-    ensures commit { OnOk result (binlog.new ≡ binlog.old ++ commit ∷ []) }
-    ensures begun { OnOk result (begun.new ≡ finite.insert begun.old writer (unwrap_or (finite.get begun.old writer) 0 + 1)) }
-    ensures no_commit { OnErr result (binlog.new ≡ binlog.old) }
-    ensures not_begun { OnErr result (begun.new ≡ begun.old) }
-{
-    binlog.push(commit)?;
-    if begun.begin(writer).is_ok() {
-        return Ok(());
-    }
-    let _ = binlog.pop();
-    Err(AllocError)
+    let mut text = String::from_str(alloc, "value ")?;
+    push_value(&mut text, value.bytes())?;
+    Ok(text)
 }
 
 // The rows of an image, each on a line, and then their number.
 fn rows_shown(alloc: Global, image: &Image) -> Result<String, NoMemory>
     ensures { IfOk result (λ text. (rows : Rows) × ShowsRows (page_of image.now) rows × (string_bytes text ≡ rows_answer (rows_in rows))) }
 {
-    let tables = rows_of(alloc, image)?;
-    let rows = tables.rows(alloc)?;
+    let rows = open_rows(alloc, image)?;
     let mut text = rows_text(alloc, &rows)?;
     let count = rows.len();
     let last = format!(in alloc; "rows {count}")?;

@@ -1,0 +1,45 @@
+-- What recovery gives of a log that replays to an image.
+use Rattle.std.proofs.Common.{◌≡◌, ℕ, ◌<◌, List, refl, sym, ap, ◌∙◌, subst, None, Some}
+use Rattle.std.specs.declared.option.Option.{Option}
+use Rattle.std.specs.List.{AllByRecursion}
+use Rattle.clone_model.specs.History.{Rows}
+use Rattle.clone_undo.specs.Entries.{IsEntry}
+use Rattle.clone_undo.specs.Places.{slot_count}
+use Rattle.clone_undo.specs.Slots.{UndoSlot}
+use Rattle.clone_image.specs.Image.{Image, page_of}
+use Rattle.clone_image.specs.Recovered.{undo_slot_of, recovered}
+use Rattle.clone_image.specs.Replay.{Replays, replayed}
+use Rattle.clone_image.specs.Rows.{HasRows}
+use Rattle.clone_recover.specs.Recovers.{Recovers, IsCause, IsSlotInRange}
+use Rattle.clone_recover.specs.declared.refusal.Damage.{Damage}
+use Rattle.clone_recover.specs.declared.refusal.Damage.TheVariants.{Redo, Undo}
+use Rattle.clone_recover.specs.declared.refusal.RecoverRefusal.TheVariants.{Damaged}
+
+-- a log replays to one image
+abbrev pub Once : Type 0
+Once = (bytes : List ℕ) (i j : Image) → Replays bytes i → Replays bytes j → i ≡ j
+
+-- each undo slot of an image that is in use has records in their ranges
+abbrev pub HasRanges : Image → Type 0
+HasRanges image = (s : ℕ) (slot : UndoSlot) → s < slot_count → undo_slot_of image s ≡ Some slot → AllByRecursion IsEntry slot.records
+
+rows_after : (f : Image → Image) (left was image : Image) (rows : Rows) → image ≡ f left → left ≡ was → HasRows (page_of (f was)) rows → HasRows (page_of image) rows
+rows_after f left was image rows is same has = subst (λ (i : Image). HasRows (page_of i) rows) (sym (is ∙ ap f same)) has
+
+pub rows_recovered : (log bytes : List ℕ) (was image : Image) (rows : Rows) → bytes ≡ log → Once → Replays log was → HasRows (page_of (recovered was)) rows → Recovers bytes image → HasRows (page_of image) rows
+rows_recovered log bytes was image rows same once replays has is =
+    let of_log : Recovers log image = subst (λ (b : List ℕ). Recovers b image) same is in
+    rows_after recovered of_log.left was image rows of_log.is (once log of_log.left was (record { log = of_log.log; made = of_log.made }) replays) has
+
+slot_in_range : (found : Option UndoSlot) → ((slot : UndoSlot) → found ≡ Some slot → AllByRecursion IsEntry slot.records) → IsSlotInRange found
+slot_in_range None is = tt
+slot_in_range (Some slot) is = is slot refl
+
+not_damaged : (log : List ℕ) (was : Image) (damage : Damage) → Once → Replays log was → HasRanges was → IsCause log (Damaged damage) → ⊥
+not_damaged log was Redo once replays ranges cause = cause replays.log
+not_damaged log was (Undo s) once replays ranges cause =
+    let same : replayed cause.log.mtrs ≡ was = once log (replayed cause.log.mtrs) was (record { log = cause.log; made = refl }) replays in
+    cause.first.damaged (subst (λ (i : Image). IsSlotInRange (undo_slot_of i s)) (sym same) (slot_in_range (undo_slot_of was s) (λ slot is. ranges s slot cause.first.below is)))
+
+pub no_damage : (log bytes : List ℕ) (was : Image) (damage : Damage) → bytes ≡ log → Once → Replays log was → HasRanges was → IsCause bytes (Damaged damage) → ⊥
+no_damage log bytes was damage same once replays ranges cause = not_damaged log was damage once replays ranges (subst (λ (b : List ℕ). IsCause b (Damaged damage)) same cause)
