@@ -6,12 +6,13 @@ use Rattle.clone_outside.specs.declared.Refusal.{Refusal}
 use Rattle.clone_outside.specs.declared.Refusal.TheVariants.{Fault, NoMemory}
 use Rattle.clone_model.specs.Texts.{ended, binlog_text}
 use Rattle.clone_model.specs.declared.line.Line.{Line}
-use Rattle.clone_plain.specs.Runs.{Text, output}
+use Rattle.clone_plain.specs.Answers.{Text}
+use Rattle.clone_plain.specs.Runs.{output}
 use Rattle.clone_plain.proofs.Headline.{commits_of_run, stop_of_run}
 use Rattle.clone_prog.specs.declared.status.Status.{Status}
 use Rattle.clone_prog.specs.declared.status.Status.TheVariants.{Done}
 use Rattle.clone_prog.specs.Status.{status_of}
-use Rattle.clone_prog.specs.Script.{IsScript, longest_script}
+use Rattle.clone_script.specs.Script.{IsScript, longest_script}
 use Rattle.clone_prog.specs.Carrying.{Finished, Stopped, in_lines, in_binlog}
 use Rattle.clone_prog.specs.Saying.{Says}
 use Rattle.clone_prog.specs.Main.{Ends, IsCommand, Gave, GaveAll, Defined, Front, Outcome, Said, some_lines, all_lines}
@@ -49,10 +50,10 @@ done words old new script lines command gave read is = (
 -- what was written where a run of the lines stopped
 front : (words : List (List ℕ)) (old new : Ends) (script : List ℕ) (lines : List Line) → IsCommand words → GaveAll old new script → IsScript script lines
     → Stopped lines old.out.told new.out.told old.binlog.told new.binlog.told → Front words old new
-front words old new script lines command gave read (in_lines final is same) =
-    inr (output is.answers, [], some_lines command script lines is.answers final gave read is.carried refl refl, inl (is.out, same))
+front words old new script lines command gave read (in_lines is same) =
+    inr (output is.answers, [], some_lines command script lines is.answers is.final gave read is.carried refl refl, inl (is.out, same))
 front words old new script lines command gave read (in_binlog final is some) =
-    inr (output is.answers, binlog_text final.history, all_lines command script lines is.answers final gave read is.run refl refl, inr (is.out, some))
+    inr (output is.answers, binlog_text final.donor.history, all_lines command script lines is.answers final gave read is.run refl refl, inr (is.out, some))
 
 -- a run of the lines stopped
 pub given_up : (words : List (List ℕ)) (old new : Ends) (script : List ℕ) (lines : List Line) (refusal : Refusal) (got : Status) → IsCommand words → GaveAll old new script → IsScript script lines

@@ -1,9 +1,12 @@
 -- How far a run has come: what was carried out, and what of its answers was written.
-use Rattle.std.proofs.Common.{◌≡◌, ℕ, ◌+◌, ◌≤◌, ◌<◌, List, [], ◌∷◌, ◌++◌, length, take, drop, get_or, refl, sym, ap, ◌∙◌, subst, Some, None, Result, Ok, Err, OnOk, OnErr, append_assoc, arith}
+use Rattle.std.proofs.Common.{◌≡◌, ℕ, ◌+◌, ◌≤◌, ◌<◌, List, [], ◌∷◌, ◌++◌, length, take, drop, get_or, refl, sym, ap, ◌∙◌, subst, Some, None, Result, Ok, Err, OnOk, OnErr, IsErrOf, IsErrAnd, append_assoc, arith}
 use Rattle.std.proofs.lemmas.List.{take_more, take-append-drop, append-nil, take_all, length-take}
 use Rattle.std.proofs.Math.Seq.{take-length, take-append-add}
 use Rattle.std.specs.declared.option.Option.{Option}
 use Rattle.clone_outside.specs.Bytes.{appended, TakesSome}
+use Rattle.clone_outside.specs.Causes.{HasCause, Rose}
+use Rattle.clone_outside.specs.declared.Refusal.{Refusal}
+use Rattle.clone_outside.specs.declared.Refusal.TheVariants.{Fault, NoMemory}
 use Rattle.clone_model.specs.Texts.{ended, binlog_text}
 use Rattle.clone_model.specs.declared.line.Line.{Line}
 use Rattle.clone_plain.specs.Plain.{Plain, opened, IsWithin}
@@ -52,18 +55,19 @@ one_more lines i l w u old now new at lt far next =
     }
 
 -- it stopped at line i
-pub stopped : (lines : List Line) (i : ℕ) (l : Line) (w u : Plain) (old now new : Option (List ℕ)) → l ≡ get_or lines i l → i < length lines → Sofar lines i w old now → StoppedAtLine l w u now new → AnsweredSome lines u old new
-stopped lines i l w u old now new at lt far (before_it world out) =
-    let P : Plain → Type 0 = Runs opened (take i lines) far.answers in
+pub stopped : (lines : List Line) (i : ℕ) (l : Line) (w : Plain) (old now new : Option (List ℕ)) → l ≡ get_or lines i l → i < length lines → Sofar lines i w old now → StoppedAtLine l w now new → AnsweredSome lines old new
+stopped lines i l w old now new at lt far (before_it out) =
     record {
       answers = far.answers;
-      carried = record { carried = take i lines; rest = drop i lines; split = sym (take-append-drop i lines); run = subst P (sym world) far.run };
+      final = w;
+      carried = record { carried = take i lines; rest = drop i lines; split = sym (take-append-drop i lines); run = far.run };
       out = all_taken old new (output far.answers) (out ∙ far.out);
     }
-stopped lines i l w u old now new at lt far (behind_it answer step out) =
+stopped lines i l w old now new at lt far (behind_it answer u step out) =
     let P : List ℕ → Type 0 = TakesSome old new in
     record {
       answers = far.answers ++ answer ∷ [];
+      final = u;
       carried = record {
         carried = take i lines ++ l ∷ [];
         rest = drop (i + 1) lines;
@@ -81,16 +85,29 @@ at_end lines i w old now le far = let P : List Line → Type 0 = λ ls. Answered
 pub within : (lines : List Line) (i n : ℕ) (w : Plain) (old now : Option (List ℕ)) → Sofar lines i w old now → i ≤ n → IsWithin n w
 within lines i n w old now far le = Runs-IsWithin (take i lines) far.answers w n far.run (omega (arith, length-take i lines))
 
+err_same : {U : Type 0} (x y : Refusal) → ◌≡◌ {A = Result U Refusal} (Err x) (Err y) → x ≡ y
+err_same x y same = cc
+
+-- a fault that is handed on has its cause
+pub fault_kept : {T U : Type 0} (before now : ℕ) (refusal : Refusal) (answer : Result U Refusal) → HasCause {T = T} before now (Err refusal) → IsErrAnd answer (λ e. e ≡ refusal) → IsErrOf answer Fault → Rose before now
+fault_kept before now refusal (Ok x) cause is fault = absurd is
+fault_kept before now refusal (Err e) cause is fault = cause.fault (ap Err (sym is ∙ err_same e Fault fault))
+
+-- want of memory is no fault
+pub no_fault : {U : Type 0} (answer : Result U Refusal) → IsErrAnd answer (λ e. e ≡ NoMemory) → IsErrOf answer Fault → ⊥
+no_fault (Ok x) is fault = absurd is
+no_fault (Err e) is fault = let both = ap Err (sym is) ∙ fault in cc
+
 pub on_err : {T E P : Type 0} (r : Result T E) → P → OnErr r P
 on_err (Ok x) p = tt
 on_err (Err e) p = p
 
 -- none of the lines was carried out
-pub none_answered : (lines : List Line) (old : Option (List ℕ)) → AnsweredSome lines opened old old
-none_answered lines old = record { answers = []; carried = record { carried = []; rest = lines; split = refl; run = refl }; out = nothing_taken old old [] refl }
+pub none_answered : (lines : List Line) (old : Option (List ℕ)) → AnsweredSome lines old old
+none_answered lines old = record { answers = []; final = opened; carried = record { carried = []; rest = lines; split = refl; run = refl }; out = nothing_taken old old [] refl }
 
 -- the lines were carried out, and where the binlog was written, all is done
-pub finished : {T E : Type 0} (r : Result T E) (lines : List Line) (final : Plain) (out_old out_new binlog_old binlog_new : Option (List ℕ)) (text : List ℕ) → AnsweredAll lines final out_old out_new → text ≡ binlog_text final.history
+pub finished : {T E : Type 0} (r : Result T E) (lines : List Line) (final : Plain) (out_old out_new binlog_old binlog_new : Option (List ℕ)) (text : List ℕ) → AnsweredAll lines final out_old out_new → text ≡ binlog_text final.donor.history
     → OnOk r (binlog_new ≡ appended binlog_old text) → OnOk r (Finished lines out_old out_new binlog_old binlog_new)
 finished (Ok x) lines final out_old out_new binlog_old binlog_new text answered is all = record { final = final; answered = answered; binlog = all ∙ ap (appended binlog_old) is }
 finished (Err e) lines final out_old out_new binlog_old binlog_new text answered is all = tt

@@ -4,8 +4,9 @@ use Rattle.std.specs.declared.option.Option.{Option}
 use Rattle.clone_outside.specs.Bytes.{appended, TakesSome}
 use Rattle.clone_model.specs.Texts.{ended, binlog_text}
 use Rattle.clone_model.specs.declared.line.Line.{Line}
+use Rattle.clone_plain.specs.Answers.{Text}
 use Rattle.clone_plain.specs.Plain.{Plain, opened}
-use Rattle.clone_plain.specs.Runs.{Text, Step, Runs, output}
+use Rattle.clone_plain.specs.Runs.{Step, Runs, output}
 use Rattle.clone_prog.specs.Main.{Carried}
 
 -- the line was carried out, and its whole answer was written
@@ -14,10 +15,10 @@ pub record Answered (line : Line) (before after : Plain) (old new : Option (List
   pub step : Step before line answer after
   pub out : new ≡ appended old (ended answer)
 
--- nothing happened, or the line was carried out and a front of its answer was written
-pub data StoppedAtLine (line : Line) (before after : Plain) (old new : Option (List ℕ)) : Type 0 where
-  before_it : after ≡ before → new ≡ old → StoppedAtLine line before after old new
-  behind_it : (answer : Text) → Step before line answer after → TakesSome old new (ended answer) → StoppedAtLine line before after old new
+-- Memory ran out in the line, and nothing was written. Or the line was carried out, and a front of its answer was written.
+pub data StoppedAtLine (line : Line) (before : Plain) (old new : Option (List ℕ)) : Type 0 where
+  before_it : new ≡ old → StoppedAtLine line before old new
+  behind_it : (answer : Text) (after : Plain) → Step before line answer after → TakesSome old new (ended answer) → StoppedAtLine line before old new
 
 -- all lines were carried out, and all of their answers were written
 pub record AnsweredAll (lines : List Line) (final : Plain) (old new : Option (List ℕ)) : Type 0 where
@@ -26,8 +27,9 @@ pub record AnsweredAll (lines : List Line) (final : Plain) (old new : Option (Li
   pub out : new ≡ appended old (output answers)
 
 -- some of the lines were carried out, and a front of their answers was written
-pub record AnsweredSome (lines : List Line) (final : Plain) (old new : Option (List ℕ)) : Type 0 where
+pub record AnsweredSome (lines : List Line) (old new : Option (List ℕ)) : Type 0 where
   pub answers : List Text
+  pub final : Plain
   pub carried : Carried lines answers final
   pub out : TakesSome old new (output answers)
 
@@ -35,9 +37,9 @@ pub record AnsweredSome (lines : List Line) (final : Plain) (old new : Option (L
 pub record Finished (lines : List Line) (out_old out_new binlog_old binlog_new : Option (List ℕ)) : Type 0 where
   pub final : Plain
   pub answered : AnsweredAll lines final out_old out_new
-  pub binlog : binlog_new ≡ appended binlog_old (binlog_text final.history)
+  pub binlog : binlog_new ≡ appended binlog_old (binlog_text final.donor.history)
 
 -- it stopped in the lines, or behind them in the binlog
 pub data Stopped (lines : List Line) (out_old out_new binlog_old binlog_new : Option (List ℕ)) : Type 0 where
-  in_lines : (final : Plain) → AnsweredSome lines final out_old out_new → binlog_new ≡ binlog_old → Stopped lines out_old out_new binlog_old binlog_new
-  in_binlog : (final : Plain) → AnsweredAll lines final out_old out_new → TakesSome binlog_old binlog_new (binlog_text final.history) → Stopped lines out_old out_new binlog_old binlog_new
+  in_lines : AnsweredSome lines out_old out_new → binlog_new ≡ binlog_old → Stopped lines out_old out_new binlog_old binlog_new
+  in_binlog : (final : Plain) → AnsweredAll lines final out_old out_new → TakesSome binlog_old binlog_new (binlog_text final.donor.history) → Stopped lines out_old out_new binlog_old binlog_new

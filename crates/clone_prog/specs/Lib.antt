@@ -1,5 +1,3 @@
-pub mod Script
-pub mod Reading
 pub mod Status
 pub mod Main
 pub mod Carrying

@@ -6,12 +6,13 @@ use Rattle.clone_outside.specs.Causes.{Rose}
 use Rattle.clone_outside.specs.Bytes.{appended, prepended, IsSpent, TakesSome}
 use Rattle.clone_model.specs.Texts.{ended, binlog_text}
 use Rattle.clone_model.specs.declared.line.Line.{Line}
+use Rattle.clone_plain.specs.Answers.{Text}
 use Rattle.clone_plain.specs.Plain.{Plain, opened}
-use Rattle.clone_plain.specs.Runs.{Text, Runs, output}
+use Rattle.clone_plain.specs.Runs.{Runs, output}
 use Rattle.clone_plain.specs.Headline.{AreCommits, ShowsStop}
 use Rattle.clone_prog.specs.declared.status.Status.{Status}
 use Rattle.clone_prog.specs.declared.status.Status.TheVariants.{Done, Memory, Usage, BadLine, SourceFault, SinkFault, TooLong}
-use Rattle.clone_prog.specs.Script.{longest_script, IsScript, IsFirstBad}
+use Rattle.clone_script.specs.Script.{longest_script, IsScript, IsFirstBad}
 
 -- what is told of a source or a sink, and how often it has failed
 pub record End : Type 0 where
@@ -55,7 +56,7 @@ pub record Said (before after : Ends) (text : Text) : Type 0 where
   pub out : after.out.told ≡ appended before.out.told (ended text)
   pub binlog : after.binlog.told ≡ before.binlog.told
 
--- The script was carried out to its end. The output is the answers of its lines, which are a run of the plain donor, and the binlog is the text of the commits of that run. These commits are the `set` lines that were answered `committed`, in order, each whole. Where `clone` answered position n, each `rows` behind it showed exactly the rows that the first n of these commits leave, in ascending order.
+-- The script was carried out to its end. The output is the answers of its lines, which are a run of the plain donor, and the binlog is the text of the commits of that run. These commits are those of the `commit` and `set` lines that were answered `committed`, in order, each whole. Where `clone` answered position n, each `rows` behind it showed exactly the rows that the first n of these commits leave, in ascending order, and nothing of a transaction that was open then.
 pub record Steps (before after : Ends) : Type 0 where
   pub script : List ℕ
   pub lines : List Line
@@ -64,10 +65,10 @@ pub record Steps (before after : Ends) : Type 0 where
   pub gave : GaveAll before after script
   pub read : IsScript script lines
   pub run : Runs opened lines answers final
-  pub commits : AreCommits 0 lines answers final.history
-  pub clone : ShowsStop final.history None lines answers
+  pub commits : AreCommits 0 lines answers final.donor.history
+  pub clone : ShowsStop final.donor.history None lines answers
   pub out : after.out.told ≡ appended before.out.told (output answers)
-  pub binlog : after.binlog.told ≡ appended before.binlog.told (binlog_text final.history)
+  pub binlog : after.binlog.told ≡ appended before.binlog.told (binlog_text final.donor.history)
 
 -- What the program had to write to its output and to its binlog, as far as that is determined by what it was given.
 pub data Defined (words : List (List ℕ)) (before after : Ends) (out binlog : List ℕ) : Type 0 where
@@ -80,7 +81,7 @@ pub data Defined (words : List (List ℕ)) (before after : Ends) (out binlog : L
       → out ≡ output answers → binlog ≡ [] → Defined words before after out binlog
   -- all of the lines, and then the binlog
   all_lines : IsCommand words → (script : List ℕ) (all : List Line) (answers : List Text) (final : Plain) → GaveAll before after script → IsScript script all → Runs opened all answers final
-      → out ≡ output answers → binlog ≡ binlog_text final.history → Defined words before after out binlog
+      → out ≡ output answers → binlog ≡ binlog_text final.donor.history → Defined words before after out binlog
 
 -- a front of the output and nothing of the binlog, or the whole output and a front of the binlog
 abbrev pub TakesInOrder : Ends → Ends → List ℕ → List ℕ → Type 0

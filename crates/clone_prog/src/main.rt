@@ -4,7 +4,6 @@
 mod adapters;
 mod read;
 mod run;
-mod script;
 mod status;
 #[cfg(test)]
 mod tests;

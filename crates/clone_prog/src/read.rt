@@ -2,7 +2,7 @@ ghost use Rattle.std.specs.Prelude.{◌≡◌, ◌≤◌, ◌<◌, List, ℕ, On
 ghost use Rattle.clone_outside.specs.Bytes.{prepended, IsSpent};
 ghost use Rattle.clone_outside.specs.Causes.{Rose};
 ghost use Rattle.clone_outside.specs.declared.Refusal.TheVariants.{NoMemory};
-ghost use Rattle.clone_prog.specs.Script.{longest_script};
+ghost use Rattle.clone_script.specs.Script.{longest_script};
 ghost use Rattle.clone_prog.specs.Stops.{stop_of};
 
 use clone_outside::{Refusal, Source};

@@ -4,19 +4,18 @@ ghost use Rattle.std.specs.String.{string_bytes};
 ghost use Rattle.clone_outside.specs.Bytes.{appended, TakesSome};
 ghost use Rattle.clone_outside.specs.Causes.{HasCause, Rose};
 ghost use Rattle.clone_model.specs.Texts.{ended};
-ghost use Rattle.clone_plain.specs.Plain.{opened, MayStep, IsWithin};
+ghost use Rattle.clone_plain.specs.Plain.{opened, IsWithin};
 ghost use Rattle.clone_prog.specs.Carrying.{Answered, AnsweredAll, AnsweredSome, Finished, Stopped, StoppedAtLine};
 ghost use Rattle.clone_prog.specs.Main.{IsCommand, Outcome, ends};
 ghost use Rattle.clone_prog.specs.Saying.{Says};
-ghost use Rattle.clone_prog.specs.Script.{IsScript};
 ghost use Rattle.clone_prog.specs.Status.{number_of};
 
 use crate::read::{ReadStop, read_all};
-use crate::script::{ReadRefusal, read_script};
 use crate::status::Status;
 use clone_core::World;
 use clone_model::{Line, binlog_text};
 use clone_outside::{Refusal, Sink, Source, write_all};
+use clone_script::{ReadRefusal, read_script};
 use std::alloc::Global;
 
 /// Runs the program: reads the script that the words ask for from the source, carries out its lines,
@@ -74,7 +73,6 @@ fn run_lines<K: Sink, B: Sink>(
     out: &mut K,
     binlog: &mut B,
 ) -> Result<(), Refusal>
-    requires { (script : List ℕ) × IsScript script lines.now }
     ensures ok { OnOk result (Finished lines.now (K.taken out.old) (K.taken out.new) (B.taken binlog.old) (B.taken binlog.new)) }
     ensures err { OnErr result (Stopped lines.now (K.taken out.old) (K.taken out.new) (B.taken binlog.old) (B.taken binlog.new)) }
     ensures fault { IsErrOf result Refusal.Fault → Rose (K.failures out.old) (K.failures out.new) ⊎ Rose (B.failures binlog.old) (B.failures binlog.new) }
@@ -92,10 +90,9 @@ fn carry_out<K: Sink>(
     out: &mut K,
     world: &mut World,
 ) -> Result<(), Refusal>
-    requires start { world.old ≡ opened }
-    requires script { (script : List ℕ) × IsScript script lines.now }
+    requires { world.old ≡ opened }
     ensures ok { OnOk result (AnsweredAll lines.now world.new (K.taken out.old) (K.taken out.new)) }
-    ensures err { OnErr result (AnsweredSome lines.now world.new (K.taken out.old) (K.taken out.new)) }
+    ensures err { OnErr result (AnsweredSome lines.now (K.taken out.old) (K.taken out.new)) }
     ensures cause { HasCause (K.failures out.old) (K.failures out.new) result }
 {
     for line in lines {
@@ -111,10 +108,9 @@ fn carry_one<K: Sink>(
     out: &mut K,
     world: &mut World,
 ) -> Result<(), Refusal>
-    requires may { MayStep world.old line.now }
-    requires within { IsWithin (2 ^ 63 - 1) world.old }
+    requires { IsWithin (2 ^ 63 - 1) world.old }
     ensures ok { OnOk result (Answered line.now world.old world.new (K.taken out.old) (K.taken out.new)) }
-    ensures err { OnErr result (StoppedAtLine line.now world.old world.new (K.taken out.old) (K.taken out.new)) }
+    ensures err { OnErr result (StoppedAtLine line.now world.old (K.taken out.old) (K.taken out.new)) }
     ensures cause { HasCause (K.failures out.old) (K.failures out.new) result }
 {
     let mut answer = world.event(alloc, line)?;

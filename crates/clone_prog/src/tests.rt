@@ -108,6 +108,48 @@ fn carries_out_scripts(rt: HostRuntime) -> Result<(), Fail> {
             "created\ncommitted 1\ncomplete position 1\n1 0 00112233445566778899aabbccddeeff00112233445566778899aabbccddeeff00112233445566778899aabbccddeeff00112233445566778899aabbccddeeff\nrows 1\n",
             "commit 0 0 1\n1 0 00112233445566778899aabbccddeeff00112233445566778899aabbccddeeff00112233445566778899aabbccddeeff00112233445566778899aabbccddeeff\n",
         ),
+        // a table that was made twice, and one that was never made
+        (
+            "create 1 4\ncreate 1 2\nset 0 2 7 61\nset 0 1 7 6869\nclone\nrows\n",
+            0,
+            "created\nrefused E3\nrefused E2\ncommitted 1\ncomplete position 1\n1 7 6869\nrows 1\n",
+            "commit 0 1 1\n1 7 6869\n",
+        ),
+        // the change of a transaction that is open at the stop is not in the clone
+        (
+            "create 1 4\nset 0 1 5 aa\nbegin 1\nput 0 1 5 bb\nclone\nrows\ncommit 0\nrows\n",
+            0,
+            "created\ncommitted 1\ntrx 0\nok\ncomplete position 1\n1 5 aa\nrows 1\ncommitted 2\n1 5 aa\nrows 1\n",
+            "commit 0 0 1\n1 5 aa\ncommit 1 0 1\n1 5 bb\n",
+        ),
+        // a transaction sees its own changes, and a removal is in the binlog
+        (
+            "create 1 4\nset 0 1 7 61\nbegin 0\nget 0 1 7\ndel 0 1 7\nget 0 1 7\nput 0 1 8 -\nget 0 1 8\ndel 0 1 9\ncommit 0\nclone\nrows\n",
+            0,
+            "created\ncommitted 1\ntrx 0\nvalue 61\nok\nnone\nok\nvalue -\nok\ncommitted 2\ncomplete position 2\n1 8 -\nrows 1\n",
+            "commit 0 0 1\n1 7 61\ncommit 0 1 3\n1 7 none\n1 8 -\n1 9 none\n",
+        ),
+        // the transaction of a refused `set` stays open and has its index
+        (
+            "create 1 4\nset 0 2 7 61\nbegin 0\ncommit 1\nset 0 1 7 61\ncommit 0\n",
+            0,
+            "created\nrefused E2\ntrx 1\ncommitted 1\ncommitted 2\ncommitted 3\n",
+            "commit 0 1 0\ncommit 0 2 1\n1 7 61\ncommit 0 0 0\n",
+        ),
+        // the locks of a transaction, and their end
+        (
+            "put 0 1 1 aa\nbegin 0\nput 0 1 1 aa\ncreate 1 1\ncreate 1 1\nput 0 1 1 aa\nbegin 1\nput 1 1 1 bb\nget 1 1 1\nget 1 1 2\nundo 0\nput 1 1 1 bb\nundo 0\nput 1 1 1 bb\nundo 0\n",
+            0,
+            "refused E1\ntrx 0\nrefused E2\ncreated\nrefused E3\nok\ntrx 1\nrefused E4 0\nrefused E4 0\nnone\nundone 0\nrefused E4 0\nended\nok\nrefused E1\n",
+            "",
+        ),
+        // rows of two tables, in the order of tables and then of keys
+        (
+            "create 2 1\ncreate 1 1\nset 0 2 1 61\nset 0 1 2 62\nset 0 1 1 63\nclone\nrows\n",
+            0,
+            "created\ncreated\ncommitted 1\ncommitted 2\ncommitted 3\ncomplete position 3\n1 1 63\n1 2 62\n2 1 61\nrows 3\n",
+            "commit 0 0 1\n2 1 61\ncommit 0 1 1\n1 2 62\ncommit 0 2 1\n1 1 63\n",
+        ),
     ];
     for (script, status, out, binlog) in cases {
         run(rt.alloc(), &["steps"], script.as_bytes())?.expect(&rt, status, out, binlog);
@@ -131,14 +173,8 @@ fn names_the_first_bad_line(rt: HostRuntime) -> Result<(), Fail> {
             "bad line 4\n",
         ),
         (b"create 1 4\nrows\xc3\xa9\n", "bad line 2\n"),
-        (b"create 1 4\nclone\ncreate 1 4\n", "bad line 3\n"),
-        (b"set 0 1 7 61\ncreate 1 4\n", "bad line 1\n"),
-        (b"create 2 4\n", "bad line 1\n"),
-        (b"create 1 4\nset 0 2 7 61\n", "bad line 2\n"),
-        (
-            b"create 1 4\nset 0 1 0 0011223344556677889900112233445566778899001122334455667788990011223344556677889900112233445566778899001122334455667788990011223344\n",
-            "bad line 2\n",
-        ),
+        (b"create 1 4\nbegin 0\nput 0 1 7\n", "bad line 3\n"),
+        (b"undo\n", "bad line 1\n"),
     ];
     for (script, out) in cases {
         run(rt.alloc(), &["steps"], script)?.expect(&rt, 3, out, "");
@@ -199,6 +235,105 @@ fn goes_on_beside_a_full_bucket(rt: HostRuntime) -> Result<(), Fail> {
     write!(binlog, "commit 0 51 1\n1 1 62\ncommit 0 52 1\n1 98 63\n")?;
     let ended = run(alloc, &["steps"], script.as_bytes())?;
     ended.expect(&rt, 0, out.as_str(), binlog.as_str());
+    Ok(())
+}
+
+// The lines of a transaction of writer 0 that makes as many changes as it may, and their answers.
+struct MostChanges {
+    script: String,
+    out: String,
+}
+
+// The binlog's lines of these changes.
+const LONG_CHANGES: &str =
+    "1 18446744073709551615 -\n1 1 abababababababababababababababababababababababababababababababababababababababababababababababababababababababababababababababab\n";
+
+fn most_changes(alloc: Global) -> Result<MostChanges, AllocError> {
+    let mut script = String::from_str(
+        alloc,
+        "create 1 4\nbegin 0\nput 0 1 18446744073709551615 -\n",
+    )?;
+    let mut out = String::from_str(alloc, "created\ntrx 0\nok\n")?;
+    let longest =
+        "abababababababababababababababababababababababababababababababababababababababababababababababababababababababababababababababab";
+    write!(script, "put 0 1 1 {longest}\nput 0 1 1 {longest}ab\n")?;
+    out.push_str("ok\nrefused E5\n")?;
+    for _ in 0..158 {
+        script.push_str("put 0 1 2 aa\n")?;
+        out.push_str("ok\n")?;
+    }
+    script.push_str("put 0 1 2 bb\nget 0 1 18446744073709551615\n")?;
+    out.push_str("refused E6\nvalue -\n")?;
+    Ok(MostChanges { script, out })
+}
+
+#[test]
+fn commits_the_most_changes(rt: HostRuntime) -> Result<(), Fail> {
+    let alloc = rt.alloc();
+    let MostChanges {
+        mut script,
+        mut out,
+    } = most_changes(alloc)?;
+    script.push_str("commit 0\nclone\nrows\n")?;
+    out.push_str("committed 1\ncomplete position 1\n")?;
+    out.push_str(
+        "1 1 abababababababababababababababababababababababababababababababababababababababababababababababababababababababababababababababab\n1 2 aa\n1 18446744073709551615 -\nrows 3\n",
+    )?;
+    let mut binlog = String::from_str(alloc, "commit 0 0 160\n")?;
+    binlog.push_str(LONG_CHANGES)?;
+    for _ in 0..158 {
+        binlog.push_str("1 2 aa\n")?;
+    }
+    run(alloc, &["steps"], script.as_bytes())?.expect(&rt, 0, out.as_str(), binlog.as_str());
+    Ok(())
+}
+
+#[test]
+fn takes_back_the_most_changes(rt: HostRuntime) -> Result<(), Fail> {
+    let alloc = rt.alloc();
+    let MostChanges {
+        mut script,
+        mut out,
+    } = most_changes(alloc)?;
+    for left in (0..160u32).rev() {
+        script.push_str("undo 0\n")?;
+        write!(out, "undone {left}\n")?;
+    }
+    script.push_str("undo 0\nclone\nrows\n")?;
+    out.push_str("ended\ncomplete position 0\nrows 0\n")?;
+    run(alloc, &["steps"], script.as_bytes())?.expect(&rt, 0, out.as_str(), "");
+    Ok(())
+}
+
+#[test]
+fn refuses_one_transaction_too_many(rt: HostRuntime) -> Result<(), Fail> {
+    let alloc = rt.alloc();
+    let mut script = String::from_str(alloc, "create 1 1\n")?;
+    let mut out = String::from_str(alloc, "created\n")?;
+    for trx in 0..64u32 {
+        script.push_str("begin 0\n")?;
+        write!(out, "trx {trx}\n")?;
+    }
+    script.push_str("begin 0\nset 0 1 1 aa\ncommit 9\nset 0 1 1 aa\n")?;
+    out.push_str("refused E10\nrefused E10\ncommitted 1\ncommitted 2\n")?;
+    let binlog = "commit 0 9 0\ncommit 0 64 1\n1 1 aa\n";
+    run(alloc, &["steps"], script.as_bytes())?.expect(&rt, 0, out.as_str(), binlog);
+    Ok(())
+}
+
+#[test]
+fn refuses_one_table_too_many(rt: HostRuntime) -> Result<(), Fail> {
+    let alloc = rt.alloc();
+    let mut script = String::new(alloc);
+    let mut out = String::new(alloc);
+    for table in 1..=62u32 {
+        write!(script, "create {table} 1\n")?;
+        out.push_str("created\n")?;
+    }
+    script.push_str("create 63 1\ncreate 62 1\nset 0 62 1 aa\nclone\nrows\n")?;
+    out.push_str("refused E11\nrefused E3\ncommitted 1\ncomplete position 1\n62 1 aa\nrows 1\n")?;
+    let binlog = "commit 0 0 1\n62 1 aa\n";
+    run(alloc, &["steps"], script.as_bytes())?.expect(&rt, 0, out.as_str(), binlog);
     Ok(())
 }
 

@@ -1,16 +1,12 @@
 use Rattle.std.proofs.Common.{arith, ◌≤◌, length}
-use Rattle.clone_prog.proofs.Order.{script_may_step}
 use Rattle.clone_prog.proofs.Running.{within, one_more, stopped, at_end, on_err}
 use Rattle.clone_prog.proofs.run.carry_out.Goals as goal
 
-pub carry_one-requires-clause-may : goal.carry_one-requires-clause-may
-carry_one-requires-clause-may g c = script_may_step _ c.requires.script _ _ _ _ c.line-item.is c.loop-line-test.true c.loop-line.invariant.0.run
-
-pub carry_one-requires-clause-within : goal.carry_one-requires-clause-within
-carry_one-requires-clause-within g c = within _ _ _ _ _ _ c.loop-line.invariant.0 (omega arith)
+pub carry_one-requires : goal.carry_one-requires
+carry_one-requires g c = within _ _ _ _ _ _ c.loop-line.invariant.0 (omega arith)
 
 pub returns-in_err-carry_one-clause-err : goal.returns-in_err-carry_one-clause-err
-returns-in_err-carry_one-clause-err g c = on_err _ (stopped _ _ _ _ _ _ _ _ c.line-item.is c.loop-line-test.true c.loop-line.invariant.0 c.in_err-carry_one.ensures.err)
+returns-in_err-carry_one-clause-err g c = on_err _ (stopped _ _ _ _ _ _ _ c.line-item.is c.loop-line-test.true c.loop-line.invariant.0 c.in_err-carry_one.ensures.err)
 
 pub loop-line-preserved : goal.loop-line-preserved
 loop-line-preserved g c =

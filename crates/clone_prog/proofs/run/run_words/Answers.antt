@@ -1,8 +1,8 @@
 use Rattle.std.proofs.Common.{refl, rules, ap, Err, subst, List, ℕ}
-use Rattle.clone_prog.specs.declared.script.ReadRefusal.{ReadRefusal}
+use Rattle.clone_script.specs.declared.read.ReadRefusal.{ReadRefusal}
 use Rattle.clone_prog.specs.declared.status.Status.TheVariants.{TooLong, BadLine}
 use Rattle.clone_prog.specs.Main.{too_long, bad_line}
-use Rattle.clone_prog.specs.Reading.{Reads}
+use Rattle.clone_script.specs.Reading.{Reads}
 use Rattle.clone_prog.proofs.Ending.{all_given, same_script, said, done, given_up}
 use Rattle.clone_prog.proofs.run.run_words.Goals as goal
 

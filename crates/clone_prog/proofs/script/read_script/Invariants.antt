@@ -1,9 +1,0 @@
-use Rattle.std.proofs.Common.{length}
-use Rattle.clone_prog.proofs.ReadLines.{HasRead}
-use Rattle.clone_prog.proofs.script.read_script.Given as goal
-
-abbrev pub invariant-loop-rest : goal.invariant-loop-rest
-invariant-loop-rest l = HasRead l.bytes l.lines.items l.number l.rest
-
-abbrev pub decreases-loop-rest : goal.decreases-loop-rest
-decreases-loop-rest l = length l.rest
