@@ -1,6 +1,9 @@
 #!/bin/sh
-# Runs scripts of 2,000, 8,000 and 32,000 `set` lines, each with a clone and its rows at the end, and
-# prints for each how many lines a second were carried out and how much memory was in use at most.
+# Times scripts of 2,000, 8,000 and 32,000 lines: `set` lines, and transactions of 1, 16 and 160 changes
+# each with their `begin`, `put` and `commit` lines. All are over one table of 1,024 buckets with at most
+# 32 keys a bucket, and end with a clone and its rows. Prints for each script the median of the seconds of
+# processor time of five runs, in which the program waits for nothing, and the memory that is in use at
+# most; and then how the cost of a change grows with the script, and how it differs between the kinds.
 
 top=$(cd "$(dirname "$0")/.." && pwd) || exit 1
 scripts=$(mktemp -d) || exit 1
@@ -10,40 +13,108 @@ trap 'rm -rf "$scripts"' EXIT
 "$top/clone" </dev/null >/dev/null
 [ $? -eq 2 ] || exit 1
 
-# So many keys in a row over 1,024 buckets, so that each bucket gets 32 keys at most.
-script() {
-    echo 'create 1 1024'
-    awk -v count="$1" 'BEGIN { for (key = 0; key < count; key++) print "set 0 1 " key " 61" }'
-    echo 'clone'
-    echo 'rows'
-}
-
-for count in 2000 8000 32000; do
-    script "$count" >"$scripts/$count"
-done
-
-python3 - "$top/crates/clone_prog/out/clone_prog" "$scripts" 2000 8000 32000 <<'PYTHON'
+python3 - "$top/crates/clone_prog/out/clone_prog" "$scripts" <<'PYTHON'
 import os
+import resource
+import statistics
+import subprocess
 import sys
-import time
 
-program, scripts, counts = sys.argv[1], sys.argv[2], sys.argv[3:]
-print(f"{'set lines':>10} {'seconds':>10} {'lines/second':>14} {'peak KiB':>10}")
-for count in counts:
-    path = os.path.join(scripts, count)
-    with open(path, "rb") as script:
-        lines = sum(1 for _ in script)
-    begun = time.monotonic()
-    child = os.fork()
-    if child == 0:
-        os.dup2(os.open(path, os.O_RDONLY), 0)
-        nothing = os.open(os.devnull, os.O_WRONLY)
-        os.dup2(nothing, 1)
-        os.dup2(nothing, 2)
-        os.execv(program, [program, "steps"])
-    _, status, usage = os.wait4(child, 0)
-    seconds = time.monotonic() - begun
-    if status != 0:
-        sys.exit(f"{count} set lines: status {os.waitstatus_to_exitcode(status)}")
-    print(f"{count:>10} {seconds:>10.3f} {lines / seconds:>14.0f} {usage.ru_maxrss:>10}")
+KINDS = {"set lines": None, "1 a transaction": 1, "16 a transaction": 16, "160 a transaction": 160}
+COUNTS = [2000, 8000, 32000]
+KEYS = 32768
+RUNS = 5
+
+
+def changes_of(count, size):
+    """How many changes there are in so many lines, and how many each transaction makes."""
+    if size is None:
+        return count, []
+    whole, rest = divmod(count, size + 2)
+    sizes = [size] * whole + [rest - 2] * (rest > 2)
+    return sum(sizes), sizes
+
+
+def script(count, size):
+    """A script with so many lines that change rows, in transactions of this size or each a `set` line."""
+    changes, sizes = changes_of(count, size)
+    keys = (change % KEYS for change in range(changes))
+    lines = ["create 1 1024"]
+    for own in sizes:
+        lines += ["begin 0", *(f"put 0 1 {next(keys)} 61" for _ in range(own)), "commit 0"]
+    lines += [f"set 0 1 {key} 61" for key in keys]
+    return "\n".join([*lines, "clone", "rows", ""])
+
+
+def test(program, path, changes):
+    """Runs a script once, and stops unless each of its changes is a row of the clone."""
+    with open(path, "rb") as source:
+        ran = subprocess.run([program, "steps"], stdin=source, capture_output=True)
+    if ran.returncode != 0 or not ran.stdout.endswith(b"\nrows %d\n" % min(changes, KEYS)):
+        sys.exit(f"{path}: status {ran.returncode}, last line {ran.stdout.splitlines()[-1:]}")
+
+
+def processor_time():
+    """The seconds of processor time of the runs that have ended."""
+    usage = resource.getrusage(resource.RUSAGE_CHILDREN)
+    return usage.ru_utime + usage.ru_stime
+
+
+def time_of(program, path):
+    """The seconds of processor time that a run takes."""
+    before = processor_time()
+    with open(path, "rb") as source:
+        subprocess.run([program, "steps"], stdin=source, stdout=subprocess.DEVNULL, stderr=subprocess.DEVNULL, check=True)
+    return processor_time() - before
+
+
+def peak_of(program, path):
+    """The KiB that a run has in use at most.
+
+    They are read while the program waits in its last write, that of the binlog, since the pipe takes no more."""
+    with open(path, "rb") as source:
+        child = subprocess.Popen(
+            [program, "steps"], stdin=source, stdout=subprocess.DEVNULL, stderr=subprocess.PIPE, bufsize=0, pipesize=4096
+        )
+    child.stderr.read(1)
+    with open(f"/proc/{child.pid}/status") as status:
+        peak = next(int(line.split()[1]) for line in status if line.startswith("VmHWM:"))
+    child.communicate()
+    return peak
+
+
+def measure(program, path, text, changes):
+    """The median of the seconds of a script's runs, and the KiB in use at most."""
+    with open(path, "w") as out:
+        out.write(text)
+    test(program, path, changes)
+    return statistics.median(time_of(program, path) for _ in range(RUNS)), peak_of(program, path)
+
+
+def measure_all(program, path):
+    """Prints a row for each script, and gives the seconds and the microseconds a change of each."""
+    print(f"{'lines':>8} {'kind':>18} {'changes':>8} {'seconds':>9} {'changes/second':>15} {'us/change':>10} {'peak KiB':>10}")
+    costs = {}
+    for kind, size in KINDS.items():
+        for count in COUNTS:
+            changes, _ = changes_of(count, size)
+            taken, peak = measure(program, path, script(count, size), changes)
+            each = taken / changes * 1e6
+            print(f"{count:>8,} {kind:>18} {changes:>8,} {taken:>9.3f} {changes / taken:>15,.0f} {each:>10.2f} {peak:>10,}")
+            costs[kind, count] = taken, each
+    return costs
+
+
+def main(program, folder):
+    costs = measure_all(program, os.path.join(folder, "script"))
+    least, middle, most = COUNTS
+    cheapest = min(costs[kind, most][1] for kind in KINDS)
+    print()
+    print(f"{'kind':>18} {f'us/change {most:,} to {least:,}':>27} {f'seconds {most:,} to {middle:,}':>25} {'us/change to the cheapest':>26}")
+    for kind in KINDS:
+        seconds, each = costs[kind, most]
+        print(f"{kind:>18} {each / costs[kind, least][1]:>27.2f} {seconds / costs[kind, middle][0]:>25.2f} {each / cheapest:>26.2f}")
+
+
+main(*sys.argv[1:])
 PYTHON

@@ -1,0 +1,161 @@
+#!/bin/sh
+# Times a put in one open transaction and in each of 64, over 1 table and over 62. A round commits 64
+# transactions of 160 changes each, either one after the other or all at a time; its puts are on the same
+# 10,240 rows in the same order either way, and over about as many pages. Prints the nanoseconds of
+# processor time that a put costs, with its share of begin and commit, as the median of five times, and
+# how the costs compare. The program that is timed is built in a copy of the crates, since it is no part
+# of what is proved.
+
+top=$(cd "$(dirname "$0")/.." && pwd) || exit 1
+copy=$(mktemp -d) || exit 1
+trap 'rm -rf "$copy"' EXIT
+
+cp -r "$top/crates" "$top/crates.txt" "$top/HANDLES" "$copy" || exit 1
+echo 'clone_bench: clone_model clone_trx' >>"$copy/crates.txt"
+mkdir -p "$copy/crates/clone_bench/src" || exit 1
+cat >"$copy/crates/clone_bench/src/main.rt" <<'PROGRAM'
+//! Makes rounds of changes. The words are how the transactions are open, the number of tables, and the
+//! number of rounds.
+
+use clone_model::{BucketCount, TableNumber};
+use clone_trx::Engine;
+use std::alloc::Global;
+use std::env;
+use std::process::ExitCode;
+
+fn main(rt: HostRuntime) -> ExitCode {
+    let alloc = rt.alloc();
+    let Ok(mut words) = env::args(&rt) else {
+        return ExitCode::from(2);
+    };
+    let (Some(way), Some(tables), Some(rounds)) = (words.nth(1), words.next(), words.next()) else {
+        return ExitCode::from(2);
+    };
+    let (Ok(tables), Ok(rounds)) = (tables.parse::<u32>(), rounds.parse::<u32>()) else {
+        return ExitCode::from(2);
+    };
+    match make_rounds(alloc, way.as_str(), tables, rounds) {
+        Some(()) => ExitCode::from(0),
+        None => ExitCode::from(1),
+    }
+}
+
+fn make_rounds(alloc: Global, way: &str, tables: u32, rounds: u32) -> Option<()> {
+    let mut engine = with_tables(alloc, tables)?;
+    for _ in 0..rounds {
+        match way {
+            "apart" => round_apart(alloc, &mut engine, tables)?,
+            "together" => round_together(alloc, &mut engine, tables)?,
+            _ => return None,
+        }
+    }
+    Some(())
+}
+
+fn with_tables(alloc: Global, tables: u32) -> Option<Engine> {
+    let mut engine = Engine::new(alloc).ok()?;
+    let buckets = BucketCount::new(1024_u32.checked_div(tables)?)?;
+    for before in 0..tables {
+        let table = TableNumber::new(before.wrapping_add(1))?;
+        engine.create(alloc, table, buckets).ok()?;
+    }
+    Some(engine)
+}
+
+fn round_apart(alloc: Global, engine: &mut Engine, tables: u32) -> Option<()> {
+    for writer in 0..64_u32 {
+        let first = writer.wrapping_mul(160);
+        transaction(alloc, engine, tables, first)?;
+    }
+    Some(())
+}
+
+fn transaction(alloc: Global, engine: &mut Engine, tables: u32, first: u32) -> Option<()> {
+    let trx = engine.begin(alloc, 0, 0).ok()?;
+    for place in 0..160_u32 {
+        put(alloc, engine, tables, trx, first.wrapping_add(place))?;
+    }
+    commit(alloc, engine, trx)
+}
+
+fn round_together(alloc: Global, engine: &mut Engine, tables: u32) -> Option<()> {
+    begin_all(alloc, engine)?;
+    for row in 0..10240_u32 {
+        put(alloc, engine, tables, row % 64, row)?;
+    }
+    commit_all(alloc, engine)
+}
+
+fn begin_all(alloc: Global, engine: &mut Engine) -> Option<()> {
+    for writer in 0..64_u32 {
+        engine.begin(alloc, writer, 0).ok()?;
+    }
+    Some(())
+}
+
+fn commit_all(alloc: Global, engine: &mut Engine) -> Option<()> {
+    for trx in 0..64_u32 {
+        commit(alloc, engine, trx)?;
+    }
+    Some(())
+}
+
+fn put(alloc: Global, engine: &mut Engine, tables: u32, trx: u32, row: u32) -> Option<()> {
+    let table = row.checked_rem(tables)?.wrapping_add(1);
+    let key = row.checked_div(tables)? as u64;
+    engine.put(alloc, trx, table, key, &[7; 8]).ok()
+}
+
+fn commit(alloc: Global, engine: &mut Engine, trx: u32) -> Option<()> {
+    match engine.commit(alloc, trx) {
+        Ok(_) => Some(()),
+        Err(_) => None,
+    }
+}
+PROGRAM
+# Without words the program does nothing, so that this run only builds it.
+(cd "$copy/crates/clone_bench" && rt run) >"$copy/log" 2>&1
+[ -x "$copy/crates/clone_bench/out/clone_bench" ] || {
+    cat "$copy/log" >&2
+    exit 1
+}
+
+python3 - "$copy/crates/clone_bench/out/clone_bench" <<'PYTHON'
+import os
+import statistics
+import sys
+
+PUTS = 64 * 160
+FEW, MANY = 2, 18
+TIMES = 5
+
+
+def seconds(program, way, tables, rounds):
+    """The processor time of a run."""
+    child = os.fork()
+    if child == 0:
+        os.execv(program, [program, way, str(tables), str(rounds)])
+    _, status, usage = os.wait4(child, 0)
+    if status != 0:
+        sys.exit(f"{way} {tables} {rounds}: status {os.waitstatus_to_exitcode(status)}")
+    return usage.ru_utime + usage.ru_stime
+
+
+def put_cost(program, way, tables):
+    """The nanoseconds of a put: what many rounds take above few, so that opening isn't in it."""
+    costs = [seconds(program, way, tables, MANY) - seconds(program, way, tables, FEW) for _ in range(TIMES)]
+    return statistics.median(costs) / (PUTS * (MANY - FEW)) * 1e9
+
+
+def main(program):
+    costs = {(way, tables): put_cost(program, way, tables) for way in ("apart", "together") for tables in (1, 62)}
+    print(f"{'':>14} {'1 open':>9} {'64 open':>9} {'64 to 1':>9}")
+    for tables in (1, 62):
+        one, all_open = costs["apart", tables], costs["together", tables]
+        print(f"{f'tables: {tables}':>14} {one:>9.0f} {all_open:>9.0f} {all_open / one:>9.2f}")
+    ratios = [costs[way, 62] / costs[way, 1] for way in ("apart", "together")]
+    print(f"{'62 to 1':>14} {ratios[0]:>9.2f} {ratios[1]:>9.2f}")
+
+
+main(sys.argv[1])
+PYTHON
