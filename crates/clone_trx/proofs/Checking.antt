@@ -44,13 +44,13 @@ page_at sound table key pages page there is =
 
 -- One cause after the other.
 
-passed : {first rest : Option Cause} → first ≡ None → option_or first rest ≡ rest
+pub passed : {first rest : Option Cause} → first ≡ None → option_or first rest ≡ rest
 passed {first} {rest} none = ap (λ (o : Option Cause). option_or o rest) none
 
-stopped : {first : Option Cause} {cause : Cause} (rest : Option Cause) → first ≡ Some cause → option_or first rest ≡ Some cause
+pub stopped : {first : Option Cause} {cause : Cause} (rest : Option Cause) → first ≡ Some cause → option_or first rest ≡ Some cause
 stopped rest is = ap (λ (o : Option Cause). option_or o rest) is
 
-trx_there : (d : Donor) (trx : ℕ) (commit : Commit) → finite.get d.active trx ≡ Some commit → no_trx d trx ≡ None
+pub trx_there : (d : Donor) (trx : ℕ) (commit : Commit) → finite.get d.active trx ≡ Some commit → no_trx d trx ≡ None
 trx_there d trx commit is = ap (λ (o : Option Commit). whether (not (is_some o)) NoSuchTrx) is
 
 -- the lock of a row is free, or it is held by the transaction
@@ -83,7 +83,7 @@ pub record Starts (d : Donor) (trx long : ℕ) (commit : Commit) : Type 0 where
   pub is : finite.get d.active trx ≡ Some commit
   pub short : long ≤ value_limit
 
-fits : {long : ℕ} → long ≤ value_limit → too_long long ≡ None
+pub fits : {long : ℕ} → long ≤ value_limit → too_long long ≡ None
 fits {long} short = ap (λ (b : Bool). whether b ValueTooLong) (le-ltb value_limit long short)
 
 pub change_without_table : {d : Donor} {listed : List ℕ} {image : Image} → IsSound d listed image → (trx table key long : ℕ) (commit : Commit) → Starts d trx long commit → pages_for image table ≡ None → change_cause d trx table key long ≡ Some NoSuchTable

@@ -1,5 +1,5 @@
 -- A commit, as the engine makes it.
-use Rattle.std.proofs.Common.{◌≡◌, ◌<◌, ◌+◌, ◌-◌, ◌++◌, ◌^◌, ℕ, List, [], ◌∷◌, length, take, ap, ◌∙◌, arith}
+use Rattle.std.proofs.Common.{◌≡◌, ◌+◌, ◌-◌, ◌++◌, ℕ, List, [], ◌∷◌, length, take, ap, ◌∙◌, arith}
 use Rattle.std.proofs.lemmas.List.{length_push, take_at}
 use Rattle.clone_model.specs.declared.change.Commit.{Commit}
 use Rattle.clone_mtr.specs.declared.record.Record.{Record}
@@ -30,7 +30,7 @@ pub commit_written : (trx position : ℕ) (first second : Record) → first ∷ 
 commit_written trx position first second one two = ap (λ (rs : List Record). rs ++ second ∷ []) one ∙ ap (λ (r : Record). records_of_end trx ++ r ∷ []) two
 
 -- the donor that is seen then
-pub commit_seen : (d after : Donor) (listed : List ℕ) (image new : Image) (trx position lsn : ℕ) → IsSound d listed image → Commits d trx position after → position < 2 ^ 64 → new ≡ after_records lsn image (commit_records trx position)
+pub commit_seen : (d after : Donor) (listed : List ℕ) (image new : Image) (trx position lsn : ℕ) → IsSound d listed image → Commits d trx position after → new ≡ after_records lsn image (commit_records trx position)
     → IsSeen (Commits d trx position) after listed new
-commit_seen d after listed image new trx position lsn sound commits small is =
-    seen (Commits d trx position) after listed (after_records lsn image (commit_records trx position)) new (committed_sound d after listed image trx position lsn sound commits small) commits is
+commit_seen d after listed image new trx position lsn sound commits is =
+    seen (Commits d trx position) after listed (after_records lsn image (commit_records trx position)) new (committed_sound d after listed image trx position lsn sound commits) commits is

@@ -1,5 +1,5 @@
 -- A transaction ends: it leaves nothing, or it commits.
-use Rattle.std.proofs.Common.{◌≡◌, ◌≢◌, ◌<◌, ◌^◌, ℕ, List, length, replicate, refl, sym, ap, subst, ◌∙◌, arith, inl, inr, Option, Some, None}
+use Rattle.std.proofs.Common.{◌≡◌, ◌≢◌, ◌<◌, ℕ, List, length, replicate, refl, sym, ap, subst, ◌∙◌, arith, inl, inr, Option, Some, None}
 use Rattle.std.specs.Prelude.{IsSome}
 use Rattle.std.specs.List.{AllByRecursion}
 use Rattle.std.specs.FinMap as finite
@@ -164,8 +164,8 @@ system_left lsn trx position listed pages long is = record {
     stays j within = ap (entry_space j) (position_there lsn trx position pages) ∙ entry_stays j lsn position (pages 0 0) within long
 
 -- The pages once a transaction has committed are those of the donor then.
-pub committed_sound : (d after : Donor) (listed : List ℕ) (image : Image) (trx position lsn : ℕ) → IsSound d listed image → Commits d trx position after → position < 2 ^ 64 → IsSound after listed (after_records lsn image (commit_records trx position))
-committed_sound d next listed image trx position lsn sound c small =
+pub committed_sound : (d after : Donor) (listed : List ℕ) (image : Image) (trx position lsn : ℕ) → IsSound d listed image → Commits d trx position after → IsSound after listed (after_records lsn image (commit_records trx position))
+committed_sound d next listed image trx position lsn sound c =
     let rs : List Record = commit_records trx position in
     let frees = commit_frees lsn trx position (all_pages image) in
     let tables : next.tables ≡ d.tables = ap (λ (e : Donor). e.tables) c.is in

@@ -37,3 +37,6 @@ pub mod LastRecords
 pub mod Seen
 pub mod Committing
 pub mod Undoing
+pub mod Few
+pub mod PlainCauses
+pub mod PlainSteps

@@ -21,7 +21,7 @@ use Rattle.clone_trx.proofs.Places.{same_buckets, changed_keeps, changed_placed,
 
 -- The open transactions after a step.
 
-some_there : {X : Type 0} (o : Option X) → IsSome o → (x : X) × (o ≡ Some x)
+pub some_there : {X : Type 0} (o : Option X) → IsSome o → (x : X) × (o ≡ Some x)
 some_there None there = absurd cc
 some_there (Some x) there = (x, refl)
 

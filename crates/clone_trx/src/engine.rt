@@ -12,7 +12,7 @@ ghost use Rattle.clone_image.specs.Recovered.{recovered, undo_slot_of};
 ghost use Rattle.clone_image.specs.Replay.{first_lsn, Replays};
 ghost use Rattle.clone_image.specs.Rows.{HasRows};
 ghost use Rattle.clone_plain.specs.Donor.{no_donor};
-ghost use Rattle.clone_plain.specs.Causes.{create_cause, begin_cause, transaction_limit};
+ghost use Rattle.clone_plain.specs.Causes.{create_cause, begin_cause, least_free, transaction_limit};
 ghost use Rattle.clone_plain.specs.Calls.{Decided, created, Begins};
 ghost use Rattle.clone_trx.specs.Engine.{keys_on, tables_of};
 ghost use Rattle.clone_trx.specs.Sound.{IsUndoSlot, value_of};
@@ -27,7 +27,7 @@ use crate::active::Active;
 use crate::locks::Locks;
 use crate::records::{creation, opening};
 use crate::writing::{first_record, write_from};
-use clone_model::{Binlog, BucketCount, TableNumber};
+use clone_model::{Binlog, BucketCount, Commit, TableNumber};
 use clone_outside::NoMemory;
 use clone_page::Page;
 use clone_plain::{Cause, EngineRefusal};
@@ -89,6 +89,20 @@ impl Engine {
         ensures { result.now ≡ self.now.donor.history }
     {
         &self.binlog
+    }
+
+    /// The open transaction of this number, as the commit that it would be, or none where none is open.
+    pub fn transaction(&self, trx: u32) -> Option<&Commit>
+        ensures { option_copied result ≡ finite.get self.now.donor.active trx }
+    {
+        self.active.get(trx)
+    }
+
+    /// The number that the next transaction gets: the least of which none is open, if there is one below 64.
+    pub fn next_number(&self) -> Option<u32>
+        ensures { result ≡ least_free self.now.donor }
+    {
+        self.active.least_free()
     }
 
     /// The bytes of the redo log, from the first one on.

@@ -35,7 +35,7 @@ impl Both {
     fn new(alloc: Global) -> Result<Both, NoMemory> {
         Ok(Both {
             tried: Tried::new(alloc)?,
-            plain: Plain::new(alloc),
+            plain: Plain::new(alloc)?,
             refused: Vec::new(alloc),
         })
     }
@@ -60,13 +60,13 @@ impl Both {
 
     fn put(&mut self, rt: &impl Abort, alloc: Global, row: Row, value: &[u8]) -> Result<(), Fail> {
         let found = self.tried.put(row.trx, row.table, row.key, value)?;
-        let expected = answered(self.plain.put(row.trx, row.table, row.key, value))?;
+        let expected = answered(self.plain.put(alloc, row.trx, row.table, row.key, value))?;
         self.compare(rt, found, expected)
     }
 
     fn delete(&mut self, rt: &impl Abort, alloc: Global, row: Row) -> Result<(), Fail> {
         let found = self.tried.delete(row.trx, row.table, row.key)?;
-        let expected = answered(self.plain.delete(row.trx, row.table, row.key))?;
+        let expected = answered(self.plain.delete(alloc, row.trx, row.table, row.key))?;
         self.compare(rt, found, expected)
     }
 
@@ -76,7 +76,7 @@ impl Both {
         self.compare(rt, found, expected)
     }
 
-    fn undo_one(&mut self, rt: &impl Abort, alloc: Global, trx: u32) -> Result<(), Fail> {
+    fn undo_one(&mut self, rt: &impl Abort, trx: u32) -> Result<(), Fail> {
         let found = self.tried.undo_one(trx)?;
         let expected = answered(self.plain.undo_one(trx))?;
         self.compare(rt, found, expected)
@@ -84,7 +84,7 @@ impl Both {
 
     fn commit(&mut self, rt: &impl Abort, alloc: Global, trx: u32) -> Result<(), Fail> {
         let found = self.tried.commit(trx)?;
-        let expected = answered(self.plain.commit(trx))?;
+        let expected = answered(self.plain.commit(alloc, trx))?;
         self.compare(rt, found, expected)
     }
 
@@ -171,7 +171,7 @@ fn step(
         }
         8 => both.delete(rt, alloc, row),
         9 | 10 => both.get(rt, alloc, row),
-        11 | 12 => both.undo_one(rt, alloc, row.trx),
+        11 | 12 => both.undo_one(rt, row.trx),
         _ => both.commit(rt, alloc, row.trx),
     }
 }

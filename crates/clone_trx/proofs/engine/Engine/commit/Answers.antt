@@ -1,4 +1,4 @@
-use Rattle.std.proofs.Common.{◌≡◌, ◌<◌, ◌∷◌, ◌^◌, [], sym, ap, subst, ◌∙◌, arith}
+use Rattle.std.proofs.Common.{◌≡◌, ◌∷◌, [], sym, ap, subst, ◌∙◌}
 use Rattle.clone_plain.specs.Donor.{Donor}
 use Rattle.clone_plain.specs.Causes.{no_trx}
 use Rattle.clone_plain.specs.Calls.{Commits}
@@ -20,7 +20,6 @@ committed c =
     let inside = c.self.inside in
     let trx = c.args.trx in
     let position = c.len-commits.result in
-    let small : position < 2 ^ 64 = omega (arith, c.len-commits.type_inv) in
     let joined = replaced inside.binlog c.push.new.self c.set_last.new.self _ c.in-Some-remove.commit c.in_ok-push.ensures.ok c.set_last.ensures.value in
     let commits : Commits (before c) trx position (after c) = record {
       commit = c.in-Some-remove.commit;
@@ -33,7 +32,7 @@ committed c =
     let wrote =
     kept_writes inside.store c.reserve.new.self c.write_within.new.self (c.end_record.result ∷ c.position.result ∷ []) (commit_records trx position) c.in_ok-reserve.ensures.same c.write_within.ensures
     (commit_written trx position c.end_record.result c.position.result c.end_record.ensures c.position.ensures) in
-    commit_seen (before c) (after c) inside.listed.items inside.store.image c.write_within.new.self.image trx position _ c.self.invariant commits small wrote.image
+    commit_seen (before c) (after c) inside.listed.items inside.store.image c.write_within.new.self.image trx position _ c.self.invariant commits wrote.image
 
 pub invariant_of-self-2 : goal.invariant_of-self-2
 invariant_of-self-2 c = (committed c).sound
