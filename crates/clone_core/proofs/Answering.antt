@@ -1,26 +1,22 @@
 -- The steps of a script's lines, by what the calls of the engine answered.
-use Rattle.std.proofs.Common.{◌≡◌, ℕ, List, Bool, cond, ◌+◌, refl, sym, ap, ◌∙◌, subst, None, Some, Result, Ok, Err, IfOk, IsErrAnd, length}
-use Rattle.std.specs.Prelude.{MatchOption, codes, not, is_some}
+use Rattle.std.proofs.Common.{◌≡◌, ℕ, List, ◌+◌, refl, sym, ap, subst, None, Some, Result, Ok, Err, IfOk, OnErr, false, length}
+use Rattle.std.specs.Prelude.{codes}
+use Rattle.std.specs.Result.{is_err}
 use Rattle.std.specs.declared.option.Option.{Option}
-use Rattle.std.specs.Cmp.{nat_cmp_total, eq_by_cmp_equiv}
 use Rattle.std.specs.FinMap as finite
-use Rattle.std.specs.FinMap.{get-insert}
 use Rattle.std.specs.Ordering.{nat_cmp}
-use Rattle.clone_model.specs.declared.change.Change.{Change}
-use Rattle.clone_model.specs.declared.change.Commit.{Commit}
 use Rattle.clone_model.specs.declared.line.Line.TheVariants as lines
 use Rattle.clone_plain.specs.declared.refusal.Cause.{Cause}
-use Rattle.clone_plain.specs.declared.refusal.Cause.TheVariants.{NoSuchTrx}
 use Rattle.clone_plain.specs.declared.refusal.EngineRefusal.{EngineRefusal}
 use Rattle.clone_plain.specs.declared.refusal.EngineRefusal.TheVariants.{Because, NoMemory}
 use Rattle.clone_plain.specs.declared.refusal.Undone.{Undone}
 use Rattle.clone_plain.specs.Donor.{Donor}
-use Rattle.clone_plain.specs.Causes.{begin_cause, change_cause, get_cause, no_trx, whether}
-use Rattle.clone_plain.specs.Calls.{Decided, Begins, Changes, Gets, Undoes, Commits, with_change}
+use Rattle.clone_plain.specs.Causes.{begin_cause, change_cause, get_cause, no_trx}
+use Rattle.clone_plain.specs.Calls.{Decided, Begins, Changes, Gets, Undoes, Commits}
 use Rattle.clone_plain.specs.Answers.{Text, refusal_text, value_answer, undone_answer, committed_answer, begun_answer}
-use Rattle.clone_plain.specs.Plain.{Plain, next_index, with_donor, with_begun}
-use Rattle.clone_plain.specs.Runs.{Answers, Step, SetDone, put_of, delete_of}
-use Rattle.clone_core.specs.Counted.{BeginsCounted, Opens, Sets}
+use Rattle.clone_plain.specs.Plain.{Plain, next_index, with_donor}
+use Rattle.clone_plain.specs.Runs.{Answers, Step, put_of, delete_of}
+use Rattle.clone_core.specs.Counted.{BeginsCounted, Opens}
 use Rattle.clone_core.specs.Refused.{SaysCause}
 
 if_ok_so : {T E : Type 0} (r : Result T E) (P Q : T → Type 0) → ((x : T) → P x → Q x) → IfOk r P → IfOk r Q
@@ -31,12 +27,20 @@ if_ok_so (Err e) P Q so is = tt
 pub if_ok : {T E : Type 0} (r q : Result T E) (P Q : T → Type 0) → q ≡ r → ((x : T) → P x → Q x) → IfOk r P → IfOk q Q
 if_ok {T} {E} r q P Q same so is = subst (λ (x : Result T E). IfOk x Q) (sym same) (if_ok_so r P Q so is)
 
+-- of the value that a result has
+pub ok_is : {T E : Type 0} (r : Result T E) (x : T) (Q : T → Type 0) → r ≡ Ok x → Q x → IfOk r Q
+ok_is r x Q is q = subst (λ o. IfOk o Q) (sym is) q
+
+pub on_err : {T E P : Type 0} (r : Result T E) → P → OnErr r P
+on_err (Ok x) p = tt
+on_err (Err e) p = p
+
 -- no cause stands
-answered : (cause : Option Cause) (s : Plain) (answer : Text) (t : Plain) (Does : Type 0) → cause ≡ None → Does → Answers cause s answer t Does
+pub answered : (cause : Option Cause) (s : Plain) (answer : Text) (t : Plain) (Does : Type 0) → cause ≡ None → Does → Answers cause s answer t Does
 answered cause s answer t Does none does = subst (λ (o : Option Cause). Answers o s answer t Does) (sym none) does
 
 -- a cause stands
-refused_for : (cause : Option Cause) (c : Cause) (s : Plain) (answer : Text) (t : Plain) (Does : Type 0) → cause ≡ Some c → answer ≡ refusal_text c → t ≡ s → Answers cause s answer t Does
+pub refused_for : (cause : Option Cause) (c : Cause) (s : Plain) (answer : Text) (t : Plain) (Does : Type 0) → cause ≡ Some c → answer ≡ refusal_text c → t ≡ s → Answers cause s answer t Does
 refused_for cause c s answer t Does stands text same = subst (λ (o : Option Cause). Answers o s answer t Does) (sym stands) (text, same)
 
 -- the call was refused, and its cause shown
@@ -93,11 +97,11 @@ get_refused r s trx number table key refusal Does answer same named is says =
     subst (λ (p : Plain). Step p (lines.Get trx table key) answer p) same
     (subst (λ (n : ℕ). Step r (lines.Get trx n key) answer r) named (refused_call (get_cause r.donor trx number key) r r.donor refusal Does answer _ is says))
 
-pub undo_step : (r s : Plain) (after : Donor) (trx : ℕ) (undone shown : Undone) (answer : Text) → r ≡ s → Decided (no_trx r.donor trx) r.donor after (Ok undone) (λ u. Undoes r.donor trx u after) → undone ≡ shown → answer ≡ undone_answer shown
+pub undo_step : (r s : Plain) (after : Donor) (trx : ℕ) (undone : Undone) (answer : Text) → r ≡ s → Decided (no_trx r.donor trx) r.donor after (Ok undone) (λ u. Undoes r.donor trx u after) → answer ≡ undone_answer undone
     → Step s (lines.Undo trx) answer (with_donor after r)
-undo_step r s after trx undone shown answer same is which text =
+undo_step r s after trx undone answer same is text =
     subst (λ (p : Plain). Step p (lines.Undo trx) answer (with_donor after r)) same
-    (answered (no_trx r.donor trx) r answer (with_donor after r) _ is.0 (record { undone = undone; donor = after; undoes = is.1; text = text ∙ ap undone_answer (sym which); is = refl }))
+    (answered (no_trx r.donor trx) r answer (with_donor after r) _ is.0 (record { undone = undone; donor = after; undoes = is.1; text = text; is = refl }))
 
 pub undo_refused : (r s : Plain) (after : Donor) (trx : ℕ) (refusal : EngineRefusal) (Does : Undone → Type 0) (answer : Text) → r ≡ s → Decided (no_trx r.donor trx) r.donor after (Err refusal) Does → SaysCause refusal answer → Step s (lines.Undo trx) answer (with_donor after r)
 undo_refused r s after trx refusal Does answer same is says =
@@ -114,9 +118,9 @@ commit_refused r s after trx refusal Does answer same is says =
 
 -- ---- a transaction begins and counts
 
-pub counted : (r s : Plain) (after : Donor) (writer index trx : ℕ) (begun : finite.FinMap nat_cmp ℕ) → r ≡ s → index ≡ next_index r writer → Decided (begin_cause r.donor) r.donor after (Ok trx) (λ t. Begins r.donor writer index t after)
-    → begun ≡ finite.insert r.begun writer (next_index r writer + 1) → BeginsCounted s writer trx (record { donor = after; begun = begun; stop = r.stop })
-counted r s after writer index trx begun same at is counts =
+pub counted : (r s : Plain) (after : Donor) (writer index : ℕ) (begun : finite.FinMap nat_cmp ℕ) (result : Result ℕ EngineRefusal) → r ≡ s → index ≡ next_index r writer → is_err result ≡ false → Decided (begin_cause r.donor) r.donor after result (λ trx. Begins r.donor writer index trx after)
+    → begun ≡ finite.insert r.begun writer (next_index r writer + 1) → Opens s writer result (record { donor = after; begun = begun; stop = r.stop })
+counted r s after writer index begun (Ok trx) same at ok is counts =
     subst (λ (p : Plain). BeginsCounted p writer trx (record { donor = after; begun = begun; stop = r.stop })) same
     record {
       donor = after;
@@ -124,72 +128,9 @@ counted r s after writer index trx begun same at is counts =
       begins = subst (λ (n : ℕ). Begins r.donor writer n trx after) at is.1;
       is = ap (λ (b : finite.FinMap nat_cmp ℕ). record { donor = after; begun = b; stop = r.stop }) counts;
     }
+counted r s after writer index begun (Err e) same at ok is counts = cc
 
--- ---- `set`
-
--- the transaction of a `set` began, and what comes of its change is known
-goes_on : (s u t : Plain) (writer table key trx : ℕ) (value : List ℕ) (answer : Text) (cause : Option Cause) → (begins : BeginsCounted s writer trx u) → change_cause begins.donor trx table key (length value) ≡ cause
-    → MatchOption cause (SetDone s begins.donor trx writer (put_of table key value) answer t) (λ c. (answer ≡ refusal_text c) × (t ≡ with_begun writer (with_donor begins.donor s))) → Step s (lines.Set writer table key value) answer t
-goes_on s u t writer table key trx value answer cause begins is so =
-    answered (begin_cause s.donor) s answer t _ begins.free
-    record {
-      trx = trx;
-      begun = begins.donor;
-      begins = begins.begins;
-      goes_on = subst (λ (o : Option Cause). MatchOption o (SetDone s begins.donor trx writer (put_of table key value) answer t) (λ c. (answer ≡ refusal_text c) × (t ≡ with_begun writer (with_donor begins.donor s)))) (sym is) so;
-    }
-
-some_none : {X : Type 0} (o : Option X) (x : X) → o ≡ None → o ≡ Some x → ⊥
-some_none o x none some = let e = sym none ∙ some in cc
-
--- the transaction that made a change is open
-changed_open : (before after : Donor) (trx : ℕ) (change : Change) → Changes before trx change after → no_trx after trx ≡ None
-changed_open before after trx change is =
-    let commit = with_change change is.commit in
-    let own : finite.get after.active trx ≡ Some commit =
-    ap (λ (d : Donor). finite.get d.active trx) is.is ∙ get-insert nat_cmp_total before.active trx commit trx
-    ∙ ap (λ (b : Bool). cond b (Some commit) (finite.get before.active trx)) ((eq_by_cmp_equiv nat_cmp_total).refl trx) in
-    ap (λ (o : Option Commit). whether (not (is_some o)) NoSuchTrx) own
-
--- its change was refused
-put_refused_of : (s u : Plain) (changed : Donor) (writer table key trx : ℕ) (value : List ℕ) (refusal : EngineRefusal) {X : Type 0} (Does : X → Type 0) → BeginsCounted s writer trx u
-    → Decided (change_cause u.donor trx table key (length value)) u.donor changed (Err refusal) Does → Sets s writer table key value (Err refusal) (with_donor changed u)
-put_refused_of s u changed writer table key trx value (Because cause) Does begins decided =
-    let same : u.donor ≡ begins.donor = ap (λ (x : Plain). x.donor) begins.is in
-    let stands : change_cause begins.donor trx table key (length value) ≡ Some cause = subst (λ (d : Donor). change_cause d trx table key (length value) ≡ Some cause) same decided.0 in
-    goes_on s u (with_donor changed u) writer table key trx value (refusal_text cause) (Some cause) begins stands (refl, ap (λ (d : Donor). with_donor d u) decided.1 ∙ begins.is)
-put_refused_of s u changed writer table key trx value NoMemory Does begins decided = tt
-
-pub put_refused_set : {X : Type 0} (s u r : Plain) (changed : Donor) (writer table key trx : ℕ) (value : List ℕ) (refusal : EngineRefusal) (Does : X → Type 0) (result : Result ℕ EngineRefusal) → r ≡ u → BeginsCounted s writer trx u
-    → Decided (change_cause r.donor trx table key (length value)) r.donor changed (Err refusal) Does → IsErrAnd result (λ e. e ≡ refusal) → Sets s writer table key value result (with_donor changed r)
-put_refused_set s u r changed writer table key trx value refusal Does (Ok x) same begins decided is = absurd is
-put_refused_set s u r changed writer table key trx value refusal Does (Err e) same begins decided is =
-    subst (λ (x : EngineRefusal). Sets s writer table key value (Err x) (with_donor changed r)) (sym is)
-    (put_refused_of s r changed writer table key trx value refusal Does (subst (λ (p : Plain). BeginsCounted s writer trx p) (sym same) begins) decided)
-
--- its change was made, and it commits
-commit_of : (s u : Plain) (changed after : Donor) (writer table key trx : ℕ) (value : List ℕ) (result : Result ℕ EngineRefusal) → BeginsCounted s writer trx u
-    → change_cause u.donor trx table key (length value) ≡ None → Changes u.donor trx (put_of table key value) changed → Decided (no_trx changed trx) changed after result (λ position. Commits changed trx position after)
-    → Sets s writer table key value result (with_donor after u)
-commit_of s u changed after writer table key trx value (Ok position) begins none changes decided =
-    let same : u.donor ≡ begins.donor = ap (λ (x : Plain). x.donor) begins.is in
-    let free : change_cause begins.donor trx table key (length value) ≡ None = subst (λ (d : Donor). change_cause d trx table key (length value) ≡ None) same none in
-    goes_on s u (with_donor after u) writer table key trx value (committed_answer position) None begins free
-    record {
-      changed = changed;
-      position = position;
-      donor = after;
-      changes = subst (λ (d : Donor). Changes d trx (put_of table key value) changed) same changes;
-      commits = decided.1;
-      text = refl;
-      is = ap (with_donor after) begins.is;
-    }
-commit_of s u changed after writer table key trx value (Err (Because cause)) begins none changes decided =
-    absurd (some_none (no_trx changed trx) cause (changed_open u.donor changed trx (put_of table key value) changes) decided.0)
-commit_of s u changed after writer table key trx value (Err NoMemory) begins none changes decided = tt
-
-pub commit_set : {X : Type 0} (s u r : Plain) (changed after : Donor) (writer table key trx : ℕ) (value : List ℕ) (x : X) (result : Result ℕ EngineRefusal) → r ≡ u → BeginsCounted s writer trx u
-    → Decided (change_cause r.donor trx table key (length value)) r.donor changed (Ok x) (λ _. Changes r.donor trx (put_of table key value) changed)
-    → Decided (no_trx changed trx) changed after result (λ position. Commits changed trx position after) → Sets s writer table key value result (with_donor after r)
-commit_set s u r changed after writer table key trx value x result same begins put commit =
-    commit_of s r changed after writer table key trx value result (subst (λ (p : Plain). BeginsCounted s writer trx p) (sym same) begins) put.0 put.1 commit
+-- where none begins nothing changes
+pub opens_same : (s t : Plain) (writer : ℕ) (refusal : EngineRefusal) → Opens s writer (Err refusal) t → t ≡ s
+opens_same s t writer (Because cause) is = is.1
+opens_same s t writer NoMemory is = is

@@ -1,5 +1,6 @@
-pub mod Counts
-pub mod Copies
 pub mod Answering
+pub mod Setting
+pub mod Copies
+pub mod Counts
 pub mod Recovered
 pub mod Rows

@@ -1,5 +1,6 @@
-ghost use Rattle.std.specs.Prelude.{◌≡◌, ◌+◌, ◌<◌, ◌-◌, ◌^◌, OnOk, OnErr, unwrap_or};
+ghost use Rattle.std.specs.Prelude.{◌≡◌, ◌+◌, ◌<◌, ◌-◌, ◌^◌, ℕ, IsSome, OnOk, OnErr, unwrap_or};
 ghost use Rattle.std.specs.FinMap as finite;
+ghost use Rattle.std.specs.Ordering.{nat_cmp};
 
 use clone_outside::NoMemory;
 use std::alloc::{AllocError, Global};
@@ -35,11 +36,11 @@ impl Begun {
         }
     }
 
-    /// How many transactions a writer has begun, which is the index of its next one.
-    pub fn next_index(&self, writer: u32) -> u64
-        ensures { result ≡ unwrap_or (finite.get self.now writer) 0 }
+    /// How many transactions a writer has begun, if it was ever counted.
+    pub fn count(&self, writer: u32) -> Option<u64>
+        ensures { result ≡ finite.get self.now writer }
     {
-        self.counts.get(&writer).copied().unwrap_or(0)
+        self.counts.get(&writer).copied()
     }
 
     /// A writer begins a transaction. After a refusal nothing has changed.
@@ -48,8 +49,23 @@ impl Begun {
         ensures ok { OnOk result (self.new ≡ finite.insert self.old writer (unwrap_or (finite.get self.old writer) 0 + 1)) }
         ensures err { OnErr result (self.new ≡ self.old) }
     {
-        let next = self.next_index(writer) + 1;
+        let next = self.count(writer).unwrap_or(0) + 1;
         self.counts.insert(writer, next)?;
         Ok(())
+    }
+
+    /// Gives a writer that is counted the count back that it had before. This takes no memory.
+    pub fn restore(&mut self, writer: u32, was: Option<u64>)
+        requires { IsSome (finite.get self.old writer) }
+        ensures { (before : finite.FinMap nat_cmp ℕ) (count : ℕ) → finite.get before writer ≡ was → self.old ≡ finite.insert before writer count → self.new ≡ before }
+    {
+        let Some(count) = was else {
+            let _ = self.counts.remove(&writer);
+            return;
+        };
+        match self.counts.insert(writer, count) {
+            Ok(_) => {}
+            Err(_) => unreachable!(),
+        }
     }
 }

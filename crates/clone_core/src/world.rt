@@ -1,12 +1,16 @@
-ghost use Rattle.std.specs.Prelude.{◌≡◌, ◌-◌, ◌^◌, IfOk, option_copied};
+ghost use Rattle.std.specs.Prelude.{◌≡◌, ◌<◌, ◌+◌, ◌-◌, ◌^◌, ℕ, Some, length, IfOk, OnErr, option_copied};
 ghost use Rattle.std.specs.String.{string_bytes};
 ghost use Rattle.clone_model.specs.History.{Rows, rows_in};
 ghost use Rattle.clone_model.specs.declared.line.Line.TheVariants as lines;
 ghost use Rattle.clone_image.specs.Image.{page_of};
 ghost use Rattle.clone_image.specs.Rows.{ShowsRows};
-ghost use Rattle.clone_plain.specs.Answers.{rows_answer, value_answer};
+ghost use Rattle.clone_plain.specs.declared.refusal.Undone.{Undone};
+ghost use Rattle.clone_plain.specs.Donor.{Donor};
+ghost use Rattle.clone_plain.specs.Causes.{least_free};
+ghost use Rattle.clone_plain.specs.Calls.{Undoes};
+ghost use Rattle.clone_plain.specs.Answers.{begun_answer, undone_answer, committed_answer, rows_answer, value_answer};
 ghost use Rattle.clone_plain.specs.Plain.{opened, IsWithin};
-ghost use Rattle.clone_plain.specs.Runs.{Step};
+ghost use Rattle.clone_plain.specs.Runs.{Step, BreaksOff};
 ghost use Rattle.clone_core.specs.Counted.{Opens, Sets};
 ghost use Rattle.clone_core.specs.Refused.{SaysCause};
 
@@ -15,7 +19,7 @@ use crate::joining::recovered_image;
 use clone_image::{Image, shown_is_the_map};
 use clone_model::{Binlog, BucketCount, Line, TableNumber, Value, push_value, rows_text};
 use clone_outside::NoMemory;
-use clone_plain::{EngineRefusal, Undone};
+use clone_plain::EngineRefusal;
 use clone_recover::open_rows;
 use clone_trx::Engine;
 use std::alloc::{AllocError, Global};
@@ -70,10 +74,12 @@ impl World {
         self.engine.binlog()
     }
 
-    /// Carries out a line and gives its answer. Nothing is said of the world once memory ran out.
+    /// Carries out a line and gives its answer. Where memory runs out, each line but `set` leaves all as it
+    /// was. A `set` may then have begun its transaction, and made its change in it.
     pub fn event(&mut self, alloc: Global, line: &Line) -> Result<String, NoMemory>
         requires within { IsWithin (2 ^ 63 - 1) self.old }
-        ensures { IfOk result (λ answer. Step self.old line.now (string_bytes answer) self.new) }
+        ensures ok { IfOk result (λ answer. Step self.old line.now (string_bytes answer) self.new) }
+        ensures err { OnErr result (BreaksOff self.old line.now self.new) }
     {
         match line {
             Line::Create { table, buckets } => self.create(alloc, *table, *buckets),
@@ -106,10 +112,12 @@ impl World {
         table: TableNumber,
         buckets: BucketCount,
     ) -> Result<String, NoMemory>
-        ensures { IfOk result (λ answer. Step self.old (lines.Create table buckets) (string_bytes answer) self.new) }
+        ensures ok { IfOk result (λ answer. Step self.old (lines.Create table buckets) (string_bytes answer) self.new) }
+        ensures err { OnErr result (self.new ≡ self.old) }
     {
+        let answer = String::from_str(alloc, "created")?;
         match self.engine.create(alloc, table, buckets) {
-            Ok(()) => String::from_str(alloc, "created"),
+            Ok(()) => Ok(answer),
             Err(refusal) => refused(alloc, refusal),
         }
     }
@@ -117,10 +125,12 @@ impl World {
     // Begins a transaction.
     fn begin(&mut self, alloc: Global, writer: u32) -> Result<String, NoMemory>
         requires within { IsWithin (2 ^ 63 - 1) self.old }
-        ensures { IfOk result (λ answer. Step self.old (lines.Begin writer) (string_bytes answer) self.new) }
+        ensures ok { IfOk result (λ answer. Step self.old (lines.Begin writer) (string_bytes answer) self.new) }
+        ensures err { OnErr result (self.new ≡ self.old) }
     {
+        let answer = begun_text(alloc, &self.engine)?;
         match self.start(alloc, writer) {
-            Ok(trx) => format!(in alloc; "trx {trx}"),
+            Ok(_) => Ok(answer),
             Err(refusal) => refused(alloc, refusal),
         }
     }
@@ -134,10 +144,12 @@ impl World {
         key: u64,
         value: &[u8],
     ) -> Result<String, NoMemory>
-        ensures { IfOk result (λ answer. Step self.old (lines.Put trx table key value.now) (string_bytes answer) self.new) }
+        ensures ok { IfOk result (λ answer. Step self.old (lines.Put trx table key value.now) (string_bytes answer) self.new) }
+        ensures err { OnErr result (self.new ≡ self.old) }
     {
+        let answer = String::from_str(alloc, "ok")?;
         match self.engine.put(alloc, trx, table.get(), key, value) {
-            Ok(()) => String::from_str(alloc, "ok"),
+            Ok(()) => Ok(answer),
             Err(refusal) => refused(alloc, refusal),
         }
     }
@@ -150,10 +162,12 @@ impl World {
         table: TableNumber,
         key: u64,
     ) -> Result<String, NoMemory>
-        ensures { IfOk result (λ answer. Step self.old (lines.Delete trx table key) (string_bytes answer) self.new) }
+        ensures ok { IfOk result (λ answer. Step self.old (lines.Delete trx table key) (string_bytes answer) self.new) }
+        ensures err { OnErr result (self.new ≡ self.old) }
     {
+        let answer = String::from_str(alloc, "ok")?;
         match self.engine.delete(alloc, trx, table.get(), key) {
-            Ok(()) => String::from_str(alloc, "ok"),
+            Ok(()) => Ok(answer),
             Err(refusal) => refused(alloc, refusal),
         }
     }
@@ -170,21 +184,25 @@ impl World {
 
     // Takes the last change of a transaction back, or ends it.
     fn undo(&mut self, alloc: Global, trx: u32) -> Result<String, NoMemory>
-        ensures { IfOk result (λ answer. Step self.old (lines.Undo trx) (string_bytes answer) self.new) }
+        ensures ok { IfOk result (λ answer. Step self.old (lines.Undo trx) (string_bytes answer) self.new) }
+        ensures err { OnErr result (self.new ≡ self.old) }
     {
+        let answer = undone_text(alloc, &self.engine, trx)?;
         match self.engine.undo_one(alloc, trx) {
-            Ok(Undone::Left(left)) => format!(in alloc; "undone {left}"),
-            Ok(Undone::Ended) => String::from_str(alloc, "ended"),
+            Ok(_) => Ok(answer),
             Err(refusal) => refused(alloc, refusal),
         }
     }
 
     // Commits a transaction.
     fn commit(&mut self, alloc: Global, trx: u32) -> Result<String, NoMemory>
-        ensures { IfOk result (λ answer. Step self.old (lines.Commit trx) (string_bytes answer) self.new) }
+        requires within { IsWithin (2 ^ 63 - 1) self.old }
+        ensures ok { IfOk result (λ answer. Step self.old (lines.Commit trx) (string_bytes answer) self.new) }
+        ensures err { OnErr result (self.new ≡ self.old) }
     {
+        let answer = committed_text(alloc, &self.engine)?;
         match self.engine.commit(alloc, trx) {
-            Ok(position) => format!(in alloc; "committed {position}"),
+            Ok(_) => Ok(answer),
             Err(refusal) => refused(alloc, refusal),
         }
     }
@@ -199,16 +217,17 @@ impl World {
         value: &[u8],
     ) -> Result<String, NoMemory>
         requires within { IsWithin (2 ^ 63 - 1) self.old }
-        ensures { IfOk result (λ answer. Step self.old (lines.Set writer table key value.now) (string_bytes answer) self.new) }
+        ensures ok { IfOk result (λ answer. Step self.old (lines.Set writer table key value.now) (string_bytes answer) self.new) }
+        ensures err { OnErr result (BreaksOff self.old (lines.Set writer table key value.now) self.new) }
     {
+        let answer = committed_text(alloc, &self.engine)?;
         match self.set_row(alloc, writer, table.get(), key, value) {
-            Ok(position) => format!(in alloc; "committed {position}"),
+            Ok(()) => Ok(answer),
             Err(refusal) => refused(alloc, refusal),
         }
     }
 
-    // Sets a row in a transaction of its own, and answers the new number of commits. Where the change is
-    // refused the transaction stays open.
+    // Sets a row in a transaction of its own. Where the change is refused the transaction stays open.
     fn set_row(
         &mut self,
         alloc: Global,
@@ -216,38 +235,44 @@ impl World {
         table: u32,
         key: u64,
         value: &[u8],
-    ) -> Result<u64, EngineRefusal>
+    ) -> Result<(), EngineRefusal>
         requires within { IsWithin (2 ^ 63 - 1) self.old }
         ensures { Sets self.old writer table key value.now result self.new }
     {
         let trx = self.start(alloc, writer)?;
         self.engine.put(alloc, trx, table, key, value)?;
-        self.engine.commit(alloc, trx)
+        self.engine.commit(alloc, trx)?;
+        Ok(())
     }
 
-    // Begins a transaction of a writer, and counts it.
+    // Begins a transaction of a writer, and counts it. Where none begins nothing changes.
     fn start(&mut self, alloc: Global, writer: u32) -> Result<u32, EngineRefusal>
         requires within { IsWithin (2 ^ 63 - 1) self.old }
         ensures { Opens self.old writer result self.new }
     {
-        let index = self.begun.next_index(writer);
-        let trx = self.engine.begin(alloc, writer, index)?;
+        let was = self.begun.count(writer);
         self.begun.begin(writer)?;
-        Ok(trx)
+        let begun = self.engine.begin(alloc, writer, was.unwrap_or(0));
+        if begun.is_err() {
+            self.begun.restore(writer, was);
+        }
+        begun
     }
 
     // Takes a clone from the log alone, unless one was taken.
     fn take_clone(&mut self, alloc: Global) -> Result<String, NoMemory>
-        ensures { IfOk result (λ answer. Step self.old lines.Clone (string_bytes answer) self.new) }
+        ensures ok { IfOk result (λ answer. Step self.old lines.Clone (string_bytes answer) self.new) }
+        ensures err { OnErr result (self.new ≡ self.old) }
     {
         if let Some(copy) = &self.copy {
             let position = copy.position;
             return format!(in alloc; "complete position {position}");
         }
         let position = self.engine.binlog().len() as u64;
+        let answer = format!(in alloc; "complete position {position}")?;
         let image = recovered_image(alloc, &self.engine)?;
         self.copy = Some(Copy { image, position });
-        format!(in alloc; "complete position {position}")
+        Ok(answer)
     }
 
     // Shows the rows of the clone.
@@ -260,6 +285,36 @@ impl World {
             Some(copy) => rows_shown(alloc, &copy.image),
         }
     }
+}
+
+// The answer of a `begin` that isn't refused.
+fn begun_text(alloc: Global, engine: &Engine) -> Result<String, NoMemory>
+    ensures { IfOk result (λ text. (trx : ℕ) → least_free engine.now.donor ≡ Some trx → string_bytes text ≡ begun_answer trx) }
+{
+    match engine.next_number() {
+        Some(trx) => format!(in alloc; "trx {trx}"),
+        None => Ok(String::new(alloc)),
+    }
+}
+
+// The answer of an `undo` that isn't refused.
+fn undone_text(alloc: Global, engine: &Engine, trx: u32) -> Result<String, NoMemory>
+    ensures { IfOk result (λ text. (undone : Undone) (after : Donor) → Undoes engine.now.donor trx undone after → string_bytes text ≡ undone_answer undone) }
+{
+    let count = engine.transaction(trx).map_or(0, |open| open.changes.len());
+    match count.checked_sub(1) {
+        Some(left) => format!(in alloc; "undone {left}"),
+        None => String::from_str(alloc, "ended"),
+    }
+}
+
+// The answer of a line that commits.
+fn committed_text(alloc: Global, engine: &Engine) -> Result<String, NoMemory>
+    requires { length engine.now.donor.history < 2 ^ 64 - 1 }
+    ensures { IfOk result (λ text. string_bytes text ≡ committed_answer (length engine.now.donor.history + 1)) }
+{
+    let position = engine.binlog().len() as u64 + 1;
+    format!(in alloc; "committed {position}")
 }
 
 // The text of a refusal. There is none for want of memory.

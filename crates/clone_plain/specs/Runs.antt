@@ -95,6 +95,25 @@ Step s Clone answer t =
 -- the rows are those of the commits before the stop, and none later
 Step s Rows answer t = (t ≡ s) × MatchOption s.stop (answer ≡ codes "incomplete") (λ n. answer ≡ rows_answer (rows_in (fold (take n s.donor.history))))
 
+-- Memory ran out in a `set`: before its transaction began, behind that, or behind its change. Then the transaction stays open.
+pub data SetBreaksOff (s : Plain) (writer : ℕ) (change : Change) (t : Plain) : Type 0 where
+  not_begun : t ≡ s → SetBreaksOff s writer change t
+  begun : (trx : ℕ) (donor : Donor) → Begins s.donor writer (next_index s writer) trx donor → t ≡ with_begun writer (with_donor donor s) → SetBreaksOff s writer change t
+  changed : (trx : ℕ) (begun donor : Donor) → Begins s.donor writer (next_index s writer) trx begun → Changes begun trx change donor → t ≡ with_begun writer (with_donor donor s) → SetBreaksOff s writer change t
+
+-- What a line leaves where memory runs out in it. Each line but `set` leaves all as it was.
+abbrev pub BreaksOff : Plain → Line → Plain → Type 0
+BreaksOff s (Set writer table key value) t = SetBreaksOff s writer (put_of table key value) t
+BreaksOff s (Create table buckets) t = t ≡ s
+BreaksOff s (Begin writer) t = t ≡ s
+BreaksOff s (Put trx table key value) t = t ≡ s
+BreaksOff s (Delete trx table key) t = t ≡ s
+BreaksOff s (Get trx table key) t = t ≡ s
+BreaksOff s (Undo trx) t = t ≡ s
+BreaksOff s (Commit trx) t = t ≡ s
+BreaksOff s Clone t = t ≡ s
+BreaksOff s Rows t = t ≡ s
+
 -- lines are carried out one after the other
 abbrev pub Runs : Plain → List Line → List Text → Plain → Type 0
 Runs s [] [] t = s ≡ t

@@ -13,7 +13,7 @@ use Rattle.clone_plain.specs.Plain.{Plain, opened, IsWithin}
 use Rattle.clone_plain.specs.Runs.{Runs, output}
 use Rattle.clone_plain.proofs.Runs.{Runs-push, output-push}
 use Rattle.clone_plain.proofs.Reached.{Runs-IsWithin}
-use Rattle.clone_prog.specs.Carrying.{Answered, AnsweredAll, AnsweredSome, Finished, StoppedAtLine, before_it, behind_it}
+use Rattle.clone_prog.specs.Carrying.{Answered, AnsweredAll, AnsweredSome, Finished, StoppedAtLine, in_it, behind_it}
 
 pub nothing_taken : (old new : Option (List ℕ)) (text : List ℕ) → new ≡ old → TakesSome old new text
 nothing_taken None new text same = (0, same)
@@ -55,15 +55,15 @@ one_more lines i l w u old now new at lt far next =
     }
 
 -- it stopped at line i
-pub stopped : (lines : List Line) (i : ℕ) (l : Line) (w : Plain) (old now new : Option (List ℕ)) → l ≡ get_or lines i l → i < length lines → Sofar lines i w old now → StoppedAtLine l w now new → AnsweredSome lines old new
-stopped lines i l w old now new at lt far (before_it out) =
+pub stopped : (lines : List Line) (i : ℕ) (l : Line) (w u : Plain) (old now new : Option (List ℕ)) → l ≡ get_or lines i l → i < length lines → Sofar lines i w old now → StoppedAtLine l w u now new → AnsweredSome lines old new
+stopped lines i l w u old now new at lt far (in_it off out) =
     record {
       answers = far.answers;
       final = w;
       carried = record { carried = take i lines; rest = drop i lines; split = sym (take-append-drop i lines); run = far.run };
       out = all_taken old new (output far.answers) (out ∙ far.out);
     }
-stopped lines i l w old now new at lt far (behind_it answer u step out) =
+stopped lines i l w u old now new at lt far (behind_it answer step out) =
     let P : List ℕ → Type 0 = TakesSome old new in
     record {
       answers = far.answers ++ answer ∷ [];

@@ -6,7 +6,7 @@ use Rattle.clone_model.specs.Texts.{ended, binlog_text}
 use Rattle.clone_model.specs.declared.line.Line.{Line}
 use Rattle.clone_plain.specs.Answers.{Text}
 use Rattle.clone_plain.specs.Plain.{Plain, opened}
-use Rattle.clone_plain.specs.Runs.{Step, Runs, output}
+use Rattle.clone_plain.specs.Runs.{Step, BreaksOff, Runs, output}
 use Rattle.clone_prog.specs.Main.{Carried}
 
 -- the line was carried out, and its whole answer was written
@@ -16,9 +16,9 @@ pub record Answered (line : Line) (before after : Plain) (old new : Option (List
   pub out : new ≡ appended old (ended answer)
 
 -- Memory ran out in the line, and nothing was written. Or the line was carried out, and a front of its answer was written.
-pub data StoppedAtLine (line : Line) (before : Plain) (old new : Option (List ℕ)) : Type 0 where
-  before_it : new ≡ old → StoppedAtLine line before old new
-  behind_it : (answer : Text) (after : Plain) → Step before line answer after → TakesSome old new (ended answer) → StoppedAtLine line before old new
+pub data StoppedAtLine (line : Line) (before after : Plain) (old new : Option (List ℕ)) : Type 0 where
+  in_it : BreaksOff before line after → new ≡ old → StoppedAtLine line before after old new
+  behind_it : (answer : Text) → Step before line answer after → TakesSome old new (ended answer) → StoppedAtLine line before after old new
 
 -- all lines were carried out, and all of their answers were written
 pub record AnsweredAll (lines : List Line) (final : Plain) (old new : Option (List ℕ)) : Type 0 where

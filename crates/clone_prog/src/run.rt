@@ -110,7 +110,7 @@ fn carry_one<K: Sink>(
 ) -> Result<(), Refusal>
     requires { IsWithin (2 ^ 63 - 1) world.old }
     ensures ok { OnOk result (Answered line.now world.old world.new (K.taken out.old) (K.taken out.new)) }
-    ensures err { OnErr result (StoppedAtLine line.now world.old (K.taken out.old) (K.taken out.new)) }
+    ensures err { OnErr result (StoppedAtLine line.now world.old world.new (K.taken out.old) (K.taken out.new)) }
     ensures cause { HasCause (K.failures out.old) (K.failures out.new) result }
 {
     let mut answer = world.event(alloc, line)?;

@@ -74,84 +74,86 @@ fn refuses_other_words(rt: HostRuntime) -> Result<(), Fail> {
     Ok(())
 }
 
+/// Scripts, each with its status, its output and its binlog.
+const SCRIPTS: [(&str, u8, &str, &str); 13] = [
+    ("", 0, "", ""),
+    (PLAINEST, 0, PLAINEST_OUT, PLAINEST_BINLOG),
+    ("create 1 4\ncreate 1", 3, "bad line 2\n", ""),
+    // no clone was taken
+    (
+        "create 1 4\nset 0 1 7 6869\nrows\n",
+        0,
+        "created\ncommitted 1\nincomplete\n",
+        PLAINEST_BINLOG,
+    ),
+    // a second clone answers as the first, and the rows are those of the first
+    (
+        "create 1 4\nset 0 1 7 6869\nclone\nset 0 1 7 6a\nset 0 1 8 -\nclone\nrows\n",
+        0,
+        "created\ncommitted 1\ncomplete position 1\ncommitted 2\ncommitted 3\ncomplete position 1\n1 7 6869\nrows 1\n",
+        "commit 0 0 1\n1 7 6869\ncommit 0 1 1\n1 7 6a\ncommit 0 2 1\n1 8 -\n",
+    ),
+    // each writer has its own indexes, and the rows are in the order of their keys
+    (
+        "create 1 4\nset 0 1 10 61\nset 1 1 9 62\nset 0 1 2 -\nclone\nrows\n",
+        0,
+        "created\ncommitted 1\ncommitted 2\ncommitted 3\ncomplete position 3\n1 2 -\n1 9 62\n1 10 61\nrows 3\n",
+        "commit 0 0 1\n1 10 61\ncommit 1 0 1\n1 9 62\ncommit 0 1 1\n1 2 -\n",
+    ),
+    // the longest value
+    (
+        "create 1 4\nset 0 1 0 00112233445566778899aabbccddeeff00112233445566778899aabbccddeeff00112233445566778899aabbccddeeff00112233445566778899aabbccddeeff\nclone\nrows\n",
+        0,
+        "created\ncommitted 1\ncomplete position 1\n1 0 00112233445566778899aabbccddeeff00112233445566778899aabbccddeeff00112233445566778899aabbccddeeff00112233445566778899aabbccddeeff\nrows 1\n",
+        "commit 0 0 1\n1 0 00112233445566778899aabbccddeeff00112233445566778899aabbccddeeff00112233445566778899aabbccddeeff00112233445566778899aabbccddeeff\n",
+    ),
+    // a table that was made twice, and one that was never made
+    (
+        "create 1 4\ncreate 1 2\nset 0 2 7 61\nset 0 1 7 6869\nclone\nrows\n",
+        0,
+        "created\nrefused E3\nrefused E2\ncommitted 1\ncomplete position 1\n1 7 6869\nrows 1\n",
+        "commit 0 1 1\n1 7 6869\n",
+    ),
+    // the change of a transaction that is open at the stop is not in the clone
+    (
+        "create 1 4\nset 0 1 5 aa\nbegin 1\nput 0 1 5 bb\nclone\nrows\ncommit 0\nrows\n",
+        0,
+        "created\ncommitted 1\ntrx 0\nok\ncomplete position 1\n1 5 aa\nrows 1\ncommitted 2\n1 5 aa\nrows 1\n",
+        "commit 0 0 1\n1 5 aa\ncommit 1 0 1\n1 5 bb\n",
+    ),
+    // a transaction sees its own changes, and a removal is in the binlog
+    (
+        "create 1 4\nset 0 1 7 61\nbegin 0\nget 0 1 7\ndel 0 1 7\nget 0 1 7\nput 0 1 8 -\nget 0 1 8\ndel 0 1 9\ncommit 0\nclone\nrows\n",
+        0,
+        "created\ncommitted 1\ntrx 0\nvalue 61\nok\nnone\nok\nvalue -\nok\ncommitted 2\ncomplete position 2\n1 8 -\nrows 1\n",
+        "commit 0 0 1\n1 7 61\ncommit 0 1 3\n1 7 none\n1 8 -\n1 9 none\n",
+    ),
+    // the transaction of a refused `set` stays open and has its index
+    (
+        "create 1 4\nset 0 2 7 61\nbegin 0\ncommit 1\nset 0 1 7 61\ncommit 0\n",
+        0,
+        "created\nrefused E2\ntrx 1\ncommitted 1\ncommitted 2\ncommitted 3\n",
+        "commit 0 1 0\ncommit 0 2 1\n1 7 61\ncommit 0 0 0\n",
+    ),
+    // the locks of a transaction, and their end
+    (
+        "put 0 1 1 aa\nbegin 0\nput 0 1 1 aa\ncreate 1 1\ncreate 1 1\nput 0 1 1 aa\nbegin 1\nput 1 1 1 bb\nget 1 1 1\nget 1 1 2\nundo 0\nput 1 1 1 bb\nundo 0\nput 1 1 1 bb\nundo 0\n",
+        0,
+        "refused E1\ntrx 0\nrefused E2\ncreated\nrefused E3\nok\ntrx 1\nrefused E4 0\nrefused E4 0\nnone\nundone 0\nrefused E4 0\nended\nok\nrefused E1\n",
+        "",
+    ),
+    // rows of two tables, in the order of tables and then of keys
+    (
+        "create 2 1\ncreate 1 1\nset 0 2 1 61\nset 0 1 2 62\nset 0 1 1 63\nclone\nrows\n",
+        0,
+        "created\ncreated\ncommitted 1\ncommitted 2\ncommitted 3\ncomplete position 3\n1 1 63\n1 2 62\n2 1 61\nrows 3\n",
+        "commit 0 0 1\n2 1 61\ncommit 0 1 1\n1 2 62\ncommit 0 2 1\n1 1 63\n",
+    ),
+];
+
 #[test]
 fn carries_out_scripts(rt: HostRuntime) -> Result<(), Fail> {
-    let cases = [
-        ("", 0, "", ""),
-        (PLAINEST, 0, PLAINEST_OUT, PLAINEST_BINLOG),
-        ("create 1 4\ncreate 1", 3, "bad line 2\n", ""),
-        // no clone was taken
-        (
-            "create 1 4\nset 0 1 7 6869\nrows\n",
-            0,
-            "created\ncommitted 1\nincomplete\n",
-            PLAINEST_BINLOG,
-        ),
-        // a second clone answers as the first, and the rows are those of the first
-        (
-            "create 1 4\nset 0 1 7 6869\nclone\nset 0 1 7 6a\nset 0 1 8 -\nclone\nrows\n",
-            0,
-            "created\ncommitted 1\ncomplete position 1\ncommitted 2\ncommitted 3\ncomplete position 1\n1 7 6869\nrows 1\n",
-            "commit 0 0 1\n1 7 6869\ncommit 0 1 1\n1 7 6a\ncommit 0 2 1\n1 8 -\n",
-        ),
-        // each writer has its own indexes, and the rows are in the order of their keys
-        (
-            "create 1 4\nset 0 1 10 61\nset 1 1 9 62\nset 0 1 2 -\nclone\nrows\n",
-            0,
-            "created\ncommitted 1\ncommitted 2\ncommitted 3\ncomplete position 3\n1 2 -\n1 9 62\n1 10 61\nrows 3\n",
-            "commit 0 0 1\n1 10 61\ncommit 1 0 1\n1 9 62\ncommit 0 1 1\n1 2 -\n",
-        ),
-        // the longest value
-        (
-            "create 1 4\nset 0 1 0 00112233445566778899aabbccddeeff00112233445566778899aabbccddeeff00112233445566778899aabbccddeeff00112233445566778899aabbccddeeff\nclone\nrows\n",
-            0,
-            "created\ncommitted 1\ncomplete position 1\n1 0 00112233445566778899aabbccddeeff00112233445566778899aabbccddeeff00112233445566778899aabbccddeeff00112233445566778899aabbccddeeff\nrows 1\n",
-            "commit 0 0 1\n1 0 00112233445566778899aabbccddeeff00112233445566778899aabbccddeeff00112233445566778899aabbccddeeff00112233445566778899aabbccddeeff\n",
-        ),
-        // a table that was made twice, and one that was never made
-        (
-            "create 1 4\ncreate 1 2\nset 0 2 7 61\nset 0 1 7 6869\nclone\nrows\n",
-            0,
-            "created\nrefused E3\nrefused E2\ncommitted 1\ncomplete position 1\n1 7 6869\nrows 1\n",
-            "commit 0 1 1\n1 7 6869\n",
-        ),
-        // the change of a transaction that is open at the stop is not in the clone
-        (
-            "create 1 4\nset 0 1 5 aa\nbegin 1\nput 0 1 5 bb\nclone\nrows\ncommit 0\nrows\n",
-            0,
-            "created\ncommitted 1\ntrx 0\nok\ncomplete position 1\n1 5 aa\nrows 1\ncommitted 2\n1 5 aa\nrows 1\n",
-            "commit 0 0 1\n1 5 aa\ncommit 1 0 1\n1 5 bb\n",
-        ),
-        // a transaction sees its own changes, and a removal is in the binlog
-        (
-            "create 1 4\nset 0 1 7 61\nbegin 0\nget 0 1 7\ndel 0 1 7\nget 0 1 7\nput 0 1 8 -\nget 0 1 8\ndel 0 1 9\ncommit 0\nclone\nrows\n",
-            0,
-            "created\ncommitted 1\ntrx 0\nvalue 61\nok\nnone\nok\nvalue -\nok\ncommitted 2\ncomplete position 2\n1 8 -\nrows 1\n",
-            "commit 0 0 1\n1 7 61\ncommit 0 1 3\n1 7 none\n1 8 -\n1 9 none\n",
-        ),
-        // the transaction of a refused `set` stays open and has its index
-        (
-            "create 1 4\nset 0 2 7 61\nbegin 0\ncommit 1\nset 0 1 7 61\ncommit 0\n",
-            0,
-            "created\nrefused E2\ntrx 1\ncommitted 1\ncommitted 2\ncommitted 3\n",
-            "commit 0 1 0\ncommit 0 2 1\n1 7 61\ncommit 0 0 0\n",
-        ),
-        // the locks of a transaction, and their end
-        (
-            "put 0 1 1 aa\nbegin 0\nput 0 1 1 aa\ncreate 1 1\ncreate 1 1\nput 0 1 1 aa\nbegin 1\nput 1 1 1 bb\nget 1 1 1\nget 1 1 2\nundo 0\nput 1 1 1 bb\nundo 0\nput 1 1 1 bb\nundo 0\n",
-            0,
-            "refused E1\ntrx 0\nrefused E2\ncreated\nrefused E3\nok\ntrx 1\nrefused E4 0\nrefused E4 0\nnone\nundone 0\nrefused E4 0\nended\nok\nrefused E1\n",
-            "",
-        ),
-        // rows of two tables, in the order of tables and then of keys
-        (
-            "create 2 1\ncreate 1 1\nset 0 2 1 61\nset 0 1 2 62\nset 0 1 1 63\nclone\nrows\n",
-            0,
-            "created\ncreated\ncommitted 1\ncommitted 2\ncommitted 3\ncomplete position 3\n1 1 63\n1 2 62\n2 1 61\nrows 3\n",
-            "commit 0 0 1\n2 1 61\ncommit 0 1 1\n1 2 62\ncommit 0 2 1\n1 1 63\n",
-        ),
-    ];
-    for (script, status, out, binlog) in cases {
+    for (script, status, out, binlog) in SCRIPTS {
         run(rt.alloc(), &["steps"], script.as_bytes())?.expect(&rt, status, out, binlog);
     }
     Ok(())

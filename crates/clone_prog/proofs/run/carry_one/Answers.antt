@@ -6,10 +6,10 @@ use Rattle.clone_prog.proofs.Running.{nothing_taken, on_err}
 use Rattle.clone_prog.proofs.run.carry_one.Goals as goal
 
 pub returns-in_err-push-clause-err : goal.returns-in_err-push-clause-err
-returns-in_err-push-clause-err g c = on_err _ (behind_it _ _ c.in_ok-answer.ensures (nothing_taken _ _ _ refl))
+returns-in_err-push-clause-err g c = on_err _ (behind_it _ c.in_ok-answer.ensures.ok (nothing_taken _ _ _ refl))
 
 pub returns-clause-err : goal.returns-clause-err
 returns-clause-err g c =
     let whole : c.as_bytes.result.now ≡ ended (string_bytes c.in_ok-answer.answer) = search rules in
     let P : List ℕ → Type 0 = TakesSome (g.K.Sink.taken c.args.out.now) (g.K.Sink.taken c.write_all.new.sink) in
-    on_err _ (behind_it _ _ c.in_ok-answer.ensures (subst P whole c.write_all.ensures.some))
+    on_err _ (behind_it _ c.in_ok-answer.ensures.ok (subst P whole c.write_all.ensures.some))

@@ -6,7 +6,7 @@ pub carry_one-requires : goal.carry_one-requires
 carry_one-requires g c = within _ _ _ _ _ _ c.loop-line.invariant.0 (omega arith)
 
 pub returns-in_err-carry_one-clause-err : goal.returns-in_err-carry_one-clause-err
-returns-in_err-carry_one-clause-err g c = on_err _ (stopped _ _ _ _ _ _ _ c.line-item.is c.loop-line-test.true c.loop-line.invariant.0 c.in_err-carry_one.ensures.err)
+returns-in_err-carry_one-clause-err g c = on_err _ (stopped _ _ _ _ _ _ _ _ c.line-item.is c.loop-line-test.true c.loop-line.invariant.0 c.in_err-carry_one.ensures.err)
 
 pub loop-line-preserved : goal.loop-line-preserved
 loop-line-preserved g c =
