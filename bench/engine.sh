@@ -2,18 +2,14 @@
 # Times a put in one open transaction and in each of 64, over 1 table and over 62. A round commits 64
 # transactions of 160 changes each, either one after the other or all at a time; its puts are on the same
 # 10,240 rows in the same order either way, and over about as many pages. Prints the nanoseconds of
-# processor time that a put costs, with its share of begin and commit, as the median of five times, and
+# processor time that a put costs, with its share of begin and commit, as the median of seven times, and
 # how the costs compare. The program that is timed is built in a copy of the crates, since it is no part
 # of what is proved.
 
 top=$(cd "$(dirname "$0")/.." && pwd) || exit 1
-copy=$(mktemp -d) || exit 1
-trap 'rm -rf "$copy"' EXIT
+. "$top/bench/copied.sh"
 
-cp -r "$top/crates" "$top/crates.txt" "$top/HANDLES" "$copy" || exit 1
-echo 'clone_bench: clone_model clone_trx' >>"$copy/crates.txt"
-mkdir -p "$copy/crates/clone_bench/src" || exit 1
-cat >"$copy/crates/clone_bench/src/main.rt" <<'PROGRAM'
+build_program 'clone_model clone_trx' <<'PROGRAM'
 //! Makes rounds of changes. The words are how the transactions are open, the number of tables, and the
 //! number of rounds.
 
@@ -113,12 +109,6 @@ fn commit(alloc: Global, engine: &mut Engine, trx: u32) -> Option<()> {
     }
 }
 PROGRAM
-# Without words the program does nothing, so that this run only builds it.
-(cd "$copy/crates/clone_bench" && rt run) >"$copy/log" 2>&1
-[ -x "$copy/crates/clone_bench/out/clone_bench" ] || {
-    cat "$copy/log" >&2
-    exit 1
-}
 
 python3 - "$copy/crates/clone_bench/out/clone_bench" <<'PYTHON'
 import os
@@ -127,7 +117,7 @@ import sys
 
 PUTS = 64 * 160
 FEW, MANY = 2, 18
-TIMES = 5
+TIMES = 7
 
 
 def seconds(program, way, tables, rounds):
@@ -143,12 +133,20 @@ def seconds(program, way, tables, rounds):
 
 def put_cost(program, way, tables):
     """The nanoseconds of a put: what many rounds take above few, so that opening isn't in it."""
-    costs = [seconds(program, way, tables, MANY) - seconds(program, way, tables, FEW) for _ in range(TIMES)]
-    return statistics.median(costs) / (PUTS * (MANY - FEW)) * 1e9
+    many, few = (seconds(program, way, tables, rounds) for rounds in (MANY, FEW))
+    return (many - few) / (PUTS * (MANY - FEW)) * 1e9
+
+
+def put_costs(program):
+    """The medians, by how the transactions are open and the number of tables. All are timed in turn, so
+    that a slow time of the machine falls on each."""
+    kinds = [(way, tables) for way in ("apart", "together") for tables in (1, 62)]
+    times = [{kind: put_cost(program, *kind) for kind in kinds} for _ in range(TIMES)]
+    return {kind: statistics.median(costs[kind] for costs in times) for kind in kinds}
 
 
 def main(program):
-    costs = {(way, tables): put_cost(program, way, tables) for way in ("apart", "together") for tables in (1, 62)}
+    costs = put_costs(program)
     print(f"{'':>14} {'1 open':>9} {'64 open':>9} {'64 to 1':>9}")
     for tables in (1, 62):
         one, all_open = costs["apart", tables], costs["together", tables]

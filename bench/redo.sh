@@ -5,13 +5,9 @@
 # the crates, since it is no part of what is proved.
 
 top=$(cd "$(dirname "$0")/.." && pwd) || exit 1
-copy=$(mktemp -d) || exit 1
-trap 'rm -rf "$copy"' EXIT
+. "$top/bench/copied.sh"
 
-cp -r "$top/crates" "$top/crates.txt" "$top/HANDLES" "$copy" || exit 1
-echo 'clone_bench: clone_mtr' >>"$copy/crates.txt"
-mkdir -p "$copy/crates/clone_bench/src" || exit 1
-cat >"$copy/crates/clone_bench/src/main.rt" <<'PROGRAM'
+build_program 'clone_mtr' <<'PROGRAM'
 //! Writes or reads one mini-transaction again and again.
 
 use clone_mtr::{Mtr, Patch, Record, decode, encode, encode_into};
@@ -77,12 +73,6 @@ fn decodes(alloc: Global, mtr: &Mtr) -> Option<u64> {
     Some(bytes)
 }
 PROGRAM
-# Without a word the program does nothing, so that this run only builds it.
-(cd "$copy/crates/clone_bench" && rt run) >"$copy/log" 2>&1
-[ -x "$copy/crates/clone_bench/out/clone_bench" ] || {
-    cat "$copy/log" >&2
-    exit 1
-}
 
 python3 - "$copy/crates/clone_bench/out/clone_bench" encode encode_into decode <<'PYTHON'
 import subprocess
