@@ -7,7 +7,8 @@ use Rattle.std.specs.Cmp.{nat_cmp_total, eq_by_cmp_equiv}
 use Rattle.std.specs.Ordering.{nat_cmp, eq_by_cmp}
 use Rattle.std.specs.BTreeMap.{BTreeMap, get, Updates}
 use Rattle.std.proofs.lemmas.Map.Lookups.{exact_unsigned}
-use Rattle.clone_trx.proofs.Maps.{get_listed, is_equal}
+use Rattle.clone_model.proofs.RowMaps.{is_equal}
+use Rattle.clone_trx.proofs.Maps.{get_listed}
 
 chosen : (b : Bool) (was p : Option ℕ) (count : ℕ) → (b ≡ true → p ≡ was) → cond b was (cond b (Some count) p) ≡ p
 chosen true was p count is = sym (is refl)

@@ -17,7 +17,8 @@ use Rattle.clone_plain.specs.Donor.{Locks}
 use Rattle.clone_plain.specs.Causes.{transaction_limit}
 use Rattle.clone_plain.specs.Calls.{Releases}
 use Rattle.clone_trx.specs.Locked.{Lists, list_at, AreListed, without}
-use Rattle.clone_trx.proofs.Maps.{get-insert_same, get-insert_other, get-remove_same, get-remove_other, get-remove_some, decided}
+use Rattle.clone_trx.proofs.Entries.{get-set_same, get-set_other, get-removed_same, get-removed_other, cases_row}
+use Rattle.clone_trx.proofs.Maps.{get-remove_some}
 
 abbrev pub Row : Type 0
 Row = ℕ × ℕ
@@ -68,7 +69,7 @@ without_some (r ∷ rows) h q t e = get-remove_some row_cmp_total row_cmp_exact 
 pub without_in : (rows : List Row) (h : Locks) (q : Row) → Contains rows q → finite.get (without rows h) q ≡ None
 without_in [] h q among = absurd (nothing_in q among)
 without_in (r ∷ rows) h q among = elim (cons_cases r rows q among) [
-  | inl is ↦ without_none rows (finite.remove h r) q (ap (finite.get (finite.remove h r)) (sym is) ∙ get-remove_same row_cmp_total row_cmp_exact h r)
+  | inl is ↦ without_none rows (finite.remove h r) q (ap (finite.get (finite.remove h r)) (sym is) ∙ get-removed_same row_cmp_total row_cmp_exact h r)
   | inr more ↦ without_in rows (finite.remove h r) q more
 ]
 
@@ -76,7 +77,7 @@ pub without_out : (rows : List Row) (h : Locks) (q : Row) → (Contains rows q �
 without_out [] h q apart = refl
 without_out (r ∷ rows) h q apart =
     without_out rows (finite.remove h r) q (λ more. apart (Contains-append_right (r ∷ []) rows q more))
-    ∙ get-remove_other row_cmp_total row_cmp_exact h r q (λ is. apart (Contains-append_left (r ∷ []) rows q (subst (λ (x : Row). Contains (r ∷ []) x) (sym is) (Contains-push [] r))))
+    ∙ get-removed_other row_cmp_total row_cmp_exact h r q (λ is. apart (Contains-append_left (r ∷ []) rows q (subst (λ (x : Row). Contains (r ∷ []) x) (sym is) (Contains-push [] r))))
 
 -- before any row is locked
 pub none_listed : (h : Locks) (lists : Lists) → h ≡ finite.empty → length lists ≡ transaction_limit → ((t : ℕ) → list_at lists t ≡ []) → AreListed h lists
@@ -118,13 +119,13 @@ more_listed h lists trx row rows lt free more is = record {
     kept : (t : ℕ) (q : Row) → Contains (list_at lists t) q → finite.get (finite.insert h row trx) q ≡ Some t
     kept t q among =
         let has = is.held t q among in
-        get-insert_other row_cmp_total row_cmp_exact h row q trx (λ e. none_some (finite.get h q) t (ap (finite.get h) e ∙ free) has) ∙ has
+        get-set_other row_cmp_total row_cmp_exact h row trx q (λ e. none_some (finite.get h q) t (ap (finite.get h) e ∙ free) has) ∙ has
 
     held : (t : ℕ) (q : Row) → Contains (list_at new t) q → finite.get (finite.insert h row trx) q ≡ Some t
     held t q among = elim (cases_eq t trx) [
       | inl e ↦ elim (Contains-push_cases (list_at lists trx) row q (subst (λ (xs : List Row). Contains xs q) (ap (list_at new) e ∙ own) among)) [
         | inl old ↦ kept trx q old ∙ ap (λ (x : ℕ). Some x) (sym e)
-        | inr same ↦ ap (finite.get (finite.insert h row trx)) (sym same) ∙ get-insert_same row_cmp_total row_cmp_exact h row trx ∙ ap (λ (x : ℕ). Some x) (sym e)
+        | inr same ↦ ap (finite.get (finite.insert h row trx)) (sym same) ∙ get-set_same row_cmp_total row_cmp_exact h row trx ∙ ap (λ (x : ℕ). Some x) (sym e)
       ]
       | inr other ↦ kept t q (subst (λ (xs : List Row). Contains xs q) (list_at-set_other lists trx t rows other) among)
     ]
@@ -136,11 +137,11 @@ more_listed h lists trx row rows lt free more is = record {
     ]
 
     listed : (t : ℕ) (q : Row) → finite.get (finite.insert h row trx) q ≡ Some t → Contains (list_at new t) q
-    listed t q has = elim (decided row_cmp_total row_cmp_exact q row) [
+    listed t q has = elim (cases_row q row) [
       | inl e ↦
-          let mine : trx ≡ t = same_some trx t (sym (get-insert_same row_cmp_total row_cmp_exact h row trx) ∙ ap (finite.get (finite.insert h row trx)) (sym e) ∙ has) in
+          let mine : trx ≡ t = same_some trx t (sym (get-set_same row_cmp_total row_cmp_exact h row trx) ∙ ap (finite.get (finite.insert h row trx)) (sym e) ∙ has) in
           subst (λ (x : ℕ). Contains (list_at new x) q) mine (subst (λ (xs : List Row). Contains xs q) (sym own) (subst (λ (x : Row). Contains (list_at lists trx ++ row ∷ []) x) (sym e) (Contains-push (list_at lists trx) row)))
-      | inr other ↦ stays t q (is.listed t q (sym (get-insert_other row_cmp_total row_cmp_exact h row q trx other) ∙ has))
+      | inr other ↦ stays t q (is.listed t q (sym (get-set_other row_cmp_total row_cmp_exact h row trx q other) ∙ has))
     ]
 
 -- the rows of a transaction were taken out, and its list is empty

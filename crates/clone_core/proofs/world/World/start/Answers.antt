@@ -5,7 +5,7 @@ use Rattle.std.specs.Cmp.{nat_cmp_total}
 use Rattle.std.specs.FinMap as finite
 use Rattle.std.specs.Ordering.{nat_cmp}
 use Rattle.std.proofs.lemmas.Map.Lookups.{exact_unsigned}
-use Rattle.clone_trx.proofs.Maps.{get-insert_same}
+use Rattle.clone_trx.proofs.Entries.{get-set_same}
 use Rattle.clone_core.proofs.Answering.{counted}
 use Rattle.clone_core.proofs.Copies.{begin_kept}
 use Rattle.clone_core.proofs.world.World.start.Goals as goal
@@ -13,7 +13,7 @@ use Rattle.clone_core.proofs.world.World.start.Goals as goal
 -- the writer was counted
 pub restore-requires : goal.restore-requires
 restore-requires c =
-    let there = ap (λ (m : finite.FinMap nat_cmp ℕ). finite.get m c.args.writer) c.in_ok-begin.ensures.ok ∙ get-insert_same nat_cmp_total exact_unsigned c.self.inside.begun c.args.writer _ in
+    let there = ap (λ (m : finite.FinMap nat_cmp ℕ). finite.get m c.args.writer) c.in_ok-begin.ensures.ok ∙ get-set_same nat_cmp_total exact_unsigned c.self.inside.begun c.args.writer _ in
     ap is_some there
 
 pub invariant_of-self-then-is_err : goal.invariant_of-self-then-is_err
