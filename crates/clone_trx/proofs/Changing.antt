@@ -124,7 +124,7 @@ module _ (d after : Donor) (listed : List ℕ) (image : Image) (trx : ℕ) (chan
     undo = g.sound.undo;
     whole = g.sound.whole;
     active = g.made.was_active;
-    small = g.sound.locked.numbers trx (ap is_some g.made.was_active);
+    small = g.sound.locked.few.numbers trx (ap is_some g.made.was_active);
     room = subst (λ (changes : List Change). length changes < 160) changes_are g.room;
     in_range = g.in_range;
     eighty = eighty;

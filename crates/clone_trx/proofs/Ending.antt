@@ -86,7 +86,7 @@ module _ (d next : Donor) (image : Image) (lsn trx : ℕ) (commit : Commit) (rs 
 
 -- the number of an open transaction is below the limit
 pub open_within : (d : Donor) (trx : ℕ) (commit : Commit) → IsLocked d → finite.get d.active trx ≡ Some commit → trx < 64
-open_within d trx commit locked is = locked.numbers trx (subst (λ (o : Option Commit). IsSome o) (sym is) refl)
+open_within d trx commit locked is = locked.few.numbers trx (subst (λ (o : Option Commit). IsSome o) (sym is) refl)
 
 -- A transaction leaves nothing.
 

@@ -1,6 +1,6 @@
 -- The open transactions stay few, with few changes each, when one is set, removed or loses its last change.
-use Rattle.std.proofs.Common.{◌≡◌, ◌≢◌, ◌-◌, ◌<◌, ◌≤◌, ℕ, length, sym, ap, subst, ◌∙◌, arith, inl, inr, Some, None}
-use Rattle.std.specs.Prelude.{MatchOption, is_some}
+use Rattle.std.proofs.Common.{◌≡◌, ◌≢◌, ◌-◌, ◌<◌, ◌≤◌, ℕ, length, refl, sym, ap, subst, ◌∙◌, arith, inl, inr, Some, None}
+use Rattle.std.specs.Prelude.{MatchOption, IsSome, is_some}
 use Rattle.std.specs.declared.option.Option.{Option}
 use Rattle.std.specs.FinMap as finite
 use Rattle.std.specs.FinMap.{nat_cmp-IsAntisymmetric, get-empty}
@@ -14,8 +14,11 @@ use Rattle.clone_model.specs.declared.change.Commit.{Commit}
 use Rattle.clone_plain.specs.Causes.{transaction_limit, change_limit}
 use Rattle.clone_trx.specs.Opened.{Opened, AreFew, front_of, TakesLast, Pops}
 use Rattle.clone_trx.proofs.Entries.{get-set_same, get-set_other}
-use Rattle.clone_trx.proofs.Locked.{some_there}
 use Rattle.clone_trx.proofs.Maps.{get-remove_some}
+
+some_there : {X : Type 0} (o : Option X) → IsSome o → (x : X) × (o ≡ Some x)
+some_there None there = absurd cc
+some_there (Some x) there = (x, refl)
 
 pub few_empty : (m : Opened) → m ≡ finite.empty → AreFew m
 few_empty m is = record {

@@ -3,6 +3,7 @@ pub mod Paged
 pub mod Entries
 pub mod Values
 pub mod Places
+pub mod Few
 pub mod Locked
 pub mod Tells
 pub mod Donors
@@ -37,6 +38,5 @@ pub mod LastRecords
 pub mod Seen
 pub mod Committing
 pub mod Undoing
-pub mod Few
 pub mod PlainCauses
 pub mod PlainSteps

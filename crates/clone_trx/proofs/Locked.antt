@@ -16,14 +16,11 @@ use Rattle.clone_plain.specs.Causes.{transaction_limit, change_limit, least_free
 use Rattle.clone_plain.specs.Calls.{created, begun, with_change, Begins, Changes, TakesBack, Leaves, Commits, Releases}
 use Rattle.clone_trx.specs.Sound.{IsPlaced, IsLocked}
 use Rattle.clone_trx.proofs.Entries.{get-set_same, get-set_other, get-removed_same, cases_row, cases_held, cases_pushed, slice_get-pushed_front}
+use Rattle.clone_trx.proofs.Few.{few_inserted, few_removed}
 use Rattle.clone_trx.proofs.Values.{changes_of_active, others-set, others-removed, own-set, committed_other}
 use Rattle.clone_trx.proofs.Places.{same_buckets, changed_keeps, changed_placed, created_placed}
 
 -- The open transactions after a step.
-
-pub some_there : {X : Type 0} (o : Option X) → IsSome o → (x : X) × (o ≡ Some x)
-some_there None there = absurd cc
-some_there (Some x) there = (x, refl)
 
 -- it is the one that was set, or another that is as before
 set_cases : (d after : Donor) (trx n : ℕ) (new commit : Commit) → after.active ≡ finite.insert d.active trx new → finite.get after.active n ≡ Some commit
@@ -54,22 +51,13 @@ record SetsOne (d after : Donor) (trx : ℕ) (new : Commit) : Type 0 where
 
 set_locked : (d after : Donor) (trx : ℕ) (new : Commit) → IsLocked d → SetsOne d after trx new → IsLocked after
 set_locked d after trx new locked s = record {
-  numbers = λ n there. let w = some_there (finite.get after.active n) there in number n w.0 (set_cases d after trx n new w.0 s.active w.1);
-  few = λ n commit is. few n commit (set_cases d after trx n new commit s.active is);
+  few = few_inserted d.active after.active trx new locked.few s.active s.number s.few;
   own = λ n commit i change is at. own n commit i change at (set_cases d after trx n new commit s.active is);
   holders = λ table key n is. open_still (table, key) n (s.held (table, key) n is);
   places = s.places;
   rows = s.rows;
 }
   where
-    number : (n : ℕ) (commit : Commit) → ((n ≡ trx) × (commit ≡ new)) ⊎ ((n ≢ trx) × (finite.get d.active n ≡ Some commit)) → n < transaction_limit
-    number n commit (inl same) = subst (λ m. m < transaction_limit) (sym same.0) s.number
-    number n commit (inr other) = locked.numbers n (ap is_some other.1)
-
-    few : (n : ℕ) (commit : Commit) → ((n ≡ trx) × (commit ≡ new)) ⊎ ((n ≢ trx) × (finite.get d.active n ≡ Some commit)) → length commit.changes ≤ change_limit
-    few n commit (inl same) = subst (λ (c : Commit). length c.changes ≤ change_limit) (sym same.1) s.few
-    few n commit (inr other) = locked.few n commit other.1
-
     own : (n : ℕ) (commit : Commit) (i : ℕ) (change : Change) → slice_get commit.changes i ≡ Some change → ((n ≡ trx) × (commit ≡ new)) ⊎ ((n ≢ trx) × (finite.get d.active n ≡ Some commit))
         → finite.get after.locks (change.table, change.key) ≡ Some n
     own n commit i change is (inl same) = s.own i change (ap (λ (c : Commit). slice_get c.changes i) (sym same.1) ∙ is) ∙ ap (λ x. Some x) (sym same.0)
@@ -95,8 +83,7 @@ record EndsOne (d after : Donor) (trx : ℕ) : Type 0 where
 
 ended_locked : (d after : Donor) (trx : ℕ) → IsLocked d → EndsOne d after trx → IsLocked after
 ended_locked d after trx locked s = record {
-  numbers = λ n there. let w = some_there (finite.get after.active n) there in locked.numbers n (ap is_some (removed_cases d after trx n w.0 s.active w.1).1);
-  few = λ n commit is. locked.few n commit (removed_cases d after trx n commit s.active is).1;
+  few = few_removed d.active after.active trx locked.few s.active;
   own = λ n commit i change is at. let was = removed_cases d after trx n commit s.active is in kept (change.table, change.key) n was.0 (locked.own n commit i change was.1 at);
   holders = λ table key n is. let was = held (table, key) n is (cases_held (finite.get d.locks (table, key)) trx) in ap is_some (others-removed d after trx s.active n was.0) ∙ locked.holders table key n was.1;
   places = λ table key n is. placed table key (locked.places table key n (held (table, key) n is (cases_held (finite.get d.locks (table, key)) trx)).1);
@@ -154,7 +141,7 @@ pub changed_locked : {d after : Donor} {trx : ℕ} {change : Change} → IsLocke
     → length (changes_of d trx) < change_limit → 0 < length c.buckets → IsLocked after
 changed_locked {d} {after} {trx} {change} locked c free room some = set_locked d after trx (with_change change c.commit) locked record {
   active = ap (λ (e : Donor). e.active) c.is;
-  number = locked.numbers trx (ap is_some c.was_active);
+  number = locked.few.numbers trx (ap is_some c.was_active);
   few = let count = ap length (changes_of_active d trx c.commit c.was_active) in omega (arith, room, count, length_push c.commit.changes change);
   own = λ i x is. own i x (cases_pushed c.commit.changes change i x is);
   kept = λ row n other is. kept row n is (cases_row row at) other free;
@@ -199,8 +186,8 @@ pub taken_locked : {d after : Donor} {trx left : ℕ} → IsLocked d → TakesBa
 taken_locked {d} {after} {trx} {left} locked t =
     subst (λ (e : Donor). IsLocked e) (sym t.is) (set_locked d (record d { active = finite.insert d.active trx fewer }) trx fewer locked record {
       active = refl;
-      number = locked.numbers trx (ap is_some t.was_active);
-      few = let most = locked.few trx t.commit t.was_active in let count = ap length t.split in omega (arith, most, count, length_push t.front t.last);
+      number = locked.few.numbers trx (ap is_some t.was_active);
+      few = let most = locked.few.few trx t.commit t.was_active in let count = ap length t.split in omega (arith, most, count, length_push t.front t.last);
       own = λ i change is. locked.own trx t.commit i change t.was_active (ap (λ (cs : List Change). slice_get cs i) t.split ∙ slice_get-pushed_front t.front t.last i (slice_get_within t.front i change is) ∙ is);
       kept = λ row n other is. is;
       held = λ row n is. inr is;
@@ -237,7 +224,6 @@ committed_locked {d} {after} {trx} {position} locked c = ended_locked d after tr
 
 pub created_locked : (d : Donor) (table buckets : ℕ) → IsLocked d → finite.get d.tables table ≡ None → IsLocked (created table buckets d)
 created_locked d table buckets locked none = record {
-  numbers = locked.numbers;
   few = locked.few;
   own = locked.own;
   holders = locked.holders;

@@ -99,7 +99,7 @@ may_change d trx table key long none =
 -- one change more is within the limit
 pub has_room : (d : Donor) (trx table key : ℕ) → IsLocked d → MayChange d trx table key → length (changes_of d trx) < change_limit
 has_room d trx table key locked may =
-    let few = locked.few trx may.commit may.was_active in
+    let few = locked.few.few trx may.commit may.was_active in
     let same = ap length (changes_of_active d trx may.commit may.was_active) in
     let other = may.other_count in
     omega arith

@@ -25,6 +25,7 @@ use Rattle.clone_plain.specs.Causes.{transaction_limit}
 use Rattle.clone_trx.specs.Engine.{buckets_on, tables_of}
 use Rattle.clone_trx.specs.Written.{opening_records}
 use Rattle.clone_trx.specs.Sound.{IsLocked, IsSystem, HoldsTables, IsUndoSlot, HoldsUndo, IsSound}
+use Rattle.clone_trx.proofs.Few.{few_empty}
 use Rattle.clone_trx.proofs.Paged.{same_space}
 use Rattle.clone_trx.proofs.Pages.{get-tables_of_system, get-tables_of_table}
 
@@ -38,8 +39,7 @@ none_is_some (Some x) is some = cc
 
 IsLocked-none : IsLocked no_donor
 IsLocked-none = record {
-  numbers = λ trx some. absurd (none_is_some (finite.get no_donor.active trx) (get-empty nat_cmp trx) some);
-  few = λ trx commit is. absurd (let e = sym is ∙ get-empty nat_cmp trx in cc);
+  few = few_empty no_donor.active (λ i. finite.empty);
   own = λ trx commit i change is at. absurd (let e = sym is ∙ get-empty nat_cmp trx in cc);
   holders = λ table key trx is. absurd (let e = sym is ∙ get-empty row_cmp (table, key) in cc);
   places = λ table key trx is. absurd (let e = sym is ∙ get-empty row_cmp (table, key) in cc);

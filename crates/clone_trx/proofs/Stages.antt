@@ -104,4 +104,4 @@ stage-last d rows table key locked = at (finite.get d.locks (table, key)) refl
     at None is = refl
     at (Some trx) is =
         by_number-below trx transaction_limit (finite.get (fold d.history) (table, key)) (finite.get rows (table, key)) (finite.get (after_changes (fold d.history) (changes_of d trx)) (table, key))
-        (locked.numbers trx (locked.holders table key trx is))
+        (locked.few.numbers trx (locked.holders table key trx is))

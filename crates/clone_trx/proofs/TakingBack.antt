@@ -102,7 +102,7 @@ module _ (d after : Donor) (listed : List â„•) (image : Image) (lsn trx left : â
   commit = g.taken.commit
 
   small : trx < 64
-  small = g.sound.locked.numbers trx (ap is_some g.taken.was_active)
+  small = g.sound.locked.few.numbers trx (ap is_some g.taken.was_active)
 
   own_there : IsUndoSlot d commit (undo_slot_of image trx)
   own_there = own_slot d image trx commit g.sound.undo g.taken.was_active small

@@ -14,8 +14,9 @@ use Rattle.clone_undo.specs.Slots.{UndoSlot}
 use Rattle.clone_image.specs.Image.{Image, page_of, page_count, AreWholePages}
 use Rattle.clone_image.specs.Recovered.{undo_slot_of}
 use Rattle.clone_plain.specs.Donor.{Donor, changes_of, bucket_of}
-use Rattle.clone_plain.specs.Causes.{has_key, transaction_limit, change_limit, table_limit}
+use Rattle.clone_plain.specs.Causes.{has_key, transaction_limit, table_limit}
 use Rattle.clone_trx.specs.Engine.{keys_on, tables_of}
+use Rattle.clone_trx.specs.Opened.{AreFew}
 
 -- the changes of the transaction that holds a lock, or none where none does
 abbrev pub changes_by : Donor → Option ℕ → List Change
@@ -32,8 +33,7 @@ IsPlaced d table key = has_key key (bucket_of d table key) ≡ true
 
 -- The rows that a transaction changed are locked by it. A row that is locked is so by an open transaction, and its key has a place. Each row that the history leaves has a place.
 pub record IsLocked (d : Donor) : Type 0 where
-  pub numbers : (trx : ℕ) → IsSome (finite.get d.active trx) → trx < transaction_limit
-  pub few : (trx : ℕ) (commit : Commit) → finite.get d.active trx ≡ Some commit → length commit.changes ≤ change_limit
+  pub few : AreFew d.active
   pub own : (trx : ℕ) (commit : Commit) (i : ℕ) (change : Change) → finite.get d.active trx ≡ Some commit → slice_get commit.changes i ≡ Some change → finite.get d.locks (change.table, change.key) ≡ Some trx
   pub holders : (table key trx : ℕ) → finite.get d.locks (table, key) ≡ Some trx → IsSome (finite.get d.active trx)
   pub places : (table key trx : ℕ) → finite.get d.locks (table, key) ≡ Some trx → IsPlaced d table key
