@@ -9,3 +9,4 @@ pub mod BinlogLines
 pub mod Beginnings
 pub mod Values
 pub mod OneAnswer
+pub mod HistoryLemmas

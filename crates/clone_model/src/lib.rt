@@ -3,6 +3,7 @@
 #![tactic(auto)]
 
 mod change;
+mod history;
 mod line;
 mod list;
 mod reading;
@@ -14,6 +15,7 @@ mod text;
 mod value;
 
 pub use change::{Change, Commit};
+pub use history::history_laws;
 pub use clone_outside::NoMemory;
 pub use line::{BucketCount, Line, TableNumber};
 pub use list::{Binlog, Changes};

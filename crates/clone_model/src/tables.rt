@@ -1,7 +1,6 @@
 ghost use Rattle.std.specs.Prelude.{◌≡◌, ℕ, OnOk, OnErr, IfOk};
 ghost use Rattle.std.specs.FinMap as finite;
-ghost use Rattle.clone_model.specs.History as histories;
-ghost use Rattle.clone_model.specs.History.{after_change, after_changes, after_commit, rows_in};
+ghost use Rattle.clone_model.specs.History.{after_change, after_changes, after_commit, after_commits, rows_in};
 ghost use Rattle.clone_model.specs.Room.{HasRoom, HasRoomFor, kept};
 
 use crate::{Change, Commit, NoMemory, Value};
@@ -77,12 +76,12 @@ impl Tables {
     }
 }
 
-/// The rows that a history leaves: its commits are applied to no rows, one after the other.
-pub fn fold(alloc: Global, history: &[Commit]) -> Result<Tables, NoMemory>
-    ensures { IfOk result (λ tables. tables ≡ histories.fold history.now) }
+/// The rows that commits leave: they are applied to no rows, one after the other.
+pub fn fold(alloc: Global, commits: &[Commit]) -> Result<Tables, NoMemory>
+    ensures { IfOk result (λ tables. tables ≡ after_commits finite.empty commits.now) }
 {
     let mut tables = Tables::new(alloc);
-    for commit in history {
+    for commit in commits {
         tables.apply(commit)?;
     }
     Ok(tables)
