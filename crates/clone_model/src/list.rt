@@ -1,7 +1,7 @@
 ghost use Rattle.std.specs.Prelude.{◌≡◌, ◌↔◌, ◌++◌, ◌∷◌, ◌<◌, [], IsTrue, OnOk, OnErr, IfOk, length, take, ◌-◌, option_to_list};
 
-use crate::{Change, Commit, NoMemory};
-use std::alloc::Global;
+use crate::{Change, Commit};
+use std::alloc::{AllocError, Global};
 use std::marker::Model;
 
 /// Changes in their order.
@@ -30,7 +30,7 @@ impl Changes {
     }
 
     /// One change.
-    pub fn with(alloc: Global, change: Change) -> Result<Changes, NoMemory>
+    pub fn with(alloc: Global, change: Change) -> Result<Changes, AllocError>
         ensures { IfOk result (λ changes. changes ≡ change ∷ []) }
     {
         let mut changes = Changes::new(alloc);
@@ -39,7 +39,7 @@ impl Changes {
     }
 
     /// Adds a change behind the others. After a refusal the list is as before.
-    pub fn push(&mut self, change: Change) -> Result<(), NoMemory>
+    pub fn push(&mut self, change: Change) -> Result<(), AllocError>
         ensures ok { OnOk result (self.new ≡ self.old ++ change ∷ []) }
         ensures err { OnErr result (self.new ≡ self.old) }
     {
@@ -103,7 +103,7 @@ impl Binlog {
     }
 
     /// Adds a commit behind the others. After a refusal the binlog is as before.
-    pub fn push(&mut self, commit: Commit) -> Result<(), NoMemory>
+    pub fn push(&mut self, commit: Commit) -> Result<(), AllocError>
         ensures ok { OnOk result (self.new ≡ self.old ++ commit ∷ []) }
         ensures err { OnErr result (self.new ≡ self.old) }
     {
@@ -112,7 +112,7 @@ impl Binlog {
     }
 
     /// Makes room for so many more commits. The binlog stays the same, whatever the answer.
-    pub fn reserve(&mut self, additional: usize) -> Result<(), NoMemory>
+    pub fn reserve(&mut self, additional: usize) -> Result<(), AllocError>
         ensures same { self.new ≡ self.old }
     {
         self.list.reserve(additional)
