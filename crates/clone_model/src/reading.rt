@@ -44,7 +44,9 @@ impl From<AllocError> for ReadRefusal {
 /// first line that no binlog has behind the lines before it; each line needs its line feed. Where the
 /// text ends inside a commit, it has the number of the first line that is missing.
 pub fn read_binlog(alloc: Global, text: &[u8]) -> Result<Binlog, ReadRefusal>
-    ensures { ReadsBinlog text.now result }
+    ensures { MatchResult result
+        (λ binlog. ReadsBinlog text.now (Ok binlog.commits))
+        (λ refusal. ReadsBinlog text.now (Err refusal)) }
 {
     let mut binlog = Binlog::new(alloc);
     let mut rest = text;

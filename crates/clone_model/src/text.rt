@@ -20,7 +20,7 @@ pub fn rows_text(alloc: Global, rows: &[(u32, u64, Value)]) -> Result<String, Al
 
 /// The commits in their order, each with its changes.
 pub fn binlog_text(alloc: Global, binlog: &Binlog) -> Result<String, AllocError>
-    ensures { IfOk result (λ text. string_bytes text ≡ texts.binlog_text binlog.now) }
+    ensures { IfOk result (λ text. string_bytes text ≡ texts.binlog_text binlog.now.commits) }
 {
     let mut text = String::new(alloc);
     for commit in binlog.as_slice() {
