@@ -1,4 +1,0 @@
-pub mod Runs
-mod Effects
-pub mod Headline
-pub mod Reached
