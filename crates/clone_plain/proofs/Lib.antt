@@ -1,4 +1,3 @@
-pub mod Runs
-mod Effects
-pub mod Headline
-pub mod Reached
+pub mod OpenLemmas
+pub mod ValueLemmas
+pub mod LockLemmas

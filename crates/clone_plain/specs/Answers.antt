@@ -8,6 +8,7 @@ use Rattle.clone_plain.specs.declared.refusal.Cause.{Cause}
 use Rattle.clone_plain.specs.declared.refusal.Cause.TheVariants.{NoSuchTrx, NoSuchTable, TableExists, RowLocked, ValueTooLong, UndoFull, SpaceFull, TooManyTransactions, TooManyTables}
 use Rattle.clone_plain.specs.declared.refusal.Undone.{Undone}
 use Rattle.clone_plain.specs.declared.refusal.Undone.TheVariants.{Left, Ended}
+use Rattle.clone_plain.specs.Calls.{Done, did_create, did_begin, did_put, did_delete, did_get, did_undo_one, did_commit, Made, done, refused}
 
 abbrev pub Text : Type 0
 Text = List ℕ
@@ -24,10 +25,6 @@ refusal_text SpaceFull = codes "refused E7"
 refusal_text TooManyTransactions = codes "refused E10"
 refusal_text TooManyTables = codes "refused E11"
 
--- the number of the transaction that began
-abbrev pub begun_answer : ℕ → Text
-begun_answer trx = codes "trx " ++ decimal trx
-
 -- a value, or that there is none
 abbrev pub value_answer : Option (List ℕ) → Text
 value_answer None = codes "none"
@@ -38,9 +35,21 @@ abbrev pub undone_answer : Undone → Text
 undone_answer (Left left) = codes "undone " ++ decimal left
 undone_answer Ended = codes "ended"
 
-abbrev pub committed_answer : ℕ → Text
-committed_answer position = codes "committed " ++ decimal position
+-- the answer of a call that was carried out
+abbrev pub done_text : Done → Text
+done_text (did_create table buckets) = codes "created"
+done_text (did_begin writer index trx) = codes "trx " ++ decimal trx
+done_text (did_put trx table key value) = codes "ok"
+done_text (did_delete trx table key) = codes "ok"
+done_text (did_get trx table key value) = value_answer value
+done_text (did_undo_one trx undone) = undone_answer undone
+done_text (did_commit trx position) = codes "committed " ++ decimal position
 
+abbrev pub made_text : Made → Text
+made_text (done d) = done_text d
+made_text (refused call cause) = refusal_text cause
+
+-- a clone is complete at a position
 abbrev pub complete_answer : ℕ → Text
 complete_answer position = codes "complete position " ++ decimal position
 

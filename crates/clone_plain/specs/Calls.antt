@@ -1,97 +1,72 @@
--- What each call of the donor does where it isn't refused, and when it is.
-use Rattle.std.specs.Prelude.{ℕ, ◌≡◌, ◌+◌, ◌%◌, List, [], ◌∷◌, ◌++◌, length, replicate, slice_set, if◌then◌else◌, None, Some}
+-- The calls of a donor, and one relation that says what a call with its answer does to the plain donor.
+use Rattle.std.specs.Prelude.{ℕ, ◌≡◌, ◌⊎◌, List, length, None, Some}
 use Rattle.std.specs.declared.option.Option.{Option}
-use Rattle.std.specs.declared.result.Result.{Result}
-use Rattle.std.specs.declared.result.Result.TheVariants.{Ok, Err}
-use Rattle.std.specs.FinMap as finite
-use Rattle.clone_model.specs.History.{fold, after_changes}
-use Rattle.clone_model.specs.declared.change.Change.{Change}
-use Rattle.clone_model.specs.declared.change.Commit.{Commit}
 use Rattle.clone_plain.specs.declared.refusal.Cause.{Cause}
-use Rattle.clone_plain.specs.declared.refusal.EngineRefusal.{EngineRefusal}
-use Rattle.clone_plain.specs.declared.refusal.EngineRefusal.TheVariants.{Because, NoMemory}
+use Rattle.clone_plain.specs.declared.refusal.Cause.TheVariants.{SpaceFull}
 use Rattle.clone_plain.specs.declared.refusal.Undone.{Undone}
-use Rattle.clone_plain.specs.declared.refusal.Undone.TheVariants.{Left, Ended}
-use Rattle.clone_plain.specs.Donor.{Donor, Keys, Locks, bucket_in}
-use Rattle.clone_plain.specs.Causes.{has_key, least_free}
+use Rattle.clone_plain.specs.Donor.{Donor}
+use Rattle.clone_plain.specs.Causes.{create_cause, begin_cause, change_cause, get_cause, no_trx}
+use Rattle.clone_plain.specs.Effects.{created, Begins, Changes, put_of, delete_of, Gets, Undoes, Commits}
 
--- A call does what it is for exactly where there is no cause against it. Else it is refused for that cause, and nothing changes. Want of memory is free, and then nothing changes either.
-abbrev pub Decided : {X : Type 0} → Option Cause → Donor → Donor → Result X EngineRefusal → (X → Type 0) → Type 0
-Decided cause before after (Ok answer) Does = (cause ≡ None) × Does answer
-Decided cause before after (Err (Because c)) Does = (cause ≡ Some c) × (after ≡ before)
-Decided cause before after (Err NoMemory) Does = after ≡ before
+-- a call
+pub data Call : Type 0 where
+  create : (table buckets : ℕ) → Call
+  begin : (writer index : ℕ) → Call
+  put : (trx table key : ℕ) (value : List ℕ) → Call
+  delete : (trx table key : ℕ) → Call
+  get : (trx table key : ℕ) → Call
+  undo_one : (trx : ℕ) → Call
+  commit : (trx : ℕ) → Call
 
--- a table is made: none of its buckets has a key
-abbrev pub created : ℕ → ℕ → Donor → Donor
-created table buckets d = record d { tables = finite.insert d.tables table (replicate buckets []) }
+-- a call that was carried out, with its answer
+pub data Done : Type 0 where
+  did_create : (table buckets : ℕ) → Done
+  did_begin : (writer index trx : ℕ) → Done
+  did_put : (trx table key : ℕ) (value : List ℕ) → Done
+  did_delete : (trx table key : ℕ) → Done
+  did_get : (trx table key : ℕ) (value : Option (List ℕ)) → Done
+  did_undo_one : (trx : ℕ) (undone : Undone) → Done
+  did_commit : (trx position : ℕ) → Done
 
--- a transaction is opened, with no change and no lock
-abbrev pub begun : ℕ → ℕ → ℕ → Donor → Donor
-begun trx writer index d = record d { active = finite.insert d.active trx (record { writer = writer; index = index; changes = [] }) }
+-- a call that was made: it was carried out, or refused for a cause
+pub data Made : Type 0 where
+  done : Done → Made
+  refused : Call → Cause → Made
 
--- the transaction that begins gets the least free number
-abbrev pub Begins : Donor → ℕ → ℕ → ℕ → Donor → Type 0
-Begins d writer index trx after = (least_free d ≡ Some trx) × (after ≡ begun trx writer index d)
+abbrev pub call_of : Done → Call
+call_of (did_create table buckets) = create table buckets
+call_of (did_begin writer index trx) = begin writer index
+call_of (did_put trx table key value) = put trx table key value
+call_of (did_delete trx table key) = delete trx table key
+call_of (did_get trx table key value) = get trx table key
+call_of (did_undo_one trx undone) = undo_one trx
+call_of (did_commit trx position) = commit trx
 
--- a key gets a place in its bucket, behind the others, unless it has one
-abbrev pub with_key : ℕ → Keys → Keys
-with_key key keys = if has_key key keys then keys else keys ++ key ∷ []
+-- the call that was made
+abbrev pub made_call : Made → Call
+made_call (done d) = call_of d
+made_call (refused call cause) = call
 
--- the buckets of a table once a key has its place
-abbrev pub placed : ℕ → List Keys → List Keys
-placed key buckets = slice_set buckets (key % length buckets) (with_key key (bucket_in buckets key))
+-- the first cause against a call
+abbrev pub cause_of : Donor → Call → Option Cause
+cause_of d (create table buckets) = create_cause d table
+cause_of d (begin writer index) = begin_cause d
+cause_of d (put trx table key value) = change_cause d trx table key (length value)
+cause_of d (delete trx table key) = change_cause d trx table key 0
+cause_of d (get trx table key) = get_cause d trx table key
+cause_of d (undo_one trx) = no_trx d trx
+cause_of d (commit trx) = no_trx d trx
 
--- a change behind the others
-abbrev pub with_change : Change → Commit → Commit
-with_change change commit = record commit { changes = commit.changes ++ change ∷ [] }
+abbrev pub Does : Donor → Done → Donor → Type 0
+Does d (did_create table buckets) after = after ≡ created table buckets d
+Does d (did_begin writer index trx) after = Begins d writer index trx after
+Does d (did_put trx table key value) after = Changes d trx (put_of table key value) after
+Does d (did_delete trx table key) after = Changes d trx (delete_of table key) after
+Does d (did_get trx table key value) after = Gets d trx table key value × (after ≡ d)
+Does d (did_undo_one trx undone) after = Undoes d trx undone after
+Does d (did_commit trx position) after = Commits d trx position after
 
--- a change is made: it joins those of its transaction, the transaction holds the row's lock, and the key has a place
-pub record Changes (d : Donor) (trx : ℕ) (change : Change) (after : Donor) : Type 0 where
-  pub commit : Commit
-  pub buckets : List Keys
-  pub was_active : finite.get d.active trx ≡ Some commit
-  pub was_table : finite.get d.tables change.table ≡ Some buckets
-  pub is : after ≡ record d { tables = finite.insert d.tables change.table (placed change.key buckets); active = finite.insert d.active trx (with_change change commit); locks = finite.insert d.locks (change.table, change.key) trx }
-
--- the row's value after the history and then the transaction's own changes
-pub record Gets (d : Donor) (trx table key : ℕ) (value : Option (List ℕ)) : Type 0 where
-  pub commit : Commit
-  pub was_active : finite.get d.active trx ≡ Some commit
-  pub is : value ≡ finite.get (after_changes (fold d.history) commit.changes) (table, key)
-
--- the locks of a transaction are released, and no others
-pub record Releases (trx : ℕ) (before after : Locks) : Type 0 where
-  pub own : (row : ℕ × ℕ) → finite.get before row ≡ Some trx → finite.get after row ≡ None
-  pub others : (row : ℕ × ℕ) → ¬ (finite.get before row ≡ Some trx) → finite.get after row ≡ finite.get before row
-
--- the last change is taken back, and the locks stay
-pub record TakesBack (d : Donor) (trx left : ℕ) (after : Donor) : Type 0 where
-  pub commit : Commit
-  pub was_active : finite.get d.active trx ≡ Some commit
-  pub front : List Change
-  pub last : Change
-  pub split : commit.changes ≡ front ++ last ∷ []
-  pub count : left ≡ length front
-  pub is : after ≡ record d { active = finite.insert d.active trx (record commit { changes = front }) }
-
--- a transaction without changes ends, and leaves nothing
-pub record Leaves (d : Donor) (trx : ℕ) (after : Donor) : Type 0 where
-  pub commit : Commit
-  pub was_active : finite.get d.active trx ≡ Some commit
-  pub nothing : commit.changes ≡ []
-  pub locks : Locks
-  pub released : Releases trx d.locks locks
-  pub is : after ≡ record d { active = finite.remove d.active trx; locks = locks }
-
-abbrev pub Undoes : Donor → ℕ → Undone → Donor → Type 0
-Undoes d trx (Left left) after = TakesBack d trx left after
-Undoes d trx Ended after = Leaves d trx after
-
--- all changes of a transaction join the history as one commit, and it ends
-pub record Commits (d : Donor) (trx position : ℕ) (after : Donor) : Type 0 where
-  pub commit : Commit
-  pub was_active : finite.get d.active trx ≡ Some commit
-  pub locks : Locks
-  pub released : Releases trx d.locks locks
-  pub count : position ≡ length d.history + 1
-  pub is : after ≡ record d { active = finite.remove d.active trx; locks = locks; history = d.history ++ commit ∷ [] }
+-- A call is carried out only where there is no cause against it. Else it is refused for that cause, and nothing changes. A page that is full is a cause that the plain donor doesn't know.
+abbrev pub PlainStep : Donor → Made → Donor → Type 0
+PlainStep d (done x) after = (cause_of d (call_of x) ≡ None) × Does d x after
+PlainStep d (refused call cause) after = ((cause_of d call ≡ Some cause) ⊎ ((cause_of d call ≡ None) × (cause ≡ SpaceFull))) × (after ≡ d)

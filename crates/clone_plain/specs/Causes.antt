@@ -1,14 +1,14 @@
--- Why a call is refused: the first cause that stands, in the order of each call, or none.
-use Rattle.std.specs.Prelude.{ℕ, ◌==◌, ◌&&◌, not, nat_lt, Bool, true, false, length, if◌then◌else◌, None, Some}
+-- Why the plain donor refuses a call: the first cause that stands, in the order of each call, or none.
+use Rattle.std.specs.Prelude.{ℕ, ◌==◌, not, nat_lt, Bool, true, false, length, if◌then◌else◌, None, Some}
 use Rattle.std.specs.declared.option.Option.{Option}
 use Rattle.std.specs.Option.{option_or}
-use Rattle.std.specs.List.{list_any, range_with_len, find}
+use Rattle.std.specs.List.{range_with_len, find}
 use Rattle.std.specs.FinMap as finite
 use Rattle.std.specs.Ordering.{nat_cmp}
 use Rattle.clone_model.specs.declared.change.Commit.{Commit}
 use Rattle.clone_plain.specs.declared.refusal.Cause.{Cause}
-use Rattle.clone_plain.specs.declared.refusal.Cause.TheVariants.{NoSuchTrx, NoSuchTable, TableExists, RowLocked, ValueTooLong, UndoFull, SpaceFull, TooManyTransactions, TooManyTables}
-use Rattle.clone_plain.specs.Donor.{Donor, Keys, changes_of, bucket_of}
+use Rattle.clone_plain.specs.declared.refusal.Cause.TheVariants.{NoSuchTrx, NoSuchTable, TableExists, RowLocked, ValueTooLong, UndoFull, TooManyTransactions, TooManyTables}
+use Rattle.clone_plain.specs.Donor.{Donor, changes_of}
 
 -- how many transactions may be open, and how many changes each may have
 abbrev pub transaction_limit : ℕ
@@ -24,21 +24,10 @@ table_limit = 62
 abbrev pub value_limit : ℕ
 value_limit = 64
 
--- how many keys have a place in a bucket
-abbrev pub bucket_room : ℕ
-bucket_room = 50
-
 -- a cause where it stands
 abbrev pub whether : Bool → Cause → Option Cause
 whether true cause = Some cause
 whether false cause = None
-
-abbrev pub has_key : ℕ → Keys → Bool
-has_key key keys = list_any (λ k. k == key) keys
-
--- a bucket has no place for a key: the key has none there, and all places are taken
-abbrev pub is_full : Keys → ℕ → Bool
-is_full keys key = not (has_key key keys) && (length keys == bucket_room)
 
 -- no open transaction has this number
 abbrev pub no_trx : Donor → ℕ → Option Cause
@@ -64,10 +53,6 @@ locked_by trx (Some holder) = if holder == trx then None else Some (RowLocked ho
 abbrev pub row_locked : Donor → ℕ → ℕ → ℕ → Option Cause
 row_locked d trx table key = locked_by trx (finite.get d.locks (table, key))
 
--- the row's bucket has no place for its key
-abbrev pub space_full : Donor → ℕ → ℕ → Option Cause
-space_full d table key = whether (is_full (bucket_of d table key) key) SpaceFull
-
 -- the least number below the limit of which no transaction is open, or none where each is taken
 unfoldable pub least_unused : finite.FinMap nat_cmp Commit → Option ℕ
 least_unused active = find (λ trx. not (finite.contains_key active trx)) (range_with_len 0 transaction_limit)
@@ -88,7 +73,7 @@ begin_cause d = all_taken (least_free d)
 
 -- of a change whose value has so many bytes; a removal has none
 abbrev pub change_cause : Donor → ℕ → ℕ → ℕ → ℕ → Option Cause
-change_cause d trx table key long = option_or (no_trx d trx) (option_or (too_long long) (option_or (no_table d table) (option_or (undo_full d trx) (option_or (row_locked d trx table key) (space_full d table key)))))
+change_cause d trx table key long = option_or (no_trx d trx) (option_or (too_long long) (option_or (no_table d table) (option_or (undo_full d trx) (row_locked d trx table key))))
 
 abbrev pub get_cause : Donor → ℕ → ℕ → ℕ → Option Cause
 get_cause d trx table key = option_or (no_trx d trx) (option_or (no_table d table) (row_locked d trx table key))

@@ -1,7 +1,11 @@
 pub mod Donor
 pub mod Causes
+pub mod Effects
+pub mod Decided
 pub mod Calls
 pub mod Answers
-pub mod Plain
+pub mod World
+pub mod Events
 pub mod Runs
 pub mod Headline
+pub mod Locked

@@ -1,126 +1,64 @@
--- What the lines of a script answer, and what they leave: one step a line, and runs of steps. A step is a relation between the state before it, the line, the answer and the state after it.
-use Rattle.std.specs.Prelude.{ℕ, ◌≡◌, List, [], ◌∷◌, length, take, None, Some, MatchOption, codes}
-use Rattle.std.specs.declared.option.Option.{Option}
-use Rattle.std.specs.List.{flat_map}
-use Rattle.clone_model.specs.History.{fold, rows_in}
+-- Which events a line makes, and runs of lines.
+use Rattle.std.specs.Prelude.{ℕ, ◌≡◌, ◌⊎◌, List, [], ◌∷◌, ◌++◌}
+use Rattle.std.specs.List.{flat_map, AllByRecursion}
+use Rattle.clone_model.specs.History.{Rows}
 use Rattle.clone_model.specs.Texts.{ended}
-use Rattle.clone_model.specs.declared.change.Change.{Change}
 use Rattle.clone_model.specs.declared.line.Line.{Line}
-use Rattle.clone_model.specs.declared.line.Line.TheVariants.{Create, Begin, Put, Delete, Get, Undo, Commit, Set, Clone, Rows}
+use Rattle.clone_model.specs.declared.line.Line.TheVariants.{Create, Begin, Put, Delete, Get, Undo, Commit, Set, Clone, Rows as ShowRows}
 use Rattle.clone_plain.specs.declared.refusal.Cause.{Cause}
-use Rattle.clone_plain.specs.declared.refusal.Undone.{Undone}
 use Rattle.clone_plain.specs.Donor.{Donor}
-use Rattle.clone_plain.specs.Causes.{create_cause, begin_cause, change_cause, get_cause, no_trx}
-use Rattle.clone_plain.specs.Calls.{created, Begins, Changes, Gets, Undoes, Commits}
-use Rattle.clone_plain.specs.Answers.{Text, refusal_text, begun_answer, value_answer, undone_answer, committed_answer, complete_answer, rows_answer}
-use Rattle.clone_plain.specs.Plain.{Plain, next_index, with_donor, with_begun, with_stop}
+use Rattle.clone_plain.specs.Calls.{Call, create, begin, put, delete, get, undo_one, commit, Done, did_begin, did_put, Made, done, refused, made_call}
+use Rattle.clone_plain.specs.World.{World, index_in}
+use Rattle.clone_plain.specs.Events.{Event, made, completed, showed, incomplete, said, Events}
 
--- A call does what it is for where there is no cause against it. Else it is refused for that cause, and nothing changes.
-abbrev pub Answers : Option Cause → Plain → Text → Plain → Type 0 → Type 0
-Answers cause s answer t Does = MatchOption cause Does (λ c. (answer ≡ refusal_text c) × (t ≡ s))
+-- one call is made
+abbrev pub MakesOne : Call → List Event → Type 0
+MakesOne call events = (m : Made) × (made_call m ≡ call) × (events ≡ made m ∷ [])
 
-abbrev pub put_of : ℕ → ℕ → List ℕ → Change
-put_of table key value = record { table = table; key = key; value = Some value }
+-- A transaction begins, makes one change and commits, as far as none of the three calls is refused.
+pub data MakesSet (writer index table key : ℕ) (value : List ℕ) (events : List Event) : Type 0 where
+  not_begun : (cause : Cause) → events ≡ made (refused (begin writer index) cause) ∷ [] → MakesSet writer index table key value events
+  not_changed : (trx : ℕ) (cause : Cause) → events ≡ made (done (did_begin writer index trx)) ∷ made (refused (put trx table key value) cause) ∷ [] → MakesSet writer index table key value events
+  set : (trx : ℕ) (last : Made) → made_call last ≡ commit trx → events ≡ made (done (did_begin writer index trx)) ∷ made (done (did_put trx table key value)) ∷ made last ∷ [] → MakesSet writer index table key value events
 
-abbrev pub delete_of : ℕ → ℕ → Change
-delete_of table key = record { table = table; key = key; value = None }
+-- the events of a line, where each writer's next transaction has this index
+abbrev pub Makes : (ℕ → ℕ) → Line → List Event → Type 0
+Makes next (Create table buckets) events = MakesOne (create table buckets) events
+Makes next (Begin writer) events = MakesOne (begin writer (next writer)) events
+Makes next (Put trx table key value) events = MakesOne (put trx table key value) events
+Makes next (Delete trx table key) events = MakesOne (delete trx table key) events
+Makes next (Get trx table key) events = MakesOne (get trx table key) events
+Makes next (Undo trx) events = MakesOne (undo_one trx) events
+Makes next (Commit trx) events = MakesOne (commit trx) events
+Makes next (Set writer table key value) events = MakesSet writer (next writer) table key value events
+Makes next Clone events = (n : ℕ) × (events ≡ completed n ∷ [])
+Makes next ShowRows events = (events ≡ incomplete ∷ []) ⊎ ((rows : Rows) × (events ≡ showed rows ∷ []))
 
--- a transaction begins
-pub record BeginStep (s : Plain) (writer : ℕ) (answer : Text) (t : Plain) : Type 0 where
-  pub trx : ℕ
-  pub donor : Donor
-  pub begins : Begins s.donor writer (next_index s writer) trx donor
-  pub text : answer ≡ begun_answer trx
-  pub is : t ≡ with_begun writer (with_donor donor s)
-
--- a change is made
-pub record ChangeStep (s : Plain) (trx : ℕ) (change : Change) (answer : Text) (t : Plain) : Type 0 where
-  pub donor : Donor
-  pub changes : Changes s.donor trx change donor
-  pub text : answer ≡ codes "ok"
-  pub is : t ≡ with_donor donor s
-
--- a row's value is shown
-pub record GetStep (s : Plain) (trx table key : ℕ) (answer : Text) (t : Plain) : Type 0 where
-  pub value : Option (List ℕ)
-  pub gets : Gets s.donor trx table key value
-  pub text : answer ≡ value_answer value
-  pub is : t ≡ s
-
--- the last change is taken back, or the transaction ends
-pub record UndoStep (s : Plain) (trx : ℕ) (answer : Text) (t : Plain) : Type 0 where
-  pub undone : Undone
-  pub donor : Donor
-  pub undoes : Undoes s.donor trx undone donor
-  pub text : answer ≡ undone_answer undone
-  pub is : t ≡ with_donor donor s
-
--- a transaction commits
-pub record CommitStep (s : Plain) (trx : ℕ) (answer : Text) (t : Plain) : Type 0 where
-  pub position : ℕ
-  pub donor : Donor
-  pub commits : Commits s.donor trx position donor
-  pub text : answer ≡ committed_answer position
-  pub is : t ≡ with_donor donor s
-
--- The change of a `set` was made in the transaction that it began, and the transaction commits.
-pub record SetDone (s : Plain) (begun : Donor) (trx writer : ℕ) (change : Change) (answer : Text) (t : Plain) : Type 0 where
-  pub changed : Donor
-  pub position : ℕ
-  pub donor : Donor
-  pub changes : Changes begun trx change changed
-  pub commits : Commits changed trx position donor
-  pub text : answer ≡ committed_answer position
-  pub is : t ≡ with_begun writer (with_donor donor s)
-
--- `set` begins a transaction. Where its change is refused that transaction stays open, and else it commits.
-pub record SetBegun (s : Plain) (writer table key : ℕ) (value : List ℕ) (answer : Text) (t : Plain) : Type 0 where
-  pub trx : ℕ
-  pub begun : Donor
-  pub begins : Begins s.donor writer (next_index s writer) trx begun
-  pub goes_on : MatchOption (change_cause begun trx table key (length value)) (SetDone s begun trx writer (put_of table key value) answer t) (λ c. (answer ≡ refusal_text c) × (t ≡ with_begun writer (with_donor begun s)))
-
-abbrev pub Step : Plain → Line → Text → Plain → Type 0
-Step s (Create table buckets) answer t = Answers (create_cause s.donor table) s answer t ((answer ≡ codes "created") × (t ≡ with_donor (created table buckets s.donor) s))
-Step s (Begin writer) answer t = Answers (begin_cause s.donor) s answer t (BeginStep s writer answer t)
-Step s (Put trx table key value) answer t = Answers (change_cause s.donor trx table key (length value)) s answer t (ChangeStep s trx (put_of table key value) answer t)
-Step s (Delete trx table key) answer t = Answers (change_cause s.donor trx table key 0) s answer t (ChangeStep s trx (delete_of table key) answer t)
-Step s (Get trx table key) answer t = Answers (get_cause s.donor trx table key) s answer t (GetStep s trx table key answer t)
-Step s (Undo trx) answer t = Answers (no_trx s.donor trx) s answer t (UndoStep s trx answer t)
-Step s (Commit trx) answer t = Answers (no_trx s.donor trx) s answer t (CommitStep s trx answer t)
-Step s (Set writer table key value) answer t = Answers (begin_cause s.donor) s answer t (SetBegun s writer table key value answer t)
--- the first clone stops at the position that stands, and each later one answers as the first
-Step s Clone answer t =
-    MatchOption s.stop ((answer ≡ complete_answer (length s.donor.history)) × (t ≡ with_stop (length s.donor.history) s)) (λ n. (answer ≡ complete_answer n) × (t ≡ s))
--- the rows are those of the commits before the stop, and none later
-Step s Rows answer t = (t ≡ s) × MatchOption s.stop (answer ≡ codes "incomplete") (λ n. answer ≡ rows_answer (rows_in (fold (take n s.donor.history))))
-
--- Memory ran out in a `set`: before its transaction began, behind that, or behind its change. Then the transaction stays open.
-pub data SetBreaksOff (s : Plain) (writer : ℕ) (change : Change) (t : Plain) : Type 0 where
-  not_begun : t ≡ s → SetBreaksOff s writer change t
-  begun : (trx : ℕ) (donor : Donor) → Begins s.donor writer (next_index s writer) trx donor → t ≡ with_begun writer (with_donor donor s) → SetBreaksOff s writer change t
-  changed : (trx : ℕ) (begun donor : Donor) → Begins s.donor writer (next_index s writer) trx begun → Changes begun trx change donor → t ≡ with_begun writer (with_donor donor s) → SetBreaksOff s writer change t
-
--- What a line leaves where memory runs out in it. Each line but `set` leaves all as it was.
-abbrev pub BreaksOff : Plain → Line → Plain → Type 0
-BreaksOff s (Set writer table key value) t = SetBreaksOff s writer (put_of table key value) t
-BreaksOff s (Create table buckets) t = t ≡ s
-BreaksOff s (Begin writer) t = t ≡ s
-BreaksOff s (Put trx table key value) t = t ≡ s
-BreaksOff s (Delete trx table key) t = t ≡ s
-BreaksOff s (Get trx table key) t = t ≡ s
-BreaksOff s (Undo trx) t = t ≡ s
-BreaksOff s (Commit trx) t = t ≡ s
-BreaksOff s Clone t = t ≡ s
-BreaksOff s Rows t = t ≡ s
-
--- lines are carried out one after the other
-abbrev pub Runs : Plain → List Line → List Text → Plain → Type 0
-Runs s [] [] t = s ≡ t
-Runs s (l ∷ ls) (a ∷ more) t = (u : Plain) × Step s l a u × Runs u ls more t
-Runs s [] (a ∷ more) t = ⊥
-Runs s (l ∷ ls) [] t = ⊥
+-- a call was carried out, against which there was no cause
+abbrev pub IsDone : Event → Type 0
+IsDone event = (d : Done) × (event ≡ made (done d))
 
 -- each answer is ended by a line feed
-abbrev pub output : List Text → List ℕ
-output answers = flat_map ended answers
+abbrev pub output : List (List Event) → List ℕ
+output events = flat_map (λ es. ended (said es)) events
+
+module _ {D : Type 0} (plain : D → Donor) (Step : D → Made → D → Type 0) where
+  -- a line makes its events
+  abbrev pub LineStep : World D → Line → List Event → World D → Type 0
+  LineStep s line events t = Makes (index_in s.begun) line events × Events plain Step s events t
+
+  -- Memory ran out in a line: a front of its calls was carried out, and against none of these was there a cause.
+  pub record BreaksOff (s : World D) (line : Line) (t : World D) : Type 0 where
+    pub front : List Event
+    pub next : Event
+    pub rest : List Event
+    pub makes : Makes (index_in s.begun) line (front ++ next ∷ rest)
+    pub carried : AllByRecursion IsDone front
+    pub happened : Events plain Step s front t
+
+  -- lines are carried out one after the other
+  abbrev pub Runs : World D → List Line → List (List Event) → World D → Type 0
+  Runs s [] [] t = s ≡ t
+  Runs s (l ∷ ls) (es ∷ more) t = (u : World D) × LineStep s l es u × Runs u ls more t
+  Runs s [] (es ∷ more) t = ⊥
+  Runs s (l ∷ ls) [] t = ⊥

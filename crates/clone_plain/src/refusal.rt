@@ -1,4 +1,4 @@
-use clone_outside::NoMemory;
+use std::alloc::AllocError;
 use std::fmt;
 
 /// Why a call of the donor is refused. After a refusal nothing has changed.
@@ -58,13 +58,13 @@ pub enum EngineRefusal {
     NoMemory,
 }
 
-impl From<NoMemory> for EngineRefusal {
+impl From<AllocError> for EngineRefusal {
     ghost use Rattle.std.specs.Prelude.{◌≡◌};
     ghost use Rattle.clone_plain.specs.declared.refusal.EngineRefusal.TheVariants.{NoMemory};
 
     ghost from_gives = { λ _ e. e ≡ NoMemory };
 
-    fn from(_refused: NoMemory) -> EngineRefusal {
+    fn from(_refused: AllocError) -> EngineRefusal {
         EngineRefusal::NoMemory
     }
 }
