@@ -6,8 +6,8 @@ use Rattle.clone_mtr.specs.Patches.{Patched}
 use Rattle.clone_mtr.specs.Spelling.{spelling}
 use Rattle.clone_mtr.specs.declared.record.Record.{Record}
 use Rattle.clone_mtr.specs.declared.record.Record.TheVariants.{Init, Write, Extend, Create}
-use Rattle.clone_image.specs.Redone.{Standing, past_end, stands, redone}
-use Rattle.clone_law.specs.Machine.{Event, Created, Fetched, Changed, Begun, Half, Landed, Checkpointed, Started, FileRead, FilesEnded, PageRead, PagesEnded}
+use Rattle.clone_image.specs.Redone.{Standing, past_end, stands, redone, redone_from}
+use Rattle.clone_law.specs.Machine.{World, Stopped, nothing, Runs, Event, Created, Fetched, Changed, Begun, Half, Landed, Checkpointed, Started, FileRead, FilesEnded, PageRead, PagesEnded}
 use Rattle.clone_law.specs.Mistakes.{Mistake, LeavesFlightOut, BeginsUnnoted, ArchivesLate, LandsClean, ChecksPast}
 use Rattle.clone_law.specs.Since.{ends, Suits}
 
@@ -64,6 +64,14 @@ abbrev pub flushed_run : List Event
 flushed_run =
     beginning
     ++ Started true ∷ Begun first_page ∷ Half (stands torn_page) ∷ FileRead torn_page ∷ Landed ∷ FilesEnded ∷ PageRead first_page ∷ Changed second_change second_page ∷ PagesEnded ∷ []
+
+-- the run comes to the stop with what PAGE COPY sent
+abbrev pub FlushedStops : Type 0
+FlushedStops = (w : World) × Runs 1 0 nothing flushed_run w × (w.copy ≡ Stopped (ends made_log) last_log (stands first_page ∷ []))
+
+-- and the archived log makes that the page as it is
+abbrev pub SentIsNow : Type 0
+SentIsNow = (redone_from (ends made_log) 1 0 (stands first_page) (first_change ∷ second_change ∷ []) ≡ stands second_page) × (redone 1 0 last_log ≡ stands second_page)
 
 -- for each wrong machine a run that misleads it, and the starting value
 abbrev pub misleading : Mistake → List Event

@@ -1,15 +1,12 @@
-ghost use Rattle.std.specs.Prelude.{◌≡◌, ◌++◌, ◌∷◌, [], ℕ};
-ghost use Rattle.clone_image.specs.Redone.{redone, redone_from, stands};
+ghost use Rattle.std.specs.Prelude.{[]};
 ghost use Rattle.clone_law.specs.Laws.{NewerStays, RedoneInParts, RedoneAgain, RedoneSince};
 ghost use Rattle.clone_law.specs.Laws.{SinceLonger, SinceLengthened, FitsLonger, AllCount, OthersPass};
 ghost use Rattle.clone_law.specs.Laws.{SpaceMade, SpaceLonger, SpaceDropped, SuitsThere, SuitsUnnamed};
 ghost use Rattle.clone_law.specs.Laws.{RuleBegins, RuleKept, CleanIsDisk, DirtyIsRedone, StartsGive};
 ghost use Rattle.clone_law.specs.Laws.{FilesStay, PagesStay, CopyRecovers};
-ghost use Rattle.clone_law.specs.Machine.{World, nothing, Stopped, Runs};
 ghost use Rattle.clone_law.specs.Mistakes.{Mistake, Misleads};
-ghost use Rattle.clone_law.specs.Since.{ends, Suits};
-ghost use Rattle.clone_law.specs.Examples.{opening, SuitsOverflow, first_page, second_page, making, first_change, second_change};
-ghost use Rattle.clone_law.specs.Examples.{made_log, last_log, flushed_run, misleading, misled};
+ghost use Rattle.clone_law.specs.Since.{Suits};
+ghost use Rattle.clone_law.specs.Examples.{opening, SuitsOverflow, FlushedStops, SentIsNow, misleading, misled};
 
 /// Redo of one page by page LSN.
 pub fn redo_laws()
@@ -60,9 +57,8 @@ pub fn recovery_laws()
 /// A page that is flushed in FILE COPY while its block is read, sent in PAGE COPY and changed once more: what was
 /// sent, redone by the archived log, is the page at the stop.
 pub fn flushed_example()
-    ensures run { (w : World) × Runs 1 0 nothing flushed_run w × (w.copy ≡ Stopped (ends made_log) last_log (stands first_page ∷ [])) }
-    ensures redone { redone_from (ends made_log) 1 0 (stands first_page) (first_change ∷ second_change ∷ []) ≡ stands second_page }
-    ensures now { redone 1 0 last_log ≡ stands second_page }
+    ensures run { FlushedStops }
+    ensures sent { SentIsNow }
 {}
 
 /// Each rule of the machine is needed: without it a run gives a starting value of which redo doesn't make the
