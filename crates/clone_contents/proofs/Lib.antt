@@ -3,7 +3,7 @@ pub mod PageKinds
 pub mod RowSlots
 pub mod UndoEntries
 pub mod ChangeRecords
-pub mod RowAndUndo
+pub mod SlotRecords
 pub mod ChangeLemmas
 pub mod TakingBackLemmas
 pub mod RecoveryLemmas

@@ -12,6 +12,14 @@ use Rattle.clone_contents.proofs.SameContents.{not_equal, cases_place, slot-same
 pub slot_is : (image : Image) (t p j : ℕ) → t ≢ 0 → (contents_of image).slot t p j ≡ slot_in (slots (all_pages image t p)) j
 slot_is image t p j first = ap (λ b. cond b unused (slot_in (slots (all_pages image t p)) j)) (not_equal t 0 first)
 
+-- the slots stay where the pages of tables do
+pub slots_same : (image new : Image) → ((t p : ℕ) → t ≢ 0 → all_pages new t p ≡ all_pages image t p) → (t p j : ℕ) → (contents_of new).slot t p j ≡ (contents_of image).slot t p j
+slots_same image new same t p j = at (cases_eq t 0)
+  where
+    at : (t ≡ 0) ⊎ (t ≢ 0) → (contents_of new).slot t p j ≡ (contents_of image).slot t p j
+    at (inl zero) = ap (λ b. cond b unused (slot_in (slots (all_pages new t p)) j)) (eq-eqb t 0 zero) ∙ sym (ap (λ b. cond b unused (slot_in (slots (all_pages image t p)) j)) (eq-eqb t 0 zero))
+    at (inr behind) = ap (λ page. cond (eqb t 0) unused (slot_in (slots page) j)) (same t p behind)
+
 module _ (image new : Image) (t p j : ℕ) (x : Slot) (in_table : t ≢ 0) (low : j < 50) (now : slots (all_pages new t p) ≡ set (slots (all_pages image t p)) j x) (others : (u n : ℕ) → u ≢ 0 → (u ≡ t → n ≡ p → ⊥) → all_pages new u n ≡ all_pages image u n) where
   abbrev on : Image → ℕ → ℕ → ℕ → Slot
   on i u n k = slot_in (slots (all_pages i u n)) k
