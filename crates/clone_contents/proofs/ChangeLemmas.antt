@@ -17,7 +17,8 @@ use Rattle.clone_image.proofs.Pages.{all_pages-is}
 use Rattle.clone_contents.specs.Contents.{contents_of, HasPage}
 use Rattle.clone_contents.specs.Formed.{IsFormed, IsOrUnused, HasContents}
 use Rattle.clone_contents.specs.Steps.{is_unused, MayChange, changed, telling}
-use Rattle.clone_contents.proofs.PageKinds.{IsOfPlace, FitAll, there, whole_slot, undo_page, table_page}
+use Rattle.clone_contents.proofs.ImagePages.{there, whole_slot}
+use Rattle.clone_contents.proofs.FittingRecords.{IsOfPlace, FitAll, undo_page, table_page}
 use Rattle.clone_contents.proofs.ChangeRecords.{change_fits, unused_page, used_kind}
 use Rattle.clone_contents.proofs.SlotRecords.{SetsUndo, one_set}
 

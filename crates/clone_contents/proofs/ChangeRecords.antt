@@ -19,7 +19,7 @@ use Rattle.clone_undo.specs.Entries.{UndoEntry, IsEntry, entry_bytes}
 use Rattle.clone_undo.specs.Places.{header_page, record_page, record_place}
 use Rattle.clone_undo.specs.Changes.{made_first, count_record, entry_record, row_record, records_of_change, after_record, after_row}
 use Rattle.clone_undo.proofs.Entries.{length-entry_bytes}
-use Rattle.clone_contents.proofs.PageKinds.{IsOfPlace, FitsOn, FitAll, stays, made_stands}
+use Rattle.clone_contents.proofs.FittingRecords.{IsOfPlace, FitsOn, FitAll, stays, made_stands}
 
 pub kind_of-zero : kind_of zero_page ≡ 0
 kind_of-zero = field-part 24 2 2 zero_page (omega arith) ∙ ap (field 0 2) (ap (λ (xs : List ℕ). part 0 2 xs) (drop-replicate 24 4096 0) ∙ take-replicate 2 4072 0 (omega arith))

@@ -1,5 +1,6 @@
 pub mod SameContents
-pub mod PageKinds
+pub mod ImagePages
+pub mod FittingRecords
 pub mod RowSlots
 pub mod UndoEntries
 pub mod ChangeRecords

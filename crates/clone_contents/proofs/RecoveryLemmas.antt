@@ -25,7 +25,7 @@ use Rattle.clone_contents.specs.Contents.{Contents, contents_of, told_value, und
 use Rattle.clone_contents.specs.Formed.{IsFormed, IsOrUnused}
 use Rattle.clone_contents.specs.Steps.{MayUndo}
 use Rattle.clone_contents.proofs.SameContents.{same_contents}
-use Rattle.clone_contents.proofs.PageKinds.{there}
+use Rattle.clone_contents.proofs.ImagePages.{there}
 use Rattle.clone_contents.proofs.UndoEntries.{slot_before-is, told_short}
 use Rattle.clone_contents.proofs.RowSlots.{slots_same, slot_set}
 use Rattle.clone_contents.proofs.SlotRecords.{undo_set_at}

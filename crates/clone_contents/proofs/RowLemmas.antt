@@ -15,7 +15,7 @@ use Rattle.clone_image.proofs.Pages.{all_pages-is}
 use Rattle.clone_contents.specs.Contents.{contents_of}
 use Rattle.clone_contents.specs.Formed.{IsFormed}
 use Rattle.clone_contents.specs.Rows.{IsRowIn}
-use Rattle.clone_contents.proofs.PageKinds.{there}
+use Rattle.clone_contents.proofs.ImagePages.{there}
 use Rattle.clone_contents.proofs.SystemLemmas.{named_on, named_past}
 use Rattle.clone_contents.proofs.RowSlots.{slot_is}
 use Rattle.clone_contents.proofs.TakingBackLemmas.{bound_kind}

@@ -19,7 +19,8 @@ use Rattle.clone_contents.specs.Contents.{contents_of, with_slot, with_undo, set
 use Rattle.clone_contents.specs.Formed.{IsFormed, HasContents}
 use Rattle.clone_contents.proofs.SameContents.{set_at-same, set_at-other, same_contents}
 use Rattle.clone_contents.proofs.RowSlots.{slots_same, slot_set}
-use Rattle.clone_contents.proofs.PageKinds.{FitAll, all_edits, page_kept, all_after, slot_after, formed_after}
+use Rattle.clone_contents.proofs.ImagePages.{page_kept, all_after, slot_after}
+use Rattle.clone_contents.proofs.FittingRecords.{FitAll, all_edits, formed_after}
 use Rattle.clone_contents.proofs.ChangeRecords.{row_set}
 
 -- one undo slot is another, and the others stay

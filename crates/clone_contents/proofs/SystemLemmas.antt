@@ -16,7 +16,8 @@ use Rattle.clone_image.proofs.Pages.{all_pages-is, page_count-edited}
 use Rattle.clone_contents.specs.Contents.{contents_of}
 use Rattle.clone_contents.specs.Formed.{IsFormed, HasContents}
 use Rattle.clone_contents.proofs.SameContents.{same_contents}
-use Rattle.clone_contents.proofs.PageKinds.{there, formed_after}
+use Rattle.clone_contents.proofs.ImagePages.{there}
+use Rattle.clone_contents.proofs.FittingRecords.{formed_after}
 use Rattle.clone_contents.proofs.RowSlots.{slots_same}
 
 -- the entries of the dictionary

@@ -18,7 +18,8 @@ use Rattle.clone_contents.specs.Contents.{contents_of, told_value}
 use Rattle.clone_contents.specs.Formed.{IsFormed, HasContents}
 use Rattle.clone_contents.specs.Steps.{MayTakeBack, taken_back, telling}
 use Rattle.clone_contents.proofs.RowSlots.{slot_is}
-use Rattle.clone_contents.proofs.PageKinds.{FitsOn, FitAll, stays, whole_slot, table_page}
+use Rattle.clone_contents.proofs.ImagePages.{whole_slot}
+use Rattle.clone_contents.proofs.FittingRecords.{FitsOn, FitAll, stays, table_page}
 use Rattle.clone_contents.proofs.ChangeRecords.{count_allowed, row_allowed}
 use Rattle.clone_contents.proofs.UndoEntries.{slot_before-is, told_short}
 use Rattle.clone_contents.proofs.SlotRecords.{SetsUndo, one_set}

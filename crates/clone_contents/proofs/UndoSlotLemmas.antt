@@ -11,7 +11,8 @@ use Rattle.clone_image.specs.Image.{Image, all_pages, after_records}
 use Rattle.clone_contents.specs.Contents.{contents_of}
 use Rattle.clone_contents.specs.Formed.{IsFormed, HasContents}
 use Rattle.clone_contents.specs.Steps.{is_unused, begun, ended}
-use Rattle.clone_contents.proofs.PageKinds.{FitsOn, FitAll, made_stands, whole_slot, undo_page}
+use Rattle.clone_contents.proofs.ImagePages.{whole_slot}
+use Rattle.clone_contents.proofs.FittingRecords.{FitsOn, FitAll, made_stands, undo_page}
 use Rattle.clone_contents.proofs.ChangeRecords.{used_kind}
 use Rattle.clone_contents.proofs.ChangeLemmas.{undo_there, header_stands}
 use Rattle.clone_contents.proofs.SlotRecords.{SetsUndo, undo_set}

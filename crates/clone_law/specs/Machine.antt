@@ -12,6 +12,7 @@ pub record Flight : Type 0 where
   pub image : List ℕ
   pub later : Option ℕ
 
+-- the page in the donor
 pub record Engine : Type 0 where
   pub log : List (List Record)
   pub checkpoint : ℕ
@@ -25,51 +26,65 @@ pub record Engine : Type 0 where
 
 -- The stage of the clone, and the values from which redo of the page may start.
 pub data Copy : Type 0 where
+  -- no session
   Idle : Copy
-  -- in FILE COPY
+  -- FILE COPY: the page isn't tracked, or it is, and what was read of it is worth nothing
   Untracked : List Standing → Copy
   Tracked : Copy
-  -- in PAGE COPY, with the archive's start
+  -- PAGE COPY, with the archive's start
   Copied : ℕ → List Standing → Copy
-  -- after the stop, with the log then
+  -- after the stop, with the archive's start and the log at the stop
   Stopped : ℕ → List (List Record) → List Standing → Copy
 
+-- the page in the donor, and in the clone
 pub record World : Type 0 where
   pub engine : Engine
   pub copy : Copy
 
 pub data Event : Type 0 where
-  -- a mini-transaction that leaves the page, changes it, makes or drops its space, or makes the space and changes the page
+  -- A mini-transaction: one that leaves the page, one that makes these bytes of it, one that makes its space, one that makes the space and these bytes of the page, one that drops the space, and how the page stands on disk then.
   Passed : List Record → Event
   Changed : List Record → List ℕ → Event
   Created : List Record → Event
   Opened : List Record → List ℕ → Event
   Dropped : List Record → Standing → Event
+  -- the page gets a frame with the disk's bytes, or loses its frame
   Fetched : List ℕ → Event
   Evicted : Event
+  -- a flush begins, with these bytes
   Begun : List ℕ → Event
-  -- the file got longer
+  -- the file got longer, by zero pages
   Lengthened : Event
+  -- half of the image in flight is written, and the page may stand on disk in any way; all of it has landed; or a flush failed
   Half : Standing → Event
   Landed : Event
   Failed : Standing → Event
+  -- the checkpoint is this LSN
   Checkpointed : ℕ → Event
-  -- INIT, with whether the page is listed
+  -- a session starts with FILE COPY, and its files have the page or don't
   Started : Bool → Event
+  -- a block of a file was answered, with these bytes of the page
   FileRead : List ℕ → Event
+  -- FILE COPY ends, and PAGE COPY begins
   FilesEnded : Event
+  -- a block of PAGE COPY was answered, with these bytes of the page
   PageRead : List ℕ → Event
+  -- PAGE COPY ends: the stop
   PagesEnded : Event
+  -- the session ends
   Left : Event
 
+-- the oldest modification, once the page was changed where the log ended there
 abbrev pub first_of : ℕ → Option ℕ → Option ℕ
 first_of at None = Some at
 first_of at (Some o) = Some o
 
+-- the image in flight, once the page was changed
 abbrev pub dirtied : ℕ → Option Flight → Option Flight
 dirtied at None = None
 dirtied at (Some i) = Some (record { image = i.image; later = first_of at i.later })
 
+-- the disk has the image, and the page is dirty from the first change since its flush began
 abbrev pub landed : Engine → Option Flight → Engine
 landed e None = e
 landed e (Some i) = record { log = e.log; checkpoint = e.checkpoint; disk = stands i.image; writing = false; frame = e.frame; oldest = i.later; flight = None }
@@ -88,11 +103,13 @@ noted Tracked = Tracked
 noted (Copied base starts) = Copied base starts
 noted (Stopped base log starts) = Stopped base log starts
 
+-- a page whose write is open or in flight is tracked from the start
 abbrev pub started : Bool → Option Flight → List Standing → Copy
 started true flight starts = Tracked
 started false (Some i) starts = Tracked
 started false None starts = Untracked starts
 
+-- the space is made, and the page starts as it is then
 abbrev pub created : Standing → Copy → Copy
 created v Idle = Idle
 created v (Untracked starts) = Untracked (v ∷ [])
@@ -128,6 +145,7 @@ pages_ended log Tracked = Tracked
 pages_ended log (Copied base starts) = Stopped base log starts
 pages_ended log (Stopped base before starts) = Stopped base before starts
 
+-- WHAT AN EVENT DOES
 abbrev pub happens : ℕ → ℕ → World → Event → World
 happens space number w (Passed m) = record { engine = record w.engine { log = w.engine.log ++ m ∷ [] }; copy = w.copy }
 happens space number w (Changed m bytes) =
@@ -156,11 +174,13 @@ happens space number w (PageRead bytes) = record { engine = w.engine; copy = pag
 happens space number w PagesEnded = record { engine = w.engine; copy = pages_ended w.engine.log w.copy }
 happens space number w Left = record { engine = w.engine; copy = Idle }
 
+-- the page's space is there
 abbrev pub HasSpace : Standing → Type 0
 HasSpace no_space = ⊥
 HasSpace past_end = Unit {0}
 HasSpace (stands page) = Unit {0}
 
+-- the page is there
 abbrev pub Stands : Standing → Type 0
 Stands no_space = ⊥
 Stands past_end = ⊥
@@ -179,6 +199,7 @@ abbrev pub AtMost : ℕ → Option ℕ → List (List Record) → Type 0
 AtMost at None log = at ≤ ends log
 AtMost at (Some o) log = (at ≤ o) × IsAt o log
 
+-- WHEN AN EVENT MAY COME: what the donor guarantees when it makes it
 abbrev pub Allowed : ℕ → ℕ → World → Event → Type 0
 Allowed space number w (Passed m) = Suits space number w.engine.log m × (redone space number (w.engine.log ++ m ∷ []) ≡ redone space number w.engine.log)
 Allowed space number w (Changed m bytes) = Suits space number w.engine.log m × (redone space number (w.engine.log ++ m ∷ []) ≡ stands bytes) × HasSpace (redone space number w.engine.log)
