@@ -35,7 +35,7 @@ pub fn suiting_laws()
 {}
 
 /// The rule of a page, and what it gives at the stop.
-pub fn page_laws()
+pub fn machine_laws()
     ensures begins { RuleBegins }
     ensures kept { RuleKept }
     ensures clean { CleanIsDisk }

@@ -5,6 +5,6 @@
 mod laws;
 
 pub use laws::{
-    answer_laws, flushed_example, growing_laws, mistakes_mislead, page_laws, recovery_laws,
+    answer_laws, flushed_example, growing_laws, machine_laws, mistakes_mislead, recovery_laws,
     redo_laws, suiting_examples, suiting_laws,
 };
