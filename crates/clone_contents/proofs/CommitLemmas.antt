@@ -1,0 +1,34 @@
+-- A transaction commits, for the contents: it ends, and the position is written.
+use Rattle.std.proofs.Common.{◌≡◌, ◌<◌, ◌^◌, ◌≤◌, ℕ, [], ◌∷◌, length, sym, ap, ◌∙◌, arith, inr, Some}
+use Rattle.byteorder.specs.Endian.{big_bytes}
+use Rattle.byteorder.specs.Numbers.{length-bytes_high_first}
+use Rattle.clone_page.specs.Dictionary.{position_at}
+use Rattle.clone_page.proofs.Parts.{entry_space-put_position, field-put_at_same}
+use Rattle.clone_undo.specs.Slots.{UndoSlot}
+use Rattle.clone_undo.specs.Changes.{records_of_end}
+use Rattle.clone_image.specs.Image.{Image, all_pages, after_records}
+use Rattle.clone_contents.specs.Contents.{Contents, contents_of}
+use Rattle.clone_contents.specs.Formed.{IsFormed, HasContents}
+use Rattle.clone_contents.specs.Records.{commit_records, position_record}
+use Rattle.clone_contents.specs.Steps.{committed}
+use Rattle.clone_contents.proofs.SystemLemmas.{named_on, named_past, system_long, system_written}
+use Rattle.clone_contents.proofs.UndoSlotLemmas.{end_is}
+
+-- the position is written
+pub position_written : (image : Image) (lsn position : ℕ) → IsFormed image → position < 2 ^ 64 → HasContents (after_records lsn image (position_record position ∷ [])) (record (contents_of image) { position = position })
+position_written image lsn position formed fits =
+    let piece = big_bytes 8 position in
+    let eight : length piece ≡ 8 = length-bytes_high_first 8 position in
+    let on : position_at ≤ length (all_pages image 0 0) = omega (arith, system_long image formed) in
+    system_written image lsn position_at piece formed (omega (arith, eight), inr (omega arith, omega (arith, eight))) (contents_of image).named position
+    (λ j low. entry_space-put_position j piece (all_pages image 0 0) eight on ∙ sym (named_on image j low))
+    (named_past image)
+    (field-put_at_same position_at 8 position (all_pages image 0 0) on fits)
+
+-- the transaction ends, and the position is written
+pub commit_is : (image : Image) (lsn s position : ℕ) (slot : UndoSlot) → IsFormed image → s < 64 → (contents_of image).undo s ≡ Some slot → position < 2 ^ 64
+    → HasContents (after_records lsn image (commit_records s position)) (committed s position (contents_of image))
+commit_is image lsn s position slot formed small used fits =
+    let ended = end_is image lsn s slot formed small used in
+    let written = position_written (after_records lsn image (records_of_end s)) lsn position ended.0 fits in
+    (written.0, written.1 ∙ ap (λ (c : Contents). record c { position = position }) ended.1)

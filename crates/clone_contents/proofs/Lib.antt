@@ -1,0 +1,17 @@
+pub mod SameContents
+pub mod ImagePages
+pub mod FittingRecords
+pub mod RowSlots
+pub mod UndoEntries
+pub mod ChangeRecords
+pub mod SlotRecords
+pub mod ChangeLemmas
+pub mod TakingBackLemmas
+pub mod RecoveryLemmas
+pub mod UndoSlotLemmas
+pub mod SystemLemmas
+pub mod CreateLemmas
+pub mod OpeningLemmas
+pub mod CommitLemmas
+pub mod FindLemmas
+pub mod RowLemmas
