@@ -1,0 +1,6 @@
+pub mod RunLemmas
+pub mod BinlogLemmas
+pub mod StopLemmas
+mod LineLemmas
+pub mod SetLemmas
+pub mod ReachedLemmas
