@@ -10,9 +10,8 @@ ghost use Rattle.clone_image.specs.Added.{Adds, Below, InSlot, InPage, InPages, 
 use crate::Image;
 use byteorder::{BigEndian, ByteOrder};
 use clone_model::{Tables, Value};
-use clone_outside::NoMemory;
 use clone_page::{Page, PageKind};
-use std::alloc::Global;
+use std::alloc::{AllocError, Global};
 
 // Where the dictionary's entries begin on the system page, the bytes of each, and how many there are.
 const ENTRIES_AT: usize = 64;
@@ -39,7 +38,7 @@ const VALUE_AT: usize = 16;
 /// system page lists. A slot whose length is above 64 holds no row. Where a row stands more than once,
 /// one of its values is kept. An image without a system page has no rows. The one refusal is for want
 /// of memory.
-pub fn rows_of(alloc: Global, image: &Image) -> Result<Tables, NoMemory>
+pub fn rows_of(alloc: Global, image: &Image) -> Result<Tables, AllocError>
     ensures { IfOk result (λ tables. ShowsRows (page_of image.now) tables) }
 {
     let mut tables = Tables::new(alloc);
@@ -50,7 +49,7 @@ pub fn rows_of(alloc: Global, image: &Image) -> Result<Tables, NoMemory>
 }
 
 // Adds the rows of each table that the dictionary lists.
-fn add_tables(tables: &mut Tables, image: &Image, system: &Page) -> Result<(), NoMemory>
+fn add_tables(tables: &mut Tables, image: &Image, system: &Page) -> Result<(), AllocError>
     ensures { OnOk result (Adds tables.old tables.new (InTables image.now system.now)) }
 {
     for place in 0..ENTRY_COUNT {
@@ -65,7 +64,7 @@ fn add_entry(
     image: &Image,
     system: &Page,
     place: usize,
-) -> Result<(), NoMemory>
+) -> Result<(), AllocError>
     requires { place < entry_count }
     ensures { OnOk result (Adds tables.old tables.new (AtEntry image.now system.now place)) }
 {
@@ -85,7 +84,7 @@ fn table_at(system: &Page, place: usize) -> u32
 }
 
 // Adds the rows of a table, if its space is there.
-fn add_table(tables: &mut Tables, image: &Image, table: u32) -> Result<(), NoMemory>
+fn add_table(tables: &mut Tables, image: &Image, table: u32) -> Result<(), AllocError>
     ensures { OnOk result (Adds tables.old tables.new (InTable image.now table)) }
 {
     match image.pages(table) {
@@ -94,7 +93,7 @@ fn add_table(tables: &mut Tables, image: &Image, table: u32) -> Result<(), NoMem
     }
 }
 
-fn add_pages(tables: &mut Tables, table: u32, pages: &[Page]) -> Result<(), NoMemory>
+fn add_pages(tables: &mut Tables, table: u32, pages: &[Page]) -> Result<(), AllocError>
     ensures { OnOk result (Adds tables.old tables.new (InPages table pages.now)) }
 {
     for page in pages {
@@ -104,7 +103,7 @@ fn add_pages(tables: &mut Tables, table: u32, pages: &[Page]) -> Result<(), NoMe
 }
 
 // Adds the rows of a page, if it is of a kind that holds rows.
-fn add_page(tables: &mut Tables, table: u32, page: &Page) -> Result<(), NoMemory>
+fn add_page(tables: &mut Tables, table: u32, page: &Page) -> Result<(), AllocError>
     ensures { OnOk result (Adds tables.old tables.new (InPage table page.now)) }
 {
     if holds_slots(page) {
@@ -120,7 +119,7 @@ fn holds_slots(page: &Page) -> bool
     kind == PageKind::Bucket.number() || kind == PageKind::Overflow.number()
 }
 
-fn add_slots(tables: &mut Tables, table: u32, page: &Page) -> Result<(), NoMemory>
+fn add_slots(tables: &mut Tables, table: u32, page: &Page) -> Result<(), AllocError>
     ensures { OnOk result (Adds tables.old tables.new (Below slot_count (InSlot table page.now))) }
 {
     for place in 0..SLOT_COUNT {
@@ -130,7 +129,7 @@ fn add_slots(tables: &mut Tables, table: u32, page: &Page) -> Result<(), NoMemor
 }
 
 // Adds the row of a slot, if it holds one.
-fn add_slot(tables: &mut Tables, table: u32, page: &Page, place: usize) -> Result<(), NoMemory>
+fn add_slot(tables: &mut Tables, table: u32, page: &Page, place: usize) -> Result<(), AllocError>
     requires { place < slot_count }
     ensures { OnOk result (Adds tables.old tables.new (InSlot table page.now place)) }
 {

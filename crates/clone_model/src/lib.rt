@@ -16,7 +16,6 @@ mod value;
 
 pub use change::{Change, Commit};
 pub use history::history_laws;
-pub use clone_outside::NoMemory;
 pub use line::{BucketCount, Line, TableNumber};
 pub use list::{Binlog, Changes};
 pub use reading::{

@@ -4,3 +4,6 @@ pub mod StopLemmas
 mod LineLemmas
 pub mod SetLemmas
 pub mod ReachedLemmas
+pub mod OpenLemmas
+pub mod ValueLemmas
+pub mod LockLemmas

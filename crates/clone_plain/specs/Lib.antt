@@ -8,3 +8,4 @@ pub mod World
 pub mod Events
 pub mod Runs
 pub mod Headline
+pub mod Locked

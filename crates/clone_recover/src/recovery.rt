@@ -9,8 +9,7 @@ use crate::log::replay;
 use crate::rollback::take_back_open;
 use clone_image::{Image, rows_of};
 use clone_model::Value;
-use clone_outside::NoMemory;
-use std::alloc::Global;
+use std::alloc::{AllocError, Global};
 
 /// The image that a log leaves, with the changes of each transaction that was open taken back, last
 /// change first, and its undo slot freed. `Damaged(Redo)` comes exactly where the bytes are no log, and
@@ -25,7 +24,7 @@ pub fn recover(alloc: Global, redo: &[u8]) -> Result<Image, RecoverRefusal>
 }
 
 /// The rows of an image, ascending by table and key. The one refusal is for want of memory.
-pub fn open_rows(alloc: Global, image: &Image) -> Result<Vec<(u32, u64, Value)>, NoMemory>
+pub fn open_rows(alloc: Global, image: &Image) -> Result<Vec<(u32, u64, Value)>, AllocError>
     ensures { IfOk result (λ list. (rows : Rows) × ShowsRows (page_of image.now) rows × (list.items ≡ rows_in rows)) }
 {
     rows_of(alloc, image)?.rows(alloc)

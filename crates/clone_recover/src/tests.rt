@@ -1,6 +1,5 @@
 use super::*;
-use clone_outside::NoMemory;
-use std::alloc::Global;
+use std::alloc::{AllocError, Global};
 use std::test::*;
 
 // The system space of 257 pages, and its first page.
@@ -51,7 +50,7 @@ const COMMIT: [u8; 51] = [
 ];
 
 // The log of a change that isn't committed yet, by its undo record.
-fn open_log(alloc: Global, undo: &[u8]) -> Result<Vec<u8>, NoMemory> {
+fn open_log(alloc: Global, undo: &[u8]) -> Result<Vec<u8>, AllocError> {
     let mut log = Vec::new(alloc);
     log.extend_from_slice(&OPENING)?;
     log.extend_from_slice(&CREATE)?;

@@ -9,9 +9,8 @@ ghost use Rattle.clone_store.specs.Stored.{Writes, Keeps};
 
 use clone_image::Image;
 use clone_mtr::{Record, encode_into};
-use clone_outside::NoMemory;
 use clone_page::Page;
-use std::alloc::Global;
+use std::alloc::{AllocError, Global};
 use std::marker::Model;
 
 /// Where the log begins.
@@ -91,7 +90,7 @@ impl Store {
 
     /// Makes room in the log for one mini-transaction, however long. The pages and the log stay as they
     /// are.
-    pub fn reserve(&mut self) -> Result<(), NoMemory>
+    pub fn reserve(&mut self) -> Result<(), AllocError>
         ensures ok { OnOk result (longest ≤ self.new.room) }
         ensures same { Keeps self.old self.new }
     {
@@ -100,7 +99,7 @@ impl Store {
 
     /// Writes a mini-transaction to the log and does to the pages what it says. Of its records only the
     /// first may make pages. After a refusal the pages and the log are as before.
-    pub fn write(&mut self, alloc: Global, records: &[Record]) -> Result<(), NoMemory>
+    pub fn write(&mut self, alloc: Global, records: &[Record]) -> Result<(), AllocError>
         requires some { 1 ≤ length records.now }
         requires short { length (spelling records.now) ≤ longest }
         requires grows { AllByRecursion MakesNoPage (drop 1 records.now) }

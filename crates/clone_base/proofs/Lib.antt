@@ -1,0 +1,2 @@
+pub mod MapEntries
+pub mod OrderedMaps

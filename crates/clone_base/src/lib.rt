@@ -1,0 +1,2 @@
+//! Lemmas on finite maps and lists that several crates need.
+#![tactic(auto)]
