@@ -1,0 +1,157 @@
+-- A table is made, for the contents: its space is made, and it is named in the dictionary.
+use Rattle.std.proofs.Common.{◌≡◌, ◌≢◌, ◌<◌, ◌≤◌, ◌+◌, ◌*◌, ◌⊎◌, ℕ, cond, eqb, List, [], ◌∷◌, length, get_or, replicate, take, refl, sym, ap, subst, ◌∙◌, arith, inl, inr, Option, Some, None}
+use Rattle.std.specs.Prelude.{unwrap_or, option_map, option_and_then, slice_get, slice_index, nat_lt}
+use Rattle.std.specs.FinMap as finite
+use Rattle.std.proofs.Math.Seq.{drop-nil}
+use Rattle.std.proofs.lemmas.Bool.{cases_eq, cases_lt, lt-ltb, le-ltb}
+use Rattle.std.proofs.lemmas.List.{get_or-replicate, length-replicate}
+use Rattle.std.proofs.lemmas.Option.{same_Some, slice_get_within, slice_get-get_or}
+use Rattle.clone_page.specs.Bytes.{put_at, field}
+use Rattle.clone_page.specs.Dictionary.{entry_at, entry, entry_space, position_at}
+use Rattle.clone_page.specs.Header.{zero_page, with_lsn, IsAllowed}
+use Rattle.clone_page.specs.Slots.{slot}
+use Rattle.clone_page.proofs.Parts.{entry_space-with_lsn, entry_space-put_entry_same, entry_space-put_entry_other, field-put_at_other}
+use Rattle.clone_mtr.specs.declared.record.Record.TheVariants.{Write}
+use Rattle.clone_row.specs.Slots.{unused, slots, slot_in}
+use Rattle.clone_row.proofs.Rows.{slot_in-slots, slot_in-past, slot_of-unused, slots-zero}
+use Rattle.clone_undo.proofs.Effects as undo
+use Rattle.clone_undo.proofs.Headers.{field-stamped}
+use Rattle.clone_image.specs.Image.{Image, page_of, all_pages, after_records}
+use Rattle.clone_image.proofs.Images.{get-put_same, get-put_other, page_of-elsewhere}
+use Rattle.clone_image.proofs.Pages.{all_pages-is}
+use Rattle.clone_contents.specs.Contents.{Contents, contents_of, set_at}
+use Rattle.clone_contents.specs.Formed.{IsFormed, IsOrUnused, HasContents}
+use Rattle.clone_contents.specs.Records.{create_records}
+use Rattle.clone_contents.specs.Steps.{MayCreate, created}
+use Rattle.clone_contents.proofs.SameContents.{set_at-same, set_at-other, same_contents}
+use Rattle.clone_contents.proofs.SystemLemmas.{system, system_long, put_long, system_written}
+
+-- no slot of a page that is zero, or isn't there, was used
+pub no_slot : (j : ℕ) (o : Option (List ℕ)) → ((page : List ℕ) → o ≡ Some page → page ≡ zero_page) → slot_in (slots (unwrap_or o [])) j ≡ unused
+no_slot j o zeros = at (cases_lt j 50) o zeros
+  where
+    at : (j < 50) ⊎ (50 ≤ j) → (o : Option (List ℕ)) → ((page : List ℕ) → o ≡ Some page → page ≡ zero_page) → slot_in (slots (unwrap_or o [])) j ≡ unused
+    at (inr high) o zeros = slot_in-past j (unwrap_or o []) high
+    at (inl low) None zeros = slot_in-slots j [] low ∙ slot_of-unused (slot j []) (ap (λ (xs : List ℕ). slice_index (take 80 xs) 0) (drop-nil (48 + 80 * j)))
+    at (inl low) (Some page) zeros = ap (λ p. slot_in (slots p) j) (zeros page refl) ∙ ap (λ list. slot_in list j) slots-zero ∙ get_or-replicate 50 j unused unused low
+
+-- the pages of a space that is made are zero
+pub made_zeros : (image : Image) (space count n : ℕ) (page : List ℕ) → page_of (finite.insert image space (replicate count zero_page)) space n ≡ Some page → page ≡ zero_page
+made_zeros image space count n page is =
+    let made_is : slice_get (replicate count zero_page) n ≡ Some page = ap (λ o. option_and_then (λ pages. slice_get pages n) o) (sym (get-put_same image space (replicate count zero_page))) ∙ is in
+    let within = slice_get_within (replicate count zero_page) n page made_is in
+    sym (same_Some (get_or (replicate count zero_page) n zero_page) page (sym (slice_get-get_or (replicate count zero_page) n zero_page within) ∙ made_is)) ∙ get_or-replicate count n zero_page zero_page (omega (arith, within, length-replicate count zero_page))
+
+-- a space that isn't there has no page
+pub absent : (image : Image) (space n : ℕ) → option_map length (finite.get image space) ≡ None → page_of image space n ≡ None
+absent image space n none = at (finite.get image space) none
+  where
+    at : (o : Option (List (List ℕ))) → option_map length o ≡ None → option_and_then (λ pages. slice_get pages n) o ≡ None
+    at None is = refl
+    at (Some pages) is = absurd (let e = is in cc)
+
+-- A space is made.
+
+module _ (image : Image) (table buckets : ℕ) (formed : IsFormed image) (behind : table ≢ 0) (none : (contents_of image).size table ≡ None) where
+  abbrev made : Image
+  made = finite.insert image table (replicate buckets zero_page)
+
+  others : (t n : ℕ) → t ≢ table → page_of made t n ≡ page_of image t n
+  others t n other = page_of-elsewhere image table buckets t n other
+
+  all_others : (t n : ℕ) → t ≢ table → all_pages made t n ≡ all_pages image t n
+  all_others t n other = ap (λ (o : Option (List ℕ)). unwrap_or o []) (others t n other)
+
+  zeros : (t n : ℕ) (page : List ℕ) → t ≡ table → page_of made t n ≡ Some page → page ≡ zero_page
+  zeros t n page same is = made_zeros image table buckets n page (ap (λ m. page_of made m n) (sym same) ∙ is)
+
+  system_other : 0 ≢ table
+  system_other zero = behind (sym zero)
+
+  size_is : (t : ℕ) → (contents_of made).size t ≡ set_at table (Some buckets) (contents_of image).size t
+  size_is t =
+      elim (cases_eq t table) [
+        | inl same ↦ ap (λ k. option_map length (finite.get made k)) same ∙ ap (option_map length) (get-put_same image table (replicate buckets zero_page)) ∙ ap (λ n. Some n) (length-replicate buckets zero_page)
+            ∙ sym (set_at-same table t (Some buckets) (contents_of image).size same)
+        | inr other ↦ ap (option_map length) (get-put_other image table t (replicate buckets zero_page) other) ∙ sym (set_at-other table t (Some buckets) (contents_of image).size other)
+      ]
+
+  slot_is : (t p j : ℕ) → (t ≡ table) ⊎ (t ≢ table) → (contents_of made).slot t p j ≡ (contents_of image).slot t p j
+  slot_is t p j (inr other) = ap (λ page. cond (eqb t 0) unused (slot_in (slots page) j)) (all_others t p other)
+  slot_is t p j (inl same) =
+      ap (λ x. cond (eqb t 0) unused x)
+      (no_slot j (page_of made t p) (λ page is. zeros t p page same is) ∙ sym (no_slot j (page_of image t p) (λ page is. absurd (let e = sym is ∙ ap (λ m. page_of image m p) same ∙ absent image table p none in cc))))
+
+  pub space_made : HasContents made (record (contents_of image) { size = set_at table (Some buckets) (contents_of image).size })
+  space_made = (
+    record {
+      whole = λ t n page is. elim (cases_eq t table) [
+        | inl same ↦ ap length (zeros t n page same is) ∙ length-replicate {A = ℕ} 4096 0
+        | inr other ↦ formed.whole t n page (sym (others t n other) ∙ is)
+      ];
+      size = ap (option_map length) (get-put_other image table 0 (replicate buckets zero_page) system_other) ∙ formed.size;
+      undo = λ n first within. subst (IsOrUnused 2) (sym (all_others 0 n system_other)) (formed.undo n first within);
+      tables = λ t n page first is. elim (cases_eq t table) [
+        | inl same ↦ inr (zeros t n page same is)
+        | inr other ↦ formed.tables t n page first (sym (others t n other) ∙ is)
+      ];
+    },
+    same_contents (contents_of made) (record (contents_of image) { size = set_at table (Some buckets) (contents_of image).size })
+        (λ j. ap (λ page. cond (nat_lt j 62) (entry_space j page) 0) (all_others 0 0 system_other))
+        size_is
+        (λ t p j. slot_is t p j (cases_eq t table))
+        (λ s. ap (λ o. cond (nat_lt s 64) o None) (undo.own s (all_pages made 0) (all_pages image 0) (λ m from to. all_others 0 m system_other)))
+        (ap (field position_at 8) (all_others 0 0 system_other)),
+  )
+
+-- A table is named.
+
+module _ (image : Image) (lsn place table buckets : ℕ) (formed : IsFormed image) (room : place < 62) (low : table ≤ 1000000) where
+  abbrev piece : List ℕ
+  piece = entry table buckets buckets
+
+  allowed : IsAllowed (entry_at place) (length piece)
+  allowed = (omega arith, inr (omega (arith, room), omega (arith, room)))
+
+  abbrev page : List ℕ
+  page = (system image lsn (entry_at place) piece formed allowed).0
+
+  abbrev written : List ℕ
+  written = with_lsn lsn (put_at (entry_at place) piece page)
+
+  long : length page ≡ 4096
+  long = system_long image lsn (entry_at place) piece formed allowed
+
+  put : length (put_at (entry_at place) piece page) ≡ 4096
+  put = put_long image lsn (entry_at place) piece formed allowed
+
+  old : all_pages image 0 0 ≡ page
+  old = all_pages-is image 0 0 page (system image lsn (entry_at place) piece formed allowed).1
+
+  entry_is : (j : ℕ) → (j ≡ place) ⊎ (j ≢ place) → (j < 62) ⊎ (62 ≤ j) → cond (nat_lt j 62) (entry_space j written) 0 ≡ set_at place table (contents_of image).named j
+  entry_is j (inl same) within =
+      ap (λ k. cond (nat_lt k 62) (entry_space k written) 0) same ∙ ap (λ b. cond b (entry_space place written) 0) (lt-ltb place 62 room)
+      ∙ entry_space-with_lsn place lsn (put_at (entry_at place) piece page) room put ∙ entry_space-put_entry_same place table buckets buckets page (omega (arith, low)) (omega (arith, long, room))
+      ∙ sym (set_at-same place j table (contents_of image).named same)
+  entry_is j (inr other) (inl within) =
+      ap (λ x. cond (nat_lt j 62) x 0) (entry_space-with_lsn j lsn (put_at (entry_at place) piece page) within put ∙ entry_space-put_entry_other j place piece page other refl (omega (arith, long, room)) ∙ ap (entry_space j) (sym old))
+      ∙ sym (set_at-other place j table (contents_of image).named other)
+  entry_is j (inr other) (inr past) = ap (λ b. cond b (entry_space j written) 0) (le-ltb j 62 past) ∙ sym (ap (λ b. cond b (entry_space j (all_pages image 0 0)) 0) (le-ltb j 62 past)) ∙ sym (set_at-other place j table (contents_of image).named other)
+
+  position_stays : field position_at 8 written ≡ (contents_of image).position
+  position_stays =
+      field-stamped position_at 8 lsn (put_at (entry_at place) piece page) (omega arith) (omega arith) put ∙ field-put_at_other position_at 8 (entry_at place) piece page (inl (omega arith)) (omega (arith, long, room)) ∙ ap (field position_at 8) (sym old)
+
+  pub table_named : HasContents (after_records lsn image (Write 0 0 record { offset = entry_at place; bytes = piece } ∷ [])) (record (contents_of image) { named = set_at place table (contents_of image).named })
+  table_named =
+      let new = system_written image lsn (entry_at place) piece formed allowed in (
+        new.0,
+        new.1 ∙ (λ i. record (contents_of image) { named = λ j. entry_is j (cases_eq j place) (cases_lt j 62) i; position = position_stays i }),
+      )
+
+-- both together
+pub create_is : (image : Image) (lsn place table buckets : ℕ) → IsFormed image → MayCreate (contents_of image) place table → HasContents (after_records lsn image (create_records place table buckets)) (created place table buckets (contents_of image))
+create_is image lsn place table buckets formed may =
+    let space = space_made image table buckets formed (λ z. omega (arith, z, may.used)) may.free in
+    let named = table_named (finite.insert image table (replicate buckets zero_page)) lsn place table buckets space.0 may.room may.low in
+    (named.0, named.1 ∙ ap (λ (c : Contents). record c { named = set_at place table c.named }) space.1)

@@ -1,0 +1,16 @@
+pub mod SameContents
+pub mod PageKinds
+pub mod RowSlots
+pub mod UndoEntries
+pub mod ChangeRecords
+pub mod RowAndUndo
+pub mod ChangeLemmas
+pub mod TakingBackLemmas
+pub mod RecoveryLemmas
+pub mod UndoSlotLemmas
+pub mod SystemLemmas
+pub mod CreateLemmas
+pub mod OpeningLemmas
+pub mod CommitLemmas
+pub mod FindLemmas
+pub mod RowLemmas

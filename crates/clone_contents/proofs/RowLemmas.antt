@@ -1,0 +1,81 @@
+-- The rows of an image are those of its contents.
+use Rattle.std.proofs.Common.{◌≡◌, ◌≢◌, ◌<◌, ℕ, cond, ◌+◌, ◌*◌, List, [], take, refl, sym, ap, subst, ◌∙◌, arith, inl, inr, Option, Some, None}
+use Rattle.std.specs.Prelude.{IsSomeAnd, slice_index, unwrap_or}
+use Rattle.std.proofs.Math.Seq.{drop-nil}
+use Rattle.std.proofs.lemmas.Bool.{cases_lt, lt-ltb, le-ltb}
+use Rattle.std.proofs.lemmas.Option.{same_Some}
+use Rattle.clone_model.specs.History.{Row}
+use Rattle.clone_page.specs.Dictionary.{Lists, entry_space}
+use Rattle.clone_page.specs.Slots.{slot}
+use Rattle.clone_row.specs.Slots.{Slot, unused, present, absent, damaged, slots, slot_in, slot_of, row_in, bound_key}
+use Rattle.clone_row.proofs.Rows.{slot_in-slots, slot_in-past, slot_of-unused, row_in-slot_of}
+use Rattle.clone_image.specs.Image.{Image, page_of, all_pages}
+use Rattle.clone_image.specs.Rows.{IsRow}
+use Rattle.clone_image.proofs.Pages.{all_pages-is}
+use Rattle.clone_contents.specs.Contents.{contents_of}
+use Rattle.clone_contents.specs.Formed.{IsFormed}
+use Rattle.clone_contents.specs.Rows.{IsRowIn}
+use Rattle.clone_contents.proofs.PageKinds.{there}
+use Rattle.clone_contents.proofs.RowSlots.{slot_is}
+use Rattle.clone_contents.proofs.TakingBackLemmas.{bound_kind}
+
+-- a slot with this row is present
+is_present : (s : Slot) (key : ℕ) (value : List ℕ) → row_in s ≡ Some (key, value) → s ≡ present key value
+is_present unused key value is = absurd cc
+is_present (absent k) key value is = absurd cc
+is_present damaged key value is = absurd cc
+is_present (present k v) key value is = (let same : ◌≡◌ {A = ℕ × List ℕ} (k, v) (key, value) = same_Some (k, v) (key, value) is in ap (λ (p : ℕ × List ℕ). present p.0 p.1) same)
+
+module _ (image : Image) (formed : IsFormed image) (row : Row) where
+  system : (page : List ℕ) × (page_of image 0 0 ≡ Some page)
+  system = there image 0 0 257 formed.size (omega arith)
+
+  entry_is : (j : ℕ) → j < 62 → (contents_of image).named j ≡ entry_space j system.0
+  entry_is j low = ap (λ b. cond b (entry_space j (all_pages image 0 0)) 0) (lt-ltb j 62 low) ∙ ap (entry_space j) (all_pages-is image 0 0 system.0 system.1)
+
+  pub row_contained : IsRow (page_of image) row → IsRowIn (contents_of image) row
+  row_contained r =
+      let lists : Lists system.0 row.0 = subst (λ (o : Option (List ℕ)). IsSomeAnd o (λ page. Lists page row.0)) system.1 r.listed in
+      record {
+        used = lists.used;
+        entry = lists.place;
+        named = entry_is lists.place lists.within ∙ lists.named;
+        page = r.number;
+        place = r.place;
+        held =
+            slot_is image row.0 r.number r.place (λ z. omega (arith, z, lists.used)) ∙ ap (λ page. slot_in (slots page) r.place) (all_pages-is image row.0 r.number r.page r.found) ∙ slot_in-slots r.place r.page r.within
+            ∙ is_present (slot_of (slot r.place r.page)) row.1 row.2 (row_in-slot_of (slot r.place r.page) ∙ r.held);
+      }
+
+  pub row_in_image : IsRowIn (contents_of image) row → IsRow (page_of image) row
+  row_in_image r = at (page_of image row.0 r.page) refl
+    where
+      behind : row.0 ≢ 0
+      behind z = omega (arith, z, r.used)
+
+      held : slot_in (slots (all_pages image row.0 r.page)) r.place ≡ present row.1 row.2
+      held = sym (slot_is image row.0 r.page r.place behind) ∙ r.held
+
+      low : r.place < 50
+      low = elim (cases_lt r.place 50) [ inl below ↦ below | inr high ↦ absurd (let e = sym held ∙ slot_in-past r.place (all_pages image row.0 r.page) high in cc) ]
+
+      place : r.entry < 62
+      place = elim (cases_lt r.entry 62) [ inl below ↦ below | inr high ↦ absurd (let none = sym r.named ∙ ap (λ b. cond b (entry_space r.entry (all_pages image 0 0)) 0) (le-ltb r.entry 62 high) in omega (arith, none, r.used)) ]
+
+      empty : slot_in (slots []) r.place ≡ unused
+      empty = slot_in-slots r.place [] low ∙ slot_of-unused (slot r.place []) (ap (λ (xs : List ℕ). slice_index (take 80 xs) 0) (drop-nil (48 + 80 * r.place)))
+
+      at : (o : Option (List ℕ)) → page_of image row.0 r.page ≡ o → IsRow (page_of image) row
+      at None none = absurd (let gone : all_pages image row.0 r.page ≡ [] = ap (λ (o : Option (List ℕ)). unwrap_or o []) none in let e = sym held ∙ ap (λ page. slot_in (slots page) r.place) gone ∙ empty in cc)
+      at (Some page) is =
+          let on : slot_in (slots page) r.place ≡ present row.1 row.2 = ap (λ p. slot_in (slots p) r.place) (sym (all_pages-is image row.0 r.page page is)) ∙ held in
+          record {
+            listed = subst (λ (o : Option (List ℕ)). IsSomeAnd o (λ p. Lists p row.0)) (sym system.1) (record { place = r.entry; within = place; used = r.used; named = sym (entry_is r.entry place) ∙ r.named });
+            number = r.page;
+            page = page;
+            found = is;
+            holds = inl (bound_kind image row.0 r.page r.place row.1 page formed behind low is (ap bound_key r.held));
+            place = r.place;
+            within = low;
+            held = sym (row_in-slot_of (slot r.place page)) ∙ ap row_in (sym (slot_in-slots r.place page low) ∙ on);
+          }

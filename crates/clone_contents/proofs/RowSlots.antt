@@ -1,0 +1,40 @@
+-- One slot of a page of a table was set.
+use Rattle.std.proofs.Common.{◌≡◌, ◌≢◌, ◌<◌, ◌⊎◌, ℕ, cond, eqb, set, sym, ap, ◌∙◌, arith, inl, inr}
+use Rattle.std.proofs.lemmas.Bool.{cases_eq, eq-eqb}
+use Rattle.std.proofs.lemmas.List.{get_or-set_same, get_or-set_other}
+use Rattle.clone_row.specs.Slots.{Slot, unused, slots, slot_in}
+use Rattle.clone_row.proofs.Rows.{length-slots}
+use Rattle.clone_image.specs.Image.{Image, all_pages}
+use Rattle.clone_contents.specs.Contents.{contents_of, with_slot}
+use Rattle.clone_contents.proofs.SameContents.{not_equal, cases_place, slot-same, slot-other}
+
+-- the slot of a table that is on a page
+pub slot_is : (image : Image) (t p j : ℕ) → t ≢ 0 → (contents_of image).slot t p j ≡ slot_in (slots (all_pages image t p)) j
+slot_is image t p j first = ap (λ b. cond b unused (slot_in (slots (all_pages image t p)) j)) (not_equal t 0 first)
+
+module _ (image new : Image) (t p j : ℕ) (x : Slot) (in_table : t ≢ 0) (low : j < 50) (now : slots (all_pages new t p) ≡ set (slots (all_pages image t p)) j x) (others : (u n : ℕ) → u ≢ 0 → (u ≡ t → n ≡ p → ⊥) → all_pages new u n ≡ all_pages image u n) where
+  abbrev on : Image → ℕ → ℕ → ℕ → Slot
+  on i u n k = slot_in (slots (all_pages i u n)) k
+
+  own : on new t p j ≡ x
+  own = ap (λ list. slot_in list j) now ∙ get_or-set_same (slots (all_pages image t p)) j x unused (omega (arith, low, length-slots (all_pages image t p)))
+
+  other : (u n i : ℕ) → u ≢ 0 → (u ≡ t → n ≡ p → i ≡ j → ⊥) → on new u n i ≡ on image u n i
+  other u n i behind apart = at (cases_eq u t) (cases_eq n p)
+    where
+      at : (u ≡ t) ⊎ (u ≢ t) → (n ≡ p) ⊎ (n ≢ p) → on new u n i ≡ on image u n i
+      at (inr a) second = ap (λ page. slot_in (slots page) i) (others u n behind (λ e f. a e))
+      at (inl a) (inr b) = ap (λ page. slot_in (slots page) i) (others u n behind (λ e f. b f))
+      at (inl a) (inl b) =
+          (λ k. on new (a k) (b k) i) ∙ ap (λ list. slot_in list i) now ∙ get_or-set_other (slots (all_pages image t p)) j i x unused (apart a b) ∙ (λ k. on image (sym a k) (sym b k) i)
+
+  pub slot_set : (u n i : ℕ) → (contents_of new).slot u n i ≡ (with_slot t p j x (contents_of image)).slot u n i
+  slot_set u n i =
+      elim (cases_place u n i t p j) [
+        | inl same ↦ slot_is new u n i (λ z. in_table (sym same.0 ∙ z)) ∙ (λ k. on new (same.0 k) (same.1 k) (same.2 k)) ∙ own ∙ sym (slot-same t p j u n i x (contents_of image) same.0 same.1 same.2)
+        | inr apart ↦ still apart (cases_eq u 0) ∙ sym (slot-other t p j u n i x (contents_of image) apart)
+      ]
+    where
+      still : (u ≡ t → n ≡ p → i ≡ j → ⊥) → (u ≡ 0) ⊎ (u ≢ 0) → (contents_of new).slot u n i ≡ (contents_of image).slot u n i
+      still apart (inl zero) = ap (λ b. cond b unused (on new u n i)) (eq-eqb u 0 zero) ∙ sym (ap (λ b. cond b unused (on image u n i)) (eq-eqb u 0 zero))
+      still apart (inr behind) = ap (λ s. cond (eqb u 0) unused s) (other u n i behind apart)

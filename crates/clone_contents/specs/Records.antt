@@ -1,0 +1,28 @@
+-- The records of the mini-transactions that change the system page.
+use Rattle.std.specs.Prelude.{ℕ, List, [], ◌∷◌, ◌++◌}
+use Rattle.byteorder.specs.Endian.{big_bytes}
+use Rattle.clone_page.specs.Dictionary.{entry_at, entry, position_at}
+use Rattle.clone_page.specs.declared.kind.PageKind.TheVariants.{System}
+use Rattle.clone_mtr.specs.declared.record.Record.{Record}
+use Rattle.clone_mtr.specs.declared.record.Record.TheVariants.{Init, Write, Create}
+use Rattle.clone_undo.specs.Changes.{records_of_end}
+
+-- the pages of the system space: the system page, and four for each undo slot
+abbrev pub system_size : ℕ
+system_size = 257
+
+-- opening makes the system space and its first page
+abbrev pub opening_records : List Record
+opening_records = Create 0 system_size ∷ Init 0 0 System ∷ []
+
+-- A table's space is made, and the table named in the dictionary, in the entry of this place.
+abbrev pub create_records : ℕ → ℕ → ℕ → List Record
+create_records place table buckets = Create table buckets ∷ Write 0 0 record { offset = entry_at place; bytes = entry table buckets buckets } ∷ []
+
+-- the number of commits is written
+abbrev pub position_record : ℕ → Record
+position_record position = Write 0 0 record { offset = position_at; bytes = big_bytes 8 position }
+
+-- a transaction commits: its undo slot is free, and the number of commits is this
+abbrev pub commit_records : ℕ → ℕ → List Record
+commit_records s position = records_of_end s ++ position_record position ∷ []

@@ -1,0 +1,10 @@
+//! What an image contains, between the bytes of its pages and the rows that they mean, and what each
+//! mini-transaction does to it.
+#![tactic(auto)]
+
+mod laws;
+
+pub use laws::{
+    begin_law, change_law, commit_law, create_law, end_law, find_laws, freeing_law, opening_law,
+    rows_law, taking_back_law, undoing_law,
+};
