@@ -47,7 +47,7 @@ does_add d (did_get trx table key value) after is = adds_none d after (binlog_of
 does_add d (did_undo_one trx undone) after is = undoes_none d trx undone after is
 does_add d (did_commit trx position) after is = adds_one d after is.commit position (binlog_of is.is) (drops_of is.is) is.count
 
-made_adds : (d : Donor) (m : Made) (after : Donor) → PlainStep d m after → Adds d after (cons_option (committed_at (made m)) [])
+pub made_adds : (d : Donor) (m : Made) (after : Donor) → PlainStep d m after → Adds d after (cons_option (committed_at (made m)) [])
 made_adds d (done x) after is = does_add d x after is.1
 made_adds d (refused call cause) after is = adds_none d after (binlog_of is.1) (drops_of is.1)
 

@@ -21,7 +21,7 @@ stop_stays None d e answered added is = tt
 stop_stays (Some at) d e answered added is = (omega (arith, is.0, ap length added.binlog, length-append d.binlog added.more), omega (arith, is.1, ap length added.drops))
 
 -- the history before a stop doesn't change any more
-before_stop-longer : (at : Stop) (d e : Donor) (answered : List ℕ) → IsStop (Some at) d → Adds d e answered → before_stop at d ≡ history_of (take at.position e.binlog) (take at.drops e.drops)
+pub before_stop-longer : (at : Stop) (d e : Donor) (answered : List ℕ) → IsStop (Some at) d → Adds d e answered → before_stop at d ≡ history_of (take at.position e.binlog) (take at.drops e.drops)
 before_stop-longer at d e answered is added =
     ap (λ (b : List Commit). history_of b (take at.drops d.drops)) (sym (take-append-le at.position d.binlog added.more is.0) ∙ ap (take at.position) (sym added.binlog))
     ∙ ap (λ (drops : Drops). history_of (take at.position e.binlog) (take at.drops drops)) (sym added.drops)
