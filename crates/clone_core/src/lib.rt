@@ -2,9 +2,12 @@
 #![tactic(auto)]
 
 mod begun;
+mod calls;
 mod joining;
+mod lines;
 #[cfg(test)]
 mod tests;
+mod texts;
 mod world;
 
 pub use joining::recovered_image;
