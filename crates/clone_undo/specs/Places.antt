@@ -16,9 +16,9 @@ records_on_page = 40
 abbrev pub header_page : ℕ → ℕ
 header_page s = 1 + 4 * s
 
--- the page of an undo record
+-- the page of an undo record. The records run over the four pages of the slot
 abbrev pub record_page : ℕ → ℕ → ℕ
-record_page s i = 1 + 4 * s + i / records_on_page
+record_page s i = 1 + 4 * s + (i / records_on_page) % 4
 
 -- where an undo record stands on its page
 abbrev pub record_place : ℕ → ℕ

@@ -1,10 +1,10 @@
 -- An undo slot as what its four pages tell: free, or who writes and which changes were made, oldest first.
-use Rattle.std.specs.Prelude.{ℕ, zero, suc, ◌==◌, ◌&&◌, nat_le, Bool, if◌then◌else◌, List, [], ◌∷◌, ◌++◌, None, Some}
+use Rattle.std.specs.Prelude.{ℕ, zero, suc, ◌==◌, Bool, if◌then◌else◌, List, [], ◌∷◌, ◌++◌, None, Some}
 use Rattle.std.specs.declared.option.Option.{Option}
 use Rattle.byteorder.specs.Endian.{big_bytes}
 use Rattle.clone_page.specs.Bytes.{part, field}
 use Rattle.clone_undo.specs.Entries.{UndoEntry, entry_of}
-use Rattle.clone_undo.specs.Places.{capacity, header_page, record_page, record_place}
+use Rattle.clone_undo.specs.Places.{header_page, record_page, record_place}
 
 pub record UndoSlot : Type 0 where
   pub writer : ℕ
@@ -37,9 +37,9 @@ abbrev pub entries : ℕ → (ℕ → List ℕ) → ℕ → List UndoEntry
 entries s pages zero = []
 entries s pages (suc n) = entries s pages n ++ entry_on n (pages (record_page s n)) ∷ []
 
--- the header says that the slot is in use, with a count that it can have
+-- the header says that the slot is in use
 abbrev pub is_in_use : List ℕ → Bool
-is_in_use page = (active_of page == 1) && nat_le (count_of page) capacity
+is_in_use page = active_of page == 1
 
 -- an undo slot, from the pages of the system space by their numbers
 abbrev pub undo_slot : ℕ → (ℕ → List ℕ) → Option UndoSlot

@@ -38,7 +38,7 @@ const VALUE_AT: usize = 24;
 /// The header of an undo slot that is in use.
 #[derive(Clone, Copy, Debug, PartialEq, Eq)]
 pub struct SlotHeader {
-    /// How many changes were made, at most 160.
+    /// How many changes were made. No undo slot has more than 160, so a count above is damage.
     pub count: u16,
     /// Who writes.
     pub writer: u32,
@@ -46,8 +46,7 @@ pub struct SlotHeader {
     pub index: u64,
 }
 
-/// The header on the first page of an undo slot, or none where the slot is free. A count above 160 is
-/// none of an undo slot, so there is no header then either.
+/// The header on the first page of an undo slot, or none where the slot is free.
 pub fn header(page: &Page) -> Option<SlotHeader>
     ensures none { IfNone result (is_in_use page.now ≡ false) }
     ensures some { IfSome result (λ h. is_in_use page.now ≡ true) }
@@ -56,12 +55,11 @@ pub fn header(page: &Page) -> Option<SlotHeader>
     ensures index { IfSome result (λ h. h.index ≡ index_of page.now) }
 {
     let bytes = page.bytes();
-    let count = u16_at(bytes, COUNT_AT);
-    if u8_at(bytes, ACTIVE_AT) != 1 || count > CAPACITY {
+    if u8_at(bytes, ACTIVE_AT) != 1 {
         return None;
     }
     Some(SlotHeader {
-        count,
+        count: u16_at(bytes, COUNT_AT),
         writer: u32_at(bytes, WRITER_AT),
         index: u64_at(bytes, INDEX_AT),
     })
