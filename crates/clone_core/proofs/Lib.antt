@@ -2,3 +2,4 @@ pub mod CountLemmas
 pub mod RecoveredLemmas
 pub mod CallLemmas
 pub mod LineLemmas
+pub mod RunLemmas

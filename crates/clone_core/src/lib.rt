@@ -4,6 +4,7 @@
 mod begun;
 mod calls;
 mod joining;
+mod laws;
 mod lines;
 #[cfg(test)]
 mod tests;
@@ -11,4 +12,5 @@ mod texts;
 mod world;
 
 pub use joining::recovered_image;
+pub use laws::run_laws;
 pub use world::World;
