@@ -1,19 +1,20 @@
 -- An ordered map as a finite map, in any exact order.
-use Rattle.std.proofs.Common.{◌≡◌, ◌+◌, List, [], ◌∷◌, length, refl, sym, ap, ◌∙◌, cond, Bool, true, false, Some, None, arith}
+use Rattle.std.proofs.Common.{◌≡◌, ◌≢◌, ◌+◌, ◌-◌, ◌<◌, ◌≤◌, ◌⊎◌, ℕ, zero, suc, inl, inr, List, [], ◌∷◌, length, refl, sym, ap, ◌∙◌, cond, Bool, true, false, Some, None, arith}
 use Rattle.std.specs.Prelude.{is_some}
 use Rattle.std.specs.declared.option.Option.{Option}
 use Rattle.std.specs.declared.cmp.Ordering.{Ordering}
 use Rattle.std.specs.declared.cmp.Ordering.TheVariants.{Less}
 use Rattle.std.specs.FinMap as finite
-use Rattle.std.specs.FinMap.{IsAntisymmetric, same_map, get-insert, get-remove, get-from_entries, len-insert, len-empty}
-use Rattle.std.specs.Cmp.{IsTotalOrder, eq_by_cmp_equiv}
-use Rattle.std.specs.Ordering.{eq_by_cmp, is_eq}
+use Rattle.std.specs.FinMap.{IsAntisymmetric, nat_cmp-IsAntisymmetric, same_map, get-empty, get-insert, get-remove, get-from_entries, len-insert, len-remove, len-empty}
+use Rattle.std.specs.Cmp.{IsTotalOrder, eq_by_cmp_equiv, nat_cmp_total}
+use Rattle.std.specs.Ordering.{nat_cmp, eq_by_cmp, is_eq}
 use Rattle.std.specs.BTreeMap.{BTreeMap, get, Updates, is_at, IsOrdered}
 use Rattle.std.specs.Map.{lookup, keys_of}
 use Rattle.std.specs.List.{AllByRecursion}
 use Rattle.std.specs.List.Sorted.{IsStrictlySortedBy}
+use Rattle.std.proofs.lemmas.Bool.{cases_eq}
 use Rattle.std.proofs.lemmas.Map.Keys.{sorted_head, sorted_tail}
-use Rattle.clone_base.proofs.MapEntries.{is_equal}
+use Rattle.clone_base.proofs.MapEntries.{is_equal, get-removed_same, get-removed_other}
 
 found : {K X : Type 0} (R : K → K → Ordering) (q : K) (es : List (K × X)) → finite.find R q es ≡ lookup (is_at (R q)) es
 found R q [] = refl
@@ -67,3 +68,47 @@ module _ {K X : Type 0} {R : K → K → Ordering} (o : IsTotalOrder R) where
         chosen : (b : Bool) (p : Option X) → (b ≡ true → p ≡ Some v) → cond b (Some v) p ≡ p
         chosen true p h = sym (h refl)
         chosen false p h = refl
+
+    -- a key that got a value, and then left
+    pub removed_again : (m : finite.FinMap R X) (k : K) (v : X) → finite.get m k ≡ None → finite.remove (finite.insert m k v) k ≡ m
+    removed_again m k v none = same_map o same _ _ (λ q. get-remove o (finite.insert m k v) k q ∙ ap (cond (eq_by_cmp R q k) None) (get-insert o m k v q) ∙ at (eq_by_cmp R q k) q (λ e. ap (finite.get m) (same q k (is_equal _ e)) ∙ none))
+      where
+        at : (b : Bool) (q : K) → (b ≡ true → finite.get m q ≡ None) → cond b None (cond b (Some v) (finite.get m q)) ≡ finite.get m q
+        at true q h = sym (h refl)
+        at false q h = refl
+
+    -- a key that gets another value
+    pub len-again : (m : finite.FinMap R X) (k : K) (v w : X) → finite.get m k ≡ Some v → finite.len (finite.insert m k w) ≡ finite.len m
+    len-again m k v w has = len-insert o m k w ∙ ap (λ p. cond (is_some p) (finite.len m) (finite.len m + 1)) has
+
+    -- a map has one entry more than without a key that it has
+    pub len-without : (m : finite.FinMap R X) (k : K) (v : X) → finite.get m k ≡ Some v → finite.len m ≡ finite.len (finite.remove m k) + 1
+    len-without m k v has =
+        ap finite.len (inserted_same m k v has ∙ sym (same_map o same _ _ (λ q. get-insert o (finite.remove m k) k v q ∙ ap (cond (eq_by_cmp R q k) (Some v)) (get-remove o m k q) ∙ at (eq_by_cmp R q k) (finite.get m q) ∙ sym (get-insert o m k v q))))
+        ∙ len-insert o (finite.remove m k) k v ∙ ap (λ p. cond (is_some p) (finite.len (finite.remove m k)) (finite.len (finite.remove m k) + 1)) (get-removed_same o same m k)
+      where
+        at : (b : Bool) (p : Option X) → cond b (Some v) (cond b None p) ≡ cond b (Some v) p
+        at true p = refl
+        at false p = refl
+
+-- where each key is a number below a limit, there are no more entries than that
+pub len-below : {X : Type 0} (n : ℕ) (m : finite.FinMap nat_cmp X) → ((k : ℕ) → is_some (finite.get m k) ≡ true → k < n) → finite.len m ≤ n
+len-below {X} zero m low = omega (arith, ap finite.len nothing, len-empty nat_cmp X)
+  where
+    none : (k : ℕ) (o : Option X) → finite.get m k ≡ o → o ≡ None
+    none k None is = refl
+    none k (Some x) is = absurd (let below = low k (ap is_some is) in omega (arith, below))
+
+    nothing : m ≡ finite.empty
+    nothing = same_map nat_cmp_total nat_cmp-IsAntisymmetric m finite.empty (λ k. none k (finite.get m k) refl ∙ sym (get-empty nat_cmp k))
+len-below {X} (suc n) m low =
+    let fewer = len-below n (finite.remove m n) (λ k there. less k there (cases_eq k n)) in
+    one_less (finite.contains_key m n) (len-remove nat_cmp_total m n) fewer
+  where
+    less : (k : ℕ) → is_some (finite.get (finite.remove m n) k) ≡ true → (k ≡ n) ⊎ (k ≢ n) → k < n
+    less k there (inl same) = absurd (let none = ap is_some (ap (finite.get (finite.remove m n)) same ∙ get-removed_same nat_cmp_total nat_cmp-IsAntisymmetric m n) in let e = sym none ∙ there in cc)
+    less k there (inr other) = let was = low k (ap is_some (sym (get-removed_other nat_cmp_total nat_cmp-IsAntisymmetric m n k other)) ∙ there) in omega (arith, was, other)
+
+    one_less : (b : Bool) → finite.len (finite.remove m n) ≡ cond b (finite.len m - 1) (finite.len m) → finite.len (finite.remove m n) ≤ n → finite.len m ≤ suc n
+    one_less true is le = omega (arith, is, le)
+    one_less false is le = omega (arith, is, le)

@@ -3,28 +3,26 @@ use Rattle.std.proofs.Common.{◌≡◌, ◌≢◌, ◌<◌, ◌≤◌, ◌+◌,
 use Rattle.std.specs.Prelude.{unwrap_or, option_map, option_and_then, slice_get, slice_index, nat_lt}
 use Rattle.std.specs.FinMap as finite
 use Rattle.std.proofs.Math.Seq.{drop-nil}
-use Rattle.std.proofs.lemmas.Bool.{cases_eq, cases_lt, lt-ltb, le-ltb}
+use Rattle.std.proofs.lemmas.Bool.{cases_eq, cases_lt}
 use Rattle.std.proofs.lemmas.List.{get_or-replicate, length-replicate}
 use Rattle.std.proofs.lemmas.Option.{same_Some, slice_get_within, slice_get-get_or}
 use Rattle.clone_page.specs.Bytes.{put_at, field}
 use Rattle.clone_page.specs.Dictionary.{entry_at, entry, entry_space, position_at}
-use Rattle.clone_page.specs.Header.{zero_page, with_lsn, IsAllowed}
+use Rattle.clone_page.specs.Header.{zero_page}
 use Rattle.clone_page.specs.Slots.{slot}
-use Rattle.clone_page.proofs.Parts.{entry_space-with_lsn, entry_space-put_entry_same, entry_space-put_entry_other, field-put_at_other}
+use Rattle.clone_page.proofs.Parts.{entry_space-put_entry_same, entry_space-put_entry_other, field-put_at_other}
 use Rattle.clone_mtr.specs.declared.record.Record.TheVariants.{Write}
 use Rattle.clone_row.specs.Slots.{unused, slots, slot_in}
 use Rattle.clone_row.proofs.Rows.{slot_in-slots, slot_in-past, slot_of-unused, slots-zero}
 use Rattle.clone_undo.proofs.Effects as undo
-use Rattle.clone_undo.proofs.Headers.{field-stamped}
 use Rattle.clone_image.specs.Image.{Image, page_of, all_pages, after_records}
 use Rattle.clone_image.proofs.Images.{get-put_same, get-put_other, page_of-elsewhere}
-use Rattle.clone_image.proofs.Pages.{all_pages-is}
 use Rattle.clone_contents.specs.Contents.{Contents, contents_of, set_at}
 use Rattle.clone_contents.specs.Formed.{IsFormed, IsOrUnused, HasContents}
 use Rattle.clone_contents.specs.Records.{create_records}
 use Rattle.clone_contents.specs.Steps.{MayCreate, created}
 use Rattle.clone_contents.proofs.SameContents.{set_at-same, set_at-other, same_contents}
-use Rattle.clone_contents.proofs.SystemLemmas.{system, system_long, put_long, system_written}
+use Rattle.clone_contents.proofs.SystemLemmas.{named_on, named_past, system_long, system_written}
 
 -- no slot of a page that is zero, or isn't there, was used
 pub no_slot : (j : ℕ) (o : Option (List ℕ)) → ((page : List ℕ) → o ≡ Some page → page ≡ zero_page) → slot_in (slots (unwrap_or o [])) j ≡ unused
@@ -104,50 +102,21 @@ module _ (image : Image) (table buckets : ℕ) (formed : IsFormed image) (behind
         (ap (field position_at 8) (all_others 0 0 system_other)),
   )
 
--- A table is named.
-
-module _ (image : Image) (lsn place table buckets : ℕ) (formed : IsFormed image) (room : place < 62) (low : table ≤ 1000000) where
-  abbrev piece : List ℕ
-  piece = entry table buckets buckets
-
-  allowed : IsAllowed (entry_at place) (length piece)
-  allowed = (omega arith, inr (omega (arith, room), omega (arith, room)))
-
-  abbrev page : List ℕ
-  page = (system image lsn (entry_at place) piece formed allowed).0
-
-  abbrev written : List ℕ
-  written = with_lsn lsn (put_at (entry_at place) piece page)
-
-  long : length page ≡ 4096
-  long = system_long image lsn (entry_at place) piece formed allowed
-
-  put : length (put_at (entry_at place) piece page) ≡ 4096
-  put = put_long image lsn (entry_at place) piece formed allowed
-
-  old : all_pages image 0 0 ≡ page
-  old = all_pages-is image 0 0 page (system image lsn (entry_at place) piece formed allowed).1
-
-  entry_is : (j : ℕ) → (j ≡ place) ⊎ (j ≢ place) → (j < 62) ⊎ (62 ≤ j) → cond (nat_lt j 62) (entry_space j written) 0 ≡ set_at place table (contents_of image).named j
-  entry_is j (inl same) within =
-      ap (λ k. cond (nat_lt k 62) (entry_space k written) 0) same ∙ ap (λ b. cond b (entry_space place written) 0) (lt-ltb place 62 room)
-      ∙ entry_space-with_lsn place lsn (put_at (entry_at place) piece page) room put ∙ entry_space-put_entry_same place table buckets buckets page (omega (arith, low)) (omega (arith, long, room))
-      ∙ sym (set_at-same place j table (contents_of image).named same)
-  entry_is j (inr other) (inl within) =
-      ap (λ x. cond (nat_lt j 62) x 0) (entry_space-with_lsn j lsn (put_at (entry_at place) piece page) within put ∙ entry_space-put_entry_other j place piece page other refl (omega (arith, long, room)) ∙ ap (entry_space j) (sym old))
-      ∙ sym (set_at-other place j table (contents_of image).named other)
-  entry_is j (inr other) (inr past) = ap (λ b. cond b (entry_space j written) 0) (le-ltb j 62 past) ∙ sym (ap (λ b. cond b (entry_space j (all_pages image 0 0)) 0) (le-ltb j 62 past)) ∙ sym (set_at-other place j table (contents_of image).named other)
-
-  position_stays : field position_at 8 written ≡ (contents_of image).position
-  position_stays =
-      field-stamped position_at 8 lsn (put_at (entry_at place) piece page) (omega arith) (omega arith) put ∙ field-put_at_other position_at 8 (entry_at place) piece page (inl (omega arith)) (omega (arith, long, room)) ∙ ap (field position_at 8) (sym old)
-
-  pub table_named : HasContents (after_records lsn image (Write 0 0 record { offset = entry_at place; bytes = piece } ∷ [])) (record (contents_of image) { named = set_at place table (contents_of image).named })
-  table_named =
-      let new = system_written image lsn (entry_at place) piece formed allowed in (
-        new.0,
-        new.1 ∙ (λ i. record (contents_of image) { named = λ j. entry_is j (cases_eq j place) (cases_lt j 62) i; position = position_stays i }),
-      )
+-- a table is named
+pub table_named : (image : Image) (lsn place table buckets : ℕ) → IsFormed image → place < 62 → table ≤ 1000000
+    → HasContents (after_records lsn image (Write 0 0 record { offset = entry_at place; bytes = entry table buckets buckets } ∷ [])) (record (contents_of image) { named = set_at place table (contents_of image).named })
+table_named image lsn place table buckets formed room low =
+    let piece = entry table buckets buckets in
+    let page = all_pages image 0 0 in
+    let on : entry_at place ≤ length page = omega (arith, system_long image formed, room) in
+    let named = (contents_of image).named in
+    system_written image lsn (entry_at place) piece formed (omega arith, inr (omega (arith, room), omega (arith, room))) (set_at place table named) (contents_of image).position
+    (λ j within. elim (cases_eq j place) [
+      | inl same ↦ ap (λ k. entry_space k (put_at (entry_at place) piece page)) same ∙ entry_space-put_entry_same place table buckets buckets page (omega (arith, low)) on ∙ sym (set_at-same place j table named same)
+      | inr other ↦ entry_space-put_entry_other j place piece page other refl on ∙ sym (named_on image j within) ∙ sym (set_at-other place j table named other)
+    ])
+    (λ j past. set_at-other place j table named (λ same. omega (arith, same, past, room)) ∙ named_past image j past)
+    (field-put_at_other position_at 8 (entry_at place) piece page (inl (omega arith)) on)
 
 -- both together
 pub create_is : (image : Image) (lsn place table buckets : ℕ) → IsFormed image → MayCreate (contents_of image) place table → HasContents (after_records lsn image (create_records place table buckets)) (created place table buckets (contents_of image))

@@ -1,9 +1,10 @@
 pub mod SameContents
-pub mod PageKinds
+pub mod ImagePages
+pub mod FittingRecords
 pub mod RowSlots
 pub mod UndoEntries
 pub mod ChangeRecords
-pub mod RowAndUndo
+pub mod SlotRecords
 pub mod ChangeLemmas
 pub mod TakingBackLemmas
 pub mod RecoveryLemmas

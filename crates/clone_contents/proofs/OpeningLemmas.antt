@@ -25,6 +25,7 @@ use Rattle.clone_contents.specs.Formed.{IsFormed, HasContents}
 use Rattle.clone_contents.specs.Records.{opening_records}
 use Rattle.clone_contents.specs.Steps.{opened}
 use Rattle.clone_contents.proofs.SameContents.{set_at-same, set_at-other, same_contents}
+use Rattle.clone_contents.proofs.SystemLemmas.{named_on, named_past}
 use Rattle.clone_contents.proofs.CreateLemmas.{no_slot, made_zeros, absent}
 
 active_of-zero : active_of zero_page ≡ 0
@@ -86,8 +87,8 @@ module _ (lsn : ℕ) where
   page_now = all_pages-is new 0 0 first system_is
 
   named_is : (j : ℕ) → (j < 62) ⊎ (62 ≤ j) → (contents_of new).named j ≡ 0
-  named_is j (inl low) = ap (λ x. cond (nat_lt j 62) x 0) (ap (entry_space j) page_now ∙ entry_space-initialised j 0 0 System lsn low) ∙ same (nat_lt j 62) 0
-  named_is j (inr high) = ap (λ b. cond b (entry_space j (all_pages new 0 0)) 0) (le-ltb j 62 high)
+  named_is j (inl low) = named_on new j low ∙ ap (entry_space j) page_now ∙ entry_space-initialised j 0 0 System lsn low
+  named_is j (inr high) = named_past new j high
 
   slot_is : (t p j : ℕ) → (t ≡ 0) ⊎ (t ≢ 0) → (contents_of new).slot t p j ≡ unused
   slot_is t p j (inl zero) = ap (λ b. cond b unused (slot_in (slots (all_pages new t p)) j)) (eq-eqb t 0 zero)

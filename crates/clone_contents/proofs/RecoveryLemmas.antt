@@ -1,7 +1,7 @@
 -- What recovery's edits of pages do to contents.
-use Rattle.std.proofs.Common.{◌≡◌, ◌≢◌, ◌<◌, ◌≤◌, ◌+◌, ◌⊎◌, ℕ, Bool, true, false, cond, eqb, ltb, List, [], length, replicate, set, refl, sym, ap, subst, ◌∙◌, arith, inl, inr, Option, Some, None}
+use Rattle.std.proofs.Common.{◌≡◌, ◌≢◌, ◌<◌, ◌≤◌, ◌+◌, ◌⊎◌, ℕ, cond, ltb, List, [], length, replicate, set, refl, sym, ap, subst, ◌∙◌, arith, inl, inr, Option, Some, None}
 use Rattle.std.specs.Prelude.{unwrap_or}
-use Rattle.std.proofs.lemmas.Bool.{cases_eq, cases_lt, eq-eqb, le-ltb}
+use Rattle.std.proofs.lemmas.Bool.{cases_eq}
 use Rattle.clone_page.specs.Bytes.{put_at, field}
 use Rattle.clone_page.specs.Dictionary.{entry_space, position_at}
 use Rattle.clone_page.specs.Header.{kind_of}
@@ -21,13 +21,14 @@ use Rattle.clone_image.specs.Recovered as recovered
 use Rattle.clone_image.specs.Recovered.{undo_slot_of}
 use Rattle.clone_image.proofs.Images.{page_of-edited_same, page_of-edited_other}
 use Rattle.clone_image.proofs.Pages.{all_pages-is, page_count-edited}
-use Rattle.clone_contents.specs.Contents.{Contents, contents_of, told_value, undone, with_undo, set_at}
+use Rattle.clone_contents.specs.Contents.{Contents, contents_of, told_value, undone, with_undo}
 use Rattle.clone_contents.specs.Formed.{IsFormed, IsOrUnused}
 use Rattle.clone_contents.specs.Steps.{MayUndo}
-use Rattle.clone_contents.proofs.SameContents.{same_contents, set_at-same, set_at-other}
-use Rattle.clone_contents.proofs.PageKinds.{there}
+use Rattle.clone_contents.proofs.SameContents.{same_contents}
+use Rattle.clone_contents.proofs.ImagePages.{there}
 use Rattle.clone_contents.proofs.UndoEntries.{slot_before-is, told_short}
-use Rattle.clone_contents.proofs.RowSlots.{slot_set}
+use Rattle.clone_contents.proofs.RowSlots.{slots_same, slot_set}
+use Rattle.clone_contents.proofs.SlotRecords.{undo_set_at}
 use Rattle.clone_contents.proofs.ChangeLemmas.{undo_there, page_there, header_kind}
 use Rattle.clone_contents.proofs.TakingBackLemmas.{bound_kind}
 
@@ -187,21 +188,6 @@ module _ (image : Image) (s : ℕ) (slot : UndoSlot) (formed : IsFormed image) (
   freed_is = (
     put_formed image 0 (header_page s) header_place zeros freeing,
     put_contents image 0 (header_page s) header_place zeros freeing (with_undo s None (contents_of image)) (λ j. refl) (λ n. refl) refl
-        (λ t p j. slots_stay t p j (cases_eq t 0))
-        (λ n. undo_stays n (cases_eq n s) (cases_lt n 64)),
+        (slots_same image freed_image (λ t p behind. all_others image 0 (header_page s) header_place zeros freeing t p (λ z n. behind z)))
+        (undo_set_at image freed_image s None small free (λ n other low. undo.own n (all_pages freed_image 0) (all_pages image 0) (λ m above below. all_others image 0 (header_page s) header_place zeros freeing 0 m (λ z h. other (omega (arith, above, below, h)))))),
   )
-    where
-      slots_stay : (t p j : ℕ) → (t ≡ 0) ⊎ (t ≢ 0) → (contents_of freed_image).slot t p j ≡ (contents_of image).slot t p j
-      slots_stay t p j (inl zero) = ap (λ b. cond b unused (slot_in (slots (all_pages freed_image t p)) j)) (eq-eqb t 0 zero) ∙ sym (ap (λ b. cond b unused (slot_in (slots (all_pages image t p)) j)) (eq-eqb t 0 zero))
-      slots_stay t p j (inr behind) = ap (λ page. cond (eqb t 0) unused (slot_in (slots page) j)) (all_others image 0 (header_page s) header_place zeros freeing t p (λ z n. behind z))
-
-      if_none : (b : Bool) → ◌≡◌ {A = Option UndoSlot} (cond b None None) None
-      if_none true = refl
-      if_none false = refl
-
-      undo_stays : (n : ℕ) → (n ≡ s) ⊎ (n ≢ s) → (n < 64) ⊎ (64 ≤ n) → (contents_of freed_image).undo n ≡ set_at s None (contents_of image).undo n
-      undo_stays n (inl same) second = ap (λ m. cond (ltb m 64) (undo_slot_of freed_image m) None) same ∙ ap (λ o. cond (ltb s 64) o None) free ∙ if_none (ltb s 64) ∙ sym (set_at-same s n None (contents_of image).undo same)
-      undo_stays n (inr other) (inl low) =
-          ap (λ o. cond (ltb n 64) o None) (undo.own n (all_pages freed_image 0) (all_pages image 0) (λ m above below. all_others image 0 (header_page s) header_place zeros freeing 0 m (λ z h. other (omega (arith, above, below, h)))))
-          ∙ sym (set_at-other s n None (contents_of image).undo other)
-      undo_stays n (inr other) (inr high) = ap (λ b. cond b (undo_slot_of freed_image n) None) (le-ltb n 64 high) ∙ sym (ap (λ b. cond b (undo_slot_of image n) None) (le-ltb n 64 high)) ∙ sym (set_at-other s n None (contents_of image).undo other)

@@ -1,8 +1,8 @@
 -- The rows of an image are those of its contents.
-use Rattle.std.proofs.Common.{◌≡◌, ◌≢◌, ◌<◌, ℕ, cond, ◌+◌, ◌*◌, List, [], take, refl, sym, ap, subst, ◌∙◌, arith, inl, inr, Option, Some, None}
+use Rattle.std.proofs.Common.{◌≡◌, ◌≢◌, ◌<◌, ℕ, ◌+◌, ◌*◌, List, [], take, refl, sym, ap, subst, ◌∙◌, arith, inl, inr, Option, Some, None}
 use Rattle.std.specs.Prelude.{IsSomeAnd, slice_index, unwrap_or}
 use Rattle.std.proofs.Math.Seq.{drop-nil}
-use Rattle.std.proofs.lemmas.Bool.{cases_lt, lt-ltb, le-ltb}
+use Rattle.std.proofs.lemmas.Bool.{cases_lt}
 use Rattle.std.proofs.lemmas.Option.{same_Some}
 use Rattle.clone_model.specs.History.{Row}
 use Rattle.clone_page.specs.Dictionary.{Lists, entry_space}
@@ -15,7 +15,8 @@ use Rattle.clone_image.proofs.Pages.{all_pages-is}
 use Rattle.clone_contents.specs.Contents.{contents_of}
 use Rattle.clone_contents.specs.Formed.{IsFormed}
 use Rattle.clone_contents.specs.Rows.{IsRowIn}
-use Rattle.clone_contents.proofs.PageKinds.{there}
+use Rattle.clone_contents.proofs.ImagePages.{there}
+use Rattle.clone_contents.proofs.SystemLemmas.{named_on, named_past}
 use Rattle.clone_contents.proofs.RowSlots.{slot_is}
 use Rattle.clone_contents.proofs.TakingBackLemmas.{bound_kind}
 
@@ -31,7 +32,7 @@ module _ (image : Image) (formed : IsFormed image) (row : Row) where
   system = there image 0 0 257 formed.size (omega arith)
 
   entry_is : (j : ℕ) → j < 62 → (contents_of image).named j ≡ entry_space j system.0
-  entry_is j low = ap (λ b. cond b (entry_space j (all_pages image 0 0)) 0) (lt-ltb j 62 low) ∙ ap (entry_space j) (all_pages-is image 0 0 system.0 system.1)
+  entry_is j low = named_on image j low ∙ ap (entry_space j) (all_pages-is image 0 0 system.0 system.1)
 
   pub row_contained : IsRow (page_of image) row → IsRowIn (contents_of image) row
   row_contained r =
@@ -60,7 +61,7 @@ module _ (image : Image) (formed : IsFormed image) (row : Row) where
       low = elim (cases_lt r.place 50) [ inl below ↦ below | inr high ↦ absurd (let e = sym held ∙ slot_in-past r.place (all_pages image row.0 r.page) high in cc) ]
 
       place : r.entry < 62
-      place = elim (cases_lt r.entry 62) [ inl below ↦ below | inr high ↦ absurd (let none = sym r.named ∙ ap (λ b. cond b (entry_space r.entry (all_pages image 0 0)) 0) (le-ltb r.entry 62 high) in omega (arith, none, r.used)) ]
+      place = elim (cases_lt r.entry 62) [ inl below ↦ below | inr high ↦ absurd (let none = sym r.named ∙ named_past image r.entry high in omega (arith, none, r.used)) ]
 
       empty : slot_in (slots []) r.place ≡ unused
       empty = slot_in-slots r.place [] low ∙ slot_of-unused (slot r.place []) (ap (λ (xs : List ℕ). slice_index (take 80 xs) 0) (drop-nil (48 + 80 * r.place)))

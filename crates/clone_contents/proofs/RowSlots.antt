@@ -1,16 +1,24 @@
 -- One slot of a page of a table was set.
 use Rattle.std.proofs.Common.{◌≡◌, ◌≢◌, ◌<◌, ◌⊎◌, ℕ, cond, eqb, set, sym, ap, ◌∙◌, arith, inl, inr}
-use Rattle.std.proofs.lemmas.Bool.{cases_eq, eq-eqb}
+use Rattle.std.proofs.lemmas.Bool.{cases_eq, eq-eqb, ne_eqb}
 use Rattle.std.proofs.lemmas.List.{get_or-set_same, get_or-set_other}
 use Rattle.clone_row.specs.Slots.{Slot, unused, slots, slot_in}
 use Rattle.clone_row.proofs.Rows.{length-slots}
 use Rattle.clone_image.specs.Image.{Image, all_pages}
 use Rattle.clone_contents.specs.Contents.{contents_of, with_slot}
-use Rattle.clone_contents.proofs.SameContents.{not_equal, cases_place, slot-same, slot-other}
+use Rattle.clone_contents.proofs.SameContents.{cases_place, slot-same, slot-other}
 
 -- the slot of a table that is on a page
 pub slot_is : (image : Image) (t p j : ℕ) → t ≢ 0 → (contents_of image).slot t p j ≡ slot_in (slots (all_pages image t p)) j
-slot_is image t p j first = ap (λ b. cond b unused (slot_in (slots (all_pages image t p)) j)) (not_equal t 0 first)
+slot_is image t p j first = ap (λ b. cond b unused (slot_in (slots (all_pages image t p)) j)) (ne_eqb t 0 first)
+
+-- the slots stay where the pages of tables do
+pub slots_same : (image new : Image) → ((t p : ℕ) → t ≢ 0 → all_pages new t p ≡ all_pages image t p) → (t p j : ℕ) → (contents_of new).slot t p j ≡ (contents_of image).slot t p j
+slots_same image new same t p j = at (cases_eq t 0)
+  where
+    at : (t ≡ 0) ⊎ (t ≢ 0) → (contents_of new).slot t p j ≡ (contents_of image).slot t p j
+    at (inl zero) = ap (λ b. cond b unused (slot_in (slots (all_pages new t p)) j)) (eq-eqb t 0 zero) ∙ sym (ap (λ b. cond b unused (slot_in (slots (all_pages image t p)) j)) (eq-eqb t 0 zero))
+    at (inr behind) = ap (λ page. cond (eqb t 0) unused (slot_in (slots page) j)) (same t p behind)
 
 module _ (image new : Image) (t p j : ℕ) (x : Slot) (in_table : t ≢ 0) (low : j < 50) (now : slots (all_pages new t p) ≡ set (slots (all_pages image t p)) j x) (others : (u n : ℕ) → u ≢ 0 → (u ≡ t → n ≡ p → ⊥) → all_pages new u n ≡ all_pages image u n) where
   abbrev on : Image → ℕ → ℕ → ℕ → Slot

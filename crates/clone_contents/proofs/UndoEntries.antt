@@ -1,18 +1,17 @@
 -- What an undo record puts back.
 use Rattle.std.proofs.Common.{◌≡◌, ◌≤◌, ℕ, cond, List, length, sym, ap, subst, ◌∙◌, arith, inl, inr, Option, Some, None}
 use Rattle.std.specs.Prelude.{IfSome}
-use Rattle.std.proofs.lemmas.Bool.{eq-eqb}
+use Rattle.std.proofs.lemmas.Bool.{eq-eqb, ne_eqb}
 use Rattle.clone_row.specs.Slots as rows
 use Rattle.clone_undo.specs.Entries.{UndoEntry, IsEntry}
 use Rattle.clone_undo.specs.Changes.{slot_before}
 use Rattle.clone_contents.specs.Contents.{told_value}
-use Rattle.clone_contents.proofs.SameContents.{not_equal}
 
 told_some : (e : UndoEntry) → e.state ≡ 1 → told_value e ≡ Some e.value
 told_some e is = ap (λ b. cond b (Some e.value) None) (eq-eqb e.state 1 is)
 
 told_none : (e : UndoEntry) → e.state ≡ 2 → told_value e ≡ None
-told_none e is = ap (λ b. cond b (Some e.value) None) (not_equal e.state 1 (λ one. omega (arith, is, one)))
+told_none e is = ap (λ b. cond b (Some e.value) None) (ne_eqb e.state 1 (λ one. omega (arith, is, one)))
 
 -- the bytes are those of the slot of its key, with the value from before
 pub slot_before-is : (e : UndoEntry) → IsEntry e → slot_before e ≡ rows.image e.key (told_value e)

@@ -1,184 +1,198 @@
--- The pages keep what the donor is when a change is made.
-use Rattle.std.proofs.Common.{◌≡◌, ◌<◌, ◌≤◌, ◌%◌, ◌^◌, ◌==◌, ◌⊎◌, ℕ, Bool, false, List, [], length, refl, sym, ap, subst, ◌∙◌, arith, inl, inr, Option, Some, None}
-use Rattle.std.specs.Prelude.{IfSome, slice_get, unwrap_or}
-use Rattle.std.specs.Option.{is_some}
-use Rattle.std.specs.List.{AllByRecursion}
+-- An engine after a change that was made at its place, and after one that was taken away at once.
+use Rattle.std.proofs.Common.{◌≡◌, ◌≢◌, ◌<◌, ◌≤◌, ◌+◌, ◌-◌, ◌%◌, ◌==◌, ◌⊎◌, ℕ, Bool, true, false, List, [], ◌∷◌, ◌++◌, length, take, replicate, refl, sym, ap, subst, ◌∙◌, arith, inl, inr, Option, Some, None}
+use Rattle.std.specs.Prelude.{IfSome, MatchOption, if◌then◌else◌, unwrap_or}
 use Rattle.std.specs.FinMap as finite
-use Rattle.clone_model.specs.History.{fold, after_changes}
+use Rattle.std.specs.FinMap.{nat_cmp-IsAntisymmetric, same_map}
+use Rattle.std.specs.Cmp.{nat_cmp_total}
+use Rattle.std.specs.Ordering.{nat_cmp}
+use Rattle.std.proofs.Math.Seq.{take-append_seam}
+use Rattle.std.proofs.lemmas.Bool.{cases_eq}
+use Rattle.std.proofs.lemmas.List.{length-append, length-replicate}
+use Rattle.byteorder.specs.Endian.{big_bytes}
+use Rattle.byteorder.specs.Numbers.{length-bytes_high_first}
+use Rattle.clone_base.proofs.MapEntries.{get-set_same, get-set_other}
 use Rattle.clone_model.specs.declared.change.Change.{Change}
 use Rattle.clone_model.specs.declared.change.Commit.{Commit}
-use Rattle.clone_page.specs.Header.{kind_of}
 use Rattle.clone_mtr.specs.declared.record.Record.{Record}
 use Rattle.clone_row.specs.Slots as rows
-use Rattle.clone_row.proofs.Rows.{length-image}
+use Rattle.clone_row.specs.Slots.{bound_key, slots, Finds, FindsFree}
 use Rattle.clone_undo.specs.Entries.{UndoEntry, IsEntry}
 use Rattle.clone_undo.specs.Places.{record_page}
-use Rattle.clone_undo.specs.Changes.{records_of_change, after_row}
-use Rattle.clone_undo.proofs.Effects.{changed_elsewhere, changed_row}
-use Rattle.clone_image.specs.Image.{Image, all_pages, after_records, EditsPages}
-use Rattle.clone_image.proofs.Pages.{all_pages-is, records_counts}
-use Rattle.clone_plain.specs.Donor.{Donor, Keys, changes_of, bucket_in, bucket_of}
-use Rattle.clone_plain.specs.Causes.{is_full, change_limit}
-use Rattle.clone_plain.specs.Calls.{Changes, with_change, with_key}
-use Rattle.clone_trx.specs.Sound.{IsSound, IsLocked, HeldBefore, TellsChange, value_of}
-use Rattle.clone_trx.specs.Written.{is_unused, told}
-use Rattle.clone_trx.proofs.Values.{value_is, untouched, leaves_out, changes_of_active, own-set, others-set, changed_value, changed_value_other}
-use Rattle.clone_trx.proofs.Places.{changed_bucket, changed_keeps}
-use Rattle.clone_trx.proofs.Locked.{changed_locked}
-use Rattle.clone_trx.proofs.Tells.{changed_tells, tells_push}
-use Rattle.clone_trx.proofs.Paged.{KeepsKind, all_edits, all_fitting, page_after, page_kept, whole_fitting}
-use Rattle.clone_trx.proofs.ChangedPages.{change_keeps, row_set}
-use Rattle.clone_trx.proofs.ChangedUndo.{ChangesUndo, undo_changed}
-use Rattle.clone_trx.proofs.ChangedTables.{SetsSlot, table_some, tables_changed}
+use Rattle.clone_undo.specs.Changes.{records_of_change}
+use Rattle.clone_image.specs.Image.{Image, page_of, all_pages, after_records}
+use Rattle.clone_image.specs.Replay.{first_lsn}
+use Rattle.clone_image.proofs.Pages.{all_pages-is}
+use Rattle.clone_contents.specs.Contents.{contents_of}
+use Rattle.clone_contents.specs.Steps.{is_unused}
+use Rattle.clone_plain.specs.Donor.{Donor, changes_of}
+use Rattle.clone_plain.specs.Causes.{change_cause}
+use Rattle.clone_plain.specs.Effects.{Changes, with_change}
+use Rattle.clone_plain.specs.Locked.{Opened, value_of}
+use Rattle.clone_trx.specs.Engine.{EngineState, page_number}
+use Rattle.clone_trx.specs.Keys.{Keys, keys_in, BindsKey}
+use Rattle.clone_trx.specs.Sound.{IsKept}
+use Rattle.clone_trx.specs.Written.{Appends, AppendsChange}
+use Rattle.clone_trx.specs.Places.{IsPlaceFor, Places, told}
+use Rattle.clone_trx.specs.Opened.{front_of, TakesLast, Pops}
+use Rattle.clone_trx.proofs.CallCauses.{MayChange, may_change}
+use Rattle.clone_trx.proofs.KeyPlaces.{bucket_page, may_take, on_page, free_slot}
+use Rattle.clone_trx.proofs.Putting.{Puts}
+use Rattle.clone_trx.proofs.Rows.{MayTake}
+use Rattle.clone_trx.proofs.Steps.{PutKeeps, put_keeps}
 
--- no transaction but this one holds the row's lock
-abbrev pub MayLock : Donor → ℕ → Change → Type 0
-MayLock d trx change = (finite.get d.locks (change.table, change.key) ≡ None) ⊎ (finite.get d.locks (change.table, change.key) ≡ Some trx)
+-- a value whose slot has 80 bytes is short
+pub short_value : (key : ℕ) (value : Option (List ℕ)) → length (rows.image key value) ≡ 80 → IfSome value (λ v. length v ≤ 64)
+short_value key None eighty = tt
+short_value key (Some v) eighty =
+    let padding = length-replicate (64 - length v) (let zero : ℕ = 0 in zero) in
+    let eight = length-bytes_high_first 8 key in
+    let body = length-append v (replicate (64 - length v) 0) in
+    let rest = length-append (big_bytes 8 key) (v ++ replicate (64 - length v) 0) in
+    omega arith
 
--- the undo record of a change
-abbrev pub told_of : Donor → Change → ℕ → UndoEntry
-told_of d change place = told d change.table change.key place (value_of d change.table change.key)
+-- whether the page of the undo record is made, by the number of the first record
+pub made_by : (first : ℕ) (unused : Bool) → first ≡ (if unused then 0 else 1) → (first == 0) ≡ unused
+made_by first true is = ap (λ n. n == 0) is
+made_by first false is = ap (λ n. n == 0) is
 
--- the value that an undo record tells is the one that it was made of
-pub held_before : (d : Donor) (table key place : ℕ) (value : Option (List ℕ)) → HeldBefore value (told d table key place value)
-held_before d table key place None = (refl, refl)
-held_before d table key place (Some value) = (refl, refl)
+-- A change that was made at its place.
+pub record IsMade (before after : EngineState) (trx : ℕ) (change : Change) (entry : UndoEntry) (unused fresh : Bool) (count long : ℕ) : Type 0 where
+  pub kept : IsKept before.donor before.image
+  pub no_cause : change_cause before.donor trx change.table change.key long ≡ None
+  pub place : IsPlaceFor before trx change.table change.key entry fresh count
+  pub eighty : length (rows.image change.key change.value) ≡ 80
+  pub unused_told : unused ≡ is_unused before.image 0 (record_page trx count)
+  pub donor : after.donor ≡ record before.donor { active = after.donor.active; locks = after.donor.locks }
+  pub active : IfSome (finite.get before.donor.active trx) (λ commit. after.donor.active ≡ finite.insert before.donor.active trx (with_change change commit))
+  pub locks : after.donor.locks ≡ finite.insert before.donor.locks (change.table, change.key) trx
+  pub appends : Appends (records_of_change unused fresh trx count entry (rows.image change.key change.value)) before after
 
--- the page shows what the transaction's own changes left of a row that no other transaction has locked
-pub own_row : (d : Donor) (trx : ℕ) (commit : Commit) (change : Change) → IsLocked d → finite.get d.active trx ≡ Some commit → MayLock d trx change
-    → value_of d change.table change.key ≡ finite.get (after_changes (fold d.history) commit.changes) (change.table, change.key)
-own_row d trx commit change locked active (inl free) =
-    value_is d d.history None [] change.table change.key refl free refl
-    ∙ sym (untouched (fold d.history) commit.changes (change.table, change.key) (leaves_out d trx commit locked active (change.table, change.key) (λ held. let e = sym free ∙ held in cc)))
-own_row d trx commit change locked active (inr held) = value_is d d.history (Some trx) commit.changes change.table change.key refl held (changes_of_active d trx commit active)
+module _ (before after : EngineState) (trx : ℕ) (change : Change) (entry : UndoEntry) (unused_page fresh : Bool) (count long : ℕ) (g : IsMade before after trx change entry unused_page fresh count long) where
+  abbrev d : Donor
+  d = before.donor
 
--- what a change that is made has fulfilled
-pub record MakesChange (d after : Donor) (listed : List ℕ) (image : Image) (trx : ℕ) (change : Change) (place : ℕ) (undo_unused row_unused : Bool) : Type 0 where
-  pub sound : IsSound d listed image
-  pub made : Changes d trx change after
-  pub lock : MayLock d trx change
-  pub room : length (changes_of d trx) < change_limit
-  pub not_full : is_full (bucket_of d change.table change.key) change.key ≡ false
-  pub key_fits : change.key < 2 ^ 64
-  pub short : IfSome change.value (λ v. length v ≤ 64)
-  pub is_place : slice_get (bucket_of after change.table change.key) place ≡ Some change.key
-  pub in_range : IsEntry (told_of d change place)
-  pub undo_told : undo_unused ≡ is_unused image 0 (record_page trx (length (changes_of d trx)))
-  pub row_told : row_unused ≡ is_unused image (told_of d change place).table (told_of d change place).page
-
-module _ (d after : Donor) (listed : List ℕ) (image : Image) (trx : ℕ) (change : Change) (place lsn : ℕ) (undo_unused row_unused : Bool) (g : MakesChange d after listed image trx change place undo_unused row_unused) where
-  abbrev e : UndoEntry
-  e = told_of d change place
+  abbrev may : MayChange d trx change.table change.key
+  may = may_change d trx change.table change.key long g.kept.sound.locked g.no_cause
 
   abbrev bytes : List ℕ
   bytes = rows.image change.key change.value
 
-  abbrev count : ℕ
-  count = length g.made.commit.changes
+  abbrev total : ℕ
+  total = length (changes_of d trx)
 
-  abbrev written : List Record
-  written = records_of_change undo_unused row_unused trx count e bytes
+  abbrev e : UndoEntry
+  e = told d change.table change.key entry.slot (value_of d change.table change.key)
 
-  changes_are : changes_of d trx ≡ g.made.commit.changes
-  changes_are = changes_of_active d trx g.made.commit g.made.was_active
+  abbrev number : ℕ
+  number = page_number d change.table change.key
 
-  eighty : length bytes ≡ 80
-  eighty = length-image change.key change.value g.short
-
-  keeps : AllByRecursion (KeepsKind 0 2) written
-  keeps = change_keeps undo_unused row_unused trx count e bytes g.in_range eighty
-
-  edits : AllByRecursion EditsPages written
-  edits = all_edits written (all_fitting 0 2 written keeps)
-
-  history : after.history ≡ d.history
-  history = ap (λ (x : Donor). x.history) g.made.is
-
-  active : after.active ≡ finite.insert d.active trx (with_change change g.made.commit)
-  active = ap (λ (x : Donor). x.active) g.made.is
-
-  some_bucket : 0 < length g.made.buckets
-  some_bucket = table_some d listed image change.table g.made.buckets g.sound.tables g.made.was_table
-
-  bucket_before : bucket_of d change.table change.key ≡ bucket_in g.made.buckets change.key
-  bucket_before = ap (λ (o : Option (List Keys)). bucket_in (unwrap_or o []) change.key) g.made.was_table
-
-  bucket_after : bucket_of after change.table change.key ≡ with_key change.key (bucket_in g.made.buckets change.key)
-  bucket_after = changed_bucket g.made some_bucket change.key refl ∙ ap (with_key change.key) bucket_before
-
-  -- the undo record tells of the change
-  tells : TellsChange after (after_changes (fold after.history) g.made.commit.changes) change e
-  tells = record {
-    in_range = g.in_range;
-    table = refl;
-    key = refl;
-    page = ap (λ (n : ℕ). change.key % n) (sym (changed_keeps g.made change.table change.key).count);
-    slot = g.is_place;
-    before = subst (λ (value : Option (List ℕ)). HeldBefore value e)
-        (own_row d trx g.made.commit change g.sound.locked g.made.was_active g.lock ∙ ap (λ h. finite.get (after_changes (fold h) g.made.commit.changes) (change.table, change.key)) (sym history))
-        (held_before d change.table change.key place (value_of d change.table change.key));
+  -- the donor makes a step of the plain donor
+  pub made_change : Changes d trx change after.donor
+  made_change = record {
+    commit = may.commit;
+    buckets = may.buckets;
+    was_active = may.was_active;
+    was_table = may.was_table;
+    is = g.donor ∙ (λ i. record d { active = (subst (λ (o : Option Commit). IfSome o (λ commit. after.donor.active ≡ finite.insert d.active trx (with_change change commit))) may.was_active g.active) i; locks = g.locks i });
   }
 
-  undo_part : ChangesUndo d after image trx g.made.commit change e bytes undo_unused
-  undo_part = record {
-    undo = g.sound.undo;
-    whole = g.sound.whole;
-    active = g.made.was_active;
-    small = g.sound.locked.few.numbers trx (ap is_some g.made.was_active);
-    room = subst (λ (changes : List Change). length changes < 160) changes_are g.room;
-    in_range = g.in_range;
-    eighty = eighty;
-    told = g.undo_told ∙ ap (λ (changes : List Change). is_unused image 0 (record_page trx (length changes))) changes_are;
-    now = own-set d after trx (with_change change g.made.commit) active;
-    others = others-set d after trx (with_change change g.made.commit) active;
-    tells_other = λ s other records apart is had. changed_tells g.made other.changes records had;
-    tells_own = λ records had. tells_push after g.made.commit.changes records change e (changed_tells g.made g.made.commit.changes records had) tells;
+  -- Its page and its place there.
+
+  number_is : number ≡ change.key % may.buckets
+  number_is = ap (λ o. change.key % unwrap_or o 0) may.was_table
+
+  there : (page : List ℕ) × (page_of before.image change.table (change.key % may.buckets) ≡ Some page)
+  there = bucket_page g.kept change.table change.key may.buckets may.was_table
+
+  same_page : all_pages before.image change.table number ≡ there.0
+  same_page = ap (all_pages before.image change.table) number_is ∙ all_pages-is before.image change.table (change.key % may.buckets) there.0 there.1
+
+  on_number : Places change.key (all_pages before.image change.table number) (Some entry.slot)
+  on_number = subst (λ (u : UndoEntry). Places change.key (all_pages before.image change.table u.page) (Some entry.slot)) g.place.told g.place.place
+
+  places : Places change.key there.0 (Some entry.slot)
+  places = subst (λ (p : List ℕ). Places change.key p (Some entry.slot)) same_page on_number
+
+  may_hold : MayTake (contents_of before.image) change.table (change.key % may.buckets) entry.slot change.key
+  may_hold = may_take d before.image change.table change.key may.buckets there.0 g.kept may.was_table there.1 entry.slot places
+
+  puts : Puts d after.donor (contents_of before.image) trx change entry.slot
+  puts = record {
+    made = made_change;
+    lock = may.lock;
+    room = may.few;
+    short = short_value change.key change.value g.eighty;
+    is_place = subst (λ (n : ℕ). MayTake (contents_of before.image) change.table n entry.slot change.key) (sym number_is) may_hold;
+    in_range = subst IsEntry g.place.told g.place.in_range;
   }
 
-  table_part : SetsSlot d after listed image (after_records lsn image written) change.table e.page place change.key change.value g.made.buckets
-  table_part = record {
-    tables = g.sound.tables;
-    was_table = g.made.was_table;
-    now = ap (λ (x : Donor). x.tables) g.made.is;
-    is_number = ap (λ (o : Option (List Keys)). change.key % length (unwrap_or o [])) g.made.was_table;
-    room = ap (λ keys. is_full keys change.key) (sym bucket_before) ∙ g.not_full;
-    is_place = ap (λ keys. slice_get keys place) (sym bucket_after) ∙ g.is_place;
-    own = changed_value g.sound.locked g.made;
-    others = λ table k other. changed_value_other g.sound.locked g.made table k other;
-    counts = λ s. records_counts lsn image written s edits;
-    same = λ s n first other. page_kept lsn image written s n edits (changed_elsewhere undo_unused row_unused lsn trx count s n e bytes (all_pages image) (λ z p. first z) (λ z p. first z) other);
-    row = λ page there kind.
-        let bytes_are : all_pages image change.table e.page ≡ page = all_pages-is image change.table e.page page there in (
-          after_row row_unused lsn e bytes page,
-          page_after lsn image written change.table e.page page edits there
-              ∙ ap (λ p. Some p) (changed_row undo_unused row_unused lsn trx count e bytes (all_pages image) g.in_range ∙ ap (after_row row_unused lsn e bytes) bytes_are),
-          row_set row_unused lsn change.key change.value e page g.in_range.place.3 g.key_fits g.short (g.sound.whole change.table e.page page there) kind (g.row_told ∙ ap (λ p. kind_of p == 0) bytes_are),
-        );
+  -- What was written.
+
+  undo_told : unused_page ≡ is_unused before.image 0 (record_page trx total)
+  undo_told = g.unused_told ∙ ap (λ n. is_unused before.image 0 (record_page trx n)) g.place.count
+
+  row_told : fresh ≡ is_unused before.image change.table e.page
+  row_told = g.place.unused ∙ ap (λ (u : UndoEntry). is_unused before.image change.table u.page) g.place.told
+
+  same_records : records_of_change unused_page fresh trx count entry bytes ≡ records_of_change (is_unused before.image 0 (record_page trx total)) (is_unused before.image change.table e.page) trx total e bytes
+  same_records = λ i. records_of_change (undo_told i) (row_told i) trx (g.place.count i) (g.place.told i) bytes
+
+  -- the log grows by the records of the change
+  pub made_text : AppendsChange trx change before after
+  made_text = record { place = entry.slot; is_place = on_number; appends = subst (λ (records : List Record). Appends records before after) same_records g.appends }
+
+  keeps : PutKeeps after.donor before.image after.image change.table number entry.slot change.key
+  unfolding made_text
+  keeps =
+      subst (λ (image : Image). PutKeeps after.donor before.image image change.table number entry.slot change.key) (sym made_text.appends.image)
+      (put_keeps (first_lsn + length after.log) trx entry.slot d after.donor before.image change g.kept puts)
+
+  -- the pages are those of the donor after the change
+  pub made_kept : IsKept after.donor after.image
+  made_kept = keeps.kept
+
+  abbrev at : ℕ → Option ℕ
+  at j = keys_in before.image change.table (change.key % may.buckets) j
+
+  first_one : (at entry.slot ≡ Some change.key) ⊎ ((at entry.slot ≡ None) × ((j : ℕ) → at j ≢ Some change.key) × ((j : ℕ) → j < entry.slot → at j ≢ None))
+  first_one = by may_hold places.1
+    where
+      by : MayTake (contents_of before.image) change.table (change.key % may.buckets) entry.slot change.key → Finds change.key (slots there.0) (Some entry.slot) ⊎ (Finds change.key (slots there.0) None × FindsFree (slots there.0) (Some entry.slot)) → (at entry.slot ≡ Some change.key) ⊎ ((at entry.slot ≡ None) × ((j : ℕ) → at j ≢ Some change.key) × ((j : ℕ) → j < entry.slot → at j ≢ None))
+      by (inl bound) either = inl bound
+      by (inr new) (inl bound) = absurd (new.1 entry.slot (ap bound_key (on_page d before.image change.table change.key may.buckets there.0 g.kept may.was_table there.1 entry.slot) ∙ bound.1))
+      by (inr new) (inr free) = inr (ap bound_key new.0, new.1, λ j low none. free.1.2 j low (free_slot d before.image change.table change.key may.buckets there.0 g.kept may.was_table there.1 j none))
+
+  -- the row's key is bound to its place
+  pub made_keys : BindsKey change.table number change.key (keys_in before.image) (keys_in after.image)
+  made_keys = record {
+    place = entry.slot;
+    on_page = places.0;
+    first = subst (λ (n : ℕ). (keys_in before.image change.table n entry.slot ≡ Some change.key) ⊎ ((keys_in before.image change.table n entry.slot ≡ None) × ((j : ℕ) → keys_in before.image change.table n j ≢ Some change.key) × ((j : ℕ) → j < entry.slot → keys_in before.image change.table n j ≢ None))) (sym number_is) first_one;
+    is = keeps.keys;
   }
 
-  sound_after : IsSound after listed (after_records lsn image written)
-  sound_after = record {
-    locked = changed_locked g.sound.locked g.made g.lock g.room some_bucket;
-    whole = whole_fitting lsn image written (all_fitting 0 2 written keeps) g.sound.whole;
-    system = g.sound.system;
-    is_system =
-        page_kept lsn image written 0 0 edits
-        (changed_elsewhere undo_unused row_unused lsn trx count 0 0 e bytes (all_pages image) (λ z p. omega (arith, p)) (λ z p. omega (arith, p)) (λ z p. omega (arith, z, g.in_range.place.0)))
-        ∙ g.sound.is_system;
-    dictionary = g.sound.dictionary;
-    tables = tables_changed d after listed image (after_records lsn image written) change.table e.page place change.key change.value g.made.buckets table_part;
-    undo = undo_changed d after image trx g.made.commit change e bytes undo_unused row_unused lsn undo_part;
-  }
+-- A change that joined those of its transaction and left them at once.
 
-  pub makes_sound : IsSound after listed (after_records lsn image (records_of_change undo_unused row_unused trx (length (changes_of d trx)) e bytes))
-  makes_sound = subst (λ (changes : List Change). IsSound after listed (after_records lsn image (records_of_change undo_unused row_unused trx (length changes) e bytes))) (sym changes_are) sound_after
+-- a key that gets back the value that it had
+twice : {X : Type 0} (m : finite.FinMap nat_cmp X) (k : ℕ) (x y : X) → finite.get m k ≡ Some y → finite.insert (finite.insert m k x) k y ≡ m
+twice m k x y is =
+    same_map nat_cmp_total nat_cmp-IsAntisymmetric (finite.insert (finite.insert m k x) k y) m
+    (λ q. elim (cases_eq q k) [
+      | inl same ↦ ap (finite.get (finite.insert (finite.insert m k x) k y)) same ∙ get-set_same nat_cmp_total nat_cmp-IsAntisymmetric (finite.insert m k x) k y ∙ sym is ∙ ap (finite.get m) (sym same)
+      | inr other ↦ get-set_other nat_cmp_total nat_cmp-IsAntisymmetric (finite.insert m k x) k y q other ∙ get-set_other nat_cmp_total nat_cmp-IsAntisymmetric m k x q other
+    ])
 
--- The pages after a change are those of the donor after it.
-pub changed_sound : (d after : Donor) (listed : List ℕ) (image : Image) (trx : ℕ) (change : Change) (place lsn : ℕ) (undo_unused row_unused : Bool) → IsSound d listed image → Changes d trx change after → MayLock d trx change → length (changes_of d trx) < change_limit
-    → is_full (bucket_of d change.table change.key) change.key ≡ false → change.key < 2 ^ 64 → IfSome change.value (λ v. length v ≤ 64) → slice_get (bucket_of after change.table change.key) place ≡ Some change.key
-    → IsEntry (told d change.table change.key place (value_of d change.table change.key)) → undo_unused ≡ is_unused image 0 (record_page trx (length (changes_of d trx)))
-    → row_unused ≡ is_unused image change.table (told d change.table change.key place (value_of d change.table change.key)).page
-    → IsSound after listed (after_records lsn image (records_of_change undo_unused row_unused trx (length (changes_of d trx)) (told d change.table change.key place (value_of d change.table change.key)) (rows.image change.key change.value)))
-changed_sound d after listed image trx change place lsn undo_unused row_unused sound made lock room not_full key_fits short is_place in_range undo_told row_told =
-    makes_sound d after listed image trx change place lsn undo_unused row_unused
-    (record { sound = sound; made = made; lock = lock; room = room; not_full = not_full; key_fits = key_fits; short = short; is_place = is_place; in_range = in_range; undo_told = undo_told; row_told = row_told })
+front_of-pushed : (changes : List Change) (change : Change) → front_of (changes ++ change ∷ []) ≡ changes
+front_of-pushed changes change =
+    let one : length (changes ++ change ∷ []) - 1 ≡ length changes = omega (arith, length-append changes (change ∷ [])) in
+    ap (λ n. take n (changes ++ change ∷ [])) one ∙ take-append_seam changes (change ∷ [])
+
+pub left_again : (old pushed popped : Opened) (trx : ℕ) (commit : Commit) (change : Change) (last : Option Change) → finite.get old trx ≡ Some commit → IfSome (finite.get old trx) (λ c. pushed ≡ finite.insert old trx (with_change change c)) → Pops trx pushed popped last → popped ≡ old
+left_again old pushed popped trx commit change last was joined left =
+    let with_it : pushed ≡ finite.insert old trx (with_change change commit) = subst (λ (o : Option Commit). IfSome o (λ c. pushed ≡ finite.insert old trx (with_change change c))) was joined in
+    let there : finite.get pushed trx ≡ Some (with_change change commit) = ap (λ (m : Opened). finite.get m trx) with_it ∙ get-set_same nat_cmp_total nat_cmp-IsAntisymmetric old trx (with_change change commit) in
+    let taken : TakesLast trx (with_change change commit) pushed popped last = subst (λ (o : Option Commit). MatchOption o ((last ≡ None) × (popped ≡ pushed)) (λ c. TakesLast trx c pushed popped last)) there left in
+    taken.is
+    ∙ (λ i. finite.insert (with_it i) trx (record commit { changes = front_of-pushed commit.changes change i }))
+    ∙ twice old trx (with_change change commit) commit was
+

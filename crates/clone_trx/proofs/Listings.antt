@@ -15,10 +15,10 @@ use Rattle.clone_model.specs.Keys.{row_cmp}
 use Rattle.clone_model.proofs.RowMaps.{row_cmp_total, row_cmp_exact}
 use Rattle.clone_plain.specs.Donor.{Locks}
 use Rattle.clone_plain.specs.Causes.{transaction_limit}
-use Rattle.clone_plain.specs.Calls.{Releases}
+use Rattle.clone_plain.specs.Effects.{Releases}
 use Rattle.clone_trx.specs.Locked.{Lists, list_at, AreListed, without}
-use Rattle.clone_trx.proofs.Entries.{get-set_same, get-set_other, get-removed_same, get-removed_other, cases_row}
-use Rattle.clone_trx.proofs.Maps.{get-remove_some}
+use Rattle.clone_base.proofs.MapEntries.{get-set_same, get-set_other, get-removed_same, get-removed_other, cases_row}
+use Rattle.clone_base.proofs.OrderedMaps.{get-remove_some}
 
 abbrev pub Row : Type 0
 Row = ℕ × ℕ

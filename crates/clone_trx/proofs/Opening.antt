@@ -1,144 +1,65 @@
--- An engine that was opened just now is sound.
-use Rattle.std.proofs.Common.{◌≡◌, ◌≢◌, ℕ, ◌<◌, ◌≤◌, List, [], length, replicate, sym, ap, subst, ◌∙◌, arith, inl, inr, ◌⊎◌, Option, Some, None}
-use Rattle.std.specs.Prelude.{slice_get, option_map, option_and_then, IsSome, MatchOption}
-use Rattle.std.proofs.lemmas.Bool.{cases_lt, cases_eq}
-use Rattle.std.proofs.lemmas.List.{drop-replicate, take-replicate, length-replicate}
-use Rattle.std.proofs.lemmas.Option.{same_Some}
+-- A transaction begins, or ends without a change, and the contents stay sound.
+use Rattle.std.proofs.Common.{◌≡◌, ◌<◌, ℕ, [], length, refl, sym, ap, subst, ◌∙◌, inl, inr, Option, Some, None}
 use Rattle.std.specs.FinMap as finite
-use Rattle.std.specs.FinMap.{get-empty, len-empty, same_map, nat_cmp-IsAntisymmetric}
+use Rattle.std.specs.FinMap.{nat_cmp-IsAntisymmetric}
 use Rattle.std.specs.Cmp.{nat_cmp_total}
-use Rattle.std.specs.Ordering.{nat_cmp}
-use Rattle.clone_model.specs.Keys.{row_cmp}
-use Rattle.clone_page.specs.Bytes.{part, field}
-use Rattle.clone_page.specs.Header.{zero_page, initialised}
-use Rattle.clone_page.specs.declared.kind.PageKind.TheVariants.{System}
-use Rattle.clone_page.proofs.Parts.{kind_of-initialised, entry_space-initialised, field-part}
-use Rattle.clone_undo.specs.Slots.{active_of}
-use Rattle.clone_undo.specs.Places.{header_page}
-use Rattle.clone_undo.proofs.Headers.{slot-free}
-use Rattle.clone_image.specs.Image.{Image, page_of, page_count, with_edit, edited, after_records, AreWholePages}
-use Rattle.clone_image.specs.Recovered.{undo_slot_of, system_pages}
-use Rattle.clone_image.proofs.Images.{get-put_same, get-put_other, page_of-edited_same, page_of-edited_other, page_of-made, page_of-past}
-use Rattle.clone_image.proofs.Pages.{page_count-edited, all_pages-is, records_whole}
-use Rattle.clone_plain.specs.Donor.{Keys, no_donor}
-use Rattle.clone_plain.specs.Causes.{transaction_limit}
-use Rattle.clone_trx.specs.Engine.{buckets_on, tables_of}
-use Rattle.clone_trx.specs.Written.{opening_records}
-use Rattle.clone_trx.specs.Sound.{IsLocked, IsSystem, HoldsTables, IsUndoSlot, HoldsUndo, IsSound}
-use Rattle.clone_trx.proofs.Few.{few_empty}
-use Rattle.clone_trx.proofs.Paged.{same_space}
-use Rattle.clone_trx.proofs.Pages.{get-tables_of_system, get-tables_of_table}
+use Rattle.std.proofs.lemmas.Bool.{cases_eq}
+use Rattle.clone_model.specs.declared.change.Commit.{Commit}
+use Rattle.clone_row.specs.Slots.{row_slot}
+use Rattle.clone_undo.specs.Slots.{UndoSlot}
+use Rattle.clone_contents.specs.Contents.{Contents, with_undo}
+use Rattle.clone_contents.proofs.SameContents.{set_at-same, set_at-other}
+use Rattle.clone_plain.specs.Donor.{Donor}
+use Rattle.clone_plain.specs.Effects.{begun, Leaves}
+use Rattle.clone_trx.specs.Sound.{Slots, HoldsRows, HoldsUndo, StandsFor, IsSound}
+use Rattle.clone_plain.specs.Locked.{committed_rows, value_of}
+use Rattle.clone_base.proofs.MapEntries.{get-removed_same}
+use Rattle.clone_plain.proofs.ValueLemmas.{SameOthers, own-set, others-set, others-removed, begun_value, left_value}
+use Rattle.clone_plain.proofs.LockLemmas.{begun_locked, left_locked}
+use Rattle.clone_trx.proofs.Telling.{stands_still}
+use Rattle.clone_trx.proofs.Putting.{same_tables}
 
-pub active_of-zero : active_of zero_page ≡ 0
-active_of-zero = field-part 40 1 1 zero_page (omega arith) ∙ ap (field 0 1) (ap (λ (xs : List ℕ). part 0 1 xs) (drop-replicate 40 4096 0) ∙ take-replicate 1 4056 0 (omega arith))
-
--- nothing is in an empty map
-none_is_some : {X : Type 0} (o : Option X) → o ≡ None → IsSome o → ⊥
-none_is_some None is some = cc
-none_is_some (Some x) is some = cc
-
-IsLocked-none : IsLocked no_donor
-IsLocked-none = record {
-  few = few_empty no_donor.active (λ i. finite.empty);
-  own = λ trx commit i change is at. absurd (let e = sym is ∙ get-empty nat_cmp trx in cc);
-  holders = λ table key trx is. absurd (let e = sym is ∙ get-empty row_cmp (table, key) in cc);
-  places = λ table key trx is. absurd (let e = sym is ∙ get-empty row_cmp (table, key) in cc);
-  rows = λ table key value is. absurd (let e = sym is ∙ get-empty row_cmp (table, key) in cc);
+-- the rows stay where each shows the value that it showed
+pub rows_still : (d after : Donor) (slot : Slots) → after.tables ≡ d.tables → ((table key : ℕ) → value_of after table key ≡ value_of d table key) → HoldsRows d slot → HoldsRows after slot
+rows_still d after slot tables same rows = record {
+  shown = λ t p j key bound. rows.shown t p j key bound ∙ ap (row_slot key) (sym (same t key));
+  clean = rows.clean;
+  own = λ t p j key bound. let had = rows.own t p j key bound in (had.0, ap (λ m. finite.get m t) tables ∙ had.1, had.2);
+  once = rows.once;
+  found = λ t key value is. rows.found t key value (sym (same t key) ∙ is);
 }
 
--- an edit of one space leaves the others
-pub get-edited_other : (image : Image) (space number s : ℕ) (edit : List ℕ → List ℕ) → s ≢ space → finite.get (with_edit image space (edited number edit)) s ≡ finite.get image s
-get-edited_other image space number s edit apart =
-    same_space image (with_edit image space (edited number edit)) s (page_count-edited image space number s edit) (λ n. page_of-edited_other image space number s n edit (λ e f. apart e))
+-- one undo slot stands for its transaction anew
+undo_one : (d after : Donor) (c : Contents) (trx : ℕ) (found : Option UndoSlot) → committed_rows after ≡ committed_rows d → SameOthers trx d after → StandsFor after c.slot (finite.get after.active trx) found → HoldsUndo d c.slot c.undo → HoldsUndo after c.slot (with_undo trx found c).undo
+undo_one d after c trx found history others own holds s low =
+    elim (cases_eq s trx) [
+      | inl same ↦ subst (λ (n : ℕ). StandsFor after c.slot (finite.get after.active n) ((with_undo trx found c).undo n)) (sym same)
+          (subst (StandsFor after c.slot (finite.get after.active trx)) (sym (set_at-same trx trx found c.undo refl)) own)
+      | inr other ↦ stands_still d after c.slot c.slot (finite.get d.active s) (finite.get after.active s) (c.undo s) ((with_undo trx found c).undo s) history (λ t p j key was. was) (others s other) (set_at-other trx s found c.undo other) (holds s low)
+    ]
 
--- a page of a space that was made has only zero bytes
-pub made_zero : (image : Image) (space count n : ℕ) (page : List ℕ) → page_of (finite.insert image space (replicate count zero_page)) space n ≡ Some page → page ≡ zero_page
-made_zero image space count n page is = at (cases_lt n count)
-  where
-    at : (n < count) ⊎ (count ≤ n) → page ≡ zero_page
-    at (inl low) = same_Some page zero_page (sym is ∙ page_of-made image space count n low)
-    at (inr high) = absurd (let e = sym is ∙ page_of-past image space count n high in cc)
+pub begun_sound : (d : Donor) (c : Contents) (trx writer index : ℕ) → trx < 64 → finite.get d.active trx ≡ None → IsSound d c → IsSound (begun trx writer index d) (with_undo trx (Some (record { writer = writer; index = index; records = [] })) c)
+begun_sound d c trx writer index small none sound =
+    let after : Donor = begun trx writer index d in
+    let new : Commit = record { writer = writer; index = index; changes = [] } in
+    record {
+      locked = begun_locked d trx writer index small sound.locked;
+      tables = same_tables d after c.named c.size refl sound.tables;
+      rows = rows_still d after c.slot refl (begun_value d trx writer index sound.locked none) sound.rows;
+      undo = undo_one d after c trx (Some (record { writer = writer; index = index; records = [] })) refl (others-set d after trx new refl)
+          (subst (λ (o : Option Commit). StandsFor after c.slot o (Some (record { writer = writer; index = index; records = [] }))) (sym (own-set d after trx new refl)) (record { records = []; is = refl; tells = tt })) sound.undo;
+      position = sound.position;
+    }
 
-pub empty_whole : AreWholePages finite.empty
-empty_whole = λ s n page is. absurd (let e = sym is ∙ ap (option_and_then (λ ps. slice_get ps n)) (get-empty nat_cmp s) in cc)
-
--- the system space before its first page is made
-system_space : Image
-system_space = finite.insert finite.empty 0 (replicate 257 zero_page)
-
-opened : ℕ → Image
-opened lsn = after_records lsn finite.empty opening_records
-
-page_of-opened : (lsn number : ℕ) → number ≢ 0 → page_of (opened lsn) 0 number ≡ page_of system_space 0 number
-unfolding opened system_space
-page_of-opened lsn number apart = page_of-edited_other system_space 0 0 0 number (λ page. initialised 0 0 System lsn) (λ e f. apart f)
-
-system_is : (lsn : ℕ) → page_of (opened lsn) 0 0 ≡ Some (initialised 0 0 System lsn)
-unfolding opened system_space
-system_is lsn = page_of-edited_same system_space 0 0 (λ page. initialised 0 0 System lsn) zero_page (page_of-made finite.empty 0 257 0 (omega arith))
-
-zero_there : (lsn number : ℕ) → number ≢ 0 → number < 257 → page_of (opened lsn) 0 number ≡ Some zero_page
-unfolding system_space
-zero_there lsn number apart lt = page_of-opened lsn number apart ∙ page_of-made finite.empty 0 257 number lt
-
-no_space : (lsn space : ℕ) → space ≢ 0 → finite.get (opened lsn) space ≡ None
-unfolding opened system_space
-no_space lsn space apart =
-    get-edited_other system_space 0 0 space (λ page. initialised 0 0 System lsn) apart ∙ get-put_other finite.empty 0 space (replicate 257 zero_page) apart ∙ get-empty nat_cmp space
-
-whole : (lsn : ℕ) → AreWholePages (opened lsn)
-unfolding opened
-whole lsn = records_whole lsn finite.empty opening_records ((omega arith, omega arith), ((omega arith, omega arith), tt)) empty_whole
-
-IsSystem-opened : (lsn : ℕ) → IsSystem [] (initialised 0 0 System lsn)
-IsSystem-opened lsn = record {
-  kind = kind_of-initialised 0 0 System lsn;
-  few = omega arith;
-  named = λ j table e. absurd (let f = e in cc);
-  free = λ j le lt. entry_space-initialised j 0 0 System lsn lt;
-}
-
-no_tables : (lsn table : ℕ) → finite.get (tables_of (opened lsn)) table ≡ None
-no_tables lsn table = at (cases_eq table 0)
-  where
-    at : (table ≡ 0) ⊎ (table ≢ 0) → finite.get (tables_of (opened lsn)) table ≡ None
-    at (inl is) = get-tables_of_system (opened lsn) table is
-    at (inr apart) = get-tables_of_table (opened lsn) table apart ∙ ap (option_map buckets_on) (no_space lsn table apart)
-
-HoldsTables-opened : (lsn : ℕ) → HoldsTables no_donor [] (opened lsn)
-HoldsTables-opened lsn = record {
-  same = same_map nat_cmp_total nat_cmp-IsAntisymmetric no_donor.tables (tables_of (opened lsn)) (λ q. get-empty nat_cmp q ∙ sym (no_tables lsn q));
-  there = λ j table e. absurd (let f = e in cc);
-  all = λ table apart some. absurd (none_is_some (finite.get (opened lsn) table) (no_space lsn table apart) some);
-  count = len-empty nat_cmp (List Keys);
-  sizes = λ table pages apart is. absurd (let e = sym is ∙ no_space lsn table apart in cc);
-  buckets = λ table bucket pages page apart is at. absurd (let e = sym is ∙ no_space lsn table apart in cc);
-}
-
-page_count-opened : (lsn : ℕ) → page_count (opened lsn) 0 ≡ Some 257
-unfolding opened system_space
-page_count-opened lsn =
-    page_count-edited system_space 0 0 0 (λ page. initialised 0 0 System lsn) ∙ ap (option_map length) (get-put_same finite.empty 0 (replicate 257 zero_page)) ∙ ap (λ n. Some n) (length-replicate 257 zero_page)
-
-none_in_use : (lsn s : ℕ) → s < transaction_limit → undo_slot_of (opened lsn) s ≡ None
-none_in_use lsn s lt = slot-free s (system_pages (opened lsn)) (ap active_of (all_pages-is (opened lsn) 0 (header_page s) zero_page (zero_there lsn (header_page s) (omega arith) (omega (arith, lt)))) ∙ active_of-zero)
-
-HoldsUndo-opened : (lsn : ℕ) → HoldsUndo no_donor (opened lsn)
-unfolding system_space
-HoldsUndo-opened lsn = record {
-  size = page_count-opened lsn;
-  kinds = λ number page apart is. inr (made_zero finite.empty 0 257 number page (sym (page_of-opened lsn number apart) ∙ is));
-  slots = λ s lt. subst (λ o. MatchOption o (undo_slot_of (opened lsn) s ≡ None) (λ commit. IsUndoSlot no_donor commit (undo_slot_of (opened lsn) s))) (sym (get-empty nat_cmp s)) (none_in_use lsn s lt);
-}
-
-pub opening_sound : (lsn : ℕ) → IsSound no_donor [] (after_records lsn finite.empty opening_records)
-unfolding opened
-opening_sound lsn = record {
-  locked = IsLocked-none;
-  whole = whole lsn;
-  system = initialised 0 0 System lsn;
-  is_system = system_is lsn;
-  dictionary = IsSystem-opened lsn;
-  tables = HoldsTables-opened lsn;
-  undo = HoldsUndo-opened lsn;
-}
+pub left_sound : (d after : Donor) (c : Contents) (trx : ℕ) → Leaves d trx after → IsSound d c → IsSound after (with_undo trx None c)
+left_sound d after c trx l sound =
+    let tables : after.tables ≡ d.tables = ap (λ (x : Donor). x.tables) l.is in
+    let active : after.active ≡ finite.remove d.active trx = ap (λ (x : Donor). x.active) l.is in
+    let gone : finite.get after.active trx ≡ None = ap (λ m. finite.get m trx) active ∙ get-removed_same nat_cmp_total nat_cmp-IsAntisymmetric d.active trx in
+    record {
+      locked = left_locked sound.locked l;
+      tables = same_tables d after c.named c.size tables sound.tables;
+      rows = rows_still d after c.slot tables (left_value sound.locked l) sound.rows;
+      undo = undo_one d after c trx None (ap committed_rows l.is) (others-removed d after trx active) (subst (λ (o : Option Commit). StandsFor after c.slot o None) (sym gone) refl) sound.undo;
+      position = sound.position ∙ ap (λ (x : Donor). length x.binlog) (sym l.is);
+    }

@@ -9,9 +9,10 @@ use Rattle.std.specs.BTreeMap.{BTreeMap, get, Updates}
 use Rattle.std.proofs.lemmas.Map.Lookups.{exact_unsigned}
 use Rattle.clone_model.specs.declared.change.Change.{Change}
 use Rattle.clone_model.specs.declared.change.Commit.{Commit}
-use Rattle.clone_plain.specs.Calls.{with_change}
-use Rattle.clone_trx.specs.Opened.{Opened, opened_of, front_of, TakesLast, Pops}
-use Rattle.clone_trx.proofs.Maps.{get_listed, inserted, inserted_same}
+use Rattle.clone_plain.specs.Effects.{with_change}
+use Rattle.clone_plain.specs.Locked.{Opened}
+use Rattle.clone_trx.specs.Opened.{opened_of, front_of, TakesLast, Pops}
+use Rattle.clone_base.proofs.OrderedMaps.{get_listed, inserted, inserted_same}
 
 abbrev pub Kept : Type 0
 Kept = BTreeMap ℕ Commit

@@ -1,9 +1,11 @@
 -- A scan of numbers in ascending order, for the first that passes.
-use Rattle.std.proofs.Common.{◌≡◌, ℕ, suc, ◌+◌, ◌-◌, ◌<◌, ◌≤◌, Bool, true, false, not, cond, refl, ap, ◌∙◌, Some, None, arith}
+use Rattle.std.proofs.Common.{◌≡◌, ℕ, zero, suc, ◌+◌, ◌-◌, ◌<◌, ◌≤◌, Bool, true, false, not, cond, refl, sym, ap, ◌∙◌, Option, Some, None, is_some, arith}
 use Rattle.std.specs.List.{find, range_with_len}
+use Rattle.std.proofs.lemmas.Option.{same_Some, none-some}
 use Rattle.std.specs.FinMap as finite
-use Rattle.clone_plain.specs.Causes.{transaction_limit, least_unused}
-use Rattle.clone_trx.specs.Opened.{Opened}
+use Rattle.clone_plain.specs.Donor.{Donor}
+use Rattle.clone_plain.specs.Causes.{transaction_limit, least_unused, least_free}
+use Rattle.clone_plain.specs.Locked.{Opened}
 
 pub least_unused-found : (active : Opened) → least_unused active ≡ find (λ trx. not (finite.contains_key active trx)) (range_with_len 0 transaction_limit)
 unfolding least_unused
@@ -23,3 +25,21 @@ pub find_ends : (P : ℕ → Bool) (t n : ℕ) → n ≤ t → find P (range_wit
 find_ends P t n le =
     let none : n - t ≡ 0 = omega arith in
     ap (λ k. find P (range_with_len t k)) none
+
+-- What is found is below the limit, and no transaction is open of that number.
+
+found : (test : ℕ → Bool) (a n x : ℕ) → find test (range_with_len a n) ≡ Some x → (x < a + n) × (test x ≡ true)
+found test a zero x is = absurd (none-some x is)
+found test a (suc n) x is = at (test a) refl is (found test (a + 1) n x)
+  where
+    at : (b : Bool) → test a ≡ b → cond b (Some a) (find test (range_with_len (a + 1) n)) ≡ Some x → (find test (range_with_len (a + 1) n) ≡ Some x → (x < a + 1 + n) × (test x ≡ true)) → (x < a + suc n) × (test x ≡ true)
+    at true passes here later = let same = same_Some a x here in (omega (arith, same), ap test (sym same) ∙ passes)
+    at false passes behind later = let l = later behind in (omega (arith, l.0), l.1)
+
+none_there : {X : Type 0} (o : Option X) → not (is_some o) ≡ true → o ≡ None
+none_there None is = refl
+none_there (Some x) is = absurd cc
+
+pub least_free_is : (d : Donor) (trx : ℕ) → least_free d ≡ Some trx → (trx < transaction_limit) × (finite.get d.active trx ≡ None)
+unfolding least_unused
+least_free_is d trx is = let f = found (λ n. not (finite.contains_key d.active n)) 0 transaction_limit trx is in (omega (arith, f.0), none_there (finite.get d.active trx) f.1)

@@ -1,15 +1,10 @@
 -- The open transactions, and how the last change of one is taken away.
-use Rattle.std.specs.Prelude.{ℕ, ◌≡◌, ◌<◌, ◌≤◌, ◌-◌, ◌++◌, List, length, take, None, Some, IsSome, MatchOption, option_to_list}
+use Rattle.std.specs.Prelude.{ℕ, ◌≡◌, ◌-◌, ◌++◌, List, length, take, None, Some, MatchOption, option_to_list}
 use Rattle.std.specs.declared.option.Option.{Option}
 use Rattle.std.specs.FinMap as finite
-use Rattle.std.specs.Ordering.{nat_cmp}
 use Rattle.clone_model.specs.declared.change.Change.{Change}
 use Rattle.clone_model.specs.declared.change.Commit.{Commit}
-use Rattle.clone_plain.specs.Causes.{transaction_limit, change_limit}
-
--- from the number of an open transaction to the commit that it would be
-abbrev pub Opened : Type 0
-Opened = finite.FinMap nat_cmp Commit
+use Rattle.clone_plain.specs.Locked.{Opened}
 
 -- the open transactions that an ordered map lists
 abbrev pub opened_of : List (ℕ × Commit) → Opened
@@ -27,8 +22,3 @@ pub record TakesLast (trx : ℕ) (commit : Commit) (old new : Opened) (last : Op
 -- where there is no such transaction, nothing leaves
 abbrev pub Pops : ℕ → Opened → Opened → Option Change → Type 0
 Pops trx old new last = MatchOption (finite.get old trx) ((last ≡ None) × (new ≡ old)) (λ commit. TakesLast trx commit old new last)
-
--- Each open transaction has a number below the limit, and no more changes than it may have.
-pub record AreFew (active : Opened) : Type 0 where
-  pub numbers : (trx : ℕ) → IsSome (finite.get active trx) → trx < transaction_limit
-  pub few : (trx : ℕ) (commit : Commit) → finite.get active trx ≡ Some commit → length commit.changes ≤ change_limit

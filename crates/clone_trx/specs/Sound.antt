@@ -1,106 +1,83 @@
--- How an engine's pages keep what the plain donor is.
-use Rattle.std.specs.Prelude.{ℕ, ◌≡◌, ◌≢◌, ◌<◌, ◌≤◌, ◌%◌, ◌⊎◌, true, List, [], length, take, None, Some, IsSome, MatchOption, slice_get, unwrap_or}
+-- How the contents of an engine's image keep what the plain donor is. No byte is mentioned.
+use Rattle.std.specs.Prelude.{ℕ, ◌≡◌, ◌≢◌, ◌<◌, ◌≤◌, ◌%◌, List, [], ◌∷◌, length, None, Some, IsSome, MatchOption}
 use Rattle.std.specs.declared.option.Option.{Option}
 use Rattle.std.specs.FinMap as finite
-use Rattle.clone_model.specs.History.{Rows, fold, after_changes}
+use Rattle.clone_model.specs.History.{Rows, after_change}
 use Rattle.clone_model.specs.declared.change.Change.{Change}
 use Rattle.clone_model.specs.declared.change.Commit.{Commit}
-use Rattle.clone_page.specs.Header.{zero_page, kind_of}
-use Rattle.clone_page.specs.Slots.{slot_count}
-use Rattle.clone_page.specs.Dictionary.{entry_space}
-use Rattle.clone_row.specs.Slots.{slots, slot_in, row_slot, unused}
+use Rattle.clone_row.specs.Slots.{Slot, row_slot, bound_key, unused}
 use Rattle.clone_undo.specs.Entries.{UndoEntry, IsEntry}
 use Rattle.clone_undo.specs.Slots.{UndoSlot}
-use Rattle.clone_image.specs.Image.{Image, page_of, page_count, AreWholePages}
-use Rattle.clone_image.specs.Recovered.{undo_slot_of}
-use Rattle.clone_plain.specs.Donor.{Donor, changes_of, bucket_of}
-use Rattle.clone_plain.specs.Causes.{has_key, transaction_limit, table_limit}
-use Rattle.clone_trx.specs.Engine.{keys_on, tables_of}
-use Rattle.clone_trx.specs.Opened.{AreFew}
+use Rattle.clone_image.specs.Image.{Image}
+use Rattle.clone_contents.specs.Contents.{Contents, contents_of, told_value}
+use Rattle.clone_contents.specs.Formed.{IsFormed}
+use Rattle.clone_plain.specs.Donor.{Donor}
+use Rattle.clone_plain.specs.Causes.{transaction_limit, table_limit}
+use Rattle.clone_plain.specs.Locked.{IsLocked, committed_rows, value_of}
 
--- the changes of the transaction that holds a lock, or none where none does
-abbrev pub changes_by : Donor → Option ℕ → List Change
-changes_by d None = []
-changes_by d (Some trx) = changes_of d trx
+-- from a table, a page and a place to the slot there
+abbrev pub Slots : Type 0
+Slots = ℕ → ℕ → ℕ → Slot
 
--- The value that a row's page shows: the one after the history and then the changes of the transaction that holds the row's lock.
-abbrev pub value_of : Donor → ℕ → ℕ → Option (List ℕ)
-value_of d table key = finite.get (after_changes (fold d.history) (changes_by d (finite.get d.locks (table, key)))) (table, key)
+-- the slot at a place is bound to a key
+abbrev pub IsBound : Slots → ℕ → ℕ → ℕ → ℕ → Type 0
+IsBound slot table page place key = bound_key (slot table page place) ≡ Some key
 
--- a row's key has a place in its bucket
-abbrev pub IsPlaced : Donor → ℕ → ℕ → Type 0
-IsPlaced d table key = has_key key (bucket_of d table key) ≡ true
+-- Each table stands in one entry of the dictionary and has a space with a page for each bucket, and there are no others. The entries that are used are the first ones.
+pub record HoldsTables (d : Donor) (named : ℕ → ℕ) (size : ℕ → Option ℕ) : Type 0 where
+  pub sizes : (table count : ℕ) → finite.get d.tables table ≡ Some count → (size table ≡ Some count) × (1 ≤ table) × (table ≤ 1000000) × (1 ≤ count) × (count ≤ 1024)
+  pub spaces : (table : ℕ) → table ≢ 0 → finite.get d.tables table ≡ None → size table ≡ None
+  pub listed : (table : ℕ) → IsSome (finite.get d.tables table) → (j : ℕ) × (named j ≡ table)
+  pub tables : (j : ℕ) → named j ≢ 0 → IsSome (finite.get d.tables (named j))
+  pub once : (i j : ℕ) → named i ≢ 0 → named i ≡ named j → i ≡ j
+  pub free : (j : ℕ) → finite.len d.tables ≤ j → named j ≡ 0
+  pub few : finite.len d.tables ≤ table_limit
 
--- The rows that a transaction changed are locked by it. A row that is locked is so by an open transaction, and its key has a place. Each row that the history leaves has a place.
-pub record IsLocked (d : Donor) : Type 0 where
-  pub few : AreFew d.active
-  pub own : (trx : ℕ) (commit : Commit) (i : ℕ) (change : Change) → finite.get d.active trx ≡ Some commit → slice_get commit.changes i ≡ Some change → finite.get d.locks (change.table, change.key) ≡ Some trx
-  pub holders : (table key trx : ℕ) → finite.get d.locks (table, key) ≡ Some trx → IsSome (finite.get d.active trx)
-  pub places : (table key trx : ℕ) → finite.get d.locks (table, key) ≡ Some trx → IsPlaced d table key
-  pub rows : (table key : ℕ) (value : List ℕ) → finite.get (fold d.history) (table, key) ≡ Some value → IsPlaced d table key
-
--- The system page: each table that is listed has the dictionary entry of its place in the list, and all other entries are free.
-pub record IsSystem (listed : List ℕ) (page : List ℕ) : Type 0 where
-  pub kind : kind_of page ≡ 1
-  pub few : length listed ≤ table_limit
-  pub named : (j table : ℕ) → slice_get listed j ≡ Some table → entry_space j page ≡ table
-  pub free : (j : ℕ) → length listed ≤ j → j < table_limit → entry_space j page ≡ 0
-
--- The page of a bucket of a table of so many buckets. Its first slots are bound to the bucket's keys, in their order, each with the value of its row, and the slots behind them were never used.
-pub record IsBucketPage (d : Donor) (table count bucket : ℕ) (page : List ℕ) : Type 0 where
-  pub kind : (kind_of page ≡ 3) ⊎ (page ≡ zero_page)
-  pub room : length (keys_on page) ≤ slot_count
-  pub own : (j key : ℕ) → slice_get (keys_on page) j ≡ Some key → key % count ≡ bucket
-  pub distinct : (i j key : ℕ) → slice_get (keys_on page) i ≡ Some key → slice_get (keys_on page) j ≡ Some key → i ≡ j
-  pub used : (j key : ℕ) → slice_get (keys_on page) j ≡ Some key → slot_in (slots page) j ≡ row_slot key (value_of d table key)
-  pub free : (j : ℕ) → length (keys_on page) ≤ j → j < slot_count → slot_in (slots page) j ≡ unused
-
--- The tables that are listed are those that have a space, each once. A space has a page for each bucket.
-pub record HoldsTables (d : Donor) (listed : List ℕ) (image : Image) : Type 0 where
-  pub same : d.tables ≡ tables_of image
-  pub there : (j table : ℕ) → slice_get listed j ≡ Some table → (1 ≤ table) × (table ≤ 1000000) × IsSome (finite.get image table)
-  pub all : (table : ℕ) → table ≢ 0 → IsSome (finite.get image table) → (j : ℕ) × (slice_get listed j ≡ Some table)
-  pub count : finite.len d.tables ≡ length listed
-  pub sizes : (table : ℕ) (pages : List (List ℕ)) → table ≢ 0 → finite.get image table ≡ Some pages → (1 ≤ length pages) × (length pages ≤ 1024)
-  pub buckets : (table bucket : ℕ) (pages : List (List ℕ)) (page : List ℕ) → table ≢ 0 → finite.get image table ≡ Some pages → slice_get pages bucket ≡ Some page → IsBucketPage d table (length pages) bucket page
-
--- the row slot held this before it was changed: a row with a value, or none
-abbrev pub HeldBefore : Option (List ℕ) → UndoEntry → Type 0
-HeldBefore None e = (e.state ≡ 2) × (e.value ≡ [])
-HeldBefore (Some value) e = (e.state ≡ 1) × (e.value ≡ value)
+-- A slot that is bound to a key shows the key's value, and all others were never used. A key is bound once at most, on the page of its bucket, and it is wherever it has a value.
+pub record HoldsRows (d : Donor) (slot : Slots) : Type 0 where
+  pub shown : (table page place key : ℕ) → IsBound slot table page place key → slot table page place ≡ row_slot key (value_of d table key)
+  pub clean : (table page place : ℕ) → bound_key (slot table page place) ≡ None → slot table page place ≡ unused
+  pub own : (table page place key : ℕ) → IsBound slot table page place key → (count : ℕ) × (finite.get d.tables table ≡ Some count) × (page ≡ key % count)
+  pub once : (table key p i q j : ℕ) → IsBound slot table p i key → IsBound slot table q j key → (p ≡ q) × (i ≡ j)
+  pub found : (table key : ℕ) (value : List ℕ) → value_of d table key ≡ Some value → (page : ℕ) × (place : ℕ) × IsBound slot table page place key
 
 -- an undo record tells of a change that was made where the rows were these
-pub record TellsChange (d : Donor) (rows : Rows) (change : Change) (e : UndoEntry) : Type 0 where
+pub record TellsChange (slot : Slots) (rows : Rows) (change : Change) (e : UndoEntry) : Type 0 where
   pub in_range : IsEntry e
   pub table : e.table ≡ change.table
   pub key : e.key ≡ change.key
-  pub page : e.page ≡ change.key % length (unwrap_or (finite.get d.tables change.table) [])
-  pub slot : slice_get (bucket_of d change.table change.key) e.slot ≡ Some change.key
-  pub before : HeldBefore (finite.get rows (change.table, change.key)) e
+  pub bound : IsBound slot e.table e.page e.slot e.key
+  pub before : told_value e ≡ finite.get rows (change.table, change.key)
 
--- undo records tell of a transaction's changes, each of what the history and the changes before it had left
-pub record TellsChanges (d : Donor) (changes : List Change) (records : List UndoEntry) : Type 0 where
-  pub count : length records ≡ length changes
-  pub each : (i : ℕ) (change : Change) (e : UndoEntry) → slice_get changes i ≡ Some change → slice_get records i ≡ Some e → TellsChange d (after_changes (fold d.history) (take i changes)) change e
+-- undo records tell of changes that were made one after the other, where the rows were these at first
+abbrev pub TellsChanges : Slots → Rows → List Change → List UndoEntry → Type 0
+TellsChanges slot rows [] [] = Unit {0}
+TellsChanges slot rows (c ∷ cs) (e ∷ es) = TellsChange slot rows c e × TellsChanges slot (after_change rows c) cs es
+TellsChanges slot rows [] (e ∷ es) = ⊥
+TellsChanges slot rows (c ∷ cs) [] = ⊥
 
 -- an undo slot in use has the writer and the index of its transaction, and tells of its changes
-pub record IsUndoSlot (d : Donor) (commit : Commit) (found : Option UndoSlot) : Type 0 where
+pub record IsUndoSlot (d : Donor) (slot : Slots) (commit : Commit) (found : Option UndoSlot) : Type 0 where
   pub records : List UndoEntry
   pub is : found ≡ Some (record { writer = commit.writer; index = commit.index; records = records })
-  pub tells : TellsChanges d commit.changes records
+  pub tells : TellsChanges slot (committed_rows d) commit.changes records
 
--- The system space has 257 pages. Each undo slot is that of the open transaction of its number, or free where there is none.
-pub record HoldsUndo (d : Donor) (image : Image) : Type 0 where
-  pub size : page_count image 0 ≡ Some 257
-  pub kinds : (number : ℕ) (page : List ℕ) → number ≢ 0 → page_of image 0 number ≡ Some page → (kind_of page ≡ 2) ⊎ (page ≡ zero_page)
-  pub slots : (s : ℕ) → s < transaction_limit → MatchOption (finite.get d.active s) (undo_slot_of image s ≡ None) (λ commit. IsUndoSlot d commit (undo_slot_of image s))
+-- an undo slot is that of the open transaction of its number, or free where there is none
+abbrev pub StandsFor : Donor → Slots → Option Commit → Option UndoSlot → Type 0
+StandsFor d slot active found = MatchOption active (found ≡ None) (λ commit. IsUndoSlot d slot commit found)
 
--- all of it
-pub record IsSound (d : Donor) (listed : List ℕ) (image : Image) : Type 0 where
+abbrev pub HoldsUndo : Donor → Slots → (ℕ → Option UndoSlot) → Type 0
+HoldsUndo d slot undo = (s : ℕ) → s < transaction_limit → StandsFor d slot (finite.get d.active s) (undo s)
+
+-- all of it, with the number of commits
+pub record IsSound (d : Donor) (c : Contents) : Type 0 where
   pub locked : IsLocked d
-  pub whole : AreWholePages image
-  pub system : List ℕ
-  pub is_system : page_of image 0 0 ≡ Some system
-  pub dictionary : IsSystem listed system
-  pub tables : HoldsTables d listed image
-  pub undo : HoldsUndo d image
+  pub tables : HoldsTables d c.named c.size
+  pub rows : HoldsRows d c.slot
+  pub undo : HoldsUndo d c.slot c.undo
+  pub position : c.position ≡ length d.binlog
+
+-- an image is formed, and keeps what the donor is
+pub record IsKept (d : Donor) (image : Image) : Type 0 where
+  pub formed : IsFormed image
+  pub sound : IsSound d (contents_of image)

@@ -1,12 +1,11 @@
 ghost use Rattle.std.specs.Prelude.{◌≡◌, [], OnOk, OnErr, IfSome, IsSome, option_copied};
 ghost use Rattle.std.specs.FinMap as finite;
-ghost use Rattle.clone_plain.specs.Calls.{with_change};
+ghost use Rattle.clone_plain.specs.Effects.{with_change};
 ghost use Rattle.clone_plain.specs.Causes.{least_unused};
 ghost use Rattle.clone_trx.specs.Opened.{Pops};
 
 use clone_model::{Change, Changes, Commit};
-use clone_outside::NoMemory;
-use std::alloc::Global;
+use std::alloc::{AllocError, Global};
 use std::collections::BTreeMap;
 use std::marker::Model;
 
@@ -23,7 +22,8 @@ impl Model for Active {
     ghost use Rattle.std.specs.Coded.{coded_ℕ};
     ghost use Rattle.std.specs.FinMap as finite;
     ghost use Rattle.clone_plain.specs.Donor.{commit_code};
-    ghost use Rattle.clone_trx.specs.Opened.{Opened, opened_of};
+    ghost use Rattle.clone_plain.specs.Locked.{Opened};
+    ghost use Rattle.clone_trx.specs.Opened.{opened_of};
 
     ghost Value = { Opened };
 
@@ -75,7 +75,7 @@ impl Active {
         trx: u32,
         writer: u32,
         index: u64,
-    ) -> Result<(), NoMemory>
+    ) -> Result<(), AllocError>
         ensures ok { OnOk result (self.new ≡ finite.insert self.old trx (record { writer = writer; index = index; changes = [] })) }
         ensures err { OnErr result (self.new ≡ self.old) }
     {
@@ -92,7 +92,7 @@ impl Active {
     }
 
     /// Adds a change behind the others of an open transaction. After a refusal all is as before.
-    pub fn push(&mut self, trx: u32, change: Change) -> Result<(), NoMemory>
+    pub fn push(&mut self, trx: u32, change: Change) -> Result<(), AllocError>
         requires { IsSome (finite.get self.old trx) }
         ensures ok { OnOk result (IfSome (finite.get self.old trx) (λ commit. self.new ≡ finite.insert self.old trx (with_change change commit))) }
         ensures err { OnErr result (self.new ≡ self.old) }

@@ -1,22 +1,23 @@
-ghost use Rattle.std.specs.Prelude.{◌≡◌, ◌≢◌, ◌==◌, ◌<◌, ◌+◌, ℕ, List, None, Some, length, slice_get, if◌then◌else◌, IfOk, OnOk, OnErr, MatchOption};
+ghost use Rattle.std.specs.Prelude.{◌≡◌, ◌<◌, ◌%◌, ◌+◌, ℕ, None, Some, length, option_map, IsSome, IfOk, OnOk, OnErr};
 ghost use Rattle.std.specs.Option.{option_copied};
 ghost use Rattle.std.specs.List.{AllByRecursion};
 ghost use Rattle.std.specs.FinMap as finite;
 ghost use Rattle.clone_model.specs.History.{fold};
 ghost use Rattle.clone_mtr.specs.Spelling.{spelling};
-ghost use Rattle.clone_row.specs.Slots.{slots, slot_in, row_slot};
 ghost use Rattle.clone_undo.specs.Entries.{IsEntry};
 ghost use Rattle.clone_undo.specs.Slots.{UndoSlot};
 ghost use Rattle.clone_image.specs.Image.{page_of, after_records};
 ghost use Rattle.clone_image.specs.Recovered.{recovered, undo_slot_of};
 ghost use Rattle.clone_image.specs.Replay.{first_lsn, Replays};
 ghost use Rattle.clone_image.specs.Rows.{HasRows};
-ghost use Rattle.clone_plain.specs.Donor.{no_donor};
+ghost use Rattle.clone_contents.specs.Records.{opening_records};
+ghost use Rattle.clone_plain.specs.Donor.{no_donor, history};
 ghost use Rattle.clone_plain.specs.Causes.{create_cause, begin_cause, least_free, transaction_limit};
-ghost use Rattle.clone_plain.specs.Calls.{Decided, created, Begins};
-ghost use Rattle.clone_trx.specs.Engine.{keys_on, tables_of};
-ghost use Rattle.clone_trx.specs.Sound.{IsUndoSlot, value_of};
-ghost use Rattle.clone_trx.specs.Written.{opening_records, AppendsCreate, AppendsBegin};
+ghost use Rattle.clone_plain.specs.Decided.{Decided, none_outside};
+ghost use Rattle.clone_plain.specs.Effects.{created, Begins};
+ghost use Rattle.clone_trx.specs.Keys.{keys_in};
+ghost use Rattle.clone_trx.specs.Sound.{IsKept};
+ghost use Rattle.clone_trx.specs.Written.{AppendsCreate, AppendsBegin};
 
 mod change;
 mod checks;
@@ -26,14 +27,14 @@ mod undo;
 use crate::active::Active;
 use crate::locks::Locks;
 use crate::records::{creation, opening};
+use crate::tables::Tables;
 use crate::writing::{first_record, write_from};
 use clone_model::{Binlog, BucketCount, Commit, TableNumber};
-use clone_outside::NoMemory;
 use clone_page::Page;
 use clone_plain::{Cause, EngineRefusal};
 use clone_store::Store;
 use clone_undo::{begin_records, header_page};
-use std::alloc::Global;
+use std::alloc::{AllocError, Global};
 use std::marker::Model;
 
 /// How many tables there may be.
@@ -46,29 +47,31 @@ const TRANSACTIONS: usize = 64;
 #[derive(Drop)]
 pub struct Engine {
     store: Store,
-    // the tables in the order of their dictionary entries
-    listed: Vec<u32>,
+    tables: Tables,
     active: Active,
     locks: Locks,
+    // with room for the commit of each open transaction
     binlog: Binlog,
 }
 
 impl Model for Engine {
-    ghost use Rattle.clone_trx.specs.Engine.{EngineState, engine_code, tables_of};
-    ghost use Rattle.clone_trx.specs.Sound.{IsSound};
+    ghost use Rattle.std.specs.Prelude.{◌≤◌};
+    ghost use Rattle.std.specs.FinMap as finite;
+    ghost use Rattle.clone_trx.specs.Engine.{EngineState, engine_code, donor_of};
+    ghost use Rattle.clone_trx.specs.Sound.{IsKept};
 
     ghost Value = { EngineState };
 
     ghost coded = { engine_code };
 
-    ghost view = { λ e. record { donor = record { tables = tables_of e.store.image; active = e.active; locks = e.locks; history = e.binlog }; image = e.store.image; log = e.store.log } };
+    ghost view = { λ e. record { donor = donor_of e.tables e.active e.locks e.binlog.commits; image = e.store.image; log = e.store.log } };
 
-    ghost invariant = { λ e. IsSound (record { tables = tables_of e.store.image; active = e.active; locks = e.locks; history = e.binlog }) e.listed.items e.store.image };
+    ghost invariant = { λ e. IsKept (donor_of e.tables e.active e.locks e.binlog.commits) e.store.image × (finite.len e.active ≤ e.binlog.room) };
 }
 
 impl Engine {
     /// A donor without tables. Its log has the mini-transaction that makes the system space.
-    pub fn new(alloc: Global) -> Result<Engine, NoMemory>
+    pub fn new(alloc: Global) -> Result<Engine, AllocError>
         ensures donor { IfOk result (λ engine. engine.donor ≡ no_donor) }
         ensures written { IfOk result (λ engine. engine.log ≡ spelling opening_records) }
         ensures image { IfOk result (λ engine. engine.image ≡ after_records (first_lsn + length engine.log) finite.empty opening_records) }
@@ -77,7 +80,7 @@ impl Engine {
         store.write(alloc, &opening())?;
         Ok(Engine {
             store,
-            listed: Vec::new(alloc),
+            tables: Tables::new(alloc),
             active: Active::new(alloc),
             locks: Locks::new(alloc)?,
             binlog: Binlog::new(alloc),
@@ -86,7 +89,7 @@ impl Engine {
 
     /// The commits in their order.
     pub fn binlog(&self) -> &Binlog
-        ensures { result.now ≡ self.now.donor.history }
+        ensures { result.now.commits ≡ self.now.donor.binlog }
     {
         &self.binlog
     }
@@ -119,33 +122,35 @@ impl Engine {
         table: TableNumber,
         buckets: BucketCount,
     ) -> Result<(), EngineRefusal>
-        ensures answer { Decided (create_cause self.old.donor table) self.old.donor self.new.donor result (λ _. self.new.donor ≡ created table buckets self.old.donor) }
+        ensures answer { Decided (create_cause self.old.donor table) None none_outside self.old.donor self.new.donor result (λ _. self.new.donor ≡ created table buckets self.old.donor) }
         ensures written { OnOk result (AppendsCreate table buckets self.old self.new) }
+        ensures keys { OnOk result (keys_in self.new.image ≡ keys_in self.old.image) }
         ensures refused { OnErr result (self.new ≡ self.old) }
     {
-        let table = table.get();
-        if self.pages_of(table).is_some() {
+        let (table, buckets) = (table.get(), buckets.get());
+        if self.tables.get(table).is_some() {
             return Err(Cause::TableExists.into());
         }
-        let place = self.listed.len();
+        let place = self.tables.len();
         if place == TABLES {
             return Err(Cause::TooManyTables.into());
         }
-        self.listed.reserve(1)?;
-        self.store
-            .write(alloc, &creation(place, table, buckets.get()))?;
-        match self.listed.push(table) {
-            Ok(()) => Ok(()),
-            Err(_) => unreachable!(),
+        self.tables.insert(table, buckets)?;
+        let records = creation(place, table, buckets);
+        if self.store.write(alloc, &records).is_err() {
+            self.tables.remove(table);
+            return Err(EngineRefusal::NoMemory);
         }
+        Ok(())
     }
 
     /// Begins a transaction of a writer, which is its transaction of this index, and answers the least
     /// number below 64 of which none is open. Refused where each is. The room of its commit in the binlog
     /// is made here.
     pub fn begin(&mut self, alloc: Global, writer: u32, index: u64) -> Result<u32, EngineRefusal>
-        ensures answer { Decided (begin_cause self.old.donor) self.old.donor self.new.donor result (λ trx. Begins self.old.donor writer index trx self.new.donor) }
+        ensures answer { Decided (begin_cause self.old.donor) None none_outside self.old.donor self.new.donor result (λ trx. Begins self.old.donor writer index trx self.new.donor) }
         ensures written { IfOk result (λ trx. AppendsBegin writer index trx self.old self.new) }
+        ensures keys { OnOk result (keys_in self.new.image ≡ keys_in self.old.image) }
         ensures refused { OnErr result (self.new ≡ self.old) }
     {
         let Some(trx) = self.active.least_free() else {
@@ -165,27 +170,33 @@ impl Engine {
     }
 
     /// What holds between calls: the pages are what the log leaves of none; their rows, once the changes of
-    /// every open transaction are taken back, are those that the history leaves; the undo slot of each open
-    /// transaction tells of its changes, and all others are free; and each key that has a place in its bucket
-    /// has the slot of that place.
+    /// every open transaction are taken back, are those that the history leaves; the records of undo slots are
+    /// in their ranges; and the pages are formed, and contain what the donor is.
     pub fn laws(&self)
         ensures replays { Replays self.now.log self.now.image }
-        ensures rows { HasRows (page_of (recovered self.now.image)) (fold self.now.donor.history) }
+        ensures rows { HasRows (page_of (recovered self.now.image)) (fold (history self.now.donor)) }
         ensures in_range { (s : ℕ) (slot : UndoSlot) → s < transaction_limit → undo_slot_of self.now.image s ≡ Some slot → AllByRecursion IsEntry slot.records }
-        ensures undo { (s : ℕ) → s < transaction_limit → MatchOption (finite.get self.now.donor.active s) (undo_slot_of self.now.image s ≡ None) (λ commit. IsUndoSlot self.now.donor commit (undo_slot_of self.now.image s)) }
-        ensures tables { self.now.donor.tables ≡ tables_of self.now.image }
-        ensures slots { (table bucket j key : ℕ) (page : List ℕ) → table ≢ 0 → page_of self.now.image table bucket ≡ Some page → slice_get (keys_on page) j ≡ Some key → slot_in (slots page) j ≡ row_slot key (value_of self.now.donor table key) }
+        ensures kept { IsKept self.now.donor self.now.image }
     {
         self.store.replays();
     }
 
-    // The pages of a table, one a bucket, or none where no table has this number.
-    fn pages_of(&self, table: u32) -> Option<&[Page]>
-        ensures { option_copied result ≡ (if table == 0 then None else finite.get self.now.image table) }
+    // The page of a row's bucket, by its number, or none where no table has this number.
+    fn bucket_of(&self, table: u32, key: u64) -> Option<u32>
+        ensures { result ≡ option_map (λ count. key % count) (finite.get self.now.donor.tables table) }
     {
-        if table == 0 {
-            return None;
+        let buckets = self.tables.get(table)?;
+        Some((key % buckets as u64) as u32)
+    }
+
+    // A page that is there.
+    fn page_at(&self, table: u32, number: u32) -> &Page
+        requires { IsSome (page_of self.now.image table number) }
+        ensures { Some result.now ≡ page_of self.now.image table number }
+    {
+        match self.store.page(table, number) {
+            Some(page) => page,
+            None => unreachable!(),
         }
-        self.store.pages(table)
     }
 }

@@ -7,6 +7,7 @@ mod engine;
 mod locks;
 mod place;
 mod records;
+mod tables;
 #[cfg(test)]
 mod tests;
 mod writing;

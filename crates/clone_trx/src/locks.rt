@@ -1,11 +1,10 @@
 ghost use Rattle.std.specs.Prelude.{◌≡◌, ◌<◌, [], Some, IfOk, OnOk, OnErr, IsOk, IfSome};
 ghost use Rattle.std.specs.FinMap as finite;
-ghost use Rattle.clone_plain.specs.Calls.{Releases};
+ghost use Rattle.clone_plain.specs.Effects.{Releases};
 ghost use Rattle.clone_plain.specs.Causes.{transaction_limit};
 ghost use Rattle.clone_trx.specs.Locked.{holders_of, without};
 
-use clone_outside::NoMemory;
-use std::alloc::Global;
+use std::alloc::{AllocError, Global};
 use std::collections::BTreeMap;
 use std::marker::Model;
 
@@ -40,7 +39,7 @@ impl Model for Locks {
 
 impl Locks {
     /// No row is locked.
-    pub fn new(alloc: Global) -> Result<Locks, NoMemory>
+    pub fn new(alloc: Global) -> Result<Locks, AllocError>
         ensures { IfOk result (λ locks. locks ≡ finite.empty) }
     {
         let mut rows = Vec::new(alloc);
@@ -62,7 +61,7 @@ impl Locks {
 
     /// The transaction holds the row's lock, which no other does. Where it holds it already this takes no
     /// memory. After a refusal the locks are as before.
-    pub fn lock(&mut self, trx: u32, table: u32, key: u64) -> Result<(), NoMemory>
+    pub fn lock(&mut self, trx: u32, table: u32, key: u64) -> Result<(), AllocError>
         requires open { trx < transaction_limit }
         requires free { IfSome (finite.get self.old (table, key)) (λ holder. holder ≡ trx) }
         ensures ok { OnOk result (self.new ≡ finite.insert self.old (table, key) trx) }

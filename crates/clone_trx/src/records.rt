@@ -1,6 +1,6 @@
 ghost use Rattle.std.specs.Prelude.{◌≡◌, ◌<◌, ◌∷◌, []};
 ghost use Rattle.clone_page.specs.Dictionary.{entry, entry_at, entry_count};
-ghost use Rattle.clone_trx.specs.Written.{opening_records, create_records, position_record};
+ghost use Rattle.clone_contents.specs.Records.{opening_records, create_records, position_record};
 
 use byteorder::{BigEndian, ByteOrder};
 use clone_mtr::{Patch, Record};

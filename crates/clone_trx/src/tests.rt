@@ -1,6 +1,5 @@
 use crate::Engine;
 use clone_model::{BucketCount, TableNumber, Value, push_value};
-use clone_outside::NoMemory;
 use clone_plain::{Cause, EngineRefusal, Undone};
 use std::alloc::{AllocError, Global};
 use std::process::Abort;
@@ -37,7 +36,7 @@ struct Tried {
 }
 
 impl Tried {
-    fn new(alloc: Global) -> Result<Tried, NoMemory> {
+    fn new(alloc: Global) -> Result<Tried, AllocError> {
         let engine = Engine::new(alloc)?;
         Ok(Tried { engine, alloc })
     }
@@ -48,7 +47,7 @@ impl Tried {
         Ok(answered(self.engine.create(self.alloc, table, buckets))?)
     }
 
-    fn begin(&mut self, writer: u32, index: u64) -> Result<Result<u32, Cause>, NoMemory> {
+    fn begin(&mut self, writer: u32, index: u64) -> Result<Result<u32, Cause>, AllocError> {
         answered(self.engine.begin(self.alloc, writer, index))
     }
 
@@ -58,11 +57,11 @@ impl Tried {
         table: u32,
         key: u64,
         value: &[u8],
-    ) -> Result<Result<(), Cause>, NoMemory> {
+    ) -> Result<Result<(), Cause>, AllocError> {
         answered(self.engine.put(self.alloc, trx, table, key, value))
     }
 
-    fn delete(&mut self, trx: u32, table: u32, key: u64) -> Result<Result<(), Cause>, NoMemory> {
+    fn delete(&mut self, trx: u32, table: u32, key: u64) -> Result<Result<(), Cause>, AllocError> {
         answered(self.engine.delete(self.alloc, trx, table, key))
     }
 
@@ -71,15 +70,15 @@ impl Tried {
         trx: u32,
         table: u32,
         key: u64,
-    ) -> Result<Result<Option<Value>, Cause>, NoMemory> {
+    ) -> Result<Result<Option<Value>, Cause>, AllocError> {
         answered(self.engine.get(trx, table, key))
     }
 
-    fn undo_one(&mut self, trx: u32) -> Result<Result<Undone, Cause>, NoMemory> {
+    fn undo_one(&mut self, trx: u32) -> Result<Result<Undone, Cause>, AllocError> {
         answered(self.engine.undo_one(self.alloc, trx))
     }
 
-    fn commit(&mut self, trx: u32) -> Result<Result<u64, Cause>, NoMemory> {
+    fn commit(&mut self, trx: u32) -> Result<Result<u64, Cause>, AllocError> {
         answered(self.engine.commit(self.alloc, trx))
     }
 
@@ -121,21 +120,21 @@ impl Tried {
     }
 }
 
-fn done(alloc: Global, answer: Result<(), Cause>, text: &str) -> Result<String, NoMemory> {
+fn done(alloc: Global, answer: Result<(), Cause>, text: &str) -> Result<String, AllocError> {
     match answer {
         Ok(()) => String::from_str(alloc, text),
         Err(cause) => format!(in alloc; "{cause}"),
     }
 }
 
-fn counted(alloc: Global, word: &str, answer: Result<u64, Cause>) -> Result<String, NoMemory> {
+fn counted(alloc: Global, word: &str, answer: Result<u64, Cause>) -> Result<String, AllocError> {
     match answer {
         Ok(number) => format!(in alloc; "{word} {number}"),
         Err(cause) => format!(in alloc; "{cause}"),
     }
 }
 
-fn shown(alloc: Global, answer: Result<Option<Value>, Cause>) -> Result<String, NoMemory> {
+fn shown(alloc: Global, answer: Result<Option<Value>, Cause>) -> Result<String, AllocError> {
     match answer {
         Ok(None) => String::from_str(alloc, "none"),
         Ok(Some(value)) => {
@@ -147,7 +146,7 @@ fn shown(alloc: Global, answer: Result<Option<Value>, Cause>) -> Result<String, 
     }
 }
 
-fn taken_back(alloc: Global, answer: Result<Undone, Cause>) -> Result<String, NoMemory> {
+fn taken_back(alloc: Global, answer: Result<Undone, Cause>) -> Result<String, AllocError> {
     match answer {
         Ok(Undone::Left(left)) => format!(in alloc; "undone {left}"),
         Ok(Undone::Ended) => String::from_str(alloc, "ended"),
@@ -156,7 +155,7 @@ fn taken_back(alloc: Global, answer: Result<Undone, Cause>) -> Result<String, No
 }
 
 // What a call answered, or the cause against it.
-fn answered<T: Drop>(answer: Result<T, EngineRefusal>) -> Result<Result<T, Cause>, NoMemory> {
+fn answered<T: Drop>(answer: Result<T, EngineRefusal>) -> Result<Result<T, Cause>, AllocError> {
     match answer {
         Ok(answer) => Ok(Ok(answer)),
         Err(EngineRefusal::Because(cause)) => Ok(Err(cause)),

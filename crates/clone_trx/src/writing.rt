@@ -3,7 +3,7 @@ ghost use Rattle.std.specs.List.{AllByRecursion};
 ghost use Rattle.clone_mtr.specs.Spelling.{spelling, longest};
 ghost use Rattle.clone_image.specs.Image.{MakesNoPage};
 ghost use Rattle.clone_store.specs.Stored.{Writes};
-ghost use Rattle.clone_trx.specs.Written.{is_unused};
+ghost use Rattle.clone_contents.specs.Steps.{is_unused};
 
 use clone_mtr::Record;
 use clone_store::Store;

@@ -3,8 +3,10 @@ ghost use Rattle.clone_mtr.specs.Spelling.{longest};
 ghost use Rattle.clone_undo.specs.Changes.{records_of_change};
 ghost use Rattle.clone_store.specs.Stored.{Writes};
 ghost use Rattle.clone_plain.specs.Causes.{change_cause, transaction_limit, change_limit};
-ghost use Rattle.clone_plain.specs.Calls.{Decided, Changes};
-ghost use Rattle.clone_plain.specs.Runs.{put_of, delete_of};
+ghost use Rattle.clone_plain.specs.Decided.{Decided, none_outside};
+ghost use Rattle.clone_plain.specs.Effects.{Changes, put_of, delete_of};
+ghost use Rattle.clone_trx.specs.Engine.{page_number};
+ghost use Rattle.clone_trx.specs.Keys.{keys_in, full_cause, BindsKey};
 ghost use Rattle.clone_trx.specs.Places.{IsPlaceFor};
 ghost use Rattle.clone_trx.specs.Written.{AppendsChange};
 
@@ -12,7 +14,6 @@ use crate::Engine;
 use crate::engine::checks::Place;
 use crate::writing::{first_record, write_from};
 use clone_model::{Change, Value};
-use clone_outside::NoMemory;
 use clone_plain::EngineRefusal;
 use clone_row::slot_image;
 use clone_store::Store;
@@ -31,8 +32,9 @@ impl Engine {
         key: u64,
         value: &[u8],
     ) -> Result<(), EngineRefusal>
-        ensures answer { Decided (change_cause self.old.donor trx table key (length value.now)) self.old.donor self.new.donor result (λ _. Changes self.old.donor trx (put_of table key value.now) self.new.donor) }
+        ensures answer { Decided (change_cause self.old.donor trx table key (length value.now)) (full_cause self.old table key) none_outside self.old.donor self.new.donor result (λ _. Changes self.old.donor trx (put_of table key value.now) self.new.donor) }
         ensures written { OnOk result (AppendsChange trx (put_of table key value.now) self.old self.new) }
+        ensures keys { OnOk result (BindsKey table (page_number self.old.donor table key) key (keys_in self.old.image) (keys_in self.new.image)) }
         ensures refused { OnErr result (self.new ≡ self.old) }
     {
         let place = self.place_for(trx, table, key, value.len())?;
@@ -57,8 +59,9 @@ impl Engine {
         table: u32,
         key: u64,
     ) -> Result<(), EngineRefusal>
-        ensures answer { Decided (change_cause self.old.donor trx table key 0) self.old.donor self.new.donor result (λ _. Changes self.old.donor trx (delete_of table key) self.new.donor) }
+        ensures answer { Decided (change_cause self.old.donor trx table key 0) (full_cause self.old table key) none_outside self.old.donor self.new.donor result (λ _. Changes self.old.donor trx (delete_of table key) self.new.donor) }
         ensures written { OnOk result (AppendsChange trx (delete_of table key) self.old self.new) }
+        ensures keys { OnOk result (BindsKey table (page_number self.old.donor table key) key (keys_in self.old.image) (keys_in self.new.image)) }
         ensures refused { OnErr result (self.new ≡ self.old) }
     {
         let place = self.place_for(trx, table, key, 0)?;
@@ -78,11 +81,12 @@ impl Engine {
         trx: u32,
         change: Change,
         place: &Place,
-    ) -> Result<(), NoMemory>
+    ) -> Result<(), AllocError>
         requires cause { (long : ℕ) × (change_cause self.old.donor trx change.table change.key long ≡ None) }
         requires place { IsPlaceFor self.old trx change.table change.key place.now.entry place.now.unused place.now.count }
         ensures donor { OnOk result (Changes self.old.donor trx change self.new.donor) }
         ensures written { OnOk result (AppendsChange trx change self.old self.new) }
+        ensures keys { OnOk result (BindsKey change.table (page_number self.old.donor change.table change.key) change.key (keys_in self.old.image) (keys_in self.new.image)) }
         ensures refused { OnErr result (self.new ≡ self.old) }
     {
         let image = slot_image(change.key, change.value.as_ref());

@@ -1,9 +1,11 @@
 ghost use Rattle.std.specs.Prelude.{◌≡◌, [], None, Some, MatchResult, unwrap_or};
+ghost use Rattle.std.specs.Option.{option_or};
 ghost use Rattle.clone_undo.specs.Entries.{state_number, value_before, IsBefore};
 ghost use Rattle.clone_plain.specs.Causes.{change_cause, get_cause, row_locked};
-ghost use Rattle.clone_plain.specs.Calls.{Decided, Gets};
-ghost use Rattle.clone_trx.specs.Places.{IsPlaceFor, HasValue, held_value};
-ghost use Rattle.clone_trx.specs.Written.{state_of_row};
+ghost use Rattle.clone_plain.specs.Decided.{Decided, none_outside};
+ghost use Rattle.clone_plain.specs.Effects.{Gets};
+ghost use Rattle.clone_trx.specs.Keys.{full_cause};
+ghost use Rattle.clone_trx.specs.Places.{IsPlaceFor, HasValue, held_value, state_of_row};
 
 use crate::Engine;
 use crate::place::place_of;
@@ -33,17 +35,16 @@ pub struct Place {
 impl Engine {
     /// The row's value after the history and then the transaction's own changes. No lock is taken.
     pub fn get(&self, trx: u32, table: u32, key: u64) -> Result<Option<Value>, EngineRefusal>
-        ensures { Decided (get_cause self.now.donor trx table key) self.now.donor self.now.donor result (λ value. Gets self.now.donor trx table key value) }
+        ensures { Decided (get_cause self.now.donor trx table key) None none_outside self.now.donor self.now.donor result (λ value. Gets self.now.donor trx table key value) }
     {
         if self.active.get(trx).is_none() {
             return Err(Cause::NoSuchTrx.into());
         }
-        let Some(pages) = self.pages_of(table) else {
+        let Some(bucket) = self.bucket_of(table, key) else {
             return Err(Cause::NoSuchTable.into());
         };
         self.check_lock(trx, table, key)?;
-        let page = &pages[(key % pages.len() as u64) as usize];
-        Ok(value_on(page, key))
+        Ok(value_on(self.page_at(table, bucket), key))
     }
 
     // Where a change of a row goes whose value has so many bytes, or the first cause against it.
@@ -55,8 +56,8 @@ impl Engine {
         long: usize,
     ) -> Result<Place, Cause>
         ensures { MatchResult result
-            (λ place. (change_cause self.now.donor trx table key long ≡ None) × IsPlaceFor self.now trx table key place.entry place.unused place.count)
-            (λ cause. change_cause self.now.donor trx table key long ≡ Some cause) }
+            (λ place. (change_cause self.now.donor trx table key long ≡ None) × (full_cause self.now table key ≡ None) × IsPlaceFor self.now trx table key place.entry place.unused place.count)
+            (λ cause. option_or (change_cause self.now.donor trx table key long) (full_cause self.now table key) ≡ Some cause) }
     {
         let Some(commit) = self.active.get(trx) else {
             return Err(Cause::NoSuchTrx);
@@ -64,7 +65,7 @@ impl Engine {
         if long > VALUE_BYTES {
             return Err(Cause::ValueTooLong);
         }
-        let Some(pages) = self.pages_of(table) else {
+        let Some(bucket) = self.bucket_of(table, key) else {
             return Err(Cause::NoSuchTable);
         };
         let count = commit.changes.len();
@@ -72,8 +73,7 @@ impl Engine {
             return Err(Cause::UndoFull);
         }
         self.check_lock(trx, table, key)?;
-        let bucket = (key % pages.len() as u64) as u32;
-        let page = &pages[bucket as usize];
+        let page = self.page_at(table, bucket);
         let Some(slot) = place_of(page, key) else {
             return Err(Cause::SpaceFull);
         };

@@ -1,9 +1,11 @@
-ghost use Rattle.std.specs.Prelude.{◌≡◌, ◌++◌, ◌∷◌, [], ◌<◌, ◌≤◌, ℕ, List, Some, length, IfOk, OnErr};
+ghost use Rattle.std.specs.Prelude.{◌≡◌, ◌++◌, ◌∷◌, [], ◌<◌, ℕ, List, None, Some, length, IfOk, OnOk, OnErr};
 ghost use Rattle.clone_undo.specs.Entries.{UndoEntry, IsEntry};
 ghost use Rattle.clone_undo.specs.Slots.{UndoSlot};
 ghost use Rattle.clone_image.specs.Recovered.{undo_slot_of};
 ghost use Rattle.clone_plain.specs.Causes.{no_trx, transaction_limit};
-ghost use Rattle.clone_plain.specs.Calls.{Decided, Undoes};
+ghost use Rattle.clone_plain.specs.Decided.{Decided, none_outside};
+ghost use Rattle.clone_plain.specs.Effects.{Undoes};
+ghost use Rattle.clone_trx.specs.Keys.{keys_in};
 ghost use Rattle.clone_trx.specs.Written.{AppendsUndo};
 
 use crate::Engine;
@@ -16,8 +18,9 @@ impl Engine {
     /// Takes the last change of a transaction back and answers how many are left. The locks stay. Where it
     /// has no change, it ends without a commit. Refused where no open transaction has this number.
     pub fn undo_one(&mut self, alloc: Global, trx: u32) -> Result<Undone, EngineRefusal>
-        ensures answer { Decided (no_trx self.old.donor trx) self.old.donor self.new.donor result (λ undone. Undoes self.old.donor trx undone self.new.donor) }
+        ensures answer { Decided (no_trx self.old.donor trx) None none_outside self.old.donor self.new.donor result (λ undone. Undoes self.old.donor trx undone self.new.donor) }
         ensures written { IfOk result (λ undone. AppendsUndo trx undone self.old self.new) }
+        ensures keys { OnOk result (keys_in self.new.image ≡ keys_in self.old.image) }
         ensures refused { OnErr result (self.new ≡ self.old) }
     {
         let Some(commit) = self.active.get(trx) else {

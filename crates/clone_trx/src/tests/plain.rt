@@ -1,24 +1,16 @@
-ghost use Rattle.std.specs.Prelude.{◌≡◌, ℕ, length, OnOk, OnErr, IfOk, MatchResult};
-ghost use Rattle.clone_model.specs.History.{fold};
-ghost use Rattle.clone_plain.specs.Donor.{no_donor};
-ghost use Rattle.clone_plain.specs.Causes.{create_cause, begin_cause, change_cause, get_cause, row_locked, no_trx};
-ghost use Rattle.clone_plain.specs.Calls.{Decided, created, Begins, Changes, Gets, Undoes, Commits};
-ghost use Rattle.clone_plain.specs.Runs.{put_of, delete_of};
-
 mod table;
 
-use crate::active::Active;
-use crate::locks::Locks;
 use crate::tests::plain::table::Table;
-use clone_model::{Binlog, Change, Commit, Tables, Value, fold};
-use clone_outside::NoMemory;
+use clone_model::{Binlog, Change, Changes, Commit, Tables, Value, fold};
 use clone_plain::{Cause, EngineRefusal, Undone};
 use std::alloc::{AllocError, Global};
 use std::collections::BTreeMap;
-use std::marker::Model;
 
 /// How many tables there may be.
 const TABLES: usize = 62;
+
+/// How many transactions may be open.
+const TRANSACTIONS: u32 = 64;
 
 /// How many changes a transaction may make.
 const CHANGES: usize = 160;
@@ -31,56 +23,35 @@ const VALUE_BYTES: usize = 64;
 #[derive(Drop)]
 pub struct Plain {
     tables: BTreeMap<u32, Table>,
-    active: Active,
-    locks: Locks,
+    active: BTreeMap<u32, Commit>,
+    // by row, the transaction that holds its lock
+    locks: BTreeMap<(u32, u64), u32>,
     history: Binlog,
-}
-
-impl Model for Plain {
-    ghost use Rattle.std.specs.FinMap as finite;
-    ghost use Rattle.clone_plain.specs.Donor.{Donor, donor_code};
-    ghost use Rattle.clone_trx.specs.Opened.{AreFew};
-
-    ghost Value = { Donor };
-
-    ghost coded = { donor_code };
-
-    ghost view = { λ p. record { tables = finite.from_entries p.tables.entries; active = p.active; locks = p.locks; history = p.history } };
-
-    ghost invariant = { λ p. AreFew p.active };
 }
 
 impl Plain {
     /// No tables, no transactions and no commits.
-    pub fn new(alloc: Global) -> Result<Plain, NoMemory>
-        ensures { IfOk result (λ plain. plain ≡ no_donor) }
-    {
-        Ok(Plain {
+    pub fn new(alloc: Global) -> Plain {
+        Plain {
             tables: BTreeMap::new(alloc),
-            active: Active::new(alloc),
-            locks: Locks::new(alloc)?,
+            active: BTreeMap::new(alloc),
+            locks: BTreeMap::new(alloc),
             history: Binlog::new(alloc),
-        })
+        }
     }
 
     /// The commits in their order.
-    pub fn history(&self) -> &Binlog
-        ensures { result.now ≡ self.now.history }
-    {
+    pub fn history(&self) -> &Binlog {
         &self.history
     }
 
     /// The rows that the commits leave.
-    pub fn rows(&self, alloc: Global) -> Result<Tables, NoMemory>
-        ensures { IfOk result (λ rows. rows ≡ fold self.now.history) }
-    {
+    pub fn rows(&self, alloc: Global) -> Result<Tables, AllocError> {
         fold(alloc, self.history.as_slice())
     }
 
     /// Makes a table of so many buckets.
-    pub fn create(&mut self, alloc: Global, table: u32, count: u32) -> Result<(), EngineRefusal>
-        ensures { Decided (create_cause self.old table) self.old self.new result (λ _. self.new ≡ created table count self.old) }
-    {
+    pub fn create(&mut self, alloc: Global, table: u32, count: u32) -> Result<(), EngineRefusal> {
         if self.tables.contains_key(&table) {
             return Err(Cause::TableExists.into());
         }
@@ -95,14 +66,22 @@ impl Plain {
     }
 
     /// Begins a transaction, and answers its number.
-    pub fn begin(&mut self, alloc: Global, writer: u32, index: u64) -> Result<u32, EngineRefusal>
-        ensures { Decided (begin_cause self.old) self.old self.new result (λ trx. Begins self.old writer index trx self.new) }
-    {
-        let Some(trx) = self.active.least_free() else {
-            return Err(Cause::TooManyTransactions.into());
-        };
-        self.active.begin(alloc, trx, writer, index)?;
-        Ok(trx)
+    pub fn begin(&mut self, alloc: Global, writer: u32, index: u64) -> Result<u32, EngineRefusal> {
+        for trx in 0..TRANSACTIONS {
+            if !self.active.contains_key(&trx) {
+                let changes = Changes::new(alloc);
+                let commit = Commit {
+                    writer,
+                    index,
+                    changes,
+                };
+                return match self.active.insert(trx, commit) {
+                    Ok(_) => Ok(trx),
+                    Err(_) => Err(EngineRefusal::NoMemory),
+                };
+            }
+        }
+        Err(Cause::TooManyTransactions.into())
     }
 
     /// Gives a row its value and locks it.
@@ -113,9 +92,7 @@ impl Plain {
         table: u32,
         key: u64,
         bytes: &[u8],
-    ) -> Result<(), EngineRefusal>
-        ensures { Decided (change_cause self.old trx table key (length bytes.now)) self.old self.new result (λ _. Changes self.old trx (put_of table key bytes.now) self.new) }
-    {
+    ) -> Result<(), EngineRefusal> {
         self.check(trx, table, key, bytes.len())?;
         let Some(value) = Value::new(bytes) else {
             unreachable!();
@@ -132,9 +109,7 @@ impl Plain {
         trx: u32,
         table: u32,
         key: u64,
-    ) -> Result<(), EngineRefusal>
-        ensures { Decided (change_cause self.old trx table key 0) self.old self.new result (λ _. Changes self.old trx (delete_of table key) self.new) }
-    {
+    ) -> Result<(), EngineRefusal> {
         self.check(trx, table, key, 0)?;
         let value = None;
         self.change(alloc, trx, Change { table, key, value })?;
@@ -142,10 +117,8 @@ impl Plain {
     }
 
     // The first cause against a change whose value has so many bytes.
-    fn check(&self, trx: u32, table: u32, key: u64, length: usize) -> Result<(), Cause>
-        ensures { MatchResult result (λ _. change_cause self.now trx table key length ≡ None) (λ cause. change_cause self.now trx table key length ≡ Some cause) }
-    {
-        let Some(commit) = self.active.get(trx) else {
+    fn check(&self, trx: u32, table: u32, key: u64, length: usize) -> Result<(), Cause> {
+        let Some(commit) = self.active.get(&trx) else {
             return Err(Cause::NoSuchTrx);
         };
         if length > VALUE_BYTES {
@@ -165,32 +138,24 @@ impl Plain {
     }
 
     // Refuses where another transaction holds the row's lock.
-    fn check_lock(&self, trx: u32, table: u32, key: u64) -> Result<(), Cause>
-        ensures { MatchResult result (λ _. row_locked self.now trx table key ≡ None) (λ cause. row_locked self.now trx table key ≡ Some cause) }
-    {
-        match self.locks.holder(table, key) {
-            Some(holder) if holder != trx => Err(Cause::RowLocked { holder }),
+    fn check_lock(&self, trx: u32, table: u32, key: u64) -> Result<(), Cause> {
+        match self.locks.get(&(table, key)) {
+            Some(holder) if *holder != trx => Err(Cause::RowLocked { holder: *holder }),
             _ => Ok(()),
         }
     }
 
     // Makes a change against which there is no cause. After a refusal nothing has changed.
-    fn change(&mut self, alloc: Global, trx: u32, change: Change) -> Result<(), NoMemory>
-        requires { (long : ℕ) × (change_cause self.old trx change.table change.key long ≡ None) }
-        ensures ok { OnOk result (Changes self.old trx change self.new) }
-        ensures err { OnErr result (self.new ≡ self.old) }
-    {
+    fn change(&mut self, alloc: Global, trx: u32, change: Change) -> Result<(), AllocError> {
         let (table, key) = (change.table, change.key);
-        let Some(buckets) = self.tables.get_mut(&table) else {
-            unreachable!();
-        };
-        let placed = buckets.placed(alloc, key)?;
-        self.active.push(trx, change)?;
-        if self.locks.lock(trx, table, key).is_err() {
-            let _ = self.active.pop(trx);
-            return Err(AllocError);
+        if let Some(buckets) = self.tables.get_mut(&table) {
+            let placed = buckets.placed(alloc, key)?;
+            buckets.replace(key, placed);
         }
-        buckets.replace(key, placed);
+        self.locks.insert((table, key), trx)?;
+        if let Some(commit) = self.active.get_mut(&trx) {
+            commit.changes.push(change)?;
+        }
         Ok(())
     }
 
@@ -201,10 +166,8 @@ impl Plain {
         trx: u32,
         table: u32,
         key: u64,
-    ) -> Result<Option<Value>, EngineRefusal>
-        ensures { Decided (get_cause self.now trx table key) self.now self.now result (λ value. Gets self.now trx table key value) }
-    {
-        let Some(commit) = self.active.get(trx) else {
+    ) -> Result<Option<Value>, EngineRefusal> {
+        let Some(commit) = self.active.get(&trx) else {
             return Err(Cause::NoSuchTrx.into());
         };
         if !self.tables.contains_key(&table) {
@@ -217,40 +180,34 @@ impl Plain {
     }
 
     /// Takes the last change of a transaction back, or ends it.
-    pub fn undo_one(&mut self, trx: u32) -> Result<Undone, EngineRefusal>
-        ensures { Decided (no_trx self.old trx) self.old self.new result (λ undone. Undoes self.old trx undone self.new) }
-    {
-        let Some(commit) = self.active.get(trx) else {
+    pub fn undo_one(&mut self, trx: u32) -> Result<Undone, EngineRefusal> {
+        let Some(commit) = self.active.get(&trx) else {
             return Err(Cause::NoSuchTrx.into());
         };
         let count = commit.changes.len() as u16;
         if count == 0 {
-            let _ = self.active.remove(trx);
-            self.locks.release(trx);
+            let _ = self.active.remove(&trx);
+            self.release(trx);
             return Ok(Undone::Ended);
         }
-        let _ = self.active.pop(trx);
+        if let Some(commit) = self.active.get_mut(&trx) {
+            let _ = commit.changes.pop();
+        }
         Ok(Undone::Left(count - 1))
     }
 
     /// Commits all changes of a transaction, and answers the new number of commits.
-    pub fn commit(&mut self, alloc: Global, trx: u32) -> Result<u64, EngineRefusal>
-        ensures { Decided (no_trx self.old trx) self.old self.new result (λ position. Commits self.old trx position self.new) }
-    {
-        let Some(commit) = self.active.get(trx) else {
+    pub fn commit(&mut self, trx: u32) -> Result<u64, EngineRefusal> {
+        let Some(commit) = self.active.remove(&trx) else {
             return Err(Cause::NoSuchTrx.into());
         };
-        let place = Commit {
-            writer: commit.writer,
-            index: commit.index,
-            changes: clone_model::Changes::new(alloc),
-        };
-        self.history.push(place)?;
-        let Some(commit) = self.active.remove(trx) else {
-            unreachable!();
-        };
-        self.history.set_last(commit);
-        self.locks.release(trx);
+        self.history.push(commit)?;
+        self.release(trx);
         Ok(self.history.len() as u64)
+    }
+
+    // The transaction holds no lock.
+    fn release(&mut self, trx: u32) {
+        self.locks.retain(|_, holder| *holder != trx);
     }
 }

@@ -1,6 +1,5 @@
 use crate::tests::{Call, Tried};
-use clone_outside::NoMemory;
-use std::alloc::Global;
+use std::alloc::{AllocError, Global};
 use std::process::Abort;
 use std::test::Fail;
 
@@ -113,7 +112,7 @@ const ROW_ON_NEXT: [u8; 57] = [
 ];
 
 // A put of "hi" at key 7, in an undo page that is in use and a bucket page that isn't.
-fn put_bytes(alloc: Global) -> Result<Vec<u8>, NoMemory> {
+fn put_bytes(alloc: Global) -> Result<Vec<u8>, AllocError> {
     let mut bytes = Vec::from_slice(alloc, &UNDO)?;
     bytes.extend_from_slice(&[0; 72])?;
     bytes.extend_from_slice(&ROW)?;
@@ -123,7 +122,7 @@ fn put_bytes(alloc: Global) -> Result<Vec<u8>, NoMemory> {
 }
 
 // A put of "ho" at key 7, which has the value "hi".
-fn second_put_bytes(alloc: Global) -> Result<Vec<u8>, NoMemory> {
+fn second_put_bytes(alloc: Global) -> Result<Vec<u8>, AllocError> {
     let mut bytes = Vec::from_slice(alloc, &UNDO_HI)?;
     bytes.extend_from_slice(&[0; 70])?;
     bytes.extend_from_slice(&ROW_HO)?;
@@ -133,7 +132,7 @@ fn second_put_bytes(alloc: Global) -> Result<Vec<u8>, NoMemory> {
 }
 
 // A put of "hi" at key 6 as the change 40, in an undo page and a bucket page that are both new.
-fn put_on_next_bytes(alloc: Global) -> Result<Vec<u8>, NoMemory> {
+fn put_on_next_bytes(alloc: Global) -> Result<Vec<u8>, AllocError> {
     let mut bytes = Vec::from_slice(alloc, &UNDO_ON_NEXT)?;
     bytes.extend_from_slice(&[0; 72])?;
     bytes.extend_from_slice(&ROW_ON_NEXT)?;
@@ -143,7 +142,7 @@ fn put_on_next_bytes(alloc: Global) -> Result<Vec<u8>, NoMemory> {
 }
 
 // The last change is taken back: the row's slot and the count that is left.
-fn undo_bytes(alloc: Global, row: &[u8], zeros: usize, left: u8) -> Result<Vec<u8>, NoMemory> {
+fn undo_bytes(alloc: Global, row: &[u8], zeros: usize, left: u8) -> Result<Vec<u8>, AllocError> {
     let mut bytes = Vec::from_slice(alloc, row)?;
     for _ in 0..zeros {
         bytes.push(0)?;

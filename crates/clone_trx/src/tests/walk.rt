@@ -3,11 +3,10 @@ ghost use Rattle.std.specs.Prelude.{◌<◌};
 use crate::tests::plain::Plain;
 use crate::tests::{Tried, answered};
 use clone_model::{Binlog, fold};
-use clone_outside::NoMemory;
 use clone_plain::Cause;
 use rand_core::utils::NextWord;
 use rand_pcg::Pcg32;
-use std::alloc::Global;
+use std::alloc::{AllocError, Global};
 use std::fmt::Debug;
 use std::process::Abort;
 use std::test::Fail;
@@ -32,10 +31,10 @@ struct Row {
 }
 
 impl Both {
-    fn new(alloc: Global) -> Result<Both, NoMemory> {
+    fn new(alloc: Global) -> Result<Both, AllocError> {
         Ok(Both {
             tried: Tried::new(alloc)?,
-            plain: Plain::new(alloc)?,
+            plain: Plain::new(alloc),
             refused: Vec::new(alloc),
         })
     }
@@ -82,9 +81,9 @@ impl Both {
         self.compare(rt, found, expected)
     }
 
-    fn commit(&mut self, rt: &impl Abort, alloc: Global, trx: u32) -> Result<(), Fail> {
+    fn commit(&mut self, rt: &impl Abort, trx: u32) -> Result<(), Fail> {
         let found = self.tried.commit(trx)?;
-        let expected = answered(self.plain.commit(alloc, trx))?;
+        let expected = answered(self.plain.commit(trx))?;
         self.compare(rt, found, expected)
     }
 
@@ -103,7 +102,7 @@ impl Both {
     }
 
     // The holder of a lock is left out.
-    fn note(&mut self, cause: Cause) -> Result<(), NoMemory> {
+    fn note(&mut self, cause: Cause) -> Result<(), AllocError> {
         let noted = match cause {
             Cause::RowLocked { .. } => Cause::RowLocked { holder: 0 },
             other => other,
@@ -172,7 +171,7 @@ fn step(
         8 => both.delete(rt, alloc, row),
         9 | 10 => both.get(rt, alloc, row),
         11 | 12 => both.undo_one(rt, row.trx),
-        _ => both.commit(rt, alloc, row.trx),
+        _ => both.commit(rt, row.trx),
     }
 }
 

@@ -1,11 +1,4 @@
-ghost use Rattle.std.specs.Prelude.{◌≡◌, ◌%◌, [], replicate, length, slice_set, unwrap_or, option_copied, IfOk};
-ghost use Rattle.clone_plain.specs.Donor.{bucket_in};
-ghost use Rattle.clone_plain.specs.Causes.{is_full};
-ghost use Rattle.clone_plain.specs.Calls.{with_key};
-
-use clone_outside::NoMemory;
-use std::alloc::Global;
-use std::marker::Model;
+use std::alloc::{AllocError, Global};
 
 /// How many keys have a place in a bucket.
 const PLACES: usize = 50;
@@ -16,34 +9,15 @@ pub struct Bucket {
     keys: Vec<u64>,
 }
 
-impl Model for Bucket {
-    ghost use Rattle.clone_plain.specs.Donor.{Keys};
-
-    ghost Value = { Keys };
-
-    ghost view = { λ b. b.keys.items };
-}
-
 /// The buckets of a table.
 #[derive(Drop)]
 pub struct Table {
     buckets: Vec<Bucket>,
 }
 
-impl Model for Table {
-    ghost use Rattle.std.specs.Prelude.{List};
-    ghost use Rattle.clone_plain.specs.Donor.{Keys};
-
-    ghost Value = { List Keys };
-
-    ghost view = { λ t. t.buckets.items };
-}
-
 impl Table {
     /// Buckets without keys.
-    pub fn new(alloc: Global, count: u32) -> Result<Table, NoMemory>
-        ensures { IfOk result (λ table. table ≡ replicate count []) }
-    {
+    pub fn new(alloc: Global, count: u32) -> Result<Table, AllocError> {
         let mut buckets = Vec::new(alloc);
         for _ in 0..count {
             buckets.push(Bucket {
@@ -54,9 +28,7 @@ impl Table {
     }
 
     /// Whether the bucket of a key has no place for it.
-    pub fn is_full_for(&self, key: u64) -> bool
-        ensures { result ≡ is_full (bucket_in self.now key) key }
-    {
+    pub fn is_full_for(&self, key: u64) -> bool {
         match self.bucket_of(key) {
             Some(bucket) => bucket.keys.len() == PLACES && !bucket.keys.contains(&key),
             None => false,
@@ -64,9 +36,7 @@ impl Table {
     }
 
     /// What the bucket of a key is once the key has a place there.
-    pub fn placed(&self, alloc: Global, key: u64) -> Result<Bucket, NoMemory>
-        ensures { IfOk result (λ bucket. bucket ≡ with_key key (bucket_in self.now key)) }
-    {
+    pub fn placed(&self, alloc: Global, key: u64) -> Result<Bucket, AllocError> {
         let mut keys = Vec::new(alloc);
         if let Some(bucket) = self.bucket_of(key) {
             keys.extend_from_slice(&bucket.keys)?;
@@ -78,9 +48,7 @@ impl Table {
     }
 
     /// Puts another bucket in the place of a key's.
-    pub fn replace(&mut self, key: u64, bucket: Bucket)
-        ensures { self.new ≡ slice_set self.old (key % length self.old) bucket }
-    {
+    pub fn replace(&mut self, key: u64, bucket: Bucket) {
         let count = self.buckets.len() as u64;
         if count > 0 {
             self.buckets[(key % count) as usize] = bucket;
@@ -88,9 +56,7 @@ impl Table {
     }
 
     // The bucket of a key, where there is a bucket at all.
-    fn bucket_of(&self, key: u64) -> Option<&Bucket>
-        ensures { unwrap_or (option_copied result) [] ≡ bucket_in self.now key }
-    {
+    fn bucket_of(&self, key: u64) -> Option<&Bucket> {
         let place = key.checked_rem(self.buckets.len() as u64)?;
         self.buckets.get(place as usize)
     }

@@ -3,8 +3,8 @@ use Rattle.std.specs.FinMap as finite
 use Rattle.std.specs.Cmp.{nat_cmp_total}
 use Rattle.std.proofs.lemmas.Map.Lookups.{exact_unsigned}
 use Rattle.clone_model.specs.declared.change.Change.{Change}
-use Rattle.clone_trx.specs.Opened.{Opened}
-use Rattle.clone_trx.proofs.Maps.{inserted}
+use Rattle.clone_plain.specs.Locked.{Opened}
+use Rattle.clone_base.proofs.OrderedMaps.{inserted}
 use Rattle.clone_trx.proofs.active.Active.begin.Goals as goal
 
 pub returns-clause-ok : goal.returns-clause-ok

@@ -2,8 +2,8 @@ use Rattle.std.proofs.Common.{◌∙◌, sym, ap}
 use Rattle.std.specs.FinMap as finite
 use Rattle.std.specs.Cmp.{nat_cmp_total}
 use Rattle.std.proofs.lemmas.Map.Lookups.{exact_unsigned}
-use Rattle.clone_trx.specs.Opened.{Opened}
-use Rattle.clone_trx.proofs.Maps.{removed}
+use Rattle.clone_plain.specs.Locked.{Opened}
+use Rattle.clone_base.proofs.OrderedMaps.{removed}
 use Rattle.clone_trx.proofs.Pops.{get_opened}
 use Rattle.clone_trx.proofs.active.Active.remove.Goals as goal
 

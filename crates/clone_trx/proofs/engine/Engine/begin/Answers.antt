@@ -1,28 +1,32 @@
-use Rattle.std.proofs.Common.{◌≡◌, ◌≤◌, ◌+◌, ℕ, ◌++◌, Bool, List, length, drop, refl, sym, ap, subst, ◌∙◌, None}
+use Rattle.std.proofs.Common.{◌≡◌, ◌≤◌, ◌+◌, ℕ, ◌++◌, Bool, List, length, drop, sym, ap, subst, ◌∙◌, arith}
+use Rattle.std.specs.FinMap as finite
 use Rattle.std.specs.List.{AllByRecursion}
 use Rattle.clone_mtr.specs.declared.record.Record.{Record}
 use Rattle.clone_mtr.specs.Spelling.{spelling, longest}
 use Rattle.clone_undo.specs.Places.{header_page}
 use Rattle.clone_undo.specs.Changes.{records_of_begin}
-use Rattle.clone_image.specs.Image.{MakesNoPage, after_records}
+use Rattle.clone_image.specs.Image.{Image, MakesNoPage, after_records}
 use Rattle.clone_image.specs.Replay.{first_lsn}
+use Rattle.clone_contents.specs.Steps.{is_unused}
+use Rattle.clone_base.proofs.OrderedMaps.{len-below}
+use Rattle.clone_plain.specs.Causes.{least_free}
 use Rattle.clone_plain.specs.Donor.{Donor}
-use Rattle.clone_plain.specs.Causes.{begin_cause, all_taken}
-use Rattle.clone_plain.specs.Calls.{Begins, begun}
-use Rattle.clone_trx.specs.Sound.{IsSound}
-use Rattle.clone_trx.specs.Engine.{EngineState}
-use Rattle.clone_trx.specs.Written.{is_unused, AppendsBegin}
-use Rattle.clone_trx.proofs.Locked.{least_free_is}
+use Rattle.clone_plain.specs.Effects.{begun}
+use Rattle.clone_plain.specs.Locked.{Opened}
+use Rattle.clone_trx.specs.Engine.{EngineState, donor_of}
+use Rattle.clone_trx.specs.Keys.{keys_in}
+use Rattle.clone_trx.specs.Sound.{IsKept}
+use Rattle.clone_trx.specs.Written.{AppendsBegin}
 use Rattle.clone_trx.proofs.Begun as lem
-use Rattle.clone_trx.proofs.Beginning.{begun_sound}
-use Rattle.clone_trx.proofs.Restating.{donor_by, donor_is, restated}
+use Rattle.clone_trx.proofs.Scans.{least_free_is}
+use Rattle.clone_trx.proofs.Steps.{Keeps, begin_keeps}
 use Rattle.clone_trx.proofs.engine.Engine.begin.Goals as goal
 
 pub header_page-requires : goal.header_page-requires
-header_page-requires c = (least_free_is (donor_by c.self.inside.store.image c.self.inside.active c.self.inside.locks c.self.inside.binlog) c.in-Some.trx (sym c.least_free.ensures ∙ c.in-Some.is)).0
+header_page-requires c = (least_free_is (donor_of c.self.inside.tables c.self.inside.active c.self.inside.locks c.self.inside.binlog.commits) c.in-Some.trx (sym c.least_free.ensures ∙ c.in-Some.is)).0
 
 pub begin_records-requires : goal.begin_records-requires
-begin_records-requires c = (least_free_is (donor_by c.self.inside.store.image c.self.inside.active c.self.inside.locks c.self.inside.binlog) c.in-Some.trx (sym c.least_free.ensures ∙ c.in-Some.is)).0
+begin_records-requires c = (least_free_is (donor_of c.self.inside.tables c.self.inside.active c.self.inside.locks c.self.inside.binlog.commits) c.in-Some.trx (sym c.least_free.ensures ∙ c.in-Some.is)).0
 
 pub write_from-requires-clause-short : goal.write_from-requires-clause-short
 write_from-requires-clause-short c =
@@ -37,7 +41,7 @@ write_from-requires-clause-grows c =
     subst (λ (rs : List Record). AllByRecursion MakesNoPage rs) (sym (lem.written u c.in-Some.trx c.args.writer c.args.index c.first_record-first.result c.begin_records.result from c.begin_records.ensures)) (lem.makes_none u c.in-Some.trx c.args.writer c.args.index)
 
 abbrev before : goal.After-write_from → Donor
-before c = donor_by c.self.inside.store.image c.self.inside.active c.self.inside.locks c.self.inside.binlog
+before c = donor_of c.self.inside.tables c.self.inside.active c.self.inside.locks c.self.inside.binlog.commits
 
 abbrev unused : goal.After-write_from → Bool
 unused c = is_unused c.self.inside.store.image 0 (header_page c.in-Some.trx)
@@ -45,35 +49,36 @@ unused c = is_unused c.self.inside.store.image 0 (header_page c.in-Some.trx)
 abbrev end : goal.After-write_from → ℕ
 end c = first_lsn + length c.write_from.new.store.log
 
-abbrev after : goal.After-write_from → Donor
-after c = begun c.in-Some.trx c.args.writer c.args.index (before c)
-
-begins : (c : goal.After-write_from) → Begins (before c) c.args.writer c.args.index c.in-Some.trx (after c)
-begins c = (sym c.least_free.ensures ∙ c.in-Some.is, refl)
+abbrev new : goal.After-write_from → Donor
+new c = donor_of c.self.inside.tables c.begin.new.self c.self.inside.locks c.reserve.new.self.commits
 
 records : (c : goal.After-write_from) → drop c.first_record-first.result c.begin_records.result ≡ records_of_begin (unused c) c.in-Some.trx c.args.writer c.args.index
 records c =
     let from : c.first_record-first.result ≡ lem.first (unused c) = c.first_record-first.ensures.value ∙ ap (λ (p : ℕ). lem.first (is_unused c.self.inside.store.image 0 p)) c.header_page.ensures in
     lem.written (unused c) c.in-Some.trx c.args.writer c.args.index c.first_record-first.result c.begin_records.result from c.begin_records.ensures
 
-sound : (c : goal.After-write_from) → IsSound (after c) c.self.inside.listed.items (after_records (end c) c.self.inside.store.image (records_of_begin (unused c) c.in-Some.trx c.args.writer c.args.index))
-sound c = begun_sound (before c) (after c) c.self.inside.listed.items c.self.inside.store.image c.args.writer c.args.index c.in-Some.trx (end c) (unused c) c.self.invariant (begins c) c.ranges.writer.fits c.ranges.index.fits refl
-
 pages : (c : goal.After-write_from) → c.write_from.new.store.image ≡ after_records (end c) c.self.inside.store.image (records_of_begin (unused c) c.in-Some.trx c.args.writer c.args.index)
 pages c = c.write_from.ensures.image ∙ (λ i. after_records (end c) (c.in_ok-reserve-2.ensures.same.image i) (records c i))
 
-pub invariant_of-self-2 : goal.invariant_of-self-2
-invariant_of-self-2 c = restated (sound c) c.write_from.new.store.image c.begin.new.self c.self.inside.locks c.reserve.new.self (pages c) c.in_ok-begin.ensures.ok refl c.in_ok-reserve.ensures.same
+made : (c : goal.After-write_from) → new c ≡ begun c.in-Some.trx c.args.writer c.args.index (before c)
+made c = λ i. donor_of c.self.inside.tables (c.in_ok-begin.ensures.ok i) c.self.inside.locks (c.in_ok-reserve.ensures.same i)
 
-pub returns-clause-answer : goal.returns-clause-answer
-returns-clause-answer c =
-    let new : Donor = donor_by c.write_from.new.store.image c.begin.new.self c.self.inside.locks c.reserve.new.self in
-    let P : EngineState → Type 0 = λ s. (begin_cause s.donor ≡ None) × Begins s.donor c.args.writer c.args.index c.in-Some.trx new in
-    subst P c.self.view_is
-    (ap all_taken (begins c).0, ((begins c).0, donor_is (sound c) c.write_from.new.store.image c.begin.new.self c.self.inside.locks c.reserve.new.self (pages c) c.in_ok-begin.ensures.ok refl c.in_ok-reserve.ensures.same))
+keeps : (c : goal.After-write_from) → Keeps (new c) c.self.inside.store.image c.write_from.new.store.image
+keeps c =
+    subst (λ (p : Donor × Image). Keeps p.0 c.self.inside.store.image p.1) (λ i. (sym (made c) i, sym (pages c) i))
+    (begin_keeps (end c) c.in-Some.trx c.args.writer c.args.index (before c) c.self.inside.store.image c.self.invariant.0 (sym c.least_free.ensures ∙ c.in-Some.is) c.ranges.writer.fits c.ranges.index.fits)
+
+pub invariant_of-self-2 : goal.invariant_of-self-2
+invariant_of-self-2 c =
+    let kept = (keeps c).kept in
+    let few : finite.len c.begin.new.self ≤ 64 = len-below 64 c.begin.new.self kept.sound.locked.few.numbers in
+    (kept, omega (arith, few, c.in_ok-reserve.ensures.ok))
 
 pub returns-clause-written : goal.returns-clause-written
 returns-clause-written c =
-    let new : EngineState = record { donor = donor_by c.write_from.new.store.image c.begin.new.self c.self.inside.locks c.reserve.new.self; image = c.write_from.new.store.image; log = c.write_from.new.store.log } in
-    let P : EngineState → Type 0 = λ s. AppendsBegin c.args.writer c.args.index c.in-Some.trx s new in
+    let after : EngineState = record { donor = new c; image = c.write_from.new.store.image; log = c.write_from.new.store.log } in
+    let P : EngineState → Type 0 = λ s. AppendsBegin c.args.writer c.args.index c.in-Some.trx s after in
     subst P c.self.view_is (record { log = c.write_from.ensures.log ∙ (λ i. c.in_ok-reserve-2.ensures.same.log i ++ spelling (records c i)); image = pages c })
+
+pub returns-clause-keys : goal.returns-clause-keys
+returns-clause-keys c = let P : EngineState → Type 0 = λ s. keys_in c.write_from.new.store.image ≡ keys_in s.image in subst P c.self.view_is (keeps c).keys

@@ -1,45 +1,67 @@
-use Rattle.std.proofs.Common.{◌≡◌, ◌∷◌, [], sym, ap, subst, ◌∙◌}
+use Rattle.std.proofs.Common.{◌≡◌, ◌<◌, ◌≤◌, ◌+◌, ◌∷◌, [], ℕ, length, None, refl, sym, ap, subst, ◌∙◌, arith}
+use Rattle.std.specs.FinMap as finite
+use Rattle.std.specs.Cmp.{nat_cmp_total}
+use Rattle.std.proofs.lemmas.List.{length_push}
+use Rattle.std.proofs.lemmas.Map.Lookups.{exact_unsigned}
+use Rattle.clone_base.proofs.OrderedMaps.{len-without}
+use Rattle.clone_image.specs.Image.{Image, after_records}
+use Rattle.clone_image.specs.Replay.{first_lsn}
+use Rattle.clone_contents.specs.Records.{commit_records}
+use Rattle.clone_store.specs.Stored.{Writes}
 use Rattle.clone_plain.specs.Donor.{Donor}
 use Rattle.clone_plain.specs.Causes.{no_trx}
-use Rattle.clone_plain.specs.Calls.{Commits}
-use Rattle.clone_trx.specs.Engine.{EngineState, tables_of}
-use Rattle.clone_trx.specs.Written.{commit_records}
-use Rattle.clone_trx.proofs.Seen.{IsSeen, kept_writes, open_known, with_tables}
-use Rattle.clone_trx.proofs.Committing.{commit_seen, commit_written, one_more, replaced}
+use Rattle.clone_plain.specs.Effects.{Commits}
+use Rattle.clone_trx.specs.Engine.{EngineState, donor_of}
+use Rattle.clone_trx.specs.Keys.{keys_in}
+use Rattle.clone_trx.proofs.CallCauses.{trx_there}
+use Rattle.clone_trx.proofs.Steps.{Keeps, commit_keeps}
+use Rattle.clone_trx.proofs.WriteLemmas.{kept_writes, commit_written}
 use Rattle.clone_trx.proofs.engine.Engine.commit.Goals as goal
-use Rattle.clone_trx.proofs.engine.Engine.commit.Goals.{After-release}
 
-abbrev before : After-release → Donor
-before c = record { tables = tables_of c.self.inside.store.image; active = c.self.inside.active; locks = c.self.inside.locks; history = c.self.inside.binlog }
+pub push_within-requires : goal.push_within-requires
+push_within-requires c =
+    let fewer = len-without nat_cmp_total exact_unsigned c.self.inside.active c.args.trx c.in-Some.commit (sym c.in-Some.ensures.was) in
+    let room = c.self.invariant.1 in
+    record { room = omega (arith, fewer, room) }
 
-abbrev after : After-release → Donor
-after c = record { tables = tables_of c.self.inside.store.image; active = c.remove.new.self; locks = c.release.new.self; history = c.set_last.new.self }
+abbrev before : goal.After-release → Donor
+before c = donor_of c.self.inside.tables c.self.inside.active c.self.inside.locks c.self.inside.binlog.commits
 
-committed : (c : After-release) → IsSeen (Commits (before c) c.args.trx c.len-commits.result) (after c) c.self.inside.listed.items c.write_within.new.self.image
-committed c =
-    let inside = c.self.inside in
-    let trx = c.args.trx in
-    let position = c.len-commits.result in
-    let joined = replaced inside.binlog c.push.new.self c.set_last.new.self _ c.in-Some-remove.commit c.in_ok-push.ensures.ok c.set_last.ensures.value in
-    let commits : Commits (before c) trx position (after c) = record {
-      commit = c.in-Some-remove.commit;
-      was_active = sym c.in-Some-remove.ensures.was;
-      locks = c.release.new.self;
-      released = c.release.ensures;
-      count = c.len-commits.ensures ∙ one_more inside.binlog c.push.new.self _ c.in_ok-push.ensures.ok;
-      is = λ i. record { tables = tables_of inside.store.image; active = c.remove.ensures.removed i; locks = c.release.new.self; history = joined i };
-    } in
+abbrev after : goal.After-release → Donor
+after c = donor_of c.self.inside.tables c.remove.new.self c.release.new.self c.push_within.new.self.commits
+
+commits : (c : goal.After-release) → Commits (before c) c.args.trx c.len-commits.result (after c)
+commits c = record {
+  commit = c.in-Some.commit;
+  was_active = sym c.in-Some.ensures.was;
+  locks = c.release.new.self;
+  released = c.release.ensures;
+  count = c.len-commits.ensures ∙ ap length c.push_within.ensures.commits ∙ length_push c.self.inside.binlog.commits c.in-Some.commit;
+  is = λ i. donor_of c.self.inside.tables (c.remove.ensures.removed i) c.release.new.self (c.push_within.ensures.commits i);
+}
+
+keeps : (c : goal.After-release) → Keeps (after c) c.self.inside.store.image c.write_within.new.self.image
+keeps c =
     let wrote =
-    kept_writes inside.store c.reserve.new.self c.write_within.new.self (c.end_record.result ∷ c.position.result ∷ []) (commit_records trx position) c.in_ok-reserve.ensures.same c.write_within.ensures
-    (commit_written trx position c.end_record.result c.position.result c.end_record.ensures c.position.ensures) in
-    commit_seen (before c) (after c) inside.listed.items inside.store.image c.write_within.new.self.image trx position _ c.self.invariant commits wrote.image
+    kept_writes c.self.inside.store c.reserve.new.self c.write_within.new.self (c.end_record.result ∷ c.position.result ∷ []) (commit_records c.args.trx c.len-commits.result) c.in_ok-reserve.ensures.same c.write_within.ensures
+    (commit_written c.args.trx c.len-commits.result c.end_record.result c.position.result c.end_record.ensures c.position.ensures) in
+    subst (λ (image : Image). Keeps (after c) c.self.inside.store.image image) (sym wrote.image)
+    (commit_keeps (first_lsn + length c.write_within.new.self.log) c.args.trx c.len-commits.result (before c) (after c) c.self.inside.store.image c.self.invariant.0 (commits c) (omega arith))
 
 pub invariant_of-self-2 : goal.invariant_of-self-2
-invariant_of-self-2 c = (committed c).sound
+invariant_of-self-2 c =
+    let fewer = len-without nat_cmp_total exact_unsigned c.self.inside.active c.args.trx c.in-Some.commit (sym c.in-Some.ensures.was) in
+    let room = c.self.invariant.1 in
+    let left = c.push_within.ensures.left in
+    ((keeps c).kept, omega (arith, fewer, room, left, ap finite.len c.remove.ensures.removed))
 
 pub returns-clause-answer : goal.returns-clause-answer
 returns-clause-answer c =
     let same : before c ≡ c.args.self.now.donor = ap (λ (e : EngineState). e.donor) c.self.view_is in (
-      ap (λ (d : Donor). no_trx d c.args.trx) (sym same) ∙ open_known (before c) c.args.trx c.in-Some-remove.commit (sym c.in-Some-remove.ensures.was),
-      subst (λ (d : Donor). Commits d c.args.trx c.len-commits.result (with_tables (after c) c.write_within.new.self.image)) same (committed c).fact,
+      ap (λ (d : Donor). no_trx d c.args.trx) (sym same) ∙ trx_there (before c) c.args.trx c.in-Some.commit (sym c.in-Some.ensures.was),
+      refl,
+      subst (λ (d : Donor). Commits d c.args.trx c.len-commits.result (after c)) same (commits c),
     )
+
+pub returns-clause-keys : goal.returns-clause-keys
+returns-clause-keys c = subst (λ (s : EngineState). keys_in c.write_within.new.self.image ≡ keys_in s.image) c.self.view_is (keeps c).keys

@@ -1,79 +1,75 @@
-use Rattle.std.proofs.Common.{◌≡◌, ◌+◌, ◌++◌, ◌∷◌, [], ℕ, true, false, List, length, refl, sym, ap, subst, ◌∙◌, None, Err, arith}
+use Rattle.std.proofs.Common.{◌≡◌, ◌≢◌, ◌<◌, ◌≤◌, ◌+◌, ◌++◌, ℕ, true, false, List, length, None, refl, sym, ap, subst, ◌∙◌, arith}
+use Rattle.std.specs.Option.{is_some}
+use Rattle.std.specs.declared.option.Option.{Option}
 use Rattle.std.specs.FinMap as finite
+use Rattle.std.specs.Cmp.{nat_cmp_total}
+use Rattle.std.proofs.lemmas.Map.Lookups.{exact_unsigned}
+use Rattle.clone_base.proofs.OrderedMaps.{removed_again}
 use Rattle.clone_mtr.specs.declared.record.Record.{Record}
 use Rattle.clone_mtr.specs.Spelling.{spelling}
-use Rattle.clone_image.specs.Image.{after_records}
+use Rattle.clone_image.specs.Image.{Image, after_records}
 use Rattle.clone_image.specs.Replay.{first_lsn}
-use Rattle.clone_plain.specs.declared.refusal.EngineRefusal.{EngineRefusal}
+use Rattle.clone_contents.specs.Records.{create_records}
+use Rattle.clone_store.specs.Stored.{Keeps, Writes}
 use Rattle.clone_plain.specs.Donor.{Donor}
-use Rattle.clone_plain.specs.Causes.{create_cause, table_limit}
-use Rattle.clone_plain.specs.Calls.{Decided, created}
-use Rattle.clone_trx.specs.Engine.{EngineState, tables_of}
-use Rattle.clone_trx.specs.Sound.{IsSound}
-use Rattle.clone_trx.specs.Written.{create_records, AppendsCreate}
-use Rattle.clone_trx.proofs.Created as lem
-use Rattle.clone_trx.proofs.Creating.{created_sound}
-use Rattle.clone_trx.proofs.Restating.{donor_by, donor_is, restated}
+use Rattle.clone_plain.specs.Effects.{created}
+use Rattle.clone_trx.specs.Engine.{EngineState, donor_of}
+use Rattle.clone_trx.specs.Keys.{keys_in}
+use Rattle.clone_trx.specs.Sound.{IsKept}
+use Rattle.clone_trx.specs.Written.{AppendsCreate}
+use Rattle.clone_trx.proofs.Steps as steps
+use Rattle.clone_trx.proofs.WriteLemmas.{is_none, done, refused}
 use Rattle.clone_trx.proofs.engine.Engine.create.Goals as goal
 
-pub returns-then-is_some-clause-answer : goal.returns-then-is_some-clause-answer
-returns-then-is_some-clause-answer c =
-    let there : finite.contains_key (tables_of c.self.inside.store.image) c.args.table ≡ true =
-    (λ i. finite.contains_key (tables_of (c.self.view_is i).image) (sym c.get-table.ensures.value i)) ∙ lem.table_found c.args.self.now.image c.get-table.result c.pages_of.result c.pages_of.ensures ∙ sym c.is_some.ensures ∙ c.if-is_some.true in
-    let P : EngineState × EngineRefusal → Type 0 = λ p. Decided {X = Unit {0}} (create_cause p.0.donor c.args.table) p.0.donor p.0.donor (Err p.1) (λ _. p.0.donor ≡ created c.args.table c.args.buckets p.0.donor) in
-    subst P (λ i. (c.self.view_is i, sym c.into.ensures i)) (lem.exists (donor_by c.self.inside.store.image c.self.inside.active c.self.inside.locks c.self.inside.binlog) c.args.table there, refl)
+-- After the redo log wanted memory the table is taken away again.
 
-pub returns-then-place-eq-TABLES-clause-answer : goal.returns-then-place-eq-TABLES-clause-answer
-returns-then-place-eq-TABLES-clause-answer c =
-    let away : finite.contains_key (tables_of c.self.inside.store.image) c.args.table ≡ false =
-    (λ i. finite.contains_key (tables_of (c.self.view_is i).image) (sym c.get-table.ensures.value i)) ∙ lem.table_found c.args.self.now.image c.get-table.result c.pages_of.result c.pages_of.ensures ∙ sym c.is_some.ensures ∙ c.if-is_some.false in
-    let full : finite.len (tables_of c.self.inside.store.image) ≡ table_limit = omega (arith, c.self.invariant.tables.count, c.len-place.ensures, c.if-place-eq-TABLES.true, c.self.inside.listed.ok) in
-    let P : EngineState × EngineRefusal → Type 0 = λ p. Decided {X = Unit {0}} (create_cause p.0.donor c.args.table) p.0.donor p.0.donor (Err p.1) (λ _. p.0.donor ≡ created c.args.table c.args.buckets p.0.donor) in
-    subst P (λ i. (c.self.view_is i, sym c.into-then-place-eq-TABLES.ensures i)) (lem.too_many (donor_by c.self.inside.store.image c.self.inside.active c.self.inside.locks c.self.inside.binlog) c.args.table away full, refl)
+state_kept : (c : goal.After-remove) → ◌≡◌ {A = EngineState} (record { donor = donor_of c.remove.new.self c.self.inside.active c.self.inside.locks c.self.inside.binlog.commits; image = c.write.new.self.image; log = c.write.new.self.log }) c.args.self.now
+state_kept c =
+    let s : Keeps c.self.inside.store c.write.new.self = refused c.write.result (sym c.is_err.ensures.value ∙ c.if-is_err.true) c.write.ensures.err in
+    let none = sym c.get.ensures ∙ is_none c.get.result (sym c.is_some.ensures ∙ c.if-is_some.false) in
+    let tables : c.remove.new.self ≡ c.self.inside.tables = c.remove.ensures ∙ ap (λ m. finite.remove m c.get-table.result) c.in_ok-insert.ensures.ok ∙ removed_again nat_cmp_total exact_unsigned c.self.inside.tables c.get-table.result c.get-buckets.result none in
+    (λ i. record { donor = donor_of (tables i) c.self.inside.active c.self.inside.locks c.self.inside.binlog.commits; image = s.image i; log = s.log i }) ∙ c.self.view_is
 
-abbrev before : goal.In-Ok → Donor
-before c = donor_by c.self.inside.store.image c.self.inside.active c.self.inside.locks c.self.inside.binlog
+pub invariant_of-self-then-is_err : goal.invariant_of-self-then-is_err
+invariant_of-self-then-is_err c = (subst (λ (e : EngineState). IsKept e.donor e.image) (c.self.view_is ∙ sym (state_kept c)) c.self.invariant.0, c.self.invariant.1)
 
-none : (c : goal.In-Ok) → create_cause (before c) c.args.table ≡ None
-none c =
-    let away : finite.contains_key (tables_of c.self.inside.store.image) c.args.table ≡ false =
-    (λ i. finite.contains_key (tables_of (c.self.view_is i).image) (sym c.get-table.ensures.value i)) ∙ lem.table_found c.args.self.now.image c.get-table.result c.pages_of.result c.pages_of.ensures ∙ sym c.is_some.ensures ∙ c.if-is_some.false in
-    lem.no_cause (before c) c.args.table away (λ full. c.if-place-eq-TABLES.false (omega (arith, full, c.self.invariant.tables.count, c.len-place.ensures, c.self.inside.listed.ok)))
+pub returns-then-is_err-clause-answer : goal.returns-then-is_err-clause-answer
+returns-then-is_err-clause-answer c = ap (λ (e : EngineState). e.donor) (state_kept c)
 
-abbrev end : goal.In-Ok → ℕ
-end c = first_lsn + length c.write.new.self.log
+pub returns-then-is_err-clause-refused : goal.returns-then-is_err-clause-refused
+returns-then-is_err-clause-refused c = state_kept c
 
-sound : (c : goal.In-Ok) → IsSound (created c.args.table c.args.buckets (before c)) (c.self.inside.listed.items ++ c.args.table ∷ []) (after_records (end c) c.self.inside.store.image (create_records (length c.self.inside.listed.items) c.args.table c.args.buckets))
-sound c =
-    created_sound (before c) c.self.inside.listed.items c.self.inside.store.image (end c) c.args.table c.args.buckets c.self.invariant
-    (c.get-table.ensures.low) (c.get-table.ensures.high) (c.get.ensures.low) (c.get.ensures.high) (none c)
+-- The table is made.
 
-records : (c : goal.In-Ok) → c.creation.result ≡ create_records (length c.self.inside.listed.items) c.args.table c.args.buckets
-records c =
-    let place : c.len-place.result ≡ length c.self.inside.listed.items = omega (arith, c.len-place.ensures, c.self.inside.listed.ok) in
-    c.creation.ensures ∙ (λ i. create_records (place i) (c.get-table.ensures.value i) (c.get.ensures.value i))
+abbrev before : goal.Else-is_err → Donor
+before c = donor_of c.self.inside.tables c.self.inside.active c.self.inside.locks c.self.inside.binlog.commits
 
-pages : (c : goal.In-Ok) → c.write.new.self.image ≡ after_records (end c) c.self.inside.store.image (create_records (length c.self.inside.listed.items) c.args.table c.args.buckets)
-pages c = c.in_ok-write.ensures.ok.image ∙ ap (after_records (end c) c.self.inside.store.image) (records c)
+abbrev records : goal.Else-is_err → List Record
+records c = create_records (finite.len c.self.inside.tables) c.args.table c.args.buckets
 
-listed : (c : goal.In-Ok) → c.push.new.self.items ≡ c.self.inside.listed.items ++ c.args.table ∷ []
-listed c = c.in-Ok.ensures.items ∙ (λ i. c.in_ok-reserve.ensures.items i ++ c.get-table.ensures.value i ∷ [])
+wrote : (c : goal.Else-is_err) → Writes (records c) c.self.inside.store c.write.new.self
+wrote c =
+    let same : c.creation-records.result ≡ records c = c.creation-records.ensures ∙ (λ i. create_records (c.len-place.ensures i) (c.get-table.ensures.value i) (c.get-buckets.ensures.value i)) in
+    subst (λ (rs : List Record). Writes rs c.self.inside.store c.write.new.self) same (done c.write.result (sym c.is_err.ensures.value ∙ c.if-is_err.false) c.write.ensures.ok)
 
-pub invariant_of-self-2 : goal.invariant_of-self-2
-invariant_of-self-2 c =
-    let P : List ℕ → Type 0 = λ names. IsSound (donor_by c.write.new.self.image c.self.inside.active c.self.inside.locks c.self.inside.binlog) names c.write.new.self.image in
-    subst P (sym (listed c)) (restated (sound c) c.write.new.self.image c.self.inside.active c.self.inside.locks c.self.inside.binlog (pages c) refl refl refl)
+keeps : (c : goal.Else-is_err) → steps.Keeps (donor_of c.insert.new.self c.self.inside.active c.self.inside.locks c.self.inside.binlog.commits) c.self.inside.store.image c.write.new.self.image
+keeps c =
+    let none : finite.get c.self.inside.tables c.args.table ≡ None = ap (finite.get c.self.inside.tables) (sym c.get-table.ensures.value) ∙ sym c.get.ensures ∙ is_none c.get.result (sym c.is_some.ensures ∙ c.if-is_some.false) in
+    let few = c.self.invariant.0.sound.tables.few in
+    let other : c.len-place.result ≢ 62 = c.if-place-eq-TABLES.false in
+    let room : finite.len c.self.inside.tables < 62 = omega (arith, few, other, c.len-place.ensures) in
+    let made : donor_of c.insert.new.self c.self.inside.active c.self.inside.locks c.self.inside.binlog.commits ≡ created c.args.table c.args.buckets (before c) =
+    λ i. donor_of ((c.in_ok-insert.ensures.ok ∙ (λ k. finite.insert c.self.inside.tables (c.get-table.ensures.value k) (c.get-buckets.ensures.value k))) i) c.self.inside.active c.self.inside.locks c.self.inside.binlog.commits in
+    subst (λ (p : Donor × Image). steps.Keeps p.0 c.self.inside.store.image p.1) (λ i. (sym made i, sym (wrote c).image i))
+    (steps.create_keeps (first_lsn + length c.write.new.self.log) c.args.table c.args.buckets (before c) c.self.inside.store.image c.self.invariant.0 none room c.get-table.ensures.low c.get-table.ensures.high c.get-buckets.ensures.low c.get-buckets.ensures.high)
 
-pub returns-clause-answer : goal.returns-clause-answer
-returns-clause-answer c =
-    let new : Donor = donor_by c.write.new.self.image c.self.inside.active c.self.inside.locks c.self.inside.binlog in
-    let P : EngineState → Type 0 = λ s. (create_cause s.donor c.args.table ≡ None) × (new ≡ created c.args.table c.args.buckets s.donor) in
-    subst P c.self.view_is (none c, donor_is (sound c) c.write.new.self.image c.self.inside.active c.self.inside.locks c.self.inside.binlog (pages c) refl refl refl)
+pub invariant_of-self-else-is_err : goal.invariant_of-self-else-is_err
+invariant_of-self-else-is_err c = ((keeps c).kept, c.self.invariant.1)
 
 pub returns-clause-written : goal.returns-clause-written
 returns-clause-written c =
-    let new : EngineState = record { donor = donor_by c.write.new.self.image c.self.inside.active c.self.inside.locks c.self.inside.binlog; image = c.write.new.self.image; log = c.write.new.self.log } in
-    let P : EngineState → Type 0 = λ s. AppendsCreate c.args.table c.args.buckets s new in
-    let counted : create_records (length c.self.inside.listed.items) c.args.table c.args.buckets ≡ create_records (finite.len (tables_of c.self.inside.store.image)) c.args.table c.args.buckets =
-    ap (λ (n : ℕ). create_records n c.args.table c.args.buckets) (sym c.self.invariant.tables.count) in
-    subst P c.self.view_is (record { log = c.in_ok-write.ensures.ok.log ∙ ap (λ (rs : List Record). c.self.inside.store.log ++ spelling rs) (records c ∙ counted); image = pages c ∙ ap (after_records (end c) c.self.inside.store.image) counted })
+    let after : EngineState = record { donor = donor_of c.insert.new.self c.self.inside.active c.self.inside.locks c.self.inside.binlog.commits; image = c.write.new.self.image; log = c.write.new.self.log } in
+    subst (λ (s : EngineState). AppendsCreate c.args.table c.args.buckets s after) c.self.view_is (record { log = (wrote c).log; image = (wrote c).image })
+
+pub returns-clause-keys : goal.returns-clause-keys
+returns-clause-keys c = subst (λ (s : EngineState). keys_in c.write.new.self.image ≡ keys_in s.image) c.self.view_is (keeps c).keys

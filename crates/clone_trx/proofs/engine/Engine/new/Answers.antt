@@ -1,12 +1,16 @@
-use Rattle.std.proofs.Common.{◌≡◌, ◌+◌, ℕ, List, length, sym, subst, ◌∙◌}
+use Rattle.std.proofs.Common.{◌≡◌, ◌≤◌, ◌+◌, ℕ, length, sym, ap, subst, ◌∙◌, arith}
 use Rattle.std.specs.FinMap as finite
-use Rattle.clone_image.specs.Image.{after_records}
+use Rattle.std.specs.FinMap.{len-empty}
+use Rattle.std.specs.Ordering.{nat_cmp}
+use Rattle.clone_model.specs.declared.change.Commit.{Commit}
+use Rattle.clone_image.specs.Image.{Image, after_records}
 use Rattle.clone_image.specs.Replay.{first_lsn}
 use Rattle.clone_store.specs.Stored.{Stored}
-use Rattle.clone_trx.specs.Sound.{IsSound}
-use Rattle.clone_trx.specs.Written.{opening_records}
-use Rattle.clone_trx.proofs.Opening.{opening_sound}
-use Rattle.clone_trx.proofs.Restating.{donor_by, donor_is, restated}
+use Rattle.clone_contents.specs.Records.{opening_records}
+use Rattle.clone_plain.specs.Donor.{Donor, no_donor}
+use Rattle.clone_trx.specs.Engine.{donor_of}
+use Rattle.clone_trx.specs.Sound.{IsKept}
+use Rattle.clone_trx.proofs.Steps.{opening_keeps}
 use Rattle.clone_trx.proofs.engine.Engine.new.Goals as goal
 
 abbrev end : goal.After-new-4 → ℕ
@@ -19,11 +23,8 @@ pages c =
 
 pub invariant_of-result-2 : goal.invariant_of-result-2
 invariant_of-result-2 c =
-    let P : List ℕ → Type 0 = λ names. IsSound (donor_by c.store.inside.image c.new-2.result c.in_ok-new.field-0 c.new-4.result) names c.store.inside.image in
-    subst P (sym c.new.ensures.items) (restated (opening_sound (end c)) c.store.inside.image c.new-2.result c.in_ok-new.field-0 c.new-4.result (pages c) c.new-2.ensures c.in_ok-new.ensures c.new-4.ensures)
-
-pub returns-clause-donor : goal.returns-clause-donor
-returns-clause-donor c = donor_is (opening_sound (end c)) c.store.inside.image c.new-2.result c.in_ok-new.field-0 c.new-4.result (pages c) c.new-2.ensures c.in_ok-new.ensures c.new-4.ensures
+    let made : donor_of c.new.result c.new-2.result c.in_ok-new.field-0 c.new-4.result.commits ≡ no_donor = λ i. donor_of (c.new.ensures i) (c.new-2.ensures i) (c.in_ok-new.ensures i) (c.new-4.ensures i) in
+    (subst (λ (p : Donor × Image). IsKept p.0 p.1) (λ i. (sym made i, sym (pages c) i)) (opening_keeps (end c)), omega (arith, ap finite.len c.new-2.ensures, len-empty nat_cmp Commit))
 
 pub returns-clause-image : goal.returns-clause-image
 returns-clause-image c = pages c

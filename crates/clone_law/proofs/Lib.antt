@@ -1,0 +1,9 @@
+pub mod TouchLemmas
+pub mod StepLemmas
+pub mod RedoLemmas
+pub mod EventLemmas
+pub mod AlikeLemmas
+pub mod AppendLemmas
+pub mod AnswerLemmas
+pub mod ExampleLemmas
+pub mod MistakeLemmas

@@ -1,0 +1,9 @@
+pub mod Touches
+pub mod Since
+pub mod Machine
+pub mod Rule
+pub mod Starts
+pub mod Alike
+pub mod Mistakes
+pub mod Examples
+pub mod Laws

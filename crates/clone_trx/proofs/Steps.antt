@@ -1,0 +1,141 @@
+-- Each mini-transaction of the engine keeps its image formed, and what the plain donor is.
+use Rattle.std.proofs.Common.{◌≡◌, ◌≢◌, ℕ, ◌<◌, ◌≤◌, ◌+◌, ◌++◌, ◌^◌, List, [], ◌∷◌, length, refl, sym, ap, subst, ◌∙◌, arith, Option, Some, None, is_some}
+use Rattle.std.specs.List.{AllByRecursion}
+use Rattle.std.specs.FinMap as finite
+use Rattle.std.proofs.lemmas.Option.{same_Some}
+use Rattle.clone_model.specs.declared.change.Change.{Change}
+use Rattle.clone_model.specs.declared.change.Commit.{Commit}
+use Rattle.clone_mtr.specs.declared.record.Record.{Record}
+use Rattle.clone_row.specs.Slots as rows
+use Rattle.clone_undo.specs.Entries.{UndoEntry, IsEntry}
+use Rattle.clone_undo.specs.Slots.{UndoSlot}
+use Rattle.clone_undo.specs.Places.{header_page, record_page}
+use Rattle.clone_undo.specs.Changes.{records_of_begin, records_of_change, records_of_taking_back, records_of_end}
+use Rattle.clone_image.specs.Image.{Image, after_records}
+use Rattle.clone_image.specs.Recovered.{undo_slot_of}
+use Rattle.clone_contents.specs.Contents.{Contents, contents_of, set_at, told_value}
+use Rattle.clone_contents.specs.Formed.{HasContents}
+use Rattle.clone_contents.specs.Records.{opening_records, create_records, commit_records}
+use Rattle.clone_contents.specs.Steps.{is_unused}
+use Rattle.clone_contents.proofs.OpeningLemmas.{opening_is}
+use Rattle.clone_contents.proofs.CreateLemmas.{create_is}
+use Rattle.clone_contents.proofs.UndoSlotLemmas.{begin_is, end_is}
+use Rattle.clone_contents.proofs.ChangeLemmas.{change_is, undo_is}
+use Rattle.clone_contents.proofs.TakingBackLemmas.{taking_back_is}
+use Rattle.clone_contents.proofs.CommitLemmas.{commit_is}
+use Rattle.clone_plain.specs.Donor.{Donor, no_donor, changes_of}
+use Rattle.clone_plain.specs.Causes.{least_free, table_limit, transaction_limit}
+use Rattle.clone_plain.specs.Effects.{created, begun, TakesBack, Leaves, Commits}
+use Rattle.clone_plain.specs.Locked.{value_of, committed_rows}
+use Rattle.clone_trx.specs.Engine.{page_number}
+use Rattle.clone_trx.specs.Keys.{Keys, keys_in}
+use Rattle.clone_trx.specs.Places.{told}
+use Rattle.clone_trx.specs.Sound.{IsSound, IsKept, IsUndoSlot, StandsFor}
+use Rattle.clone_trx.proofs.Scans.{least_free_is}
+use Rattle.clone_trx.proofs.Rows.{keys_of, set_keys, same_keys}
+use Rattle.clone_trx.proofs.Telling.{own_slot, in_range}
+use Rattle.clone_trx.proofs.Creating.{created_sound}
+use Rattle.clone_trx.proofs.Opening.{begun_sound, left_sound}
+use Rattle.clone_trx.proofs.Committing.{opened_sound, committed_sound}
+use Rattle.clone_trx.proofs.Putting.{Puts, e, slot, may_change, put_sound, same_count}
+use Rattle.clone_trx.proofs.TakingBack.{may_take, count_is, taken_sound}
+
+-- the pages keep what the donor is, and each place has the key that it had
+pub record Keeps (d : Donor) (image new : Image) : Type 0 where
+  pub kept : IsKept d new
+  pub keys : keys_in new ≡ keys_in image
+
+kept : {d : Donor} {image : Image} {c : Contents} → HasContents image c → IsSound d c → IsKept d image
+kept {d} has sound = record { formed = has.0; sound = subst (IsSound d) (sym has.1) sound }
+
+keeps : {d : Donor} {image new : Image} {c : Contents} → HasContents new c → IsSound d c → keys_of c ≡ keys_in image → Keeps d image new
+keeps has sound same = record { kept = kept has sound; keys = ap keys_of has.1 ∙ same }
+
+pub opening_keeps : (lsn : ℕ) → IsKept no_donor (after_records lsn finite.empty opening_records)
+opening_keeps lsn = kept (opening_is lsn) opened_sound
+
+pub create_keeps : (lsn table buckets : ℕ) (d : Donor) (image : Image) → IsKept d image → finite.get d.tables table ≡ None → finite.len d.tables < table_limit → 1 ≤ table → table ≤ 1000000 → 1 ≤ buckets → buckets ≤ 1024
+    → Keeps (created table buckets d) image (after_records lsn image (create_records (finite.len d.tables) table buckets))
+create_keeps lsn table buckets d image is none room low high some few =
+    let used : table ≢ 0 = λ zero. omega (arith, zero, low) in
+    keeps (create_is image lsn (finite.len d.tables) table buckets is.formed record { room = room; used = low; low = high; free = is.sound.tables.spaces table used none })
+    (created_sound d (contents_of image) (finite.len d.tables) table buckets is.sound none (λ i. finite.len d.tables) room used low high some few) refl
+
+pub begin_keeps : (lsn trx writer index : ℕ) (d : Donor) (image : Image) → IsKept d image → least_free d ≡ Some trx → writer < 2 ^ 32 → index < 2 ^ 64
+    → Keeps (begun trx writer index d) image (after_records lsn image (records_of_begin (is_unused image 0 (header_page trx)) trx writer index))
+begin_keeps lsn trx writer index d image is least writer_fits index_fits =
+    let free = least_free_is d trx least in
+    keeps (begin_is image lsn trx writer index is.formed free.0 writer_fits index_fits) (begun_sound d (contents_of image) trx writer index free.0 free.1 is.sound) refl
+
+-- the records of a change
+abbrev pub change_of : Donor → Image → ℕ → Change → ℕ → List Record
+change_of d image trx change place =
+    let count = length (changes_of d trx) in
+    let entry = told d change.table change.key place (value_of d change.table change.key) in
+    records_of_change (is_unused image 0 (record_page trx count)) (is_unused image entry.table entry.page) trx count entry (rows.image change.key change.value)
+
+-- the key of the row is bound to the place
+abbrev pub with_key : ℕ → ℕ → ℕ → ℕ → Keys → Keys
+with_key table page place key keys = set_at table (set_at page (set_at place (Some key) (keys table page)) (keys table)) keys
+
+pub record PutKeeps (d : Donor) (image new : Image) (table page place key : ℕ) : Type 0 where
+  pub kept : IsKept d new
+  pub keys : keys_in new ≡ with_key table page place key (keys_in image)
+
+pub put_keeps : (lsn trx place : ℕ) (d after : Donor) (image : Image) (change : Change) → IsKept d image → Puts d after (contents_of image) trx change place
+    → PutKeeps after image (after_records lsn image (change_of d image trx change place)) change.table (page_number d change.table change.key) place change.key
+put_keeps lsn trx place d after image change is p =
+    let c : Contents = contents_of image in
+    let entry = e d after c trx change place is.sound p in
+    let has = change_is image lsn trx (slot d after c trx change place is.sound p) entry change.value is.formed (may_change d after c trx change place is.sound p) in
+    subst (λ (n : ℕ). PutKeeps after image (after_records lsn image (records_of_change (is_unused image 0 (record_page trx n)) (is_unused image entry.table entry.page) trx n entry (rows.image change.key change.value))) change.table (page_number d change.table change.key) place change.key)
+    (same_count d after c trx change place is.sound p)
+    (record {
+      kept = kept has (put_sound d after c trx change place is.sound p);
+      keys = ap keys_of has.1 ∙ set_keys c change.table (page_number d change.table change.key) place change.key change.value;
+    })
+
+pub take_back_keeps : (lsn trx left : ℕ) (d after : Donor) (image : Image) (slot : UndoSlot) (front : List UndoEntry) (e : UndoEntry) → IsKept d image → TakesBack d trx left after → (contents_of image).undo trx ≡ Some slot → slot.records ≡ front ++ e ∷ []
+    → Keeps after image (after_records lsn image (records_of_taking_back trx (left + 1) e))
+take_back_keeps lsn trx left d after image slot front e is t used last =
+    let c : Contents = contents_of image in
+    let may = may_take d after c trx left slot front e is.sound t used last in
+    subst (λ (n : ℕ). Keeps after image (after_records lsn image (records_of_taking_back trx n e))) (count_is d after c trx left slot front e is.sound t used last)
+    (keeps (taking_back_is image lsn trx slot front e is.formed may) (taken_sound d after c trx left slot front e is.sound t used last) (same_keys c e.table e.page e.slot e.key (told_value e) may.bound))
+
+-- the undo slot of an open transaction
+pub record InUse (d : Donor) (image : Image) (trx : ℕ) (commit : Commit) : Type 0 where
+  pub small : trx < transaction_limit
+  pub own : IsUndoSlot d (contents_of image).slot commit ((contents_of image).undo trx)
+
+pub in_use : (d : Donor) (image : Image) (trx : ℕ) (commit : Commit) → IsKept d image → finite.get d.active trx ≡ Some commit → InUse d image trx commit
+in_use d image trx commit is active =
+    let small : trx < transaction_limit = is.sound.locked.few.numbers trx (ap is_some active) in
+    record { small = small; own = own_slot d (contents_of image).slot (finite.get d.active trx) ((contents_of image).undo trx) commit active (is.sound.undo trx small) }
+
+-- the slot itself
+abbrev slot_used : {d : Donor} {image : Image} {trx : ℕ} {commit : Commit} → InUse d image trx commit → UndoSlot
+slot_used {commit = commit} u = record { writer = commit.writer; index = commit.index; records = u.own.records }
+
+pub leave_keeps : (lsn trx : ℕ) (d after : Donor) (image : Image) → IsKept d image → Leaves d trx after → Keeps after image (after_records lsn image (records_of_end trx))
+leave_keeps lsn trx d after image is l =
+    let u = in_use d image trx l.commit is l.was_active in
+    keeps (end_is image lsn trx (slot_used u) is.formed u.small u.own.is) (left_sound d after (contents_of image) trx l is.sound) refl
+
+pub commit_keeps : (lsn trx position : ℕ) (d after : Donor) (image : Image) → IsKept d image → Commits d trx position after → position < 2 ^ 64 → Keeps after image (after_records lsn image (commit_records trx position))
+commit_keeps lsn trx position d after image is k fits =
+    let u = in_use d image trx k.commit is k.was_active in
+    keeps (commit_is image lsn trx position (slot_used u) is.formed u.small u.own.is fits) (committed_sound d after (contents_of image) trx position k is.sound) refl
+
+-- the records of an undo slot that is in use are in their ranges
+pub records_in_range : (d : Donor) (image : Image) (trx : ℕ) (slot : UndoSlot) → IsKept d image → trx < transaction_limit → undo_slot_of image trx ≡ Some slot → AllByRecursion IsEntry slot.records
+records_in_range d image trx slot is small used = at (finite.get d.active trx) (is.sound.undo trx small)
+  where
+    found : (contents_of image).undo trx ≡ Some slot
+    found = undo_is image trx small ∙ used
+
+    at : (o : Option Commit) → StandsFor d (contents_of image).slot o ((contents_of image).undo trx) → AllByRecursion IsEntry slot.records
+    at None free = absurd (let none = sym free ∙ found in cc)
+    at (Some commit) own =
+        let same : ◌≡◌ {A = UndoSlot} (record { writer = commit.writer; index = commit.index; records = own.records }) slot = same_Some _ slot (sym own.is ∙ found) in
+        subst (λ (u : UndoSlot). AllByRecursion IsEntry u.records) same (in_range (contents_of image).slot (committed_rows d) commit.changes own.records own.tells)
