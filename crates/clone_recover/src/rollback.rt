@@ -8,22 +8,11 @@ ghost use Rattle.clone_recover.specs.Recovers.{HasChanges, IsCountInRange, Count
 
 use crate::Damage;
 use clone_image::Image;
-use clone_undo::{SlotHeader, UndoRecord, header, header_page, record_at, record_page};
-
-/// How many undo slots there are, and the most records that one has.
-const SLOT_COUNT: u32 = 64;
-
-const CAPACITY: u16 = 160;
-
-/// Where on its page the header of an undo slot stands, and how many bytes it has.
-const HEADER_AT: u16 = 40;
-
-const HEADER_BYTES: usize = 16;
-
-/// Where on a page of rows the slots begin, and the bytes of each.
-const ROWS_AT: u16 = 48;
-
-const ROW_BYTES: u16 = 80;
+use clone_row::slot_offset;
+use clone_undo::{
+    HEADER_AT, HEADER_BYTES, SlotHeader, UNDO_CAPACITY, UNDO_SLOT_COUNT, UndoRecord, header,
+    header_page, record_at, record_page,
+};
 
 /// Takes back the changes of each transaction that is open, and frees its undo slot. All counts are
 /// tested before any record is read.
@@ -42,7 +31,7 @@ fn check_counts(image: &Image) -> Result<(), Damage>
     ensures counts { OnOk result (CountsInRange places.slot_count image.now) }
     ensures damage { IfErr result (IsFirstDamaged image.now) }
 {
-    for slot in 0..SLOT_COUNT {
+    for slot in 0..UNDO_SLOT_COUNT {
         check_count(image, slot)?;
     }
     Ok(())
@@ -57,7 +46,7 @@ fn check_count(image: &Image, slot: u32) -> Result<(), Damage>
     let Some(header) = header_of(image, slot) else {
         return Ok(());
     };
-    if header.count > CAPACITY {
+    if header.count > UNDO_CAPACITY {
         return Err(Damage::Undo { slot });
     }
     Ok(())
@@ -70,7 +59,7 @@ fn take_back_all(image: &mut Image) -> Result<(), Damage>
     ensures ranges { OnOk result (InRange places.slot_count image.old) }
     ensures damage { IfErr result (IsFirstDamaged image.old) }
 {
-    for slot in 0..SLOT_COUNT {
+    for slot in 0..UNDO_SLOT_COUNT {
         take_back(image, slot)?;
     }
     Ok(())
@@ -126,7 +115,7 @@ fn undo_change(image: &mut Image, slot: u32, number: usize) -> Result<(), Damage
     let Some(change) = change_at(image, slot, number) else {
         return Err(Damage::Undo { slot });
     };
-    let row_at = ROWS_AT + ROW_BYTES * change.slot();
+    let row_at = slot_offset(change.slot());
     image.lay(change.table(), change.page(), row_at, &change.slot_before());
     Ok(())
 }

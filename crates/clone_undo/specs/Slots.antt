@@ -4,7 +4,8 @@ use Rattle.std.specs.declared.option.Option.{Option}
 use Rattle.byteorder.specs.Endian.{big_bytes}
 use Rattle.clone_page.specs.Bytes.{part, field}
 use Rattle.clone_undo.specs.Entries.{UndoEntry, entry_of}
-use Rattle.clone_undo.specs.Places.{header_page, record_page, record_place}
+use Rattle.clone_undo.specs.Places.{header_page, header_place, count_place, record_page, record_place}
+use Rattle.clone_undo.specs.declared.places.TheConstants.{WRITER_AT, INDEX_AT, RECORD_BYTES}
 
 pub record UndoSlot : Type 0 where
   pub writer : ℕ
@@ -13,16 +14,16 @@ pub record UndoSlot : Type 0 where
 
 -- the fields of the header
 abbrev pub active_of : List ℕ → ℕ
-active_of page = field 40 1 page
+active_of page = field header_place 1 page
 
 abbrev pub count_of : List ℕ → ℕ
-count_of page = field 42 2 page
+count_of page = field count_place 2 page
 
 abbrev pub writer_of : List ℕ → ℕ
-writer_of page = field 44 4 page
+writer_of page = field WRITER_AT 4 page
 
 abbrev pub index_of : List ℕ → ℕ
-index_of page = field 48 8 page
+index_of page = field INDEX_AT 8 page
 
 -- the 16 bytes of an active slot's header
 abbrev pub header_bytes : ℕ → ℕ → ℕ → List ℕ
@@ -30,7 +31,7 @@ header_bytes count writer index = 1 ∷ 0 ∷ (big_bytes 2 count ++ (big_bytes 4
 
 -- what the record of this number tells, on its page
 abbrev pub entry_on : ℕ → List ℕ → UndoEntry
-entry_on i page = entry_of (part (record_place i) 96 page)
+entry_on i page = entry_of (part (record_place i) RECORD_BYTES page)
 
 -- what the first records of an undo slot tell
 abbrev pub entries : ℕ → (ℕ → List ℕ) → ℕ → List UndoEntry

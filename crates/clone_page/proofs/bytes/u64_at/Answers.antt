@@ -1,6 +1,6 @@
 use Rattle.std.proofs.Common.{arith, ◌∙◌, ◌-◌, ◌+◌, ◌≤◌}
 use Rattle.clone_page.proofs.Reading.{field_of_slice}
-use Rattle.clone_undo.proofs.bytes.u64_at.Goals as goal
+use Rattle.clone_page.proofs.bytes.u64_at.Goals as goal
 
 pub returns : goal.returns
 returns c =
