@@ -77,6 +77,7 @@ pub record MayTakeBack (c : Contents) (s : ℕ) (slot : UndoSlot) (front : List 
   pub small : s < slot_count
   pub used : c.undo s ≡ Some slot
   pub last : slot.records ≡ front ++ e ∷ []
+  pub few : length slot.records ≤ capacity
   pub in_range : IsEntry e
   pub there : HasPage c e.table e.page
   pub bound : bound_key (c.slot e.table e.page e.slot) ≡ Some e.key

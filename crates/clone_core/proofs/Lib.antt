@@ -1,6 +1,5 @@
-pub mod Answering
-pub mod Setting
-pub mod Copies
-pub mod Counts
-pub mod Recovered
-pub mod Rows
+pub mod CountLemmas
+pub mod RecoveredLemmas
+pub mod CallLemmas
+pub mod LineLemmas
+pub mod RunLemmas

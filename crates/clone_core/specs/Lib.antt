@@ -1,3 +1,3 @@
+pub mod Lines
+pub mod Called
 pub mod Copied
-pub mod Counted
-pub mod Refused

@@ -2,7 +2,6 @@ ghost use Rattle.std.specs.Prelude.{◌≡◌, ◌+◌, ◌<◌, ◌-◌, ◌^�
 ghost use Rattle.std.specs.FinMap as finite;
 ghost use Rattle.std.specs.Ordering.{nat_cmp};
 
-use clone_outside::NoMemory;
 use std::alloc::{AllocError, Global};
 use std::collections::BTreeMap;
 use std::marker::Model;
@@ -44,7 +43,7 @@ impl Begun {
     }
 
     /// A writer begins a transaction. After a refusal nothing has changed.
-    pub fn begin(&mut self, writer: u32) -> Result<(), NoMemory>
+    pub fn begin(&mut self, writer: u32) -> Result<(), AllocError>
         requires { unwrap_or (finite.get self.old writer) 0 < 2 ^ 64 - 1 }
         ensures ok { OnOk result (self.new ≡ finite.insert self.old writer (unwrap_or (finite.get self.old writer) 0 + 1)) }
         ensures err { OnErr result (self.new ≡ self.old) }

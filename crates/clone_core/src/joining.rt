@@ -2,17 +2,17 @@ ghost use Rattle.std.specs.Prelude.{IfOk};
 ghost use Rattle.clone_model.specs.History.{fold};
 ghost use Rattle.clone_image.specs.Image.{page_of};
 ghost use Rattle.clone_image.specs.Rows.{HasRows};
+ghost use Rattle.clone_plain.specs.Donor.{history};
 
 use clone_image::{Image, replay_laws};
-use clone_outside::NoMemory;
 use clone_recover::{RecoverRefusal, recover};
 use clone_trx::Engine;
 use std::alloc::{AllocError, Global};
 
 /// The image that a donor's redo log leaves, with the changes of each transaction that is open taken
 /// back. Its rows are those that the donor's commits leave. It is made of the log's bytes alone.
-pub fn recovered_image(alloc: Global, engine: &Engine) -> Result<Image, NoMemory>
-    ensures { IfOk result (λ image. HasRows (page_of image) (fold engine.now.donor.history)) }
+pub fn recovered_image(alloc: Global, engine: &Engine) -> Result<Image, AllocError>
+    ensures { IfOk result (λ image. HasRows (page_of image) (fold (history engine.now.donor))) }
 {
     engine.laws();
     replay_laws();

@@ -2,10 +2,15 @@
 #![tactic(auto)]
 
 mod begun;
+mod calls;
 mod joining;
+mod laws;
+mod lines;
 #[cfg(test)]
 mod tests;
+mod texts;
 mod world;
 
 pub use joining::recovered_image;
+pub use laws::run_laws;
 pub use world::World;

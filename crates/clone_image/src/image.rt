@@ -84,7 +84,12 @@ impl Image {
     /// Does to the image what the records of a mini-transaction say, in their order. `lsn` is its end.
     /// Where none makes a page it takes no memory. After a refusal some records may have been applied,
     /// but none where only the first makes a page.
-    pub fn apply_all(&mut self, alloc: Global, records: &[Record], lsn: u64) -> Result<(), AllocError>
+    pub fn apply_all(
+        &mut self,
+        alloc: Global,
+        records: &[Record],
+        lsn: u64,
+    ) -> Result<(), AllocError>
         ensures ok { OnOk result (self.new ≡ after_records lsn self.old records.now) }
         ensures err { AllByRecursion MakesNoPage (drop 1 records.now) → OnErr result (self.new ≡ self.old) }
         ensures without_memory { AllByRecursion MakesNoPage records.now → IsOk result }

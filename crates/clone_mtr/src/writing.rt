@@ -7,8 +7,8 @@ use crate::{EncodeRefusal, Mtr, Patch, Record};
 use clone_bytes::Writer;
 use std::alloc::{AllocError, Global};
 
-// The most bytes that a mini-transaction may have.
-pub(crate) const LONGEST: usize = 1024;
+/// The most bytes that the spelling of a mini-transaction may have.
+pub const LONGEST_MTR: usize = 1024;
 
 /// The one spelling of a mini-transaction. It is refused exactly where it would be longer than 1,024
 /// bytes.
@@ -18,7 +18,7 @@ pub fn encode(alloc: Global, mtr: &Mtr) -> Result<Vec<u8>, EncodeRefusal>
 {
     match spell(alloc, mtr.records()) {
         Ok(text) => {
-            if text.len() > LONGEST {
+            if text.len() > LONGEST_MTR {
                 Err(EncodeRefusal::TooLong { length: text.len() })
             } else {
                 Ok(text)

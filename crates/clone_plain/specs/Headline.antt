@@ -1,7 +1,7 @@
 -- What a whole run says of its binlog and of its clone.
 use Rattle.std.specs.Prelude.{ℕ, ◌≡◌, ◌≤◌, ◌-◌, ◌⊎◌, List, [], ◌∷◌, length, take, None, Some, MatchOption, IfSome, slice_get}
 use Rattle.std.specs.declared.option.Option.{Option}
-use Rattle.std.specs.List.{filter_map, range_with_len}
+use Rattle.std.specs.List.{filter_map, flat_map, range_with_len}
 use Rattle.clone_model.specs.History.{Drops, fold, history_of}
 use Rattle.clone_model.specs.declared.change.Commit.{Commit}
 use Rattle.clone_model.specs.declared.line.Line.{Line}
@@ -10,6 +10,10 @@ use Rattle.clone_plain.specs.Effects.{put_of}
 use Rattle.clone_plain.specs.Calls.{Done, did_commit, Made, done, refused}
 use Rattle.clone_plain.specs.World.{Stop}
 use Rattle.clone_plain.specs.Events.{Event, made, completed, showed, incomplete}
+
+-- the events of lines, one after the other
+abbrev pub all_events : List (List Event) → List Event
+all_events events = flat_map (λ es. es) events
 
 -- the position that an event was answered by which a transaction committed
 abbrev pub committed_at : Event → Option ℕ

@@ -1,5 +1,5 @@
 -- What a script acts on: a donor, the indexes of its writers, and the stop of its clone.
-use Rattle.std.specs.Prelude.{ℕ, ◌+◌, List, length, take, None, Some, unwrap_or, refl}
+use Rattle.std.specs.Prelude.{ℕ, ◌≤◌, List, length, take, None, Some, unwrap_or, refl}
 use Rattle.std.specs.declared.option.Option.{Option}
 use Rattle.std.specs.FinMap as finite
 use Rattle.std.specs.Ordering.{nat_cmp}
@@ -42,3 +42,8 @@ stop_now d = record { position = length d.binlog; drops = length d.drops }
 -- the part of the history before a stop
 abbrev pub before_stop : Stop → Donor → List Entry
 before_stop stop d = history_of (take stop.position d.binlog) (take stop.drops d.drops)
+
+-- so many commits at most, and so many transactions of each writer
+pub record IsWithin {D : Type 0} (plain : D → Donor) (n : ℕ) (s : World D) : Type 0 where
+  pub commits : length (plain s.donor).binlog ≤ n
+  pub transactions : (writer : ℕ) → index_in s.begun writer ≤ n

@@ -2,8 +2,10 @@
 //! run says, with nothing of pages, logs or copies in it. Definitions and laws, and the refusals that calls answer.
 #![tactic(auto)]
 
+mod laws;
 mod refusal;
 #[cfg(test)]
 mod tests;
 
+pub use laws::{run_laws, runs_join};
 pub use refusal::{Cause, EngineRefusal, Undone};

@@ -1,5 +1,5 @@
 -- What a run is, by how it ended.
-use Rattle.std.proofs.Common.{◌≡◌, ◌≤◌, ℕ, List, [], length, refl, sym, subst, ◌⊎◌, inl, inr}
+use Rattle.std.proofs.Common.{◌≡◌, ◌≤◌, ℕ, List, [], length, refl, sym, ap, subst, None, ◌⊎◌, inl, inr}
 use Rattle.clone_outside.specs.Causes.{Rose}
 use Rattle.clone_outside.specs.Bytes.{IsSpent}
 use Rattle.clone_outside.specs.declared.Refusal.{Refusal}
@@ -8,14 +8,14 @@ use Rattle.clone_model.specs.Texts.{ended, binlog_text}
 use Rattle.clone_model.specs.declared.line.Line.{Line}
 use Rattle.clone_plain.specs.Answers.{Text}
 use Rattle.clone_plain.specs.Runs.{output}
-use Rattle.clone_plain.proofs.Headline.{commits_of_run, stop_of_run}
+use Rattle.clone_core.proofs.RunLemmas.{run_commits, run_sets, run_stop}
 use Rattle.clone_prog.specs.declared.status.Status.{Status}
 use Rattle.clone_prog.specs.declared.status.Status.TheVariants.{Done}
 use Rattle.clone_prog.specs.Status.{status_of}
 use Rattle.clone_script.specs.Script.{IsScript, longest_script}
-use Rattle.clone_prog.specs.Carrying.{Finished, Stopped, in_lines, in_binlog}
+use Rattle.clone_prog.specs.Carrying.{Finished, Stopped, before_lines, in_lines, in_binlog}
 use Rattle.clone_prog.specs.Saying.{Says}
-use Rattle.clone_prog.specs.Main.{Ends, IsCommand, Gave, GaveAll, Defined, Front, Outcome, Said, some_lines, all_lines}
+use Rattle.clone_prog.specs.Main.{Ends, IsCommand, Gave, GaveAll, Carried, Defined, Front, Outcome, Said, some_lines, all_lines}
 
 -- a run that ends with one line
 pub said : (words : List (List ℕ)) (old new : Ends) (asked got : Status) (text : Text) → Says asked got old.out.told new.out.told old.out.faults new.out.faults (ended text)
@@ -30,18 +30,19 @@ said words old new asked got text (inr (inr is)) same defined so =
 -- the lines of a script were carried out to the end
 pub done : (words : List (List ℕ)) (old new : Ends) (script : List ℕ) (lines : List Line) → IsCommand words → GaveAll old new script → IsScript script lines
     → Finished lines old.out.told new.out.told old.binlog.told new.binlog.told → Outcome Done words old new
-done words old new script lines command gave read is = (
+done words old new script lines command gave read is = let run = is.answered.run in (
   command,
   record {
     script = script;
     lines = lines;
-    answers = is.answered.answers;
+    events = is.answered.events;
     final = is.final;
     gave = gave;
     read = read;
     run = is.answered.run;
-    commits = commits_of_run is.final lines is.answered.answers is.answered.run;
-    clone = stop_of_run is.final lines is.answered.answers is.answered.run;
+    commits = run_commits run.first lines is.answered.events is.final run.new run.run;
+    sets = run_sets run.first lines is.answered.events is.final run.new run.run;
+    clone = run_stop run.first lines is.answered.events is.final run.new run.run;
     out = is.answered.out;
     binlog = is.binlog;
   },
@@ -50,10 +51,11 @@ done words old new script lines command gave read is = (
 -- what was written where a run of the lines stopped
 front : (words : List (List ℕ)) (old new : Ends) (script : List ℕ) (lines : List Line) → IsCommand words → GaveAll old new script → IsScript script lines
     → Stopped lines old.out.told new.out.told old.binlog.told new.binlog.told → Front words old new
+front words old new script lines command gave read (before_lines out binlog) = inl (out, binlog)
 front words old new script lines command gave read (in_lines is same) =
-    inr (output is.answers, [], some_lines command script lines is.answers is.final gave read is.carried refl refl, inl (is.out, same))
+    inr (output is.events, [], some_lines command script lines is.events is.final gave read is.carried refl refl, inl (is.out, same))
 front words old new script lines command gave read (in_binlog final is some) =
-    inr (output is.answers, binlog_text final.donor.history, all_lines command script lines is.answers final gave read is.run refl refl, inr (is.out, some))
+    inr (output is.events, binlog_text final.donor.donor.binlog, all_lines command script lines is.events final gave read is.run refl refl, inr (is.out, some))
 
 -- a run of the lines stopped
 pub given_up : (words : List (List ℕ)) (old new : Ends) (script : List ℕ) (lines : List Line) (refusal : Refusal) (got : Status) → IsCommand words → GaveAll old new script → IsScript script lines

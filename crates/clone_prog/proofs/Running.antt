@@ -9,10 +9,13 @@ use Rattle.clone_outside.specs.declared.Refusal.{Refusal}
 use Rattle.clone_outside.specs.declared.Refusal.TheVariants.{Fault, NoMemory}
 use Rattle.clone_model.specs.Texts.{ended, binlog_text}
 use Rattle.clone_model.specs.declared.line.Line.{Line}
-use Rattle.clone_plain.specs.Plain.{Plain, opened, IsWithin}
-use Rattle.clone_plain.specs.Runs.{Runs, output}
-use Rattle.clone_plain.proofs.Runs.{Runs-push, output-push}
-use Rattle.clone_plain.proofs.Reached.{Runs-IsWithin}
+use Rattle.clone_plain.specs.Events.{Event, said}
+use Rattle.clone_plain.specs.World.{IsWithin}
+use Rattle.clone_plain.specs.Runs.{output}
+use Rattle.clone_plain.proofs.RunLemmas.{output-push}
+use Rattle.clone_core.specs.Lines.{State, donor_of, IsNew, Runs}
+use Rattle.clone_core.proofs.RunLemmas.{Runs-push, run_within}
+use Rattle.clone_prog.specs.Main.{Carried}
 use Rattle.clone_prog.specs.Carrying.{Answered, AnsweredAll, AnsweredSome, Finished, StoppedAtLine, in_it, behind_it}
 
 pub nothing_taken : (old new : Option (List ℕ)) (text : List ℕ) → new ≡ old → TakesSome old new text
@@ -34,56 +37,56 @@ some_behind old mid new xs ys front some = (
 )
 
 -- the lines before i were carried out, and their answers were written
-abbrev pub Sofar : List Line → ℕ → Plain → Option (List ℕ) → Option (List ℕ) → Type 0
+abbrev pub Sofar : List Line → ℕ → State → Option (List ℕ) → Option (List ℕ) → Type 0
 Sofar lines i world old now = AnsweredAll (take i lines) world old now
 
-pub begun : (lines : List Line) (world : Plain) (old : Option (List ℕ)) → world ≡ opened → Sofar lines 0 world old old
-begun lines world None is = record { answers = []; run = sym is; out = refl }
-begun lines world (Some xs) is = record { answers = []; run = sym is; out = ap Some (sym (append-nil xs)) }
+pub begun : (lines : List Line) (world : State) (old : Option (List ℕ)) → IsNew world → Sofar lines 0 world old old
+begun lines world None new = record { events = []; run = record { first = world; new = new; run = refl }; out = refl }
+begun lines world (Some xs) new = record { events = []; run = record { first = world; new = new; run = refl }; out = ap Some (sym (append-nil xs)) }
 
 -- the lines before i and the line at i are those before i + 1
 front : (lines : List Line) (i : ℕ) (l : Line) → l ≡ get_or lines i l → i < length lines → take i lines ++ l ∷ [] ≡ take (i + 1) lines
 front lines i l at lt = ap (λ x. take i lines ++ x ∷ []) at ∙ sym (take_more lines i l lt)
 
-pub one_more : (lines : List Line) (i : ℕ) (l : Line) (w u : Plain) (old now new : Option (List ℕ)) → l ≡ get_or lines i l → i < length lines → Sofar lines i w old now → Answered l w u now new → Sofar lines (i + 1) u old new
+-- one line more was carried out
+carried_on : (lines : List Line) (i : ℕ) (l : Line) (w u : State) (old now new : Option (List ℕ)) → l ≡ get_or lines i l → i < length lines → (far : Sofar lines i w old now) → (next : Answered l w u now new) → Carried (take (i + 1) lines) (far.events ++ next.step.events ∷ []) u
+carried_on lines i l w u old now new at lt far next =
+    let P : List Line → Type 0 = λ ls. Runs far.run.first ls (far.events ++ next.step.events ∷ []) u in
+    record { first = far.run.first; new = far.run.new; run = subst P (front lines i l at lt) (Runs-push far.run.first (take i lines) far.events w l next.answer u far.run.run next.step) }
+
+written_on : (events : List (List Event)) (es : List Event) (answer : List ℕ) (old now new : Option (List ℕ)) → answer ≡ said es → now ≡ appended old (output events) → new ≡ appended now (ended answer) → new ≡ appended old (output (events ++ es ∷ []))
+written_on events es answer old now new is before behind = behind ∙ ap (λ o. appended o (ended answer)) before ∙ appended_twice old (output events) (ended answer) ∙ ap (λ a. appended old (output events ++ ended a)) is ∙ ap (appended old) (output-push events es)
+
+pub one_more : (lines : List Line) (i : ℕ) (l : Line) (w u : State) (old now new : Option (List ℕ)) → l ≡ get_or lines i l → i < length lines → Sofar lines i w old now → Answered l w u now new → Sofar lines (i + 1) u old new
 one_more lines i l w u old now new at lt far next =
-    let P : List Line → Type 0 = λ ls. Runs opened ls (far.answers ++ next.answer ∷ []) u in
-    record {
-      answers = far.answers ++ next.answer ∷ [];
-      run = subst P (front lines i l at lt) (Runs-push opened (take i lines) far.answers w l next.answer u far.run next.step);
-      out = next.out ∙ ap (λ o. appended o (ended next.answer)) far.out ∙ appended_twice old (output far.answers) (ended next.answer) ∙ ap (appended old) (output-push far.answers next.answer);
-    }
+    record { events = far.events ++ next.step.events ∷ []; run = carried_on lines i l w u old now new at lt far next; out = written_on far.events next.step.events next.answer old now new next.step.is far.out next.out }
 
 -- it stopped at line i
-pub stopped : (lines : List Line) (i : ℕ) (l : Line) (w u : Plain) (old now new : Option (List ℕ)) → l ≡ get_or lines i l → i < length lines → Sofar lines i w old now → StoppedAtLine l w u now new → AnsweredSome lines old new
+pub stopped : (lines : List Line) (i : ℕ) (l : Line) (w u : State) (old now new : Option (List ℕ)) → l ≡ get_or lines i l → i < length lines → Sofar lines i w old now → StoppedAtLine l w u now new → AnsweredSome lines old new
 stopped lines i l w u old now new at lt far (in_it off out) =
     record {
-      answers = far.answers;
+      events = far.events;
       final = w;
       carried = record { carried = take i lines; rest = drop i lines; split = sym (take-append-drop i lines); run = far.run };
-      out = all_taken old new (output far.answers) (out ∙ far.out);
+      out = all_taken old new (output far.events) (out ∙ far.out);
     }
 stopped lines i l w u old now new at lt far (behind_it answer step out) =
     let P : List ℕ → Type 0 = TakesSome old new in
+    let next : Answered l w u now (appended now (ended answer)) = record { answer = answer; step = step; out = refl } in
     record {
-      answers = far.answers ++ answer ∷ [];
+      events = far.events ++ step.events ∷ [];
       final = u;
-      carried = record {
-        carried = take i lines ++ l ∷ [];
-        rest = drop (i + 1) lines;
-        split = sym (ap (λ xs. xs ++ drop (i + 1) lines) (front lines i l at lt) ∙ take-append-drop (i + 1) lines);
-        run = Runs-push opened (take i lines) far.answers w l answer u far.run step;
-      };
-      out = subst P (output-push far.answers answer) (some_behind old now new (output far.answers) (ended answer) far.out out);
+      carried = record { carried = take (i + 1) lines; rest = drop (i + 1) lines; split = sym (take-append-drop (i + 1) lines); run = carried_on lines i l w u old now _ at lt far next };
+      out = subst P (ap (λ a. output far.events ++ ended a) step.is ∙ output-push far.events step.events) (some_behind old now new (output far.events) (ended answer) far.out out);
     }
 
 -- it went on to the end
-pub at_end : (lines : List Line) (i : ℕ) (w : Plain) (old now : Option (List ℕ)) → length lines ≤ i → Sofar lines i w old now → AnsweredAll lines w old now
+pub at_end : (lines : List Line) (i : ℕ) (w : State) (old now : Option (List ℕ)) → length lines ≤ i → Sofar lines i w old now → AnsweredAll lines w old now
 at_end lines i w old now le far = let P : List Line → Type 0 = λ ls. AnsweredAll ls w old now in subst P (take_all i lines le) far
 
 -- so many commits and transactions at most as lines were carried out
-pub within : (lines : List Line) (i n : ℕ) (w : Plain) (old now : Option (List ℕ)) → Sofar lines i w old now → i ≤ n → IsWithin n w
-within lines i n w old now far le = Runs-IsWithin (take i lines) far.answers w n far.run (omega (arith, length-take i lines))
+pub within : (lines : List Line) (i n : ℕ) (w : State) (old now : Option (List ℕ)) → Sofar lines i w old now → i ≤ n → IsWithin donor_of n w
+within lines i n w old now far le = run_within far.run.first (take i lines) far.events w n far.run.new far.run.run (omega (arith, length-take i lines))
 
 err_same : {U : Type 0} (x y : Refusal) → ◌≡◌ {A = Result U Refusal} (Err x) (Err y) → x ≡ y
 err_same x y same = cc
@@ -102,12 +105,8 @@ pub on_err : {T E P : Type 0} (r : Result T E) → P → OnErr r P
 on_err (Ok x) p = tt
 on_err (Err e) p = p
 
--- none of the lines was carried out
-pub none_answered : (lines : List Line) (old : Option (List ℕ)) → AnsweredSome lines old old
-none_answered lines old = record { answers = []; final = opened; carried = record { carried = []; rest = lines; split = refl; run = refl }; out = nothing_taken old old [] refl }
-
 -- the lines were carried out, and where the binlog was written, all is done
-pub finished : {T E : Type 0} (r : Result T E) (lines : List Line) (final : Plain) (out_old out_new binlog_old binlog_new : Option (List ℕ)) (text : List ℕ) → AnsweredAll lines final out_old out_new → text ≡ binlog_text final.donor.history
+pub finished : {T E : Type 0} (r : Result T E) (lines : List Line) (final : State) (out_old out_new binlog_old binlog_new : Option (List ℕ)) (text : List ℕ) → AnsweredAll lines final out_old out_new → text ≡ binlog_text final.donor.donor.binlog
     → OnOk r (binlog_new ≡ appended binlog_old text) → OnOk r (Finished lines out_old out_new binlog_old binlog_new)
 finished (Ok x) lines final out_old out_new binlog_old binlog_new text answered is all = record { final = final; answered = answered; binlog = all ∙ ap (appended binlog_old) is }
 finished (Err e) lines final out_old out_new binlog_old binlog_new text answered is all = tt

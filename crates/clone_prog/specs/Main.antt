@@ -7,9 +7,10 @@ use Rattle.clone_outside.specs.Bytes.{appended, prepended, IsSpent, TakesSome}
 use Rattle.clone_model.specs.Texts.{ended, binlog_text}
 use Rattle.clone_model.specs.declared.line.Line.{Line}
 use Rattle.clone_plain.specs.Answers.{Text}
-use Rattle.clone_plain.specs.Plain.{Plain, opened}
-use Rattle.clone_plain.specs.Runs.{Runs, output}
-use Rattle.clone_plain.specs.Headline.{AreCommits, ShowsStop}
+use Rattle.clone_plain.specs.Events.{Event}
+use Rattle.clone_plain.specs.Runs.{output}
+use Rattle.clone_plain.specs.Headline.{AreCommits, AreSets, ShowsStop, all_events}
+use Rattle.clone_core.specs.Lines.{State, IsNew, Runs}
 use Rattle.clone_prog.specs.declared.status.Status.{Status}
 use Rattle.clone_prog.specs.declared.status.Status.TheVariants.{Done, Memory, Usage, BadLine, SourceFault, SinkFault, TooLong}
 use Rattle.clone_script.specs.Script.{longest_script, IsScript, IsFirstBad}
@@ -44,31 +45,38 @@ pub record GaveAll (before after : Ends) (script : List ℕ) : Type 0 where
   pub spent : IsSpent after.source.told
   pub short : length script ≤ longest_script
 
--- Some of the lines were carried out, from the first on, and they had these answers. This much of the plain donor's run was made.
-pub record Carried (lines : List Line) (answers : List Text) (final : Plain) : Type 0 where
+-- the lines were carried out from the beginning, with these events
+pub record Carried (lines : List Line) (events : List (List Event)) (final : State) : Type 0 where
+  pub first : State
+  pub new : IsNew first
+  pub run : Runs first lines events final
+
+-- Some of the lines were carried out, from the first on.
+pub record CarriedSome (lines : List Line) (events : List (List Event)) (final : State) : Type 0 where
   pub carried : List Line
   pub rest : List Line
   pub split : lines ≡ carried ++ rest
-  pub run : Runs opened carried answers final
+  pub run : Carried carried events final
 
 -- one line was written to the output, and nothing to the binlog
 pub record Said (before after : Ends) (text : Text) : Type 0 where
   pub out : after.out.told ≡ appended before.out.told (ended text)
   pub binlog : after.binlog.told ≡ before.binlog.told
 
--- The script was carried out to its end. The output is the answers of its lines, which are a run of the plain donor, and the binlog is the text of the commits of that run. These commits are those of the `commit` and `set` lines that were answered `committed`, in order, each whole. Where `clone` answered position n, each `rows` behind it showed exactly the rows that the first n of these commits leave, in ascending order, and nothing of a transaction that was open then.
+-- The script was carried out to its end. The output is the answers of its lines, whose events are a run of an engine, and so of the plain donor. The binlog is the text of the commits of that run: one for each position that was answered, in order, that of a `set` with its one change. Where a clone was complete at position n, the rows shown behind it are, in ascending order, exactly those that the first n commits leave, with the tables dropped before it, and nothing of a transaction that was open then.
 pub record Steps (before after : Ends) : Type 0 where
   pub script : List ℕ
   pub lines : List Line
-  pub answers : List Text
-  pub final : Plain
+  pub events : List (List Event)
+  pub final : State
   pub gave : GaveAll before after script
   pub read : IsScript script lines
-  pub run : Runs opened lines answers final
-  pub commits : AreCommits 0 lines answers final.donor.history
-  pub clone : ShowsStop final.donor.history None lines answers
-  pub out : after.out.told ≡ appended before.out.told (output answers)
-  pub binlog : after.binlog.told ≡ appended before.binlog.told (binlog_text final.donor.history)
+  pub run : Carried lines events final
+  pub commits : AreCommits (all_events events) final.donor.donor.binlog
+  pub sets : AreSets lines events final.donor.donor.binlog
+  pub clone : ShowsStop final.donor.donor.binlog final.donor.donor.drops None (all_events events)
+  pub out : after.out.told ≡ appended before.out.told (output events)
+  pub binlog : after.binlog.told ≡ appended before.binlog.told (binlog_text final.donor.donor.binlog)
 
 -- What the program had to write to its output and to its binlog, as far as that is determined by what it was given.
 pub data Defined (words : List (List ℕ)) (before after : Ends) (out binlog : List ℕ) : Type 0 where
@@ -77,11 +85,11 @@ pub data Defined (words : List (List ℕ)) (before after : Ends) (out binlog : L
   too_long : IsCommand words → (script : List ℕ) → Gave before after script → longest_script < length script → out ≡ ended (codes "script too long") → binlog ≡ [] → Defined words before after out binlog
   bad_line : IsCommand words → (script : List ℕ) (number : ℕ) → GaveAll before after script → IsFirstBad script number → out ≡ ended (codes "bad line " ++ decimal number) → binlog ≡ [] → Defined words before after out binlog
   -- some of the lines, and no binlog yet
-  some_lines : IsCommand words → (script : List ℕ) (all : List Line) (answers : List Text) (final : Plain) → GaveAll before after script → IsScript script all → Carried all answers final
-      → out ≡ output answers → binlog ≡ [] → Defined words before after out binlog
+  some_lines : IsCommand words → (script : List ℕ) (all : List Line) (events : List (List Event)) (final : State) → GaveAll before after script → IsScript script all → CarriedSome all events final
+      → out ≡ output events → binlog ≡ [] → Defined words before after out binlog
   -- all of the lines, and then the binlog
-  all_lines : IsCommand words → (script : List ℕ) (all : List Line) (answers : List Text) (final : Plain) → GaveAll before after script → IsScript script all → Runs opened all answers final
-      → out ≡ output answers → binlog ≡ binlog_text final.donor.history → Defined words before after out binlog
+  all_lines : IsCommand words → (script : List ℕ) (all : List Line) (events : List (List Event)) (final : State) → GaveAll before after script → IsScript script all → Carried all events final
+      → out ≡ output events → binlog ≡ binlog_text final.donor.donor.binlog → Defined words before after out binlog
 
 -- a front of the output and nothing of the binlog, or the whole output and a front of the binlog
 abbrev pub TakesInOrder : Ends → Ends → List ℕ → List ℕ → Type 0

@@ -4,7 +4,8 @@ ghost use Rattle.std.specs.String.{string_bytes};
 ghost use Rattle.clone_outside.specs.Bytes.{appended, TakesSome};
 ghost use Rattle.clone_outside.specs.Causes.{HasCause, Rose};
 ghost use Rattle.clone_model.specs.Texts.{ended};
-ghost use Rattle.clone_plain.specs.Plain.{opened, IsWithin};
+ghost use Rattle.clone_plain.specs.World.{IsWithin};
+ghost use Rattle.clone_core.specs.Lines.{donor_of, IsNew};
 ghost use Rattle.clone_prog.specs.Carrying.{Answered, AnsweredAll, AnsweredSome, Finished, Stopped, StoppedAtLine};
 ghost use Rattle.clone_prog.specs.Main.{IsCommand, Outcome, ends};
 ghost use Rattle.clone_prog.specs.Saying.{Says};
@@ -90,7 +91,7 @@ fn carry_out<K: Sink>(
     out: &mut K,
     world: &mut World,
 ) -> Result<(), Refusal>
-    requires { world.old ≡ opened }
+    requires { IsNew world.old }
     ensures ok { OnOk result (AnsweredAll lines.now world.new (K.taken out.old) (K.taken out.new)) }
     ensures err { OnErr result (AnsweredSome lines.now (K.taken out.old) (K.taken out.new)) }
     ensures cause { HasCause (K.failures out.old) (K.failures out.new) result }
@@ -108,7 +109,7 @@ fn carry_one<K: Sink>(
     out: &mut K,
     world: &mut World,
 ) -> Result<(), Refusal>
-    requires { IsWithin (2 ^ 63 - 1) world.old }
+    requires { IsWithin donor_of (2 ^ 63 - 1) world.old }
     ensures ok { OnOk result (Answered line.now world.old world.new (K.taken out.old) (K.taken out.new)) }
     ensures err { OnErr result (StoppedAtLine line.now world.old world.new (K.taken out.old) (K.taken out.new)) }
     ensures cause { HasCause (K.failures out.old) (K.failures out.new) result }

@@ -1,7 +1,7 @@
 use Rattle.std.proofs.Common.{subst}
 use Rattle.clone_recover.specs.Recovers.{IsCause}
 use Rattle.clone_recover.specs.declared.refusal.RecoverRefusal.{RecoverRefusal}
-use Rattle.clone_core.proofs.Recovered.{rows_recovered, no_damage}
+use Rattle.clone_core.proofs.RecoveredLemmas.{rows_recovered, no_damage}
 use Rattle.clone_core.proofs.joining.recovered_image.Goals as goal
 
 pub unreachable-requires : goal.unreachable-requires

@@ -1,6 +1,9 @@
 use Rattle.std.proofs.Common.{arith, ◌≤◌, length}
-use Rattle.clone_prog.proofs.Running.{within, one_more, stopped, at_end, on_err}
+use Rattle.clone_prog.proofs.Running.{begun, within, one_more, stopped, at_end, on_err}
 use Rattle.clone_prog.proofs.run.carry_out.Goals as goal
+
+pub loop-line-init : goal.loop-line-init
+loop-line-init g c = (begun c.args.lines.now _ _ c.requires, omega arith)
 
 pub carry_one-requires : goal.carry_one-requires
 carry_one-requires g c = within _ _ _ _ _ _ c.loop-line.invariant.0 (omega arith)

@@ -1,12 +1,12 @@
 use Rattle.std.proofs.Common.{List, ℕ, refl, ap, ◌∙◌, subst, inl, inr}
 use Rattle.clone_outside.specs.Bytes.{TakesSome}
 use Rattle.clone_model.specs.Texts.{binlog_text}
-use Rattle.clone_prog.specs.Carrying.{in_lines, in_binlog}
-use Rattle.clone_prog.proofs.Running.{nothing_taken, none_answered, finished, fault_kept, no_fault, on_err}
+use Rattle.clone_prog.specs.Carrying.{before_lines, in_lines, in_binlog}
+use Rattle.clone_prog.proofs.Running.{nothing_taken, finished, fault_kept, no_fault, on_err}
 use Rattle.clone_prog.proofs.run.run_lines.Goals as goal
 
 pub returns-in_err-world-clause-err : goal.returns-in_err-world-clause-err
-returns-in_err-world-clause-err g c = on_err _ (in_lines (none_answered _ _) refl)
+returns-in_err-world-clause-err g c = on_err _ (before_lines refl refl)
 
 pub returns-in_err-carry_out-clause-err : goal.returns-in_err-carry_out-clause-err
 returns-in_err-carry_out-clause-err g c = on_err _ (in_lines c.in_err-carry_out.ensures.err refl)

@@ -5,7 +5,7 @@ use Rattle.std.specs.Cmp.{nat_cmp_total}
 use Rattle.std.specs.FinMap as finite
 use Rattle.std.specs.Ordering.{nat_cmp}
 use Rattle.std.proofs.lemmas.Map.Lookups.{exact_unsigned}
-use Rattle.clone_trx.proofs.Maps.{inserted}
+use Rattle.clone_base.proofs.OrderedMaps.{inserted}
 use Rattle.clone_core.proofs.begun.Begun.begin.Goals as goal
 
 pub returns-clause-ok : goal.returns-clause-ok

@@ -4,8 +4,8 @@ use Rattle.std.specs.declared.option.Option.{Option}
 use Rattle.std.specs.Cmp.{nat_cmp_total}
 use Rattle.std.specs.FinMap as finite
 use Rattle.std.specs.Ordering.{nat_cmp}
-use Rattle.clone_trx.proofs.Maps.{get_listed}
-use Rattle.clone_core.proofs.Counts.{restored}
+use Rattle.clone_base.proofs.OrderedMaps.{get_listed}
+use Rattle.clone_core.proofs.CountLemmas.{restored}
 use Rattle.clone_core.proofs.begun.Begun.restore.Goals as goal
 
 pub returns-in_default : goal.returns-in_default

@@ -1,10 +1,28 @@
-use Rattle.std.proofs.Common.{ap, ◌∙◌}
-use Rattle.clone_plain.specs.Causes.{least_free}
-use Rattle.clone_plain.specs.Plain.{Plain}
-use Rattle.clone_core.proofs.Answering.{begin_step}
+use Rattle.std.proofs.Common.{◌∙◌, ℕ, refl, sym, ap}
+use Rattle.std.specs.Prelude.{unwrap_or, is_some}
+use Rattle.std.specs.declared.option.Option.{Option}
+use Rattle.std.specs.Cmp.{nat_cmp_total}
+use Rattle.std.specs.FinMap as finite
+use Rattle.std.specs.Ordering.{nat_cmp}
+use Rattle.std.proofs.lemmas.Map.Lookups.{exact_unsigned}
+use Rattle.clone_base.proofs.MapEntries.{get-set_same}
+use Rattle.clone_plain.specs.Calls.{begin, did_begin}
+use Rattle.clone_core.proofs.CallLemmas.{engine_called, begun_called, call_kept}
 use Rattle.clone_core.proofs.world.World.begin.Goals as goal
 
-pub returns-in-Ok-clause-ok : goal.returns-in-Ok-clause-ok
-returns-in-Ok-clause-ok c =
-    let next = ap (λ (s : Plain). least_free s.donor) c.self.view_is ∙ c.in-Ok.ensures.begins.0 in
-    begin_step _ _ _ _ _ c.in-Ok.ensures (c.in_ok-answer.ensures _ next)
+-- the writer was counted
+pub restore-requires : goal.restore-requires
+restore-requires c =
+    let there = ap (λ (m : finite.FinMap nat_cmp ℕ). finite.get m c.args.writer) c.in_ok-begin.ensures.ok ∙ get-set_same nat_cmp_total exact_unsigned c.self.inside.begun c.args.writer _ in
+    ap is_some there
+
+pub invariant_of-self-then-is_err : goal.invariant_of-self-then-is_err
+invariant_of-self-then-is_err c = call_kept _ _ (begin c.args.writer c.unwrap_or.result) (λ trx. did_begin c.args.writer c.unwrap_or.result trx) c.begin-begun.result _ (engine_called _ _ (begin c.args.writer c.unwrap_or.result) (λ trx. did_begin c.args.writer c.unwrap_or.result trx) c.begin-begun.result _ (λ _. refl) (λ _ does. does) c.begin-begun.ensures.answer c.begin-begun.ensures.keys c.begin-begun.ensures.refused) c.self.invariant
+
+pub invariant_of-self-else-is_err : goal.invariant_of-self-else-is_err
+invariant_of-self-else-is_err c = call_kept _ _ (begin c.args.writer c.unwrap_or.result) (λ trx. did_begin c.args.writer c.unwrap_or.result trx) c.begin-begun.result _ (engine_called _ _ (begin c.args.writer c.unwrap_or.result) (λ trx. did_begin c.args.writer c.unwrap_or.result trx) c.begin-begun.result _ (λ _. refl) (λ _ does. does) c.begin-begun.ensures.answer c.begin-begun.ensures.keys c.begin-begun.ensures.refused) c.self.invariant
+
+pub returns-else-is_err : goal.returns-else-is_err
+returns-else-is_err c =
+    let index = c.unwrap_or.ensures ∙ ap (λ (o : Option ℕ). unwrap_or o 0) c.count-was.ensures in
+    begun_called _ _ _ _ _ c.unwrap_or.result c.begin-begun.result c.self.view_is index (sym c.is_err.ensures.value ∙ c.if-is_err.false) (engine_called _ _ (begin c.args.writer c.unwrap_or.result) (λ trx. did_begin c.args.writer c.unwrap_or.result trx) c.begin-begun.result _ (λ _. refl) (λ _ does. does) c.begin-begun.ensures.answer c.begin-begun.ensures.keys c.begin-begun.ensures.refused) c.in_ok-begin.ensures.ok

@@ -1,14 +1,10 @@
-use Rattle.clone_core.proofs.Answering.{if_ok, ok_is, put_step, put_refused}
-use Rattle.clone_core.proofs.Copies.{change_kept}
+use Rattle.std.proofs.Common.{refl}
+use Rattle.clone_plain.specs.Calls.{put, did_put}
+use Rattle.clone_core.proofs.CallLemmas.{engine_called, called_on, call_kept}
 use Rattle.clone_core.proofs.world.World.put.Goals as goal
-use Rattle.clone_core.proofs.world.World.put.Goals.{in-Ok, in-Err}
 
 pub invariant_of-self : goal.invariant_of-self
-invariant_of-self c = change_kept _ _ _ _ _ _ c.put.result c.put.ensures.answer c.self.invariant
+invariant_of-self c = call_kept _ _ (put c.args.trx c.get.result c.args.key c.args.value.now) (λ _. did_put c.args.trx c.get.result c.args.key c.args.value.now) c.put.result _ (engine_called _ _ (put c.args.trx c.get.result c.args.key c.args.value.now) (λ _. did_put c.args.trx c.get.result c.args.key c.args.value.now) c.put.result _ (λ _. refl) (λ _ does. does) c.put.ensures.answer c.put.ensures.keys c.put.ensures.refused) c.self.invariant
 
-pub returns-clause-ok : goal.returns-clause-ok
-returns-clause-ok c =
-    elim c.match-put.branch [
-      | in-Ok w ↦ ok_is _ _ _ w.result-is (put_step _ _ _ _ _ _ _ _ _ (tt {0}) c.self.view_is c.get.ensures.value w.in-Ok.ensures.answer c.in_ok-answer.ensures.ok)
-      | in-Err w ↦ if_ok w.refused.result _ _ _ w.result-is (λ text says. put_refused _ _ _ _ _ _ _ _ _ _ _ c.self.view_is c.get.ensures.value w.in-Err.ensures.answer says) w.refused.ensures
-    ]
+pub returns : goal.returns
+returns c = called_on _ _ _ (λ n. put c.args.trx n c.args.key c.args.value.now) (λ n. λ _. did_put c.args.trx n c.args.key c.args.value.now) c.put.result _ _ c.get.ensures.value c.self.view_is (λ _. refl) (engine_called _ _ (put c.args.trx c.get.result c.args.key c.args.value.now) (λ _. did_put c.args.trx c.get.result c.args.key c.args.value.now) c.put.result _ (λ _. refl) (λ _ does. does) c.put.ensures.answer c.put.ensures.keys c.put.ensures.refused)

@@ -1,0 +1,98 @@
+ghost use Rattle.std.specs.Prelude.{◌≡◌, ◌<◌, ◌+◌, ◌-◌, ◌^◌, ◌++◌, ℕ, Some, length, IfOk, OnErr, IsErr, MatchResult, option_copied, codes};
+ghost use Rattle.std.specs.Fmt.{decimal};
+ghost use Rattle.std.specs.String.{string_bytes};
+ghost use Rattle.clone_model.specs.History.{Rows, rows_in};
+ghost use Rattle.clone_image.specs.Image.{page_of};
+ghost use Rattle.clone_image.specs.Rows.{ShowsRows};
+ghost use Rattle.clone_plain.specs.declared.refusal.Undone.{Undone};
+ghost use Rattle.clone_plain.specs.Donor.{Donor};
+ghost use Rattle.clone_plain.specs.Causes.{least_free};
+ghost use Rattle.clone_plain.specs.Effects.{Undoes};
+ghost use Rattle.clone_plain.specs.Answers.{undone_answer, rows_answer, value_answer};
+ghost use Rattle.clone_core.specs.Called.{SaysCause};
+
+use clone_image::Image;
+use clone_model::{Value, push_value, rows_text};
+use clone_plain::EngineRefusal;
+use clone_recover::open_rows;
+use clone_trx::Engine;
+use std::alloc::{AllocError, Global};
+
+/// The answer of a `begin` that isn't refused.
+pub fn begun_text(alloc: Global, engine: &Engine) -> Result<String, AllocError>
+    ensures { IfOk result (λ text. (trx : ℕ) → least_free engine.now.donor ≡ Some trx → string_bytes text ≡ codes "trx " ++ decimal trx) }
+{
+    match engine.next_number() {
+        Some(trx) => format!(in alloc; "trx {trx}"),
+        None => Ok(String::new(alloc)),
+    }
+}
+
+/// The answer of an `undo` that isn't refused.
+pub fn undone_text(alloc: Global, engine: &Engine, trx: u32) -> Result<String, AllocError>
+    ensures { IfOk result (λ text. (undone : Undone) (after : Donor) → Undoes engine.now.donor trx undone after → string_bytes text ≡ undone_answer undone) }
+{
+    let count = engine.transaction(trx).map_or(0, |open| open.changes.len());
+    match count.checked_sub(1) {
+        Some(left) => format!(in alloc; "undone {left}"),
+        None => String::from_str(alloc, "ended"),
+    }
+}
+
+/// The answer of a line that commits.
+pub fn committed_text(alloc: Global, engine: &Engine) -> Result<String, AllocError>
+    requires { length engine.now.donor.binlog < 2 ^ 64 - 1 }
+    ensures { IfOk result (λ text. string_bytes text ≡ codes "committed " ++ decimal (length engine.now.donor.binlog + 1)) }
+{
+    let position = engine.binlog().len() as u64 + 1;
+    format!(in alloc; "committed {position}")
+}
+
+/// The answer of a line whose call answered so: this text where it was carried out, else that of the refusal.
+pub fn answered<T: Drop>(
+    alloc: Global,
+    called: Result<T, EngineRefusal>,
+    text: String,
+) -> Result<String, AllocError>
+    ensures ok { IfOk result (λ answer. MatchResult called (λ _. string_bytes answer ≡ string_bytes text) (λ refusal. SaysCause refusal (string_bytes answer))) }
+    ensures err { OnErr result (IsErr called) }
+{
+    match called {
+        Ok(_) => Ok(text),
+        Err(refusal) => refused(alloc, refusal),
+    }
+}
+
+/// The text of a refusal. There is none for want of memory.
+pub fn refused(alloc: Global, refusal: EngineRefusal) -> Result<String, AllocError>
+    ensures { IfOk result (λ text. SaysCause refusal (string_bytes text)) }
+{
+    match refusal {
+        EngineRefusal::Because(cause) => format!(in alloc; "{cause}"),
+        EngineRefusal::NoMemory => Err(AllocError),
+    }
+}
+
+/// A value, or that there is none.
+pub fn value_shown(alloc: Global, value: Option<&Value>) -> Result<String, AllocError>
+    ensures { IfOk result (λ text. string_bytes text ≡ value_answer (option_copied value.entry)) }
+{
+    let Some(value) = value else {
+        return String::from_str(alloc, "none");
+    };
+    let mut text = String::from_str(alloc, "value ")?;
+    push_value(&mut text, value.bytes())?;
+    Ok(text)
+}
+
+/// The rows of an image, each on a line, and then their number.
+pub fn rows_shown(alloc: Global, image: &Image) -> Result<String, AllocError>
+    ensures { IfOk result (λ text. (rows : Rows) × ShowsRows (page_of image.now) rows × (string_bytes text ≡ rows_answer (rows_in rows))) }
+{
+    let rows = open_rows(alloc, image)?;
+    let mut text = rows_text(alloc, &rows)?;
+    let count = rows.len();
+    let last = format!(in alloc; "rows {count}")?;
+    text.push_str(last.as_str())?;
+    Ok(text)
+}

@@ -1,0 +1,136 @@
+-- A line adds at most one commit, and at most one transaction of each writer.
+use Rattle.std.proofs.Common.{◌≡◌, ℕ, ◌+◌, ◌≤◌, List, [], ◌∷◌, length, Bool, true, false, cond, refl, sym, ap, ◌∙◌, subst, arith, length-append, Option, Some, None, unwrap_or, inl, inr, ◌⊎◌}
+use Rattle.std.proofs.lemmas.Cmp.{nat_cmp_total}
+use Rattle.std.specs.Prelude.{MatchOption}
+use Rattle.std.specs.List.{cons_option, filter_map, range_with_len}
+use Rattle.std.proofs.lemmas.List.FromFn.{length-range_with_len}
+use Rattle.std.specs.FinMap.{FinMap, get, get-empty, get-insert, insert}
+use Rattle.std.specs.Ordering.{nat_cmp, eq_by_cmp}
+use Rattle.clone_model.specs.declared.change.Commit.{Commit}
+use Rattle.clone_model.specs.declared.line.Line.{Line}
+use Rattle.clone_plain.specs.declared.refusal.Cause.{Cause}
+use Rattle.clone_plain.specs.Donor.{Donor}
+use Rattle.clone_plain.specs.Calls.{Call, begin, put, Done, did_create, did_begin, did_put, did_delete, did_get, did_undo_one, did_commit, Made, done, refused, PlainStep}
+use Rattle.clone_plain.specs.World.{World, Stop, opened, index_in, IsWithin}
+use Rattle.clone_plain.specs.Events.{Event, made, completed, showed, incomplete, counted, Happens, Events}
+use Rattle.clone_plain.specs.Runs.{MakesSet, not_begun, not_changed, set, LineStep, Runs}
+use Rattle.clone_plain.specs.Headline.{committed_at}
+use Rattle.clone_plain.proofs.BinlogLemmas.{Adds, events_add}
+use Rattle.clone_plain.proofs.LineLemmas.{Shape, one, sets, shape, CommitMade, was_refused, was_done, commit_made}
+
+abbrev Begun : Type 0
+Begun = FinMap nat_cmp ℕ
+
+-- no transaction begins, or one does
+MayBegin : Begun → Begun → Type 0
+MayBegin before after = (after ≡ before) ⊎ ((writer : ℕ) × (after ≡ insert before writer (index_in before writer + 1)))
+
+done_begins : (d : Done) (begun : Begun) → MayBegin begun (counted (done d) begun)
+unfolding MayBegin
+done_begins (did_create table buckets) begun = inl refl
+done_begins (did_begin writer index trx) begun = inr (writer, refl)
+done_begins (did_put trx table key value) begun = inl refl
+done_begins (did_delete trx table key) begun = inl refl
+done_begins (did_get trx table key value) begun = inl refl
+done_begins (did_undo_one trx undone) begun = inl refl
+done_begins (did_commit trx position) begun = inl refl
+
+made_begins : (m : Made) (begun : Begun) → MayBegin begun (counted m begun)
+unfolding MayBegin
+made_begins (done d) begun = done_begins d begun
+made_begins (refused call cause) begun = inl refl
+
+commit_begins : (trx : ℕ) (m : Made) (begun : Begun) → CommitMade trx m → counted m begun ≡ begun
+commit_begins trx m begun (was_refused call cause is) = ap (λ n. counted n begun) is
+commit_begins trx m begun (was_done position is) = ap (λ n. counted n begun) is
+
+one_more : (b : Bool) (x n : ℕ) (o : Option ℕ) → x ≤ n → unwrap_or o 0 ≤ n → unwrap_or (cond b (Some (x + 1)) o) 0 ≤ n + 1
+one_more true x n o le les = omega arith
+one_more false x n o le les = omega arith
+
+begins_within : (n : ℕ) (before after : Begun) → ((writer : ℕ) → index_in before writer ≤ n) → MayBegin before after → (writer : ℕ) → index_in after writer ≤ n + 1
+unfolding MayBegin
+begins_within n before after within (inl same) writer = omega (arith, ap (λ b. index_in b writer) same, within writer)
+begins_within n before after within (inr more) writer =
+    let P : Option ℕ → Type 0 = λ o. unwrap_or o 0 ≤ n + 1 in
+    let grown : index_in (insert before more.0 (index_in before more.0 + 1)) writer ≤ n + 1 = subst P (sym (get-insert nat_cmp_total before more.0 (index_in before more.0 + 1) writer)) (one_more (eq_by_cmp nat_cmp writer more.0) _ n (get before writer) (within more.0) (within writer)) in
+    omega (arith, ap (λ b. index_in b writer) more.1, grown)
+
+-- at most one position is answered
+at_most_one : (o : Option ℕ) → length (cons_option o []) ≤ 1
+at_most_one None = omega arith
+at_most_one (Some position) = omega arith
+
+set_commits : (writer index table key : ℕ) (value : List ℕ) (events : List Event) → MakesSet writer index table key value events → length (filter_map committed_at events) ≤ 1
+set_commits writer index table key value events (not_begun cause is) = omega (arith, ap (λ es. length (filter_map committed_at es)) is)
+set_commits writer index table key value events (not_changed trx cause is) = omega (arith, ap (λ es. length (filter_map committed_at es)) is)
+set_commits writer index table key value events (set trx last commits is) = omega (arith, ap (λ es. length (filter_map committed_at es)) is, at_most_one (committed_at (made last)))
+
+shape_commits : (events : List Event) → Shape events → length (filter_map committed_at events) ≤ 1
+shape_commits events (one e is) = omega (arith, ap (λ es. length (filter_map committed_at es)) is, at_most_one (committed_at e))
+shape_commits events (sets writer index table key value is) = set_commits writer index table key value events is
+
+module _ {D : Type 0} (plain : D → Donor) (Step : D → Made → D → Type 0) (refines : (d e : D) (m : Made) → Step d m e → PlainStep (plain d) m (plain e)) where
+  stop_begins : (s t : World D) (n : ℕ) (stop : Option Stop) (first : Stop) → MatchOption stop ((n ≡ first.position) × (t ≡ record s { stop = Some first })) (λ (at : Stop). (n ≡ at.position) × (t ≡ s)) → t.begun ≡ s.begun
+  stop_begins s t n None first is = ap (λ (w : World D). w.begun) is.1
+  stop_begins s t n (Some at) first is = ap (λ (w : World D). w.begun) is.1
+
+  event_begins : (s : World D) (e : Event) (t : World D) → Happens plain Step s e t → MayBegin s.begun t.begun
+  unfolding MayBegin
+  event_begins s (made m) t is = subst (MayBegin s.begun) (ap (λ (w : World D). w.begun) (sym is.2)) (made_begins m s.begun)
+  event_begins s (completed n) t is = inl (stop_begins s t n s.stop _ is)
+  event_begins s (showed rows) t is = inl (ap (λ (w : World D). w.begun) is.1)
+  event_begins s incomplete t is = inl (ap (λ (w : World D). w.begun) is.1)
+
+  begun_of : (s t : World D) → s ≡ t → s.begun ≡ t.begun
+  begun_of s t same = ap (λ (w : World D). w.begun) same
+
+  one_begins : (s : World D) (e : Event) (t : World D) → Events plain Step s (e ∷ []) t → MayBegin s.begun t.begun
+  one_begins s e t is = subst (MayBegin s.begun) (begun_of is.0 t is.2) (event_begins s e is.0 is.1)
+
+  -- of a `set` the begin alone counts
+  refused_begins : (s : World D) (writer index trx : ℕ) (call : Call) (cause : Cause) (t : World D) → Events plain Step s (made (done (did_begin writer index trx)) ∷ made (refused call cause) ∷ []) t → MayBegin s.begun t.begun
+  unfolding MayBegin
+  refused_begins s writer index trx call cause t is = inr (writer, begun_of _ _ (sym is.2.2) ∙ begun_of _ _ is.2.1.2 ∙ begun_of _ _ is.1.2)
+
+  all_begin : (s : World D) (writer index trx table key : ℕ) (value : List ℕ) (last : Made) (t : World D) → CommitMade trx last
+      → Events plain Step s (made (done (did_begin writer index trx)) ∷ made (done (did_put trx table key value)) ∷ made last ∷ []) t → MayBegin s.begun t.begun
+  unfolding MayBegin
+  all_begin s writer index trx table key value last t commits is =
+      inr (writer, begun_of _ _ (sym is.2.2.2) ∙ begun_of _ _ is.2.2.1.2 ∙ commit_begins trx last _ commits ∙ begun_of _ _ is.2.1.2 ∙ begun_of _ _ is.1.2)
+
+  set_begins : (s : World D) (writer index table key : ℕ) (value : List ℕ) (events : List Event) (t : World D) → MakesSet writer index table key value events → Events plain Step s events t → MayBegin s.begun t.begun
+  set_begins s writer index table key value events t (not_begun cause is) happened = let P : List Event → Type 0 = λ es. Events plain Step s es t in one_begins s (made (refused (begin writer index) cause)) t (subst P is happened)
+  set_begins s writer index table key value events t (not_changed trx cause is) happened = let P : List Event → Type 0 = λ es. Events plain Step s es t in refused_begins s writer index trx (put trx table key value) cause t (subst P is happened)
+  set_begins s writer index table key value events t (set trx last commits is) happened =
+      let P : List Event → Type 0 = λ es. Events plain Step s es t in
+      all_begin s writer index trx table key value last t (commit_made trx last commits) (subst P is happened)
+
+  shape_begins : (s : World D) (events : List Event) (t : World D) → Shape events → Events plain Step s events t → MayBegin s.begun t.begun
+  shape_begins s events t (one e is) happened = let P : List Event → Type 0 = λ es. Events plain Step s es t in one_begins s e t (subst P is happened)
+  shape_begins s events t (sets writer index table key value is) happened = set_begins s writer index table key value events t is happened
+
+  -- a line reaches one further at most
+  line_reaches : (n : ℕ) (s : World D) (line : Line) (events : List Event) (t : World D) → LineStep plain Step s line events t → IsWithin plain n s → IsWithin plain (n + 1) t
+  line_reaches n s line events t is within =
+      let form = shape _ line events is.0 in
+      let added = events_add plain Step refines s events t is.1 in
+      let few : length added.more ≤ 1 = omega (arith, shape_commits events form, ap length added.positions, length-range_with_len (length (plain s.donor).binlog + 1) (length added.more)) in
+      record { commits = omega (arith, few, within.commits, ap length added.binlog, length-append (plain s.donor).binlog added.more); transactions = begins_within n s.begun t.begun within.transactions (shape_begins s events t form is.1) }
+
+  -- what is within a number is within a greater one
+  wider : (m n : ℕ) (s : World D) → m ≤ n → IsWithin plain m s → IsWithin plain n s
+  wider m n s le within = record { commits = omega (arith, within.commits); transactions = λ q. omega (arith, within.transactions q) }
+
+  run_reaches : (n : ℕ) (s : World D) (lines : List Line) (events : List (List Event)) (t : World D) → Runs plain Step s lines events t → IsWithin plain n s → IsWithin plain (n + length lines) t
+  run_reaches n s [] [] t run within = wider n _ t (omega arith) (let P : World D → Type 0 = IsWithin plain n in subst P run within)
+  run_reaches n s [] (es ∷ more) t run within = absurd run
+  run_reaches n s (l ∷ lines) [] t run within = absurd run
+  run_reaches n s (l ∷ lines) (es ∷ more) t run within = wider (n + 1 + length lines) _ t (omega arith) (run_reaches (n + 1) run.0 lines more t run.2 (line_reaches n s l es run.0 run.1 within))
+
+  -- A run from the beginning reaches the number of its lines, and so each greater number.
+  pub Runs-IsWithin : (first : D) → (plain first).binlog ≡ [] → (lines : List Line) (events : List (List Event)) (t : World D) (n : ℕ) → Runs plain Step (opened first) lines events t → length lines ≤ n → IsWithin plain n t
+  Runs-IsWithin first none lines events t n run le =
+      let index : Option ℕ → ℕ = λ o. unwrap_or o 0 in
+      let at : (q : ℕ) → index_in (opened first).begun q ≤ 0 = λ q. omega (arith, ap index (get-empty nat_cmp q)) in
+      wider (0 + length lines) n t (omega arith) (run_reaches 0 (opened first) lines events t run (record { commits = omega (arith, ap length none); transactions = at }))

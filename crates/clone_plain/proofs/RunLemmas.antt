@@ -1,0 +1,38 @@
+-- Runs join, and so do events and what they write.
+use Rattle.std.proofs.Common.{◌≡◌, List, [], ◌∷◌, ◌++◌, refl, sym, ap, ◌∙◌, subst, append_assoc}
+use Rattle.std.proofs.lemmas.List.{append-nil}
+use Rattle.std.specs.List.{flat_map}
+use Rattle.clone_model.specs.Texts.{ended}
+use Rattle.clone_model.specs.declared.line.Line.{Line}
+use Rattle.clone_plain.specs.Donor.{Donor}
+use Rattle.clone_plain.specs.Calls.{Made}
+use Rattle.clone_plain.specs.World.{World}
+use Rattle.clone_plain.specs.Events.{Event, said, Happens, Events}
+use Rattle.clone_plain.specs.Runs.{LineStep, Runs, output}
+
+module _ {D : Type 0} (plain : D → Donor) (Step : D → Made → D → Type 0) where
+  pub Events-append : (s : World D) (xs ys : List Event) (t u : World D) → Events plain Step s xs t → Events plain Step t ys u → Events plain Step s (xs ++ ys) u
+  Events-append s [] ys t u first second = let P : World D → Type 0 = λ w. Events plain Step w ys u in subst P (sym first) second
+  Events-append s (x ∷ xs) ys t u first second = (first.0, first.1, Events-append first.0 xs ys t u first.2 second)
+
+  pub Runs-append : (s : World D) (front back : List Line) (before behind : List (List Event)) (t u : World D) → Runs plain Step s front before t → Runs plain Step t back behind u → Runs plain Step s (front ++ back) (before ++ behind) u
+  Runs-append s [] back [] behind t u first second = let P : World D → Type 0 = λ w. Runs plain Step w back behind u in subst P (sym first) second
+  Runs-append s [] back (es ∷ before) behind t u first second = absurd first
+  Runs-append s (l ∷ front) back [] behind t u first second = absurd first
+  Runs-append s (l ∷ front) back (es ∷ before) behind t u first second = (first.0, first.1, Runs-append first.0 front back before behind t u first.2 second)
+
+  -- one more line
+  pub Runs-push : (s : World D) (lines : List Line) (events : List (List Event)) (t : World D) (l : Line) (es : List Event) (u : World D) → Runs plain Step s lines events t → LineStep plain Step t l es u
+      → Runs plain Step s (lines ++ l ∷ []) (events ++ es ∷ []) u
+  Runs-push s lines events t l es u run step = Runs-append s lines (l ∷ []) events (es ∷ []) t u run (u, step, refl)
+
+  -- the events of a run, one after the other
+  pub Runs-Events : (s : World D) (lines : List Line) (events : List (List Event)) (t : World D) → Runs plain Step s lines events t → Events plain Step s (flat_map (λ es. es) events) t
+  Runs-Events s [] [] t run = run
+  Runs-Events s [] (es ∷ more) t run = absurd run
+  Runs-Events s (l ∷ lines) [] t run = absurd run
+  Runs-Events s (l ∷ lines) (es ∷ more) t run = Events-append s es (flat_map (λ es. es) more) run.0 t run.1.1 (Runs-Events run.0 lines more t run.2)
+
+pub output-push : (events : List (List Event)) (es : List Event) → output events ++ ended (said es) ≡ output (events ++ es ∷ [])
+output-push [] es = sym (append-nil (ended (said es)))
+output-push (x ∷ more) es = append_assoc (ended (said x)) (output more) (ended (said es)) ∙ ap (λ xs. ended (said x) ++ xs) (output-push more es)

@@ -1,0 +1,112 @@
+-- The commit of a `set` is of its writer, and has its one change.
+use Rattle.std.proofs.Common.{◌≡◌, ℕ, ◌+◌, ◌-◌, ◌<◌, List, [], ◌∷◌, ◌++◌, length, Bool, cond, refl, sym, ap, ◌∙◌, subst, arith, length-append, append_assoc, Option, Some, None, unwrap_or}
+use Rattle.std.proofs.lemmas.Cmp.{nat_cmp_total, eq_by_cmp_equiv}
+use Rattle.std.proofs.lemmas.Option.{slice_get-get_or}
+use Rattle.std.proofs.Math.Seq.{get_or-append_seam}
+use Rattle.std.specs.Prelude.{slice_get}
+use Rattle.std.specs.List.{filter_map}
+use Rattle.std.specs.FinMap as finite
+use Rattle.std.specs.Ordering.{nat_cmp}
+use Rattle.clone_model.specs.declared.change.Change.{Change}
+use Rattle.clone_model.specs.declared.change.Commit.{Commit}
+use Rattle.clone_model.specs.declared.line.Line.{Line}
+use Rattle.clone_model.specs.declared.line.Line.TheVariants as lines
+use Rattle.clone_plain.specs.declared.refusal.Cause.{Cause}
+use Rattle.clone_plain.specs.Donor.{Donor}
+use Rattle.clone_plain.specs.Effects.{begun, put_of, with_change, Begins, Changes, Commits}
+use Rattle.clone_plain.specs.Calls.{Call, Done, did_begin, did_put, did_commit, Made, done, refused, PlainStep}
+use Rattle.clone_plain.specs.World.{World}
+use Rattle.clone_plain.specs.Events.{Event, made, Happens, Events}
+use Rattle.clone_plain.specs.Runs.{MakesSet, not_begun, not_changed, set, Runs}
+use Rattle.clone_plain.specs.Headline.{committed_at, IsSet, AreSets}
+use Rattle.clone_plain.proofs.BinlogLemmas.{Adds, events_add}
+use Rattle.clone_plain.proofs.LineLemmas.{CommitMade, was_refused, was_done, commit_made}
+use Rattle.clone_plain.proofs.RunLemmas.{Runs-Events}
+
+get-put_same : (m : finite.FinMap nat_cmp Commit) (k : ℕ) (x : Commit) → finite.get (finite.insert m k x) k ≡ Some x
+get-put_same m k x = finite.get-insert nat_cmp_total m k x k ∙ ap (λ (b : Bool). cond b (Some x) (finite.get m k)) ((eq_by_cmp_equiv nat_cmp_total).refl k)
+
+-- two commits that a map has under one key are the same
+same_commit : (a b : Commit) → Some a ≡ Some b → a ≡ b
+same_commit a b is = ap (λ (o : Option Commit). unwrap_or o a) is
+
+-- the commit of a transaction that began and made one change
+one_change : (d e f : Donor) (trx writer index : ℕ) (change : Change) (commit : Commit) → e ≡ begun trx writer index d → Changes e trx change f → finite.get f.active trx ≡ Some commit → commit ≡ record { writer = writer; index = index; changes = change ∷ [] }
+one_change d e f trx writer index change commit begins changes active =
+    let empty : Commit = record { writer = writer; index = index; changes = [] } in
+    let first : changes.commit ≡ empty = same_commit _ _ (sym changes.was_active ∙ ap (λ (d : Donor). finite.get d.active trx) begins ∙ get-put_same d.active trx empty) in
+    let last : commit ≡ with_change change changes.commit = same_commit _ _ (sym active ∙ ap (λ (d : Donor). finite.get d.active trx) changes.is ∙ get-put_same e.active trx (with_change change changes.commit)) in
+    last ∙ ap (with_change change) first
+
+-- what stands behind others
+get_behind : {X : Type 0} (xs : List X) (x : X) (ys : List X) → slice_get (xs ++ x ∷ ys) (length xs) ≡ Some x
+get_behind xs x ys = let within : length xs < length (xs ++ x ∷ ys) = omega (arith, length-append xs (x ∷ ys)) in slice_get-get_or (xs ++ x ∷ ys) (length xs) x within ∙ ap Some (get_or-append_seam xs x ys x)
+
+-- what was committed behind a binlog that has grown since
+set_stands : (writer index table key : ℕ) (value : List ℕ) (before : List Commit) (commit : Commit) (after more : List Commit) (position : ℕ) → commit ≡ record { writer = writer; index = index; changes = put_of table key value ∷ [] }
+    → after ≡ (before ++ commit ∷ []) ++ more → position ≡ length before + 1 → IsSet writer table key value after position
+set_stands writer index table key value before commit after more position is grown count =
+    let place : position - 1 ≡ length before = omega (arith, count) in (
+      index,
+      ap (λ n. slice_get after n) place
+      ∙ ap (λ h. slice_get h (length before)) (grown ∙ append_assoc before (commit ∷ []) more)
+      ∙ get_behind before commit more
+      ∙ ap Some is,
+    )
+
+module _ {D : Type 0} (plain : D → Donor) (Step : D → Made → D → Type 0) (refines : (d e : D) (m : Made) → Step d m e → PlainStep (plain d) m (plain e)) where
+  made_step : (s u : World D) (m : Made) → Happens plain Step s (made m) u → PlainStep (plain s.donor) m (plain u.donor)
+  made_step s u m is = let P : D → Type 0 = λ d. PlainStep (plain s.donor) m (plain d) in subst P (ap (λ (w : World D). w.donor) (sym is.2)) (refines s.donor is.0 m is.1)
+
+  -- a transaction began, made its one change and committed
+  set_commits : (s u v w : World D) (writer index trx table key : ℕ) (value : List ℕ) (position : ℕ) → Happens plain Step s (made (done (did_begin writer index trx))) u → Happens plain Step u (made (done (did_put trx table key value))) v
+      → Happens plain Step v (made (done (did_commit trx position))) w → (after more : List Commit) → after ≡ (plain w.donor).binlog ++ more → IsSet writer table key value after position
+  set_commits s u v w writer index trx table key value position begins puts commits after more grown =
+      let first = made_step s u _ begins in
+      let second = made_step u v _ puts in
+      let third = made_step v w _ commits in
+      let whole = one_change _ _ _ trx writer index (put_of table key value) third.1.commit first.1.1 second.1 third.1.was_active in
+      set_stands writer index table key value (plain v.donor).binlog third.1.commit after more position whole (grown ∙ ap (λ (d : Donor). d.binlog ++ more) third.1.is) third.1.count
+
+  no_position : (position : ℕ) → [] ≡ position ∷ [] → ⊥
+  no_position position is = cc
+
+  same_position : (p position : ℕ) → p ∷ [] ≡ position ∷ [] → p ≡ position
+  same_position p position is = cc
+
+  -- all three calls of a `set` were made, and the last is that of its commit
+  all_set : (s t : World D) (writer index trx table key : ℕ) (value : List ℕ) (last : Made) (position : ℕ) → CommitMade trx last → Events plain Step s (made (done (did_begin writer index trx)) ∷ made (done (did_put trx table key value)) ∷ made last ∷ []) t
+      → filter_map committed_at (made last ∷ []) ≡ position ∷ [] → (after more : List Commit) → after ≡ (plain t.donor).binlog ++ more → IsSet writer table key value after position
+  all_set s t writer index trx table key value last position (was_refused call cause is) happened answered after more grown = absurd (no_position position (ap (λ m. filter_map committed_at (made m ∷ [])) (sym is) ∙ answered))
+  all_set s t writer index trx table key value last position (was_done p is) happened answered after more grown =
+      let P : Made → Type 0 = λ m. Happens plain Step happened.2.0 (made m) happened.2.2.0 in
+      let committed = subst P is happened.2.2.1 in
+      let same : p ≡ position = same_position p position (ap (λ m. filter_map committed_at (made m ∷ [])) (sym is) ∙ answered) in
+      let end = ap (λ (w : World D). (plain w.donor).binlog) happened.2.2.2 in
+      let Q : ℕ → Type 0 = IsSet writer table key value after in
+      subst Q same (set_commits s happened.0 happened.2.0 happened.2.2.0 writer index trx table key value p happened.1 happened.2.1 committed after more (grown ∙ ap (λ b. b ++ more) (sym end)))
+
+  set_is : (s t : World D) (writer index table key : ℕ) (value : List ℕ) (events : List Event) (position : ℕ) → MakesSet writer index table key value events → Events plain Step s events t → filter_map committed_at events ≡ position ∷ []
+      → (after more : List Commit) → after ≡ (plain t.donor).binlog ++ more → IsSet writer table key value after position
+  set_is s t writer index table key value events position (not_begun cause is) happened answered after more grown = absurd (no_position position (ap (filter_map committed_at) (sym is) ∙ answered))
+  set_is s t writer index table key value events position (not_changed trx cause is) happened answered after more grown = absurd (no_position position (ap (filter_map committed_at) (sym is) ∙ answered))
+  set_is s t writer index table key value events position (set trx last commits is) happened answered after more grown =
+      let P : List Event → Type 0 = λ es. Events plain Step s es t in
+      all_set s t writer index trx table key value last position (commit_made trx last commits) (subst P is happened) (ap (filter_map committed_at) (sym is) ∙ answered) after more grown
+
+  -- each `set` of a run stands in the binlog that the run leaves
+  pub are_sets : (s : World D) (ls : List Line) (events : List (List Event)) (t : World D) → Runs plain Step s ls events t → AreSets ls events (plain t.donor).binlog
+  are_sets s [] events t run = tt
+  are_sets s (l ∷ ls) [] t run = absurd run
+  are_sets s (lines.Create table buckets ∷ ls) (es ∷ more) t run = are_sets run.0 ls more t run.2
+  are_sets s (lines.Begin writer ∷ ls) (es ∷ more) t run = are_sets run.0 ls more t run.2
+  are_sets s (lines.Put trx table key value ∷ ls) (es ∷ more) t run = are_sets run.0 ls more t run.2
+  are_sets s (lines.Delete trx table key ∷ ls) (es ∷ more) t run = are_sets run.0 ls more t run.2
+  are_sets s (lines.Get trx table key ∷ ls) (es ∷ more) t run = are_sets run.0 ls more t run.2
+  are_sets s (lines.Undo trx ∷ ls) (es ∷ more) t run = are_sets run.0 ls more t run.2
+  are_sets s (lines.Commit trx ∷ ls) (es ∷ more) t run = are_sets run.0 ls more t run.2
+  are_sets s (lines.Clone ∷ ls) (es ∷ more) t run = are_sets run.0 ls more t run.2
+  are_sets s (lines.Rows ∷ ls) (es ∷ more) t run = are_sets run.0 ls more t run.2
+  are_sets s (lines.Set writer table key value ∷ ls) (es ∷ more) t run =
+      let added = events_add plain Step refines run.0 _ t (Runs-Events plain Step run.0 ls more t run.2) in
+      (λ position answered. set_is s run.0 writer _ table key value es position run.1.0 run.1.1 answered (plain t.donor).binlog added.more added.binlog, are_sets run.0 ls more t run.2)
