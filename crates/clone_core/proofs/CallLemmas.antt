@@ -1,5 +1,5 @@
 -- A call by the clauses of the engine, and what it leaves of a world and of its clone.
-use Rattle.std.proofs.Common.{◌≡◌, ℕ, ◌≤◌, ◌+◌, List, [], Bool, true, false, refl, sym, ap, ◌∙◌, subst, inl, inr, ◌⊎◌, arith, length-append, length, Option, Some, None, Result, Ok, Err, IfOk, OnErr}
+use Rattle.std.proofs.Common.{◌≡◌, ℕ, ◌+◌, List, [], Bool, true, false, refl, sym, ap, ◌∙◌, subst, inl, inr, ◌⊎◌, arith, length-append, length, Option, Some, None, Result, Ok, Err, IfOk, OnErr}
 use Rattle.std.specs.Option.{option_or, ForSome}
 use Rattle.std.specs.Result.{is_err}
 use Rattle.std.specs.FinMap as finite
@@ -15,13 +15,12 @@ use Rattle.clone_plain.specs.Donor.{Donor}
 use Rattle.clone_plain.specs.Causes.{whether}
 use Rattle.clone_plain.specs.Decided.{Decided, none_outside}
 use Rattle.clone_plain.specs.Effects.{Gets}
-use Rattle.clone_plain.specs.Calls.{Call, create, begin, put, delete, get, undo_one, commit, Done, did_get, did_begin, Made, done, refused, call_of, cause_of, Does, PlainStep}
-use Rattle.clone_plain.specs.World.{World, before_stop, index_in}
+use Rattle.clone_plain.specs.Calls.{Call, create, begin, put, delete, get, undo_one, commit, Done, did_get, did_begin, done, refused, call_of, cause_of, Does}
+use Rattle.clone_plain.specs.World.{index_in}
 use Rattle.clone_plain.specs.Events.{counted}
 use Rattle.clone_plain.proofs.BinlogLemmas.{Adds, adds_none, made_adds}
 use Rattle.clone_plain.proofs.StopLemmas.{before_stop-longer}
 use Rattle.clone_trx.specs.Engine.{EngineState}
-use Rattle.clone_trx.specs.Keys.{full_cause}
 use Rattle.clone_trx.specs.Step.{below_cause, BindsKeys, EngineStep}
 use Rattle.clone_core.specs.Lines.{State}
 use Rattle.clone_core.specs.Called.{EngineCalled, Called, Carries}
@@ -73,9 +72,9 @@ called {X} r s after call did result is uncounted engine =
     let at : (q : Result X EngineRefusal) → EngineCalled r.donor call did q after → Called r call did q (record r { donor = after }) = λ q. elim q as (λ q. EngineCalled r.donor call did q after → Called r call did q (record r { donor = after })) [
       | Ok x ↦ λ step. record { engine = after; step = step; is = ap (λ b. record r { donor = after; begun = b }) (sym (uncounted x)) }
       | Err e ↦ elim e as (λ e. EngineCalled r.donor call did (Err e) after → Called r call did (Err e) (record r { donor = after })) [
-          | Because cause ↦ λ step. (step.0, ap (λ (d : EngineState). record r { donor = d }) step.1)
-          | NoMemory ↦ λ same. ap (λ (d : EngineState). record r { donor = d }) same
-        ]
+        | Because cause ↦ λ step. (step.0, ap (λ (d : EngineState). record r { donor = d }) step.1)
+        | NoMemory ↦ λ same. ap (λ (d : EngineState). record r { donor = d }) same
+      ]
     ] in
     subst P is (at result engine)
 

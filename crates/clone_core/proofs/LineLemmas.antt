@@ -3,7 +3,6 @@ use Rattle.std.proofs.Common.{◌≡◌, ℕ, ◌+◌, List, [], ◌∷◌, ◌+
 use Rattle.std.specs.Prelude.{MatchOption, MatchResult, IsErr, IsErrAnd, codes}
 use Rattle.std.specs.Fmt.{decimal}
 use Rattle.std.specs.FinMap as finite
-use Rattle.std.specs.List.{AllByRecursion}
 use Rattle.std.proofs.lemmas.List.{take_all}
 use Rattle.std.specs.declared.alloc.AllocError.{AllocError}
 use Rattle.clone_model.specs.History.{Entry, Rows, fold, history_of, rows_in}
@@ -16,18 +15,17 @@ use Rattle.clone_plain.specs.declared.refusal.EngineRefusal.TheVariants.{Because
 use Rattle.clone_image.specs.Image.{page_of}
 use Rattle.clone_image.specs.Rows.{Pages, IsRow, ShowsRows, HasRows}
 use Rattle.clone_plain.specs.Donor.{Donor, history}
-use Rattle.clone_plain.specs.Answers.{Text, done_text, refusal_text, value_answer, complete_answer, rows_answer}
-use Rattle.clone_plain.specs.Calls.{Call, create, begin, put, delete, get, undo_one, commit, Done, did_begin, did_put, did_get, did_commit, Made, done, refused, call_of}
-use Rattle.clone_plain.specs.World.{World, Stop, index_in, stop_now, before_stop}
+use Rattle.clone_plain.specs.Answers.{Text, done_text, value_answer, complete_answer, rows_answer}
+use Rattle.clone_plain.specs.Calls.{Call, create, begin, put, delete, get, undo_one, commit, Done, did_begin, did_put, did_get, did_commit, done, refused, call_of}
+use Rattle.clone_plain.specs.World.{Stop, index_in, stop_now, before_stop}
 use Rattle.clone_plain.specs.Events.{Event, made, completed, showed, incomplete, event_text, said, Happens, Events}
-use Rattle.clone_plain.specs.Runs.{Makes, MakesOne, MakesSet, not_begun, not_changed, set, IsDone}
+use Rattle.clone_plain.specs.Runs.{Makes, MakesOne, not_begun, not_changed, set, IsDone}
 use Rattle.clone_plain.proofs.RunLemmas.{Events-append}
-use Rattle.clone_trx.specs.Engine.{EngineState}
 use Rattle.clone_trx.specs.Step.{EngineStep}
 use Rattle.clone_core.specs.Lines.{State, donor_of, Answers, BreaksOff}
 use Rattle.clone_core.specs.Copied.{IsCopy, stop_of}
 use Rattle.clone_core.specs.declared.world.Copy.{Copy}
-use Rattle.clone_core.specs.Called.{Called, Carries, SaysCause, RefusesSet, CommitsSet, Sets}
+use Rattle.clone_core.specs.Called.{Called, Carries, SaysCause, RefusesSet, Sets}
 
 -- ---- one event
 

@@ -1,16 +1,17 @@
 -- What recovery gives of a log that replays to an image.
-use Rattle.std.proofs.Common.{◌≡◌, ℕ, ◌<◌, List, refl, sym, ap, ◌∙◌, subst, None, Some}
+use Rattle.std.proofs.Common.{◌≡◌, ℕ, ◌<◌, ◌≤◌, List, length, refl, sym, ap, ◌∙◌, subst, None, Some}
+use Rattle.std.specs.Prelude.{IfSome}
 use Rattle.std.specs.declared.option.Option.{Option}
 use Rattle.std.specs.List.{AllByRecursion}
 use Rattle.clone_model.specs.History.{Rows}
 use Rattle.clone_undo.specs.Entries.{IsEntry}
-use Rattle.clone_undo.specs.Places.{slot_count}
+use Rattle.clone_undo.specs.Places.{slot_count, capacity}
 use Rattle.clone_undo.specs.Slots.{UndoSlot}
 use Rattle.clone_image.specs.Image.{Image, page_of}
 use Rattle.clone_image.specs.Recovered.{undo_slot_of, recovered}
 use Rattle.clone_image.specs.Replay.{Replays, replayed}
 use Rattle.clone_image.specs.Rows.{HasRows}
-use Rattle.clone_recover.specs.Recovers.{Recovers, IsCause, IsSlotInRange}
+use Rattle.clone_recover.specs.Recovers.{Recovers, IsCause, FirstDamaged, by_count, by_record}
 use Rattle.clone_recover.specs.declared.refusal.Damage.{Damage}
 use Rattle.clone_recover.specs.declared.refusal.Damage.TheVariants.{Redo, Undo}
 use Rattle.clone_recover.specs.declared.refusal.RecoverRefusal.TheVariants.{Damaged}
@@ -31,15 +32,28 @@ rows_recovered log bytes was image rows same once replays has is =
     let of_log : Recovers log image = subst (λ (b : List ℕ). Recovers b image) same is in
     rows_after recovered of_log.left was image rows of_log.is (once log of_log.left was (record { log = of_log.log; made = of_log.made }) replays) has
 
-slot_in_range : (found : Option UndoSlot) → ((slot : UndoSlot) → found ≡ Some slot → AllByRecursion IsEntry slot.records) → IsSlotInRange found
-slot_in_range None is = tt
-slot_in_range (Some slot) is = is slot refl
+-- each undo slot of an image that is in use has no more records than it can have
+abbrev pub HasCounts : Image → Type 0
+HasCounts image = (s : ℕ) (slot : UndoSlot) → s < slot_count → undo_slot_of image s ≡ Some slot → length slot.records ≤ capacity
 
-not_damaged : (log : List ℕ) (was : Image) (damage : Damage) → Once → Replays log was → HasRanges was → IsCause log (Damaged damage) → ⊥
-not_damaged log was Redo once replays ranges cause = cause replays.log
-not_damaged log was (Undo s) once replays ranges cause =
+if_some : {X : Type 0} (found : Option X) (P : X → Type 0) → ((x : X) → found ≡ Some x → P x) → IfSome found P
+if_some None P is = tt
+if_some (Some x) P is = is x refl
+
+first_damaged : (image : Image) (s : ℕ) → HasCounts image → HasRanges image → FirstDamaged image s → ⊥
+first_damaged image s counts ranges (by_count below before damaged) = damaged (if_some (undo_slot_of image s) _ (λ slot is. counts s slot below is))
+first_damaged image s counts ranges (by_record below all before damaged) = damaged (if_some (undo_slot_of image s) _ (λ slot is. ranges s slot below is))
+
+not_damaged : (log : List ℕ) (was : Image) (damage : Damage) → Once → Replays log was → HasCounts was → HasRanges was → IsCause log (Damaged damage) → ⊥
+not_damaged log was Redo once replays counts ranges cause = cause replays.log
+not_damaged log was (Undo s) once replays counts ranges cause =
     let same : replayed cause.log.mtrs ≡ was = once log (replayed cause.log.mtrs) was (record { log = cause.log; made = refl }) replays in
-    cause.first.damaged (subst (λ (i : Image). IsSlotInRange (undo_slot_of i s)) (sym same) (slot_in_range (undo_slot_of was s) (λ slot is. ranges s slot cause.first.below is)))
+    let P : Image → Type 0 = λ i. FirstDamaged i s in
+    first_damaged was s counts ranges (subst P same cause.first)
 
-pub no_damage : (log bytes : List ℕ) (was : Image) (damage : Damage) → bytes ≡ log → Once → Replays log was → HasRanges was → IsCause bytes (Damaged damage) → ⊥
-no_damage log bytes was damage same once replays ranges cause = not_damaged log was damage once replays ranges (subst (λ (b : List ℕ). IsCause b (Damaged damage)) same cause)
+pub no_damage : (log bytes : List ℕ) (was : Image) (damage : Damage) → bytes ≡ log → Once → Replays log was → HasCounts was → HasRanges was → IsCause bytes (Damaged damage) → ⊥
+no_damage log bytes was damage same once replays counts ranges cause = not_damaged log was damage once replays counts ranges (subst (λ (b : List ℕ). IsCause b (Damaged damage)) same cause)
+
+-- what recovery made of the bytes, by the log that they are
+pub recovers_log : (log bytes : List ℕ) (image : Image) → bytes ≡ log → Recovers bytes image → Recovers log image
+recovers_log log bytes image same is = subst (λ (b : List ℕ). Recovers b image) same is

@@ -9,7 +9,7 @@ use Rattle.clone_plain.specs.declared.refusal.EngineRefusal.{EngineRefusal}
 use Rattle.clone_plain.specs.declared.refusal.EngineRefusal.TheVariants.{Because, NoMemory}
 use Rattle.clone_plain.specs.Answers.{Text, refusal_text}
 use Rattle.clone_plain.specs.Calls.{Call, Done, done, refused}
-use Rattle.clone_plain.specs.World.{World, index_in}
+use Rattle.clone_plain.specs.World.{index_in}
 use Rattle.clone_plain.specs.Events.{Event, made, counted, said, Events}
 use Rattle.clone_plain.specs.Runs.{MakesSet, IsDone}
 use Rattle.clone_model.specs.declared.line.Line.TheVariants.{Set}

@@ -1,5 +1,5 @@
 -- What a world keeps of its clone: it has the rows of the history before the stop.
-use Rattle.std.specs.Prelude.{ℕ, ◌≤◌, length}
+use Rattle.std.specs.Prelude.{◌≤◌, length}
 use Rattle.clone_model.specs.History.{fold}
 use Rattle.clone_image.specs.Image.{page_of}
 use Rattle.clone_image.specs.Rows.{HasRows}

@@ -34,11 +34,7 @@ impl World {
     }
 
     // Begins a transaction.
-    pub(crate) fn begin_line(
-        &mut self,
-        alloc: Global,
-        writer: u32,
-    ) -> Result<String, AllocError>
+    pub(crate) fn begin_line(&mut self, alloc: Global, writer: u32) -> Result<String, AllocError>
         requires { IsWithin donor_of (2 ^ 63 - 1) self.old }
         ensures ok { IfOk result (λ text. Answers self.old (lines.Begin writer) (string_bytes text) self.new) }
         ensures err { OnErr result (self.new ≡ self.old) }
@@ -98,11 +94,7 @@ impl World {
     }
 
     // Takes the last change of a transaction back, or ends it.
-    pub(crate) fn undo_line(
-        &mut self,
-        alloc: Global,
-        trx: u32,
-    ) -> Result<String, AllocError>
+    pub(crate) fn undo_line(&mut self, alloc: Global, trx: u32) -> Result<String, AllocError>
         ensures ok { IfOk result (λ text. Answers self.old (lines.Undo trx) (string_bytes text) self.new) }
         ensures err { OnErr result (self.new ≡ self.old) }
     {
@@ -112,11 +104,7 @@ impl World {
     }
 
     // Commits a transaction.
-    pub(crate) fn commit_line(
-        &mut self,
-        alloc: Global,
-        trx: u32,
-    ) -> Result<String, AllocError>
+    pub(crate) fn commit_line(&mut self, alloc: Global, trx: u32) -> Result<String, AllocError>
         requires { IsWithin donor_of (2 ^ 63 - 1) self.old }
         ensures ok { IfOk result (λ text. Answers self.old (lines.Commit trx) (string_bytes text) self.new) }
         ensures err { OnErr result (self.new ≡ self.old) }

@@ -1,4 +1,4 @@
-use Rattle.std.proofs.Common.{◌≡◌, ◌+◌, ◌++◌, ℕ, length, refl, sym, ap, ◌∙◌, subst}
+use Rattle.std.proofs.Common.{refl, ap, ◌∙◌}
 use Rattle.std.specs.String.{string_bytes}
 use Rattle.clone_plain.specs.Causes.{least_free}
 use Rattle.clone_plain.specs.World.{index_in}

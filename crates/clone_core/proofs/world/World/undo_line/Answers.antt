@@ -1,4 +1,4 @@
-use Rattle.std.proofs.Common.{◌≡◌, ◌+◌, ◌++◌, ℕ, length, refl, sym, ap, ◌∙◌, subst}
+use Rattle.std.proofs.Common.{refl, sym, subst}
 use Rattle.std.specs.String.{string_bytes}
 use Rattle.clone_plain.specs.Effects.{Undoes}
 use Rattle.clone_model.specs.declared.line.Line.TheVariants as lines
