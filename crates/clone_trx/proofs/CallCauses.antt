@@ -1,5 +1,5 @@
 -- Which cause there is against a call, and what it means that there is none.
-use Rattle.std.proofs.Common.{◌≡◌, ◌≢◌, ◌<◌, ◌≤◌, ◌⊎◌, ℕ, Bool, true, false, cond, List, length, Bor, Option, Some, None, IsSome, refl, sym, ap, subst, ◌∙◌, inl, inr, arith, eq-eqb, eqb-true}
+use Rattle.std.proofs.Common.{◌≡◌, ◌≢◌, ◌<◌, ◌≤◌, ◌⊎◌, ℕ, Bool, true, false, cond, length, Bor, Option, Some, None, refl, sym, ap, ◌∙◌, inl, inr, arith, eq-eqb, eqb-true}
 use Rattle.std.specs.Prelude.{◌==◌, not}
 use Rattle.std.specs.Option.{is_some, option_copied, option_or}
 use Rattle.std.specs.declared.result.Result.{Result}
@@ -11,7 +11,7 @@ use Rattle.clone_model.specs.declared.change.Commit.{Commit}
 use Rattle.clone_plain.specs.declared.refusal.Cause.{Cause}
 use Rattle.clone_plain.specs.declared.refusal.Cause.TheVariants.{NoSuchTrx, NoSuchTable, TableExists, RowLocked, ValueTooLong, UndoFull, TooManyTables}
 use Rattle.clone_plain.specs.Donor.{Donor, changes_of}
-use Rattle.clone_plain.specs.Causes.{whether, no_trx, no_table, too_long, undo_full, row_locked, locked_by, value_limit, change_limit, table_limit, create_cause, change_cause, get_cause}
+use Rattle.clone_plain.specs.Causes.{whether, no_trx, no_table, too_long, undo_full, row_locked, locked_by, value_limit, change_limit, table_limit, create_cause, change_cause}
 use Rattle.clone_plain.specs.Locked.{IsLocked}
 use Rattle.clone_plain.proofs.ValueLemmas.{changes_of_active}
 

@@ -1,5 +1,5 @@
 -- An engine after a change that was made at its place, and after one that was taken away at once.
-use Rattle.std.proofs.Common.{◌≡◌, ◌≢◌, ◌<◌, ◌≤◌, ◌+◌, ◌-◌, ◌%◌, ◌==◌, ◌⊎◌, ℕ, Bool, true, false, List, [], ◌∷◌, ◌++◌, length, take, replicate, refl, sym, ap, subst, ◌∙◌, arith, inl, inr, Option, Some, None}
+use Rattle.std.proofs.Common.{◌≡◌, ◌≢◌, ◌<◌, ◌≤◌, ◌+◌, ◌-◌, ◌%◌, ◌==◌, ◌⊎◌, ℕ, Bool, true, false, List, [], ◌∷◌, ◌++◌, length, take, replicate, sym, ap, subst, ◌∙◌, arith, inl, inr, Option, Some, None}
 use Rattle.std.specs.Prelude.{IfSome, MatchOption, if◌then◌else◌, unwrap_or}
 use Rattle.std.specs.FinMap as finite
 use Rattle.std.specs.FinMap.{nat_cmp-IsAntisymmetric, same_map}
@@ -19,7 +19,7 @@ use Rattle.clone_row.specs.Slots.{bound_key, slots, Finds, FindsFree}
 use Rattle.clone_undo.specs.Entries.{UndoEntry, IsEntry}
 use Rattle.clone_undo.specs.Places.{record_page}
 use Rattle.clone_undo.specs.Changes.{records_of_change}
-use Rattle.clone_image.specs.Image.{Image, page_of, all_pages, after_records}
+use Rattle.clone_image.specs.Image.{Image, page_of, all_pages}
 use Rattle.clone_image.specs.Replay.{first_lsn}
 use Rattle.clone_image.proofs.Pages.{all_pages-is}
 use Rattle.clone_contents.specs.Contents.{contents_of}
@@ -29,7 +29,7 @@ use Rattle.clone_plain.specs.Causes.{change_cause}
 use Rattle.clone_plain.specs.Effects.{Changes, with_change}
 use Rattle.clone_plain.specs.Locked.{Opened, value_of}
 use Rattle.clone_trx.specs.Engine.{EngineState, page_number}
-use Rattle.clone_trx.specs.Keys.{Keys, keys_in, BindsKey}
+use Rattle.clone_trx.specs.Keys.{keys_in, BindsKey}
 use Rattle.clone_trx.specs.Sound.{IsKept}
 use Rattle.clone_trx.specs.Written.{Appends, AppendsChange}
 use Rattle.clone_trx.specs.Places.{IsPlaceFor, Places, told}
@@ -195,4 +195,3 @@ left_again old pushed popped trx commit change last was joined left =
     taken.is
     ∙ (λ i. finite.insert (with_it i) trx (record commit { changes = front_of-pushed commit.changes change i }))
     ∙ twice old trx (with_change change commit) commit was
-

@@ -1,26 +1,25 @@
 -- What the page of a row's bucket tells of the row: its place, the value that it shows, and whether there is a place for it.
-use Rattle.std.proofs.Common.{◌≡◌, ◌≢◌, ◌<◌, ◌≤◌, ◌+◌, ◌%◌, ◌⊎◌, ℕ, zero, suc, Bool, true, false, cond, List, refl, sym, ap, subst, ◌∙◌, inl, inr, Option, Some, None, arith, eq-eqb, eqb-true}
+use Rattle.std.proofs.Common.{◌≡◌, ◌≢◌, ◌<◌, ◌≤◌, ◌+◌, ◌%◌, ◌⊎◌, ℕ, zero, suc, Bool, true, false, List, refl, sym, ap, ◌∙◌, inl, inr, Option, Some, None, arith, eq-eqb, eqb-true}
 use Rattle.std.specs.Prelude.{option_map, option_and_then, unwrap_or, ◌==◌, ◌||◌, not}
 use Rattle.std.specs.List.{list_any, range_with_len}
 use Rattle.std.specs.FinMap as finite
 use Rattle.std.proofs.Math.Nat.{mod-lt}
-use Rattle.std.proofs.lemmas.Bool.{cases_lt, cases_eq}
+use Rattle.std.proofs.lemmas.Bool.{cases_eq}
 use Rattle.std.proofs.lemmas.Option.{same_Some}
-use Rattle.clone_row.specs.Slots.{slots, slot_in, row_in, row_slot, bound_key, unused, Finds, FindsFree}
-use Rattle.clone_image.specs.Image.{Image, page_of, all_pages}
-use Rattle.clone_image.proofs.Pages.{all_pages-is}
+use Rattle.clone_row.specs.Slots.{slots, slot_in, row_in, row_slot, bound_key, unused, Finds}
+use Rattle.clone_image.specs.Image.{Image, page_of}
 use Rattle.clone_contents.specs.Contents.{Contents, contents_of}
 use Rattle.clone_contents.proofs.ChangeLemmas.{page_there}
-use Rattle.clone_contents.proofs.FindLemmas.{slot_on, key_found, free_found}
+use Rattle.clone_contents.proofs.FindLemmas.{slot_on, key_found}
 use Rattle.clone_plain.specs.declared.refusal.Cause.{Cause}
 use Rattle.clone_plain.specs.declared.refusal.Cause.TheVariants.{SpaceFull}
 use Rattle.clone_plain.specs.Donor.{Donor}
 use Rattle.clone_plain.specs.Causes.{whether}
 use Rattle.clone_plain.specs.Locked.{value_of}
-use Rattle.clone_trx.specs.Engine.{EngineState, page_number}
-use Rattle.clone_trx.specs.Keys.{Keys, keys_in, may_hold, full_cause}
-use Rattle.clone_trx.specs.Places.{Places, HasValue, held_value}
-use Rattle.clone_trx.specs.Sound.{HoldsRows, IsBound, IsKept}
+use Rattle.clone_trx.specs.Engine.{page_number}
+use Rattle.clone_trx.specs.Keys.{keys_in, may_hold, full_cause}
+use Rattle.clone_trx.specs.Places.{Places, held_value}
+use Rattle.clone_trx.specs.Sound.{IsBound, IsKept}
 use Rattle.clone_trx.proofs.Rows.{MayTake}
 
 -- A number of a range that passes a test, or none.

@@ -29,9 +29,6 @@ module _ (image : Image) (trx count : ℕ) (has : HasRecords image trx count) wh
   counted : count ≡ length has.1 + 1
   counted = has.5 ∙ ap length has.4 ∙ length_push has.1 last
 
-  pub within : count ≤ 160
-  within = omega (arith, undo.few trx (system_pages image) has.0 has.3, has.5)
-
   pub some : 1 ≤ count
   some = omega (arith, counted)
 

@@ -1,5 +1,5 @@
 -- What the engine finds of a row: the value that it shows, and the place for a change of it.
-use Rattle.std.proofs.Common.{◌≡◌, ◌≢◌, ◌<◌, ◌≤◌, ◌%◌, ◌^◌, ◌∙◌, ℕ, Bool, List, [], length, Option, Some, None, IsSome, refl, sym, ap, subst, arith}
+use Rattle.std.proofs.Common.{◌≡◌, ◌≢◌, ◌<◌, ◌≤◌, ◌%◌, ◌^◌, ◌∙◌, ℕ, List, [], length, Option, Some, None, IsSome, refl, sym, ap, subst, arith}
 use Rattle.std.specs.Prelude.{option_map, unwrap_or, ◌==◌}
 use Rattle.std.specs.Option.{is_some, option_or}
 use Rattle.std.specs.FinMap as finite
@@ -10,19 +10,16 @@ use Rattle.clone_page.specs.Header.{kind_of}
 use Rattle.clone_undo.specs.Entries.{UndoEntry, IsBefore}
 use Rattle.clone_image.specs.Image.{Image, page_of, all_pages}
 use Rattle.clone_image.proofs.Pages.{all_pages-is}
-use Rattle.clone_contents.specs.Steps.{is_unused}
-use Rattle.clone_plain.specs.declared.refusal.Cause.{Cause}
 use Rattle.clone_plain.specs.declared.refusal.Cause.TheVariants.{NoSuchTable, SpaceFull}
 use Rattle.clone_plain.specs.Donor.{Donor}
 use Rattle.clone_plain.specs.Causes.{row_locked, change_limit, change_cause, get_cause}
 use Rattle.clone_plain.specs.Effects.{Gets}
-use Rattle.clone_plain.specs.Locked.{value_of}
 use Rattle.clone_plain.proofs.ValueLemmas.{changes_of_active, own_value}
 use Rattle.clone_trx.specs.Engine.{EngineState, page_number}
 use Rattle.clone_trx.specs.Keys.{full_cause}
-use Rattle.clone_trx.specs.Places.{Places, HasValue, IsPlaceFor, held_value, state_of_row, told}
+use Rattle.clone_trx.specs.Places.{Places, HasValue, IsPlaceFor, held_value, state_of_row}
 use Rattle.clone_trx.specs.Sound.{IsKept}
-use Rattle.clone_trx.proofs.CallCauses.{passed, stopped, trx_there, table_there, table_away, own_or_free, Starts, Goes, change_without_table, change_too_many, change_by_lock}
+use Rattle.clone_trx.proofs.CallCauses.{passed, stopped, trx_there, table_there, table_away, own_or_free, Starts, change_by_lock}
 use Rattle.clone_trx.proofs.KeyPlaces.{bucket_page, shown, held_is, not_full, is_full}
 
 -- What is known of the engine by its parts is known of what contracts see of it.

@@ -9,7 +9,7 @@ use Rattle.clone_mtr.specs.declared.record.Record.{Record}
 use Rattle.clone_row.specs.Slots as rows
 use Rattle.clone_undo.specs.Entries.{UndoEntry, IsEntry}
 use Rattle.clone_undo.specs.Slots.{UndoSlot}
-use Rattle.clone_undo.specs.Places.{header_page, record_page}
+use Rattle.clone_undo.specs.Places.{header_page, record_page, capacity}
 use Rattle.clone_undo.specs.Changes.{records_of_begin, records_of_change, records_of_taking_back, records_of_end}
 use Rattle.clone_image.specs.Image.{Image, after_records}
 use Rattle.clone_image.specs.Recovered.{undo_slot_of}
@@ -33,7 +33,7 @@ use Rattle.clone_trx.specs.Places.{told}
 use Rattle.clone_trx.specs.Sound.{IsSound, IsKept, IsUndoSlot, StandsFor}
 use Rattle.clone_trx.proofs.Scans.{least_free_is}
 use Rattle.clone_trx.proofs.Rows.{keys_of, set_keys, same_keys}
-use Rattle.clone_trx.proofs.Telling.{own_slot, in_range}
+use Rattle.clone_trx.proofs.Telling.{own_slot, counted, in_range}
 use Rattle.clone_trx.proofs.Creating.{created_sound}
 use Rattle.clone_trx.proofs.Opening.{begun_sound, left_sound}
 use Rattle.clone_trx.proofs.Committing.{opened_sound, committed_sound}
@@ -53,6 +53,10 @@ keeps has sound same = record { kept = kept has sound; keys = ap keys_of has.1 �
 
 pub opening_keeps : (lsn : ℕ) → IsKept no_donor (after_records lsn finite.empty opening_records)
 opening_keeps lsn = kept (opening_is lsn) opened_sound
+
+-- no place is bound to a key yet
+pub opening_keys : (lsn : ℕ) → keys_in (after_records lsn finite.empty opening_records) ≡ (λ table page place. None)
+opening_keys lsn = ap keys_of (opening_is lsn).1
 
 pub create_keeps : (lsn table buckets : ℕ) (d : Donor) (image : Image) → IsKept d image → finite.get d.tables table ≡ None → finite.len d.tables < table_limit → 1 ≤ table → table ≤ 1000000 → 1 ≤ buckets → buckets ≤ 1024
     → Keeps (created table buckets d) image (after_records lsn image (create_records (finite.len d.tables) table buckets))
@@ -127,15 +131,21 @@ commit_keeps lsn trx position d after image is k fits =
     let u = in_use d image trx k.commit is k.was_active in
     keeps (commit_is image lsn trx position (slot_used u) is.formed u.small u.own.is fits) (committed_sound d after (contents_of image) trx position k is.sound) refl
 
--- the records of an undo slot that is in use are in their ranges
-pub records_in_range : (d : Donor) (image : Image) (trx : ℕ) (slot : UndoSlot) → IsKept d image → trx < transaction_limit → undo_slot_of image trx ≡ Some slot → AllByRecursion IsEntry slot.records
-records_in_range d image trx slot is small used = at (finite.get d.active trx) (is.sound.undo trx small)
+-- an undo slot has no more records than fit, each in its ranges
+pub record KnownRecords (slot : UndoSlot) : Type 0 where
+  pub in_range : AllByRecursion IsEntry slot.records
+  pub few : length slot.records ≤ capacity
+
+pub known_records : (d : Donor) (image : Image) (trx : ℕ) (slot : UndoSlot) → IsKept d image → trx < transaction_limit → undo_slot_of image trx ≡ Some slot → KnownRecords slot
+known_records d image trx slot is small used = at (finite.get d.active trx) refl (is.sound.undo trx small)
   where
     found : (contents_of image).undo trx ≡ Some slot
     found = undo_is image trx small ∙ used
 
-    at : (o : Option Commit) → StandsFor d (contents_of image).slot o ((contents_of image).undo trx) → AllByRecursion IsEntry slot.records
-    at None free = absurd (let none = sym free ∙ found in cc)
-    at (Some commit) own =
+    at : (o : Option Commit) → finite.get d.active trx ≡ o → StandsFor d (contents_of image).slot o ((contents_of image).undo trx) → KnownRecords slot
+    at None none free = absurd (let gone = sym free ∙ found in cc)
+    at (Some commit) some own =
         let same : ◌≡◌ {A = UndoSlot} (record { writer = commit.writer; index = commit.index; records = own.records }) slot = same_Some _ slot (sym own.is ∙ found) in
-        subst (λ (u : UndoSlot). AllByRecursion IsEntry u.records) same (in_range (contents_of image).slot (committed_rows d) commit.changes own.records own.tells)
+        let most = is.sound.locked.few.few trx commit some in
+        let as_many = counted (contents_of image).slot (committed_rows d) commit.changes own.records own.tells in
+        subst (λ (u : UndoSlot). KnownRecords u) same (record { in_range = in_range (contents_of image).slot (committed_rows d) commit.changes own.records own.tells; few = omega (arith, most, as_many) })

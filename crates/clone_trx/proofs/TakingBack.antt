@@ -1,5 +1,5 @@
 -- The last change of a transaction is taken back, and the contents stay sound.
-use Rattle.std.proofs.Common.{◌≡◌, ◌<◌, ◌+◌, ◌++◌, ℕ, List, [], ◌∷◌, length, refl, sym, ap, subst, ◌∙◌, arith, inl, inr, Option, Some}
+use Rattle.std.proofs.Common.{◌≡◌, ◌<◌, ◌≤◌, ◌+◌, ◌++◌, ℕ, List, [], ◌∷◌, length, refl, sym, ap, subst, ◌∙◌, arith, inl, inr, Option, Some}
 use Rattle.std.specs.Option.{is_some}
 use Rattle.std.specs.FinMap as finite
 use Rattle.std.proofs.lemmas.Bool.{cases_eq}
@@ -10,6 +10,7 @@ use Rattle.clone_model.specs.declared.change.Change.{Change}
 use Rattle.clone_model.specs.declared.change.Commit.{Commit}
 use Rattle.clone_row.specs.Slots.{row_slot}
 use Rattle.clone_undo.specs.Entries.{UndoEntry}
+use Rattle.clone_undo.specs.Places.{capacity}
 use Rattle.clone_undo.specs.Slots.{UndoSlot}
 use Rattle.clone_contents.specs.Contents.{Contents, HasPage, told_value, undone, with_slot}
 use Rattle.clone_contents.specs.Steps.{MayTakeBack, taken_back, telling}
@@ -71,11 +72,14 @@ module _ (d after : Donor) (c : Contents) (trx left : ℕ) (slot : UndoSlot) (fr
   pub told : TellsChanges c.slot (committed_rows d) t.front front × TellsChange c.slot (after_changes (committed_rows d) t.front) t.last e
   told = tells_split c.slot (committed_rows d) t.front front t.last e (subst (λ (p : List Change × List UndoEntry). TellsChanges c.slot (committed_rows d) p.0 p.1) (λ i. (t.split i, records i)) own.tells)
 
-  pub may_take : MayTakeBack c trx slot front e
-  may_take = record { small = small; used = used; last = last; in_range = told.1.in_range; there = bound_there d c e sound.tables sound.rows told.1.bound; bound = told.1.bound }
-
   pub count_is : length slot.records ≡ left + 1
   count_is = omega (arith, ap length last, length_push front e, counted c.slot (committed_rows d) t.front front told.0, t.count)
+
+  few : length slot.records ≤ capacity
+  few = omega (arith, count_is, t.count, ap length t.split, length_push t.front t.last, sound.locked.few.few trx commit t.was_active)
+
+  pub may_take : MayTakeBack c trx slot front e
+  may_take = record { small = small; used = used; last = last; few = few; in_range = told.1.in_range; there = bound_there d c e sound.tables sound.rows told.1.bound; bound = told.1.bound }
 
   history : committed_rows after ≡ committed_rows d
   history = ap committed_rows t.is

@@ -16,7 +16,7 @@ use Rattle.clone_image.specs.Recovered.{undo_slot_of}
 use Rattle.clone_contents.specs.Contents.{contents_of, told_value}
 use Rattle.clone_contents.proofs.ChangeLemmas.{undo_is, undo_there}
 use Rattle.clone_contents.proofs.RowSlots.{slot_is}
-use Rattle.clone_plain.specs.Donor.{Donor, changes_of}
+use Rattle.clone_plain.specs.Donor.{Donor}
 use Rattle.clone_plain.specs.Effects.{TakesBack}
 use Rattle.clone_plain.specs.Locked.{Opened, committed_rows, value_of}
 use Rattle.clone_plain.proofs.ValueLemmas.{changes_of_active, taken_value}

@@ -1,5 +1,5 @@
 -- The open transactions, and how the last change of one is taken away.
-use Rattle.std.specs.Prelude.{ℕ, ◌≡◌, ◌-◌, ◌++◌, List, length, take, None, Some, MatchOption, option_to_list}
+use Rattle.std.specs.Prelude.{ℕ, ◌≡◌, ◌-◌, ◌++◌, List, length, take, None, MatchOption, option_to_list}
 use Rattle.std.specs.declared.option.Option.{Option}
 use Rattle.std.specs.FinMap as finite
 use Rattle.clone_model.specs.declared.change.Change.{Change}

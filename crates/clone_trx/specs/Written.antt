@@ -6,7 +6,6 @@ use Rattle.clone_mtr.specs.declared.record.Record.{Record}
 use Rattle.clone_mtr.specs.Spelling.{spelling}
 use Rattle.clone_row.specs.Slots as rows
 use Rattle.clone_row.specs.Slots.{slots, Finds}
-use Rattle.clone_undo.specs.Entries.{UndoEntry}
 use Rattle.clone_undo.specs.Places.{header_page, record_page}
 use Rattle.clone_undo.specs.Changes.{records_of_begin, records_of_change, records_of_taking_back, records_of_end}
 use Rattle.clone_image.specs.Image.{after_records, all_pages}

@@ -1,10 +1,11 @@
-ghost use Rattle.std.specs.Prelude.{◌≡◌, ◌<◌, ◌%◌, ◌+◌, ℕ, None, Some, length, option_map, IsSome, IfOk, OnOk, OnErr};
+ghost use Rattle.std.specs.Prelude.{◌≡◌, ◌<◌, ◌≤◌, ◌%◌, ◌+◌, [], ℕ, None, Some, length, option_map, IsSome, IfOk, OnOk, OnErr};
 ghost use Rattle.std.specs.Option.{option_copied};
 ghost use Rattle.std.specs.List.{AllByRecursion};
 ghost use Rattle.std.specs.FinMap as finite;
 ghost use Rattle.clone_model.specs.History.{fold};
 ghost use Rattle.clone_mtr.specs.Spelling.{spelling};
 ghost use Rattle.clone_undo.specs.Entries.{IsEntry};
+ghost use Rattle.clone_undo.specs.Places.{capacity};
 ghost use Rattle.clone_undo.specs.Slots.{UndoSlot};
 ghost use Rattle.clone_image.specs.Image.{page_of, after_records};
 ghost use Rattle.clone_image.specs.Recovered.{recovered, undo_slot_of};
@@ -74,6 +75,7 @@ impl Engine {
     pub fn new(alloc: Global) -> Result<Engine, AllocError>
         ensures donor { IfOk result (λ engine. engine.donor ≡ no_donor) }
         ensures written { IfOk result (λ engine. engine.log ≡ spelling opening_records) }
+        ensures keys { IfOk result (λ engine. keys_in engine.image ≡ (λ table page place. None)) }
         ensures image { IfOk result (λ engine. engine.image ≡ after_records (first_lsn + length engine.log) finite.empty opening_records) }
     {
         let mut store = Store::new(alloc);
@@ -170,13 +172,15 @@ impl Engine {
     }
 
     /// What holds between calls: the pages are what the log leaves of none; their rows, once the changes of
-    /// every open transaction are taken back, are those that the history leaves; the records of undo slots are
-    /// in their ranges; and the pages are formed, and contain what the donor is.
+    /// every open transaction are taken back, are those that the history leaves; no undo slot has
+    /// more records than fit, and each is in its ranges; no table was dropped; and the pages are formed, and contain what the donor is.
     pub fn laws(&self)
         ensures replays { Replays self.now.log self.now.image }
         ensures rows { HasRows (page_of (recovered self.now.image)) (fold (history self.now.donor)) }
         ensures in_range { (s : ℕ) (slot : UndoSlot) → s < transaction_limit → undo_slot_of self.now.image s ≡ Some slot → AllByRecursion IsEntry slot.records }
+        ensures counts { (s : ℕ) (slot : UndoSlot) → s < transaction_limit → undo_slot_of self.now.image s ≡ Some slot → length slot.records ≤ capacity }
         ensures kept { IsKept self.now.donor self.now.image }
+        ensures drops { self.now.donor.drops ≡ [] }
     {
         self.store.replays();
     }

@@ -184,16 +184,15 @@ impl Plain {
         let Some(commit) = self.active.get(&trx) else {
             return Err(Cause::NoSuchTrx.into());
         };
-        let count = commit.changes.len() as u16;
-        if count == 0 {
+        let Some(left) = commit.changes.len().checked_sub(1) else {
             let _ = self.active.remove(&trx);
             self.release(trx);
             return Ok(Undone::Ended);
-        }
+        };
         if let Some(commit) = self.active.get_mut(&trx) {
             let _ = commit.changes.pop();
         }
-        Ok(Undone::Left(count - 1))
+        Ok(Undone::Left(u16::try_from(left).unwrap_or(u16::MAX)))
     }
 
     /// Commits all changes of a transaction, and answers the new number of commits.

@@ -9,13 +9,10 @@ use Rattle.clone_image.specs.Image.{Image, MakesNoPage, after_records}
 use Rattle.clone_image.specs.Replay.{first_lsn}
 use Rattle.clone_contents.specs.Steps.{is_unused}
 use Rattle.clone_base.proofs.OrderedMaps.{len-below}
-use Rattle.clone_plain.specs.Causes.{least_free}
 use Rattle.clone_plain.specs.Donor.{Donor}
 use Rattle.clone_plain.specs.Effects.{begun}
-use Rattle.clone_plain.specs.Locked.{Opened}
 use Rattle.clone_trx.specs.Engine.{EngineState, donor_of}
 use Rattle.clone_trx.specs.Keys.{keys_in}
-use Rattle.clone_trx.specs.Sound.{IsKept}
 use Rattle.clone_trx.specs.Written.{AppendsBegin}
 use Rattle.clone_trx.proofs.Begun as lem
 use Rattle.clone_trx.proofs.Scans.{least_free_is}

@@ -1,13 +1,12 @@
-use Rattle.std.proofs.Common.{◌≡◌, ◌<◌, ◌≤◌, ◌+◌, ◌∷◌, [], ℕ, length, None, refl, sym, ap, subst, ◌∙◌, arith}
+use Rattle.std.proofs.Common.{◌≡◌, ◌+◌, ◌∷◌, [], length, refl, sym, ap, subst, ◌∙◌, arith}
 use Rattle.std.specs.FinMap as finite
 use Rattle.std.specs.Cmp.{nat_cmp_total}
 use Rattle.std.proofs.lemmas.List.{length_push}
 use Rattle.std.proofs.lemmas.Map.Lookups.{exact_unsigned}
 use Rattle.clone_base.proofs.OrderedMaps.{len-without}
-use Rattle.clone_image.specs.Image.{Image, after_records}
+use Rattle.clone_image.specs.Image.{Image}
 use Rattle.clone_image.specs.Replay.{first_lsn}
 use Rattle.clone_contents.specs.Records.{commit_records}
-use Rattle.clone_store.specs.Stored.{Writes}
 use Rattle.clone_plain.specs.Donor.{Donor}
 use Rattle.clone_plain.specs.Causes.{no_trx}
 use Rattle.clone_plain.specs.Effects.{Commits}

@@ -1,13 +1,10 @@
-use Rattle.std.proofs.Common.{◌≡◌, ◌≢◌, ◌<◌, ◌≤◌, ◌+◌, ◌++◌, ℕ, true, false, List, length, None, refl, sym, ap, subst, ◌∙◌, arith}
-use Rattle.std.specs.Option.{is_some}
-use Rattle.std.specs.declared.option.Option.{Option}
+use Rattle.std.proofs.Common.{◌≡◌, ◌≢◌, ◌<◌, ◌+◌, List, length, None, sym, ap, subst, ◌∙◌, arith}
 use Rattle.std.specs.FinMap as finite
 use Rattle.std.specs.Cmp.{nat_cmp_total}
 use Rattle.std.proofs.lemmas.Map.Lookups.{exact_unsigned}
 use Rattle.clone_base.proofs.OrderedMaps.{removed_again}
 use Rattle.clone_mtr.specs.declared.record.Record.{Record}
-use Rattle.clone_mtr.specs.Spelling.{spelling}
-use Rattle.clone_image.specs.Image.{Image, after_records}
+use Rattle.clone_image.specs.Image.{Image}
 use Rattle.clone_image.specs.Replay.{first_lsn}
 use Rattle.clone_contents.specs.Records.{create_records}
 use Rattle.clone_store.specs.Stored.{Keeps, Writes}

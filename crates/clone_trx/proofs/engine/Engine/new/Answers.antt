@@ -1,4 +1,4 @@
-use Rattle.std.proofs.Common.{◌≡◌, ◌≤◌, ◌+◌, ℕ, length, sym, ap, subst, ◌∙◌, arith}
+use Rattle.std.proofs.Common.{◌≡◌, ◌+◌, ℕ, length, sym, ap, subst, ◌∙◌, arith}
 use Rattle.std.specs.FinMap as finite
 use Rattle.std.specs.FinMap.{len-empty}
 use Rattle.std.specs.Ordering.{nat_cmp}
@@ -9,8 +9,9 @@ use Rattle.clone_store.specs.Stored.{Stored}
 use Rattle.clone_contents.specs.Records.{opening_records}
 use Rattle.clone_plain.specs.Donor.{Donor, no_donor}
 use Rattle.clone_trx.specs.Engine.{donor_of}
+use Rattle.clone_trx.specs.Keys.{keys_in}
 use Rattle.clone_trx.specs.Sound.{IsKept}
-use Rattle.clone_trx.proofs.Steps.{opening_keeps}
+use Rattle.clone_trx.proofs.Steps.{opening_keeps, opening_keys}
 use Rattle.clone_trx.proofs.engine.Engine.new.Goals as goal
 
 abbrev end : goal.After-new-4 → ℕ
@@ -28,3 +29,6 @@ invariant_of-result-2 c =
 
 pub returns-clause-image : goal.returns-clause-image
 returns-clause-image c = pages c
+
+pub returns-clause-keys : goal.returns-clause-keys
+returns-clause-keys c = ap keys_in (pages c) ∙ opening_keys (end c)

@@ -1,9 +1,6 @@
-use Rattle.std.proofs.Common.{◌≡◌, eqb, sym, ap, subst, ◌∙◌, Some}
-use Rattle.std.specs.Option.{option_or}
+use Rattle.std.proofs.Common.{eqb, sym, ap, subst, ◌∙◌, Some}
 use Rattle.clone_undo.specs.Entries.{UndoEntry}
 use Rattle.clone_plain.specs.declared.refusal.Cause.{Cause}
-use Rattle.clone_plain.specs.Causes.{change_cause}
-use Rattle.clone_trx.specs.Keys.{full_cause}
 use Rattle.clone_trx.specs.Places.{Places, IsPlaceFor}
 use Rattle.clone_trx.proofs.CallCauses as causes
 use Rattle.clone_trx.proofs.CallCauses.{stopped}
@@ -11,7 +8,7 @@ use Rattle.clone_trx.proofs.Looking as lem
 use Rattle.clone_trx.proofs.engine.Engine.place_for.Goals as goal
 
 pub returns-in_default-bucket_of : goal.returns-in_default-bucket_of
-returns-in_default-bucket_of c = 
+returns-in_default-bucket_of c =
     let starts : causes.Starts c.args.self.now.donor c.args.trx c.args.long c.in-Some.commit.now = record { is = lem.active_at c.self.view_is c.args.trx c.in-Some.commit.now (sym c.in-Some.ensures); short = c.if-long-gt-VALUE_BYTES.false } in
     stopped _ (causes.change_without_table c.args.table c.args.key starts (lem.no_bucket c.args.self.now.donor c.args.table c.args.key c.in_default-bucket_of.ensures))
 
@@ -22,7 +19,7 @@ returns-then-count-eq-CHANGES c =
     stopped _ (causes.change_too_many c.args.key (record { starts = starts; there = b.there }) (sym c.len-count.ensures ∙ c.if-count-eq-CHANGES.true))
 
 pub returns-in_err-check_lock : goal.returns-in_err-check_lock
-returns-in_err-check_lock c = 
+returns-in_err-check_lock c =
     let starts : causes.Starts c.args.self.now.donor c.args.trx c.args.long c.in-Some.commit.now = record { is = lem.active_at c.self.view_is c.args.trx c.in-Some.commit.now (sym c.in-Some.ensures); short = c.if-long-gt-VALUE_BYTES.false } in
     let b : lem.Bucket c.args.self.now.donor c.args.table c.args.key c.in-Some-bucket_of.bucket = lem.bucket c.in-Some-bucket_of.ensures in
     let by = causes.change_by_lock c.args.key (record { starts = starts; there = b.there }) (λ e. c.if-count-eq-CHANGES.false (c.len-count.ensures ∙ e)) in

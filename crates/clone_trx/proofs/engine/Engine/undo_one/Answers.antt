@@ -1,4 +1,4 @@
-use Rattle.std.proofs.Common.{◌≡◌, ◌≢◌, ◌<◌, ◌≤◌, ◌-◌, ◌+◌, ◌∷◌, [], ℕ, length, refl, sym, ap, subst, ◌∙◌, arith}
+use Rattle.std.proofs.Common.{◌≡◌, ◌≢◌, ◌<◌, ◌-◌, ◌+◌, ◌∷◌, [], length, refl, sym, ap, subst, ◌∙◌, arith}
 use Rattle.std.specs.Option.{is_some}
 use Rattle.std.specs.FinMap as finite
 use Rattle.std.specs.Cmp.{nat_cmp_total}
@@ -73,6 +73,11 @@ last_entry-entry-requires-clause-slot c =
     let d : Donor = donor_of c.self.inside.tables c.self.inside.active c.self.inside.locks c.self.inside.binlog.commits in
     subst (λ (i : Image). HasRecords i c.args.trx c.len-count.result) (sym c.in_ok-reserve.ensures.same.image)
     (has_last d c.self.inside.store.image c.args.trx c.len-count.result c.in-Some.commit.now c.self.invariant.0 (sym c.in-Some.ensures) c.len-count.ensures c.if-count-eq0.false)
+
+pub last_entry-entry-requires-clause-few : goal.last_entry-entry-requires-clause-few
+last_entry-entry-requires-clause-few c =
+    let most = c.self.invariant.0.sound.locked.few.few c.args.trx c.in-Some.commit.now (sym c.in-Some.ensures) in
+    omega (arith, most, c.len-count.ensures)
 
 abbrev before : After-pop → EngineState
 before c = record { donor = donor_of c.self.inside.tables c.self.inside.active c.self.inside.locks c.self.inside.binlog.commits; image = c.self.inside.store.image; log = c.self.inside.store.log }

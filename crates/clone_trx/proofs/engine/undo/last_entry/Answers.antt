@@ -1,19 +1,16 @@
 use Rattle.std.proofs.Common.{sym, ap, ◌∙◌, arith}
 use Rattle.std.specs.Option.{option_copied}
-use Rattle.clone_trx.proofs.LastRecords.{within, some, page_there, last_on, ends_with}
+use Rattle.clone_trx.proofs.LastRecords.{some, page_there, last_on, ends_with}
 use Rattle.clone_trx.proofs.engine.undo.last_entry.Goals as goal
 
 pub record_page-requires-clause-number : goal.record_page-requires-clause-number
 record_page-requires-clause-number c =
     let image = c.args.store.now.image in
-    omega (arith, within image c.args.trx c.args.count c.requires.slot, some image c.args.trx c.args.count c.requires.slot)
+    omega (arith, c.requires.few, some image c.args.trx c.args.count c.requires.slot)
 
 pub unreachable-requires : goal.unreachable-requires
 unreachable-requires c =
     page_there c.args.store.now.image c.args.trx c.args.count c.requires.slot c.record_page.result c.record_page.ensures (sym c.page.ensures ∙ ap option_copied c.in_default.is)
-
-pub last_record-requires-clause-count : goal.last_record-requires-clause-count
-last_record-requires-clause-count c = within c.args.store.now.image c.args.trx c.args.count c.requires.slot
 
 pub unreachable-requires-in-None : goal.unreachable-requires-in-None
 unreachable-requires-in-None c =
