@@ -22,21 +22,11 @@ fn rows_in_order(rt: HostRuntime) -> Result<(), Fail> {
 }
 
 #[test]
-fn commits_within_the_room(rt: HostRuntime) -> Result<(), Fail> {
+fn commits_with_their_changes(rt: HostRuntime) -> Result<(), Fail> {
     let alloc = rt.alloc();
     let mut binlog = Binlog::new(alloc);
     binlog.reserve(1)?;
     binlog.push_within(commit(alloc, 0, 0, set(7, b"hi")?)?);
-    let text = binlog_text(alloc, &binlog)?;
-    assert_eq!(rt; text.as_str(), "commit 0 0 1\n1 7 6869\n");
-    Ok(())
-}
-
-#[test]
-fn commits_with_their_changes(rt: HostRuntime) -> Result<(), Fail> {
-    let alloc = rt.alloc();
-    let mut binlog = Binlog::new(alloc);
-    binlog.push(commit(alloc, 0, 0, set(7, b"hi")?)?)?;
     let text = binlog_text(alloc, &binlog)?;
     assert_eq!(rt; text.as_str(), "commit 0 0 1\n1 7 6869\n");
     binlog.push(commit(alloc, 3, 1, removal(7))?)?;
@@ -113,24 +103,10 @@ fn bad_binlogs(rt: HostRuntime) {
 
 #[test]
 fn a_binlog_read_back(rt: HostRuntime) -> Result<(), ReadRefusal> {
-    let binlog = read_binlog(
-        rt.alloc(),
-        b"commit 0 0 1\n1 7 6869\ncommit 3 1 1\n2 8 none\n",
-    )?;
-    let [first, second] = binlog.as_slice() else {
-        assert!(rt; false);
-        return Ok(());
-    };
-    assert_eq!(rt; (first.writer, first.index), (0, 0));
-    assert_eq!(rt; (second.writer, second.index), (3, 1));
-    for change in first.changes.as_slice() {
-        assert_eq!(rt; (change.table, change.key), (1, 7));
-        assert!(rt; matches!(&change.value, Some(value) if value.bytes() == b"hi".as_slice()));
-    }
-    for change in second.changes.as_slice() {
-        assert_eq!(rt; (change.table, change.key), (2, 8));
-        assert!(rt; change.value.is_none());
-    }
+    let alloc = rt.alloc();
+    let text = "commit 0 0 1\n1 7 6869\ncommit 3 1 1\n2 8 none\n";
+    let binlog = read_binlog(alloc, text.as_bytes())?;
+    assert_eq!(rt; binlog_text(alloc, &binlog)?.as_str(), text);
     Ok(())
 }
 
@@ -201,25 +177,6 @@ fn values_read_for_a_script(rt: HostRuntime) -> Result<(), Fail> {
     ] {
         assert!(rt; script_value_of(alloc, text)?.is_none());
     }
-    Ok(())
-}
-
-#[test]
-fn the_last_of_a_list(rt: HostRuntime) -> Result<(), Fail> {
-    let alloc = rt.alloc();
-    let mut binlog = Binlog::new(alloc);
-    binlog.reserve(2)?;
-    binlog.push(commit(alloc, 0, 0, removal(7))?)?;
-    binlog.push(commit(alloc, 1, 0, removal(8))?)?;
-    binlog.set_last(commit(alloc, 2, 5, removal(9))?);
-    let text = binlog_text(alloc, &binlog)?;
-    assert_eq!(rt;
-        text.as_str(),
-        "commit 0 0 1\n1 7 none\ncommit 2 5 1\n1 9 none\n"
-    );
-    let mut changes = Changes::with(alloc, removal(7))?;
-    assert!(rt; matches!(changes.pop(), Some(change) if change.key == 7));
-    assert!(rt; changes.pop().is_none());
     Ok(())
 }
 
