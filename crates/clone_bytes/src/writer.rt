@@ -2,8 +2,7 @@ ghost use Rattle.std.specs.Prelude.{◌≡◌, ◌++◌, ◌∷◌, [], OnOk, On
 ghost use Rattle.byteorder.specs.Endian.{big_bytes};
 
 use byteorder::{BigEndian, ByteOrder};
-use clone_outside::NoMemory;
-use std::alloc::Global;
+use std::alloc::{AllocError, Global};
 use std::marker::Model;
 
 /// Bytes that are written one field after the other. It is seen as the bytes that it holds.
@@ -31,7 +30,7 @@ impl Writer {
     }
 
     /// Appends a byte, or nothing where there is no memory.
-    pub fn u8(&mut self, n: u8) -> Result<(), NoMemory>
+    pub fn u8(&mut self, n: u8) -> Result<(), AllocError>
         ensures ok { OnOk result (self.new ≡ self.old ++ big_bytes 1 n) }
         ensures err { OnErr result (self.new ≡ self.old) }
     {
@@ -39,7 +38,7 @@ impl Writer {
     }
 
     /// Appends the two bytes of a number, or nothing where there is no memory.
-    pub fn u16(&mut self, n: u16) -> Result<(), NoMemory>
+    pub fn u16(&mut self, n: u16) -> Result<(), AllocError>
         ensures ok { OnOk result (self.new ≡ self.old ++ big_bytes 2 n) }
         ensures err { OnErr result (self.new ≡ self.old) }
     {
@@ -49,7 +48,7 @@ impl Writer {
     }
 
     /// Appends the four bytes of a number, or nothing where there is no memory.
-    pub fn u32(&mut self, n: u32) -> Result<(), NoMemory>
+    pub fn u32(&mut self, n: u32) -> Result<(), AllocError>
         ensures ok { OnOk result (self.new ≡ self.old ++ big_bytes 4 n) }
         ensures err { OnErr result (self.new ≡ self.old) }
     {
@@ -59,7 +58,7 @@ impl Writer {
     }
 
     /// Appends the eight bytes of a number, or nothing where there is no memory.
-    pub fn u64(&mut self, n: u64) -> Result<(), NoMemory>
+    pub fn u64(&mut self, n: u64) -> Result<(), AllocError>
         ensures ok { OnOk result (self.new ≡ self.old ++ big_bytes 8 n) }
         ensures err { OnErr result (self.new ≡ self.old) }
     {
@@ -69,7 +68,7 @@ impl Writer {
     }
 
     /// Appends these bytes, or nothing where there is no memory.
-    pub fn bytes(&mut self, from: &[u8]) -> Result<(), NoMemory>
+    pub fn bytes(&mut self, from: &[u8]) -> Result<(), AllocError>
         ensures ok { OnOk result (self.new ≡ self.old ++ from.now) }
         ensures err { OnErr result (self.new ≡ self.old) }
     {

@@ -78,7 +78,7 @@ module _ (image : Image) (lsn s : ℕ) (slot : UndoSlot) (front : List UndoEntry
     small = may.small;
     fits = fits;
     system = stay 0 0 (λ z. z) (λ z p. in_table (sym z));
-    own = undo.taken_back lsn s slot front e (slot_before e) pages whole may.in_range used may.last;
+    own = undo.taken_back lsn s slot front e (slot_before e) pages whole may.in_range may.few used may.last;
     others = λ n other. undo.taken_back_other lsn s count n e (slot_before e) pages other may.in_range;
   }
 

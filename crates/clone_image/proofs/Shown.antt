@@ -9,7 +9,7 @@ use Rattle.clone_model.specs.History.{Row, Rows}
 use Rattle.clone_model.proofs.RowMaps.{row_cmp_total, row_cmp_exact}
 use Rattle.clone_page.specs.Dictionary.{Lists, entry_space}
 use Rattle.clone_image.specs.Image.{Image, page_of}
-use Rattle.clone_image.specs.Rows.{Pages, IsListed, IsRow, ShowsRows}
+use Rattle.clone_image.specs.Rows.{Pages, IsListed, IsRow, AreOnce, HasRows, ShowsRows}
 use Rattle.clone_image.specs.Added.{Adds, InPage, InPages, InTable, InTables}
 
 -- what holds of the value that is there
@@ -73,22 +73,36 @@ found_row image system row there is =
 nothing_there : (t k : ℕ) (v : List ℕ) → finite.get (finite.empty {X = List ℕ} {R = row_cmp}) (t, k) ≡ Some v → ⊥
 nothing_there t k v e = none-some v (sym (get-empty row_cmp (t, k)) ∙ e)
 
+some_value : (o : Option (List ℕ)) → IsSome o → (v : List ℕ) × (o ≡ Some v)
+some_value None some = cc
+some_value (Some v) some = (v, refl)
+
+-- what is sound and complete shows the rows
+shows : (pages : Pages) (rows : Rows) → ((t k : ℕ) (v : List ℕ) → finite.get rows (t, k) ≡ Some v → IsRow pages (t, k, v))
+    → ((t k : ℕ) (v : List ℕ) → IsRow pages (t, k, v) → IsSome (finite.get rows (t, k))) → ShowsRows pages rows
+shows pages rows sound complete = record { sound = sound; complete = complete; all = λ once. record { here = λ t k v. here once t k v; there = sound } }
+  where
+    here : AreOnce pages → (t k : ℕ) (v : List ℕ) → IsRow pages (t, k, v) → finite.get rows (t, k) ≡ Some v
+    here once t k v is =
+        let found = some_value (finite.get rows (t, k)) (complete t k v is) in
+        found.1 ∙ ap Some (once t k found.0 v (sound t k found.0 found.1) is)
+
 -- what the dictionary leads to, added to nothing
 pub shows_added : (image : Image) (system : List ℕ) (first rows : Rows) → Some system ≡ page_of image 0 0 → first ≡ finite.empty → Adds first rows (InTables image system) → ShowsRows (page_of image) rows
-shows_added image system first rows there empty is = record {
-  sound = λ t k v e. elim (is.sound t k v e) [
-    | inl o ↦ absurd (nothing_there t k v (ap (λ m. finite.get m (t, k)) (sym empty) ∙ o))
-    | inr f ↦ row_found image system (t, k, v) (sym there) f
-  ];
-  complete = λ t k v f. is.complete t k v (found_row image system (t, k, v) (sym there) f);
-}
+shows_added image system first rows there empty is =
+    shows (page_of image) rows
+    (λ t k v e. elim (is.sound t k v e) [
+      | inl o ↦ absurd (nothing_there t k v (ap (λ m. finite.get m (t, k)) (sym empty) ∙ o))
+      | inr f ↦ row_found image system (t, k, v) (sym there) f
+    ])
+    (λ t k v f. is.complete t k v (found_row image system (t, k, v) (sym there) f))
 
 -- an image with no system page has no rows
 pub shows_none : (image : Image) (rows : Rows) → None ≡ page_of image 0 0 → rows ≡ finite.empty → ShowsRows (page_of image) rows
-shows_none image rows none empty = record {
-  sound = λ t k v e. absurd (nothing_there t k v (ap (λ m. finite.get m (t, k)) (sym empty) ∙ e));
-  complete = λ t k v f. absurd (subst (λ o. IsSomeAnd o (λ page. Lists page t)) (sym none) f.listed);
-}
+shows_none image rows none empty =
+    shows (page_of image) rows
+    (λ t k v e. absurd (nothing_there t k v (ap (λ m. finite.get m (t, k)) (sym empty) ∙ e)))
+    (λ t k v f. absurd (subst (λ o. IsSomeAnd o (λ page. Lists page t)) (sym none) f.listed))
 
 same_value : (o p : Option (List ℕ)) → ((v : List ℕ) → o ≡ Some v → p ≡ Some v) → ((v : List ℕ) → p ≡ Some v → IsSome o) → o ≡ p
 same_value (Some v) p to from = sym (to v refl)

@@ -5,10 +5,11 @@ use Rattle.std.specs.FinMap as finite
 use Rattle.clone_mtr.specs.declared.record.Record.{Record}
 use Rattle.clone_mtr.specs.Spelling.{spelling, Spells, log_of}
 use Rattle.clone_image.specs.Image.{Image, after_records}
+use Rattle.clone_image.specs.declared.lsn.TheConstants.{FIRST_LSN}
 
 -- where the log begins
 abbrev pub first_lsn : ℕ
-first_lsn = 8192
+first_lsn = FIRST_LSN
 
 -- the end of a mini-transaction that begins here
 abbrev pub end_of : ℕ → List Record → ℕ

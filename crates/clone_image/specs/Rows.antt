@@ -30,12 +30,17 @@ pub record IsRow (pages : Pages) (row : Row) : Type 0 where
   pub within : place < slot_count
   pub held : row_of (slot place page) ≡ Some (row.1, row.2)
 
--- A map shows the rows of an image: whatever it has at a table and a key is a row of the image, and it has a value wherever the image has a row. So where the image has one value for a row, the map has that one.
-pub record ShowsRows (pages : Pages) (rows : Rows) : Type 0 where
-  pub sound : (table key : ℕ) (value : List ℕ) → finite.get rows (table, key) ≡ Some value → IsRow pages (table, key, value)
-  pub complete : (table key : ℕ) (value : List ℕ) → IsRow pages (table, key, value) → IsSome (finite.get rows (table, key))
-
 -- the rows of an image are those of a map, as a set of tables, keys and values
 pub record HasRows (pages : Pages) (rows : Rows) : Type 0 where
   pub here : (table key : ℕ) (value : List ℕ) → IsRow pages (table, key, value) → finite.get rows (table, key) ≡ Some value
   pub there : (table key : ℕ) (value : List ℕ) → finite.get rows (table, key) ≡ Some value → IsRow pages (table, key, value)
+
+-- the image has no two values for one row
+abbrev pub AreOnce : Pages → Type 0
+AreOnce pages = (table key : ℕ) (value other : List ℕ) → IsRow pages (table, key, value) → IsRow pages (table, key, other) → value ≡ other
+
+-- A map shows the rows of an image: whatever it has at a table and a key is a row of the image, and it has a value wherever the image has a row. Where the image has no two values for one row, the rows of the map are those of the image as a set.
+pub record ShowsRows (pages : Pages) (rows : Rows) : Type 0 where
+  pub sound : (table key : ℕ) (value : List ℕ) → finite.get rows (table, key) ≡ Some value → IsRow pages (table, key, value)
+  pub complete : (table key : ℕ) (value : List ℕ) → IsRow pages (table, key, value) → IsSome (finite.get rows (table, key))
+  pub all : AreOnce pages → HasRows pages rows

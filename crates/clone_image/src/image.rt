@@ -8,9 +8,8 @@ ghost use Rattle.clone_image.specs.Image.{page_of, with_edit, edited, extended, 
 ghost use Rattle.clone_image.specs.Spaces.{pages_of_spaces};
 
 use clone_mtr::Record;
-use clone_outside::NoMemory;
 use clone_page::Page;
-use std::alloc::Global;
+use std::alloc::{AllocError, Global};
 use std::collections::BTreeMap;
 use std::marker::Model;
 
@@ -63,7 +62,7 @@ impl Image {
 
     /// Does to the image what the record says. `lsn` is the end of its mini-transaction. A record that
     /// makes no page takes no memory, and after a refusal the image is as before.
-    pub fn apply(&mut self, alloc: Global, entry: &Record, lsn: u64) -> Result<(), NoMemory>
+    pub fn apply(&mut self, alloc: Global, entry: &Record, lsn: u64) -> Result<(), AllocError>
         ensures ok { OnOk result (self.new ≡ after_record lsn self.old entry.now) }
         ensures err { OnErr result (self.new ≡ self.old) }
         ensures without_memory { MakesNoPage entry.now → IsOk result }
@@ -85,7 +84,12 @@ impl Image {
     /// Does to the image what the records of a mini-transaction say, in their order. `lsn` is its end.
     /// Where none makes a page it takes no memory. After a refusal some records may have been applied,
     /// but none where only the first makes a page.
-    pub fn apply_all(&mut self, alloc: Global, records: &[Record], lsn: u64) -> Result<(), NoMemory>
+    pub fn apply_all(
+        &mut self,
+        alloc: Global,
+        records: &[Record],
+        lsn: u64,
+    ) -> Result<(), AllocError>
         ensures ok { OnOk result (self.new ≡ after_records lsn self.old records.now) }
         ensures err { AllByRecursion MakesNoPage (drop 1 records.now) → OnErr result (self.new ≡ self.old) }
         ensures without_memory { AllByRecursion MakesNoPage records.now → IsOk result }
@@ -153,7 +157,7 @@ fn lay_on_page(pages: &mut Vec<Page>, number: usize, offset: u16, bytes: &[u8])
 }
 
 // Gives a space at least so many pages, if it is there.
-fn extend(spaces: &mut Spaces, space: u32, count: u32) -> Result<(), NoMemory>
+fn extend(spaces: &mut Spaces, space: u32, count: u32) -> Result<(), AllocError>
     ensures ok { OnOk result (pages_of_spaces spaces.new.entries ≡ with_edit (pages_of_spaces spaces.old.entries) space (extended count)) }
     ensures err { OnErr result (pages_of_spaces spaces.new.entries ≡ pages_of_spaces spaces.old.entries) }
 {
@@ -164,7 +168,7 @@ fn extend(spaces: &mut Spaces, space: u32, count: u32) -> Result<(), NoMemory>
 }
 
 // Adds unused pages until there are so many.
-fn add_pages(pages: &mut Vec<Page>, count: usize) -> Result<(), NoMemory>
+fn add_pages(pages: &mut Vec<Page>, count: usize) -> Result<(), AllocError>
     ensures ok { OnOk result (pages.new.items ≡ extended count pages.old.items) }
     ensures err { OnErr result (pages.new.items ≡ pages.old.items) }
 {
@@ -177,7 +181,7 @@ fn add_pages(pages: &mut Vec<Page>, count: usize) -> Result<(), NoMemory>
 }
 
 // Makes a space of unused pages, in the place of one of the same number.
-fn create(alloc: Global, spaces: &mut Spaces, space: u32, count: u32) -> Result<(), NoMemory>
+fn create(alloc: Global, spaces: &mut Spaces, space: u32, count: u32) -> Result<(), AllocError>
     ensures ok { OnOk result (pages_of_spaces spaces.new.entries ≡ finite.insert (pages_of_spaces spaces.old.entries) space (replicate count zero_page)) }
     ensures err { OnErr result (pages_of_spaces spaces.new.entries ≡ pages_of_spaces spaces.old.entries) }
 {

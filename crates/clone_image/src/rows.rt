@@ -8,38 +8,16 @@ ghost use Rattle.clone_image.specs.Rows.{Pages, IsRow, ShowsRows, HoldsSlots};
 ghost use Rattle.clone_image.specs.Added.{Adds, Below, InSlot, InPage, InPages, InTable, AtEntry, InTables};
 
 use crate::Image;
-use byteorder::{BigEndian, ByteOrder};
 use clone_model::{Tables, Value};
-use clone_outside::NoMemory;
-use clone_page::{Page, PageKind};
-use std::alloc::Global;
-
-// Where the dictionary's entries begin on the system page, the bytes of each, and how many there are.
-const ENTRIES_AT: usize = 64;
-
-const ENTRY_SIZE: usize = 16;
-
-const ENTRY_COUNT: usize = 62;
-
-// Where the slots begin on a page of rows, the bytes of each, and how many there are.
-const SLOTS_AT: usize = 48;
-
-const SLOT_SIZE: usize = 80;
-
-const SLOT_COUNT: usize = 50;
-
-// The state of a slot that holds a row, and where its key and its value begin.
-const PRESENT: u8 = 1;
-
-const KEY_AT: usize = 8;
-
-const VALUE_AT: usize = 16;
+use clone_page::{ENTRIES_AT, ENTRY_BYTES, ENTRY_COUNT, Page, PageKind, SLOT_COUNT, u32_at};
+use clone_row::present;
+use std::alloc::{AllocError, Global};
 
 /// The rows of an image: of each page of kind bucket or overflow in the space of a table that the
 /// system page lists. A slot whose length is above 64 holds no row. Where a row stands more than once,
 /// one of its values is kept. An image without a system page has no rows. The one refusal is for want
 /// of memory.
-pub fn rows_of(alloc: Global, image: &Image) -> Result<Tables, NoMemory>
+pub fn rows_of(alloc: Global, image: &Image) -> Result<Tables, AllocError>
     ensures { IfOk result (λ tables. ShowsRows (page_of image.now) tables) }
 {
     let mut tables = Tables::new(alloc);
@@ -50,7 +28,7 @@ pub fn rows_of(alloc: Global, image: &Image) -> Result<Tables, NoMemory>
 }
 
 // Adds the rows of each table that the dictionary lists.
-fn add_tables(tables: &mut Tables, image: &Image, system: &Page) -> Result<(), NoMemory>
+fn add_tables(tables: &mut Tables, image: &Image, system: &Page) -> Result<(), AllocError>
     ensures { OnOk result (Adds tables.old tables.new (InTables image.now system.now)) }
 {
     for place in 0..ENTRY_COUNT {
@@ -65,7 +43,7 @@ fn add_entry(
     image: &Image,
     system: &Page,
     place: usize,
-) -> Result<(), NoMemory>
+) -> Result<(), AllocError>
     requires { place < entry_count }
     ensures { OnOk result (Adds tables.old tables.new (AtEntry image.now system.now place)) }
 {
@@ -80,12 +58,11 @@ fn table_at(system: &Page, place: usize) -> u32
     requires { place < entry_count }
     ensures { result ≡ entry_space place system.now }
 {
-    let start = ENTRIES_AT + ENTRY_SIZE * place;
-    BigEndian::read_u32(&system.bytes()[start..start + 4])
+    u32_at(system.bytes(), ENTRIES_AT + ENTRY_BYTES * place)
 }
 
 // Adds the rows of a table, if its space is there.
-fn add_table(tables: &mut Tables, image: &Image, table: u32) -> Result<(), NoMemory>
+fn add_table(tables: &mut Tables, image: &Image, table: u32) -> Result<(), AllocError>
     ensures { OnOk result (Adds tables.old tables.new (InTable image.now table)) }
 {
     match image.pages(table) {
@@ -94,7 +71,7 @@ fn add_table(tables: &mut Tables, image: &Image, table: u32) -> Result<(), NoMem
     }
 }
 
-fn add_pages(tables: &mut Tables, table: u32, pages: &[Page]) -> Result<(), NoMemory>
+fn add_pages(tables: &mut Tables, table: u32, pages: &[Page]) -> Result<(), AllocError>
     ensures { OnOk result (Adds tables.old tables.new (InPages table pages.now)) }
 {
     for page in pages {
@@ -104,7 +81,7 @@ fn add_pages(tables: &mut Tables, table: u32, pages: &[Page]) -> Result<(), NoMe
 }
 
 // Adds the rows of a page, if it is of a kind that holds rows.
-fn add_page(tables: &mut Tables, table: u32, page: &Page) -> Result<(), NoMemory>
+fn add_page(tables: &mut Tables, table: u32, page: &Page) -> Result<(), AllocError>
     ensures { OnOk result (Adds tables.old tables.new (InPage table page.now)) }
 {
     if holds_slots(page) {
@@ -120,7 +97,7 @@ fn holds_slots(page: &Page) -> bool
     kind == PageKind::Bucket.number() || kind == PageKind::Overflow.number()
 }
 
-fn add_slots(tables: &mut Tables, table: u32, page: &Page) -> Result<(), NoMemory>
+fn add_slots(tables: &mut Tables, table: u32, page: &Page) -> Result<(), AllocError>
     ensures { OnOk result (Adds tables.old tables.new (Below slot_count (InSlot table page.now))) }
 {
     for place in 0..SLOT_COUNT {
@@ -130,7 +107,7 @@ fn add_slots(tables: &mut Tables, table: u32, page: &Page) -> Result<(), NoMemor
 }
 
 // Adds the row of a slot, if it holds one.
-fn add_slot(tables: &mut Tables, table: u32, page: &Page, place: usize) -> Result<(), NoMemory>
+fn add_slot(tables: &mut Tables, table: u32, page: &Page, place: u16) -> Result<(), AllocError>
     requires { place < slot_count }
     ensures { OnOk result (Adds tables.old tables.new (InSlot table page.now place)) }
 {
@@ -141,26 +118,11 @@ fn add_slot(tables: &mut Tables, table: u32, page: &Page, place: usize) -> Resul
 }
 
 // The key and the value of a slot, if it holds a row.
-fn row_at(page: &Page, place: usize) -> Option<(u64, Value)>
+fn row_at(page: &Page, place: u16) -> Option<(u64, Value)>
     requires { place < slot_count }
     ensures { result ≡ row_of (slot place page.now) }
 {
-    let start = SLOTS_AT + SLOT_SIZE * place;
-    row_in(&page.bytes()[start..start + SLOT_SIZE])
-}
-
-// The same of the 80 bytes of a slot.
-fn row_in(slot: &[u8]) -> Option<(u64, Value)>
-    requires { length slot.now ≡ 80 }
-    ensures { result ≡ row_of slot.now }
-{
-    let len = slot[1] as usize;
-    if slot[0] != PRESENT || len > 64 {
-        return None;
-    }
-    let key = BigEndian::read_u64(&slot[KEY_AT..VALUE_AT]);
-    let value = Value::new(&slot[VALUE_AT..VALUE_AT + len])?;
-    Some((key, value))
+    present(page, place)
 }
 
 /// Where the rows of the pages are those of a map, whatever shows them is that map.

@@ -1,8 +1,7 @@
 use crate::{Image, rows_of};
 use clone_mtr::{Patch, Record};
-use clone_outside::NoMemory;
 use clone_page::PageKind;
-use std::alloc::Global;
+use std::alloc::{AllocError, Global};
 use std::test::*;
 
 #[test]
@@ -37,7 +36,7 @@ fn no_row(rt: HostRuntime) -> Result<(), Fail> {
 
 // A system page that lists a table, and in the space 1 a bucket whose first slot has the key 7 and a
 // value of this length, which begins with "hi".
-fn image_of(alloc: Global, listed: u8, length: u8) -> Result<Image, NoMemory> {
+fn image_of(alloc: Global, listed: u8, length: u8) -> Result<Image, AllocError> {
     let mut image = Image::new(alloc);
     image.apply_all(alloc, &spaces(), 8300)?;
     let records = [

@@ -1,5 +1,6 @@
 pub mod Keys
 pub mod History
+pub mod Binlog
 pub mod Room
 pub mod Kept
 pub mod Texts

@@ -14,7 +14,6 @@ mod text;
 mod value;
 
 pub use change::{Change, Commit};
-pub use clone_outside::NoMemory;
 pub use line::{BucketCount, Line, TableNumber};
 pub use list::{Binlog, Changes};
 pub use reading::{

@@ -12,11 +12,11 @@ mod number;
 mod split;
 mod value;
 
-use crate::{Binlog, Changes, Commit, NoMemory};
+use crate::{Binlog, Changes, Commit};
 use line::{leading_change, leading_first_line};
 pub use number::{as_u32, leading_number, number_of};
 pub use split::split_once;
-use std::alloc::Global;
+use std::alloc::{AllocError, Global};
 pub use value::{script_value_of, value_of};
 
 /// Why a text gives no binlog.
@@ -29,13 +29,13 @@ pub enum ReadRefusal {
     NoMemory,
 }
 
-impl From<NoMemory> for ReadRefusal {
+impl From<AllocError> for ReadRefusal {
     ghost use Rattle.std.specs.Prelude.{◌≡◌};
     ghost use Rattle.clone_model.specs.declared.reading.ReadRefusal.TheVariants.{NoMemory};
 
     ghost from_gives = { λ _ refusal. refusal ≡ NoMemory };
 
-    fn from(_: NoMemory) -> ReadRefusal {
+    fn from(_: AllocError) -> ReadRefusal {
         ReadRefusal::NoMemory
     }
 }
@@ -44,7 +44,9 @@ impl From<NoMemory> for ReadRefusal {
 /// first line that no binlog has behind the lines before it; each line needs its line feed. Where the
 /// text ends inside a commit, it has the number of the first line that is missing.
 pub fn read_binlog(alloc: Global, text: &[u8]) -> Result<Binlog, ReadRefusal>
-    ensures { ReadsBinlog text.now result }
+    ensures { MatchResult result
+        (λ binlog. ReadsBinlog text.now (Ok binlog.commits))
+        (λ refusal. ReadsBinlog text.now (Err refusal)) }
 {
     let mut binlog = Binlog::new(alloc);
     let mut rest = text;

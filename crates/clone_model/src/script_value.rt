@@ -1,7 +1,7 @@
 ghost use Rattle.std.specs.Prelude.{◌≡◌, ◌≤◌, ◌<◌, length, IfOk, IfSome, IfNone};
 
-use crate::{NoMemory, Value};
-use std::alloc::Global;
+use crate::Value;
+use std::alloc::{AllocError, Global};
 use std::fmt;
 use std::marker::Model;
 
@@ -37,7 +37,7 @@ impl Model for ScriptValue {
 
 impl ScriptValue {
     /// The value of these bytes, or none where there are more than 1,024.
-    pub fn new(alloc: Global, bytes: &[u8]) -> Result<Option<ScriptValue>, NoMemory>
+    pub fn new(alloc: Global, bytes: &[u8]) -> Result<Option<ScriptValue>, AllocError>
         ensures value { IfOk result (λ read. IfSome read (λ v. v ≡ bytes.now)) }
         ensures none { IfOk result (λ read. IfNone read (1024 < length bytes.now)) }
     {

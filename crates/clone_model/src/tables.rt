@@ -4,8 +4,8 @@ ghost use Rattle.clone_model.specs.History as histories;
 ghost use Rattle.clone_model.specs.History.{after_change, after_changes, after_commit, rows_in};
 ghost use Rattle.clone_model.specs.Room.{HasRoom, HasRoomFor, kept};
 
-use crate::{Change, Commit, NoMemory, Value};
-use std::alloc::Global;
+use crate::{Change, Commit, Value};
+use std::alloc::{AllocError, Global};
 use std::collections::BTreeMap;
 use std::marker::Model;
 
@@ -44,7 +44,7 @@ impl Tables {
     }
 
     /// Applies a commit. After a refusal the rows are as before.
-    pub fn apply(&mut self, commit: &Commit) -> Result<(), NoMemory>
+    pub fn apply(&mut self, commit: &Commit) -> Result<(), AllocError>
         ensures ok { OnOk result (self.new ≡ after_commit self.old commit.now) }
         ensures err { OnErr result (self.new ≡ self.old) }
     {
@@ -55,14 +55,14 @@ impl Tables {
     }
 
     /// The rows in ascending order of table and key.
-    pub fn rows(&self, alloc: Global) -> Result<Vec<(u32, u64, Value)>, NoMemory>
+    pub fn rows(&self, alloc: Global) -> Result<Vec<(u32, u64, Value)>, AllocError>
         ensures { IfOk result (λ rows. rows.items ≡ rows_in self.now) }
     {
         rows_of(alloc, &self.slots)
     }
 
     /// Gives a row its value. After a refusal the rows are as before.
-    pub fn set(&mut self, table: u32, key: u64, value: Value) -> Result<(), NoMemory>
+    pub fn set(&mut self, table: u32, key: u64, value: Value) -> Result<(), AllocError>
         ensures ok { OnOk result (self.new ≡ finite.insert self.old (table, key) value) }
         ensures err { OnErr result (self.new ≡ self.old) }
     {
@@ -78,7 +78,7 @@ impl Tables {
 }
 
 /// The rows that a history leaves: its commits are applied to no rows, one after the other.
-pub fn fold(alloc: Global, history: &[Commit]) -> Result<Tables, NoMemory>
+pub fn fold(alloc: Global, history: &[Commit]) -> Result<Tables, AllocError>
     ensures { IfOk result (λ tables. tables ≡ histories.fold history.now) }
 {
     let mut tables = Tables::new(alloc);
@@ -99,7 +99,7 @@ fn look(slots: &Slots, table: u32, key: u64) -> Option<Value>
 }
 
 // The rows that have a value.
-fn rows_of(alloc: Global, slots: &Slots) -> Result<Vec<(u32, u64, Value)>, NoMemory>
+fn rows_of(alloc: Global, slots: &Slots) -> Result<Vec<(u32, u64, Value)>, AllocError>
     ensures { IfOk result (λ rows. rows.items ≡ rows_in (kept slots.now.entries)) }
 {
     let mut rows = Vec::new(alloc);
@@ -111,7 +111,7 @@ fn rows_of(alloc: Global, slots: &Slots) -> Result<Vec<(u32, u64, Value)>, NoMem
     Ok(rows)
 }
 
-fn put(slots: &mut Slots, table: u32, key: u64, value: Value) -> Result<(), NoMemory>
+fn put(slots: &mut Slots, table: u32, key: u64, value: Value) -> Result<(), AllocError>
     ensures ok { OnOk result (kept slots.new.entries ≡ finite.insert (kept slots.old.entries) (table, key) value) }
     ensures err { OnErr result (kept slots.new.entries ≡ kept slots.old.entries) }
 {
@@ -120,7 +120,7 @@ fn put(slots: &mut Slots, table: u32, key: u64, value: Value) -> Result<(), NoMe
 }
 
 // Makes a slot for each row that changes.
-fn make_room(slots: &mut Slots, changes: &[Change]) -> Result<(), NoMemory>
+fn make_room(slots: &mut Slots, changes: &[Change]) -> Result<(), AllocError>
     ensures same { kept slots.new.entries ≡ kept slots.old.entries }
     ensures room { OnOk result (HasRoom slots.new changes.now) }
 {
@@ -130,7 +130,7 @@ fn make_room(slots: &mut Slots, changes: &[Change]) -> Result<(), NoMemory>
     Ok(())
 }
 
-fn make_slot(slots: &mut Slots, table: u32, key: u64) -> Result<(), NoMemory>
+fn make_slot(slots: &mut Slots, table: u32, key: u64) -> Result<(), AllocError>
     ensures same { kept slots.new.entries ≡ kept slots.old.entries }
     ensures room { OnOk result (HasRoomFor slots.new (table, key)) }
     ensures others { (q : ℕ × ℕ) → HasRoomFor slots.old q → HasRoomFor slots.new q }

@@ -22,6 +22,17 @@ fn rows_in_order(rt: HostRuntime) -> Result<(), Fail> {
 }
 
 #[test]
+fn commits_within_the_room(rt: HostRuntime) -> Result<(), Fail> {
+    let alloc = rt.alloc();
+    let mut binlog = Binlog::new(alloc);
+    binlog.reserve(1)?;
+    binlog.push_within(commit(alloc, 0, 0, set(7, b"hi")?)?);
+    let text = binlog_text(alloc, &binlog)?;
+    assert_eq!(rt; text.as_str(), "commit 0 0 1\n1 7 6869\n");
+    Ok(())
+}
+
+#[test]
 fn commits_with_their_changes(rt: HostRuntime) -> Result<(), Fail> {
     let alloc = rt.alloc();
     let mut binlog = Binlog::new(alloc);

@@ -3,12 +3,12 @@ ghost use Rattle.std.specs.String.{string_bytes};
 ghost use Rattle.clone_model.specs.Texts as texts;
 ghost use Rattle.clone_model.specs.Lines as lines;
 
-use crate::{Binlog, Change, Commit, Line, NoMemory, Value};
-use std::alloc::Global;
+use crate::{Binlog, Change, Commit, Line, Value};
+use std::alloc::{AllocError, Global};
 use std::fmt::Write;
 
 /// The rows, each on a line: table, key and value.
-pub fn rows_text(alloc: Global, rows: &[(u32, u64, Value)]) -> Result<String, NoMemory>
+pub fn rows_text(alloc: Global, rows: &[(u32, u64, Value)]) -> Result<String, AllocError>
     ensures { IfOk result (λ text. string_bytes text ≡ texts.rows_text rows.now) }
 {
     let mut text = String::new(alloc);
@@ -19,8 +19,8 @@ pub fn rows_text(alloc: Global, rows: &[(u32, u64, Value)]) -> Result<String, No
 }
 
 /// The commits in their order, each with its changes.
-pub fn binlog_text(alloc: Global, binlog: &Binlog) -> Result<String, NoMemory>
-    ensures { IfOk result (λ text. string_bytes text ≡ texts.binlog_text binlog.now) }
+pub fn binlog_text(alloc: Global, binlog: &Binlog) -> Result<String, AllocError>
+    ensures { IfOk result (λ text. string_bytes text ≡ texts.binlog_text binlog.now.commits) }
 {
     let mut text = String::new(alloc);
     for commit in binlog.as_slice() {
@@ -30,7 +30,7 @@ pub fn binlog_text(alloc: Global, binlog: &Binlog) -> Result<String, NoMemory>
 }
 
 /// The text of a line of a script.
-pub fn line_text(alloc: Global, line: &Line) -> Result<String, NoMemory>
+pub fn line_text(alloc: Global, line: &Line) -> Result<String, AllocError>
     ensures { IfOk result (λ text. string_bytes text ≡ lines.line_text line.now) }
 {
     let mut text = String::new(alloc);
@@ -67,7 +67,7 @@ pub fn line_text(alloc: Global, line: &Line) -> Result<String, NoMemory>
     Ok(text)
 }
 
-fn push_row(text: &mut String, row: &(u32, u64, Value)) -> Result<(), NoMemory>
+fn push_row(text: &mut String, row: &(u32, u64, Value)) -> Result<(), AllocError>
     ensures { OnOk result (string_bytes text.new ≡ string_bytes text.old ++ texts.ended (texts.row_text row.now)) }
 {
     let (table, key, value) = row;
@@ -76,7 +76,7 @@ fn push_row(text: &mut String, row: &(u32, u64, Value)) -> Result<(), NoMemory>
     text.push('\n')
 }
 
-fn push_commit(text: &mut String, commit: &Commit) -> Result<(), NoMemory>
+fn push_commit(text: &mut String, commit: &Commit) -> Result<(), AllocError>
     ensures { OnOk result (string_bytes text.new ≡ string_bytes text.old ++ texts.commit_text commit.now) }
 {
     let changes = commit.changes.as_slice();
@@ -88,7 +88,7 @@ fn push_commit(text: &mut String, commit: &Commit) -> Result<(), NoMemory>
     Ok(())
 }
 
-fn push_change(text: &mut String, change: &Change) -> Result<(), NoMemory>
+fn push_change(text: &mut String, change: &Change) -> Result<(), AllocError>
     ensures { OnOk result (string_bytes text.new ≡ string_bytes text.old ++ texts.ended (texts.change_text change.now)) }
 {
     let Change { table, key, value } = change;
@@ -101,7 +101,7 @@ fn push_change(text: &mut String, change: &Change) -> Result<(), NoMemory>
 }
 
 /// Adds the text of a value with these bytes.
-pub fn push_value(text: &mut String, bytes: &[u8]) -> Result<(), NoMemory>
+pub fn push_value(text: &mut String, bytes: &[u8]) -> Result<(), AllocError>
     ensures { OnOk result (string_bytes text.new ≡ string_bytes text.old ++ texts.value_text bytes.now) }
 {
     if bytes.is_empty() {
@@ -110,7 +110,7 @@ pub fn push_value(text: &mut String, bytes: &[u8]) -> Result<(), NoMemory>
     push_hex(text, bytes)
 }
 
-fn push_hex(text: &mut String, bytes: &[u8]) -> Result<(), NoMemory>
+fn push_hex(text: &mut String, bytes: &[u8]) -> Result<(), AllocError>
     ensures { OnOk result (string_bytes text.new ≡ string_bytes text.old ++ texts.hex bytes.now) }
 {
     for byte in bytes {

@@ -11,6 +11,9 @@ use Rattle.clone_mtr.specs.declared.refusal.DecodeRefusal.TheVariants.{Short, Ba
 use Rattle.clone_mtr.specs.declared.record.Record.TheVariants.{Init, Write, Extend, Create, Drop}
 use Rattle.clone_mtr.specs.Reading.{item_at}
 use Rattle.clone_bytes.specs.Fields.{IsBytes}
+use Rattle.clone_bytes.proofs.Numbers.{IsBytes-take}
+use Rattle.std.proofs.Math.Seq.{take-append-add}
+use Rattle.clone_mtr.proofs.FirstPlaces.{turns}
 use Rattle.clone_mtr.proofs.Items.{IsShort, Found, answer, item_takes, item_ends, item_again, end_again}
 use Rattle.clone_mtr.proofs.Fronts.{item_grown}
 use Rattle.clone_mtr.proofs.Openings.{bytes_append, item_opens}
@@ -155,15 +158,40 @@ front bytes (kind ∷ rest) rs at here so_far failed =
     let counted = length-append rs (x.value ∷ []) in
     (x.more ++ 6 ∷ [], (all, (omega (arith, length-append x.more (6 ∷ [])), spelled (bytes ++ (x.more ++ 6 ∷ [])) all parts (omega arith) (all-push IsRecord rs x.value so_far.each taken.1) (omega (arith, taken.2)))))
 
-stops : (bytes rest : List ℕ) (rs : List Record) (at : ℕ) (e : DecodeRefusal) → at ≡ length (text_of rs) → Splits bytes rs rest → item_at at rest ≡ Err e → Stops bytes e
-stops bytes rest rs at e here so_far failed = record { records = rs; rest = rest; each = so_far.each; parts = so_far.parts; below = omega (arith, so_far.below); refused = subst (λ n. item_at n rest ≡ Err e) here failed }
+-- a front of the bytes that has the records and so many bytes of the rest
+cut : (bytes rest : List ℕ) (rs : List Record) (k : ℕ) → Splits bytes rs rest → Splits (take (length (text_of rs) + k) bytes) rs (take k rest)
+cut bytes rest rs k so_far = record {
+  parts = ap (take (length (text_of rs) + k)) so_far.parts ∙ take-append-add (text_of rs) rest k;
+  below = so_far.below;
+  each = so_far.each;
+  short = so_far.short;
+  fits = IsBytes-take k rest so_far.fits;
+}
+
+stops : (bytes rest : List ℕ) (rs : List Record) (at : ℕ) (e : DecodeRefusal) → (Short ≡ e → ⊥) → at ≡ length (text_of rs) → Splits bytes rs rest → item_at at rest ≡ Err e → Stops bytes e
+stops bytes rest rs at e other here so_far failed =
+    let turn = turns at rest e other so_far.fits failed in
+    let long = ap length so_far.parts ∙ length-append (text_of rs) rest in
+    let next : length (text_of rs) + (turn.count + 1) ≡ (length (text_of rs) + turn.count) + 1 = omega arith in
+    record {
+      records = rs;
+      rest = rest;
+      each = so_far.each;
+      parts = so_far.parts;
+      below = omega (arith, so_far.below);
+      refused = subst (λ n. item_at n rest ≡ Err e) here failed;
+      place = length (text_of rs) + turn.count;
+      within = omega (arith, long, turn.within);
+      before = front (take (length (text_of rs) + turn.count) bytes) (take turn.count rest) rs at here (cut bytes rest rs turn.count so_far) turn.short;
+      with_it = subst (λ n. IsLost (take n bytes)) next (lost (take (length (text_of rs) + (turn.count + 1)) bytes) (take (turn.count + 1) rest) rs at e other here (cut bytes rest rs (turn.count + 1) so_far) turn.refused);
+    }
 
 -- the answer where an item is refused
 pub refuses : (bytes rest : List ℕ) (rs : List Record) (at : ℕ) (e : DecodeRefusal) → at ≡ length (text_of rs) → Splits bytes rs rest → item_at at rest ≡ Err e → Decodes bytes (Err e)
 refuses bytes rest rs at Short here so_far failed = (refused bytes rest rs at Short here so_far.each so_far.short so_far.parts failed, front bytes rest rs at here so_far failed)
-refuses bytes rest rs at (BadKind place) here so_far failed = (refused bytes rest rs at (BadKind place) here so_far.each so_far.short so_far.parts failed, lost bytes rest rs at (BadKind place) (λ d. cc) here so_far failed, inl (stops bytes rest rs at (BadKind place) here so_far failed))
-refuses bytes rest rs at (OutOfPage place) here so_far failed = (refused bytes rest rs at (OutOfPage place) here so_far.each so_far.short so_far.parts failed, lost bytes rest rs at (OutOfPage place) (λ d. cc) here so_far failed, stops bytes rest rs at (OutOfPage place) here so_far failed)
-refuses bytes rest rs at TooLong here so_far failed = (refused bytes rest rs at TooLong here so_far.each so_far.short so_far.parts failed, lost bytes rest rs at TooLong (λ d. cc) here so_far failed, stops bytes rest rs at TooLong here so_far failed)
+refuses bytes rest rs at (BadKind place) here so_far failed = (refused bytes rest rs at (BadKind place) here so_far.each so_far.short so_far.parts failed, lost bytes rest rs at (BadKind place) (λ d. cc) here so_far failed, inl (stops bytes rest rs at (BadKind place) (λ d. cc) here so_far failed))
+refuses bytes rest rs at (OutOfPage place) here so_far failed = (refused bytes rest rs at (OutOfPage place) here so_far.each so_far.short so_far.parts failed, lost bytes rest rs at (OutOfPage place) (λ d. cc) here so_far failed, stops bytes rest rs at (OutOfPage place) (λ d. cc) here so_far failed)
+refuses bytes rest rs at TooLong here so_far failed = (refused bytes rest rs at TooLong here so_far.each so_far.short so_far.parts failed, lost bytes rest rs at TooLong (λ d. cc) here so_far failed, stops bytes rest rs at TooLong (λ d. cc) here so_far failed)
 refuses bytes rest rs at NoMemory here so_far failed = tt
 
 -- the answer where the end mark stands first

@@ -1,5 +1,5 @@
 -- What the encoder and the decoder answer.
-use Rattle.std.specs.Prelude.{ℕ, ◌∷◌, ◌⊎◌, ◌≡◌, ◌<◌, ◌≤◌, ◌++◌, List, take, drop, length, min, ◌-◌, ◌^◌, Result, Ok, Err, Vec, ⊤}
+use Rattle.std.specs.Prelude.{ℕ, ◌∷◌, ◌⊎◌, ◌≡◌, ◌<◌, ◌≤◌, ◌+◌, ◌++◌, List, take, drop, length, min, ◌-◌, ◌^◌, Result, Ok, Err, Vec, ⊤}
 use Rattle.std.specs.declared.alloc.Global.{Global}
 use Rattle.clone_mtr.specs.declared.record.Record.{Record}
 use Rattle.clone_mtr.specs.declared.record.Mtr.{Mtr}
@@ -36,7 +36,7 @@ IsFront bytes = (more : List ℕ) × ((records : List Record) × ((1 ≤ length 
 abbrev pub IsLost : List ℕ → Type 0
 IsLost bytes = (more : List ℕ) → BeginsNone (bytes ++ more)
 
--- Whole records stand at the front, and what stands behind them, read from left to right, is refused first for this cause.
+-- Whole records stand at the front, and what stands behind them, read from left to right, is refused first for this cause. It is refused with the byte at a place: the bytes before that place are the front of some spelling, and with the byte they are of none.
 pub record Stops (bytes : List ℕ) (cause : DecodeRefusal) : Type 0 where
   pub records : List Record
   pub rest : List ℕ
@@ -44,6 +44,10 @@ pub record Stops (bytes : List ℕ) (cause : DecodeRefusal) : Type 0 where
   pub parts : bytes ≡ flat_map record_spelling records ++ rest
   pub below : length (flat_map record_spelling records) < longest
   pub refused : item_at (length (flat_map record_spelling records)) rest ≡ Err cause
+  pub place : ℕ
+  pub within : place < length bytes
+  pub before : IsFront (take place bytes)
+  pub with_it : IsLost (take (place + 1) bytes)
 
 -- The mini-transaction whose spelling is at the front, and the length of that front. A refusal other than want of memory comes only where no front is one: `Short` exactly where further bytes would make one, and the others exactly where none could, with the first cause.
 abbrev pub Decodes : List ℕ → Result (Mtr × ℕ) DecodeRefusal → Type 0

@@ -6,6 +6,7 @@ use Rattle.clone_page.specs.Kinds.{kind_number}
 use Rattle.clone_mtr.specs.Records.{IsMtr}
 use Rattle.clone_mtr.specs.declared.record.Record.{Record}
 use Rattle.clone_mtr.specs.declared.record.Record.TheVariants.{Init, Write, Extend, Create, Drop}
+use Rattle.clone_mtr.specs.declared.writing.TheConstants.{LONGEST_MTR}
 
 abbrev pub record_spelling : Record → List ℕ
 record_spelling (Init space page kind) = 1 ∷ (big_bytes 4 space ++ (big_bytes 4 page ++ big_bytes 2 (kind_number kind)))
@@ -20,7 +21,7 @@ spelling [] = 6 ∷ []
 spelling (r ∷ rs) = record_spelling r ++ spelling rs
 
 abbrev pub longest : ℕ
-longest = 1024
+longest = LONGEST_MTR
 
 -- The grammar: these bytes are the spelling of this mini-transaction.
 pub record Spells (bytes : List ℕ) (records : List Record) : Type 0 where

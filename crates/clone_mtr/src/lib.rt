@@ -19,7 +19,7 @@ pub use placing::encode_into;
 pub use reading::decode;
 pub use record::{Mtr, Record};
 pub use refusal::{DecodeRefusal, EncodeRefusal, TooLong};
-pub use writing::encode;
+pub use writing::{LONGEST_MTR, encode};
 
 #[cfg(test)]
 mod tests;

@@ -4,19 +4,19 @@ ghost use Rattle.clone_page.specs.Bytes.{put_at};
 ghost use Rattle.clone_mtr.specs.Answers.{EncodesInto};
 ghost use Rattle.clone_mtr.specs.Spelling.{record_spelling, spelling};
 
-use crate::writing::LONGEST;
+use crate::writing::LONGEST_MTR;
 use crate::{Patch, Record, TooLong};
 use byteorder::{BigEndian, ByteOrder};
 
 /// Puts the one spelling of a mini-transaction of these records at the front of the bytes, and answers
 /// its length. No memory is taken. It is refused exactly where the spelling would be longer than 1,024
 /// bytes, and the bytes are unchanged then.
-pub fn encode_into(entries: &[Record], into: &mut [u8; 1024]) -> Result<usize, TooLong>
+pub fn encode_into(entries: &[Record], into: &mut [u8; LONGEST_MTR]) -> Result<usize, TooLong>
     requires { 1 ≤ length entries.now }
     ensures { EncodesInto (spelling entries.now) into.old into.new result }
 {
     let length = length_of(entries);
-    if length > LONGEST {
+    if length > LONGEST_MTR {
         return Err(TooLong { length });
     }
     place(into, entries);

@@ -2,9 +2,8 @@ ghost use Rattle.std.specs.Prelude.{◌≡◌, ◌++◌, ◌∷◌, [], OnOk, On
 ghost use Rattle.clone_mtr.specs.Records.{IsRecord, IsMtr};
 
 use crate::Patch;
-use clone_outside::NoMemory;
 use clone_page::PageKind;
-use std::alloc::Global;
+use std::alloc::{AllocError, Global};
 use std::marker::Model;
 
 /// One change that the redo log tells.
@@ -81,7 +80,7 @@ impl Model for Mtr {
 
 impl Mtr {
     /// A mini-transaction of one record.
-    pub fn new(alloc: Global, first: Record) -> Result<Mtr, NoMemory>
+    pub fn new(alloc: Global, first: Record) -> Result<Mtr, AllocError>
         ensures { IfOk result (λ mtr. mtr ≡ first ∷ []) }
     {
         first.known();
@@ -91,7 +90,7 @@ impl Mtr {
     }
 
     /// Adds a record at the end. After a refusal the mini-transaction is as before.
-    pub fn push(&mut self, next: Record) -> Result<(), NoMemory>
+    pub fn push(&mut self, next: Record) -> Result<(), AllocError>
         ensures ok { OnOk result (self.new ≡ self.old ++ next ∷ []) }
         ensures err { OnErr result (self.new ≡ self.old) }
     {

@@ -5,11 +5,10 @@ ghost use Rattle.clone_mtr.specs.Spelling.{record_spelling, spelling, Spells};
 
 use crate::{EncodeRefusal, Mtr, Patch, Record};
 use clone_bytes::Writer;
-use clone_outside::NoMemory;
-use std::alloc::Global;
+use std::alloc::{AllocError, Global};
 
-// The most bytes that a mini-transaction may have.
-pub(crate) const LONGEST: usize = 1024;
+/// The most bytes that the spelling of a mini-transaction may have.
+pub const LONGEST_MTR: usize = 1024;
 
 /// The one spelling of a mini-transaction. It is refused exactly where it would be longer than 1,024
 /// bytes.
@@ -19,7 +18,7 @@ pub fn encode(alloc: Global, mtr: &Mtr) -> Result<Vec<u8>, EncodeRefusal>
 {
     match spell(alloc, mtr.records()) {
         Ok(text) => {
-            if text.len() > LONGEST {
+            if text.len() > LONGEST_MTR {
                 Err(EncodeRefusal::TooLong { length: text.len() })
             } else {
                 Ok(text)
@@ -30,7 +29,7 @@ pub fn encode(alloc: Global, mtr: &Mtr) -> Result<Vec<u8>, EncodeRefusal>
 }
 
 // The spelling of the records, however long it is.
-fn spell(alloc: Global, records: &[Record]) -> Result<Vec<u8>, NoMemory>
+fn spell(alloc: Global, records: &[Record]) -> Result<Vec<u8>, AllocError>
     ensures { IfOk result (λ text. text.items ≡ spelling records.now) }
 {
     let mut text = Writer::new(alloc);
@@ -42,7 +41,7 @@ fn spell(alloc: Global, records: &[Record]) -> Result<Vec<u8>, NoMemory>
 }
 
 // Writes the spelling of a record behind the text.
-fn push_record(text: &mut Writer, entry: &Record) -> Result<(), NoMemory>
+fn push_record(text: &mut Writer, entry: &Record) -> Result<(), AllocError>
     ensures { OnOk result (text.new ≡ text.old ++ record_spelling entry.now) }
 {
     match entry {
@@ -64,7 +63,7 @@ fn push_record(text: &mut Writer, entry: &Record) -> Result<(), NoMemory>
 }
 
 // Writes the byte of a record's kind and two numbers behind the text.
-fn push_pair(text: &mut Writer, kind: u8, first: u32, second: u32) -> Result<(), NoMemory>
+fn push_pair(text: &mut Writer, kind: u8, first: u32, second: u32) -> Result<(), AllocError>
     ensures { OnOk result (text.new ≡ text.old ++ kind ∷ (big_bytes 4 first ++ big_bytes 4 second)) }
 {
     text.u8(kind)?;
@@ -73,7 +72,7 @@ fn push_pair(text: &mut Writer, kind: u8, first: u32, second: u32) -> Result<(),
 }
 
 // Writes the offset, the length and the bytes of a patch behind the text.
-fn push_patch(text: &mut Writer, patch: &Patch) -> Result<(), NoMemory>
+fn push_patch(text: &mut Writer, patch: &Patch) -> Result<(), AllocError>
     ensures { OnOk result (text.new ≡ text.old ++ (big_bytes 2 patch.now.offset ++ (big_bytes 2 (length patch.now.bytes) ++ patch.now.bytes))) }
 {
     let bytes = patch.bytes();

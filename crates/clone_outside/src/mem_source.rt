@@ -79,6 +79,7 @@ impl Source for MemSource {
         ensures bytes { Gives (Some self.old.bytes) (Some self.new.bytes) result into.new }
         ensures end { IfOk result (λ n. n ≡ 0 → 0 < length into.new → IsSpent (Some self.old.bytes)) }
         ensures cause { HasCause self.old.calls.faults self.new.calls.faults result }
+        ensures steady { OnOk result (self.new.calls.faults ≡ self.old.calls.faults) }
 
         ensures fault { (result ≡ Err Refusal.Fault) ↔ FailsNext self.old.calls }
         ensures memory { result ≢ Err Refusal.NoMemory }

@@ -21,7 +21,7 @@ pub trait Source {
         ensures { result ≡ failures self.now };
 
     /// Fills the front of `into` with the next bytes, and says how many they are. It is 0 only where
-    /// `into` is empty or no bytes are left.
+    /// `into` is empty or no bytes are left. The count of faults is then as before.
     ///
     /// The error is `Fault` where the source failed, and the count of faults rose, or `NoMemory` where
     /// there was no memory. No byte was given then. What `into` has behind the bytes that were given,
@@ -30,7 +30,8 @@ pub trait Source {
         ensures bound { ReadsAtMost result into.new }
         ensures bytes { Gives (left self.old) (left self.new) result into.new }
         ensures end { IfOk result (λ n. n ≡ 0 → 0 < length into.new → IsSpent (left self.old)) }
-        ensures cause { HasCause (failures self.old) (failures self.new) result };
+        ensures cause { HasCause (failures self.old) (failures self.new) result }
+        ensures steady { OnOk result (failures self.new ≡ failures self.old) };
 }
 
 /// Where bytes go.

@@ -2,16 +2,17 @@
 use Rattle.std.specs.Prelude.{ℕ, ◌≡◌, ◌<◌, ◌+◌, ◌*◌, List, ◌++◌}
 use Rattle.byteorder.specs.Endian.{big_bytes}
 use Rattle.clone_page.specs.Bytes.{field}
+use Rattle.clone_page.specs.declared.layout.TheConstants.{ENTRY_COUNT, ENTRIES_AT, ENTRY_BYTES, POSITION_AT}
 
 abbrev pub entry_count : ℕ
-entry_count = 62
+entry_count = ENTRY_COUNT
 
 abbrev pub entry_at : ℕ → ℕ
-entry_at j = 64 + 16 * j
+entry_at j = ENTRIES_AT + ENTRY_BYTES * j
 
 -- where the number of commits stands on the system page
 abbrev pub position_at : ℕ
-position_at = 40
+position_at = POSITION_AT
 
 -- the space that an entry names, or 0 where the entry is free
 abbrev pub entry_space : ℕ → List ℕ → ℕ

@@ -3,12 +3,13 @@ use Rattle.std.specs.Prelude.{ℕ, ◌+◌, ◌-◌, ◌*◌, List, ◌∷◌, �
 use Rattle.std.specs.declared.option.Option.{Option}
 use Rattle.byteorder.specs.Endian.{big_bytes}
 use Rattle.clone_page.specs.Bytes.{part, field}
+use Rattle.clone_page.specs.declared.layout.TheConstants.{SLOT_COUNT, SLOTS_AT, SLOT_BYTES}
 
 abbrev pub slot_count : ℕ
-slot_count = 50
+slot_count = SLOT_COUNT
 
 abbrev pub slot_at : ℕ → ℕ
-slot_at j = 48 + 80 * j
+slot_at j = SLOTS_AT + SLOT_BYTES * j
 
 -- the 80 bytes of a slot
 abbrev pub slot : ℕ → List ℕ → List ℕ

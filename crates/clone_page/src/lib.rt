@@ -1,12 +1,18 @@
 //! The page of 4,096 bytes: its header, its trailer, and what stands between them.
 #![tactic(auto)]
 
+mod bytes;
 mod kind;
 mod laws;
+mod layout;
 mod page;
 
+pub use bytes::{put, u8_at, u16_at, u32_at, u64_at};
 pub use kind::PageKind;
 pub use laws::{dictionary_laws, header_laws, part_laws, slot_laws};
+pub use layout::{
+    ENTRIES_AT, ENTRY_BYTES, ENTRY_COUNT, POSITION_AT, SLOT_BYTES, SLOT_COUNT, SLOTS_AT,
+};
 pub use page::{Page, is_allowed};
 
 #[cfg(test)]

@@ -4,6 +4,7 @@ ghost use Rattle.clone_page.specs.Bytes.{put_at, field};
 ghost use Rattle.clone_page.specs.Header.{zero_page, number_of, next_of, lsn_of, kind_of, space_of, with_lsn, initialised, checksum, header, trailer, IsAllowed, IsWellFormed};
 
 use crate::PageKind;
+use crate::bytes::{u16_at, u32_at, u64_at};
 use byteorder::{BigEndian, ByteOrder};
 use std::marker::Model;
 
@@ -191,28 +192,6 @@ pub fn is_allowed(offset: u16, long: usize) -> bool
     }
     let end = offset as usize + long;
     (offset >= 8 && end <= 16) || (offset >= 38 && end <= 4088)
-}
-
-// The number in the bytes from a place on.
-fn u16_at(bytes: &[u8], at: usize) -> u16
-    requires { at + 2 ≤ length bytes.now }
-    ensures { result ≡ field at 2 bytes.now }
-{
-    BigEndian::read_u16(&bytes[at..at + 2])
-}
-
-fn u32_at(bytes: &[u8], at: usize) -> u32
-    requires { at + 4 ≤ length bytes.now }
-    ensures { result ≡ field at 4 bytes.now }
-{
-    BigEndian::read_u32(&bytes[at..at + 4])
-}
-
-fn u64_at(bytes: &[u8], at: usize) -> u64
-    requires { at + 8 ≤ length bytes.now }
-    ensures { result ≡ field at 8 bytes.now }
-{
-    BigEndian::read_u64(&bytes[at..at + 8])
 }
 
 // The header of a page that is made.

@@ -3,3 +3,4 @@ pub mod Main
 pub mod Carrying
 pub mod Saying
 pub mod Stops
+pub mod Streams

@@ -1,9 +1,9 @@
-ghost use Rattle.std.specs.Prelude.{◌≡◌, ◌≤◌, ◌<◌, List, ℕ, OnOk, IfOk, IsErrOf, length};
+ghost use Rattle.std.specs.Prelude.{◌≡◌, ◌≤◌, ◌<◌, ◌+◌, List, ℕ, OnOk, IfOk, IsErrOf, length};
 ghost use Rattle.clone_outside.specs.Bytes.{prepended, IsSpent};
 ghost use Rattle.clone_outside.specs.Causes.{Rose};
 ghost use Rattle.clone_outside.specs.declared.Refusal.TheVariants.{NoMemory};
 ghost use Rattle.clone_script.specs.Script.{longest_script};
-ghost use Rattle.clone_prog.specs.Stops.{stop_of};
+ghost use Rattle.clone_prog.specs.Stops.{stop_of, TookAtMost};
 
 use clone_outside::{Refusal, Source};
 use std::alloc::{AllocError, Global};
@@ -44,7 +44,9 @@ impl From<AllocError> for ReadStop {
     }
 }
 
-/// Reads the source to its end, or until it gave more bytes than a script may have.
+/// Reads the source to its end, or until it gave one byte more than a script may have, and takes no more
+/// of it than that. The first read that fails is the last: where the answer is a script or `TooLong`, the
+/// source's count of faults is as before.
 pub fn read_all<S: Source>(alloc: Global, source: &mut S) -> Result<Vec<u8>, ReadStop>
     ensures gave { IfOk result (λ script. S.left source.old ≡ prepended script.items (S.left source.new)) }
     ensures spent { OnOk result (IsSpent (S.left source.new)) }
@@ -52,11 +54,15 @@ pub fn read_all<S: Source>(alloc: Global, source: &mut S) -> Result<Vec<u8>, Rea
     ensures fault { IsErrOf result ReadStop.Fault → Rose (S.failures source.old) (S.failures source.new) }
     ensures long { IsErrOf result ReadStop.TooLong → (script : List ℕ) × (S.left source.old ≡ prepended script (S.left source.new)) × (longest_script < length script) }
     ensures later { S.failures source.old ≤ S.failures source.new }
+    ensures most { TookAtMost (longest_script + 1) (S.left source.old) (S.left source.new) }
+    ensures steady { OnOk result (S.failures source.new ≡ S.failures source.old) }
+    ensures steady_long { IsErrOf result ReadStop.TooLong → S.failures source.new ≡ S.failures source.old }
 {
     let mut script = Vec::new(alloc);
     let mut piece = [0; PIECE];
     while script.len() <= LONGEST_SCRIPT {
-        let count = source.read(&mut piece)?;
+        let most = (LONGEST_SCRIPT + 1 - script.len()).min(PIECE);
+        let count = source.read(&mut piece[..most])?;
         if count == 0 {
             return Ok(script);
         }

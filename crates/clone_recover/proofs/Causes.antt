@@ -11,7 +11,7 @@ use Rattle.clone_recover.specs.declared.refusal.Damage.TheVariants.{Redo, Undo}
 use Rattle.clone_recover.specs.declared.refusal.RecoverRefusal.{RecoverRefusal}
 use Rattle.clone_recover.specs.declared.refusal.RecoverRefusal.TheVariants.{Damaged, NoMemory}
 use Rattle.clone_recover.specs.Replaying.{BeginsNoneUnlessMemory}
-use Rattle.clone_recover.specs.Recovers.{Recovers, InRange, FirstDamaged, IsCause, IsNoLogUnlessMemory, IsDamage, IsFirstDamaged}
+use Rattle.clone_recover.specs.Recovers.{Recovers, CountsInRange, InRange, FirstDamaged, IsCause, IsNoLogUnlessMemory, IsDamage, IsFirstDamaged}
 use Rattle.clone_recover.proofs.Replaying.{Halfway, no_log}
 
 -- no mini-transaction is at the front of what is left
@@ -38,12 +38,13 @@ pub undo_cause : (d : Damage) (redo : List ℕ) (image : Image) → Replays redo
 undo_cause Redo redo image r first = absurd first
 undo_cause (Undo slot) redo image r first = record { log = r.log; first = subst (λ (i : Image). FirstDamaged i slot) r.made first }
 
-pub recovers : (redo : List ℕ) (left image : Image) → Replays redo left → first_lsn + length redo < 2 ^ 64 → InRange slot_count left → image ≡ recovered left → Recovers redo image
-recovers redo left image r short ranges is = record {
+pub recovers : (redo : List ℕ) (left image : Image) → Replays redo left → first_lsn + length redo < 2 ^ 64 → CountsInRange slot_count left → InRange slot_count left → image ≡ recovered left → Recovers redo image
+recovers redo left image r short counts ranges is = record {
   log = r.log;
   left = left;
   made = r.made;
   by_page = λ space number. ap (λ i. standing_of i space number) r.made ∙ replayed_is_redone r.log.mtrs space number (omega (arith, short, ap length r.log.text));
+  counts = counts;
   in_range = ranges;
   is = is;
 }

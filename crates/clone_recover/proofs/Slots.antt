@@ -1,20 +1,21 @@
 -- The undo slots are taken back one after the other, and those to come stay as they were.
-use Rattle.std.proofs.Common.{◌≡◌, ℕ, Bool, true, cond, zero, suc, ◌<◌, ◌≤◌, List, [], replicate, refl, sym, ap, subst, ◌∙◌, arith, inl, inr, ◌⊎◌, None, Some}
+use Rattle.std.proofs.Common.{◌≡◌, ℕ, Bool, true, cond, zero, suc, ◌<◌, ◌≤◌, List, [], length, replicate, refl, sym, ap, subst, ◌∙◌, arith, inl, inr, ◌⊎◌, None, Some}
 use Rattle.std.specs.Prelude.{unwrap_or, IfSome}
 use Rattle.std.specs.declared.option.Option.{Option}
 use Rattle.std.proofs.lemmas.Bool.{cases_lt}
 use Rattle.clone_page.specs.Bytes.{put_at}
 use Rattle.std.specs.List.{AllByRecursion}
 use Rattle.clone_undo.specs.Entries.{IsEntry}
-use Rattle.clone_undo.specs.Places.{slot_count, header_page, header_place}
+use Rattle.clone_undo.specs.Places.{slot_count, capacity, header_page, header_place}
 use Rattle.clone_undo.specs.Slots.{UndoSlot, is_in_use, count_of, entries}
 use Rattle.clone_undo.specs.declared.reading.SlotHeader.{SlotHeader}
 use Rattle.clone_undo.proofs.Effects.{own}
-use Rattle.clone_undo.proofs.Headers.{slot_of, slot-tells}
+use Rattle.clone_undo.proofs.Headers.{slot_of}
+use Rattle.clone_undo.proofs.Entries.{length-entries}
 use Rattle.clone_image.specs.Image.{Image, page_of, with_edit, edited}
 use Rattle.clone_image.specs.Recovered.{system_pages, undo_slot_of, all_undone, freed, taken_back, taken_back_below, recovered}
 use Rattle.clone_image.proofs.Images.{page_of-edited_other}
-use Rattle.clone_recover.specs.Recovers.{HasChanges, IsSlotInRange, InRange, FirstDamaged}
+use Rattle.clone_recover.specs.Recovers.{HasChanges, IsCountInRange, CountsInRange, IsSlotInRange, InRange, FirstDamaged, by_record}
 use Rattle.clone_recover.proofs.Undoing.{all_undone_system}
 
 freed_system : (image : Image) (s m : ℕ) → (m ≡ header_page s → ⊥) → system_pages (freed image s) m ≡ system_pages image m
@@ -59,8 +60,12 @@ taking_goes_on s next start image new more is range t = subst (λ n. TakingBack 
     at i lt (inl low) = t.ranges i low
     at i lt (inr high) = let e : s ≡ i = omega (arith, lt, high) in subst (λ k. IsSlotInRange (undo_slot_of start k)) e (subst IsSlotInRange (same_slot s start image t) range)
 
-pub taking_fails : (s : ℕ) (start image : Image) → s < slot_count → (IsSlotInRange (undo_slot_of image s) → ⊥) → TakingBack s start image → FirstDamaged start s
-taking_fails s start image lt out t = record { below = lt; before = t.ranges; damaged = λ range. out (subst IsSlotInRange (sym (same_slot s start image t)) range) }
+pub taking_fails : (s : ℕ) (start image : Image) → s < slot_count → CountsInRange slot_count start → (IsSlotInRange (undo_slot_of image s) → ⊥) → TakingBack s start image → FirstDamaged start s
+taking_fails s start image lt counts out t = by_record lt counts t.ranges (λ range. out (subst IsSlotInRange (sym (same_slot s start image t)) range))
+
+-- the slot that is taken back next has no more records than it can have
+pub taking_count : (s : ℕ) (start image : Image) → s < slot_count → CountsInRange slot_count start → TakingBack s start image → IsCountInRange (undo_slot_of image s)
+taking_count s start image lt counts t = subst IsCountInRange (sym (same_slot s start image t)) (counts s lt)
 
 -- at the end all of them were taken back
 pub taking_ends : (s : ℕ) (start image : Image) → s ≡ slot_count → TakingBack s start image → (image ≡ recovered start) × InRange slot_count start
@@ -75,8 +80,22 @@ inner e = cc
 header_has : (image : Image) (s : ℕ) → is_in_use (system_pages image (header_page s)) ≡ true → HasChanges (count_of (system_pages image (header_page s))) s image
 header_has image s used =
     let there : undo_slot_of image s ≡ Some (slot_of s (system_pages image)) = ap (λ (b : Bool). cond b (Some (slot_of s (system_pages image))) None) used in
-    let tells = slot-tells s (system_pages image) (slot_of s (system_pages image)) there in
-    record { slot = slot_of s (system_pages image); is = there; records = refl; few = omega (arith, tells.count, tells.few) }
+    record { slot = slot_of s (system_pages image); is = there; records = refl }
+
+long : (image : Image) (s count : ℕ) (h : HasChanges count s image) → length h.slot.records ≡ count
+long image s count h = ap length h.records ∙ length-entries s (system_pages image) count
+
+-- the count of a slot that is in use is the number of its records
+pub count_few : (image : Image) (s count : ℕ) → HasChanges count s image → IsCountInRange (undo_slot_of image s) → count ≤ capacity
+count_few image s count h few = let all : IsCountInRange (Some h.slot) = subst IsCountInRange h.is few in omega (arith, all, long image s count h)
+
+pub few_records : (image : Image) (s count : ℕ) → HasChanges count s image → count ≤ capacity → IsCountInRange (undo_slot_of image s)
+few_records image s count h few = subst IsCountInRange (sym h.is) (omega (arith, few, long image s count h))
+
+-- one more count is in range
+pub counts_more : (s next : ℕ) (image : Image) → next ≡ suc s → IsCountInRange (undo_slot_of image s) → CountsInRange s image → CountsInRange next image
+counts_more s next image more one before i lt =
+    elim (cases_lt i s) [ inl low ↦ before i low | inr high ↦ let e : s ≡ i = omega (arith, more, lt, high) in subst (λ k. IsCountInRange (undo_slot_of image k)) e one ]
 
 pub has_changes : (image : Image) (s : ℕ) (page : List ℕ) (r : Option SlotHeader) → page_of image 0 (header_page s) ≡ Some page → IfSome r (λ h. is_in_use page ≡ true) → IfSome r (λ h. h.count ≡ count_of page) → IfSome r (λ h. HasChanges h.count s image)
 has_changes image s page None there used count = tt

@@ -1,5 +1,5 @@
 -- What recovery answers for the bytes of a redo log.
-use Rattle.std.specs.Prelude.{ℕ, ◌≡◌, ◌<◌, ◌≤◌, List, Some, IfSome}
+use Rattle.std.specs.Prelude.{ℕ, ◌≡◌, ◌<◌, ◌≤◌, List, length, Some, IfSome}
 use Rattle.std.specs.List.{AllByRecursion}
 use Rattle.std.specs.declared.option.Option.{Option}
 use Rattle.clone_undo.specs.Entries.{IsEntry}
@@ -19,7 +19,14 @@ pub record HasChanges (count s : ℕ) (image : Image) : Type 0 where
   pub slot : UndoSlot
   pub is : undo_slot_of image s ≡ Some slot
   pub records : slot.records ≡ entries s (system_pages image) count
-  pub few : count ≤ capacity
+
+-- the undo slot has no more records than it can have, if it is in use
+abbrev pub IsCountInRange : Option UndoSlot → Type 0
+IsCountInRange slot = IfSome slot (λ u. length u.records ≤ capacity)
+
+-- the undo slots below a number have no more records than they can have
+abbrev pub CountsInRange : ℕ → Image → Type 0
+CountsInRange count image = (s : ℕ) → s < count → IsCountInRange (undo_slot_of image s)
 
 -- every record of the undo slot is in its ranges, if the slot is in use
 abbrev pub IsSlotInRange : Option UndoSlot → Type 0
@@ -29,11 +36,10 @@ IsSlotInRange slot = IfSome slot (λ u. AllByRecursion IsEntry u.records)
 abbrev pub InRange : ℕ → Image → Type 0
 InRange count image = (s : ℕ) → s < count → IsSlotInRange (undo_slot_of image s)
 
--- the undo slot is the first that is in use with a record out of its ranges
-pub record FirstDamaged (image : Image) (slot : ℕ) : Type 0 where
-  pub below : slot < slot_count
-  pub before : InRange slot image
-  pub damaged : IsSlotInRange (undo_slot_of image slot) → ⊥
+-- The undo slot is the first that is in use with more records than it can have. Or, where none has, it is the first that is in use with a record out of its ranges.
+pub data FirstDamaged (image : Image) (slot : ℕ) : Type 0 where
+  by_count : slot < slot_count → CountsInRange slot image → (IsCountInRange (undo_slot_of image slot) → ⊥) → FirstDamaged image slot
+  by_record : slot < slot_count → CountsInRange slot_count image → InRange slot image → (IsSlotInRange (undo_slot_of image slot) → ⊥) → FirstDamaged image slot
 
 -- The image that the log leaves of nothing, each page by itself by the rule of redo, with what was open taken back.
 pub record Recovers (redo : List ℕ) (image : Image) : Type 0 where
@@ -41,10 +47,11 @@ pub record Recovers (redo : List ℕ) (image : Image) : Type 0 where
   pub left : Image
   pub made : left ≡ replayed log.mtrs
   pub by_page : (space number : ℕ) → standing_of left space number ≡ redone space number log.mtrs
+  pub counts : CountsInRange slot_count left
   pub in_range : InRange slot_count left
   pub is : image ≡ recovered left
 
--- the bytes are a log, and what it leaves has an undo slot with a record out of its ranges, of which this is the first
+-- the bytes are a log, and what it leaves has a damaged undo slot, of which this is the first
 pub record DamagedUndo (redo : List ℕ) (slot : ℕ) : Type 0 where
   pub log : IsLog redo
   pub first : FirstDamaged (replayed log.mtrs) slot

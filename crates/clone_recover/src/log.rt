@@ -5,12 +5,9 @@ ghost use Rattle.clone_recover.specs.Replaying.{Applied, BeginsNoneUnlessMemory}
 ghost use Rattle.clone_recover.specs.Recovers.{IsNoLogUnlessMemory};
 
 use crate::RecoverRefusal;
-use clone_image::Image;
+use clone_image::{FIRST_LSN, Image};
 use clone_mtr::{Mtr, decode};
 use std::alloc::Global;
-
-/// Where the log begins.
-const FIRST_LSN: u64 = 8192;
 
 /// Reads the log and applies its mini-transactions to the empty image.
 pub fn replay(alloc: Global, redo: &[u8]) -> Result<Image, RecoverRefusal>

@@ -9,12 +9,12 @@ use crate::log::replay;
 use crate::rollback::take_back_open;
 use clone_image::{Image, rows_of};
 use clone_model::Value;
-use clone_outside::NoMemory;
-use std::alloc::Global;
+use std::alloc::{AllocError, Global};
 
 /// The image that a log leaves, with the changes of each transaction that was open taken back, last
-/// change first, and its undo slot freed. `Damaged(Redo)` comes exactly where the bytes are no log, and
-/// `Damaged(Undo)` names the first undo slot that is in use and has a record out of range.
+/// change first, and its undo slot freed. `Damaged(Redo)` comes exactly where the bytes are no log.
+/// `Damaged(Undo)` names the first undo slot that is in use with a count above 160, or, where none is,
+/// the first that is in use and has a record out of range.
 pub fn recover(alloc: Global, redo: &[u8]) -> Result<Image, RecoverRefusal>
     ensures image { IfOk result (λ image. Recovers redo.now image) }
     ensures cause { IfErr result (IsCause redo.now) }
@@ -25,7 +25,7 @@ pub fn recover(alloc: Global, redo: &[u8]) -> Result<Image, RecoverRefusal>
 }
 
 /// The rows of an image, ascending by table and key. The one refusal is for want of memory.
-pub fn open_rows(alloc: Global, image: &Image) -> Result<Vec<(u32, u64, Value)>, NoMemory>
+pub fn open_rows(alloc: Global, image: &Image) -> Result<Vec<(u32, u64, Value)>, AllocError>
     ensures { IfOk result (λ list. (rows : Rows) × ShowsRows (page_of image.now) rows × (list.items ≡ rows_in rows)) }
 {
     rows_of(alloc, image)?.rows(alloc)

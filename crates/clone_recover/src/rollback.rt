@@ -4,32 +4,62 @@ ghost use Rattle.clone_undo.specs.Entries.{IsEntry};
 ghost use Rattle.clone_undo.specs.Places as places;
 ghost use Rattle.clone_undo.specs.Slots.{entry_on, entries};
 ghost use Rattle.clone_image.specs.Recovered.{system_pages, undo_slot_of, undone, all_undone, taken_back, recovered};
-ghost use Rattle.clone_recover.specs.Recovers.{HasChanges, InRange, IsSlotInRange, IsFirstDamaged, IsDamage};
+ghost use Rattle.clone_recover.specs.Recovers.{HasChanges, IsCountInRange, CountsInRange, InRange, IsSlotInRange, IsFirstDamaged, IsDamage};
 
 use crate::Damage;
 use clone_image::Image;
-use clone_undo::{SlotHeader, UndoRecord, header, header_page, record_at, record_page};
+use clone_row::slot_offset;
+use clone_undo::{
+    HEADER_AT, HEADER_BYTES, SlotHeader, UNDO_CAPACITY, UNDO_SLOT_COUNT, UndoRecord, header,
+    header_page, record_at, record_page,
+};
 
-/// How many undo slots there are.
-const SLOT_COUNT: u32 = 64;
-
-/// Where on its page the header of an undo slot stands, and how many bytes it has.
-const HEADER_AT: u16 = 40;
-
-const HEADER_BYTES: usize = 16;
-
-/// Where on a page of rows the slots begin, and the bytes of each.
-const ROWS_AT: u16 = 48;
-
-const ROW_BYTES: u16 = 80;
-
-/// Takes back the changes of each transaction that is open, and frees its undo slot.
+/// Takes back the changes of each transaction that is open, and frees its undo slot. All counts are
+/// tested before any record is read.
 pub fn take_back_open(image: &mut Image) -> Result<(), Damage>
+    ensures recovered { OnOk result (image.new ≡ recovered image.old) }
+    ensures counts { OnOk result (CountsInRange places.slot_count image.old) }
+    ensures ranges { OnOk result (InRange places.slot_count image.old) }
+    ensures damage { IfErr result (IsFirstDamaged image.old) }
+{
+    check_counts(image)?;
+    take_back_all(image)
+}
+
+// Tests the count of each undo slot that is in use.
+fn check_counts(image: &Image) -> Result<(), Damage>
+    ensures counts { OnOk result (CountsInRange places.slot_count image.now) }
+    ensures damage { IfErr result (IsFirstDamaged image.now) }
+{
+    for slot in 0..UNDO_SLOT_COUNT {
+        check_count(image, slot)?;
+    }
+    Ok(())
+}
+
+// Tests the count of an undo slot, if it is in use.
+fn check_count(image: &Image, slot: u32) -> Result<(), Damage>
+    requires { slot < places.slot_count }
+    ensures count { OnOk result (IsCountInRange (undo_slot_of image.now slot)) }
+    ensures damage { IfErr result (IsDamage slot (IsCountInRange (undo_slot_of image.now slot))) }
+{
+    let Some(header) = header_of(image, slot) else {
+        return Ok(());
+    };
+    if header.count > UNDO_CAPACITY {
+        return Err(Damage::Undo { slot });
+    }
+    Ok(())
+}
+
+// Takes back the changes of each undo slot that is in use and frees it. Their counts were tested.
+fn take_back_all(image: &mut Image) -> Result<(), Damage>
+    requires { CountsInRange places.slot_count image.old }
     ensures recovered { OnOk result (image.new ≡ recovered image.old) }
     ensures ranges { OnOk result (InRange places.slot_count image.old) }
     ensures damage { IfErr result (IsFirstDamaged image.old) }
 {
-    for slot in 0..SLOT_COUNT {
+    for slot in 0..UNDO_SLOT_COUNT {
         take_back(image, slot)?;
     }
     Ok(())
@@ -37,7 +67,8 @@ pub fn take_back_open(image: &mut Image) -> Result<(), Damage>
 
 // Takes back the changes of an undo slot and frees it, if it is in use.
 fn take_back(image: &mut Image, slot: u32) -> Result<(), Damage>
-    requires { slot < places.slot_count }
+    requires slot { slot < places.slot_count }
+    requires count { IsCountInRange (undo_slot_of image.old slot) }
     ensures taken_back { OnOk result (image.new ≡ taken_back image.old slot (undo_slot_of image.old slot)) }
     ensures ranges { OnOk result (IsSlotInRange (undo_slot_of image.old slot)) }
     ensures damage { IfErr result (IsDamage slot (IsSlotInRange (undo_slot_of image.old slot))) }
@@ -84,7 +115,7 @@ fn undo_change(image: &mut Image, slot: u32, number: usize) -> Result<(), Damage
     let Some(change) = change_at(image, slot, number) else {
         return Err(Damage::Undo { slot });
     };
-    let row_at = ROWS_AT + ROW_BYTES * change.slot();
+    let row_at = slot_offset(change.slot());
     image.lay(change.table(), change.page(), row_at, &change.slot_before());
     Ok(())
 }

@@ -1,6 +1,5 @@
 use super::*;
-use clone_outside::NoMemory;
-use std::alloc::Global;
+use std::alloc::{AllocError, Global};
 use std::test::*;
 
 // The system space of 257 pages, and its first page.
@@ -51,7 +50,7 @@ const COMMIT: [u8; 51] = [
 ];
 
 // The log of a change that isn't committed yet, by its undo record.
-fn open_log(alloc: Global, undo: &[u8]) -> Result<Vec<u8>, NoMemory> {
+fn open_log(alloc: Global, undo: &[u8]) -> Result<Vec<u8>, AllocError> {
     let mut log = Vec::new(alloc);
     log.extend_from_slice(&OPENING)?;
     log.extend_from_slice(&CREATE)?;
@@ -128,4 +127,33 @@ fn an_undo_record_out_of_range(rt: HostRuntime) -> Result<(), Fail> {
         Some(RecoverRefusal::Damaged(Damage::Undo { slot: 0 }))
     );
     Ok(())
+}
+
+// A count above 160 of a slot in use goes before a damaged record of an earlier slot, and is no matter in
+// a slot that is free.
+#[test]
+fn a_count_above_the_most(rt: HostRuntime) -> Result<(), Fail> {
+    let alloc = rt.alloc();
+    let mut undo = UNDO;
+    undo[22] = 50;
+    let mut log = open_log(alloc, &undo)?;
+    log.extend_from_slice(&header_of_slot_1(1))?;
+    assert_eq!(rt;
+        recover(alloc, &log).err(),
+        Some(RecoverRefusal::Damaged(Damage::Undo { slot: 1 }))
+    );
+    let mut log = open_log(alloc, &UNDO)?;
+    log.extend_from_slice(&header_of_slot_1(0))?;
+    assert!(rt; recover(alloc, &log).is_ok());
+    Ok(())
+}
+
+// The header of undo slot 1, with the count 161.
+fn header_of_slot_1(active: u8) -> [u8; 41] {
+    [
+        1, 0, 0, 0, 0, 0, 0, 0, 5, 0, 2, // page 5 of space 0 is an undo page
+        2, 0, 0, 0, 0, 0, 0, 0, 5, 0, 40, 0, 16, // on it, from 40 on, 16 bytes
+        active, 0, 0, 161, 0, 0, 0, 0, 0, 0, 0, 0, 0, 0, 0, 0, // the header
+        6,
+    ]
 }

@@ -1,21 +1,10 @@
 ghost use Rattle.std.specs.Prelude.{◌≡◌, ◌+◌, ◌*◌, ◌↔◌, ◌<◌, ◌≤◌, IsTrue, length};
 ghost use Rattle.std.specs.Option.{option_copied};
-ghost use Rattle.clone_page.specs.Bytes.{put_at};
 ghost use Rattle.clone_page.specs.Slots.{slot_count, slot_at, state_of, length_of, key_of, present_slot};
 ghost use Rattle.clone_row.specs.Slots.{slots, slot_of, slot_in, bound_key, row_in, unused, Finds, FindsFree, absent_slot, image};
 
-use byteorder::{BigEndian, ByteOrder};
 use clone_model::Value;
-use clone_page::Page;
-
-/// How many slots a page has.
-const SLOTS: u16 = 50;
-
-/// How many bytes a slot has.
-const SLOT_BYTES: usize = 80;
-
-/// Where the first slot stands.
-const FIRST_SLOT_AT: usize = 48;
+use clone_page::{Page, SLOT_BYTES, SLOT_COUNT, SLOTS_AT, put, u64_at};
 
 // The state of a slot, in its first byte.
 const UNUSED: u8 = 0;
@@ -35,7 +24,7 @@ const VALUE_AT: usize = 16;
 pub fn find(page: &Page, key: u64) -> Option<u16>
     ensures { Finds key (slots page.now) result }
 {
-    for place in 0..SLOTS {
+    for place in 0..SLOT_COUNT {
         if is_bound(slot_bytes(page, place), key) {
             return Some(place);
         }
@@ -47,7 +36,7 @@ pub fn find(page: &Page, key: u64) -> Option<u16>
 pub fn free_slot(page: &Page) -> Option<u16>
     ensures { FindsFree (slots page.now) result }
 {
-    for place in 0..SLOTS {
+    for place in 0..SLOT_COUNT {
         if is_unused(slot_bytes(page, place)) {
             return Some(place);
         }
@@ -60,7 +49,7 @@ pub fn free_slot(page: &Page) -> Option<u16>
 pub fn present(page: &Page, slot: u16) -> Option<(u64, Value)>
     ensures { result ≡ row_in (slot_in (slots page.now) slot) }
 {
-    if slot >= SLOTS {
+    if slot >= SLOT_COUNT {
         return None;
     }
     row(slot_bytes(page, slot))
@@ -81,7 +70,7 @@ pub fn slot_offset(slot: u16) -> u16
     requires { slot < slot_count }
     ensures { result ≡ slot_at slot }
 {
-    (FIRST_SLOT_AT + SLOT_BYTES * slot as usize) as u16
+    (SLOTS_AT + SLOT_BYTES * slot as usize) as u16
 }
 
 // The bytes of a slot.
@@ -139,7 +128,7 @@ fn read_key(bytes: &[u8]) -> u64
     requires { length bytes.now ≡ 80 }
     ensures { result ≡ key_of bytes.now }
 {
-    BigEndian::read_u64(&bytes[KEY_AT..VALUE_AT])
+    u64_at(bytes, KEY_AT)
 }
 
 // A slot that holds a row.
@@ -162,12 +151,4 @@ fn absent_image(key: u64) -> [u8; 80]
     put(&mut bytes, 0, &[ABSENT, 0]);
     put(&mut bytes, KEY_AT, &key.to_be_bytes());
     bytes
-}
-
-// Writes a piece from a place on.
-fn put(bytes: &mut [u8], at: usize, piece: &[u8])
-    requires { at + length piece.now ≤ length bytes.old }
-    ensures { bytes.new ≡ put_at at piece.now bytes.old }
-{
-    bytes[at..at + piece.len()].copy_from_slice(piece);
 }

@@ -5,11 +5,8 @@ ghost use Rattle.clone_script.specs.Fields.{IsRow, IsRowWithValue, row_text, row
 ghost use Rattle.clone_script.specs.Reading.{Parses};
 ghost use Rattle.clone_script.specs.declared.fields.Row.{Row};
 
-use clone_model::{
-    BucketCount, NoMemory, ScriptValue, TableNumber, as_u32, leading_number, number_of,
-    script_value_of,
-};
-use std::alloc::Global;
+use clone_model::{BucketCount, ScriptValue, TableNumber, as_u32, leading_number, number_of, script_value_of};
+use std::alloc::{AllocError, Global};
 
 /// What a line says of a row: who is at work on it, and which row it is.
 #[derive(Drop)]
@@ -34,7 +31,7 @@ pub fn read_row(text: &[u8]) -> Option<Row>
 pub fn read_row_with_value(
     alloc: Global,
     text: &[u8],
-) -> Result<Option<(Row, ScriptValue)>, NoMemory>
+) -> Result<Option<(Row, ScriptValue)>, AllocError>
     ensures { IfOk result (λ read. Parses IsRowWithValue row_with_value_text text.now read) }
 {
     let Some((row, value)) = leading_row(text) else {

@@ -2,11 +2,11 @@ ghost use Rattle.std.specs.Prelude.{◌++◌, IfOk, codes};
 ghost use Rattle.clone_script.specs.Reading.{ParsesLine, ParsesBare};
 
 use crate::fields::{bucket_count, read_row, read_row_with_value, small_number, table_number};
-use clone_model::{Line, NoMemory, leading_number, number_of, split_once};
-use std::alloc::Global;
+use clone_model::{Line, leading_number, number_of, split_once};
+use std::alloc::{AllocError, Global};
 
 /// The line that has this text.
-pub fn parse_line(alloc: Global, text: &[u8]) -> Result<Option<Line>, NoMemory>
+pub fn parse_line(alloc: Global, text: &[u8]) -> Result<Option<Line>, AllocError>
     ensures { IfOk result (λ read. ParsesLine text.now read) }
 {
     if let Some(fields) = text.strip_prefix(b"create ") {
@@ -69,7 +69,7 @@ fn begin(field: &[u8]) -> Option<Line>
 }
 
 /// The `put` with these fields: a transaction, a table, a key and a value.
-fn put(alloc: Global, fields: &[u8]) -> Result<Option<Line>, NoMemory>
+fn put(alloc: Global, fields: &[u8]) -> Result<Option<Line>, AllocError>
     ensures { IfOk result (λ read. ParsesLine (codes "put " ++ fields.now) read) }
 {
     let Some((row, value)) = read_row_with_value(alloc, fields)? else {
@@ -124,7 +124,7 @@ fn commit(field: &[u8]) -> Option<Line>
 }
 
 /// The `set` with these fields: a writer, a table, a key and a value.
-fn set(alloc: Global, fields: &[u8]) -> Result<Option<Line>, NoMemory>
+fn set(alloc: Global, fields: &[u8]) -> Result<Option<Line>, AllocError>
     ensures { IfOk result (λ read. ParsesLine (codes "set " ++ fields.now) read) }
 {
     let Some((row, value)) = read_row_with_value(alloc, fields)? else {

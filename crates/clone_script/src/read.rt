@@ -5,8 +5,8 @@ ghost use Rattle.clone_script.specs.declared.read.ReadRefusal.TheVariants.{NoMem
 
 use crate::line::parse_line;
 use crate::split::first_text;
-use clone_model::{Line, NoMemory};
-use std::alloc::{AllocFailed, Global};
+use clone_model::Line;
+use std::alloc::{AllocError, AllocFailed, Global};
 
 /// Why a script has no lines.
 #[derive(Clone, Copy, Debug, PartialEq, Eq)]
@@ -17,10 +17,10 @@ pub enum ReadRefusal {
     NoMemory,
 }
 
-impl From<NoMemory> for ReadRefusal {
+impl From<AllocError> for ReadRefusal {
     ghost from_gives = { λ _ e. e ≡ NoMemory };
 
-    fn from(_: NoMemory) -> ReadRefusal {
+    fn from(_: AllocError) -> ReadRefusal {
         ReadRefusal::NoMemory
     }
 }

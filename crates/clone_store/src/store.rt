@@ -7,18 +7,11 @@ ghost use Rattle.clone_image.specs.Image.{page_of, MakesNoPage};
 ghost use Rattle.clone_image.specs.Replay.{first_lsn, Replays};
 ghost use Rattle.clone_store.specs.Stored.{Writes, Keeps};
 
-use clone_image::Image;
-use clone_mtr::{Record, encode_into};
-use clone_outside::NoMemory;
+use clone_image::{FIRST_LSN, Image};
+use clone_mtr::{LONGEST_MTR, Record, encode_into};
 use clone_page::Page;
-use std::alloc::Global;
+use std::alloc::{AllocError, Global};
 use std::marker::Model;
-
-/// Where the log begins.
-const FIRST_LSN: u64 = 8192;
-
-/// How many bytes a mini-transaction may have.
-const LONGEST: usize = 1024;
 
 /// The pages of a donor, and the redo log that made them of nothing.
 #[derive(Drop)]
@@ -91,23 +84,23 @@ impl Store {
 
     /// Makes room in the log for one mini-transaction, however long. The pages and the log stay as they
     /// are.
-    pub fn reserve(&mut self) -> Result<(), NoMemory>
+    pub fn reserve(&mut self) -> Result<(), AllocError>
         ensures ok { OnOk result (longest ≤ self.new.room) }
         ensures same { Keeps self.old self.new }
     {
-        self.redo.reserve(LONGEST)
+        self.redo.reserve(LONGEST_MTR)
     }
 
     /// Writes a mini-transaction to the log and does to the pages what it says. Of its records only the
     /// first may make pages. After a refusal the pages and the log are as before.
-    pub fn write(&mut self, alloc: Global, records: &[Record]) -> Result<(), NoMemory>
+    pub fn write(&mut self, alloc: Global, records: &[Record]) -> Result<(), AllocError>
         requires some { 1 ≤ length records.now }
         requires short { length (spelling records.now) ≤ longest }
         requires grows { AllByRecursion MakesNoPage (drop 1 records.now) }
         ensures ok { OnOk result (Writes records.now self.old self.new) }
         ensures err { OnErr result (Keeps self.old self.new) }
     {
-        let mut buffer = [0; LONGEST];
+        let mut buffer = [0; LONGEST_MTR];
         let length = spell(records, &mut buffer);
         self.redo.reserve(length)?;
         let end = end_behind(&self.redo, length);
@@ -124,7 +117,7 @@ impl Store {
         requires grows { AllByRecursion MakesNoPage records.now }
         ensures { Writes records.now self.old self.new }
     {
-        let mut buffer = [0; LONGEST];
+        let mut buffer = [0; LONGEST_MTR];
         let length = spell(records, &mut buffer);
         let end = end_behind(&self.redo, length);
         match self.image.apply_all(alloc, records, end) {
@@ -155,7 +148,7 @@ fn append_within(redo: &mut Vec<u8>, bytes: &[u8])
 }
 
 // Puts the spelling of a mini-transaction at the front of the bytes, and answers its length.
-fn spell(records: &[Record], into: &mut [u8; 1024]) -> usize
+fn spell(records: &[Record], into: &mut [u8; LONGEST_MTR]) -> usize
     requires some { 1 ≤ length records.now }
     requires short { length (spelling records.now) ≤ longest }
     ensures within { result ≤ longest }

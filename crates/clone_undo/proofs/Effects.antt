@@ -27,10 +27,7 @@ use Rattle.clone_undo.proofs.Headers.{head-written, count-written, beside-count,
 pub own : (s : ℕ) (p q : ℕ → List ℕ) → ((m : ℕ) → header_page s ≤ m → m < header_page s + 4 → p m ≡ q m) → undo_slot s p ≡ undo_slot s q
 own s p q same =
     slot-kept s p q (ap (part 40 16) (same (header_page s) (omega arith) (omega arith)))
-    (λ i lt few. ap (entry_on i) (same (record_page s i) (omega arith) (omega arith)))
-
-pub few : (s : ℕ) (pages : ℕ → List ℕ) (slot : UndoSlot) → undo_slot s pages ≡ Some slot → length slot.records ≤ capacity
-few s pages slot is = (slot-tells s pages slot is).few
+    (λ i lt. ap (entry_on i) (same (record_page s i) (omega arith) (omega arith)))
 
 pub counted : (s : ℕ) (pages : ℕ → List ℕ) (slot : UndoSlot) → undo_slot s pages ≡ Some slot → count_of (pages (header_page s)) ≡ length slot.records
 counted s pages slot is = (slot-tells s pages slot is).count
@@ -73,7 +70,6 @@ begun_here lsn s writer index pages whole small_writer small_index =
     slot-is s (after lsn (system_write (header_page s) 40 piece ∷ []) pages 0) 0 writer index []
     (ap (field 40 1) there ∙ head-written lsn 0 1 piece page (omega arith) refl long)
     (ap (field 42 2) there ∙ head-written lsn 2 2 piece page (omega arith) refl long)
-    (omega arith)
     (ap (field 44 4) there ∙ head-written lsn 4 4 piece page (omega arith) refl long ∙ big_number-reads_back 4 writer (big_bytes 8 index) small_writer)
     (ap (field 48 8) there ∙ head-written lsn 8 8 piece page (omega arith) refl long ∙ big_number-reads_back 8 index [] small_index)
     refl
@@ -145,11 +141,11 @@ entry_keeps lsn s n e pages whole is room count =
     let edit : List ℕ → List ℕ = effect lsn (entry_record s n e) in
     slot-kept s (pages 0) (after_record lsn (entry_record s n e) pages 0)
     (sym (edit-part 40 16 (record_page s n) (header_page s) edit pages (λ same. entry_before lsn n 40 16 e (pages 0 (header_page s)) is (whole (header_page s) (omega arith) (omega arith)) (omega arith) (omega arith))))
-    (λ i lt few. ap entry_of (sym (edit-part (record_place i) 96 (record_page s n) (record_page s i) edit pages
-    (λ same. entry_before lsn n (record_place i) 96 e (pages 0 (record_page s i)) is (whole (record_page s i) (omega arith) (omega arith)) (omega arith) (apart s i n same (omega (arith, lt, count)))))))
+    (λ i lt. ap entry_of (sym (edit-part (record_place i) 96 (record_page s n) (record_page s i) edit pages
+    (λ same. entry_before lsn n (record_place i) 96 e (pages 0 (record_page s i)) is (whole (record_page s i) (omega arith) (omega arith)) (omega arith) (apart s i n same (omega (arith, lt, count)) room)))))
   where
-    apart : (s i n : ℕ) → record_page s i ≡ record_page s n → i < n → record_place i + 96 ≤ record_place n
-    apart s i n same lt = omega arith
+    apart : (s i n : ℕ) → record_page s i ≡ record_page s n → i < n → n < 160 → record_place i + 96 ≤ record_place n
+    apart s i n same lt room = omega arith
 
 entry_there : (lsn s n : ℕ) (e : UndoEntry) (pages : ℕ → ℕ → List ℕ) → length (pages 0 (record_page s n)) ≡ 4096 → IsEntry e → entry_on n (after_record lsn (entry_record s n e) pages 0 (record_page s n)) ≡ e
 entry_there lsn s n e pages long is =
@@ -169,14 +165,14 @@ entry_whole lsn s n e pages whole is =
     length-with_lsn lsn (put_at (record_place n) (entry_bytes e) (pages 0 (record_page s n))) (length-put_at (record_place n) (entry_bytes e) (pages 0 (record_page s n)) fits ∙ long))
 
 -- a page that is made for the first of its records leaves the slot as it is
-made_keeps : (unused : Bool) (lsn s n : ℕ) (pages : ℕ → ℕ → List ℕ) → (unused ≡ true → (0 < n) × (n % 40 ≡ 0)) → count_of (pages 0 (header_page s)) ≡ n → undo_slot s (pages 0) ≡ undo_slot s (after lsn (made_first unused 0 (record_page s n) Undo) pages 0)
-made_keeps false lsn s n pages due count = refl
-made_keeps true lsn s n pages due count =
+made_keeps : (unused : Bool) (lsn s n : ℕ) (pages : ℕ → ℕ → List ℕ) → (unused ≡ true → (0 < n) × (n % 40 ≡ 0)) → n < 160 → count_of (pages 0 (header_page s)) ≡ n → undo_slot s (pages 0) ≡ undo_slot s (after lsn (made_first unused 0 (record_page s n) Undo) pages 0)
+made_keeps false lsn s n pages due room count = refl
+made_keeps true lsn s n pages due room count =
     let edit : List ℕ → List ℕ = effect lsn (Init 0 (record_page s n) Undo) in
     let first = due refl in
     slot-kept s (pages 0) (after lsn (made_first true 0 (record_page s n) Undo) pages 0)
-    (sym (edit-part 40 16 (record_page s n) (header_page s) edit pages (λ same. absurd (omega (arith, same, first.0, first.1)))))
-    (λ i lt few. ap entry_of (sym (edit-part (record_place i) 96 (record_page s n) (record_page s i) edit pages (λ same. absurd (omega (arith, same, lt, count, first.0, first.1))))))
+    (sym (edit-part 40 16 (record_page s n) (header_page s) edit pages (λ same. absurd (omega (arith, same, first.0, first.1, room)))))
+    (λ i lt. ap entry_of (sym (edit-part (record_place i) 96 (record_page s n) (record_page s i) edit pages (λ same. absurd (omega (arith, same, lt, count, first.0, first.1, room))))))
 
 -- a count that is written says how many of the records are the slot's
 count_tells : (lsn s m : ℕ) (slot : UndoSlot) (pages : ℕ → ℕ → List ℕ) → AreWhole s (pages 0) → m ≤ 160 → undo_slot s (pages 0) ≡ Some slot
@@ -190,7 +186,6 @@ count_tells lsn s m slot pages whole fits is =
     slot-is s (after_record lsn (count_record s m) pages 0) m slot.writer slot.index (entries s (pages 0) m)
     (ap (field 40 1) there ∙ beside-count 40 1 lsn m page (omega arith) (inl (omega arith)) (omega arith) long ∙ tells.active)
     (ap (field 42 2) there ∙ count-written lsn m page (omega arith) long)
-    fits
     (ap (field 44 4) there ∙ beside-count 44 4 lsn m page (omega arith) (inr (omega arith)) (omega arith) long ∙ sym tells.writer)
     (ap (field 48 8) there ∙ beside-count 48 8 lsn m page (omega arith) (inr (omega arith)) (omega arith) long ∙ sym tells.index)
     (entries-same s (after_record lsn (count_record s m) pages 0) (pages 0) m
@@ -235,7 +230,7 @@ changed unused row_unused lsn s slot e image pages whole is room due told =
     let n : ℕ = length slot.records in
     let made : ℕ → ℕ → List ℕ = after lsn (made_first unused 0 (record_page s n) Undo) pages in
     let written : ℕ → ℕ → List ℕ = after lsn (entry_record s n e ∷ count_record s (n + 1) ∷ []) made in
-    let still : undo_slot s (made 0) ≡ Some slot = sym (made_keeps unused lsn s n pages due (counted s (pages 0) slot told)) ∙ told in
+    let still : undo_slot s (made 0) ≡ Some slot = sym (made_keeps unused lsn s n pages due room (counted s (pages 0) slot told)) ∙ told in
     ap (λ (p : ℕ → ℕ → List ℕ). undo_slot s (p 0)) (change_parts unused row_unused lsn s n e image pages)
     ∙ row_keeps row_unused lsn s e image written is
     ∙ change_counts lsn s slot e made (whole_first unused s lsn (record_page s n) pages whole) is room still
@@ -281,16 +276,15 @@ changed_row unused row_unused lsn s n e image pages is =
 abbrev with_row : ℕ → ℕ → UndoEntry → List ℕ → List Record
 with_row s count e image = row_record e image ∷ count_record s (count - 1) ∷ []
 
-pub taken_back : (lsn s : ℕ) (slot : UndoSlot) (front : List UndoEntry) (e : UndoEntry) (image : List ℕ) (pages : ℕ → ℕ → List ℕ) → AreWhole s (pages 0) → IsEntry e → undo_slot s (pages 0) ≡ Some slot → slot.records ≡ front ++ e ∷ []
+pub taken_back : (lsn s : ℕ) (slot : UndoSlot) (front : List UndoEntry) (e : UndoEntry) (image : List ℕ) (pages : ℕ → ℕ → List ℕ) → AreWhole s (pages 0) → IsEntry e → length slot.records ≤ 160 → undo_slot s (pages 0) ≡ Some slot → slot.records ≡ front ++ e ∷ []
     → undo_slot s (after lsn (with_row s (length slot.records) e image) pages 0) ≡ Some (record { writer = slot.writer; index = slot.index; records = front })
-taken_back lsn s slot front e image pages whole is told ends =
+taken_back lsn s slot front e image pages whole is full told ends =
     let edited : ℕ → ℕ → List ℕ = after_record lsn (row_record e image) pages in
     let kept = λ (m : ℕ). edit-other e.table e.page 0 m (effect lsn (row_record e image)) pages (λ z p. omega (arith, z, is.place.0)) in
     let still : undo_slot s (edited 0) ≡ Some slot = row_keeps false lsn s e image pages is ∙ told in
     let whole_edited : AreWhole s (edited 0) = λ m low high. ap length (kept m) ∙ whole m low high in
     let long : length slot.records ≡ length front + 1 = ap length ends ∙ length-append front (e ∷ []) in
     let less : length slot.records - 1 ≡ length front = omega (arith, long) in
-    let full = few s (pages 0) slot told in
     count_tells lsn s (length slot.records - 1) slot edited whole_edited (omega (arith, full)) still
     ∙ ap (λ (rs : List UndoEntry). Some (record { writer = slot.writer; index = slot.index; records = rs })) (ap (entries s (edited 0)) less ∙ sym (front_is s (edited 0) slot front e still ends))
 

@@ -1,5 +1,5 @@
 -- The header of an undo slot after a write, and what it says of the slot.
-use Rattle.std.proofs.Common.{◌≡◌, ◌≤◌, ◌<◌, ◌+◌, ◌^◌, ◌==◌, ◌&&◌, ◌⊎◌, ℕ, nat_le, Bool, true, false, cond, Option, Some, None, List, length, take, drop, arith, refl, sym, ap, ◌∙◌, inl, inr}
+use Rattle.std.proofs.Common.{◌≡◌, ◌≤◌, ◌<◌, ◌+◌, ◌^◌, ◌==◌, ◌&&◌, ◌⊎◌, ℕ, Bool, true, false, cond, Option, Some, None, List, length, take, drop, arith, refl, sym, ap, ◌∙◌, inl, inr}
 use Rattle.std.proofs.lemmas.List.{drop-drop, drop-take, take-take}
 use Rattle.std.proofs.lemmas.Bool.{le-leb}
 use Rattle.std.proofs.lemmas.Bool.Decides.{eqb_tells, leb_tells}
@@ -49,24 +49,19 @@ beside-count a n lsn m page body apart below long =
     field-stamped a n lsn (put_at 42 (big_bytes 2 m) page) body below (length-put_at 42 (big_bytes 2 m) page fits ∙ long)
     ∙ field-put_at_other a n 42 (big_bytes 2 m) page elsewhere (omega arith)
 
-pub in_use : (page : List ℕ) → active_of page ≡ 1 → count_of page ≤ capacity → is_in_use page ≡ true
-in_use page active few = ap (λ (a : ℕ). (a == 1) && nat_le (count_of page) 160) active ∙ le-leb (count_of page) 160 few
+pub in_use : (page : List ℕ) → active_of page ≡ 1 → is_in_use page ≡ true
+in_use page active = ap (λ (a : ℕ). a == 1) active
 
 pub not_in_use : (page : List ℕ) → active_of page ≡ 0 → is_in_use page ≡ false
-not_in_use page free = ap (λ (a : ℕ). (a == 1) && nat_le (count_of page) 160) free
+not_in_use page free = ap (λ (a : ℕ). a == 1) free
 
-both : (a c : ℕ) → ((a == 1) && nat_le c 160) ≡ true → (a ≡ 1) × (c ≤ 160)
-both a c holds =
-    elim (eqb_tells a 1) [
-      | inl one ↦ elim (leb_tells c 160) [ inl few ↦ (one.1, few.1) | inr many ↦ absurd (let e : false ≡ true = sym (ap (λ t. t && nat_le c 160) one.0 ∙ many.0) ∙ holds in cc) ]
-      | inr other ↦ absurd (let e : false ≡ true = sym (ap (λ t. t && nat_le c 160) other.0) ∙ holds in cc)
-    ]
+is_one : (a : ℕ) → (a == 1) ≡ true → a ≡ 1
+is_one a holds = elim (eqb_tells a 1) [ inl one ↦ one.1 | inr other ↦ absurd (let e : false ≡ true = sym other.0 ∙ holds in cc) ]
 
 -- what the header of a slot that is in use says of it
 pub record Tells (s : ℕ) (pages : ℕ → List ℕ) (slot : UndoSlot) : Type 0 where
   pub active : active_of (pages (header_page s)) ≡ 1
   pub count : count_of (pages (header_page s)) ≡ length slot.records
-  pub few : length slot.records ≤ capacity
   pub writer : slot.writer ≡ writer_of (pages (header_page s))
   pub index : slot.index ≡ index_of (pages (header_page s))
   pub records : slot.records ≡ entries s pages (count_of (pages (header_page s)))
@@ -84,12 +79,10 @@ slot-tells s pages slot is = at (is_in_use (pages (header_page s))) refl
     at false free = absurd (let e : None ≡ Some slot = sym (ap (λ (b : Bool). cond b (Some (slot_of s pages)) None) free) ∙ is in cc)
     at true used =
         let same : slot_of s pages ≡ slot = inner (sym (ap (λ (b : Bool). cond b (Some (slot_of s pages)) None) used) ∙ is) in
-        let facts = both (active_of (pages (header_page s))) (count_of (pages (header_page s))) used in
         let long : length slot.records ≡ count_of (pages (header_page s)) = ap (λ (w : UndoSlot). length w.records) (sym same) ∙ length-entries s pages (count_of (pages (header_page s))) in
         record {
-          active = facts.0;
+          active = is_one (active_of (pages (header_page s))) used;
           count = sym long;
-          few = omega (arith, long, facts.1);
           writer = ap (λ (w : UndoSlot). w.writer) (sym same);
           index = ap (λ (w : UndoSlot). w.index) (sym same);
           records = ap (λ (w : UndoSlot). w.records) (sym same);
@@ -99,10 +92,10 @@ pub some_slot : {w v i j : ℕ} {r t : List UndoEntry} → w ≡ v → i ≡ j �
 some_slot p q e = λ i. Some (record { writer = p i; index = q i; records = e i })
 
 -- a slot, by the fields of its header
-pub slot-is : (s : ℕ) (pages : ℕ → List ℕ) (n writer index : ℕ) (records : List UndoEntry) → active_of (pages (header_page s)) ≡ 1 → count_of (pages (header_page s)) ≡ n → n ≤ capacity → writer_of (pages (header_page s)) ≡ writer → index_of (pages (header_page s)) ≡ index
+pub slot-is : (s : ℕ) (pages : ℕ → List ℕ) (n writer index : ℕ) (records : List UndoEntry) → active_of (pages (header_page s)) ≡ 1 → count_of (pages (header_page s)) ≡ n → writer_of (pages (header_page s)) ≡ writer → index_of (pages (header_page s)) ≡ index
     → entries s pages n ≡ records → undo_slot s pages ≡ Some (record { writer = writer; index = index; records = records })
-slot-is s pages n writer index records active count few w i same =
-    ap (λ (b : Bool). cond b (Some (slot_of s pages)) None) (in_use (pages (header_page s)) active (omega (arith, count, few)))
+slot-is s pages n writer index records active count w i same =
+    ap (λ (b : Bool). cond b (Some (slot_of s pages)) None) (in_use (pages (header_page s)) active)
     ∙ some_slot w i (ap (entries s pages) count ∙ same)
 
 pub slot-free : (s : ℕ) (pages : ℕ → List ℕ) → active_of (pages (header_page s)) ≡ 0 → undo_slot s pages ≡ None
@@ -116,20 +109,19 @@ field-in_part i n page within =
 
 -- pages that keep the header and the records keep the slot
 pub slot-kept : (s : ℕ) (p q : ℕ → List ℕ) → part 40 16 (p (header_page s)) ≡ part 40 16 (q (header_page s))
-    → ((i : ℕ) → i < count_of (p (header_page s)) → i < capacity → entry_on i (p (record_page s i)) ≡ entry_on i (q (record_page s i))) → undo_slot s p ≡ undo_slot s q
+    → ((i : ℕ) → i < count_of (p (header_page s)) → entry_on i (p (record_page s i)) ≡ entry_on i (q (record_page s i))) → undo_slot s p ≡ undo_slot s q
 slot-kept s p q head each = at (is_in_use (p (header_page s))) refl
   where
     header : (i n : ℕ) → i + n ≤ 16 → field (40 + i) n (p (header_page s)) ≡ field (40 + i) n (q (header_page s))
     header i n within = field-in_part i n (p (header_page s)) within ∙ ap (field i n) head ∙ sym (field-in_part i n (q (header_page s)) within)
 
     uses : is_in_use (p (header_page s)) ≡ is_in_use (q (header_page s))
-    uses = λ i. (header 0 1 (omega arith) i == 1) && nat_le (header 2 2 (omega arith) i) 160
+    uses = λ i. header 0 1 (omega arith) i == 1
 
     at : (b : Bool) → is_in_use (p (header_page s)) ≡ b → undo_slot s p ≡ undo_slot s q
     at false free = ap (λ (b : Bool). cond b (Some (slot_of s p)) None) free ∙ sym (ap (λ (b : Bool). cond b (Some (slot_of s q)) None) (sym uses ∙ free))
     at true used =
-        let few = (both (active_of (p (header_page s))) (count_of (p (header_page s))) used).1 in
-        let same : entries s p (count_of (p (header_page s))) ≡ entries s q (count_of (p (header_page s))) = entries-same s p q (count_of (p (header_page s))) (λ i lt. each i lt (omega (arith, lt, few))) in
+        let same : entries s p (count_of (p (header_page s))) ≡ entries s q (count_of (p (header_page s))) = entries-same s p q (count_of (p (header_page s))) each in
         ap (λ (b : Bool). cond b (Some (slot_of s p)) None) used
         ∙ some_slot (header 4 4 (omega arith)) (header 8 8 (omega arith)) (same ∙ ap (entries s q) (header 2 2 (omega arith)))
         ∙ sym (ap (λ (b : Bool). cond b (Some (slot_of s q)) None) (sym uses ∙ used))

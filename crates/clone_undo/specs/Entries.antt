@@ -2,6 +2,7 @@
 use Rattle.std.specs.Prelude.{ℕ, ◌≡◌, ◌≤◌, ◌<◌, ◌^◌, ◌-◌, ◌⊎◌, List, [], ◌∷◌, ◌++◌, length, replicate}
 use Rattle.byteorder.specs.Endian.{big_bytes}
 use Rattle.clone_page.specs.Bytes.{part, field}
+use Rattle.clone_page.specs.Slots.{slot_count}
 use Rattle.clone_undo.specs.declared.before.Before.{Before}
 use Rattle.clone_undo.specs.declared.before.Before.TheVariants.{Present, Absent}
 
@@ -26,7 +27,7 @@ pub record UndoEntry : Type 0 where
 
 -- a table's number, a page of its space and a slot on that page
 abbrev pub IsPlace : ℕ → ℕ → ℕ → Type 0
-IsPlace table page slot = (1 ≤ table) × (table ≤ 1000000) × (page < 65536) × (slot < 50)
+IsPlace table page slot = (1 ≤ table) × (table ≤ 1000000) × (page < 65536) × (slot < slot_count)
 
 -- present with a value of at most 64 bytes, or absent without one
 abbrev pub IsBefore : ℕ → List ℕ → Type 0

@@ -1,32 +1,33 @@
 -- Where the undo slots stand in the system space, and what stands where on their pages.
 use Rattle.std.specs.Prelude.{ℕ, ◌+◌, ◌*◌, ◌/◌, ◌%◌}
+use Rattle.clone_undo.specs.declared.places.TheConstants.{UNDO_SLOT_COUNT, UNDO_SLOT_PAGES, UNDO_CAPACITY, RECORDS_ON_PAGE, RECORDS_AT, RECORD_BYTES, HEADER_AT, COUNT_AT}
 
 abbrev pub slot_count : ℕ
-slot_count = 64
+slot_count = UNDO_SLOT_COUNT
 
 -- how many changes an undo slot tells at most
 abbrev pub capacity : ℕ
-capacity = 160
+capacity = UNDO_CAPACITY
 
 -- how many of them stand on one page
 abbrev pub records_on_page : ℕ
-records_on_page = 40
+records_on_page = RECORDS_ON_PAGE
 
 -- the first of the four pages of an undo slot, which has its header
 abbrev pub header_page : ℕ → ℕ
-header_page s = 1 + 4 * s
+header_page s = 1 + UNDO_SLOT_PAGES * s
 
--- the page of an undo record
+-- the page of an undo record. The records run over the four pages of the slot
 abbrev pub record_page : ℕ → ℕ → ℕ
-record_page s i = 1 + 4 * s + i / records_on_page
+record_page s i = header_page s + (i / records_on_page) % UNDO_SLOT_PAGES
 
 -- where an undo record stands on its page
 abbrev pub record_place : ℕ → ℕ
-record_place i = 64 + 96 * (i % records_on_page)
+record_place i = RECORDS_AT + RECORD_BYTES * (i % records_on_page)
 
 -- where the header stands, and the number of records in it
 abbrev pub header_place : ℕ
-header_place = 40
+header_place = HEADER_AT
 
 abbrev pub count_place : ℕ
-count_place = 42
+count_place = COUNT_AT

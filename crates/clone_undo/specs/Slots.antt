@@ -1,10 +1,11 @@
 -- An undo slot as what its four pages tell: free, or who writes and which changes were made, oldest first.
-use Rattle.std.specs.Prelude.{ℕ, zero, suc, ◌==◌, ◌&&◌, nat_le, Bool, if◌then◌else◌, List, [], ◌∷◌, ◌++◌, None, Some}
+use Rattle.std.specs.Prelude.{ℕ, zero, suc, ◌==◌, Bool, if◌then◌else◌, List, [], ◌∷◌, ◌++◌, None, Some}
 use Rattle.std.specs.declared.option.Option.{Option}
 use Rattle.byteorder.specs.Endian.{big_bytes}
 use Rattle.clone_page.specs.Bytes.{part, field}
 use Rattle.clone_undo.specs.Entries.{UndoEntry, entry_of}
-use Rattle.clone_undo.specs.Places.{capacity, header_page, record_page, record_place}
+use Rattle.clone_undo.specs.Places.{header_page, header_place, count_place, record_page, record_place}
+use Rattle.clone_undo.specs.declared.places.TheConstants.{WRITER_AT, INDEX_AT, RECORD_BYTES}
 
 pub record UndoSlot : Type 0 where
   pub writer : ℕ
@@ -13,16 +14,16 @@ pub record UndoSlot : Type 0 where
 
 -- the fields of the header
 abbrev pub active_of : List ℕ → ℕ
-active_of page = field 40 1 page
+active_of page = field header_place 1 page
 
 abbrev pub count_of : List ℕ → ℕ
-count_of page = field 42 2 page
+count_of page = field count_place 2 page
 
 abbrev pub writer_of : List ℕ → ℕ
-writer_of page = field 44 4 page
+writer_of page = field WRITER_AT 4 page
 
 abbrev pub index_of : List ℕ → ℕ
-index_of page = field 48 8 page
+index_of page = field INDEX_AT 8 page
 
 -- the 16 bytes of an active slot's header
 abbrev pub header_bytes : ℕ → ℕ → ℕ → List ℕ
@@ -30,16 +31,16 @@ header_bytes count writer index = 1 ∷ 0 ∷ (big_bytes 2 count ++ (big_bytes 4
 
 -- what the record of this number tells, on its page
 abbrev pub entry_on : ℕ → List ℕ → UndoEntry
-entry_on i page = entry_of (part (record_place i) 96 page)
+entry_on i page = entry_of (part (record_place i) RECORD_BYTES page)
 
 -- what the first records of an undo slot tell
 abbrev pub entries : ℕ → (ℕ → List ℕ) → ℕ → List UndoEntry
 entries s pages zero = []
 entries s pages (suc n) = entries s pages n ++ entry_on n (pages (record_page s n)) ∷ []
 
--- the header says that the slot is in use, with a count that it can have
+-- the header says that the slot is in use
 abbrev pub is_in_use : List ℕ → Bool
-is_in_use page = (active_of page == 1) && nat_le (count_of page) capacity
+is_in_use page = active_of page == 1
 
 -- an undo slot, from the pages of the system space by their numbers
 abbrev pub undo_slot : ℕ → (ℕ → List ℕ) → Option UndoSlot

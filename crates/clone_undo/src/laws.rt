@@ -10,7 +10,6 @@ ghost use Rattle.clone_undo.specs.Changes.{AreWhole, after, after_row, records_o
 pub fn slot_laws()
     // Only its own four pages tell of a slot.
     ensures own { (s : ℕ) (p q : ℕ → List ℕ) → ((m : ℕ) → places.header_page s ≤ m → m < places.header_page s + 4 → p m ≡ q m) → undo_slot s p ≡ undo_slot s q }
-    ensures few { (s : ℕ) (pages : ℕ → List ℕ) (slot : UndoSlot) → undo_slot s pages ≡ Some slot → length slot.records ≤ places.capacity }
     ensures count { (s : ℕ) (pages : ℕ → List ℕ) (slot : UndoSlot) → undo_slot s pages ≡ Some slot → count_of (pages (places.header_page s)) ≡ length slot.records }
     ensures last { (s : ℕ) (pages : ℕ → List ℕ) (slot : UndoSlot) (front : List UndoEntry) (last : UndoEntry) → undo_slot s pages ≡ Some slot → slot.records ≡ front ++ last ∷ [] → last ≡ entry_on (length front) (pages (places.record_page s (length front))) }
 
@@ -48,7 +47,7 @@ pub fn change_laws()
 /// What it does to the undo slots and to the pages that the last change is taken back.
 pub fn taking_back_laws()
     // The slot has lost the last of its records.
-    ensures removed { (lsn s : ℕ) (slot : UndoSlot) (front : List UndoEntry) (last : UndoEntry) (pages : ℕ → ℕ → List ℕ) → AreWhole s (pages 0) → IsEntry last → undo_slot s (pages 0) ≡ Some slot → slot.records ≡ front ++ last ∷ [] → undo_slot s (after lsn (records_of_taking_back s (length slot.records) last) pages 0) ≡ Some (record { writer = slot.writer; index = slot.index; records = front }) }
+    ensures removed { (lsn s : ℕ) (slot : UndoSlot) (front : List UndoEntry) (last : UndoEntry) (pages : ℕ → ℕ → List ℕ) → AreWhole s (pages 0) → IsEntry last → length slot.records ≤ places.capacity → undo_slot s (pages 0) ≡ Some slot → slot.records ≡ front ++ last ∷ [] → undo_slot s (after lsn (records_of_taking_back s (length slot.records) last) pages 0) ≡ Some (record { writer = slot.writer; index = slot.index; records = front }) }
     // The row slot that the record names has the state, the length and the value from before.
     ensures row { (lsn s n : ℕ) (e : UndoEntry) (pages : ℕ → ℕ → List ℕ) → IsEntry e → after lsn (records_of_taking_back s n e) pages e.table e.page ≡ after_row false lsn e (slot_before e) (pages e.table e.page) }
     ensures others { (lsn s n t : ℕ) (e : UndoEntry) (pages : ℕ → ℕ → List ℕ) → t ≢ s → IsEntry e → undo_slot t (after lsn (records_of_taking_back s n e) pages 0) ≡ undo_slot t (pages 0) }

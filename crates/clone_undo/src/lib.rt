@@ -3,16 +3,20 @@
 #![tactic(auto)]
 
 mod before;
-mod bytes;
 mod laws;
 mod places;
 mod reading;
 mod record;
 mod writing;
 
-pub use before::{Before, OldValue};
+pub use before::Before;
+/// The value of a row before a change.
+pub use clone_model::Value as OldValue;
 pub use laws::{begin_laws, change_laws, end_laws, slot_laws, taking_back_laws};
-pub use places::{header_page, record_page};
+pub use places::{
+    COUNT_AT, HEADER_AT, HEADER_BYTES, INDEX_AT, RECORD_BYTES, RECORDS_AT, RECORDS_ON_PAGE,
+    UNDO_CAPACITY, UNDO_SLOT_COUNT, UNDO_SLOT_PAGES, WRITER_AT, header_page, record_page,
+};
 pub use reading::{SlotHeader, has_possible_count, header, last_record, record_at};
 pub use record::{UndoRecord, is_place};
 pub use writing::{

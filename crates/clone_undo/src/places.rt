@@ -1,27 +1,47 @@
+//! Where the undo slots stand in the system space: four pages each, of which the first has the header,
+//! and forty records on each page. Places on a page are in bytes from its beginning.
 ghost use Rattle.std.specs.Prelude.{◌≡◌, ◌<◌, ◌+◌, ◌*◌};
 ghost use Rattle.clone_undo.specs.Places as places;
 
-/// How many records stand on a page of an undo slot.
-const RECORDS_ON_PAGE: usize = 40;
+/// How many undo slots there are.
+pub const UNDO_SLOT_COUNT: u32 = 64;
+
+/// How many pages an undo slot has.
+pub const UNDO_SLOT_PAGES: u32 = 4;
+
+/// How many changes an undo slot tells at most.
+pub const UNDO_CAPACITY: u16 = 160;
+
+/// How many records stand on a page.
+pub const RECORDS_ON_PAGE: usize = 40;
+
+/// Where the first record of a page stands.
+pub const RECORDS_AT: usize = 64;
 
 /// How many bytes a record has.
 pub const RECORD_BYTES: usize = 96;
 
-/// How many bytes a slot on a page of rows has.
-pub const ROW_BYTES: usize = 80;
+/// Where the header stands, on the first page of an undo slot. Its first byte is 1 where the slot is in use.
+pub const HEADER_AT: u16 = 40;
 
-/// Where on its page the first record stands.
-const FIRST_RECORD_AT: usize = 64;
+/// How many bytes the header has.
+pub const HEADER_BYTES: usize = 16;
 
-/// How many pages an undo slot has.
-const PAGES: u32 = 4;
+/// Where in the header the number of records stands.
+pub const COUNT_AT: u16 = 42;
+
+/// Where in the header the writer stands.
+pub const WRITER_AT: u16 = 44;
+
+/// Where in the header the index of the transaction stands.
+pub const INDEX_AT: u16 = 48;
 
 /// The page of the system space that has the header of an undo slot. `slot` is its number, from 0 to 63.
 pub fn header_page(slot: u32) -> u32
     requires { slot < places.slot_count }
     ensures { result ≡ places.header_page slot }
 {
-    1 + PAGES * slot
+    1 + UNDO_SLOT_PAGES * slot
 }
 
 /// The page of the system space that has the record of this number, counted from 0, of an undo slot.
@@ -38,5 +58,5 @@ pub fn record_place(number: usize) -> usize
     requires { number < places.capacity }
     ensures { result ≡ places.record_place number }
 {
-    FIRST_RECORD_AT + RECORD_BYTES * (number % RECORDS_ON_PAGE)
+    RECORDS_AT + RECORD_BYTES * (number % RECORDS_ON_PAGE)
 }

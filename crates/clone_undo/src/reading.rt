@@ -4,23 +4,13 @@ ghost use Rattle.clone_undo.specs.Entries.{UndoEntry, IsEntry, IsBefore, state_n
 ghost use Rattle.clone_undo.specs.Places as places;
 ghost use Rattle.clone_undo.specs.Slots.{entry_on, is_in_use, count_of, writer_of, index_of};
 
-use crate::before::{Before, OldValue};
-use crate::bytes::{u8_at, u16_at, u32_at, u64_at};
-use crate::places::{RECORD_BYTES, record_place};
+use crate::before::Before;
+use crate::places::{
+    COUNT_AT, HEADER_AT, INDEX_AT, RECORD_BYTES, UNDO_CAPACITY, WRITER_AT, record_place,
+};
 use crate::record::{UndoRecord, is_place};
-use clone_page::Page;
-
-/// The most records that an undo slot has.
-const CAPACITY: u16 = 160;
-
-// Where the fields of the header stand on the first page of a slot.
-const ACTIVE_AT: usize = 40;
-
-const COUNT_AT: usize = 42;
-
-const WRITER_AT: usize = 44;
-
-const INDEX_AT: usize = 48;
+use clone_model::Value;
+use clone_page::{Page, u8_at, u16_at, u32_at, u64_at};
 
 // Where the fields of a record stand in its bytes. The table comes first.
 const PAGE_AT: usize = 4;
@@ -38,7 +28,7 @@ const VALUE_AT: usize = 24;
 /// The header of an undo slot that is in use.
 #[derive(Clone, Copy, Debug, PartialEq, Eq)]
 pub struct SlotHeader {
-    /// How many changes were made, at most 160.
+    /// How many changes were made. No undo slot has more than 160, so a count above is damage.
     pub count: u16,
     /// Who writes.
     pub writer: u32,
@@ -46,8 +36,7 @@ pub struct SlotHeader {
     pub index: u64,
 }
 
-/// The header on the first page of an undo slot, or none where the slot is free. A count above 160 is
-/// none of an undo slot, so there is no header then either.
+/// The header on the first page of an undo slot, or none where the slot is free.
 pub fn header(page: &Page) -> Option<SlotHeader>
     ensures none { IfNone result (is_in_use page.now ≡ false) }
     ensures some { IfSome result (λ h. is_in_use page.now ≡ true) }
@@ -56,14 +45,13 @@ pub fn header(page: &Page) -> Option<SlotHeader>
     ensures index { IfSome result (λ h. h.index ≡ index_of page.now) }
 {
     let bytes = page.bytes();
-    let count = u16_at(bytes, COUNT_AT);
-    if u8_at(bytes, ACTIVE_AT) != 1 || count > CAPACITY {
+    if u8_at(bytes, HEADER_AT as usize) != 1 {
         return None;
     }
     Some(SlotHeader {
-        count,
-        writer: u32_at(bytes, WRITER_AT),
-        index: u64_at(bytes, INDEX_AT),
+        count: u16_at(bytes, COUNT_AT as usize),
+        writer: u32_at(bytes, WRITER_AT as usize),
+        index: u64_at(bytes, INDEX_AT as usize),
     })
 }
 
@@ -71,7 +59,7 @@ pub fn header(page: &Page) -> Option<SlotHeader>
 pub fn has_possible_count(page: &Page) -> bool
     ensures { IsTrue result ↔ (count_of page.now ≤ places.capacity) }
 {
-    u16_at(page.bytes(), COUNT_AT) <= CAPACITY
+    u16_at(page.bytes(), COUNT_AT as usize) <= UNDO_CAPACITY
 }
 
 /// The record of this number, counted from 0, from its page, or none where one of its fields is out of
@@ -143,6 +131,6 @@ fn present_in(bytes: &[u8], long: u8) -> Option<Before>
     if long > 64 {
         return None;
     }
-    let value = OldValue::new(&bytes[VALUE_AT..VALUE_AT + long as usize])?;
+    let value = Value::new(&bytes[VALUE_AT..VALUE_AT + long as usize])?;
     Some(Before::Present(value))
 }

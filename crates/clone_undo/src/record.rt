@@ -1,10 +1,11 @@
 ghost use Rattle.std.specs.Prelude.{◌≡◌, ◌≤◌, ◌<◌, ◌↔◌, IsTrue, length};
+ghost use Rattle.clone_page.specs.Slots.{slot_count};
 ghost use Rattle.clone_undo.specs.Entries.{IsPlace, IsBefore, IsEntry, state_number, value_before, entry_bytes};
 ghost use Rattle.clone_undo.specs.Changes.{slot_before};
 
 use crate::before::Before;
-use crate::bytes::put;
-use crate::places::{RECORD_BYTES, ROW_BYTES};
+use crate::places::RECORD_BYTES;
+use clone_page::{SLOT_BYTES, SLOT_COUNT, put};
 use std::marker::Model;
 
 /// One change of a row slot: which slot it was, and what it held before. The table is from 1 to
@@ -61,7 +62,7 @@ impl UndoRecord {
     /// The slot on that page.
     pub fn slot(&self) -> u16
         ensures value { result ≡ self.now.slot }
-        ensures range { self.now.slot < 50 }
+        ensures range { self.now.slot < slot_count }
     {
         self.slot
     }
@@ -132,7 +133,7 @@ impl UndoRecord {
         ensures { result ≡ slot_before self.now }
     {
         let value = self.value();
-        let mut bytes = [0; ROW_BYTES];
+        let mut bytes = [0; SLOT_BYTES];
         put(&mut bytes, 0, &[self.state(), value.len() as u8]);
         put(&mut bytes, 8, &self.key.to_be_bytes());
         put(&mut bytes, 16, value);
@@ -156,5 +157,5 @@ fn known_before(before: &Before)
 pub fn is_place(table: u32, page: u32, slot: u16) -> bool
     ensures { IsTrue result ↔ IsPlace table page slot }
 {
-    1 <= table && table <= 1_000_000 && page < 65_536 && slot < 50
+    1 <= table && table <= 1_000_000 && page < 65_536 && slot < SLOT_COUNT
 }

@@ -4,23 +4,11 @@ ghost use Rattle.clone_undo.specs.Places as places;
 ghost use Rattle.clone_undo.specs.Slots.{header_bytes};
 ghost use Rattle.clone_undo.specs.Changes.{made_first, system_write, count_record, row_record, records_of_begin, records_of_change, records_of_taking_back, records_of_end};
 
-use crate::places::{ROW_BYTES, header_page, record_page, record_place};
+use crate::places::{COUNT_AT, HEADER_AT, HEADER_BYTES, header_page, record_page, record_place};
 use crate::record::UndoRecord;
 use byteorder::{BigEndian, ByteOrder};
 use clone_mtr::{Patch, Record};
-use clone_page::PageKind;
-
-/// Where on its page the header stands.
-const HEADER_AT: u16 = 40;
-
-/// Where on that page the number of records stands.
-const COUNT_AT: u16 = 42;
-
-/// How many bytes a header has.
-const HEADER_BYTES: usize = 16;
-
-/// Where on a page of rows the first slot stands.
-const FIRST_ROW_AT: usize = 48;
+use clone_page::{PageKind, SLOT_BYTES, SLOTS_AT};
 
 /// A transaction begins: the undo slot is in use and has no records. The first record makes the page of
 /// its header. Where that page is in use, only the second is written.
@@ -161,7 +149,7 @@ fn row_write(entry: &UndoRecord, image: &[u8; 80]) -> Record
         space: entry.table(),
         page: entry.page(),
         patch: Patch::new(
-            (FIRST_ROW_AT + ROW_BYTES * entry.slot() as usize) as u16,
+            (SLOTS_AT + SLOT_BYTES * entry.slot() as usize) as u16,
             image,
         ),
     }

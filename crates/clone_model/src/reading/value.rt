@@ -4,8 +4,8 @@ ghost use Rattle.clone_model.specs.Texts as texts;
 ghost use Rattle.clone_model.specs.Lines.{IsScriptValue};
 ghost use Rattle.clone_model.specs.Reading.{IsValue, IsValueOrNone, AreBytes, IsFront};
 
-use crate::{NoMemory, ScriptValue, Value};
-use std::alloc::Global;
+use crate::{ScriptValue, Value};
+use std::alloc::{AllocError, Global};
 
 /// The value that the whole text shows: a dash for the empty one, or two lower-case hex digits for each of its bytes.
 pub fn value_of(text: &[u8]) -> Option<Value>
@@ -19,7 +19,7 @@ pub fn value_of(text: &[u8]) -> Option<Value>
 
 /// The value of at most 1,024 bytes that the whole text shows, in the form of `value_of`. None where
 /// it shows no such value.
-pub fn script_value_of(alloc: Global, text: &[u8]) -> Result<Option<ScriptValue>, NoMemory>
+pub fn script_value_of(alloc: Global, text: &[u8]) -> Result<Option<ScriptValue>, AllocError>
     ensures some { IfOk result (λ read. IfSome read (λ v. IsScriptValue v × (text.now ≡ value_text v))) }
     ensures only { IfOk result (λ read. (v : List ℕ) → IsScriptValue v → text.now ≡ value_text v → read ≡ Some v) }
 {

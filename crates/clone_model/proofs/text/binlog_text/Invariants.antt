@@ -5,4 +5,4 @@ use Rattle.clone_model.proofs.text.binlog_text.Given as goal
 
 abbrev pub invariant-loop-commit : goal.invariant-loop-commit
 invariant-loop-commit l =
-    string_bytes l.text ++ texts.binlog_text (drop l.commit-index l.commit-items) ≡ texts.binlog_text l.binlog
+    string_bytes l.text ++ texts.binlog_text (drop l.commit-index l.commit-items) ≡ texts.binlog_text l.binlog.commits

@@ -1,10 +1,16 @@
 use Rattle.std.proofs.Common.{refl, rules, ap, Err, subst, List, ℕ}
 use Rattle.clone_script.specs.declared.read.ReadRefusal.{ReadRefusal}
-use Rattle.clone_prog.specs.declared.status.Status.TheVariants.{TooLong, BadLine}
-use Rattle.clone_prog.specs.Main.{too_long, bad_line}
+use Rattle.clone_prog.specs.declared.status.Status.TheVariants.{TooLong, BadLine, SourceFault}
+use Rattle.clone_prog.specs.Main.{too_long, bad_line, no_source}
 use Rattle.clone_script.specs.Reading.{Reads}
 use Rattle.clone_prog.proofs.Ending.{all_given, same_script, said, done, given_up}
 use Rattle.clone_prog.proofs.run.run_words.Goals as goal
+
+pub returns-in-Err-Fault : goal.returns-in-Err-Fault
+returns-in-Err-Fault g c =
+    let command = c.is_command.ensures.0 (search rules) in
+    let rose = c.in-Err-Fault.ensures.fault (ap Err c.in-Err-Fault.field-0-is) in
+    said _ _ _ SourceFault _ _ c.say-in-Err-Fault.ensures refl (no_source command rose refl refl) (λ s. (command, rose, s))
 
 pub returns-in-Err-TooLong : goal.returns-in-Err-TooLong
 returns-in-Err-TooLong g c =

@@ -9,4 +9,4 @@ returns-in_err-take_back_open-clause-cause c =
 
 pub returns-clause-image : goal.returns-clause-image
 returns-clause-image c =
-    recovers c.args.redo.now c.in_ok-image.image c.take_back_open.new.image c.in_ok-image.ensures.image c.in_ok-image.ensures.short c.in_ok-take_back_open.ensures.ranges c.in_ok-take_back_open.ensures.recovered
+    recovers c.args.redo.now c.in_ok-image.image c.take_back_open.new.image c.in_ok-image.ensures.image c.in_ok-image.ensures.short c.in_ok-take_back_open.ensures.counts c.in_ok-take_back_open.ensures.ranges c.in_ok-take_back_open.ensures.recovered

@@ -4,9 +4,6 @@ use Rattle.clone_undo.proofs.laws.slot_laws.Goals as goal
 pub returns-clause-own : goal.returns-clause-own
 returns-clause-own c = laws.own
 
-pub returns-clause-few : goal.returns-clause-few
-returns-clause-few c = laws.few
-
 pub returns-clause-count : goal.returns-clause-count
 returns-clause-count c = laws.counted
 

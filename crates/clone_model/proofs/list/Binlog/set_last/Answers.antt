@@ -8,6 +8,6 @@ set-last xs i x e = set_split xs i x (omega (arith, e)) ∙ ap (λ ys. take i xs
 
 pub returns : goal.returns
 returns c =
-    let same : c.self.inside.list.items ≡ c.args.self.now = c.self.view_is in
+    let same : c.self.inside.list.items ≡ c.args.self.now.commits = ap (λ binlog. binlog.commits) c.self.view_is in
     let count : c.len-last.result ≡ length c.self.inside.list.items = c.len-last.ensures ∙ c.self.inside.list.ok.0 in
-    record { value = rw (count, same) (set-last c.args.self.now (length c.args.self.now - 1) c.args.commit (omega (arith, c.requires.some))) }
+    record { value = rw (count, same) (set-last c.args.self.now.commits (length c.args.self.now.commits - 1) c.args.commit (omega (arith, c.requires.some))) }

@@ -1,0 +1,8 @@
+use Rattle.std.proofs.Common.{arith, ◌∙◌, ◌-◌, ◌+◌, ◌≤◌}
+use Rattle.clone_page.proofs.Reading.{field_of_slice}
+use Rattle.clone_page.proofs.bytes.u32_at.Goals as goal
+
+pub returns : goal.returns
+returns c =
+    let le : 4 ≤ (c.args.at + 4) - c.args.at = omega arith in
+    c.read_u32.ensures ∙ field_of_slice c.args.at 4 ((c.args.at + 4) - c.args.at) c.args.bytes.now le

@@ -1,0 +1,7 @@
+use Rattle.std.proofs.Common.{◌+◌, arith, refl}
+use Rattle.std.proofs.lemmas.Result.{err_from_is_err_and}
+use Rattle.clone_recover.proofs.Slots.{counts_more}
+use Rattle.clone_recover.proofs.rollback.check_counts.Goals as goal
+
+pub loop-slot-preserved : goal.loop-slot-preserved
+loop-slot-preserved c = counts_more c.loop-slot.slot (c.loop-slot.slot + 1) c.args.image.now (omega arith) c.in_ok-check_count.ensures.count c.loop-slot.invariant

@@ -1,5 +1,0 @@
-use Rattle.clone_recover.proofs.Slots.{TakingBack}
-use Rattle.clone_recover.proofs.rollback.take_back_open.Given as goal
-
-abbrev pub invariant-loop-slot : goal.invariant-loop-slot
-invariant-loop-slot l = TakingBack l.slot l.fn.image l.image

@@ -1,8 +1,0 @@
-use Rattle.std.proofs.Common.{arith, ◌∙◌, ◌-◌, ◌+◌, ◌≤◌}
-use Rattle.clone_page.proofs.Reading.{field_of_slice}
-use Rattle.clone_undo.proofs.bytes.u64_at.Goals as goal
-
-pub returns : goal.returns
-returns c =
-    let le : 8 ≤ (c.args.at + 8) - c.args.at = omega arith in
-    c.read_u64.ensures ∙ field_of_slice c.args.at 8 ((c.args.at + 8) - c.args.at) c.args.bytes.now le
