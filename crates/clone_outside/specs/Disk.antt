@@ -5,9 +5,13 @@ use Rattle.std.specs.FinMap as finite
 use Rattle.std.specs.Ordering.{nat_cmp}
 use Rattle.clone_outside.specs.declared.disk.Held.{Held}
 
--- from the number of a space to its pages, and the bytes of the mark, if there is one
+-- from the number of a space to its pages
+abbrev pub Spaces : Type 0
+Spaces = finite.FinMap nat_cmp (List Held)
+
+-- the spaces that are there, and the bytes of the mark, if there is one
 pub record DiskImage : Type 0 where
-  pub spaces : finite.FinMap nat_cmp (List Held)
+  pub spaces : Spaces
   pub mark : Option (List ℕ)
 
 -- no space and no mark
@@ -27,27 +31,26 @@ abbrev pub page_count : DiskImage → ℕ → Option ℕ
 page_count m space = option_map length (finite.get m.spaces space)
 
 -- the page, if it is there
-abbrev pub page_of : DiskImage → ℕ → ℕ → Option Held
-page_of m space number = option_and_then (λ pages. slice_get pages number) (finite.get m.spaces space)
+abbrev pub page_in : Spaces → ℕ → ℕ → Option Held
+page_in spaces space number = option_and_then (λ pages. slice_get pages number) (finite.get spaces space)
 
--- the space gets these pages
-abbrev pub with_space : DiskImage → ℕ → List Held → DiskImage
-with_space m space pages = record m { spaces = finite.insert m.spaces space pages }
+abbrev pub page_of : DiskImage → ℕ → ℕ → Option Held
+page_of m space number = page_in m.spaces space number
 
 -- the pages of a space are changed, where the space is there
-abbrev pub changed : DiskImage → ℕ → (List Held → List Held) → Option (List Held) → DiskImage
-changed m space change None = m
-changed m space change (Some pages) = with_space m space (change pages)
+abbrev pub changed : Spaces → ℕ → (List Held → List Held) → Option (List Held) → Spaces
+changed spaces space change None = spaces
+changed spaces space change (Some pages) = finite.insert spaces space (change pages)
 
-abbrev pub with_change : DiskImage → ℕ → (List Held → List Held) → DiskImage
-with_change m space change = changed m space change (finite.get m.spaces space)
+abbrev pub with_pages : Spaces → ℕ → (List Held → List Held) → Spaces
+with_pages spaces space change = changed spaces space change (finite.get spaces space)
 
 -- the page is edited, where it is there
 abbrev pub edited : ℕ → (Held → Held) → List Held → List Held
 edited number edit pages = slice_set pages number (edit (get_or pages number zero_page))
 
 abbrev pub with_page : DiskImage → ℕ → ℕ → (Held → Held) → DiskImage
-with_page m space number edit = with_change m space (edited number edit)
+with_page m space number edit = record m { spaces = with_pages m.spaces space (edited number edit) }
 
 -- the first half of the page is written, and the write is open
 abbrev pub half_written : List ℕ → Held → Held
@@ -66,11 +69,11 @@ abbrev pub extended : ℕ → List Held → List Held
 extended count pages = pages ++ replicate (count - length pages) zero_page
 
 abbrev pub with_extended : DiskImage → ℕ → ℕ → DiskImage
-with_extended m space count = with_change m space (extended count)
+with_extended m space count = record m { spaces = with_pages m.spaces space (extended count) }
 
 -- exactly so many pages, all of zero bytes
 abbrev pub with_created : DiskImage → ℕ → ℕ → DiskImage
-with_created m space count = with_space m space (replicate count zero_page)
+with_created m space count = record m { spaces = finite.insert m.spaces space (replicate count zero_page) }
 
 abbrev pub with_removed : DiskImage → ℕ → DiskImage
 with_removed m space = record m { spaces = finite.remove m.spaces space }
