@@ -1,13 +1,10 @@
-// A library with one function.
+//! Pages of a disk in frames, of which the one used least recently makes place.
 #![tactic(auto)]
 
-ghost use Rattle.std.specs.Prelude.{◌≡◌};
-ghost use Rattle.clone_pool.specs.Echo.{echo_of};
+mod frame;
+mod index;
+mod pool;
+mod tournament;
 
-// The `ensures` clause is the contract: what `echo` returns is `echo_of` of its argument, a definition
-// in `specs/Echo.antt`, which a caller's clause can cite too.
-pub fn echo(x: usize) -> usize
-    ensures { result ≡ echo_of x }
-{
-    x
-}
+pub use frame::{Flush, Frame, PageName};
+pub use pool::{FetchRefusal, Pool};
