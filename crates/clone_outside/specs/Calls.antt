@@ -1,5 +1,5 @@
 -- The calls of something in memory, which fails exactly those that it is told to.
-use Rattle.std.specs.Prelude.{ℕ, List, [], ◌∷◌, ◌++◌, Contains, Result, Ok, Err}
+use Rattle.std.specs.Prelude.{ℕ, ◌+◌, ◌-◌, ◌^◌, min, List, [], ◌∷◌, ◌++◌, Contains, Result, Ok, Err}
 use Rattle.clone_outside.specs.declared.Refusal.{Refusal}
 use Rattle.clone_outside.specs.declared.Refusal.TheVariants.{Fault, NoMemory}
 use Rattle.clone_outside.specs.Causes.{raised}
@@ -17,6 +17,10 @@ no_calls = record { made = 0; faults = 0; failing = [] }
 -- the call with this number is to fail too
 abbrev pub with_failing : Calls → ℕ → Calls
 with_failing calls number = record calls { failing = calls.failing ++ number ∷ [] }
+
+-- the number of the nth call from now on, or the largest number
+abbrev pub nth_from_now : Calls → ℕ → ℕ
+nth_from_now calls n = min (calls.made + n) (2 ^ 64 - 1)
 
 -- the next call is one of those that are to fail
 abbrev pub FailsNext : Calls → Type 0

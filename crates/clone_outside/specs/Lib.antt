@@ -1,4 +1,7 @@
 pub mod Bytes
 pub mod Calls
 pub mod Causes
+pub mod Disk
+pub mod Mark
+pub mod MarkLayout
 pub mod Memory

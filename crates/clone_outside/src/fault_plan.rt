@@ -1,5 +1,5 @@
 ghost use Rattle.std.specs.Prelude.{◌≡◌, ◌≢◌, ◌↔◌, OnOk, OnErr};
-ghost use Rattle.clone_outside.specs.Calls.{FailsNext, after_call, no_calls, with_failing};
+ghost use Rattle.clone_outside.specs.Calls.{FailsNext, after_call, no_calls, nth_from_now, with_failing};
 ghost use Rattle.clone_outside.specs.Causes.{HasCause};
 
 use crate::{NoMemory, Refusal};
@@ -48,6 +48,15 @@ impl FaultPlan {
     {
         self.failing.push(call)?;
         Ok(())
+    }
+
+    /// Lets the call with this number from now on fail, where the next has number 1. The error is want of
+    /// memory.
+    pub fn fail_from_now(&mut self, call: u64) -> Result<(), std::alloc::AllocError>
+        ensures ok { OnOk result (self.new ≡ with_failing self.old (nth_from_now self.old call)) }
+        ensures err { OnErr result (self.new ≡ self.old) }
+    {
+        self.fail_at(self.made.saturating_add(call))
     }
 
     /// Counts a call. The error is `Fault`, exactly where the plan names the call, and is counted too.

@@ -1,13 +1,18 @@
 //! The outside of the program: sources and sinks of bytes, what they tell, and how often they failed.
 #![tactic(auto)]
 
+mod disk;
 mod fault_plan;
+mod mark;
 mod mem_sink;
 mod mem_source;
 mod stream;
 #[cfg(test)]
 mod tests;
 
+pub use disk::{DiskOrder, HALF_PAGE, Held, MARK_SIZE, PAGE_SIZE, PageDisk};
+pub use fault_plan::FaultPlan;
+pub use mark::{CloneEnd, LSN_LIMIT, Mark};
 pub use mem_sink::MemSink;
 pub use mem_source::MemSource;
 pub use stream::{Sink, Source, write_all};

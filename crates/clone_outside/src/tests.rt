@@ -1,4 +1,4 @@
-use crate::{MemSink, MemSource, Refusal, Sink, Source, write_all};
+use crate::{CloneEnd, Mark, MemSink, MemSource, Refusal, Sink, Source, write_all};
 use std::test::Fail;
 
 #[test]
@@ -74,4 +74,46 @@ fn writes_on_until_all_is_taken(rt: HostRuntime) -> Result<(), Fail> {
     assert_eq!(rt; write_all(&mut slow, b"def"), Err(Refusal::Fault));
     assert_eq!(rt; slow.sink.bytes(), b"abcd".as_slice());
     Ok(())
+}
+
+#[test]
+fn a_complete_mark_has_these_bytes(rt: HostRuntime) {
+    let mark = Mark::Complete(CloneEnd {
+        session: 1,
+        checkpoint: 8192,
+        lsn: 8213,
+        position: 258,
+    });
+    let numbers = [1, 0x2000, 0x2015, 0x0102];
+    let mut bytes = [0; 64];
+    bytes[..9].copy_from_slice(b"CLONMARK\x02");
+    for (i, number) in numbers.iter().enumerate() {
+        let at = 22 + 8 * i;
+        bytes[at] = (number / 256) as u8;
+        bytes[at + 1] = (number % 256) as u8;
+    }
+    assert_eq!(rt; mark.to_bytes().as_slice(), bytes.as_slice());
+    assert_eq!(rt; Mark::from_bytes(&bytes), Some(mark));
+}
+
+#[test]
+fn other_bytes_are_no_mark(rt: HostRuntime) {
+    let mark = Mark::InProgress { session: 1 };
+    let bytes = mark.to_bytes();
+    assert_eq!(rt; Mark::from_bytes(&bytes), Some(mark));
+    // a letter, no kind, another kind without numbers, a zero, an LSN, the LSN's limit, and the last zero
+    for (at, byte) in [(0, b'c'), (8, 0), (8, 4), (9, 1), (31, 1), (39, 1), (63, 1)] {
+        let mut other = bytes;
+        other[at] = byte;
+        assert_eq!(rt; Mark::from_bytes(&other), None, "at {at}");
+    }
+    // complete with all numbers zero, with an LSN of 2^39, and with a checkpoint above the LSN
+    let mut complete = bytes;
+    complete[8] = 2;
+    assert!(rt; Mark::from_bytes(&complete).is_some());
+    complete[35] = 128;
+    assert_eq!(rt; Mark::from_bytes(&complete), None);
+    complete[35] = 0;
+    complete[31] = 1;
+    assert_eq!(rt; Mark::from_bytes(&complete), None);
 }

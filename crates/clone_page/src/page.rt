@@ -48,6 +48,9 @@ impl Model for Page {
 }
 
 impl Page {
+    ghost use Rattle.std.specs.Borrow.{Lends, Array, sem, u8};
+    ghost use Rattle.clone_page.specs.contracts.page.Page.{the_row};
+
     /// An unused page.
     pub fn zero() -> Page
         ensures { result ≡ zero_page }
@@ -179,6 +182,13 @@ impl Page {
         ensures long { length self.now ≡ 4096 }
     {
         &self.bytes
+    }
+
+    /// The page's bytes, to be read over.
+    pub fn bytes_mut(&mut self) -> &mut [u8; 4096]
+        ensures* { sem 𝓛 (Lends the_row (Array u8 4096) self.entry result (λ bytes. bytes)) }
+    {
+        &mut self.bytes
     }
 }
 

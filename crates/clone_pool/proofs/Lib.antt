@@ -1,0 +1,5 @@
+pub mod PairLemmas
+pub mod PlaceLemmas
+pub mod TournamentLemmas
+pub mod PoolLemmas
+pub mod KeyLemmas

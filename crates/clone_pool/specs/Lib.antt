@@ -1,0 +1,4 @@
+pub mod Frames
+pub mod Pairs
+pub mod Pool
+pub mod Tournament

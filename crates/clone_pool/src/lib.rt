@@ -1,0 +1,10 @@
+//! Pages of a disk in frames, of which the one used least recently makes place.
+#![tactic(auto)]
+
+mod frame;
+mod index;
+mod pool;
+mod tournament;
+
+pub use frame::{Flush, Frame, PageName};
+pub use pool::{FetchRefusal, Pool};

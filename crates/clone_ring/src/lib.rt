@@ -1,0 +1,11 @@
+//! The redo log between its floor and its end, in a ring of bytes.
+#![tactic(auto)]
+
+mod log_full;
+mod ring;
+
+pub use log_full::LogFull;
+pub use ring::{FIRST_LSN, Ring};
+
+#[cfg(test)]
+mod tests;
