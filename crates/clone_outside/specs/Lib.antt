@@ -1,4 +1,5 @@
 pub mod Bytes
 pub mod Calls
 pub mod Causes
+pub mod Link
 pub mod Memory

@@ -2,12 +2,14 @@
 #![tactic(auto)]
 
 mod fault_plan;
+mod link;
 mod mem_sink;
 mod mem_source;
 mod stream;
 #[cfg(test)]
 mod tests;
 
+pub use link::{Link, LinkRefusal, Net, Received, Side};
 pub use mem_sink::MemSink;
 pub use mem_source::MemSource;
 pub use stream::{Sink, Source, write_all};
