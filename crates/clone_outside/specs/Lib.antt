@@ -4,4 +4,5 @@ pub mod Causes
 pub mod Disk
 pub mod Mark
 pub mod MarkLayout
+pub mod Link
 pub mod Memory

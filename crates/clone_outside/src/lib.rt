@@ -4,6 +4,7 @@
 mod disk;
 mod fault_plan;
 mod mark;
+mod link;
 mod mem_sink;
 mod mem_source;
 mod stream;
@@ -13,6 +14,7 @@ mod tests;
 pub use disk::{DiskOrder, HALF_PAGE, Held, MARK_SIZE, PAGE_SIZE, PageDisk};
 pub use fault_plan::FaultPlan;
 pub use mark::{CloneEnd, LSN_LIMIT, Mark};
+pub use link::{Link, LinkRefusal, Net, Received, Side};
 pub use mem_sink::MemSink;
 pub use mem_source::MemSource;
 pub use stream::{Sink, Source, write_all};

@@ -1,0 +1,17 @@
+pub mod Sums
+pub mod Entries
+pub mod Opening
+pub mod Steps
+pub mod Sharing
+pub mod Turning
+pub mod Releasing
+pub mod Calling
+pub mod Splitting
+pub mod Joining
+pub mod Melding
+pub mod Settling
+pub mod SeatLemmas
+pub mod Sending
+pub mod AddingLemmas
+pub mod AdderSending
+pub mod Crossing

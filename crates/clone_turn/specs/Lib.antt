@@ -1,0 +1,4 @@
+pub mod Runs
+pub mod Seats
+pub mod Rule
+pub mod Adding
