@@ -76,7 +76,6 @@ changed s slot e value c = with_slot e.table e.page e.slot (row_slot e.key value
 pub record MayTakeBack (c : Contents) (s : ℕ) (slot : UndoSlot) (front : List UndoEntry) (e : UndoEntry) : Type 0 where
   pub small : s < slot_count
   pub used : c.undo s ≡ Some slot
-  pub few : length slot.records ≤ capacity
   pub last : slot.records ≡ front ++ e ∷ []
   pub few : length slot.records ≤ capacity
   pub in_range : IsEntry e
