@@ -14,7 +14,7 @@ use Rattle.clone_mtr.specs.Effects.{effect}
 use Rattle.clone_mtr.specs.declared.record.Record.{Record}
 use Rattle.clone_mtr.specs.declared.record.Record.TheVariants.{Init}
 use Rattle.clone_undo.specs.Entries.{UndoEntry, IsEntry, entry_bytes, entry_of}
-use Rattle.clone_undo.specs.Places.{capacity, header_page, record_page, record_place}
+use Rattle.clone_undo.specs.Places.{header_page, record_page, record_place}
 use Rattle.clone_undo.specs.Slots.{UndoSlot, active_of, count_of, header_bytes, entry_on, entries, undo_slot}
 use Rattle.clone_undo.specs.Changes.{system_write, made_first, count_record, entry_record, row_record, records_of_begin, records_of_change, records_of_end, after_record, after, after_row, AreWhole}
 use Rattle.clone_undo.proofs.Entries.{length-entry_bytes, reads_back, length-entries, entries-same}

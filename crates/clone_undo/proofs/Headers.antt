@@ -1,15 +1,14 @@
 -- The header of an undo slot after a write, and what it says of the slot.
-use Rattle.std.proofs.Common.{◌≡◌, ◌≤◌, ◌<◌, ◌+◌, ◌^◌, ◌==◌, ◌&&◌, ◌⊎◌, ℕ, Bool, true, false, cond, Option, Some, None, List, length, take, drop, arith, refl, sym, ap, ◌∙◌, inl, inr}
+use Rattle.std.proofs.Common.{◌≡◌, ◌≤◌, ◌<◌, ◌+◌, ◌^◌, ◌==◌, ◌⊎◌, ℕ, Bool, true, false, cond, Option, Some, None, List, length, take, drop, arith, refl, sym, ap, ◌∙◌, inl, inr}
 use Rattle.std.proofs.lemmas.List.{drop-drop, drop-take, take-take}
-use Rattle.std.proofs.lemmas.Bool.{le-leb}
-use Rattle.std.proofs.lemmas.Bool.Decides.{eqb_tells, leb_tells}
+use Rattle.std.proofs.lemmas.Bool.Decides.{eqb_tells}
 use Rattle.byteorder.specs.Endian.{big_bytes}
 use Rattle.byteorder.specs.Numbers.{length-bytes_high_first}
 use Rattle.clone_page.specs.Bytes.{part, field, put_at}
 use Rattle.clone_page.specs.Header.{with_lsn}
 use Rattle.clone_page.proofs.Parts.{length-put_at, part-put_at_inside, part-with_lsn, field-part, field-same, field-put_at_other, field-put_at_same}
 use Rattle.clone_undo.specs.Entries.{UndoEntry}
-use Rattle.clone_undo.specs.Places.{capacity, header_page, record_page}
+use Rattle.clone_undo.specs.Places.{header_page, record_page}
 use Rattle.clone_undo.specs.Slots.{UndoSlot, active_of, count_of, writer_of, index_of, is_in_use, entry_on, entries, undo_slot}
 use Rattle.clone_undo.proofs.Entries.{length-entries, entries-same}
 
