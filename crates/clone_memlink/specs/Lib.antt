@@ -1,0 +1,3 @@
+pub mod Ways
+pub mod Connections
+pub mod Ends

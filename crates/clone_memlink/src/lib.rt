@@ -1,0 +1,13 @@
+//! Connections in memory: what one end sends, the other receives, in order and no more. Threads that hold the
+//! two ends call the connection in turns.
+#![tactic(auto)]
+
+mod connection;
+mod piece;
+#[cfg(test)]
+mod tests;
+mod way;
+
+pub use connection::{Connection, LinkAnswer, LinkCall, LinkMachine, received_begins_sent};
+pub use piece::{PIECE, Piece};
+pub use way::{ROOM, Way};
