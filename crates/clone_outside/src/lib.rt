@@ -3,8 +3,8 @@
 
 mod disk;
 mod fault_plan;
-mod mark;
 mod link;
+mod mark;
 mod mem_sink;
 mod mem_source;
 mod stream;
@@ -13,8 +13,8 @@ mod tests;
 
 pub use disk::{DiskOrder, HALF_PAGE, Held, MARK_SIZE, PAGE_SIZE, PageDisk};
 pub use fault_plan::FaultPlan;
-pub use mark::{CloneEnd, LSN_LIMIT, Mark};
 pub use link::{Link, LinkRefusal, Net, Received, Side};
+pub use mark::{CloneEnd, LSN_LIMIT, Mark};
 pub use mem_sink::MemSink;
 pub use mem_source::MemSource;
 pub use stream::{Sink, Source, write_all};

@@ -49,9 +49,9 @@ set_stands writer index table key value before commit after more position is gro
     let place : position - 1 ≡ length before = omega (arith, count) in (
       index,
       ap (λ n. slice_get after n) place
-      ∙ ap (λ h. slice_get h (length before)) (grown ∙ append_assoc before (commit ∷ []) more)
-      ∙ get_behind before commit more
-      ∙ ap Some is,
+          ∙ ap (λ h. slice_get h (length before)) (grown ∙ append_assoc before (commit ∷ []) more)
+          ∙ get_behind before commit more
+          ∙ ap Some is,
     )
 
 module _ {D : Type 0} (plain : D → Donor) (Step : D → Made → D → Type 0) (refines : (d e : D) (m : Made) → Step d m e → PlainStep (plain d) m (plain e)) where

@@ -11,35 +11,25 @@ ghost use Rattle.clone_plain.specs.World.{World, opened, IsWithin};
 /// answered, that of a `set` with its one change; the rows shown are those of the stop; and each line adds at
 /// most one commit, and one transaction of each writer.
 pub fn run_laws()
-    ensures commits {
-        (lines : List Line) (events : List (List Event)) (t : World Donor)
-            → Runs (λ d. d) PlainStep (opened no_donor) lines events t
-            → AreCommits (all_events events) t.donor.binlog
-    }
-    ensures sets {
-        (lines : List Line) (events : List (List Event)) (t : World Donor)
-            → Runs (λ d. d) PlainStep (opened no_donor) lines events t
-            → AreSets lines events t.donor.binlog
-    }
-    ensures stop {
-        (lines : List Line) (events : List (List Event)) (t : World Donor)
-            → Runs (λ d. d) PlainStep (opened no_donor) lines events t
-            → ShowsStop t.donor.binlog t.donor.drops None (all_events events)
-    }
-    ensures within {
-        (lines : List Line) (events : List (List Event)) (t : World Donor) (n : ℕ)
-            → Runs (λ d. d) PlainStep (opened no_donor) lines events t
-            → length lines ≤ n
-            → IsWithin (λ d. d) n t
-    }
+    ensures commits { (lines : List Line) (events : List (List Event)) (t : World Donor)
+        → Runs (λ d. d) PlainStep (opened no_donor) lines events t
+        → AreCommits (all_events events) t.donor.binlog }
+    ensures sets { (lines : List Line) (events : List (List Event)) (t : World Donor)
+        → Runs (λ d. d) PlainStep (opened no_donor) lines events t
+        → AreSets lines events t.donor.binlog }
+    ensures stop { (lines : List Line) (events : List (List Event)) (t : World Donor)
+        → Runs (λ d. d) PlainStep (opened no_donor) lines events t
+        → ShowsStop t.donor.binlog t.donor.drops None (all_events events) }
+    ensures within { (lines : List Line) (events : List (List Event)) (t : World Donor) (n : ℕ)
+        → Runs (λ d. d) PlainStep (opened no_donor) lines events t
+        → length lines ≤ n
+        → IsWithin (λ d. d) n t }
 {}
 
 /// Runs join: what one run leaves, another may start from.
 pub fn runs_join()
-    ensures {
-        (front back : List Line) (before behind : List (List Event)) (s t u : World Donor)
-            → Runs (λ d. d) PlainStep s front before t
-            → Runs (λ d. d) PlainStep t back behind u
-            → Runs (λ d. d) PlainStep s (front ++ back) (before ++ behind) u
-    }
+    ensures { (front back : List Line) (before behind : List (List Event)) (s t u : World Donor)
+        → Runs (λ d. d) PlainStep s front before t
+        → Runs (λ d. d) PlainStep t back behind u
+        → Runs (λ d. d) PlainStep s (front ++ back) (before ++ behind) u }
 {}

@@ -5,7 +5,9 @@ ghost use Rattle.clone_script.specs.Fields.{IsRow, IsRowWithValue, row_text, row
 ghost use Rattle.clone_script.specs.Reading.{Parses};
 ghost use Rattle.clone_script.specs.declared.fields.Row.{Row};
 
-use clone_model::{BucketCount, ScriptValue, TableNumber, as_u32, leading_number, number_of, script_value_of};
+use clone_model::{
+    BucketCount, ScriptValue, TableNumber, as_u32, leading_number, number_of, script_value_of,
+};
 use std::alloc::{AllocError, Global};
 
 /// What a line says of a row: who is at work on it, and which row it is.
