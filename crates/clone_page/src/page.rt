@@ -58,6 +58,16 @@ impl Page {
         Page { bytes: [0; 4096] }
     }
 
+    /// The page of these 4,096 bytes.
+    pub fn from_bytes(bytes: &[u8]) -> Page
+        requires { length bytes.now ≡ 4096 }
+        ensures { result ≡ bytes.now }
+    {
+        let mut page = Page::zero();
+        page.bytes.copy_from_slice(bytes);
+        page
+    }
+
     /// Makes this a page of its space, with a body of zero bytes.
     pub fn init(&mut self, space: u32, number: u32, kind: PageKind, lsn: u64)
         ensures { self.new ≡ initialised space number kind lsn }

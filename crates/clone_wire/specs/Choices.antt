@@ -1,0 +1,22 @@
+-- The numbers that may stand in a field: the least, and each so many steps more, up to the most.
+use Rattle.std.specs.Prelude.{ℕ, ◌-◌, ◌%◌, min, Bool, nat_le, ◌&&◌, if◌then◌else◌}
+use Rattle.clone_wire.specs.declared.numbers.Numbers.{Numbers}
+
+abbrev pub in_steps : ℕ → ℕ → ℕ → Numbers
+in_steps least most step = record { least = least; most = most; step = step }
+
+abbrev pub between : ℕ → ℕ → Numbers
+between least most = in_steps least most 1
+
+abbrev pub only : ℕ → Numbers
+only n = between n n
+
+-- all numbers up to the most where the frame has a value there, and else 0
+abbrev pub any_if : Bool → ℕ → Numbers
+any_if has most = between 0 (if has then most else 0)
+
+-- whether one of the numbers lies from low to high
+abbrev pub has_between : Numbers → ℕ → ℕ → Bool
+has_between numbers low high =
+    let top = min numbers.most high in
+    nat_le numbers.least top && nat_le low (top - (top - numbers.least) % numbers.step)

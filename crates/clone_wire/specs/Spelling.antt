@@ -1,0 +1,109 @@
+-- The spelling of each frame: its code, the length of its payload, and the fields of the payload one after the other. Numbers are big-endian.
+use Rattle.std.specs.Prelude.{ℕ, Bool, List, [], ◌++◌, length, if◌then◌else◌}
+use Rattle.std.specs.List.{flat_map}
+use Rattle.byteorder.specs.Endian.{big_bytes}
+use Rattle.clone_wire.specs.declared.frame.Attempt.{Attempt}
+use Rattle.clone_wire.specs.declared.frame.Side.{Side}
+use Rattle.clone_wire.specs.declared.frame.Side.TheVariants.{Command, Answer}
+use Rattle.clone_wire.specs.declared.frame.Frame.{Frame}
+use Rattle.clone_wire.specs.declared.frame.Frame.TheVariants.{Init, Attach, Reinit, Execute, Ack, Exit, Stage, Pages, Redo, End, Refused}
+use Rattle.clone_wire.specs.declared.stage.StagePlan.{StagePlan}
+use Rattle.clone_wire.specs.declared.stage.StagePlan.TheVariants as plan
+use Rattle.clone_wire.specs.declared.spaces.SpaceSize.{SpaceSize}
+use Rattle.clone_wire.specs.declared.pages.PageAt.{PageAt}
+use Rattle.clone_wire.specs.Stages.{stage_number, copy_number, page_number}
+use Rattle.clone_wire.specs.Refusals.{refusal_number, refusal_first, refusal_second}
+use Rattle.clone_wire.specs.Frames.{stage_of}
+
+-- the side that sends a frame
+abbrev pub side_of : Frame → Side
+side_of (Init attempt version size compressed tasks) = Command
+side_of (Attach attempt task) = Command
+side_of (Reinit attempt stage finished) = Command
+side_of (Execute stage) = Command
+side_of (Ack stage floor) = Command
+side_of Exit = Command
+side_of (Stage attempt plan) = Answer
+side_of (Pages attempt stage chunk block pages) = Answer
+side_of (Redo attempt chunk block from bytes) = Answer
+side_of (End attempt stage) = Answer
+side_of (Refused refusal) = Answer
+
+abbrev pub code_of : Frame → ℕ
+code_of (Init attempt version size compressed tasks) = 1
+code_of (Attach attempt task) = 2
+code_of (Reinit attempt stage finished) = 3
+code_of (Execute stage) = 4
+code_of (Ack stage floor) = 5
+code_of Exit = 6
+code_of (Stage attempt plan) = 16
+code_of (Pages attempt stage chunk block pages) = 17
+code_of (Redo attempt chunk block from bytes) = 18
+code_of (End attempt stage) = 19
+code_of (Refused refusal) = 20
+
+-- what a stage says; what it doesn't have is 0
+abbrev pub chunks_of : StagePlan → ℕ
+chunks_of (plan.FileCopy chunks spaces) = chunks
+chunks_of (plan.PageCopy chunks position) = chunks
+chunks_of (plan.RedoCopy chunks checkpoint lsn position) = chunks
+chunks_of (plan.Done checkpoint lsn position) = 0
+
+abbrev pub checkpoint_of : StagePlan → ℕ
+checkpoint_of (plan.FileCopy chunks spaces) = 0
+checkpoint_of (plan.PageCopy chunks position) = 0
+checkpoint_of (plan.RedoCopy chunks checkpoint lsn position) = checkpoint
+checkpoint_of (plan.Done checkpoint lsn position) = checkpoint
+
+abbrev pub lsn_of : StagePlan → ℕ
+lsn_of (plan.FileCopy chunks spaces) = 0
+lsn_of (plan.PageCopy chunks position) = 0
+lsn_of (plan.RedoCopy chunks checkpoint lsn position) = lsn
+lsn_of (plan.Done checkpoint lsn position) = lsn
+
+abbrev pub position_of : StagePlan → ℕ
+position_of (plan.FileCopy chunks spaces) = 0
+position_of (plan.PageCopy chunks position) = position
+position_of (plan.RedoCopy chunks checkpoint lsn position) = position
+position_of (plan.Done checkpoint lsn position) = position
+
+abbrev pub spaces_of : StagePlan → List SpaceSize
+spaces_of (plan.FileCopy chunks spaces) = spaces
+spaces_of (plan.PageCopy chunks position) = []
+spaces_of (plan.RedoCopy chunks checkpoint lsn position) = []
+spaces_of (plan.Done checkpoint lsn position) = []
+
+abbrev pub flag : Bool → ℕ
+flag set = if set then 1 else 0
+
+abbrev pub attempt_bytes : Attempt → List ℕ
+attempt_bytes attempt = big_bytes 8 attempt.session ++ big_bytes 4 attempt.incarnation
+
+abbrev pub space_bytes : SpaceSize → List ℕ
+space_bytes space = big_bytes 4 space.space ++ big_bytes 4 space.pages
+
+abbrev pub page_bytes : PageAt → List ℕ
+page_bytes page = big_bytes 4 page.space ++ big_bytes 4 page.number ++ page.page
+
+unfoldable pub plan_bytes : StagePlan → List ℕ
+plan_bytes plan =
+    big_bytes 1 (stage_number (stage_of plan)) ++ big_bytes 4 (chunks_of plan) ++ big_bytes 8 (checkpoint_of plan) ++ big_bytes 8 (lsn_of plan) ++ big_bytes 8 (position_of plan)
+    ++ big_bytes 2 (length (spaces_of plan)) ++ flat_map space_bytes (spaces_of plan)
+
+abbrev pub payload : Frame → List ℕ
+payload (Init attempt version size compressed tasks) = big_bytes 2 version ++ big_bytes 4 size ++ big_bytes 1 (flag compressed) ++ big_bytes 1 tasks ++ attempt_bytes attempt
+payload (Attach attempt task) = attempt_bytes attempt ++ big_bytes 1 task
+payload (Reinit attempt stage finished) = attempt_bytes attempt ++ big_bytes 1 (copy_number stage) ++ big_bytes 4 finished.count ++ finished.bytes
+payload (Execute stage) = big_bytes 1 (copy_number stage)
+payload (Ack stage floor) = big_bytes 1 (copy_number stage) ++ big_bytes 8 floor
+payload Exit = []
+payload (Stage attempt plan) = attempt_bytes attempt ++ plan_bytes plan
+payload (Pages attempt stage chunk block pages) =
+    attempt_bytes attempt ++ big_bytes 1 (page_number stage) ++ big_bytes 4 chunk ++ big_bytes 1 block ++ big_bytes 1 (length pages) ++ flat_map page_bytes pages
+payload (Redo attempt chunk block from bytes) =
+    attempt_bytes attempt ++ big_bytes 1 3 ++ big_bytes 4 chunk ++ big_bytes 1 block ++ big_bytes 8 from ++ big_bytes 4 (length bytes) ++ bytes
+payload (End attempt stage) = attempt_bytes attempt ++ big_bytes 1 (copy_number stage)
+payload (Refused refusal) = big_bytes 1 (refusal_number refusal) ++ big_bytes 8 (refusal_first refusal) ++ big_bytes 8 (refusal_second refusal)
+
+unfoldable pub spelling : Frame → List ℕ
+spelling frame = big_bytes 1 (code_of frame) ++ big_bytes 4 (length (payload frame)) ++ payload frame

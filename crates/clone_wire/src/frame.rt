@@ -1,0 +1,136 @@
+use crate::{Bitmap, CopyStage, PageStage, Pages, RedoBytes, Refusal, StagePlan};
+
+/// One attempt at a clone: a session, and which of its incarnations, since each loss begins another.
+#[derive(Clone, Copy, Debug, PartialEq, Eq)]
+pub struct Attempt {
+    pub session: u64,
+    pub incarnation: u32,
+}
+
+/// Who sends a frame.
+#[derive(Clone, Copy, Debug, PartialEq, Eq)]
+pub enum Side {
+    /// The requester.
+    Command,
+    /// The donor.
+    Answer,
+}
+
+/// A frame. Each is in its ranges by its types.
+#[derive(Drop)]
+pub enum Frame {
+    /// The requester opens a session. The donor tests version, page size and the number of tasks.
+    Init {
+        attempt: Attempt,
+        version: u16,
+        page_size: u32,
+        compressed: bool,
+        tasks: u8,
+    },
+    /// A further task of the session connects.
+    Attach {
+        attempt: Attempt,
+        task: u8,
+    },
+    /// The requester comes back after a loss, with the chunks of its stage that are finished.
+    Reinit {
+        attempt: Attempt,
+        stage: CopyStage,
+        finished: Bitmap,
+    },
+    /// A task asks for blocks.
+    Execute {
+        stage: CopyStage,
+    },
+    /// The requester has all of a stage. The floor is the position that it had looked up before.
+    Ack {
+        stage: CopyStage,
+        floor: u64,
+    },
+    /// The requester has left.
+    Exit,
+    /// The donor's stage.
+    Stage {
+        attempt: Attempt,
+        plan: StagePlan,
+    },
+    /// A block of pages.
+    Pages {
+        attempt: Attempt,
+        stage: PageStage,
+        chunk: u32,
+        block: u8,
+        pages: Pages,
+    },
+    /// A block of redo, from this LSN on.
+    Redo {
+        attempt: Attempt,
+        chunk: u32,
+        block: u8,
+        from: u64,
+        bytes: RedoBytes,
+    },
+    /// No chunk is free for the task.
+    End {
+        attempt: Attempt,
+        stage: CopyStage,
+    },
+    /// The donor refuses, and closes the connection.
+    Refused {
+        refusal: Refusal,
+    },
+}
+
+impl Frame {
+    ghost use Rattle.std.specs.Prelude.{◌≡◌};
+    ghost use Rattle.clone_wire.specs.Spelling.{side_of, code_of};
+
+    /// Who sends such a frame.
+    pub fn side(&self) -> Side
+        ensures { result ≡ side_of self.now }
+    {
+        match self {
+            Frame::Init { .. }
+            | Frame::Attach { .. }
+            | Frame::Reinit { .. }
+            | Frame::Execute { .. }
+            | Frame::Ack { .. }
+            | Frame::Exit => Side::Command,
+            Frame::Stage { .. }
+            | Frame::Pages { .. }
+            | Frame::Redo { .. }
+            | Frame::End { .. }
+            | Frame::Refused { .. } => Side::Answer,
+        }
+    }
+
+    /// The frame's code.
+    pub fn code(&self) -> u8
+        ensures { result ≡ code_of self.now }
+    {
+        match self {
+            Frame::Init { .. } => 1,
+            Frame::Attach { .. } => 2,
+            Frame::Reinit { .. } => 3,
+            Frame::Execute { .. } => 4,
+            Frame::Ack { .. } => 5,
+            Frame::Exit => 6,
+            Frame::Stage { .. } => 16,
+            Frame::Pages { .. } => 17,
+            Frame::Redo { .. } => 18,
+            Frame::End { .. } => 19,
+            Frame::Refused { .. } => 20,
+        }
+    }
+
+    // Room for the spelling, so that it needn't grow.
+    pub(crate) fn room(&self) -> usize {
+        match self {
+            Frame::Pages { pages, .. } => 24 + 4104 * pages.as_slice().len(),
+            Frame::Redo { bytes, .. } => 35 + bytes.as_slice().len(),
+            Frame::Reinit { finished, .. } => finished.bytes().len().saturating_add(22),
+            Frame::Stage { plan, .. } => 48 + 8 * plan.spaces().len(),
+            _ => 25,
+        }
+    }
+}

@@ -1,0 +1,35 @@
+//! Frames: what a donor and a requester of a clone send each other, and the one spelling of each frame
+//! as bytes. A frame is a code of 1 byte, the length of its payload in 4 bytes, and the payload. All
+//! numbers are big-endian.
+#![tactic(auto)]
+
+mod bitmap;
+mod encoding;
+mod fault;
+mod fields;
+mod frame;
+mod laws;
+mod numbers;
+mod pages;
+mod payloads;
+mod reading;
+mod redo;
+mod refusal;
+mod spaces;
+mod stage;
+mod writing;
+
+pub use bitmap::Bitmap;
+pub use encoding::encode;
+pub use fault::{HeadRefusal, WireRefusal};
+pub use frame::{Attempt, Frame, Side};
+pub use laws::{one_answer, one_spelling};
+pub use pages::{PageAt, Pages};
+pub use reading::{decode, read_head};
+pub use redo::RedoBytes;
+pub use refusal::Refusal;
+pub use spaces::{SpaceSize, Spaces};
+pub use stage::{CopyStage, PageStage, Stage, StagePlan};
+
+#[cfg(test)]
+mod tests;

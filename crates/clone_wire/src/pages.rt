@@ -1,0 +1,53 @@
+ghost use Rattle.std.specs.Prelude.{◌≡◌, ◌≤◌, length};
+ghost use Rattle.clone_wire.specs.declared.pages.TheConstants.{MOST_PAGES};
+
+use clone_page::Page;
+use std::marker::Model;
+
+/// The most pages of a block.
+pub const MOST_PAGES: usize = 8;
+
+/// A page and where it belongs.
+#[derive(Drop)]
+pub struct PageAt {
+    pub space: u32,
+    pub number: u32,
+    pub page: Page,
+}
+
+/// A list of 1 to 8 pages.
+#[derive(Drop)]
+pub struct Pages {
+    list: Vec<PageAt>,
+}
+
+impl Model for Pages {
+    ghost use Rattle.std.specs.Prelude.{List, length, ◌≤◌};
+    ghost use Rattle.clone_wire.specs.declared.pages.PageAt.{PageAt};
+
+    ghost Value = { List PageAt };
+
+    ghost view = { λ p. p.list.items };
+
+    ghost invariant = { λ p. (1 ≤ length p.list.items) × (length p.list.items ≤ 8) };
+}
+
+impl Pages {
+    /// These pages.
+    pub fn new(list: Vec<PageAt>) -> Pages
+        requires some { 1 ≤ length list.items }
+        requires few { length list.items ≤ MOST_PAGES }
+        ensures { result ≡ list.items }
+    {
+        Pages { list }
+    }
+
+    /// The pages in their order.
+    pub fn as_slice(&self) -> &[PageAt]
+        ensures value { result.now ≡ self.now }
+        ensures some { 1 ≤ length self.now }
+        ensures few { length self.now ≤ MOST_PAGES }
+    {
+        &self.list
+    }
+}

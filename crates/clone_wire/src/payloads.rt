@@ -1,0 +1,309 @@
+ghost use Rattle.std.specs.Prelude.{◌≡◌, ◌≤◌, ◌+◌, ◌/◌};
+ghost use Rattle.clone_wire.specs.Bitmaps.{HasLength};
+ghost use Rattle.clone_wire.specs.Choices.{any_if};
+ghost use Rattle.clone_wire.specs.Reading.{Gives, attempt_at, init_at, attach_at, reinit_at, execute_at, ack_at, list_at, space_at, planned, stage_at, page_at, pages_frame_at, redo_at, end_at, refused_at, bitmap_at, bytes_at};
+ghost use Rattle.clone_wire.specs.Refusals.{value_count};
+
+use crate::bitmap::ends_at;
+use crate::fault::Fault;
+use crate::fields::{attempt_of, bytes_of, number_in, u8_of, u16_of, u32_of, u64_of};
+use crate::numbers::Numbers;
+use crate::{
+    Bitmap, CopyStage, Frame, PageAt, PageStage, Pages, RedoBytes, Refusal, SpaceSize, Spaces,
+    StagePlan,
+};
+use clone_bytes::Reader;
+use clone_page::Page;
+use std::alloc::Global;
+
+// Each function reads a payload, which begins at place 5 of its frame.
+
+#[tactic(auto, unfolding(crate::specs::Reading::init_at))]
+pub(crate) fn init_of(reader: &mut Reader) -> Result<Frame, Fault>
+    ensures { Gives (λ x. (x, reader.new)) result (init_at reader.old) }
+{
+    let version = u16_of(reader)?;
+    let page_size = u32_of(reader)?;
+    let compressed = number_in(11, 1, Numbers::between(0, 1), reader)?;
+    let tasks = u8_of(reader)?;
+    let attempt = attempt_of(reader)?;
+    Ok(Frame::Init {
+        attempt,
+        version,
+        page_size,
+        compressed: compressed == 1,
+        tasks,
+    })
+}
+
+#[tactic(auto, unfolding(crate::specs::Reading::attach_at))]
+pub(crate) fn attach_of(reader: &mut Reader) -> Result<Frame, Fault>
+    ensures { Gives (λ x. (x, reader.new)) result (attach_at reader.old) }
+{
+    let attempt = attempt_of(reader)?;
+    let task = u8_of(reader)?;
+    Ok(Frame::Attach { attempt, task })
+}
+
+#[tactic(auto, unfolding(crate::specs::Reading::execute_at))]
+pub(crate) fn execute_of(reader: &mut Reader) -> Result<Frame, Fault>
+    ensures { Gives (λ x. (x, reader.new)) result (execute_at reader.old) }
+{
+    let stage = number_in(5, 1, Numbers::between(1, 3), reader)?;
+    Ok(Frame::Execute {
+        stage: CopyStage::numbered(stage),
+    })
+}
+
+#[tactic(auto, unfolding(crate::specs::Reading::ack_at))]
+pub(crate) fn ack_of(reader: &mut Reader) -> Result<Frame, Fault>
+    ensures { Gives (λ x. (x, reader.new)) result (ack_at reader.old) }
+{
+    let stage = number_in(5, 1, Numbers::between(1, 3), reader)?;
+    let floor = u64_of(reader)?;
+    Ok(Frame::Ack {
+        stage: CopyStage::numbered(stage),
+        floor,
+    })
+}
+
+#[tactic(auto, unfolding(crate::specs::Reading::end_at))]
+pub(crate) fn end_of(reader: &mut Reader) -> Result<Frame, Fault>
+    ensures { Gives (λ x. (x, reader.new)) result (end_at reader.old) }
+{
+    let attempt = attempt_of(reader)?;
+    let stage = number_in(17, 1, Numbers::between(1, 3), reader)?;
+    Ok(Frame::End {
+        attempt,
+        stage: CopyStage::numbered(stage),
+    })
+}
+
+// The bitmap has `n` bytes.
+#[tactic(auto, unfolding(crate::specs::Reading::reinit_at))]
+pub(crate) fn reinit_of(alloc: Global, n: usize, reader: &mut Reader) -> Result<Frame, Fault>
+    requires { n ≤ 1048576 }
+    ensures { Gives (λ x. (x, reader.new)) result (reinit_at n reader.old) }
+{
+    let attempt = attempt_of(reader)?;
+    let stage = number_in(17, 1, Numbers::between(1, 3), reader)?;
+    let bits = 8 * n as u64;
+    let count = number_in(
+        18,
+        4,
+        Numbers::between(bits.saturating_sub(7), bits),
+        reader,
+    )?;
+    let finished = bitmap_of(alloc, 22, count, n, reader)?;
+    Ok(Frame::Reinit {
+        attempt,
+        stage: CopyStage::numbered(stage),
+        finished,
+    })
+}
+
+fn bitmap_of(
+    alloc: Global,
+    at: usize,
+    count: u64,
+    n: usize,
+    reader: &mut Reader,
+) -> Result<Bitmap, Fault>
+    requires few { count ≤ 8388608 }
+    requires long { n ≡ (count + 7) / 8 }
+    ensures { Gives (λ x. (x, reader.new)) result (bitmap_at at count n reader.old) }
+{
+    let bytes = bytes_of(reader, n)?;
+    if !ends_at(count as u32, bytes) {
+        return Err(Fault::Garbled { at });
+    }
+    Ok(Bitmap::new(alloc, count as u32, bytes)?)
+}
+
+#[tactic(auto, unfolding(crate::specs::Reading::space_at))]
+fn space_of(reader: &mut Reader) -> Result<SpaceSize, Fault>
+    ensures { Gives (λ x. (x, reader.new)) result (space_at reader.old) }
+{
+    let space = u32_of(reader)?;
+    let pages = u32_of(reader)?;
+    Ok(SpaceSize { space, pages })
+}
+
+fn spaces_of(alloc: Global, n: usize, reader: &mut Reader) -> Result<Spaces, Fault>
+    requires { n ≤ 63 }
+    ensures { Gives (λ x. (x, reader.new)) result (list_at space_at n reader.old) }
+{
+    let mut spaces = Spaces::new(alloc);
+    for _ in 0..n {
+        let space = space_of(reader)?;
+        spaces.push(space)?;
+    }
+    Ok(spaces)
+}
+
+// There are `n` spaces.
+#[tactic(auto, unfolding(crate::specs::Reading::stage_at))]
+pub(crate) fn stage_of(alloc: Global, n: usize, reader: &mut Reader) -> Result<Frame, Fault>
+    requires { n ≤ 63 }
+    ensures { Gives (λ x. (x, reader.new)) result (stage_at n reader.old) }
+{
+    let attempt = attempt_of(reader)?;
+    let most = if n == 0 { 4 } else { 1 };
+    let stage = number_in(17, 1, Numbers::between(1, most), reader)?;
+    let chunks = number_in(18, 4, any_if(stage != 4, 0xFFFF_FFFF), reader)?;
+    let checkpoint = number_in(22, 8, any_if(stage >= 3, u64::MAX), reader)?;
+    let lsn = number_in(30, 8, any_if(stage >= 3, u64::MAX), reader)?;
+    let position = number_in(38, 8, any_if(stage >= 2, u64::MAX), reader)?;
+    number_in(46, 2, Numbers::only(n as u64), reader)?;
+    let spaces = spaces_of(alloc, n, reader)?;
+    Ok(Frame::Stage {
+        attempt,
+        plan: planned(stage, chunks as u32, checkpoint, lsn, position, spaces),
+    })
+}
+
+// All numbers up to the most where the frame has a value there, and else 0.
+fn any_if(has: bool, most: u64) -> Numbers
+    ensures { result ≡ any_if has most }
+{
+    Numbers::between(0, if has { most } else { 0 })
+}
+
+fn planned(
+    stage: u64,
+    chunks: u32,
+    checkpoint: u64,
+    lsn: u64,
+    position: u64,
+    spaces: Spaces,
+) -> StagePlan
+    ensures { result ≡ planned stage chunks checkpoint lsn position spaces }
+{
+    match stage {
+        1 => StagePlan::FileCopy { chunks, spaces },
+        2 => StagePlan::PageCopy { chunks, position },
+        3 => StagePlan::RedoCopy {
+            chunks,
+            checkpoint,
+            lsn,
+            position,
+        },
+        _ => StagePlan::Done {
+            checkpoint,
+            lsn,
+            position,
+        },
+    }
+}
+
+#[tactic(auto, unfolding(crate::specs::Reading::page_at))]
+fn page_of(reader: &mut Reader) -> Result<PageAt, Fault>
+    ensures { Gives (λ x. (x, reader.new)) result (page_at reader.old) }
+{
+    let space = u32_of(reader)?;
+    let number = u32_of(reader)?;
+    let page = body_of(reader)?;
+    Ok(PageAt {
+        space,
+        number,
+        page,
+    })
+}
+
+fn body_of(reader: &mut Reader) -> Result<Page, Fault>
+    ensures { Gives (λ x. (x, reader.new)) result (bytes_at 4096 reader.old) }
+{
+    let bytes = bytes_of(reader, 4096)?;
+    Ok(Page::from_bytes(bytes))
+}
+
+fn pages_of(alloc: Global, n: usize, reader: &mut Reader) -> Result<Pages, Fault>
+    requires some { 1 ≤ n }
+    requires few { n ≤ 8 }
+    ensures { Gives (λ x. (x, reader.new)) result (list_at page_at n reader.old) }
+{
+    let mut list = Vec::with_capacity(alloc, n)?;
+    for _ in 0..n {
+        let page = page_of(reader)?;
+        list.push(page)?;
+    }
+    Ok(Pages::new(list))
+}
+
+// There are `n` pages.
+#[tactic(auto, unfolding(crate::specs::Reading::pages_frame_at))]
+pub(crate) fn pages_frame_of(alloc: Global, n: usize, reader: &mut Reader) -> Result<Frame, Fault>
+    requires some { 1 ≤ n }
+    requires few { n ≤ 8 }
+    ensures { Gives (λ x. (x, reader.new)) result (pages_frame_at n reader.old) }
+{
+    let attempt = attempt_of(reader)?;
+    let stage = number_in(17, 1, Numbers::between(1, 2), reader)?;
+    let chunk = u32_of(reader)?;
+    let block = u8_of(reader)?;
+    number_in(23, 1, Numbers::only(n as u64), reader)?;
+    let pages = pages_of(alloc, n, reader)?;
+    Ok(Frame::Pages {
+        attempt,
+        stage: PageStage::numbered(stage),
+        chunk,
+        block,
+        pages,
+    })
+}
+
+// There are `n` bytes of redo.
+#[tactic(auto, unfolding(crate::specs::Reading::redo_at))]
+pub(crate) fn redo_of(alloc: Global, n: usize, reader: &mut Reader) -> Result<Frame, Fault>
+    requires some { 1 ≤ n }
+    requires few { n ≤ 16384 }
+    ensures { Gives (λ x. (x, reader.new)) result (redo_at n reader.old) }
+{
+    let attempt = attempt_of(reader)?;
+    number_in(17, 1, Numbers::only(3), reader)?;
+    let chunk = u32_of(reader)?;
+    let block = u8_of(reader)?;
+    let from = u64_of(reader)?;
+    number_in(31, 4, Numbers::only(n as u64), reader)?;
+    let bytes = redo_bytes_of(alloc, n, reader)?;
+    Ok(Frame::Redo {
+        attempt,
+        chunk,
+        block,
+        from,
+        bytes,
+    })
+}
+
+fn redo_bytes_of(alloc: Global, n: usize, reader: &mut Reader) -> Result<RedoBytes, Fault>
+    requires some { 1 ≤ n }
+    requires few { n ≤ 16384 }
+    ensures { Gives (λ x. (x, reader.new)) result (bytes_at n reader.old) }
+{
+    let bytes = bytes_of(reader, n)?;
+    Ok(RedoBytes::new(alloc, bytes)?)
+}
+
+#[tactic(auto, unfolding(crate::specs::Reading::refused_at))]
+pub(crate) fn refused_of(reader: &mut Reader) -> Result<Frame, Fault>
+    ensures { Gives (λ x. (x, reader.new)) result (refused_at reader.old) }
+{
+    let number = number_in(5, 1, Numbers::between(1, 12), reader)?;
+    let values = value_count(number);
+    let first = number_in(6, 8, any_if(values >= 1, u64::MAX), reader)?;
+    let second = number_in(14, 8, any_if(values >= 2, u64::MAX), reader)?;
+    Ok(Frame::Refused {
+        refusal: Refusal::numbered(number, first, second),
+    })
+}
+
+// How many values the refusal of this number has.
+fn value_count(number: u64) -> u8
+    ensures { result ≡ value_count number }
+{
+    match number {
+        4 | 6 | 11 => 0,
+        8 | 10 | 12 => 2,
+        _ => 1,
+    }
+}

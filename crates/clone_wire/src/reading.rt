@@ -1,0 +1,117 @@
+ghost use Rattle.std.specs.Prelude.{◌≡◌, ◌≢◌, IfOk};
+ghost use Rattle.clone_wire.specs.Answers.{Decodes, ReadsHead, refusal_of};
+ghost use Rattle.clone_wire.specs.Frames.{codes, lengths, IsHead};
+ghost use Rattle.clone_wire.specs.Reading.{Gives, head_at, payload_at};
+
+use crate::fault::Fault;
+use crate::fields::number_in;
+use crate::numbers::Numbers;
+use crate::payloads::{
+    ack_of, attach_of, end_of, execute_of, init_of, pages_frame_of, redo_of, refused_of, reinit_of,
+    stage_of,
+};
+use crate::{Frame, HeadRefusal, Side, WireRefusal};
+use clone_bytes::Reader;
+use std::alloc::Global;
+
+/// The bytes of a frame's code and length.
+const HEAD: usize = 5;
+
+#[tactic(auto, unfolding(crate::specs::Reading::head_at))]
+fn head_of(side: Side, reader: &mut Reader) -> Result<(u8, u32), Fault>
+    ensures gives { Gives (λ x. (x, reader.new)) result (head_at side reader.old) }
+    ensures head { IfOk result (λ head. IsHead head.0 head.1) }
+    ensures memory { result ≢ Err Fault.NoMemory }
+{
+    let code = number_in(0, 1, codes(side), reader)?;
+    let length = number_in(1, 4, lengths(code), reader)?;
+    Ok((code as u8, length as u32))
+}
+
+fn codes(side: Side) -> Numbers
+    ensures { result ≡ codes side }
+{
+    match side {
+        Side::Command => Numbers::between(1, 6),
+        Side::Answer => Numbers::between(16, 20),
+    }
+}
+
+// The lengths that a payload may have, by the code.
+fn lengths(code: u64) -> Numbers
+    ensures { result ≡ lengths code }
+{
+    match code {
+        1 => Numbers::only(20),
+        2 | 19 => Numbers::only(13),
+        3 => Numbers::between(17, 1_048_593),
+        4 => Numbers::only(1),
+        5 => Numbers::only(9),
+        6 => Numbers::only(0),
+        16 => Numbers::in_steps(43, 547, 8),
+        17 => Numbers::in_steps(4123, 32_851, 4104),
+        18 => Numbers::between(31, 16_414),
+        _ => Numbers::only(17),
+    }
+}
+
+// The payload of a frame with this code and this length.
+#[tactic(auto, unfolding(crate::specs::Reading::payload_at))]
+fn payload_of(alloc: Global, code: u8, length: usize, reader: &mut Reader) -> Result<Frame, Fault>
+    requires { IsHead code length }
+    ensures { Gives (λ x. (x, reader.new)) result (payload_at code length reader.old) }
+{
+    match code {
+        1 => init_of(reader),
+        2 => attach_of(reader),
+        3 => reinit_of(alloc, length - 17, reader),
+        4 => execute_of(reader),
+        5 => ack_of(reader),
+        6 => Ok(Frame::Exit),
+        16 => stage_of(alloc, (length - 43) / 8, reader),
+        17 => pages_frame_of(alloc, (length - 19) / 4104, reader),
+        18 => redo_of(alloc, length - 30, reader),
+        19 => end_of(reader),
+        _ => refused_of(reader),
+    }
+}
+
+/// The code and the length of the payload at the front of the bytes, as `decode` reads them. No memory
+/// is taken.
+pub fn read_head(bytes: &[u8], side: Side) -> Result<(u8, u32), HeadRefusal>
+    ensures { ReadsHead side bytes.now result }
+{
+    match head_of(side, &mut Reader::new(bytes)) {
+        Ok(head) => Ok(head),
+        Err(Fault::Garbled { at }) => Err(HeadRefusal::Garbled { at }),
+        Err(Fault::Short) => Err(HeadRefusal::NotYet { need: HEAD }),
+        Err(Fault::NoMemory) => unreachable!(),
+    }
+}
+
+/// The frame of this side whose spelling is at the front of the bytes, and the length of that spelling.
+/// Memory is taken once for a list in the frame, and only there.
+pub fn decode(alloc: Global, bytes: &[u8], side: Side) -> Result<(Frame, usize), WireRefusal>
+    ensures { Decodes side bytes.now result }
+{
+    let mut reader = Reader::new(bytes);
+    let (code, length) = match head_of(side, &mut reader) {
+        Ok(head) => head,
+        Err(fault) => return Err(refusal_of(fault, HEAD)),
+    };
+    let whole = HEAD + length as usize;
+    match payload_of(alloc, code, length as usize, &mut reader) {
+        Ok(frame) => Ok((frame, whole)),
+        Err(fault) => Err(refusal_of(fault, whole)),
+    }
+}
+
+fn refusal_of(fault: Fault, need: usize) -> WireRefusal
+    ensures { result ≡ refusal_of fault need }
+{
+    match fault {
+        Fault::Short => WireRefusal::NotYet { need },
+        Fault::Garbled { at } => WireRefusal::Garbled { at },
+        Fault::NoMemory => WireRefusal::NoMemory,
+    }
+}

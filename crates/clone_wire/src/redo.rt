@@ -1,0 +1,46 @@
+ghost use Rattle.std.specs.Prelude.{◌≡◌, ◌≤◌, length, IfOk};
+ghost use Rattle.clone_wire.specs.declared.redo.TheConstants.{MOST_REDO};
+
+use std::alloc::{AllocError, Global};
+use std::marker::Model;
+
+/// The most bytes of redo in a block.
+pub const MOST_REDO: usize = 16_384;
+
+/// A list of 1 to 16,384 bytes of redo.
+#[derive(Drop)]
+pub struct RedoBytes {
+    bytes: Vec<u8>,
+}
+
+impl Model for RedoBytes {
+    ghost use Rattle.std.specs.Prelude.{List, ℕ, length, ◌≤◌};
+
+    ghost Value = { List ℕ };
+
+    ghost view = { λ r. r.bytes.items };
+
+    ghost invariant = { λ r. (1 ≤ length r.bytes.items) × (length r.bytes.items ≤ 16384) };
+}
+
+impl RedoBytes {
+    /// These bytes.
+    pub fn new(alloc: Global, bytes: &[u8]) -> Result<RedoBytes, AllocError>
+        requires some { 1 ≤ length bytes.now }
+        requires few { length bytes.now ≤ MOST_REDO }
+        ensures { IfOk result (λ redo. redo ≡ bytes.now) }
+    {
+        Ok(RedoBytes {
+            bytes: Vec::from_slice(alloc, bytes)?,
+        })
+    }
+
+    /// The bytes in their order.
+    pub fn as_slice(&self) -> &[u8]
+        ensures value { result.now ≡ self.now }
+        ensures some { 1 ≤ length self.now }
+        ensures few { length self.now ≤ MOST_REDO }
+    {
+        &self.bytes
+    }
+}

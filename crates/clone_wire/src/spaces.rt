@@ -1,0 +1,68 @@
+ghost use Rattle.std.specs.Prelude.{◌≡◌, ◌≤◌, ◌<◌, ◌++◌, ◌∷◌, ◌↔◌, [], length, OnOk, OnErr, IsTrue};
+ghost use Rattle.clone_wire.specs.declared.spaces.TheConstants.{MOST_SPACES};
+
+use std::alloc::{AllocError, Global};
+use std::marker::Model;
+
+/// The most spaces of a stage: 62 tables and the system space.
+pub const MOST_SPACES: usize = 63;
+
+/// A space, and how many pages it has.
+#[derive(Clone, Copy, Debug, PartialEq, Eq)]
+pub struct SpaceSize {
+    pub space: u32,
+    pub pages: u32,
+}
+
+/// A list of at most 63 spaces.
+#[derive(Drop)]
+pub struct Spaces {
+    list: Vec<SpaceSize>,
+}
+
+impl Model for Spaces {
+    ghost use Rattle.std.specs.Prelude.{List, length, ◌≤◌};
+    ghost use Rattle.clone_wire.specs.declared.spaces.SpaceSize.{SpaceSize};
+
+    ghost Value = { List SpaceSize };
+
+    ghost view = { λ s. s.list.items };
+
+    ghost invariant = { λ s. length s.list.items ≤ 63 };
+}
+
+impl Spaces {
+    /// No spaces.
+    pub fn new(alloc: Global) -> Spaces
+        ensures { result ≡ [] }
+    {
+        Spaces {
+            list: Vec::new(alloc),
+        }
+    }
+
+    /// Whether there are 63 spaces.
+    pub fn is_full(&self) -> bool
+        ensures { IsTrue result ↔ (length self.now ≡ MOST_SPACES) }
+    {
+        self.list.len() == MOST_SPACES
+    }
+
+    /// Adds a space at the end. The error is want of memory, and the list is as before.
+    pub fn push(&mut self, space: SpaceSize) -> Result<(), AllocError>
+        requires { length self.old < MOST_SPACES }
+        ensures ok { OnOk result (self.new ≡ self.old ++ space ∷ []) }
+        ensures err { OnErr result (self.new ≡ self.old) }
+    {
+        self.list.push(space)?;
+        Ok(())
+    }
+
+    /// The spaces in their order.
+    pub fn as_slice(&self) -> &[SpaceSize]
+        ensures value { result.now ≡ self.now }
+        ensures few { length self.now ≤ MOST_SPACES }
+    {
+        &self.list
+    }
+}

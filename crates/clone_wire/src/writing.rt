@@ -1,0 +1,254 @@
+ghost use Rattle.std.specs.Prelude.{◌≡◌, ◌≤◌, ◌+◌, ◌*◌, ◌++◌, length, vec_len, OnOk};
+ghost use Rattle.std.specs.List.{flat_map};
+ghost use Rattle.byteorder.specs.Endian.{big_bytes};
+ghost use Rattle.clone_wire.specs.Frames.{stage_of};
+ghost use Rattle.clone_wire.specs.Spelling.{space_bytes, page_bytes, flag, payload, chunks_of, checkpoint_of, lsn_of, position_of, spaces_of};
+ghost use Rattle.clone_wire.specs.Stages.{copy_number, stage_number};
+ghost use Rattle.clone_wire.specs.Refusals.{refusal_number, refusal_first, refusal_second};
+
+use crate::{
+    Attempt, Bitmap, CopyStage, Frame, PageAt, Pages, RedoBytes, Refusal, SpaceSize, StagePlan,
+};
+use byteorder::{BigEndian, ByteOrder};
+use std::alloc::AllocError;
+
+// Each function appends fields to a text. Where memory runs out it may have appended some of them.
+
+fn push_u8(text: &mut Vec<u8>, n: u8) -> Result<(), AllocError>
+    ensures text { OnOk result (text.new.items ≡ text.old.items ++ big_bytes 1 n) }
+    ensures long { OnOk result (vec_len text.new ≤ vec_len text.old + 1) }
+{
+    text.extend_from_slice(&[n])
+}
+
+fn push_u16(text: &mut Vec<u8>, n: u16) -> Result<(), AllocError>
+    ensures text { OnOk result (text.new.items ≡ text.old.items ++ big_bytes 2 n) }
+    ensures long { OnOk result (vec_len text.new ≤ vec_len text.old + 2) }
+{
+    let mut bytes = [0; 2];
+    BigEndian::write_u16(&mut bytes, n);
+    text.extend_from_slice(&bytes)
+}
+
+fn push_u32(text: &mut Vec<u8>, n: u32) -> Result<(), AllocError>
+    ensures text { OnOk result (text.new.items ≡ text.old.items ++ big_bytes 4 n) }
+    ensures long { OnOk result (vec_len text.new ≤ vec_len text.old + 4) }
+{
+    let mut bytes = [0; 4];
+    BigEndian::write_u32(&mut bytes, n);
+    text.extend_from_slice(&bytes)
+}
+
+fn push_u64(text: &mut Vec<u8>, n: u64) -> Result<(), AllocError>
+    ensures text { OnOk result (text.new.items ≡ text.old.items ++ big_bytes 8 n) }
+    ensures long { OnOk result (vec_len text.new ≤ vec_len text.old + 8) }
+{
+    let mut bytes = [0; 8];
+    BigEndian::write_u64(&mut bytes, n);
+    text.extend_from_slice(&bytes)
+}
+
+fn push_bytes(text: &mut Vec<u8>, bytes: &[u8]) -> Result<(), AllocError>
+    ensures text { OnOk result (text.new.items ≡ text.old.items ++ bytes.now) }
+    ensures long { OnOk result (vec_len text.new ≤ vec_len text.old + length bytes.now) }
+{
+    text.extend_from_slice(bytes)
+}
+
+fn push_attempt(text: &mut Vec<u8>, attempt: Attempt) -> Result<(), AllocError>
+    ensures text { OnOk result (text.new.items ≡ text.old.items ++ big_bytes 8 attempt.session ++ big_bytes 4 attempt.incarnation) }
+    ensures long { OnOk result (vec_len text.new ≤ vec_len text.old + 12) }
+{
+    push_u64(text, attempt.session)?;
+    push_u32(text, attempt.incarnation)
+}
+
+fn push_space(text: &mut Vec<u8>, space: &SpaceSize) -> Result<(), AllocError>
+    ensures text { OnOk result (text.new.items ≡ text.old.items ++ big_bytes 4 space.now.space ++ big_bytes 4 space.now.pages) }
+    ensures long { OnOk result (vec_len text.new ≤ vec_len text.old + 8) }
+{
+    push_u32(text, space.space)?;
+    push_u32(text, space.pages)
+}
+
+fn push_page(text: &mut Vec<u8>, page: &PageAt) -> Result<(), AllocError>
+    ensures text { OnOk result (text.new.items ≡ text.old.items ++ big_bytes 4 page.now.space ++ big_bytes 4 page.now.number ++ page.now.page) }
+    ensures long { OnOk result (vec_len text.new ≤ vec_len text.old + 4104) }
+{
+    push_u32(text, page.space)?;
+    push_u32(text, page.number)?;
+    push_bytes(text, page.page.bytes())
+}
+
+fn push_init(
+    text: &mut Vec<u8>,
+    attempt: Attempt,
+    version: u16,
+    page_size: u32,
+    compressed: bool,
+    tasks: u8,
+) -> Result<(), AllocError>
+    ensures text { OnOk result (text.new.items ≡ text.old.items ++ big_bytes 2 version ++ big_bytes 4 page_size ++ big_bytes 1 (flag compressed) ++ big_bytes 1 tasks ++ big_bytes 8 attempt.session ++ big_bytes 4 attempt.incarnation) }
+    ensures long { OnOk result (vec_len text.new ≤ vec_len text.old + 20) }
+{
+    push_u16(text, version)?;
+    push_u32(text, page_size)?;
+    push_u8(text, if compressed { 1 } else { 0 })?;
+    push_u8(text, tasks)?;
+    push_attempt(text, attempt)
+}
+
+fn push_reinit(
+    text: &mut Vec<u8>,
+    attempt: Attempt,
+    stage: CopyStage,
+    finished: &Bitmap,
+) -> Result<(), AllocError>
+    ensures text { OnOk result (text.new.items ≡ text.old.items ++ big_bytes 8 attempt.session ++ big_bytes 4 attempt.incarnation ++ big_bytes 1 (copy_number stage) ++ big_bytes 4 finished.now.count ++ finished.now.bytes) }
+    ensures long { OnOk result (vec_len text.new ≤ vec_len text.old + 1048593) }
+{
+    push_attempt(text, attempt)?;
+    push_u8(text, stage.number())?;
+    push_u32(text, finished.count())?;
+    push_bytes(text, finished.bytes())
+}
+
+fn push_staged(text: &mut Vec<u8>, attempt: Attempt, stage: CopyStage) -> Result<(), AllocError>
+    ensures text { OnOk result (text.new.items ≡ text.old.items ++ big_bytes 8 attempt.session ++ big_bytes 4 attempt.incarnation ++ big_bytes 1 (copy_number stage)) }
+    ensures long { OnOk result (vec_len text.new ≤ vec_len text.old + 13) }
+{
+    push_attempt(text, attempt)?;
+    push_u8(text, stage.number())
+}
+
+fn push_block(
+    text: &mut Vec<u8>,
+    attempt: Attempt,
+    stage: u8,
+    chunk: u32,
+    block: u8,
+) -> Result<(), AllocError>
+    ensures text { OnOk result (text.new.items ≡ text.old.items ++ big_bytes 8 attempt.session ++ big_bytes 4 attempt.incarnation ++ big_bytes 1 stage ++ big_bytes 4 chunk ++ big_bytes 1 block) }
+    ensures long { OnOk result (vec_len text.new ≤ vec_len text.old + 18) }
+{
+    push_attempt(text, attempt)?;
+    push_u8(text, stage)?;
+    push_u32(text, chunk)?;
+    push_u8(text, block)
+}
+
+fn push_refusal(text: &mut Vec<u8>, refusal: Refusal) -> Result<(), AllocError>
+    ensures text { OnOk result (text.new.items ≡ text.old.items ++ big_bytes 1 (refusal_number refusal) ++ big_bytes 8 (refusal_first refusal) ++ big_bytes 8 (refusal_second refusal)) }
+    ensures long { OnOk result (vec_len text.new ≤ vec_len text.old + 17) }
+{
+    push_u8(text, refusal.number())?;
+    push_u64(text, refusal.first())?;
+    push_u64(text, refusal.second())
+}
+
+fn push_spaces(text: &mut Vec<u8>, spaces: &[SpaceSize]) -> Result<(), AllocError>
+    ensures text { OnOk result (text.new.items ≡ text.old.items ++ flat_map space_bytes spaces.now) }
+    ensures long { OnOk result (vec_len text.new ≤ vec_len text.old + 8 * length spaces.now) }
+{
+    for space in spaces {
+        push_space(text, space)?;
+    }
+    Ok(())
+}
+
+fn push_pages(text: &mut Vec<u8>, pages: &[PageAt]) -> Result<(), AllocError>
+    ensures text { OnOk result (text.new.items ≡ text.old.items ++ flat_map page_bytes pages.now) }
+    ensures long { OnOk result (vec_len text.new ≤ vec_len text.old + 4104 * length pages.now) }
+{
+    for page in pages {
+        push_page(text, page)?;
+    }
+    Ok(())
+}
+
+fn push_counted_pages(text: &mut Vec<u8>, pages: &Pages) -> Result<(), AllocError>
+    ensures text { OnOk result (text.new.items ≡ text.old.items ++ big_bytes 1 (length pages.now) ++ flat_map page_bytes pages.now) }
+    ensures long { OnOk result (vec_len text.new ≤ vec_len text.old + 32833) }
+{
+    push_u8(text, pages.as_slice().len() as u8)?;
+    push_pages(text, pages.as_slice())
+}
+
+fn push_redo(text: &mut Vec<u8>, from: u64, bytes: &RedoBytes) -> Result<(), AllocError>
+    ensures text { OnOk result (text.new.items ≡ text.old.items ++ big_bytes 8 from ++ big_bytes 4 (length bytes.now) ++ bytes.now) }
+    ensures long { OnOk result (vec_len text.new ≤ vec_len text.old + 16396) }
+{
+    push_u64(text, from)?;
+    push_u32(text, bytes.as_slice().len() as u32)?;
+    push_bytes(text, bytes.as_slice())
+}
+
+#[tactic(auto, unfolding(crate::specs::Spelling::plan_bytes))]
+fn push_plan(text: &mut Vec<u8>, plan: &StagePlan) -> Result<(), AllocError>
+    ensures text { OnOk result (text.new.items ≡ text.old.items ++ big_bytes 1 (stage_number (stage_of plan.now)) ++ big_bytes 4 (chunks_of plan.now) ++ big_bytes 8 (checkpoint_of plan.now) ++ big_bytes 8 (lsn_of plan.now) ++ big_bytes 8 (position_of plan.now) ++ big_bytes 2 (length (spaces_of plan.now)) ++ flat_map space_bytes (spaces_of plan.now)) }
+    ensures long { OnOk result (vec_len text.new ≤ vec_len text.old + 535) }
+{
+    push_u8(text, plan.stage().number())?;
+    push_u32(text, plan.chunks())?;
+    push_u64(text, plan.checkpoint())?;
+    push_u64(text, plan.lsn())?;
+    push_u64(text, plan.position())?;
+    push_u16(text, plan.spaces().len() as u16)?;
+    push_spaces(text, plan.spaces())
+}
+
+pub(crate) fn push_payload(text: &mut Vec<u8>, frame: &Frame) -> Result<(), AllocError>
+    ensures text { OnOk result (text.new.items ≡ text.old.items ++ payload frame.now) }
+    ensures long { OnOk result (vec_len text.new ≤ vec_len text.old + 1048593) }
+{
+    match frame {
+        Frame::Init {
+            attempt,
+            version,
+            page_size,
+            compressed,
+            tasks,
+        } => push_init(text, *attempt, *version, *page_size, *compressed, *tasks),
+        Frame::Attach { attempt, task } => {
+            push_attempt(text, *attempt)?;
+            push_u8(text, *task)
+        }
+        Frame::Reinit {
+            attempt,
+            stage,
+            finished,
+        } => push_reinit(text, *attempt, *stage, finished),
+        Frame::Execute { stage } => push_u8(text, stage.number()),
+        Frame::Ack { stage, floor } => {
+            push_u8(text, stage.number())?;
+            push_u64(text, *floor)
+        }
+        Frame::Exit => Ok(()),
+        Frame::Stage { attempt, plan } => {
+            push_attempt(text, *attempt)?;
+            push_plan(text, plan)
+        }
+        Frame::Pages {
+            attempt,
+            stage,
+            chunk,
+            block,
+            pages,
+        } => {
+            push_block(text, *attempt, stage.number(), *chunk, *block)?;
+            push_counted_pages(text, pages)
+        }
+        Frame::Redo {
+            attempt,
+            chunk,
+            block,
+            from,
+            bytes,
+        } => {
+            push_block(text, *attempt, 3, *chunk, *block)?;
+            push_redo(text, *from, bytes)
+        }
+        Frame::End { attempt, stage } => push_staged(text, *attempt, *stage),
+        Frame::Refused { refusal } => push_refusal(text, *refusal),
+    }
+}
