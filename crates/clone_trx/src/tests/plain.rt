@@ -95,7 +95,7 @@ impl Plain {
     ) -> Result<(), EngineRefusal> {
         self.check(trx, table, key, bytes.len())?;
         let Some(value) = Value::new(bytes) else {
-            unreachable!();
+            return Err(Cause::ValueTooLong.into());
         };
         let value = Some(value);
         self.change(alloc, trx, Change { table, key, value })?;
