@@ -8,3 +8,6 @@ mod tournament;
 
 pub use frame::{Flush, Frame, PageName};
 pub use pool::{FetchRefusal, Pool};
+
+#[cfg(test)]
+mod tests;
