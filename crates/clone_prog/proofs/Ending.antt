@@ -67,8 +67,8 @@ given_up words old new script lines NoMemory got command gave read stopped rose 
     let P : Status → Type 0 = λ s. Outcome s words old new in subst P (sym is) (front words old new script lines command gave read stopped)
 
 -- the source was read to its end
-pub all_given : (old new : Ends) (script : List ℕ) → Gave old new script → IsSpent new.source.told → length script ≤ longest_script → GaveAll old new script
-all_given old new script given spent short = record { given = given; spent = spent; short = short }
+pub all_given : (old new : Ends) (script : List ℕ) → Gave old new script → new.source.faults ≡ old.source.faults → IsSpent new.source.told → length script ≤ longest_script → GaveAll old new script
+all_given old new script given steady spent short = record { given = given; steady = steady; spent = spent; short = short }
 
 -- the same bytes and lines, as they were passed
 pub same_script : (bytes passed_bytes : List ℕ) (lines passed_lines : List Line) → passed_bytes ≡ bytes → passed_lines ≡ lines → IsScript passed_bytes lines → IsScript bytes passed_lines

@@ -39,11 +39,18 @@ IsCommand words = words ≡ codes "steps" ∷ []
 abbrev pub Gave : Ends → Ends → List ℕ → Type 0
 Gave before after script = before.source.told ≡ prepended script after.source.told
 
--- the source was read to its end, and gave no more than a script may have
+-- the source was read to its end without a failure, and gave no more than a script may have
 pub record GaveAll (before after : Ends) (script : List ℕ) : Type 0 where
   pub given : Gave before after script
+  pub steady : after.source.faults ≡ before.source.faults
   pub spent : IsSpent after.source.told
   pub short : length script ≤ longest_script
+
+-- the source gave more than a script may have, and didn't fail
+pub record GaveTooMuch (before after : Ends) (script : List ℕ) : Type 0 where
+  pub given : Gave before after script
+  pub steady : after.source.faults ≡ before.source.faults
+  pub long : longest_script < length script
 
 -- the lines were carried out from the beginning, with these events
 pub record Carried (lines : List Line) (events : List (List Event)) (final : State) : Type 0 where
@@ -82,7 +89,7 @@ pub record Steps (before after : Ends) : Type 0 where
 pub data Defined (words : List (List ℕ)) (before after : Ends) (out binlog : List ℕ) : Type 0 where
   no_command : (IsCommand words → ⊥) → out ≡ ended (codes "usage") → binlog ≡ [] → Defined words before after out binlog
   no_source : IsCommand words → Rose before.source.faults after.source.faults → out ≡ ended (codes "source fault") → binlog ≡ [] → Defined words before after out binlog
-  too_long : IsCommand words → (script : List ℕ) → Gave before after script → longest_script < length script → out ≡ ended (codes "script too long") → binlog ≡ [] → Defined words before after out binlog
+  too_long : IsCommand words → (script : List ℕ) → GaveTooMuch before after script → out ≡ ended (codes "script too long") → binlog ≡ [] → Defined words before after out binlog
   bad_line : IsCommand words → (script : List ℕ) (number : ℕ) → GaveAll before after script → IsFirstBad script number → out ≡ ended (codes "bad line " ++ decimal number) → binlog ≡ [] → Defined words before after out binlog
   -- some of the lines, and no binlog yet
   some_lines : IsCommand words → (script : List ℕ) (all : List Line) (events : List (List Event)) (final : State) → GaveAll before after script → IsScript script all → CarriedSome all events final
@@ -111,4 +118,4 @@ Outcome Usage words before after = (IsCommand words → ⊥) × Said before afte
 Outcome BadLine words before after = IsCommand words × (script : List ℕ) × (number : ℕ) × GaveAll before after script × IsFirstBad script number × Said before after (codes "bad line " ++ decimal number)
 Outcome SourceFault words before after = IsCommand words × Rose before.source.faults after.source.faults × Said before after (codes "source fault")
 Outcome SinkFault words before after = (Rose before.out.faults after.out.faults ⊎ Rose before.binlog.faults after.binlog.faults) × Front words before after
-Outcome TooLong words before after = IsCommand words × (script : List ℕ) × Gave before after script × (longest_script < length script) × Said before after (codes "script too long")
+Outcome TooLong words before after = IsCommand words × (script : List ℕ) × GaveTooMuch before after script × Said before after (codes "script too long")

@@ -16,12 +16,13 @@ pub returns-in-Err-TooLong : goal.returns-in-Err-TooLong
 returns-in-Err-TooLong g c =
     let command = c.is_command.ensures.0 (search rules) in
     let long = c.in-Err-TooLong.ensures.long (ap Err c.in-Err-TooLong.field-0-is) in
-    said _ _ _ TooLong _ _ c.say-in-Err-TooLong.ensures refl (too_long command long.0 long.1 long.2 refl refl) (λ s. (command, long.0, long.1, long.2, s))
+    let steady = c.in-Err-TooLong.ensures.steady_long (ap Err c.in-Err-TooLong.field-0-is) in
+    said _ _ _ TooLong _ _ c.say-in-Err-TooLong.ensures refl (too_long command long.0 record { given = long.1; steady = steady; long = long.2 } refl refl) (λ s. (command, long.0, record { given = long.1; steady = steady; long = long.2 }, s))
 
 pub returns-in-Err-BadLine : goal.returns-in-Err-BadLine
 returns-in-Err-BadLine g c =
     let command = c.is_command.ensures.0 (search rules) in
-    let gave = all_given _ _ _ c.in-Ok.ensures.gave c.in-Ok.ensures.spent c.in-Ok.ensures.short in
+    let gave = all_given _ _ _ c.in-Ok.ensures.gave c.in-Ok.ensures.steady c.in-Ok.ensures.spent c.in-Ok.ensures.short in
     let P : ReadRefusal → Type 0 = λ e. Reads c.deref.result.now (Err e) in
     let Q : List ℕ → Type 0 = λ bytes. Reads bytes (Err (ReadRefusal.BadLine c.in-Err-BadLine.line)) in
     let read = subst Q c.deref.ensures.value (subst P c.in-Err-BadLine.field-0-is c.in-Err-BadLine.ensures) in
@@ -30,13 +31,13 @@ returns-in-Err-BadLine g c =
 pub returns-in-Ok-run_lines : goal.returns-in-Ok-run_lines
 returns-in-Ok-run_lines g c =
     let command = c.is_command.ensures.0 (search rules) in
-    let gave = all_given _ _ _ c.in-Ok.ensures.gave c.in-Ok.ensures.spent c.in-Ok.ensures.short in
+    let gave = all_given _ _ _ c.in-Ok.ensures.gave c.in-Ok.ensures.steady c.in-Ok.ensures.spent c.in-Ok.ensures.short in
     let read = same_script _ _ _ _ c.deref.ensures.value c.deref-2.ensures.value c.in-Ok-read_script.ensures in
     done _ _ _ _ _ command gave read c.in-Ok-run_lines.ensures.ok
 
 pub returns : goal.returns
 returns g c =
     let command = c.is_command.ensures.0 (search rules) in
-    let gave = all_given _ _ _ c.in-Ok.ensures.gave c.in-Ok.ensures.spent c.in-Ok.ensures.short in
+    let gave = all_given _ _ _ c.in-Ok.ensures.gave c.in-Ok.ensures.steady c.in-Ok.ensures.spent c.in-Ok.ensures.short in
     let read = same_script _ _ _ _ c.deref.ensures.value c.deref-2.ensures.value c.in-Ok-read_script.ensures in
     given_up _ _ _ _ _ c.in-Err.refusal _ command gave read c.in-Err.ensures.err (λ e. c.in-Err.ensures.fault (ap Err e)) c.from.ensures
