@@ -5,7 +5,7 @@ use Rattle.std.specs.List.{list_any, range_with_len}
 use Rattle.clone_page.specs.Slots.{slot_count}
 use Rattle.clone_row.specs.Slots.{bound_key}
 use Rattle.clone_image.specs.Image.{Image}
-use Rattle.clone_contents.specs.Contents.{contents_of, set_at}
+use Rattle.clone_contents.specs.Contents.{table_slot, set_at}
 use Rattle.clone_plain.specs.declared.refusal.Cause.{Cause}
 use Rattle.clone_plain.specs.declared.refusal.Cause.TheVariants.{SpaceFull}
 use Rattle.clone_plain.specs.Causes.{whether}
@@ -16,7 +16,7 @@ abbrev pub Keys : Type 0
 Keys = ℕ → ℕ → ℕ → Option ℕ
 
 abbrev pub keys_in : Image → Keys
-keys_in image table page place = bound_key ((contents_of image).slot table page place)
+keys_in image table page place = bound_key (table_slot image table page place)
 
 -- a place may hold a key: it is bound to it, or free
 abbrev pub may_hold : ℕ → Option ℕ → Bool

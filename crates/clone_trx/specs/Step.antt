@@ -2,7 +2,7 @@
 use Rattle.std.specs.Prelude.{◌≡◌, None, Some}
 use Rattle.std.specs.declared.option.Option.{Option}
 use Rattle.clone_plain.specs.declared.refusal.Cause.{Cause}
-use Rattle.clone_plain.specs.Calls.{Call, create, begin, put, delete, get, undo_one, commit, Done, did_create, did_begin, did_put, did_delete, did_get, did_undo_one, did_commit, Made, done, refused, call_of, cause_of, PlainStep}
+use Rattle.clone_plain.specs.Calls.{Call, put, delete, Done, did_put, did_delete, did_get, Made, done, refused, call_of, cause_of, PlainStep}
 use Rattle.clone_trx.specs.Engine.{EngineState, page_number}
 use Rattle.clone_trx.specs.Keys.{keys_in, full_cause, BindsKey}
 
@@ -10,21 +10,14 @@ use Rattle.clone_trx.specs.Keys.{keys_in, full_cause, BindsKey}
 abbrev pub below_cause : EngineState → Call → Option Cause
 below_cause e (put trx table key value) = full_cause e table key
 below_cause e (delete trx table key) = full_cause e table key
-below_cause e (create table buckets) = None
-below_cause e (begin writer index) = None
-below_cause e (get trx table key) = None
-below_cause e (undo_one trx) = None
-below_cause e (commit trx) = None
+below_cause e call = None
 
 -- Which keys have which places behind a call: a change binds the key of its row, and every other call leaves them.
 abbrev pub BindsKeys : EngineState → Done → EngineState → Type 0
 BindsKeys e (did_put trx table key value) t = BindsKey table (page_number e.donor table key) key (keys_in e.image) (keys_in t.image)
 BindsKeys e (did_delete trx table key) t = BindsKey table (page_number e.donor table key) key (keys_in e.image) (keys_in t.image)
-BindsKeys e (did_create table buckets) t = keys_in t.image ≡ keys_in e.image
-BindsKeys e (did_begin writer index trx) t = keys_in t.image ≡ keys_in e.image
 BindsKeys e (did_get trx table key value) t = t ≡ e
-BindsKeys e (did_undo_one trx undone) t = keys_in t.image ≡ keys_in e.image
-BindsKeys e (did_commit trx position) t = keys_in t.image ≡ keys_in e.image
+BindsKeys e call t = keys_in t.image ≡ keys_in e.image
 
 -- A call is carried out only where the pages have no cause against it either.
 abbrev pub PagesStep : EngineState → Made → EngineState → Type 0
