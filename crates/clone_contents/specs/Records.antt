@@ -1,6 +1,7 @@
 -- The records of the mini-transactions that change the system page.
 use Rattle.std.specs.Prelude.{ℕ, List, [], ◌∷◌, ◌++◌}
 use Rattle.byteorder.specs.Endian.{big_bytes}
+use Rattle.clone_contents.specs.declared.TheConstants.{SYSTEM_PAGES}
 use Rattle.clone_page.specs.Dictionary.{entry_at, entry, position_at}
 use Rattle.clone_page.specs.declared.kind.PageKind.TheVariants.{System}
 use Rattle.clone_mtr.specs.declared.record.Record.{Record}
@@ -9,7 +10,7 @@ use Rattle.clone_undo.specs.Changes.{records_of_end}
 
 -- the pages of the system space: the system page, and four for each undo slot
 abbrev pub system_size : ℕ
-system_size = 257
+system_size = SYSTEM_PAGES
 
 -- opening makes the system space and its first page
 abbrev pub opening_records : List Record

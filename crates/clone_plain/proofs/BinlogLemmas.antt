@@ -2,10 +2,8 @@
 use Rattle.std.proofs.Common.{◌≡◌, ℕ, ◌+◌, List, [], ◌∷◌, ◌++◌, length, refl, sym, ap, ◌∙◌, subst, zero, suc, zero-add, add-zero, arith, append_assoc, length-append, Option, Some, None}
 use Rattle.std.proofs.lemmas.List.{append-nil}
 use Rattle.std.specs.Prelude.{MatchOption}
-use Rattle.std.specs.List.{cons_option, filter_map, flat_map, range_with_len}
-use Rattle.clone_model.specs.History.{Drops}
+use Rattle.std.specs.List.{cons_option, filter_map, range_with_len}
 use Rattle.clone_model.specs.declared.change.Commit.{Commit}
-use Rattle.clone_model.specs.declared.line.Line.{Line}
 use Rattle.clone_plain.specs.declared.refusal.Undone.{Undone}
 use Rattle.clone_plain.specs.declared.refusal.Undone.TheVariants.{Left, Ended}
 use Rattle.clone_plain.specs.Donor.{Donor}

@@ -2,11 +2,10 @@
 use Rattle.std.proofs.Common.{◌≡◌, ℕ, ◌+◌, ◌≤◌, List, [], ◌∷◌, length, Bool, true, false, cond, refl, sym, ap, ◌∙◌, subst, arith, length-append, Option, Some, None, unwrap_or, inl, inr, ◌⊎◌}
 use Rattle.std.proofs.lemmas.Cmp.{nat_cmp_total}
 use Rattle.std.specs.Prelude.{MatchOption}
-use Rattle.std.specs.List.{cons_option, filter_map, range_with_len}
+use Rattle.std.specs.List.{cons_option, filter_map}
 use Rattle.std.proofs.lemmas.List.FromFn.{length-range_with_len}
 use Rattle.std.specs.FinMap.{FinMap, get, get-empty, get-insert, insert}
 use Rattle.std.specs.Ordering.{nat_cmp, eq_by_cmp}
-use Rattle.clone_model.specs.declared.change.Commit.{Commit}
 use Rattle.clone_model.specs.declared.line.Line.{Line}
 use Rattle.clone_plain.specs.declared.refusal.Cause.{Cause}
 use Rattle.clone_plain.specs.Donor.{Donor}
@@ -15,7 +14,7 @@ use Rattle.clone_plain.specs.World.{World, Stop, opened, index_in, IsWithin}
 use Rattle.clone_plain.specs.Events.{Event, made, completed, showed, incomplete, counted, Happens, Events}
 use Rattle.clone_plain.specs.Runs.{MakesSet, not_begun, not_changed, set, LineStep, Runs}
 use Rattle.clone_plain.specs.Headline.{committed_at}
-use Rattle.clone_plain.proofs.BinlogLemmas.{Adds, events_add}
+use Rattle.clone_plain.proofs.BinlogLemmas.{events_add}
 use Rattle.clone_plain.proofs.LineLemmas.{Shape, one, sets, shape, CommitMade, was_refused, was_done, commit_made}
 
 abbrev Begun : Type 0

@@ -7,7 +7,7 @@ use Rattle.clone_model.specs.declared.line.Line.{Line}
 use Rattle.clone_plain.specs.Donor.{Donor}
 use Rattle.clone_plain.specs.Calls.{Made}
 use Rattle.clone_plain.specs.World.{World}
-use Rattle.clone_plain.specs.Events.{Event, said, Happens, Events}
+use Rattle.clone_plain.specs.Events.{Event, said, Events}
 use Rattle.clone_plain.specs.Runs.{LineStep, Runs, output}
 
 module _ {D : Type 0} (plain : D → Donor) (Step : D → Made → D → Type 0) where

@@ -1,5 +1,5 @@
 -- The commit of a `set` is of its writer, and has its one change.
-use Rattle.std.proofs.Common.{◌≡◌, ℕ, ◌+◌, ◌-◌, ◌<◌, List, [], ◌∷◌, ◌++◌, length, Bool, cond, refl, sym, ap, ◌∙◌, subst, arith, length-append, append_assoc, Option, Some, None, unwrap_or}
+use Rattle.std.proofs.Common.{◌≡◌, ℕ, ◌+◌, ◌-◌, ◌<◌, List, [], ◌∷◌, ◌++◌, length, Bool, cond, sym, ap, ◌∙◌, subst, arith, length-append, append_assoc, Option, Some, unwrap_or}
 use Rattle.std.proofs.lemmas.Cmp.{nat_cmp_total, eq_by_cmp_equiv}
 use Rattle.std.proofs.lemmas.Option.{slice_get-get_or}
 use Rattle.std.proofs.Math.Seq.{get_or-append_seam}
@@ -11,15 +11,14 @@ use Rattle.clone_model.specs.declared.change.Change.{Change}
 use Rattle.clone_model.specs.declared.change.Commit.{Commit}
 use Rattle.clone_model.specs.declared.line.Line.{Line}
 use Rattle.clone_model.specs.declared.line.Line.TheVariants as lines
-use Rattle.clone_plain.specs.declared.refusal.Cause.{Cause}
 use Rattle.clone_plain.specs.Donor.{Donor}
-use Rattle.clone_plain.specs.Effects.{begun, put_of, with_change, Begins, Changes, Commits}
-use Rattle.clone_plain.specs.Calls.{Call, Done, did_begin, did_put, did_commit, Made, done, refused, PlainStep}
+use Rattle.clone_plain.specs.Effects.{begun, put_of, with_change, Changes}
+use Rattle.clone_plain.specs.Calls.{did_begin, did_put, did_commit, Made, done, PlainStep}
 use Rattle.clone_plain.specs.World.{World}
 use Rattle.clone_plain.specs.Events.{Event, made, Happens, Events}
 use Rattle.clone_plain.specs.Runs.{MakesSet, not_begun, not_changed, set, Runs}
 use Rattle.clone_plain.specs.Headline.{committed_at, IsSet, AreSets}
-use Rattle.clone_plain.proofs.BinlogLemmas.{Adds, events_add}
+use Rattle.clone_plain.proofs.BinlogLemmas.{events_add}
 use Rattle.clone_plain.proofs.LineLemmas.{CommitMade, was_refused, was_done, commit_made}
 use Rattle.clone_plain.proofs.RunLemmas.{Runs-Events}
 

@@ -6,23 +6,24 @@ use Rattle.std.specs.List.{range_with_len, find}
 use Rattle.std.specs.FinMap as finite
 use Rattle.std.specs.Ordering.{nat_cmp}
 use Rattle.clone_model.specs.declared.change.Commit.{Commit}
+use Rattle.clone_plain.specs.declared.limits.TheConstants.{CHANGE_LIMIT, TABLE_LIMIT, TRANSACTION_LIMIT, VALUE_LIMIT}
 use Rattle.clone_plain.specs.declared.refusal.Cause.{Cause}
 use Rattle.clone_plain.specs.declared.refusal.Cause.TheVariants.{NoSuchTrx, NoSuchTable, TableExists, RowLocked, ValueTooLong, UndoFull, TooManyTransactions, TooManyTables}
 use Rattle.clone_plain.specs.Donor.{Donor, changes_of}
 
 -- how many transactions may be open, and how many changes each may have
 abbrev pub transaction_limit : ℕ
-transaction_limit = 64
+transaction_limit = TRANSACTION_LIMIT
 
 abbrev pub change_limit : ℕ
-change_limit = 160
+change_limit = CHANGE_LIMIT
 
 abbrev pub table_limit : ℕ
-table_limit = 62
+table_limit = TABLE_LIMIT
 
 -- how many bytes a value may have
 abbrev pub value_limit : ℕ
-value_limit = 64
+value_limit = VALUE_LIMIT
 
 -- a cause where it stands
 abbrev pub whether : Bool → Cause → Option Cause

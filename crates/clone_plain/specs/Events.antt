@@ -4,7 +4,7 @@ use Rattle.std.specs.FinMap as finite
 use Rattle.std.specs.Ordering.{nat_cmp}
 use Rattle.clone_model.specs.History.{Rows, fold, rows_in}
 use Rattle.clone_plain.specs.Donor.{Donor}
-use Rattle.clone_plain.specs.Calls.{Done, did_begin, Made, done, refused}
+use Rattle.clone_plain.specs.Calls.{did_begin, Made, done}
 use Rattle.clone_plain.specs.Answers.{Text, made_text, complete_answer, rows_answer}
 use Rattle.clone_plain.specs.World.{World, Stop, index_in, stop_now, before_stop}
 

@@ -1,5 +1,5 @@
 -- What a whole run says of its binlog and of its clone.
-use Rattle.std.specs.Prelude.{ℕ, ◌≡◌, ◌≤◌, ◌-◌, ◌⊎◌, List, [], ◌∷◌, length, take, None, Some, MatchOption, IfSome, slice_get}
+use Rattle.std.specs.Prelude.{ℕ, ◌≡◌, ◌≤◌, ◌-◌, ◌⊎◌, List, [], ◌∷◌, length, take, None, Some, MatchOption, slice_get}
 use Rattle.std.specs.declared.option.Option.{Option}
 use Rattle.std.specs.List.{filter_map, flat_map, range_with_len}
 use Rattle.clone_model.specs.History.{Drops, fold, history_of}
@@ -7,7 +7,7 @@ use Rattle.clone_model.specs.declared.change.Commit.{Commit}
 use Rattle.clone_model.specs.declared.line.Line.{Line}
 use Rattle.clone_model.specs.declared.line.Line.TheVariants as lines
 use Rattle.clone_plain.specs.Effects.{put_of}
-use Rattle.clone_plain.specs.Calls.{Done, did_commit, Made, done, refused}
+use Rattle.clone_plain.specs.Calls.{did_commit, done}
 use Rattle.clone_plain.specs.World.{Stop}
 use Rattle.clone_plain.specs.Events.{Event, made, completed, showed, incomplete}
 

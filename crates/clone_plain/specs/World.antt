@@ -1,5 +1,5 @@
 -- What a script acts on: a donor, the indexes of its writers, and the stop of its clone.
-use Rattle.std.specs.Prelude.{ℕ, ◌≤◌, List, length, take, None, Some, unwrap_or, refl}
+use Rattle.std.specs.Prelude.{ℕ, ◌≤◌, List, length, take, None, unwrap_or, refl}
 use Rattle.std.specs.declared.option.Option.{Option}
 use Rattle.std.specs.FinMap as finite
 use Rattle.std.specs.Ordering.{nat_cmp}

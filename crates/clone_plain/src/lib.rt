@@ -3,9 +3,11 @@
 #![tactic(auto)]
 
 mod laws;
+mod limits;
 mod refusal;
 #[cfg(test)]
 mod tests;
 
 pub use laws::{run_laws, runs_join};
+pub use limits::{CHANGE_LIMIT, TABLE_LIMIT, TRANSACTION_LIMIT, VALUE_LIMIT};
 pub use refusal::{Cause, EngineRefusal, Undone};

@@ -5,12 +5,10 @@ ghost use Rattle.clone_plain.specs.Causes.{least_unused};
 ghost use Rattle.clone_trx.specs.Opened.{Pops};
 
 use clone_model::{Change, Changes, Commit};
+use clone_plain::TRANSACTION_LIMIT;
 use std::alloc::{AllocError, Global};
 use std::collections::BTreeMap;
 use std::marker::Model;
-
-/// How many transactions may be open.
-const TRANSACTION_LIMIT: u32 = 64;
 
 /// The open transactions by their numbers, each as the commit that it would be.
 #[derive(Drop)]

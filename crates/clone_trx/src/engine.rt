@@ -32,17 +32,11 @@ use crate::tables::Tables;
 use crate::writing::{first_record, write_from};
 use clone_model::{Binlog, BucketCount, Commit, TableNumber};
 use clone_page::Page;
-use clone_plain::{Cause, EngineRefusal};
+use clone_plain::{Cause, EngineRefusal, TABLE_LIMIT, TRANSACTION_LIMIT};
 use clone_store::Store;
 use clone_undo::{begin_records, header_page};
 use std::alloc::{AllocError, Global};
 use std::marker::Model;
-
-/// How many tables there may be.
-const TABLES: usize = 62;
-
-/// How many transactions may be open, and so how many commits may join the binlog before the next begins.
-const TRANSACTIONS: usize = 64;
 
 /// A donor's transactions, over pages and the redo log that made them.
 #[derive(Drop)]
@@ -134,7 +128,7 @@ impl Engine {
             return Err(Cause::TableExists.into());
         }
         let place = self.tables.len();
-        if place == TABLES {
+        if place == TABLE_LIMIT {
             return Err(Cause::TooManyTables.into());
         }
         self.tables.insert(table, buckets)?;
@@ -159,7 +153,7 @@ impl Engine {
             return Err(Cause::TooManyTransactions.into());
         };
         let first = first_record(&self.store, header_page(trx));
-        self.binlog.reserve(TRANSACTIONS)?;
+        self.binlog.reserve(TRANSACTION_LIMIT as usize)?;
         self.store.reserve()?;
         self.active.begin(alloc, trx, writer, index)?;
         write_from(

@@ -4,12 +4,10 @@ ghost use Rattle.clone_plain.specs.Effects.{Releases};
 ghost use Rattle.clone_plain.specs.Causes.{transaction_limit};
 ghost use Rattle.clone_trx.specs.Locked.{holders_of, without};
 
+use clone_plain::TRANSACTION_LIMIT;
 use std::alloc::{AllocError, Global};
 use std::collections::BTreeMap;
 use std::marker::Model;
-
-/// How many transactions may be open.
-const TRANSACTION_LIMIT: usize = 64;
 
 type Row = (u32, u64);
 

@@ -3,20 +3,9 @@ ghost use Rattle.clone_page.specs.Dictionary.{entry, entry_at, entry_count};
 ghost use Rattle.clone_contents.specs.Records.{opening_records, create_records, position_record};
 
 use byteorder::{BigEndian, ByteOrder};
+use clone_contents::SYSTEM_PAGES;
 use clone_mtr::{Patch, Record};
-use clone_page::PageKind;
-
-/// How many pages the system space has.
-const SYSTEM_PAGES: u32 = 257;
-
-/// Where on the system page the number of commits stands.
-const POSITION_AT: u16 = 40;
-
-/// Where on the system page the first dictionary entry stands.
-const FIRST_ENTRY_AT: usize = 64;
-
-/// How many bytes a dictionary entry has.
-const ENTRY_BYTES: usize = 16;
+use clone_page::{ENTRIES_AT, ENTRY_BYTES, POSITION_AT, PageKind};
 
 /// Makes the system space of 257 pages, and its first page.
 pub fn opening() -> [Record; 2]
@@ -40,7 +29,7 @@ pub fn creation(place: usize, table: u32, buckets: u32) -> [Record; 2]
     requires { place < entry_count }
     ensures { result ≡ create_records place table buckets }
 {
-    let at = FIRST_ENTRY_AT + ENTRY_BYTES * place;
+    let at = ENTRIES_AT + ENTRY_BYTES * place;
     [
         Record::Create {
             space: table,

@@ -11,15 +11,9 @@ use crate::Engine;
 use crate::place::place_of;
 use clone_model::Value;
 use clone_page::Page;
-use clone_plain::{Cause, EngineRefusal};
+use clone_plain::{CHANGE_LIMIT, Cause, EngineRefusal, VALUE_LIMIT};
 use clone_row::{find, present};
 use clone_undo::{Before, OldValue, UndoRecord};
-
-/// How many changes a transaction may make.
-const CHANGES: usize = 160;
-
-/// How many bytes a value may have.
-const VALUE_BYTES: usize = 64;
 
 /// Where a change of a row goes.
 #[derive(Drop)]
@@ -62,14 +56,14 @@ impl Engine {
         let Some(commit) = self.active.get(trx) else {
             return Err(Cause::NoSuchTrx);
         };
-        if long > VALUE_BYTES {
+        if long > VALUE_LIMIT {
             return Err(Cause::ValueTooLong);
         }
         let Some(bucket) = self.bucket_of(table, key) else {
             return Err(Cause::NoSuchTable);
         };
         let count = commit.changes.len();
-        if count == CHANGES {
+        if count == CHANGE_LIMIT {
             return Err(Cause::UndoFull);
         }
         self.check_lock(trx, table, key)?;

@@ -2,21 +2,11 @@ mod table;
 
 use crate::tests::plain::table::Table;
 use clone_model::{Binlog, Change, Changes, Commit, Tables, Value, fold};
-use clone_plain::{Cause, EngineRefusal, Undone};
+use clone_plain::{
+    CHANGE_LIMIT, Cause, EngineRefusal, TABLE_LIMIT, TRANSACTION_LIMIT, Undone, VALUE_LIMIT,
+};
 use std::alloc::{AllocError, Global};
 use std::collections::BTreeMap;
-
-/// How many tables there may be.
-const TABLES: usize = 62;
-
-/// How many transactions may be open.
-const TRANSACTIONS: u32 = 64;
-
-/// How many changes a transaction may make.
-const CHANGES: usize = 160;
-
-/// How many bytes a value may have.
-const VALUE_BYTES: usize = 64;
 
 /// A donor without pages and without a log: the keys that have a place in each bucket of each table, the
 /// open transactions, the locks, and the commits. Each of its calls answers as the plain donor does.
@@ -55,7 +45,7 @@ impl Plain {
         if self.tables.contains_key(&table) {
             return Err(Cause::TableExists.into());
         }
-        if self.tables.len() == TABLES {
+        if self.tables.len() == TABLE_LIMIT {
             return Err(Cause::TooManyTables.into());
         }
         let made = Table::new(alloc, count)?;
@@ -67,7 +57,7 @@ impl Plain {
 
     /// Begins a transaction, and answers its number.
     pub fn begin(&mut self, alloc: Global, writer: u32, index: u64) -> Result<u32, EngineRefusal> {
-        for trx in 0..TRANSACTIONS {
+        for trx in 0..TRANSACTION_LIMIT {
             if !self.active.contains_key(&trx) {
                 let changes = Changes::new(alloc);
                 let commit = Commit {
@@ -121,13 +111,13 @@ impl Plain {
         let Some(commit) = self.active.get(&trx) else {
             return Err(Cause::NoSuchTrx);
         };
-        if length > VALUE_BYTES {
+        if length > VALUE_LIMIT {
             return Err(Cause::ValueTooLong);
         }
         let Some(buckets) = self.tables.get(&table) else {
             return Err(Cause::NoSuchTable);
         };
-        if commit.changes.len() == CHANGES {
+        if commit.changes.len() == CHANGE_LIMIT {
             return Err(Cause::UndoFull);
         }
         self.check_lock(trx, table, key)?;

@@ -1,6 +1,6 @@
 use Rattle.std.proofs.Common.{refl}
 use Rattle.clone_plain.specs.Calls.{PlainStep}
-use Rattle.clone_plain.specs.Donor.{Donor, no_donor}
+use Rattle.clone_plain.specs.Donor.{no_donor}
 use Rattle.clone_plain.specs.Headline.{all_events}
 use Rattle.clone_plain.specs.World.{opened}
 use Rattle.clone_plain.proofs.BinlogLemmas.{events_add, are_commits}

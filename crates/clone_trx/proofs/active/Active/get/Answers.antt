@@ -1,5 +1,5 @@
 use Rattle.std.proofs.Common.{◌∙◌, sym}
-use Rattle.clone_trx.proofs.Pops.{get_opened}
+use Rattle.clone_trx.proofs.LastChangeLemmas.{get_opened}
 use Rattle.clone_trx.proofs.active.Active.get.Goals as goal
 
 pub returns : goal.returns

@@ -4,8 +4,8 @@ use Rattle.std.specs.FinMap as finite
 use Rattle.std.specs.declared.option.Option.{Option}
 use Rattle.clone_model.specs.declared.change.Commit.{Commit}
 use Rattle.clone_plain.specs.Causes.{transaction_limit}
-use Rattle.clone_trx.proofs.Pops.{get_opened}
-use Rattle.clone_trx.proofs.Scans.{least_unused-found, find_skips, find_takes, find_ends}
+use Rattle.clone_trx.proofs.LastChangeLemmas.{get_opened}
+use Rattle.clone_trx.proofs.ScanLemmas.{least_unused-found, find_skips, find_takes, find_ends}
 use Rattle.clone_trx.proofs.active.Active.least_free.Goals as goal
 
 pub loop-trx-preserved : goal.loop-trx-preserved

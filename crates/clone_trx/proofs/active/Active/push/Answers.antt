@@ -3,7 +3,7 @@ use Rattle.std.specs.Prelude.{IsSome}
 use Rattle.std.proofs.lemmas.Result.{on_ok_weaker, on_err_weaker}
 use Rattle.clone_model.specs.declared.change.Commit.{Commit}
 use Rattle.std.specs.declared.option.Option.{Option}
-use Rattle.clone_trx.proofs.Pops.{get_opened, pushed, rewritten}
+use Rattle.clone_trx.proofs.LastChangeLemmas.{get_opened, pushed, rewritten}
 use Rattle.clone_trx.proofs.active.Active.push.Goals as goal
 
 pub unreachable-requires : goal.unreachable-requires

@@ -4,7 +4,7 @@ use Rattle.std.specs.Cmp.{nat_cmp_total}
 use Rattle.std.proofs.lemmas.Map.Lookups.{exact_unsigned}
 use Rattle.clone_plain.specs.Locked.{Opened}
 use Rattle.clone_base.proofs.OrderedMaps.{removed}
-use Rattle.clone_trx.proofs.Pops.{get_opened}
+use Rattle.clone_trx.proofs.LastChangeLemmas.{get_opened}
 use Rattle.clone_trx.proofs.active.Active.remove.Goals as goal
 
 pub returns-clause-was : goal.returns-clause-was

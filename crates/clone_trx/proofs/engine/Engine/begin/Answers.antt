@@ -14,9 +14,9 @@ use Rattle.clone_plain.specs.Effects.{begun}
 use Rattle.clone_trx.specs.Engine.{EngineState, donor_of}
 use Rattle.clone_trx.specs.Keys.{keys_in}
 use Rattle.clone_trx.specs.Written.{AppendsBegin}
-use Rattle.clone_trx.proofs.Begun as lem
-use Rattle.clone_trx.proofs.Scans.{least_free_is}
-use Rattle.clone_trx.proofs.Steps.{Keeps, begin_keeps}
+use Rattle.clone_trx.proofs.BeginLemmas as lem
+use Rattle.clone_trx.proofs.ScanLemmas.{least_free_is}
+use Rattle.clone_trx.proofs.KeptLemmas.{Keeps, begin_keeps}
 use Rattle.clone_trx.proofs.engine.Engine.begin.Goals as goal
 
 pub header_page-requires : goal.header_page-requires

@@ -12,8 +12,8 @@ use Rattle.clone_plain.specs.Causes.{no_trx}
 use Rattle.clone_plain.specs.Effects.{Commits}
 use Rattle.clone_trx.specs.Engine.{EngineState, donor_of}
 use Rattle.clone_trx.specs.Keys.{keys_in}
-use Rattle.clone_trx.proofs.CallCauses.{trx_there}
-use Rattle.clone_trx.proofs.Steps.{Keeps, commit_keeps}
+use Rattle.clone_trx.proofs.CauseLemmas.{trx_there}
+use Rattle.clone_trx.proofs.KeptLemmas.{Keeps, commit_keeps}
 use Rattle.clone_trx.proofs.WriteLemmas.{kept_writes, commit_written}
 use Rattle.clone_trx.proofs.engine.Engine.commit.Goals as goal
 

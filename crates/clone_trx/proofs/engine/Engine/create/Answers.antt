@@ -14,7 +14,7 @@ use Rattle.clone_trx.specs.Engine.{EngineState, donor_of}
 use Rattle.clone_trx.specs.Keys.{keys_in}
 use Rattle.clone_trx.specs.Sound.{IsKept}
 use Rattle.clone_trx.specs.Written.{AppendsCreate}
-use Rattle.clone_trx.proofs.Steps as steps
+use Rattle.clone_trx.proofs.KeptLemmas as steps
 use Rattle.clone_trx.proofs.WriteLemmas.{is_none, done, refused}
 use Rattle.clone_trx.proofs.engine.Engine.create.Goals as goal
 
@@ -53,7 +53,7 @@ keeps : (c : goal.Else-is_err) → steps.Keeps (donor_of c.insert.new.self c.sel
 keeps c =
     let none : finite.get c.self.inside.tables c.args.table ≡ None = ap (finite.get c.self.inside.tables) (sym c.get-table.ensures.value) ∙ sym c.get.ensures ∙ is_none c.get.result (sym c.is_some.ensures ∙ c.if-is_some.false) in
     let few = c.self.invariant.0.sound.tables.few in
-    let other : c.len-place.result ≢ 62 = c.if-place-eq-TABLES.false in
+    let other : c.len-place.result ≢ 62 = c.if-place-eq-TABLE_LIMIT.false in
     let room : finite.len c.self.inside.tables < 62 = omega (arith, few, other, c.len-place.ensures) in
     let made : donor_of c.insert.new.self c.self.inside.active c.self.inside.locks c.self.inside.binlog.commits ≡ created c.args.table c.args.buckets (before c) =
     λ i. donor_of ((c.in_ok-insert.ensures.ok ∙ (λ k. finite.insert c.self.inside.tables (c.get-table.ensures.value k) (c.get-buckets.ensures.value k))) i) c.self.inside.active c.self.inside.locks c.self.inside.binlog.commits in

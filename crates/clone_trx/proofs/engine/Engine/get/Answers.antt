@@ -1,7 +1,7 @@
 use Rattle.std.proofs.Common.{inl, sym, refl, None}
 use Rattle.std.specs.FinMap as finite
-use Rattle.clone_trx.proofs.CallCauses.{copied_there, stopped}
-use Rattle.clone_trx.proofs.Looking as lem
+use Rattle.clone_trx.proofs.CauseLemmas.{copied_there, stopped}
+use Rattle.clone_trx.proofs.LookUpLemmas as lem
 use Rattle.clone_trx.proofs.engine.Engine.get.Goals as goal
 
 pub page_at-requires : goal.page_at-requires

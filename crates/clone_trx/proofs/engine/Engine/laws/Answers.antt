@@ -10,8 +10,8 @@ use Rattle.clone_image.specs.Rows.{HasRows}
 use Rattle.clone_plain.specs.Causes.{transaction_limit}
 use Rattle.clone_plain.specs.Donor.{history}
 use Rattle.clone_trx.specs.Engine.{EngineState}
-use Rattle.clone_trx.proofs.Recovering.{recovered_rows}
-use Rattle.clone_trx.proofs.Steps.{known_records}
+use Rattle.clone_trx.proofs.RecoveredRowLemmas.{recovered_rows}
+use Rattle.clone_trx.proofs.KeptLemmas.{known_records}
 use Rattle.clone_trx.proofs.engine.Engine.laws.Goals as goal
 
 pub returns-clause-rows : goal.returns-clause-rows

@@ -21,9 +21,9 @@ use Rattle.clone_trx.specs.Keys.{keys_in, BindsKey}
 use Rattle.clone_trx.specs.Sound.{IsKept}
 use Rattle.clone_trx.specs.Places.{IsPlaceFor}
 use Rattle.clone_trx.specs.Written.{AppendsChange}
-use Rattle.clone_trx.proofs.CallCauses.{may_change}
-use Rattle.clone_trx.proofs.Changing.{IsMade, made_by, made_kept, made_change, made_text, made_keys, left_again}
-use Rattle.clone_trx.proofs.Looking.{kept_at}
+use Rattle.clone_trx.proofs.CauseLemmas.{may_change}
+use Rattle.clone_trx.proofs.ChangeLemmas.{IsMade, made_by, made_kept, made_change, made_text, made_keys, left_again}
+use Rattle.clone_trx.proofs.LookUpLemmas.{kept_at}
 use Rattle.clone_trx.proofs.WriteLemmas.{refused, done}
 use Rattle.clone_trx.proofs.engine.Engine.make_change.Goals as goal
 

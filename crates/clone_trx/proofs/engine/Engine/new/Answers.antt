@@ -11,7 +11,7 @@ use Rattle.clone_plain.specs.Donor.{Donor, no_donor}
 use Rattle.clone_trx.specs.Engine.{donor_of}
 use Rattle.clone_trx.specs.Keys.{keys_in}
 use Rattle.clone_trx.specs.Sound.{IsKept}
-use Rattle.clone_trx.proofs.Steps.{opening_keeps, opening_keys}
+use Rattle.clone_trx.proofs.KeptLemmas.{opening_keeps, opening_keys}
 use Rattle.clone_trx.proofs.engine.Engine.new.Goals as goal
 
 abbrev end : goal.After-new-4 → ℕ

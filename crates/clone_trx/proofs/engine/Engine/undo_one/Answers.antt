@@ -16,10 +16,10 @@ use Rattle.clone_plain.specs.Effects.{Leaves, TakesBack}
 use Rattle.clone_trx.specs.Engine.{EngineState, donor_of}
 use Rattle.clone_trx.specs.Keys.{keys_in}
 use Rattle.clone_trx.specs.Written.{AppendsTakingBack}
-use Rattle.clone_trx.proofs.CallCauses.{trx_there}
-use Rattle.clone_trx.proofs.LastRecords.{HasRecords}
-use Rattle.clone_trx.proofs.Steps.{Keeps, leave_keeps}
-use Rattle.clone_trx.proofs.Undoing.{Undone, has_last, taken_back, taking_back_keeps, appends_taking_back}
+use Rattle.clone_trx.proofs.CauseLemmas.{trx_there}
+use Rattle.clone_trx.proofs.LastRecordLemmas.{HasRecords}
+use Rattle.clone_trx.proofs.KeptLemmas.{Keeps, leave_keeps}
+use Rattle.clone_trx.proofs.EngineUndoLemmas.{Undone, has_last, taken_back, taking_back_keeps, appends_taking_back}
 use Rattle.clone_trx.proofs.WriteLemmas.{kept_writes}
 use Rattle.clone_trx.proofs.engine.Engine.undo_one.Goals as goal
 use Rattle.clone_trx.proofs.engine.Engine.undo_one.Goals.{After-release, After-pop}

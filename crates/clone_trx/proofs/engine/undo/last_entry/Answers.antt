@@ -1,6 +1,6 @@
 use Rattle.std.proofs.Common.{sym, ap, ◌∙◌, arith}
 use Rattle.std.specs.Option.{option_copied}
-use Rattle.clone_trx.proofs.LastRecords.{some, page_there, last_on, ends_with}
+use Rattle.clone_trx.proofs.LastRecordLemmas.{some, page_there, last_on, ends_with}
 use Rattle.clone_trx.proofs.engine.undo.last_entry.Goals as goal
 
 pub record_page-requires-clause-number : goal.record_page-requires-clause-number

@@ -6,7 +6,7 @@ use Rattle.clone_model.proofs.RowMaps.{row_cmp_total, row_cmp_exact}
 use Rattle.clone_plain.specs.Donor.{Locks}
 use Rattle.clone_trx.specs.Locked.{Lists, AreListed, holders_of}
 use Rattle.clone_base.proofs.OrderedMaps.{get_listed, inserted, inserted_same}
-use Rattle.clone_trx.proofs.Listings.{Row, same_listed, more_listed, list_at_item, none_some, own_row, no_row}
+use Rattle.clone_trx.proofs.LockListLemmas.{Row, same_listed, more_listed, list_at_item, none_some, own_row, no_row}
 use Rattle.clone_trx.proofs.locks.Locks.lock.Goals as goal
 
 pub returns-then-contains_key-clause-ok : goal.returns-then-contains_key-clause-ok

@@ -1,7 +1,7 @@
 use Rattle.std.proofs.Common.{◌≡◌, ap, arith, length}
 use Rattle.clone_plain.specs.Causes.{transaction_limit}
 use Rattle.clone_trx.specs.Locked.{holders_of}
-use Rattle.clone_trx.proofs.Listings.{none_listed}
+use Rattle.clone_trx.proofs.LockListLemmas.{none_listed}
 use Rattle.clone_trx.proofs.locks.Locks.new.Goals as goal
 
 pub invariant_of-result : goal.invariant_of-result

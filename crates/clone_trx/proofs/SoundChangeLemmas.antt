@@ -23,8 +23,8 @@ use Rattle.clone_trx.specs.Engine.{page_number}
 use Rattle.clone_trx.specs.Places.{told}
 use Rattle.clone_plain.proofs.ValueLemmas.{changes_of_active, own-set, others-set, own_value, changed_value, changed_value_other}
 use Rattle.clone_plain.proofs.LockLemmas.{changed_locked}
-use Rattle.clone_trx.proofs.Rows.{MayTake, KeepsBound, SetsSlot, bound-row_slot, rows_set, kept}
-use Rattle.clone_trx.proofs.Telling.{counted, in_range, tells_on, tells_push, own_slot, stands_open, stands_still}
+use Rattle.clone_trx.proofs.RowSlotLemmas.{MayTake, KeepsBound, SetsSlot, bound-row_slot, rows_set, kept}
+use Rattle.clone_trx.proofs.UndoRecordLemmas.{counted, in_range, tells_on, tells_push, own_slot, stands_open, stands_still}
 
 -- what an undo record tells is the value that it was made of
 pub told-value : (d : Donor) (table key place : ℕ) (value : Option (List ℕ)) → told_value (told d table key place value) ≡ value

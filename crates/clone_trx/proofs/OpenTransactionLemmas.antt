@@ -16,8 +16,8 @@ use Rattle.clone_plain.specs.Locked.{committed_rows, value_of}
 use Rattle.clone_base.proofs.MapEntries.{get-removed_same}
 use Rattle.clone_plain.proofs.ValueLemmas.{SameOthers, own-set, others-set, others-removed, begun_value, left_value}
 use Rattle.clone_plain.proofs.LockLemmas.{begun_locked, left_locked}
-use Rattle.clone_trx.proofs.Telling.{stands_still}
-use Rattle.clone_trx.proofs.Putting.{same_tables}
+use Rattle.clone_trx.proofs.UndoRecordLemmas.{stands_still}
+use Rattle.clone_trx.proofs.SoundChangeLemmas.{same_tables}
 
 -- the rows stay where each shows the value that it showed
 pub rows_still : (d after : Donor) (slot : Slots) → after.tables ≡ d.tables → ((table key : ℕ) → value_of after table key ≡ value_of d table key) → HoldsRows d slot → HoldsRows after slot

@@ -31,14 +31,14 @@ use Rattle.clone_trx.specs.Engine.{page_number}
 use Rattle.clone_trx.specs.Keys.{Keys, keys_in}
 use Rattle.clone_trx.specs.Places.{told}
 use Rattle.clone_trx.specs.Sound.{IsSound, IsKept, IsUndoSlot, StandsFor}
-use Rattle.clone_trx.proofs.Scans.{least_free_is}
-use Rattle.clone_trx.proofs.Rows.{keys_of, set_keys, same_keys}
-use Rattle.clone_trx.proofs.Telling.{own_slot, counted, in_range}
-use Rattle.clone_trx.proofs.Creating.{created_sound}
-use Rattle.clone_trx.proofs.Opening.{begun_sound, left_sound}
-use Rattle.clone_trx.proofs.Committing.{opened_sound, committed_sound}
-use Rattle.clone_trx.proofs.Putting.{Puts, e, slot, may_change, put_sound, same_count}
-use Rattle.clone_trx.proofs.TakingBack.{may_take, count_is, taken_sound}
+use Rattle.clone_trx.proofs.ScanLemmas.{least_free_is}
+use Rattle.clone_trx.proofs.RowSlotLemmas.{keys_of, set_keys, same_keys}
+use Rattle.clone_trx.proofs.UndoRecordLemmas.{own_slot, counted, in_range}
+use Rattle.clone_trx.proofs.TableLemmas.{created_sound}
+use Rattle.clone_trx.proofs.OpenTransactionLemmas.{begun_sound, left_sound}
+use Rattle.clone_trx.proofs.CommitLemmas.{opened_sound, committed_sound}
+use Rattle.clone_trx.proofs.SoundChangeLemmas.{Puts, e, slot, may_change, put_sound, same_count}
+use Rattle.clone_trx.proofs.TakingBackLemmas.{may_take, count_is, taken_sound}
 
 -- the pages keep what the donor is, and each place has the key that it had
 pub record Keeps (d : Donor) (image new : Image) : Type 0 where

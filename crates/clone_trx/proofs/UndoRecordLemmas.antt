@@ -9,7 +9,7 @@ use Rattle.clone_undo.specs.Slots.{UndoSlot}
 use Rattle.clone_plain.specs.Locked.{committed_rows}
 use Rattle.clone_plain.specs.Donor.{Donor}
 use Rattle.clone_trx.specs.Sound.{Slots, TellsChange, TellsChanges, IsUndoSlot, StandsFor}
-use Rattle.clone_trx.proofs.Rows.{KeepsBound}
+use Rattle.clone_trx.proofs.RowSlotLemmas.{KeepsBound}
 
 -- as many records as changes, each in its ranges
 pub counted : (slot : Slots) (rows : Rows) (cs : List Change) (es : List UndoEntry) → TellsChanges slot rows cs es → length es ≡ length cs

@@ -27,10 +27,10 @@ use Rattle.clone_trx.specs.Sound.{HoldsTables, HoldsRows, IsUndoSlot, StandsFor,
 use Rattle.clone_plain.specs.Locked.{committed_rows, IsLocked, value_of, changes_by}
 use Rattle.clone_plain.proofs.ValueLemmas.{SameOthers, after_changes-append, changes_of_active, own-set, others-set, value_is}
 use Rattle.clone_plain.proofs.LockLemmas.{taken_locked}
-use Rattle.clone_trx.proofs.Rows.{KeepsBound}
-use Rattle.clone_trx.proofs.Telling.{tells_on}
-use Rattle.clone_trx.proofs.Putting.{same_tables}
-use Rattle.clone_trx.proofs.TakingBack.{bound_there, taken_rows}
+use Rattle.clone_trx.proofs.RowSlotLemmas.{KeepsBound}
+use Rattle.clone_trx.proofs.UndoRecordLemmas.{tells_on}
+use Rattle.clone_trx.proofs.SoundChangeLemmas.{same_tables}
+use Rattle.clone_trx.proofs.TakingBackLemmas.{bound_there, taken_rows}
 
 abbrev changes_in : Option Commit → List Change
 changes_in o = option_map_or (λ (c : Commit). c.changes) o []

@@ -9,7 +9,7 @@ use Rattle.clone_undo.specs.Slots.{header_bytes}
 use Rattle.clone_undo.specs.Places.{header_page, header_place}
 use Rattle.clone_undo.specs.Changes.{records_of_begin}
 use Rattle.clone_image.specs.Image.{MakesNoPage}
-use Rattle.clone_trx.proofs.Sizes.{length-write, length-init, length-number}
+use Rattle.clone_trx.proofs.SpellingLengths.{length-write, length-init, length-number}
 
 -- the first of the records that are written
 abbrev pub first : Bool → ℕ

@@ -20,7 +20,7 @@ use Rattle.clone_trx.specs.Engine.{page_number}
 use Rattle.clone_trx.specs.Keys.{keys_in, may_hold, full_cause}
 use Rattle.clone_trx.specs.Places.{Places, held_value}
 use Rattle.clone_trx.specs.Sound.{IsBound, IsKept}
-use Rattle.clone_trx.proofs.Rows.{MayTake}
+use Rattle.clone_trx.proofs.RowSlotLemmas.{MayTake}
 
 -- A number of a range that passes a test, or none.
 

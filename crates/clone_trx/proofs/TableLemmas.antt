@@ -14,7 +14,7 @@ use Rattle.clone_plain.specs.Causes.{table_limit}
 use Rattle.clone_plain.specs.Donor.{Donor}
 use Rattle.clone_trx.specs.Sound.{HoldsTables, IsSound}
 use Rattle.clone_base.proofs.MapEntries.{get-set_same, get-set_other}
-use Rattle.clone_trx.proofs.Telling.{stands_still}
+use Rattle.clone_trx.proofs.UndoRecordLemmas.{stands_still}
 
 module _ (d : Donor) (c : Contents) (place table buckets : ℕ) (sound : IsSound d c) (none : finite.get d.tables table ≡ None) (end : place ≡ finite.len d.tables) (room : place < table_limit) (behind : table ≢ 0) (low : 1 ≤ table) (high : table ≤ 1000000) (some : 1 ≤ buckets) (few : buckets ≤ 1024) where
   abbrev after : Donor

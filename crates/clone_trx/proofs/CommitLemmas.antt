@@ -25,8 +25,8 @@ use Rattle.clone_plain.specs.Locked.{committed_rows, changes_by, value_of}
 use Rattle.clone_base.proofs.MapEntries.{get-removed_same}
 use Rattle.clone_plain.proofs.ValueLemmas.{after_changes_same, others-removed, committed_other, committed_value}
 use Rattle.clone_plain.proofs.LockLemmas.{committed_locked}
-use Rattle.clone_trx.proofs.Putting.{same_tables}
-use Rattle.clone_trx.proofs.Opening.{rows_still}
+use Rattle.clone_trx.proofs.SoundChangeLemmas.{same_tables}
+use Rattle.clone_trx.proofs.OpenTransactionLemmas.{rows_still}
 
 -- records go on telling where the rows of the changes were the same at first
 tells_rows : (slot : Slots) (rows now : Rows) (cs : List Change) (es : List UndoEntry) → ((i : ℕ) (x : Change) → slice_get cs i ≡ Some x → finite.get now (x.table, x.key) ≡ finite.get rows (x.table, x.key)) → TellsChanges slot rows cs es → TellsChanges slot now cs es

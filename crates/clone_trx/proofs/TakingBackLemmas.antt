@@ -21,9 +21,9 @@ use Rattle.clone_trx.specs.Sound.{IsBound, HoldsTables, HoldsRows, IsUndoSlot, S
 use Rattle.clone_plain.specs.Locked.{committed_rows, IsLocked, value_of}
 use Rattle.clone_plain.proofs.ValueLemmas.{own-set, others-set, taken_value, taken_value_other}
 use Rattle.clone_plain.proofs.LockLemmas.{taken_locked}
-use Rattle.clone_trx.proofs.Rows.{KeepsBound, SetsSlot, rows_set, kept}
-use Rattle.clone_trx.proofs.Telling.{counted, tells_on, tells_split, own_slot, stands_open, stands_still}
-use Rattle.clone_trx.proofs.Putting.{same_tables}
+use Rattle.clone_trx.proofs.RowSlotLemmas.{KeepsBound, SetsSlot, rows_set, kept}
+use Rattle.clone_trx.proofs.UndoRecordLemmas.{counted, tells_on, tells_split, own_slot, stands_open, stands_still}
+use Rattle.clone_trx.proofs.SoundChangeLemmas.{same_tables}
 
 -- the page of a slot that is bound is there
 pub bound_there : (d : Donor) (c : Contents) (e : UndoEntry) → HoldsTables d c.named c.size → HoldsRows d c.slot → IsBound c.slot e.table e.page e.slot e.key → HasPage c e.table e.page

@@ -34,11 +34,11 @@ use Rattle.clone_trx.specs.Sound.{IsKept}
 use Rattle.clone_trx.specs.Written.{Appends, AppendsChange}
 use Rattle.clone_trx.specs.Places.{IsPlaceFor, Places, told}
 use Rattle.clone_trx.specs.Opened.{front_of, TakesLast, Pops}
-use Rattle.clone_trx.proofs.CallCauses.{MayChange, may_change}
-use Rattle.clone_trx.proofs.KeyPlaces.{bucket_page, may_take, on_page, free_slot}
-use Rattle.clone_trx.proofs.Putting.{Puts}
-use Rattle.clone_trx.proofs.Rows.{MayTake}
-use Rattle.clone_trx.proofs.Steps.{PutKeeps, put_keeps}
+use Rattle.clone_trx.proofs.CauseLemmas.{MayChange, may_change}
+use Rattle.clone_trx.proofs.KeyPlaceLemmas.{bucket_page, may_take, on_page, free_slot}
+use Rattle.clone_trx.proofs.SoundChangeLemmas.{Puts}
+use Rattle.clone_trx.proofs.RowSlotLemmas.{MayTake}
+use Rattle.clone_trx.proofs.KeptLemmas.{PutKeeps, put_keeps}
 
 -- a value whose slot has 80 bytes is short
 pub short_value : (key : ℕ) (value : Option (List ℕ)) → length (rows.image key value) ≡ 80 → IfSome value (λ v. length v ≤ 64)

@@ -19,8 +19,8 @@ use Rattle.clone_trx.specs.Engine.{EngineState, page_number}
 use Rattle.clone_trx.specs.Keys.{full_cause}
 use Rattle.clone_trx.specs.Places.{Places, HasValue, IsPlaceFor, held_value, state_of_row}
 use Rattle.clone_trx.specs.Sound.{IsKept}
-use Rattle.clone_trx.proofs.CallCauses.{passed, stopped, trx_there, table_there, table_away, own_or_free, Starts, change_by_lock}
-use Rattle.clone_trx.proofs.KeyPlaces.{bucket_page, shown, held_is, not_full, is_full}
+use Rattle.clone_trx.proofs.CauseLemmas.{passed, stopped, trx_there, table_there, table_away, own_or_free, Starts, change_by_lock}
+use Rattle.clone_trx.proofs.KeyPlaceLemmas.{bucket_page, shown, held_is, not_full, is_full}
 
 -- What is known of the engine by its parts is known of what contracts see of it.
 

@@ -25,10 +25,10 @@ use Rattle.clone_trx.specs.Opened.{Pops, TakesLast, front_of}
 use Rattle.clone_trx.specs.Places.{told, state_of_row}
 use Rattle.clone_trx.specs.Sound.{IsKept, TellsChange, TellsChanges}
 use Rattle.clone_trx.specs.Written.{Appends, AppendsTakingBack}
-use Rattle.clone_trx.proofs.LastRecords.{HasRecords}
-use Rattle.clone_trx.proofs.Steps.{Keeps, take_back_keeps, in_use}
-use Rattle.clone_trx.proofs.TakingBack as taking
-use Rattle.clone_trx.proofs.Telling.{counted, tells_split}
+use Rattle.clone_trx.proofs.LastRecordLemmas.{HasRecords}
+use Rattle.clone_trx.proofs.KeptLemmas.{Keeps, take_back_keeps, in_use}
+use Rattle.clone_trx.proofs.TakingBackLemmas as taking
+use Rattle.clone_trx.proofs.UndoRecordLemmas.{counted, tells_split}
 
 -- a list that isn't empty has a last element
 last_apart : {X : Type 0} (xs : List X) (n : ℕ) → length xs ≡ n + 1 → (front : List X) × (last : X) × (xs ≡ front ++ last ∷ [])
