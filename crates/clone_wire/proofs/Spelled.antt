@@ -125,3 +125,6 @@ spells_back (Refused refusal) is =
     let frame = Refused refusal in
     let written = refused_back refusal is in
     spelled Answer 20 17 frame refl refl (answer 20 (omega arith) (omega arith)) (sized 20 17 (payload frame) frame (in_range 17 17 17 (omega arith) (omega arith)) refused_format written written)
+
+pub as_spelled : (frame : Frame) (text : List ℕ) → IsFrame frame → text ≡ spelling frame → Spells (side_of frame) text frame
+as_spelled frame text is e = subst (λ t. Spells (side_of frame) t frame) (sym e) (spells_back frame is)

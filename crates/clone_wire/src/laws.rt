@@ -19,8 +19,8 @@ pub fn one_answer()
     ensures { (side : Side) (bytes : List ℕ) (a b : Result (Frame × ℕ) WireRefusal) → IsBytes bytes → Decodes side bytes a → Decodes side bytes b → (a ≡ b) ⊎ ((a ≡ Err NoMemory) ⊎ (b ≡ Err NoMemory)) }
 {}
 
-/// What `encode` writes of a frame in its ranges is read as that frame, on the side that sends it. No
-/// other bytes are, and none on the other side; and what is read is in its ranges.
+/// The spelling of a frame in its ranges is read as that frame, on the side that sends it. No other bytes
+/// are, and none on the other side; and what is read is in its ranges.
 pub fn spells_back()
     ensures read { (frame : Frame) → IsFrame frame → Spells (side_of frame) (spelling frame) frame }
     ensures only { (side : Side) (bytes : List ℕ) (frame : Frame) → Spells side bytes frame → IsFrame frame × (side ≡ side_of frame) × (bytes ≡ spelling frame) }
