@@ -19,7 +19,7 @@ use Rattle.clone_wire.proofs.Choosing.{between_tells, between_again, between_sam
 use Rattle.clone_wire.proofs.Formats.{with_more, Filled, IsFormat, same_ok, err_is, not_both}
 
 -- bytes that are enough for a number begin it and no other
-enough : (width filler : ℕ) (bytes : List ℕ) → width ≤ length bytes → big_number width (take width bytes ++ replicate width filler) ≡ big_number width bytes
+pub enough : (width filler : ℕ) (bytes : List ℕ) → width ≤ length bytes → big_number width (take width bytes ++ replicate width filler) ≡ big_number width bytes
 enough width filler bytes long =
     let count : length (take width bytes) ≡ width = length-take width bytes ∙ omega arith in
     big_from-append width (take width bytes) (replicate width filler) (omega arith) ∙ big_from-take 0 width width bytes (omega arith)
@@ -53,7 +53,7 @@ plain n v bytes = cond (ltb (length bytes) n) (Err Short) (Ok (v bytes, drop n b
 plain_short : {A : Type 0} (n : ℕ) (v : List ℕ → A) (bytes : List ℕ) → length bytes < n → plain n v bytes ≡ Err Short
 plain_short n v bytes less = let test : ltb (length bytes) n ≡ true = lt-ltb _ _ less in rw test refl
 
-plain_ok : {A : Type 0} (n : ℕ) (v : List ℕ → A) (bytes : List ℕ) → n ≤ length bytes → plain n v bytes ≡ Ok (v bytes, drop n bytes)
+pub plain_ok : {A : Type 0} (n : ℕ) (v : List ℕ → A) (bytes : List ℕ) → n ≤ length bytes → plain n v bytes ≡ Ok (v bytes, drop n bytes)
 plain_ok n v bytes long = let test : ltb (length bytes) n ≡ false = le-ltb _ _ long in rw test refl
 
 plain_format : {A : Type 0} (place n : ℕ) (Good : A → Type 0) (v : List ℕ → A) → ((bytes more : List ℕ) → n ≤ length bytes → v (bytes ++ more) ≡ v bytes) → ((bytes : List ℕ) → IsBytes bytes → n ≤ length bytes → Good (v bytes))
@@ -113,7 +113,7 @@ pub record IsChoice (width : ℕ) (numbers : Numbers) : Type 0 where
   pub some : numbers.least ≤ numbers.most
   pub within : numbers.most < 256 ^ width
 
-which : (b : Bool) → (b ≡ true) ⊎ (b ≡ false)
+pub which : (b : Bool) → (b ≡ true) ⊎ (b ≡ false)
 which true = inl refl
 which false = inr refl
 
@@ -121,10 +121,10 @@ take_past : (bytes more : List ℕ) (m : ℕ) → take (length bytes + m) (bytes
 take_past [] more m = let e : 0 + m ≡ m = omega arith in rw e refl
 take_past (x ∷ bytes) more m = let e : suc (length bytes) + m ≡ suc (length bytes + m) = omega arith in rw e (ap (λ t. x ∷ t) (take_past bytes more m))
 
-abbrev low_of : ℕ → List ℕ → ℕ
+abbrev pub low_of : ℕ → List ℕ → ℕ
 low_of width bytes = big_number width (take width bytes ++ replicate width 0)
 
-abbrev high_of : ℕ → List ℕ → ℕ
+abbrev pub high_of : ℕ → List ℕ → ℕ
 high_of width bytes = big_number width (take width bytes ++ replicate width 255)
 
 -- what bytes that are too few begin
@@ -150,14 +150,14 @@ narrows width bytes more m count fit =
     let most = high_is width bytes m count in
     (omega arith, omega arith)
 
-abbrev begins : ℕ → Numbers → List ℕ → Bool
+abbrev pub begins : ℕ → Numbers → List ℕ → Bool
 begins width numbers bytes = has_between numbers (low_of width bytes) (high_of width bytes)
 
-in_one : (place width : ℕ) (numbers : Numbers) (bytes : List ℕ) → begins width numbers bytes ≡ true → number_in place width numbers bytes ≡ number_at width bytes
+pub in_one : (place width : ℕ) (numbers : Numbers) (bytes : List ℕ) → begins width numbers bytes ≡ true → number_in place width numbers bytes ≡ number_at width bytes
 unfolding number_in
 in_one place width numbers bytes e = rw e refl
 
-in_none : (place width : ℕ) (numbers : Numbers) (bytes : List ℕ) → begins width numbers bytes ≡ false → number_in place width numbers bytes ≡ Err (Garbled place)
+pub in_none : (place width : ℕ) (numbers : Numbers) (bytes : List ℕ) → begins width numbers bytes ≡ false → number_in place width numbers bytes ≡ Err (Garbled place)
 unfolding number_in
 in_none place width numbers bytes e = rw e refl
 
@@ -273,16 +273,16 @@ zero_ends count bits zero_last = let some = one-le-pow (count - 8 * (length bits
 bitmap_short : (place count n : ℕ) (bytes : List ℕ) → length bytes < n → bitmap_at place count n bytes ≡ Err Short
 bitmap_short place count n bytes less = ap (λ r. r >>= λ bits. cond (ends_at count bits.0) (Ok (record { count = count; bytes = bits.0 }, bits.1)) (Err (Garbled place))) (plain_short n (take n) bytes less)
 
-abbrev tested : ℕ → ℕ → List ℕ → List ℕ → Result (Bits × List ℕ) Fault
+abbrev pub tested : ℕ → ℕ → List ℕ → List ℕ → Result (Bits × List ℕ) Fault
 tested place count bits rest = cond (ends_at count bits) (Ok (record { count = count; bytes = bits }, rest)) (Err (Garbled place))
 
-bitmap_long : (place count n : ℕ) (bytes : List ℕ) → n ≤ length bytes → bitmap_at place count n bytes ≡ tested place count (take n bytes) (drop n bytes)
+pub bitmap_long : (place count n : ℕ) (bytes : List ℕ) → n ≤ length bytes → bitmap_at place count n bytes ≡ tested place count (take n bytes) (drop n bytes)
 bitmap_long place count n bytes long = ap (λ r. r >>= λ bits. tested place count bits.0 bits.1) (plain_ok n (take n) bytes long)
 
-tested_ok : (place count : ℕ) (bits rest : List ℕ) → ends_at count bits ≡ true → tested place count bits rest ≡ Ok (record { count = count; bytes = bits }, rest)
+pub tested_ok : (place count : ℕ) (bits rest : List ℕ) → ends_at count bits ≡ true → tested place count bits rest ≡ Ok (record { count = count; bytes = bits }, rest)
 tested_ok place count bits rest e = rw e refl
 
-tested_none : (place count : ℕ) (bits rest : List ℕ) → ends_at count bits ≡ false → tested place count bits rest ≡ Err (Garbled place)
+pub tested_none : (place count : ℕ) (bits rest : List ℕ) → ends_at count bits ≡ false → tested place count bits rest ≡ Err (Garbled place)
 tested_none place count bits rest e = rw e refl
 
 none_ends : (count : ℕ) → ends_at count [] ≡ true

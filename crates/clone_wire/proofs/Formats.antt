@@ -99,7 +99,7 @@ done_format {A = A} place Good x good = record {
 abbrev pub next : {A B : Type 0} → (List ℕ → Result (A × List ℕ) Fault) → (A → List ℕ → Result (B × List ℕ) Fault) → List ℕ → Result (B × List ℕ) Fault
 next f k bytes = f bytes >>= λ x. k x.0 x.1
 
-bind : {A B : Type 0} {r : Result A Fault} {x : Result A Fault} (f : A → Result B Fault) → r ≡ x → (r >>= f) ≡ (x >>= f)
+pub bind : {A B : Type 0} {r : Result A Fault} {x : Result A Fault} (f : A → Result B Fault) → r ≡ x → (r >>= f) ≡ (x >>= f)
 bind f e = ap (λ r. r >>= f) e
 
 -- what one value and then another take

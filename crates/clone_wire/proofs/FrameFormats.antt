@@ -24,32 +24,32 @@ Any x = Unit {0}
 
 -- ---- choices
 
-range_choice : (width least most : ℕ) → 1 ≤ width → least ≤ most → most < 256 ^ width → IsChoice width (between least most)
+pub range_choice : (width least most : ℕ) → 1 ≤ width → least ≤ most → most < 256 ^ width → IsChoice width (between least most)
 range_choice width least most wide some within = record { wide = wide; steps = omega arith; some = some; within = within }
 
-any_choice : (width : ℕ) (has : Bool) (most : ℕ) → 1 ≤ width → most < 256 ^ width → IsChoice width (any_if has most)
+pub any_choice : (width : ℕ) (has : Bool) (most : ℕ) → 1 ≤ width → most < 256 ^ width → IsChoice width (any_if has most)
 any_choice width true most wide within = range_choice width 0 most wide (omega arith) within
 any_choice width false most wide within = range_choice width 0 0 wide (omega arith) (omega arith)
 
-first_stage_choice : (b : Bool) → IsChoice 1 (between 1 (cond b 4 1))
+pub first_stage_choice : (b : Bool) → IsChoice 1 (between 1 (cond b 4 1))
 first_stage_choice true = range_choice 1 1 4 (omega arith) (omega arith) (omega arith)
 first_stage_choice false = range_choice 1 1 1 (omega arith) (omega arith) (omega arith)
 
-copy_choice : IsChoice 1 (between 1 3)
+pub copy_choice : IsChoice 1 (between 1 3)
 copy_choice = range_choice 1 1 3 (omega arith) (omega arith) (omega arith)
 
 either_choice : (width : ℕ) (b : Bool) (x y : Numbers) → IsChoice width x → IsChoice width y → IsChoice width (cond b x y)
 either_choice width true x y p q = p
 either_choice width false x y p q = q
 
-codes_choice : (side : Side) → IsChoice 1 (codes side)
+pub codes_choice : (side : Side) → IsChoice 1 (codes side)
 codes_choice Command = range_choice 1 1 6 (omega arith) (omega arith) (omega arith)
 codes_choice Answer = range_choice 1 16 20 (omega arith) (omega arith) (omega arith)
 
 one_length : (n : ℕ) → n < 256 ^ 4 → IsChoice 4 (only n)
 one_length n within = range_choice 4 n n (omega arith) (omega arith) within
 
-lengths_choice : (code : ℕ) → IsChoice 4 (lengths code)
+pub lengths_choice : (code : ℕ) → IsChoice 4 (lengths code)
 lengths_choice code =
     either_choice 4 (code == 1) _ _ (one_length 20 (omega arith)) (either_choice 4 (code == 2) _ _ (one_length 13 (omega arith))
     (either_choice 4 (code == 3) _ _ (range_choice 4 17 1048593 (omega arith) (omega arith) (omega arith)) (either_choice 4 (code == 4) _ _ (one_length 1 (omega arith))
@@ -90,7 +90,7 @@ list_format place m item items (suc n) =
 
 -- ---- frames
 
-init_format : IsFormat 5 Any 20 init_at
+pub init_format : IsFormat 5 Any 20 init_at
 unfolding init_at
 init_format =
     let format =
@@ -98,13 +98,13 @@ init_format =
     (λ compressed one. then_format (number_format 12 1) (λ tasks few. then_format (attempt_format 13) (λ attempt any. done_format 25 Any (Init attempt version size (compressed == 1) tasks) tt))))) in
     format
 
-attach_format : IsFormat 5 Any 13 attach_at
+pub attach_format : IsFormat 5 Any 13 attach_at
 unfolding attach_at
 attach_format =
     let format = then_format (attempt_format 5) (λ attempt any. then_format (number_format 17 1) (λ task fit. done_format 18 Any (Attach attempt task) tt)) in
     format
 
-reinit_format : (n : ℕ) → n ≤ 1048576 → IsFormat 5 Any (n + 17) (reinit_at n)
+pub reinit_format : (n : ℕ) → n ≤ 1048576 → IsFormat 5 Any (n + 17) (reinit_at n)
 unfolding reinit_at
 reinit_format n few =
     let format =
@@ -114,19 +114,19 @@ reinit_format n few =
     let size : 12 + (1 + (4 + (n + 0))) ≡ n + 17 = omega arith in
     subst (λ k. IsFormat 5 Any k (reinit_at n)) size format
 
-execute_format : IsFormat 5 Any 1 execute_at
+pub execute_format : IsFormat 5 Any 1 execute_at
 unfolding execute_at
 execute_format =
     let format = then_format (chosen_format 5 1 (between 1 3) copy_choice) (λ stage one. done_format 6 Any (Execute (copy_numbered stage)) tt) in
     format
 
-ack_format : IsFormat 5 Any 9 ack_at
+pub ack_format : IsFormat 5 Any 9 ack_at
 unfolding ack_at
 ack_format =
     let format = then_format (chosen_format 5 1 (between 1 3) copy_choice) (λ stage one. then_format (number_format 6 8) (λ floor fit. done_format 14 Any (Ack (copy_numbered stage) floor) tt)) in
     format
 
-stage_format : (n : ℕ) → n ≤ 63 → IsFormat 5 Any (n * 8 + 43) (stage_at n)
+pub stage_format : (n : ℕ) → n ≤ 63 → IsFormat 5 Any (n * 8 + 43) (stage_at n)
 unfolding stage_at
 stage_format n few =
     let format =
@@ -140,7 +140,7 @@ stage_format n few =
     let size : 12 + (1 + (4 + (8 + (8 + (8 + (2 + (n * 8 + 0))))))) ≡ n * 8 + 43 = omega arith in
     subst (λ k. IsFormat 5 Any k (stage_at n)) size format
 
-pages_format : (n : ℕ) → n ≤ 8 → IsFormat 5 Any (n * 4104 + 19) (pages_frame_at n)
+pub pages_format : (n : ℕ) → n ≤ 8 → IsFormat 5 Any (n * 4104 + 19) (pages_frame_at n)
 unfolding pages_frame_at
 pages_format n few =
     let format =
@@ -150,7 +150,7 @@ pages_format n few =
     let size : 12 + (1 + (4 + (1 + (1 + (n * 4104 + 0))))) ≡ n * 4104 + 19 = omega arith in
     subst (λ k. IsFormat 5 Any k (pages_frame_at n)) size format
 
-redo_format : (n : ℕ) → n ≤ 16384 → IsFormat 5 Any (n + 30) (redo_at n)
+pub redo_format : (n : ℕ) → n ≤ 16384 → IsFormat 5 Any (n + 30) (redo_at n)
 unfolding redo_at
 redo_format n few =
     let format =
@@ -160,13 +160,13 @@ redo_format n few =
     let size : 12 + (1 + (4 + (1 + (8 + (4 + (n + 0)))))) ≡ n + 30 = omega arith in
     subst (λ k. IsFormat 5 Any k (redo_at n)) size format
 
-end_format : IsFormat 5 Any 13 end_at
+pub end_format : IsFormat 5 Any 13 end_at
 unfolding end_at
 end_format =
     let format = then_format (attempt_format 5) (λ attempt any. then_format (chosen_format 17 1 (between 1 3) copy_choice) (λ stage one. done_format 18 Any (End attempt (copy_numbered stage)) tt)) in
     format
 
-refused_format : IsFormat 5 Any 17 refused_at
+pub refused_format : IsFormat 5 Any 17 refused_at
 unfolding refused_at
 refused_format =
     let format =
@@ -182,10 +182,10 @@ if_format : {f g : List ℕ → Result (Frame × List ℕ) Fault} (n : ℕ) (b :
 if_format n true p q = p refl
 if_format n false p q = q refl
 
-abbrev at_code : ℕ → ℕ → ℕ → Type 0
+abbrev pub at_code : ℕ → ℕ → ℕ → Type 0
 at_code k code long = IsOneOf (lengths k) long
 
-known : (code k long : ℕ) → (code == k) ≡ true → IsHead code long → at_code k code long
+pub known : (code k long : ℕ) → (code == k) ≡ true → IsHead code long → at_code k code long
 known code k long e head = subst (λ c. IsHead c long) (eqb-true code k e) head
 
 pub payload_format : (code long : ℕ) → IsHead code long → IsFormat 5 Any long (payload_at code long)

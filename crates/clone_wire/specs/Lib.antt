@@ -6,3 +6,4 @@ pub mod Frames
 pub mod Reading
 pub mod Answers
 pub mod Spelling
+pub mod Ranges

@@ -23,7 +23,7 @@ pub use bitmap::Bitmap;
 pub use encoding::encode;
 pub use fault::{HeadRefusal, WireRefusal};
 pub use frame::{Attempt, Frame, Side};
-pub use laws::{one_answer, one_spelling};
+pub use laws::{one_answer, one_spelling, spells_back};
 pub use pages::{PageAt, Pages};
 pub use reading::{decode, read_head};
 pub use redo::RedoBytes;

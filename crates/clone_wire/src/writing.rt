@@ -4,6 +4,9 @@ ghost use Rattle.byteorder.specs.Endian.{big_bytes};
 ghost use Rattle.clone_wire.specs.Frames.{stage_of};
 ghost use Rattle.clone_wire.specs.Spelling.{space_bytes, page_bytes, flag, payload, chunks_of, checkpoint_of, lsn_of, position_of, spaces_of};
 ghost use Rattle.clone_wire.specs.Stages.{copy_number, stage_number};
+ghost use Rattle.clone_bytes.specs.Fields.{IsBytes};
+ghost use Rattle.clone_wire.specs.Bitmaps.{IsBitmap};
+ghost use Rattle.clone_wire.specs.Ranges.{HasWidth, AllAre, IsAttempt, IsSpace, IsPageAt, IsFrame};
 ghost use Rattle.clone_wire.specs.Refusals.{refusal_number, refusal_first, refusal_second};
 
 use crate::{
@@ -13,10 +16,12 @@ use byteorder::{BigEndian, ByteOrder};
 use std::alloc::AllocError;
 
 // Each function appends fields to a text. Where memory runs out it may have appended some of them.
+// The clause `kept` tells what the types of the fields keep.
 
 fn push_u8(text: &mut Vec<u8>, n: u8) -> Result<(), AllocError>
     ensures text { OnOk result (text.new.items ≡ text.old.items ++ big_bytes 1 n) }
     ensures long { OnOk result (vec_len text.new ≤ vec_len text.old + 1) }
+    ensures kept { HasWidth 1 n }
 {
     text.extend_from_slice(&[n])
 }
@@ -24,6 +29,7 @@ fn push_u8(text: &mut Vec<u8>, n: u8) -> Result<(), AllocError>
 fn push_u16(text: &mut Vec<u8>, n: u16) -> Result<(), AllocError>
     ensures text { OnOk result (text.new.items ≡ text.old.items ++ big_bytes 2 n) }
     ensures long { OnOk result (vec_len text.new ≤ vec_len text.old + 2) }
+    ensures kept { HasWidth 2 n }
 {
     let mut bytes = [0; 2];
     BigEndian::write_u16(&mut bytes, n);
@@ -33,6 +39,7 @@ fn push_u16(text: &mut Vec<u8>, n: u16) -> Result<(), AllocError>
 fn push_u32(text: &mut Vec<u8>, n: u32) -> Result<(), AllocError>
     ensures text { OnOk result (text.new.items ≡ text.old.items ++ big_bytes 4 n) }
     ensures long { OnOk result (vec_len text.new ≤ vec_len text.old + 4) }
+    ensures kept { HasWidth 4 n }
 {
     let mut bytes = [0; 4];
     BigEndian::write_u32(&mut bytes, n);
@@ -42,6 +49,7 @@ fn push_u32(text: &mut Vec<u8>, n: u32) -> Result<(), AllocError>
 fn push_u64(text: &mut Vec<u8>, n: u64) -> Result<(), AllocError>
     ensures text { OnOk result (text.new.items ≡ text.old.items ++ big_bytes 8 n) }
     ensures long { OnOk result (vec_len text.new ≤ vec_len text.old + 8) }
+    ensures kept { HasWidth 8 n }
 {
     let mut bytes = [0; 8];
     BigEndian::write_u64(&mut bytes, n);
@@ -51,6 +59,7 @@ fn push_u64(text: &mut Vec<u8>, n: u64) -> Result<(), AllocError>
 fn push_bytes(text: &mut Vec<u8>, bytes: &[u8]) -> Result<(), AllocError>
     ensures text { OnOk result (text.new.items ≡ text.old.items ++ bytes.now) }
     ensures long { OnOk result (vec_len text.new ≤ vec_len text.old + length bytes.now) }
+    ensures kept { IsBytes bytes.now }
 {
     text.extend_from_slice(bytes)
 }
@@ -58,6 +67,7 @@ fn push_bytes(text: &mut Vec<u8>, bytes: &[u8]) -> Result<(), AllocError>
 fn push_attempt(text: &mut Vec<u8>, attempt: Attempt) -> Result<(), AllocError>
     ensures text { OnOk result (text.new.items ≡ text.old.items ++ big_bytes 8 attempt.session ++ big_bytes 4 attempt.incarnation) }
     ensures long { OnOk result (vec_len text.new ≤ vec_len text.old + 12) }
+    ensures kept { OnOk result (IsAttempt attempt) }
 {
     push_u64(text, attempt.session)?;
     push_u32(text, attempt.incarnation)
@@ -66,6 +76,7 @@ fn push_attempt(text: &mut Vec<u8>, attempt: Attempt) -> Result<(), AllocError>
 fn push_space(text: &mut Vec<u8>, space: &SpaceSize) -> Result<(), AllocError>
     ensures text { OnOk result (text.new.items ≡ text.old.items ++ big_bytes 4 space.now.space ++ big_bytes 4 space.now.pages) }
     ensures long { OnOk result (vec_len text.new ≤ vec_len text.old + 8) }
+    ensures kept { OnOk result (IsSpace space.now) }
 {
     push_u32(text, space.space)?;
     push_u32(text, space.pages)
@@ -74,6 +85,7 @@ fn push_space(text: &mut Vec<u8>, space: &SpaceSize) -> Result<(), AllocError>
 fn push_page(text: &mut Vec<u8>, page: &PageAt) -> Result<(), AllocError>
     ensures text { OnOk result (text.new.items ≡ text.old.items ++ big_bytes 4 page.now.space ++ big_bytes 4 page.now.number ++ page.now.page) }
     ensures long { OnOk result (vec_len text.new ≤ vec_len text.old + 4104) }
+    ensures kept { OnOk result (IsPageAt page.now) }
 {
     push_u32(text, page.space)?;
     push_u32(text, page.number)?;
@@ -90,6 +102,7 @@ fn push_init(
 ) -> Result<(), AllocError>
     ensures text { OnOk result (text.new.items ≡ text.old.items ++ big_bytes 2 version ++ big_bytes 4 page_size ++ big_bytes 1 (flag compressed) ++ big_bytes 1 tasks ++ big_bytes 8 attempt.session ++ big_bytes 4 attempt.incarnation) }
     ensures long { OnOk result (vec_len text.new ≤ vec_len text.old + 20) }
+    ensures kept { OnOk result (IsAttempt attempt × HasWidth 2 version × HasWidth 4 page_size × HasWidth 1 tasks) }
 {
     push_u16(text, version)?;
     push_u32(text, page_size)?;
@@ -106,6 +119,7 @@ fn push_reinit(
 ) -> Result<(), AllocError>
     ensures text { OnOk result (text.new.items ≡ text.old.items ++ big_bytes 8 attempt.session ++ big_bytes 4 attempt.incarnation ++ big_bytes 1 (copy_number stage) ++ big_bytes 4 finished.now.count ++ finished.now.bytes) }
     ensures long { OnOk result (vec_len text.new ≤ vec_len text.old + 1048593) }
+    ensures kept { OnOk result (IsAttempt attempt × IsBitmap finished.now.count finished.now.bytes × IsBytes finished.now.bytes) }
 {
     push_attempt(text, attempt)?;
     push_u8(text, stage.number())?;
@@ -116,6 +130,7 @@ fn push_reinit(
 fn push_staged(text: &mut Vec<u8>, attempt: Attempt, stage: CopyStage) -> Result<(), AllocError>
     ensures text { OnOk result (text.new.items ≡ text.old.items ++ big_bytes 8 attempt.session ++ big_bytes 4 attempt.incarnation ++ big_bytes 1 (copy_number stage)) }
     ensures long { OnOk result (vec_len text.new ≤ vec_len text.old + 13) }
+    ensures kept { OnOk result (IsAttempt attempt) }
 {
     push_attempt(text, attempt)?;
     push_u8(text, stage.number())
@@ -130,6 +145,7 @@ fn push_block(
 ) -> Result<(), AllocError>
     ensures text { OnOk result (text.new.items ≡ text.old.items ++ big_bytes 8 attempt.session ++ big_bytes 4 attempt.incarnation ++ big_bytes 1 stage ++ big_bytes 4 chunk ++ big_bytes 1 block) }
     ensures long { OnOk result (vec_len text.new ≤ vec_len text.old + 18) }
+    ensures kept { OnOk result (IsAttempt attempt × HasWidth 4 chunk × HasWidth 1 block) }
 {
     push_attempt(text, attempt)?;
     push_u8(text, stage)?;
@@ -140,6 +156,7 @@ fn push_block(
 fn push_refusal(text: &mut Vec<u8>, refusal: Refusal) -> Result<(), AllocError>
     ensures text { OnOk result (text.new.items ≡ text.old.items ++ big_bytes 1 (refusal_number refusal) ++ big_bytes 8 (refusal_first refusal) ++ big_bytes 8 (refusal_second refusal)) }
     ensures long { OnOk result (vec_len text.new ≤ vec_len text.old + 17) }
+    ensures kept { OnOk result (HasWidth 8 (refusal_first refusal) × HasWidth 8 (refusal_second refusal)) }
 {
     push_u8(text, refusal.number())?;
     push_u64(text, refusal.first())?;
@@ -149,6 +166,7 @@ fn push_refusal(text: &mut Vec<u8>, refusal: Refusal) -> Result<(), AllocError>
 fn push_spaces(text: &mut Vec<u8>, spaces: &[SpaceSize]) -> Result<(), AllocError>
     ensures text { OnOk result (text.new.items ≡ text.old.items ++ flat_map space_bytes spaces.now) }
     ensures long { OnOk result (vec_len text.new ≤ vec_len text.old + 8 * length spaces.now) }
+    ensures kept { OnOk result (AllAre IsSpace spaces.now) }
 {
     for space in spaces {
         push_space(text, space)?;
@@ -159,6 +177,7 @@ fn push_spaces(text: &mut Vec<u8>, spaces: &[SpaceSize]) -> Result<(), AllocErro
 fn push_pages(text: &mut Vec<u8>, pages: &[PageAt]) -> Result<(), AllocError>
     ensures text { OnOk result (text.new.items ≡ text.old.items ++ flat_map page_bytes pages.now) }
     ensures long { OnOk result (vec_len text.new ≤ vec_len text.old + 4104 * length pages.now) }
+    ensures kept { OnOk result (AllAre IsPageAt pages.now) }
 {
     for page in pages {
         push_page(text, page)?;
@@ -169,6 +188,7 @@ fn push_pages(text: &mut Vec<u8>, pages: &[PageAt]) -> Result<(), AllocError>
 fn push_counted_pages(text: &mut Vec<u8>, pages: &Pages) -> Result<(), AllocError>
     ensures text { OnOk result (text.new.items ≡ text.old.items ++ big_bytes 1 (length pages.now) ++ flat_map page_bytes pages.now) }
     ensures long { OnOk result (vec_len text.new ≤ vec_len text.old + 32833) }
+    ensures kept { OnOk result (AllAre IsPageAt pages.now × (1 ≤ length pages.now) × (length pages.now ≤ 8)) }
 {
     push_u8(text, pages.as_slice().len() as u8)?;
     push_pages(text, pages.as_slice())
@@ -177,6 +197,7 @@ fn push_counted_pages(text: &mut Vec<u8>, pages: &Pages) -> Result<(), AllocErro
 fn push_redo(text: &mut Vec<u8>, from: u64, bytes: &RedoBytes) -> Result<(), AllocError>
     ensures text { OnOk result (text.new.items ≡ text.old.items ++ big_bytes 8 from ++ big_bytes 4 (length bytes.now) ++ bytes.now) }
     ensures long { OnOk result (vec_len text.new ≤ vec_len text.old + 16396) }
+    ensures kept { OnOk result (HasWidth 8 from × IsBytes bytes.now × (1 ≤ length bytes.now) × (length bytes.now ≤ 16384)) }
 {
     push_u64(text, from)?;
     push_u32(text, bytes.as_slice().len() as u32)?;
@@ -187,6 +208,7 @@ fn push_redo(text: &mut Vec<u8>, from: u64, bytes: &RedoBytes) -> Result<(), All
 fn push_plan(text: &mut Vec<u8>, plan: &StagePlan) -> Result<(), AllocError>
     ensures text { OnOk result (text.new.items ≡ text.old.items ++ big_bytes 1 (stage_number (stage_of plan.now)) ++ big_bytes 4 (chunks_of plan.now) ++ big_bytes 8 (checkpoint_of plan.now) ++ big_bytes 8 (lsn_of plan.now) ++ big_bytes 8 (position_of plan.now) ++ big_bytes 2 (length (spaces_of plan.now)) ++ flat_map space_bytes (spaces_of plan.now)) }
     ensures long { OnOk result (vec_len text.new ≤ vec_len text.old + 535) }
+    ensures kept { OnOk result (HasWidth 4 (chunks_of plan.now) × HasWidth 8 (checkpoint_of plan.now) × HasWidth 8 (lsn_of plan.now) × HasWidth 8 (position_of plan.now) × AllAre IsSpace (spaces_of plan.now) × (length (spaces_of plan.now) ≤ 63)) }
 {
     push_u8(text, plan.stage().number())?;
     push_u32(text, plan.chunks())?;
@@ -200,6 +222,7 @@ fn push_plan(text: &mut Vec<u8>, plan: &StagePlan) -> Result<(), AllocError>
 pub(crate) fn push_payload(text: &mut Vec<u8>, frame: &Frame) -> Result<(), AllocError>
     ensures text { OnOk result (text.new.items ≡ text.old.items ++ payload frame.now) }
     ensures long { OnOk result (vec_len text.new ≤ vec_len text.old + 1048593) }
+    ensures kept { OnOk result (IsFrame frame.now) }
 {
     match frame {
         Frame::Init {
