@@ -9,18 +9,12 @@ use Rattle.clone_mtr.specs.Reading.{item_at}
 use Rattle.clone_mtr.specs.Spelling.{record_spelling}
 use Rattle.clone_bytes.specs.Fields.{IsBytes}
 use Rattle.clone_bytes.proofs.Numbers.{IsBytes-take}
-use Rattle.clone_mtr.proofs.Items.{Found, answer, item_takes, item_ends, item_again, end_again}
+use Rattle.clone_mtr.proofs.Items.{Found, not_found, same_refusal, item_takes, item_ends, item_again, end_again}
 use Rattle.clone_mtr.proofs.Fronts.{item_grown}
 
 nothing_yet : (at : ℕ) → item_at at [] ≡ Err Short
 unfolding item_at
 nothing_yet at = refl
-
-same_refusal : {d e : DecodeRefusal} → ◌≡◌ {A = Result Found DecodeRefusal} (Err d) (Err e) → d ≡ e
-same_refusal h = cc
-
-not_found : {x : Found} {e : DecodeRefusal} → answer x ≡ Err e → ⊥
-not_found h = cc
 
 short_or_other : (d : DecodeRefusal) → (Short ≡ d) ⊎ (Short ≡ d → ⊥)
 short_or_other Short = inl refl

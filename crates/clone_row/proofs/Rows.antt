@@ -201,14 +201,3 @@ slots-initialised space number lsn kind =
 
 pub slots-zero : slots zero_page ≡ replicate 50 unused
 slots-zero = all_unused zero_page slot-zero
-
--- A slot as it is put together.
-
-joined : {a b c d : List ℕ} → a ≡ b → c ≡ d → a ++ c ≡ b ++ d
-joined p q = λ i. p i ++ q i
-
--- a value behind a head, with zero bytes behind it
-pub padded : (front value : List ℕ) → length front ≡ 16 → put_at 16 value (front ++ replicate 64 0) ≡ front ++ (value ++ replicate (64 - length value) 0)
-padded front value long =
-    joined (take_at front (replicate 64 0) 16 long)
-    (ap (λ (zs : List ℕ). value ++ zs) (sym (drop-drop (length value) 16 (front ++ replicate 64 0)) ∙ ap (drop (length value)) (drop_at front (replicate 64 0) 16 long) ∙ drop-replicate (length value) 64 0))
