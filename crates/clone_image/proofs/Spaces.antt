@@ -11,7 +11,7 @@ use Rattle.std.specs.Map.{lookup}
 use Rattle.std.proofs.lemmas.Map.Lookups.{exact_unsigned}
 use Rattle.clone_base.proofs.OrderedMaps.{inserted_same}
 use Rattle.clone_page.specs.Header.{zero_page}
-use Rattle.clone_image.specs.Image.{Image, with_pages, with_edit, extended}
+use Rattle.clone_image.specs.Image.{with_pages, with_edit, extended}
 use Rattle.clone_image.specs.Spaces.{pages_of_spaces}
 
 abbrev pub Kept : Type 0

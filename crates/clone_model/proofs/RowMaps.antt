@@ -1,14 +1,12 @@
 use Rattle.std.proofs.Common.{◌≡◌, ℕ, List, [], ◌∷◌, refl, sym, ap, ◌∙◌, cond, Some, None, Bool, true, false, option_and_then, is_some, IsSome, subst, ◌++◌, ◌+◌, ◌<◌, length, get_or, take, drop}
 use Rattle.std.proofs.lemmas.List.{drop_more, take_more}
-use Rattle.std.specs.declared.cmp.Ordering.{Ordering}
-use Rattle.std.specs.declared.cmp.Ordering.TheVariants.{Less, Equal, Greater}
 use Rattle.clone_model.specs.declared.change.Change.{Change}
 use Rattle.clone_model.specs.Room.{HasRoom, HasRoomFor}
 use Rattle.std.specs.declared.option.Option.{Option}
 use Rattle.std.specs.FinMap as map
 use Rattle.std.specs.FinMap.{IsAntisymmetric, same_map, get-empty, get-insert, get-remove}
 use Rattle.std.specs.Cmp.{IsTotalOrder, then_total, on_total, nat_cmp_total, eq_by_cmp_equiv}
-use Rattle.std.specs.Ordering.{nat_cmp, eq_by_cmp, is_eq}
+use Rattle.std.specs.Ordering.{nat_cmp, eq_by_cmp}
 use Rattle.std.specs.BTreeMap.{BTreeMap, get, Updates, is_at}
 use Rattle.std.proofs.lemmas.Map.Lookups.{exact_pairs, exact_unsigned}
 use Rattle.std.specs.Map.{lookup}

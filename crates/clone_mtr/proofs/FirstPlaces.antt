@@ -1,8 +1,7 @@
 -- A refusal other than `Short` comes with one byte: before it more bytes would help, and with it none do.
-use Rattle.std.proofs.Common.{◌≡◌, ℕ, zero, suc, ◌+◌, ◌<◌, ◌≤◌, ◌⊎◌, List, [], ◌∷◌, ◌++◌, length, take, drop, None, Some, Ok, Err, Result, refl, sym, ap, subst, ◌∙◌, append_assoc, add-one, arith, inl, inr}
+use Rattle.std.proofs.Common.{◌≡◌, ℕ, zero, suc, ◌+◌, ◌<◌, ◌≤◌, ◌⊎◌, List, [], ◌++◌, length, take, drop, None, Some, Ok, Err, Result, refl, sym, ap, ◌∙◌, append_assoc, add-one, arith, inl, inr}
 use Rattle.std.proofs.Math.Seq.{take-add}
 use Rattle.std.proofs.lemmas.List.{take_all}
-use Rattle.clone_mtr.specs.declared.record.Record.{Record}
 use Rattle.clone_mtr.specs.declared.refusal.DecodeRefusal.{DecodeRefusal}
 use Rattle.clone_mtr.specs.declared.refusal.DecodeRefusal.TheVariants.{Short, BadKind, OutOfPage, TooLong, NoMemory}
 use Rattle.clone_mtr.specs.Reading.{item_at}
