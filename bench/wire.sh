@@ -1,7 +1,9 @@
 #!/bin/sh
 # Times how 20,000 frames of eight pages are written and read, each beside a plain copy of as many bytes,
-# and how 1,000,000 chunks are claimed and finished, in maps of 10,000 and in one. Prints for each way of a frame the seconds,
-# the megabytes a second, and how many times the copy's time it takes; for chunks the nanoseconds a claim.
+# and how 20,000,000 chunks are claimed and finished, in a map of 10,000 again and again and in one of
+# 1,000,000. Prints for each way of a frame the seconds, the megabytes a second, and how many times the copy's
+# time it takes; for chunks the nanoseconds a claim, and how many times those of the small map. A time is the
+# processor's, the least of nine runs that are taken in turn, less that of a run that makes the frame alone.
 # The program that is timed is built in a copy of the crates, since it is no part of what is proved.
 
 top=$(cd "$(dirname "$0")/.." && pwd) || exit 1
@@ -31,8 +33,9 @@ fn main(rt: HostRuntime) -> ExitCode {
         Some(word) if word.as_str() == "copy" => copies(alloc),
         Some(word) if word.as_str() == "encode" => encodes(alloc),
         Some(word) if word.as_str() == "decode" => decodes(alloc),
-        Some(word) if word.as_str() == "few" => claims(alloc, 10_000, 100),
-        Some(word) if word.as_str() == "many" => claims(alloc, 1_000_000, 1),
+        Some(word) if word.as_str() == "few" => claims(alloc, 10_000, 2_000),
+        Some(word) if word.as_str() == "many" => claims(alloc, 1_000_000, 20),
+        Some(word) if word.as_str() == "start" => starts(alloc),
         _other => None,
     };
     match done {
@@ -57,6 +60,11 @@ fn block(alloc: Global) -> Option<Frame> {
         block: 0,
         pages: Pages::new(list),
     })
+}
+
+fn starts(alloc: Global) -> Option<u64> {
+    let text = encode(alloc, &block(alloc)?).ok()?;
+    Some(text.len() as u64)
 }
 
 fn copies(alloc: Global) -> Option<u64> {
@@ -89,10 +97,11 @@ fn decodes(alloc: Global) -> Option<u64> {
     Some(bytes)
 }
 
-fn claims(alloc: Global, chunks: u32, maps: u32) -> Option<u64> {
+fn claims(alloc: Global, chunks: u32, rounds: u32) -> Option<u64> {
     let mut finished: u64 = 0;
-    for _ in 0..maps {
-        let mut map = ChunkMap::new(alloc, chunks).ok()?;
+    let mut map = ChunkMap::new(alloc, chunks).ok()?;
+    for _ in 0..rounds {
+        map.reset_to(&[]);
         for _ in 0..chunks {
             let chunk = map.claim(0)?;
             if map.finish(0, chunk) {
@@ -100,31 +109,32 @@ fn claims(alloc: Global, chunks: u32, maps: u32) -> Option<u64> {
             }
         }
     }
-    Some(finished)
+    if finished == chunks as u64 * rounds as u64 { Some(finished) } else { None }
 }
 PROGRAM
 
 python3 - "$copy/crates/clone_bench/out/clone_bench" <<'PYTHON'
-import subprocess
+import os
 import sys
-import time
+
+WAYS = ("start", "copy", "encode", "decode", "few", "many")
+CLAIMS = 20_000_000
 
 def seconds(way):
-    best = None
-    for _ in range(5):
-        begun = time.monotonic()
-        subprocess.run([sys.argv[1], way], check=True)
-        took = time.monotonic() - begun
-        best = took if best is None else min(best, took)
-    return best
+    child = os.spawnv(os.P_NOWAIT, sys.argv[1], [sys.argv[1], way])
+    _, status, used = os.wait4(child, 0)
+    if status != 0:
+        sys.exit(f"{way} ended with {status}")
+    return used.ru_utime + used.ru_stime
 
+rounds = [{way: seconds(way) for way in WAYS} for _ in range(9)]
+least = {way: min(times[way] for times in rounds) for way in WAYS}
+took = {way: least[way] - least["start"] for way in WAYS}
 megabytes = 20_000 * (5 + 19 + 8 * 4_104) / 1e6
-copy = seconds("copy")
 print(f"{'way':>8} {'seconds':>10} {'MB/second':>10} {'times the copy':>15}")
 for way in ("copy", "encode", "decode"):
-    took = copy if way == "copy" else seconds(way)
-    print(f"{way:>8} {took:>10.3f} {megabytes / took:>10.0f} {took / copy:>15.2f}")
-print(f"{'chunks':>8} {'nanoseconds a claim':>20}")
+    print(f"{way:>8} {took[way]:>10.3f} {megabytes / took[way]:>10.0f} {took[way] / took['copy']:>15.2f}")
+print(f"{'chunks':>9} {'nanoseconds a claim':>20} {'times the few':>15}")
 for way, chunks in (("few", 10_000), ("many", 1_000_000)):
-    print(f"{chunks:>8} {seconds(way) / 1_000_000 * 1e9:>20.1f}")
+    print(f"{chunks:>9} {took[way] / CLAIMS * 1e9:>20.2f} {took[way] / took['few']:>15.2f}")
 PYTHON

@@ -1,5 +1,6 @@
 -- Chunks, from chunk 0 on, each with its state.
-use Rattle.std.specs.Prelude.{ℕ, ◌≡◌, ◌≢◌, ◌<◌, ◌≤◌, ◌^◌, ◌/◌, ◌%◌, ◌==◌, Bool, true, false, List, Some, length, count_by, slice_get, slice_index, if◌then◌else◌}
+use Rattle.std.specs.Prelude.{ℕ, ◌≡◌, ◌≢◌, ◌<◌, ◌≤◌, ◌^◌, ◌/◌, ◌%◌, ◌==◌, Bool, true, false}
+use Rattle.std.specs.Prelude.{List, Some, length, count_by, slice_get, slice_index, if◌then◌else◌}
 use Rattle.std.specs.Int.{bit_at}
 use Rattle.clone_chunk.specs.declared.chunk.Chunk.{Chunk}
 use Rattle.clone_chunk.specs.declared.chunk.Chunk.TheVariants.{Free, Claimed, Finished}
@@ -32,14 +33,16 @@ is_unfinished Finished = false
 abbrev pub left_of : List Chunk → ℕ
 left_of states = count_by is_unfinished states
 
--- Bit i stands in byte i / 8 with the value 2 ^ (i mod 8). Past the end of the bitmap no bit is set.
+-- Bit i stands in byte i / 8 with the value 2 ^ (i mod 8). Past the end of the bitmap no bit is
+-- set.
 abbrev pub has_bit : List ℕ → ℕ → Bool
 has_bit bitmap i = bit_at (slice_index bitmap (i / 8)) (i % 8) == 1
 
 -- as many chunks as before, finished where the bitmap has their bit and free elsewhere
 pub record IsMarked (bitmap : List ℕ) (old new : List Chunk) : Type 0 where
   pub count : length new ≡ length old
-  pub each : (i : ℕ) → i < length old → slice_get new i ≡ Some (if has_bit bitmap i then Finished else Free)
+  pub each : (i : ℕ) → i < length old →
+      slice_get new i ≡ Some (if has_bit bitmap i then Finished else Free)
 
 -- what a map keeps: no chunk below the place that the search has come to is free
 pub record IsMap (states : List Chunk) (searched left : ℕ) : Type 0 where

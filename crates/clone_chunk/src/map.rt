@@ -1,14 +1,17 @@
-ghost use Rattle.std.specs.Prelude.{◌≡◌, ◌↔◌, ◌<◌, ◌≤◌, ◌^◌, ℕ, Some, length, replicate, position, slice_get, slice_set, IsTrue, IsNone, IfSome, IfNone, IfOk, OnOk, OnErr, All, EachIndex};
+ghost use Rattle.std.specs.Prelude.{◌≡◌, ◌↔◌, ◌<◌, ◌≤◌, ◌^◌, Some, length, replicate, position};
+ghost use Rattle.std.specs.Prelude.{slice_get, slice_set, All};
+ghost use Rattle.std.specs.Prelude.{IsTrue, IsNone, IfSome, IfNone, IfOk, OnOk, OnErr};
 ghost use Rattle.std.specs.Bool.{OnTrue, OnFalse};
-ghost use Rattle.clone_chunk.specs.Chunks.{IsTaken, IsLeastFree, left_of, has_bit, is_free, IsMarked};
+ghost use Rattle.clone_chunk.specs.Chunks.{IsTaken, IsLeastFree, is_free};
+ghost use Rattle.clone_chunk.specs.Chunks.{left_of, has_bit, IsMarked};
 
 use crate::Chunk;
 use std::alloc::{AllocError, Global};
 use std::marker::Model;
 
-// No chunk below `searched` is free. As a chunk that isn't free becomes free by a reset or a restart
-// alone, and the search begins at the front again after these, all claims together look at each chunk
-// once. The room is the capacity of the list.
+// No chunk below `searched` is free. As a chunk that isn't free becomes free by a reset or a
+// restart alone, and the search begins at the front again after these, all claims together look at
+// each chunk once. The room is the capacity of the list.
 
 /// The chunks of a stage. Contracts see it as the states of the chunks, from chunk 0 on, and as the
 /// number of chunks that there is room for.
@@ -57,7 +60,8 @@ impl ChunkMap {
     pub fn claim(&mut self, task: u8) -> Option<u32>
         ensures none { IsNone result ↔ All IsTaken self.old.states }
         ensures least { IfSome result (IsLeastFree self.old.states) }
-        ensures claimed { IfSome result (λ n. self.new.states ≡ slice_set self.old.states n (Chunk.Claimed task)) }
+        ensures claimed { IfSome result
+            (λ n. self.new.states ≡ slice_set self.old.states n (Chunk.Claimed task)) }
         ensures unchanged { IfNone result (self.new.states ≡ self.old.states) }
         ensures room { self.new.room ≡ self.old.room }
     {
@@ -71,11 +75,13 @@ impl ChunkMap {
         Some(chunk as u32)
     }
 
-    /// Finishes a chunk. The answer is false exactly where this task hasn't claimed it or has finished
-    /// it already; nothing has changed then. No memory is taken.
+    /// Finishes a chunk. The answer is false exactly where this task hasn't claimed it or has
+    /// finished it already; nothing has changed then. No memory is taken.
     pub fn finish(&mut self, task: u8, chunk: u32) -> bool
-        ensures answer { IsTrue result ↔ (slice_get self.old.states chunk ≡ Some (Chunk.Claimed task)) }
-        ensures done { OnTrue result (self.new.states ≡ slice_set self.old.states chunk Chunk.Finished) }
+        ensures answer { IsTrue result ↔
+            (slice_get self.old.states chunk ≡ Some (Chunk.Claimed task)) }
+        ensures done { OnTrue result
+            (self.new.states ≡ slice_set self.old.states chunk Chunk.Finished) }
         ensures unchanged { OnFalse result (self.new.states ≡ self.old.states) }
         ensures room { self.new.room ≡ self.old.room }
     {
@@ -101,8 +107,9 @@ impl ChunkMap {
         self.left
     }
 
-    /// Makes a chunk finished exactly where the bitmap has its bit, and free elsewhere. Bit i stands in
-    /// byte i/8 with the value 2^(i mod 8); past the bitmap's end no bit is set. No memory is taken.
+    /// Makes a chunk finished exactly where the bitmap has its bit, and free elsewhere. Bit i
+    /// stands in byte i/8 with the value 2^(i mod 8); past the bitmap's end no bit is set. No
+    /// memory is taken.
     pub fn reset_to(&mut self, bitmap: &[u8])
         ensures states { IsMarked bitmap.now self.old.states self.new.states }
         ensures room { self.new.room ≡ self.old.room }
@@ -112,8 +119,8 @@ impl ChunkMap {
         self.left = unfinished(&self.states);
     }
 
-    /// Makes room for so many chunks at least, and changes nothing else. The error is want of memory,
-    /// and the map is as before.
+    /// Makes room for so many chunks at least, and changes nothing else. The error is want of
+    /// memory, and the map is as before.
     pub fn reserve(&mut self, chunks: u32) -> Result<(), AllocError>
         ensures states { self.new.states ≡ self.old.states }
         ensures room { OnOk result (chunks ≤ self.new.room) }

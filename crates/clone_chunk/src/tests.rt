@@ -54,3 +54,20 @@ fn restarts(rt: HostRuntime) -> Result<(), Fail> {
     assert_eq!(rt; map.claim(0), Some(0));
     Ok(())
 }
+
+#[test]
+fn stages_by_number(rt: HostRuntime) {
+    let stages = [
+        Stage::FileCopy,
+        Stage::PageCopy,
+        Stage::RedoCopy,
+        Stage::Done,
+    ];
+    for (number, stage) in (1..).zip(stages) {
+        assert_eq!(rt; stage.number(), number);
+        assert_eq!(rt; Stage::of_number(number), Some(stage));
+    }
+    for number in [0, 5, 255] {
+        assert_eq!(rt; Stage::of_number(number), None);
+    }
+}

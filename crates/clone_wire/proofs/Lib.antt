@@ -12,3 +12,5 @@ pub mod Spelled
 pub mod FieldTexts
 pub mod FrameTexts
 pub mod SpelledOnly
+mod SetBits
+mod Onward

@@ -1,5 +1,6 @@
 -- What the decoder answers.
-use Rattle.std.specs.Prelude.{ℕ, ◌≡◌, ◌⊎◌, ◌<◌, ◌≤◌, List, [], ◌++◌, length, take, drop, Result, Ok, Err, ⊤}
+use Rattle.std.specs.Prelude.{ℕ, ◌≡◌, ◌⊎◌, ◌<◌, ◌≤◌, List, [], ◌++◌, length, take, drop, Result, Ok}
+use Rattle.std.specs.Prelude.{Err, ⊤}
 use Rattle.clone_bytes.specs.Fields.{IsBytes}
 use Rattle.clone_wire.specs.declared.frame.Side.{Side}
 use Rattle.clone_wire.specs.declared.frame.Frame.{Frame}
@@ -18,7 +19,8 @@ pub record Spells (side : Side) (bytes : List ℕ) (frame : Frame) : Type 0 wher
 
 -- no front of the bytes is the spelling of a frame
 abbrev pub BeginsNone : Side → List ℕ → Type 0
-BeginsNone side bytes = (front rest : List ℕ) (frame : Frame) → bytes ≡ front ++ rest → Spells side front frame → ⊥
+BeginsNone side bytes =
+    (front rest : List ℕ) (frame : Frame) → bytes ≡ front ++ rest → Spells side front frame → ⊥
 
 -- further bytes, one or more, make the spelling of a frame, which has so many bytes
 pub record IsFront (side : Side) (bytes : List ℕ) (long : ℕ) : Type 0 where
@@ -32,17 +34,23 @@ pub record IsFront (side : Side) (bytes : List ℕ) (long : ℕ) : Type 0 where
 abbrev pub IsLost : Side → List ℕ → Type 0
 IsLost side bytes = (more : List ℕ) → IsBytes more → BeginsNone side (bytes ++ more)
 
--- How many bytes are needed is the length of the frame, or 5 where that can't be told since fewer than 5 are there.
+-- How many bytes are needed is the length of the frame, or 5 where that can't be told since fewer
+-- than 5 are there.
 abbrev pub Needs : Side → List ℕ → ℕ → Type 0
-Needs side bytes need = ((5 ≤ length bytes) × IsFront side bytes need) ⊎ ((length bytes < 5) × (need ≡ 5) × ((long : ℕ) × IsFront side bytes long))
+Needs side bytes need =
+    ((5 ≤ length bytes) × IsFront side bytes need)
+    ⊎ ((length bytes < 5) × (need ≡ 5) × ((long : ℕ) × IsFront side bytes long))
 
--- The fields up to this place are whole and those of a frame, and the bytes of the next field begin nothing that a frame has there.
+-- The fields up to this place are whole and those of a frame, and the bytes of the next field begin
+-- nothing that a frame has there.
 pub record StopsAt (side : Side) (bytes : List ℕ) (at : ℕ) : Type 0 where
   pub within : at < length bytes
   pub before : (long : ℕ) × IsFront side (take at bytes) long
   pub stops : frame_at side bytes ≡ Err (fault.Garbled at)
 
--- The frame whose spelling is at the front, and the length of that front. A refusal other than want of memory comes only where no front is one: `NotYet` exactly where further bytes would make one, and `Garbled` exactly where none could.
+-- The frame whose spelling is at the front, and the length of that front. A refusal other than want
+-- of memory comes only where no front is one: `NotYet` exactly where further bytes would make one,
+-- and `Garbled` exactly where none could.
 abbrev pub Decodes : Side → List ℕ → Result (Frame × ℕ) WireRefusal → Type 0
 Decodes side bytes (Ok found) = Spells side (take found.1 bytes) found.0 × (found.1 ≤ length bytes)
 Decodes side bytes (Err (NotYet need)) = BeginsNone side bytes × Needs side bytes need

@@ -1,5 +1,5 @@
 -- The numbers that may stand in a field: the least, and each so many steps more, up to the most.
-use Rattle.std.specs.Prelude.{ℕ, ◌-◌, ◌%◌, min, Bool, nat_le, ◌&&◌, if◌then◌else◌}
+use Rattle.std.specs.Prelude.{ℕ, ◌+◌, ◌*◌, ◌-◌, ◌%◌, min, Bool, nat_le, ◌&&◌, if◌then◌else◌}
 use Rattle.clone_wire.specs.declared.numbers.Numbers.{Numbers}
 
 abbrev pub in_steps : ℕ → ℕ → ℕ → Numbers
@@ -10,6 +10,10 @@ between least most = in_steps least most 1
 
 abbrev pub only : ℕ → Numbers
 only n = between n n
+
+-- the lengths of so many bytes of fields and a list of items, from the least to the most of them
+abbrev pub listed : ℕ → ℕ → ℕ → ℕ → Numbers
+listed fields least most each = in_steps (fields + least * each) (fields + most * each) each
 
 -- all numbers up to the most where the frame has a value there, and else 0
 abbrev pub any_if : Bool → ℕ → Numbers

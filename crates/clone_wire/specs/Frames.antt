@@ -1,13 +1,18 @@
 -- The sides of frames, and the codes and the lengths that they have.
 use Rattle.std.specs.Prelude.{ℕ, ◌≡◌, ◌≤◌, ◌-◌, ◌%◌, ◌==◌, if◌then◌else◌}
-use Rattle.clone_wire.specs.declared.stage.Stage.{Stage}
-use Rattle.clone_wire.specs.declared.stage.Stage.TheVariants as stage
+use Rattle.clone_chunk.specs.declared.stage.Stage.{Stage}
+use Rattle.clone_chunk.specs.declared.stage.Stage.TheVariants as stage
 use Rattle.clone_wire.specs.declared.stage.StagePlan.{StagePlan}
 use Rattle.clone_wire.specs.declared.stage.StagePlan.TheVariants as plan
 use Rattle.clone_wire.specs.declared.frame.Side.{Side}
 use Rattle.clone_wire.specs.declared.frame.Side.TheVariants.{Command, Answer}
 use Rattle.clone_wire.specs.declared.numbers.Numbers.{Numbers}
-use Rattle.clone_wire.specs.Choices.{between, only, in_steps}
+use Rattle.clone_wire.specs.declared.limits.TheConstants.{MOST_BITMAP, MOST_SPACES, MOST_PAGES}
+use Rattle.clone_wire.specs.declared.limits.TheConstants.{MOST_REDO}
+use Rattle.clone_wire.specs.declared.limits.TheConstants.{REINIT_FIELDS, STAGE_FIELDS, PAGES_FIELDS}
+use Rattle.clone_wire.specs.declared.limits.TheConstants.{REDO_FIELDS}
+use Rattle.clone_wire.specs.declared.limits.TheConstants.{SPACE_BYTES, PAGE_AT_BYTES}
+use Rattle.clone_wire.specs.Choices.{between, only, listed}
 
 abbrev pub stage_of : StagePlan → Stage
 stage_of (plan.FileCopy chunks spaces) = stage.FileCopy
@@ -20,18 +25,19 @@ abbrev pub codes : Side → Numbers
 codes Command = between 1 6
 codes Answer = between 16 20
 
--- The lengths that a payload may have, by the code: INIT, ATTACH, REINIT with a bitmap of at most 1,048,576 bytes, EXECUTE, ACK, EXIT, STAGE with at most 63 spaces, PAGES with 1 to 8 pages, REDO with 1 to 16,384 bytes, END, REFUSED.
+-- The lengths that a payload may have, by the code: INIT, ATTACH, REINIT with a bitmap, EXECUTE,
+-- ACK, EXIT, STAGE with spaces, PAGES with pages, REDO with redo, END, REFUSED.
 abbrev pub lengths : ℕ → Numbers
 lengths code =
     if code == 1 then only 20
     else (if code == 2 then only 13
-    else (if code == 3 then between 17 1048593
+    else (if code == 3 then listed REINIT_FIELDS 0 MOST_BITMAP 1
     else (if code == 4 then only 1
     else (if code == 5 then only 9
     else (if code == 6 then only 0
-    else (if code == 16 then in_steps 43 547 8
-    else (if code == 17 then in_steps 4123 32851 4104
-    else (if code == 18 then between 31 16414
+    else (if code == 16 then listed STAGE_FIELDS 0 MOST_SPACES SPACE_BYTES
+    else (if code == 17 then listed PAGES_FIELDS 1 MOST_PAGES PAGE_AT_BYTES
+    else (if code == 18 then listed REDO_FIELDS 1 MOST_REDO 1
     else (if code == 19 then only 13
     else only 17)))))))))
 

@@ -3,11 +3,15 @@ use Rattle.std.specs.Prelude.{ℕ, ◌≡◌, ◌<◌, ◌≤◌, ◌^◌, List,
 use Rattle.clone_bytes.specs.Fields.{IsBytes}
 use Rattle.clone_wire.specs.declared.frame.Attempt.{Attempt}
 use Rattle.clone_wire.specs.declared.frame.Frame.{Frame}
-use Rattle.clone_wire.specs.declared.frame.Frame.TheVariants.{Init, Attach, Reinit, Execute, Ack, Exit, Stage, Pages, Redo, End, Refused}
+use Rattle.clone_wire.specs.declared.frame.Frame.TheVariants.{Init, Attach, Reinit, Execute, Ack}
+use Rattle.clone_wire.specs.declared.frame.Frame.TheVariants.{Exit, Stage, Pages, Redo, End}
+use Rattle.clone_wire.specs.declared.frame.Frame.TheVariants.{Refused}
 use Rattle.clone_wire.specs.declared.stage.StagePlan.{StagePlan}
 use Rattle.clone_wire.specs.declared.stage.StagePlan.TheVariants as plan
 use Rattle.clone_wire.specs.declared.spaces.SpaceSize.{SpaceSize}
 use Rattle.clone_wire.specs.declared.pages.PageAt.{PageAt}
+use Rattle.clone_wire.specs.declared.limits.TheConstants.{MOST_SPACES, MOST_PAGES, MOST_REDO}
+use Rattle.clone_wire.specs.declared.limits.TheConstants.{PAGE_BYTES}
 use Rattle.clone_wire.specs.Bitmaps.{IsBitmap}
 use Rattle.clone_wire.specs.Refusals.{refusal_first, refusal_second}
 
@@ -28,24 +32,32 @@ IsSpace space = HasWidth 4 space.space × HasWidth 4 space.pages
 pub record IsPageAt (page : PageAt) : Type 0 where
   pub space : HasWidth 4 page.space
   pub number : HasWidth 4 page.number
-  pub long : length page.page ≡ 4096
+  pub long : length page.page ≡ PAGE_BYTES
   pub bytes : IsBytes page.page
 
 abbrev pub IsPlan : StagePlan → Type 0
-IsPlan (plan.FileCopy chunks spaces) = HasWidth 4 chunks × AllAre IsSpace spaces × (length spaces ≤ 63)
+IsPlan (plan.FileCopy chunks spaces) = HasWidth 4 chunks × AllAre IsSpace spaces
+    × (length spaces ≤ MOST_SPACES)
 IsPlan (plan.PageCopy chunks position) = HasWidth 4 chunks × HasWidth 8 position
-IsPlan (plan.RedoCopy chunks checkpoint lsn position) = HasWidth 4 chunks × HasWidth 8 checkpoint × HasWidth 8 lsn × HasWidth 8 position
-IsPlan (plan.Done checkpoint lsn position) = HasWidth 8 checkpoint × HasWidth 8 lsn × HasWidth 8 position
+IsPlan (plan.RedoCopy chunks checkpoint lsn position) = HasWidth 4 chunks × HasWidth 8 checkpoint
+    × HasWidth 8 lsn × HasWidth 8 position
+IsPlan (plan.Done checkpoint lsn position) = HasWidth 8 checkpoint × HasWidth 8 lsn
+    × HasWidth 8 position
 
 abbrev pub IsFrame : Frame → Type 0
-IsFrame (Init attempt version size compressed tasks) = IsAttempt attempt × HasWidth 2 version × HasWidth 4 size × HasWidth 1 tasks
+IsFrame (Init attempt version size compressed tasks) = IsAttempt attempt × HasWidth 2 version
+    × HasWidth 4 size × HasWidth 1 tasks
 IsFrame (Attach attempt task) = IsAttempt attempt × HasWidth 1 task
-IsFrame (Reinit attempt stage finished) = IsAttempt attempt × IsBitmap finished.count finished.bytes × IsBytes finished.bytes
+IsFrame (Reinit attempt stage finished) = IsAttempt attempt × IsBitmap finished.count finished.bytes
+    × IsBytes finished.bytes
 IsFrame (Execute stage) = ⊤
 IsFrame (Ack stage floor) = HasWidth 8 floor
 IsFrame Exit = ⊤
 IsFrame (Stage attempt plan) = IsAttempt attempt × IsPlan plan
-IsFrame (Pages attempt stage chunk block pages) = IsAttempt attempt × HasWidth 4 chunk × HasWidth 1 block × AllAre IsPageAt pages × (1 ≤ length pages) × (length pages ≤ 8)
-IsFrame (Redo attempt chunk block from bytes) = IsAttempt attempt × HasWidth 4 chunk × HasWidth 1 block × HasWidth 8 from × IsBytes bytes × (1 ≤ length bytes) × (length bytes ≤ 16384)
+IsFrame (Pages attempt stage chunk block pages) = IsAttempt attempt × HasWidth 4 chunk
+    × HasWidth 1 block × AllAre IsPageAt pages × (1 ≤ length pages) × (length pages ≤ MOST_PAGES)
+IsFrame (Redo attempt chunk block from bytes) = IsAttempt attempt × HasWidth 4 chunk
+    × HasWidth 1 block × HasWidth 8 from × IsBytes bytes × (1 ≤ length bytes)
+    × (length bytes ≤ MOST_REDO)
 IsFrame (End attempt stage) = IsAttempt attempt
 IsFrame (Refused refusal) = HasWidth 8 (refusal_first refusal) × HasWidth 8 (refusal_second refusal)

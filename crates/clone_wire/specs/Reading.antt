@@ -1,10 +1,15 @@
--- The fields of each frame from left to right. Reading gives a value and the bytes behind it, or stops where the bytes end, or at the first field whose bytes begin nothing that may stand there.
-use Rattle.std.specs.Prelude.{ℕ, zero, suc, ◌≡◌, ◌-◌, ◌*◌, ◌/◌, Bool, List, [], ◌∷◌, ◌++◌, length, take, drop, replicate, if◌then◌else◌, nat_lt, nat_le, not, ◌==◌, Ok, Err, Result, ⊤}
+-- The fields of each frame from left to right. Reading gives a value and the bytes behind it, or
+-- stops where the bytes end, or at the first field whose bytes begin nothing that may stand there.
+use Rattle.std.specs.Prelude.{ℕ, zero, suc, ◌≡◌, ◌-◌, ◌*◌, ◌/◌, Bool, List, [], ◌∷◌, ◌++◌, length}
+use Rattle.std.specs.Prelude.{take, drop, replicate, if◌then◌else◌, nat_lt, nat_le, not, ◌==◌, Ok}
+use Rattle.std.specs.Prelude.{Err, Result, ⊤}
 use Rattle.byteorder.specs.Endian.{big_number}
 use Rattle.clone_wire.specs.declared.frame.Attempt.{Attempt}
 use Rattle.clone_wire.specs.declared.frame.Side.{Side}
 use Rattle.clone_wire.specs.declared.frame.Frame.{Frame}
-use Rattle.clone_wire.specs.declared.frame.Frame.TheVariants.{Init, Attach, Reinit, Execute, Ack, Exit, Stage, Pages, Redo, End, Refused}
+use Rattle.clone_wire.specs.declared.frame.Frame.TheVariants.{Init, Attach, Reinit, Execute, Ack}
+use Rattle.clone_wire.specs.declared.frame.Frame.TheVariants.{Exit, Stage, Pages, Redo, End}
+use Rattle.clone_wire.specs.declared.frame.Frame.TheVariants.{Refused}
 use Rattle.clone_wire.specs.declared.stage.StagePlan.{StagePlan}
 use Rattle.clone_wire.specs.declared.stage.StagePlan.TheVariants as plan
 use Rattle.clone_wire.specs.declared.spaces.SpaceSize.{SpaceSize}
@@ -12,6 +17,9 @@ use Rattle.clone_wire.specs.declared.pages.PageAt.{PageAt}
 use Rattle.clone_wire.specs.declared.fault.Fault.{Fault}
 use Rattle.clone_wire.specs.declared.fault.Fault.TheVariants.{Short, Garbled, NoMemory}
 use Rattle.clone_wire.specs.declared.numbers.Numbers.{Numbers}
+use Rattle.clone_wire.specs.declared.limits.TheConstants.{PAGE_BYTES, SPACE_BYTES, PAGE_AT_BYTES}
+use Rattle.clone_wire.specs.declared.limits.TheConstants.{REINIT_FIELDS, STAGE_FIELDS, PAGES_FIELDS}
+use Rattle.clone_wire.specs.declared.limits.TheConstants.{REDO_FIELDS}
 use Rattle.clone_wire.specs.Choices.{between, only, any_if, has_between}
 use Rattle.clone_wire.specs.Bitmaps.{Bits, ends_at}
 use Rattle.clone_wire.specs.Stages.{copy_numbered, page_numbered}
@@ -35,24 +43,33 @@ Gives view (Err e) read = Fails e read
 
 -- a number of n bytes
 abbrev pub number_at : ℕ → List ℕ → Result (ℕ × List ℕ) Fault
-number_at n bytes = if nat_lt (length bytes) n then Err Short else Ok (big_number n bytes, drop n bytes)
+number_at n bytes =
+    if nat_lt (length bytes) n then Err Short else Ok (big_number n bytes, drop n bytes)
 
 -- so many bytes
 abbrev pub bytes_at : ℕ → List ℕ → Result (List ℕ × List ℕ) Fault
 bytes_at n bytes = if nat_lt (length bytes) n then Err Short else Ok (take n bytes, drop n bytes)
 
--- Whether these bytes begin one of the numbers, written in so many bytes: whether one of them lies from the least to the greatest number that begins so.
+-- Whether these bytes begin one of the numbers, written in so many bytes: whether one of them lies
+-- from the least to the greatest number that begins so.
 abbrev pub begins_one : ℕ → Numbers → List ℕ → Bool
-begins_one width numbers front = has_between numbers (big_number width (front ++ replicate width 0)) (big_number width (front ++ replicate width 255))
+begins_one width numbers front =
+    has_between numbers
+    (big_number width (front ++ replicate width 0))
+    (big_number width (front ++ replicate width 255))
 
 -- a number of so many bytes that is one of these; the field begins at this place
 unfoldable pub number_in : ℕ → ℕ → Numbers → List ℕ → Result (ℕ × List ℕ) Fault
-number_in at width numbers bytes = if begins_one width numbers (take width bytes) then number_at width bytes else Err (Garbled at)
+number_in at width numbers bytes =
+    if begins_one width numbers (take width bytes) then number_at width bytes else Err (Garbled at)
 
 -- a bitmap for so many chunks, which has so many bytes and begins at this place
 abbrev pub bitmap_at : ℕ → ℕ → ℕ → List ℕ → Result (Bits × List ℕ) Fault
 bitmap_at at count n bytes =
-    bytes_at n bytes >>= λ bits. if ends_at count bits.0 then Ok (record { count = count; bytes = bits.0 }, bits.1) else Err (Garbled at)
+    bytes_at n bytes >>= λ bits.
+    if ends_at count bits.0
+    then Ok (record { count = count; bytes = bits.0 }, bits.1)
+    else Err (Garbled at)
 
 -- session and incarnation
 unfoldable pub attempt_at : List ℕ → Result (Attempt × List ℕ) Fault
@@ -104,9 +121,11 @@ space_at bytes = do
   Ok (record { space = space.0; pages = pages.0 }, pages.1)
 
 -- so many items, one after the other
-abbrev pub list_at : {X : Type 0} → (List ℕ → Result (X × List ℕ) Fault) → ℕ → List ℕ → Result (List X × List ℕ) Fault
+abbrev pub list_at : {X : Type 0} → (List ℕ → Result (X × List ℕ) Fault) → ℕ → List ℕ →
+    Result (List X × List ℕ) Fault
 list_at item zero bytes = Ok ([], bytes)
-list_at item (suc n) bytes = item bytes >>= λ first. list_at item n first.1 >>= λ more. Ok (first.0 ∷ more.0, more.1)
+list_at item (suc n) bytes =
+    item bytes >>= λ first. list_at item n first.1 >>= λ more. Ok (first.0 ∷ more.0, more.1)
 
 -- what the fields of a stage say
 abbrev pub planned : ℕ → ℕ → ℕ → ℕ → ℕ → List SpaceSize → StagePlan
@@ -116,7 +135,8 @@ planned stage chunks checkpoint lsn position spaces =
     else (if stage == 3 then plan.RedoCopy chunks checkpoint lsn position
     else plan.Done checkpoint lsn position))
 
--- Chunks are 0 in stage 4, checkpoint and LSN in stages 1 and 2, and the position in stage 1. Spaces are listed in stage 1 alone.
+-- Chunks are 0 in stage 4, checkpoint and LSN in stages 1 and 2, and the position in stage 1.
+-- Spaces are listed in stage 1 alone.
 unfoldable pub stage_at : ℕ → List ℕ → Result (Frame × List ℕ) Fault
 stage_at n bytes = do
   attempt ← attempt_at bytes
@@ -134,7 +154,7 @@ unfoldable pub page_at : List ℕ → Result (PageAt × List ℕ) Fault
 page_at bytes = do
   space ← number_at 4 bytes
   number ← number_at 4 space.1
-  page ← bytes_at 4096 number.1
+  page ← bytes_at PAGE_BYTES number.1
   Ok (record { space = space.0; number = number.0; page = page.0 }, page.1)
 
 unfoldable pub pages_frame_at : ℕ → List ℕ → Result (Frame × List ℕ) Fault
@@ -176,13 +196,13 @@ unfoldable pub payload_at : ℕ → ℕ → List ℕ → Result (Frame × List �
 payload_at code long bytes =
     if code == 1 then init_at bytes
     else (if code == 2 then attach_at bytes
-    else (if code == 3 then reinit_at (long - 17) bytes
+    else (if code == 3 then reinit_at (long - REINIT_FIELDS) bytes
     else (if code == 4 then execute_at bytes
     else (if code == 5 then ack_at bytes
     else (if code == 6 then Ok (Exit, bytes)
-    else (if code == 16 then stage_at ((long - 43) / 8) bytes
-    else (if code == 17 then pages_frame_at ((long - 19) / 4104) bytes
-    else (if code == 18 then redo_at (long - 30) bytes
+    else (if code == 16 then stage_at ((long - STAGE_FIELDS) / SPACE_BYTES) bytes
+    else (if code == 17 then pages_frame_at ((long - PAGES_FIELDS) / PAGE_AT_BYTES) bytes
+    else (if code == 18 then redo_at (long - REDO_FIELDS) bytes
     else (if code == 19 then end_at bytes
     else refused_at bytes)))))))))
 

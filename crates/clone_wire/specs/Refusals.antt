@@ -1,7 +1,13 @@
 -- The numbers and the values of the refusals. A value that a refusal doesn't have is 0.
 use Rattle.std.specs.Prelude.{ℕ, ◌==◌, if◌then◌else◌}
 use Rattle.clone_wire.specs.declared.refusal.Refusal.{Refusal}
-use Rattle.clone_wire.specs.declared.refusal.Refusal.TheVariants.{CloneBusy, VersionMismatch, PageSizeMismatch, CompressionRefused, TasksOutOfRange, NoSuchSession, Stale, StageMismatch, ChunksLeft, FloorAhead, NotClaimed, ArchiveBehind}
+use Rattle.clone_wire.specs.declared.refusal.Refusal.TheVariants.{CloneBusy, VersionMismatch}
+use Rattle.clone_wire.specs.declared.refusal.Refusal.TheVariants.{PageSizeMismatch}
+use Rattle.clone_wire.specs.declared.refusal.Refusal.TheVariants.{CompressionRefused}
+use Rattle.clone_wire.specs.declared.refusal.Refusal.TheVariants.{TasksOutOfRange, NoSuchSession}
+use Rattle.clone_wire.specs.declared.refusal.Refusal.TheVariants.{Stale, StageMismatch, ChunksLeft}
+use Rattle.clone_wire.specs.declared.refusal.Refusal.TheVariants.{FloorAhead, NotClaimed}
+use Rattle.clone_wire.specs.declared.refusal.Refusal.TheVariants.{ArchiveBehind}
 
 abbrev pub refusal_number : Refusal → ℕ
 refusal_number (CloneBusy session) = 1
@@ -48,7 +54,8 @@ refusal_second (ArchiveBehind archived until) = until
 -- how many values the refusal of a number from 1 to 12 has
 abbrev pub value_count : ℕ → ℕ
 value_count n =
-    if n == 4 then 0 else (if n == 6 then 0 else (if n == 11 then 0 else (if n == 8 then 2 else (if n == 10 then 2 else (if n == 12 then 2 else 1)))))
+    if n == 4 then 0 else (if n == 6 then 0 else (if n == 11 then 0
+    else (if n == 8 then 2 else (if n == 10 then 2 else (if n == 12 then 2 else 1)))))
 
 -- the refusal of a number from 1 to 12
 abbrev pub refusal_numbered : ℕ → ℕ → ℕ → Refusal

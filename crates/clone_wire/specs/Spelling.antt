@@ -1,4 +1,5 @@
--- The spelling of each frame: its code, the length of its payload, and the fields of the payload one after the other. Numbers are big-endian.
+-- The spelling of each frame: its code, the length of its payload, and the fields of the payload
+-- one after the other. Numbers are big-endian.
 use Rattle.std.specs.Prelude.{ℕ, Bool, List, [], ◌++◌, length, if◌then◌else◌}
 use Rattle.std.specs.List.{flat_map}
 use Rattle.byteorder.specs.Endian.{big_bytes}
@@ -6,12 +7,15 @@ use Rattle.clone_wire.specs.declared.frame.Attempt.{Attempt}
 use Rattle.clone_wire.specs.declared.frame.Side.{Side}
 use Rattle.clone_wire.specs.declared.frame.Side.TheVariants.{Command, Answer}
 use Rattle.clone_wire.specs.declared.frame.Frame.{Frame}
-use Rattle.clone_wire.specs.declared.frame.Frame.TheVariants.{Init, Attach, Reinit, Execute, Ack, Exit, Stage, Pages, Redo, End, Refused}
+use Rattle.clone_wire.specs.declared.frame.Frame.TheVariants.{Init, Attach, Reinit, Execute, Ack}
+use Rattle.clone_wire.specs.declared.frame.Frame.TheVariants.{Exit, Stage, Pages, Redo, End}
+use Rattle.clone_wire.specs.declared.frame.Frame.TheVariants.{Refused}
 use Rattle.clone_wire.specs.declared.stage.StagePlan.{StagePlan}
 use Rattle.clone_wire.specs.declared.stage.StagePlan.TheVariants as plan
 use Rattle.clone_wire.specs.declared.spaces.SpaceSize.{SpaceSize}
 use Rattle.clone_wire.specs.declared.pages.PageAt.{PageAt}
-use Rattle.clone_wire.specs.Stages.{stage_number, copy_number, page_number}
+use Rattle.clone_chunk.specs.Stages.{stage_number}
+use Rattle.clone_wire.specs.Stages.{copy_number, page_number}
 use Rattle.clone_wire.specs.Refusals.{refusal_number, refusal_first, refusal_second}
 use Rattle.clone_wire.specs.Frames.{stage_of}
 
@@ -87,23 +91,31 @@ page_bytes page = big_bytes 4 page.space ++ big_bytes 4 page.number ++ page.page
 
 unfoldable pub plan_bytes : StagePlan → List ℕ
 plan_bytes plan =
-    big_bytes 1 (stage_number (stage_of plan)) ++ big_bytes 4 (chunks_of plan) ++ big_bytes 8 (checkpoint_of plan) ++ big_bytes 8 (lsn_of plan) ++ big_bytes 8 (position_of plan)
+    big_bytes 1 (stage_number (stage_of plan)) ++ big_bytes 4 (chunks_of plan)
+    ++ big_bytes 8 (checkpoint_of plan) ++ big_bytes 8 (lsn_of plan)
+    ++ big_bytes 8 (position_of plan)
     ++ big_bytes 2 (length (spaces_of plan)) ++ flat_map space_bytes (spaces_of plan)
 
 abbrev pub payload : Frame → List ℕ
-payload (Init attempt version size compressed tasks) = big_bytes 2 version ++ big_bytes 4 size ++ big_bytes 1 (flag compressed) ++ big_bytes 1 tasks ++ attempt_bytes attempt
+payload (Init attempt version size compressed tasks) = big_bytes 2 version ++ big_bytes 4 size
+    ++ big_bytes 1 (flag compressed) ++ big_bytes 1 tasks ++ attempt_bytes attempt
 payload (Attach attempt task) = attempt_bytes attempt ++ big_bytes 1 task
-payload (Reinit attempt stage finished) = attempt_bytes attempt ++ big_bytes 1 (copy_number stage) ++ big_bytes 4 finished.count ++ finished.bytes
+payload (Reinit attempt stage finished) = attempt_bytes attempt ++ big_bytes 1 (copy_number stage)
+    ++ big_bytes 4 finished.count ++ finished.bytes
 payload (Execute stage) = big_bytes 1 (copy_number stage)
 payload (Ack stage floor) = big_bytes 1 (copy_number stage) ++ big_bytes 8 floor
 payload Exit = []
 payload (Stage attempt plan) = attempt_bytes attempt ++ plan_bytes plan
 payload (Pages attempt stage chunk block pages) =
-    attempt_bytes attempt ++ big_bytes 1 (page_number stage) ++ big_bytes 4 chunk ++ big_bytes 1 block ++ big_bytes 1 (length pages) ++ flat_map page_bytes pages
+    attempt_bytes attempt ++ big_bytes 1 (page_number stage) ++ big_bytes 4 chunk
+    ++ big_bytes 1 block ++ big_bytes 1 (length pages) ++ flat_map page_bytes pages
 payload (Redo attempt chunk block from bytes) =
-    attempt_bytes attempt ++ big_bytes 1 3 ++ big_bytes 4 chunk ++ big_bytes 1 block ++ big_bytes 8 from ++ big_bytes 4 (length bytes) ++ bytes
+    attempt_bytes attempt ++ big_bytes 1 3 ++ big_bytes 4 chunk ++ big_bytes 1 block
+    ++ big_bytes 8 from ++ big_bytes 4 (length bytes) ++ bytes
 payload (End attempt stage) = attempt_bytes attempt ++ big_bytes 1 (copy_number stage)
-payload (Refused refusal) = big_bytes 1 (refusal_number refusal) ++ big_bytes 8 (refusal_first refusal) ++ big_bytes 8 (refusal_second refusal)
+payload (Refused refusal) = big_bytes 1 (refusal_number refusal)
+    ++ big_bytes 8 (refusal_first refusal) ++ big_bytes 8 (refusal_second refusal)
 
 unfoldable pub spelling : Frame → List ℕ
-spelling frame = big_bytes 1 (code_of frame) ++ big_bytes 4 (length (payload frame)) ++ payload frame
+spelling frame = big_bytes 1 (code_of frame) ++ big_bytes 4 (length (payload frame))
+    ++ payload frame

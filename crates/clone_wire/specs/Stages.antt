@@ -1,17 +1,9 @@
--- The numbers of the stages.
+-- The numbers of the stages in which something is copied, and of those in which pages are.
 use Rattle.std.specs.Prelude.{ℕ, ◌==◌, if◌then◌else◌}
-use Rattle.clone_wire.specs.declared.stage.Stage.{Stage}
-use Rattle.clone_wire.specs.declared.stage.Stage.TheVariants as stage
 use Rattle.clone_wire.specs.declared.stage.CopyStage.{CopyStage}
 use Rattle.clone_wire.specs.declared.stage.CopyStage.TheVariants as copy
 use Rattle.clone_wire.specs.declared.stage.PageStage.{PageStage}
 use Rattle.clone_wire.specs.declared.stage.PageStage.TheVariants as page
-
-abbrev pub stage_number : Stage → ℕ
-stage_number stage.FileCopy = 1
-stage_number stage.PageCopy = 2
-stage_number stage.RedoCopy = 3
-stage_number stage.Done = 4
 
 abbrev pub copy_number : CopyStage → ℕ
 copy_number copy.FileCopy = 1
@@ -24,7 +16,8 @@ page_number page.PageCopy = 2
 
 -- the stage of a number from 1 to 3
 abbrev pub copy_numbered : ℕ → CopyStage
-copy_numbered n = if n == 1 then copy.FileCopy else (if n == 2 then copy.PageCopy else copy.RedoCopy)
+copy_numbered n =
+    if n == 1 then copy.FileCopy else (if n == 2 then copy.PageCopy else copy.RedoCopy)
 
 -- the stage of the number 1 or 2
 abbrev pub page_numbered : ℕ → PageStage

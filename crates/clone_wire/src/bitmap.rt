@@ -1,15 +1,13 @@
-ghost use Rattle.std.specs.Prelude.{◌≡◌, ◌≤◌, length, IfOk};
+ghost use Rattle.std.specs.Prelude.{◌≡◌, ◌≢◌, ◌<◌, ◌≤◌, ℕ, true, false, length, IfOk};
+ghost use Rattle.clone_chunk.specs.Chunks.{has_bit};
 ghost use Rattle.clone_wire.specs.Bitmaps.{Bits, IsBitmap, ends_at};
-ghost use Rattle.clone_wire.specs.declared.bitmap.TheConstants.{MOST_CHUNKS};
+ghost use Rattle.clone_wire.specs.declared.limits.TheConstants.{MOST_CHUNKS};
 
 use std::alloc::{AllocError, Global};
 use std::marker::Model;
 
-/// The most chunks of a bitmap.
-pub const MOST_CHUNKS: u32 = 8_388_608;
-
-/// A bit for each of at most 8,388,608 chunks. Bit i stands in byte i/8 with the value 2^(i mod 8), and
-/// the bits past the count are 0.
+/// A bit for each of at most 8,388,608 chunks. Bit i stands in byte i/8 with the value 2^(i mod 8),
+/// and the bits past the count are 0.
 #[derive(Drop)]
 pub struct Bitmap {
     count: u32,
@@ -27,8 +25,20 @@ impl Model for Bitmap {
 }
 
 impl Bitmap {
+    /// A bitmap of so many chunks, none of whose bits is set.
+    pub fn new(alloc: Global, count: u32) -> Result<Bitmap, AllocError>
+        requires { count ≤ MOST_CHUNKS }
+        ensures count { IfOk result (λ map. map.count ≡ count) }
+        ensures unset { IfOk result (λ map. (i : ℕ) → has_bit map.bytes i ≡ false) }
+    {
+        let long = (count as usize).div_ceil(8);
+        let mut bytes = Vec::with_capacity(alloc, long)?;
+        bytes.resize(long, 0)?;
+        Ok(Bitmap { count, bytes })
+    }
+
     /// The bitmap of so many chunks that these bytes are.
-    pub fn new(alloc: Global, count: u32, bytes: &[u8]) -> Result<Bitmap, AllocError>
+    pub fn from_bytes(alloc: Global, count: u32, bytes: &[u8]) -> Result<Bitmap, AllocError>
         requires { IsBitmap count bytes.now }
         ensures { IfOk result (λ map. map ≡ record { count = count; bytes = bytes.now }) }
     {
@@ -45,6 +55,17 @@ impl Bitmap {
         self.count
     }
 
+    /// Sets the bit of a chunk, and no other.
+    pub fn set(&mut self, chunk: u32)
+        requires { chunk < self.old.count }
+        ensures count { self.new.count ≡ self.old.count }
+        ensures set { has_bit self.new.bytes chunk ≡ true }
+        ensures others { (i : ℕ) → i ≢ chunk →
+            has_bit self.new.bytes i ≡ has_bit self.old.bytes i }
+    {
+        self.bytes[chunk as usize / 8] |= 1 << (chunk % 8);
+    }
+
     /// Its bytes.
     pub fn bytes(&self) -> &[u8]
         ensures value { result.now ≡ self.now.bytes }
@@ -54,7 +75,8 @@ impl Bitmap {
     }
 }
 
-/// Whether no bit from the count on is set in the last of the bytes, in which the count's last bit is.
+/// Whether no bit from the count on is set in the last of the bytes, in which the count's last bit
+/// is.
 pub(crate) fn ends_at(count: u32, bytes: &[u8]) -> bool
     requires { Rattle.clone_wire.specs.Bitmaps.HasLength count bytes.now }
     ensures { result ≡ ends_at count bytes.now }

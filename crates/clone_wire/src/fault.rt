@@ -6,11 +6,11 @@ use std::alloc::{AllocError, AllocFailed};
 /// Why no frame was read.
 #[derive(Clone, Copy, Debug, PartialEq, Eq)]
 pub enum WireRefusal {
-    /// Further bytes would make a frame. It is known to have so many bytes in all, or 5 at least where
-    /// fewer than 5 are there.
+    /// Further bytes would make a frame. It is known to have so many bytes in all, or 5 at least
+    /// where fewer than 5 are there.
     NotYet { need: usize },
-    /// No further bytes would. The first field whose bytes begin nothing that a frame has there begins
-    /// at this place.
+    /// No further bytes would. The first field whose bytes begin nothing that a frame has there
+    /// begins at this place.
     Garbled { at: usize },
     /// There was no memory.
     NoMemory,
@@ -21,7 +21,8 @@ pub enum WireRefusal {
 pub enum HeadRefusal {
     /// Further bytes would make a code and a length, which have so many bytes.
     NotYet { need: usize },
-    /// No further bytes would. The code, or the length, begins at this place and is none that there is.
+    /// No further bytes would. The code, or the length, begins at this place and is none that there
+    /// is.
     Garbled { at: usize },
 }
 

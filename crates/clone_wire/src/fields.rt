@@ -1,4 +1,5 @@
-ghost use Rattle.std.specs.Prelude.{◌≡◌, ◌≢◌, ◌<◌, ◌≤◌, ◌++◌, replicate, slice_index_or, IfOk, length};
+ghost use Rattle.std.specs.Prelude.{◌≡◌, ◌≢◌, ◌<◌, ◌≤◌, ◌++◌, replicate, slice_index_or, IfOk};
+ghost use Rattle.std.specs.Prelude.{length};
 ghost use Rattle.clone_wire.specs.Frames.{IsOneOf};
 ghost use Rattle.byteorder.specs.Endian.{big_number};
 ghost use Rattle.clone_wire.specs.Reading.{Gives, number_at, bytes_at, number_in, attempt_at};

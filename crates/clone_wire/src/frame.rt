@@ -1,6 +1,10 @@
+use crate::limits::{
+    HEAD_BYTES, PAGE_AT_BYTES, PAGES_FIELDS, REDO_FIELDS, REINIT_FIELDS, SPACE_BYTES, STAGE_FIELDS,
+};
 use crate::{Bitmap, CopyStage, PageStage, Pages, RedoBytes, Refusal, StagePlan};
 
-/// One attempt at a clone: a session, and which of its incarnations, since each loss begins another.
+/// One attempt at a clone: a session, and which of its incarnations, since each loss begins
+/// another.
 #[derive(Clone, Copy, Debug, PartialEq, Eq)]
 pub struct Attempt {
     pub session: u64,
@@ -126,10 +130,14 @@ impl Frame {
     // Room for the spelling, so that it needn't grow.
     pub(crate) fn room(&self) -> usize {
         match self {
-            Frame::Pages { pages, .. } => 24 + 4104 * pages.as_slice().len(),
-            Frame::Redo { bytes, .. } => 35 + bytes.as_slice().len(),
-            Frame::Reinit { finished, .. } => finished.bytes().len().saturating_add(22),
-            Frame::Stage { plan, .. } => 48 + 8 * plan.spaces().len(),
+            Frame::Pages { pages, .. } => HEAD_BYTES
+                + PAGES_FIELDS
+                + PAGE_AT_BYTES * pages.as_slice().len(),
+            Frame::Redo { bytes, .. } => HEAD_BYTES + REDO_FIELDS + bytes.as_slice().len(),
+            Frame::Reinit { finished, .. } => HEAD_BYTES + REINIT_FIELDS + finished.bytes().len(),
+            Frame::Stage { plan, .. } => HEAD_BYTES
+                + STAGE_FIELDS
+                + SPACE_BYTES * plan.spaces().len(),
             _ => 25,
         }
     }

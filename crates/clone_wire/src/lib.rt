@@ -1,6 +1,6 @@
-//! Frames: what a donor and a requester of a clone send each other, and the one spelling of each frame
-//! as bytes. A frame is a code of 1 byte, the length of its payload in 4 bytes, and the payload. All
-//! numbers are big-endian.
+//! Frames: what a donor and a requester of a clone send each other, and the one spelling of each
+//! frame as bytes. A frame is a code of 1 byte, the length of its payload in 4 bytes, and the
+//! payload. All numbers are big-endian.
 #![tactic(auto)]
 
 mod bitmap;
@@ -9,6 +9,7 @@ mod fault;
 mod fields;
 mod frame;
 mod laws;
+mod limits;
 mod numbers;
 mod pages;
 mod payloads;
@@ -24,12 +25,16 @@ pub use encoding::encode;
 pub use fault::{HeadRefusal, WireRefusal};
 pub use frame::{Attempt, Frame, Side};
 pub use laws::{one_answer, one_spelling, spells_back};
+pub use limits::{
+    HEAD_BYTES, MOST_BITMAP, MOST_CHUNKS, MOST_PAGES, MOST_REDO, MOST_SPACES, PAGE_AT_BYTES,
+    PAGE_BYTES, PAGES_FIELDS, REDO_FIELDS, REINIT_FIELDS, SPACE_BYTES, STAGE_FIELDS,
+};
 pub use pages::{PageAt, Pages};
 pub use reading::{decode, read_head};
 pub use redo::RedoBytes;
 pub use refusal::Refusal;
 pub use spaces::{SpaceSize, Spaces};
-pub use stage::{CopyStage, PageStage, Stage, StagePlan};
+pub use stage::{CopyStage, PageStage, StagePlan};
 
 #[cfg(test)]
 mod tests;

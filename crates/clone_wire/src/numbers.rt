@@ -1,5 +1,5 @@
-ghost use Rattle.std.specs.Prelude.{◌≡◌, ◌<◌, ◌≤◌};
-ghost use Rattle.clone_wire.specs.Choices.{has_between, between, only, in_steps};
+ghost use Rattle.std.specs.Prelude.{◌≡◌, ◌<◌, ◌≤◌, ◌+◌, ◌*◌};
+ghost use Rattle.clone_wire.specs.Choices.{has_between, between, only, in_steps, listed};
 
 /// The numbers that may stand in a field: the least, and each so many steps more, up to the most.
 #[derive(Clone, Copy)]
@@ -26,6 +26,18 @@ impl Numbers {
         ensures { result ≡ in_steps least most step }
     {
         Numbers { least, most, step }
+    }
+
+    /// The lengths of so many bytes of fields and a list of items, from the least to the most of
+    /// them.
+    pub(crate) fn listed(fields: usize, least: usize, most: usize, each: usize) -> Numbers
+        requires least { fields + least * each ≤ u32.MAX }
+        requires most { fields + most * each ≤ u32.MAX }
+        ensures { result ≡ listed fields least most each }
+    {
+        let shortest = (fields + least * each) as u64;
+        let longest = (fields + most * each) as u64;
+        Numbers::in_steps(shortest, longest, each as u64)
     }
 
     /// Whether one of them lies from `low` to `high`.

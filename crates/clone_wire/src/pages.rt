@@ -1,11 +1,8 @@
 ghost use Rattle.std.specs.Prelude.{◌≡◌, ◌≤◌, length};
-ghost use Rattle.clone_wire.specs.declared.pages.TheConstants.{MOST_PAGES};
+ghost use Rattle.clone_wire.specs.declared.limits.TheConstants.{MOST_PAGES};
 
 use clone_page::Page;
 use std::marker::Model;
-
-/// The most pages of a block.
-pub const MOST_PAGES: usize = 8;
 
 /// A page and where it belongs.
 #[derive(Drop)]
@@ -22,6 +19,7 @@ pub struct Pages {
 }
 
 impl Model for Pages {
+    ghost use Rattle.clone_wire.specs.declared.limits.TheConstants.{MOST_PAGES};
     ghost use Rattle.std.specs.Prelude.{List, length, ◌≤◌};
     ghost use Rattle.clone_wire.specs.declared.pages.PageAt.{PageAt};
 
@@ -29,7 +27,7 @@ impl Model for Pages {
 
     ghost view = { λ p. p.list.items };
 
-    ghost invariant = { λ p. (1 ≤ length p.list.items) × (length p.list.items ≤ 8) };
+    ghost invariant = { λ p. (1 ≤ length p.list.items) × (length p.list.items ≤ MOST_PAGES) };
 }
 
 impl Pages {

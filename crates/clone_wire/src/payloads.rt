@@ -1,12 +1,19 @@
 ghost use Rattle.std.specs.Prelude.{◌≡◌, ◌≤◌, ◌+◌, ◌/◌};
 ghost use Rattle.clone_wire.specs.Bitmaps.{HasLength};
 ghost use Rattle.clone_wire.specs.Choices.{any_if};
-ghost use Rattle.clone_wire.specs.Reading.{Gives, attempt_at, init_at, attach_at, reinit_at, execute_at, ack_at, list_at, space_at, planned, stage_at, page_at, pages_frame_at, redo_at, end_at, refused_at, bitmap_at, bytes_at};
+ghost use Rattle.clone_wire.specs.declared.limits.TheConstants.{MOST_BITMAP, MOST_CHUNKS};
+ghost use Rattle.clone_wire.specs.declared.limits.TheConstants.{MOST_SPACES};
+ghost use Rattle.clone_wire.specs.declared.limits.TheConstants.{MOST_PAGES, MOST_REDO, PAGE_BYTES};
+ghost use Rattle.clone_wire.specs.Reading.{Gives, attempt_at, init_at, attach_at, reinit_at};
+ghost use Rattle.clone_wire.specs.Reading.{execute_at, ack_at, list_at, space_at, planned};
+ghost use Rattle.clone_wire.specs.Reading.{stage_at, page_at, pages_frame_at, redo_at, end_at};
+ghost use Rattle.clone_wire.specs.Reading.{refused_at, bitmap_at, bytes_at};
 ghost use Rattle.clone_wire.specs.Refusals.{value_count};
 
 use crate::bitmap::ends_at;
 use crate::fault::Fault;
 use crate::fields::{attempt_of, bytes_of, number_in, u8_of, u16_of, u32_of, u64_of};
+use crate::limits::PAGE_BYTES;
 use crate::numbers::Numbers;
 use crate::{
     Bitmap, CopyStage, Frame, PageAt, PageStage, Pages, RedoBytes, Refusal, SpaceSize, Spaces,
@@ -82,7 +89,7 @@ pub(crate) fn end_of(reader: &mut Reader) -> Result<Frame, Fault>
 // The bitmap has `n` bytes.
 #[tactic(auto, unfolding(crate::specs::Reading::reinit_at))]
 pub(crate) fn reinit_of(alloc: Global, n: usize, reader: &mut Reader) -> Result<Frame, Fault>
-    requires { n ≤ 1048576 }
+    requires { n ≤ MOST_BITMAP }
     ensures { Gives (λ x. (x, reader.new)) result (reinit_at n reader.old) }
 {
     let attempt = attempt_of(reader)?;
@@ -109,7 +116,7 @@ fn bitmap_of(
     n: usize,
     reader: &mut Reader,
 ) -> Result<Bitmap, Fault>
-    requires few { count ≤ 8388608 }
+    requires few { count ≤ MOST_CHUNKS }
     requires long { n ≡ (count + 7) / 8 }
     ensures { Gives (λ x. (x, reader.new)) result (bitmap_at at count n reader.old) }
 {
@@ -117,7 +124,7 @@ fn bitmap_of(
     if !ends_at(count as u32, bytes) {
         return Err(Fault::Garbled { at });
     }
-    Ok(Bitmap::new(alloc, count as u32, bytes)?)
+    Ok(Bitmap::from_bytes(alloc, count as u32, bytes)?)
 }
 
 #[tactic(auto, unfolding(crate::specs::Reading::space_at))]
@@ -130,7 +137,7 @@ fn space_of(reader: &mut Reader) -> Result<SpaceSize, Fault>
 }
 
 fn spaces_of(alloc: Global, n: usize, reader: &mut Reader) -> Result<Spaces, Fault>
-    requires { n ≤ 63 }
+    requires { n ≤ MOST_SPACES }
     ensures { Gives (λ x. (x, reader.new)) result (list_at space_at n reader.old) }
 {
     let mut spaces = Spaces::new(alloc);
@@ -144,7 +151,7 @@ fn spaces_of(alloc: Global, n: usize, reader: &mut Reader) -> Result<Spaces, Fau
 // There are `n` spaces.
 #[tactic(auto, unfolding(crate::specs::Reading::stage_at))]
 pub(crate) fn stage_of(alloc: Global, n: usize, reader: &mut Reader) -> Result<Frame, Fault>
-    requires { n ≤ 63 }
+    requires { n ≤ MOST_SPACES }
     ensures { Gives (λ x. (x, reader.new)) result (stage_at n reader.old) }
 {
     let attempt = attempt_of(reader)?;
@@ -211,15 +218,15 @@ fn page_of(reader: &mut Reader) -> Result<PageAt, Fault>
 }
 
 fn body_of(reader: &mut Reader) -> Result<Page, Fault>
-    ensures { Gives (λ x. (x, reader.new)) result (bytes_at 4096 reader.old) }
+    ensures { Gives (λ x. (x, reader.new)) result (bytes_at PAGE_BYTES reader.old) }
 {
-    let bytes = bytes_of(reader, 4096)?;
+    let bytes = bytes_of(reader, PAGE_BYTES)?;
     Ok(Page::from_bytes(bytes))
 }
 
 fn pages_of(alloc: Global, n: usize, reader: &mut Reader) -> Result<Pages, Fault>
     requires some { 1 ≤ n }
-    requires few { n ≤ 8 }
+    requires few { n ≤ MOST_PAGES }
     ensures { Gives (λ x. (x, reader.new)) result (list_at page_at n reader.old) }
 {
     let mut list = Vec::with_capacity(alloc, n)?;
@@ -234,7 +241,7 @@ fn pages_of(alloc: Global, n: usize, reader: &mut Reader) -> Result<Pages, Fault
 #[tactic(auto, unfolding(crate::specs::Reading::pages_frame_at))]
 pub(crate) fn pages_frame_of(alloc: Global, n: usize, reader: &mut Reader) -> Result<Frame, Fault>
     requires some { 1 ≤ n }
-    requires few { n ≤ 8 }
+    requires few { n ≤ MOST_PAGES }
     ensures { Gives (λ x. (x, reader.new)) result (pages_frame_at n reader.old) }
 {
     let attempt = attempt_of(reader)?;
@@ -256,7 +263,7 @@ pub(crate) fn pages_frame_of(alloc: Global, n: usize, reader: &mut Reader) -> Re
 #[tactic(auto, unfolding(crate::specs::Reading::redo_at))]
 pub(crate) fn redo_of(alloc: Global, n: usize, reader: &mut Reader) -> Result<Frame, Fault>
     requires some { 1 ≤ n }
-    requires few { n ≤ 16384 }
+    requires few { n ≤ MOST_REDO }
     ensures { Gives (λ x. (x, reader.new)) result (redo_at n reader.old) }
 {
     let attempt = attempt_of(reader)?;
@@ -277,7 +284,7 @@ pub(crate) fn redo_of(alloc: Global, n: usize, reader: &mut Reader) -> Result<Fr
 
 fn redo_bytes_of(alloc: Global, n: usize, reader: &mut Reader) -> Result<RedoBytes, Fault>
     requires some { 1 ≤ n }
-    requires few { n ≤ 16384 }
+    requires few { n ≤ MOST_REDO }
     ensures { Gives (λ x. (x, reader.new)) result (bytes_at n reader.old) }
 {
     let bytes = bytes_of(reader, n)?;

@@ -5,6 +5,10 @@ ghost use Rattle.clone_wire.specs.Reading.{Gives, head_at, payload_at};
 
 use crate::fault::Fault;
 use crate::fields::number_in;
+use crate::limits::{
+    HEAD_BYTES, MOST_BITMAP, MOST_PAGES, MOST_REDO, MOST_SPACES, PAGE_AT_BYTES, PAGES_FIELDS,
+    REDO_FIELDS, REINIT_FIELDS, SPACE_BYTES, STAGE_FIELDS,
+};
 use crate::numbers::Numbers;
 use crate::payloads::{
     ack_of, attach_of, end_of, execute_of, init_of, pages_frame_of, redo_of, refused_of, reinit_of,
@@ -13,9 +17,6 @@ use crate::payloads::{
 use crate::{Frame, HeadRefusal, Side, WireRefusal};
 use clone_bytes::Reader;
 use std::alloc::Global;
-
-/// The bytes of a frame's code and length.
-const HEAD: usize = 5;
 
 #[tactic(auto, unfolding(crate::specs::Reading::head_at))]
 fn head_of(side: Side, reader: &mut Reader) -> Result<(u8, u32), Fault>
@@ -44,13 +45,13 @@ fn lengths(code: u64) -> Numbers
     match code {
         1 => Numbers::only(20),
         2 | 19 => Numbers::only(13),
-        3 => Numbers::between(17, 1_048_593),
+        3 => Numbers::listed(REINIT_FIELDS, 0, MOST_BITMAP, 1),
         4 => Numbers::only(1),
         5 => Numbers::only(9),
         6 => Numbers::only(0),
-        16 => Numbers::in_steps(43, 547, 8),
-        17 => Numbers::in_steps(4123, 32_851, 4104),
-        18 => Numbers::between(31, 16_414),
+        16 => Numbers::listed(STAGE_FIELDS, 0, MOST_SPACES, SPACE_BYTES),
+        17 => Numbers::listed(PAGES_FIELDS, 1, MOST_PAGES, PAGE_AT_BYTES),
+        18 => Numbers::listed(REDO_FIELDS, 1, MOST_REDO, 1),
         _ => Numbers::only(17),
     }
 }
@@ -64,42 +65,42 @@ fn payload_of(alloc: Global, code: u8, length: usize, reader: &mut Reader) -> Re
     match code {
         1 => init_of(reader),
         2 => attach_of(reader),
-        3 => reinit_of(alloc, length - 17, reader),
+        3 => reinit_of(alloc, length - REINIT_FIELDS, reader),
         4 => execute_of(reader),
         5 => ack_of(reader),
         6 => Ok(Frame::Exit),
-        16 => stage_of(alloc, (length - 43) / 8, reader),
-        17 => pages_frame_of(alloc, (length - 19) / 4104, reader),
-        18 => redo_of(alloc, length - 30, reader),
+        16 => stage_of(alloc, (length - STAGE_FIELDS) / SPACE_BYTES, reader),
+        17 => pages_frame_of(alloc, (length - PAGES_FIELDS) / PAGE_AT_BYTES, reader),
+        18 => redo_of(alloc, length - REDO_FIELDS, reader),
         19 => end_of(reader),
         _ => refused_of(reader),
     }
 }
 
-/// The code and the length of the payload at the front of the bytes, as `decode` reads them. No memory
-/// is taken.
+/// The code and the length of the payload at the front of the bytes, as `decode` reads them. No
+/// memory is taken.
 pub fn read_head(bytes: &[u8], side: Side) -> Result<(u8, u32), HeadRefusal>
     ensures { ReadsHead side bytes.now result }
 {
     match head_of(side, &mut Reader::new(bytes)) {
         Ok(head) => Ok(head),
         Err(Fault::Garbled { at }) => Err(HeadRefusal::Garbled { at }),
-        Err(Fault::Short) => Err(HeadRefusal::NotYet { need: HEAD }),
+        Err(Fault::Short) => Err(HeadRefusal::NotYet { need: HEAD_BYTES }),
         Err(Fault::NoMemory) => unreachable!(),
     }
 }
 
-/// The frame of this side whose spelling is at the front of the bytes, and the length of that spelling.
-/// Memory is taken once for a list in the frame, and only there.
+/// The frame of this side whose spelling is at the front of the bytes, and the length of that
+/// spelling. Memory is taken once for a list in the frame, and only there.
 pub fn decode(alloc: Global, bytes: &[u8], side: Side) -> Result<(Frame, usize), WireRefusal>
     ensures { Decodes side bytes.now result }
 {
     let mut reader = Reader::new(bytes);
     let (code, length) = match head_of(side, &mut reader) {
         Ok(head) => head,
-        Err(fault) => return Err(refusal_of(fault, HEAD)),
+        Err(fault) => return Err(refusal_of(fault, HEAD_BYTES)),
     };
-    let whole = HEAD + length as usize;
+    let whole = HEAD_BYTES + length as usize;
     match payload_of(alloc, code, length as usize, &mut reader) {
         Ok(frame) => Ok((frame, whole)),
         Err(fault) => Err(refusal_of(fault, whole)),

@@ -1,11 +1,8 @@
 ghost use Rattle.std.specs.Prelude.{◌≡◌, ◌≤◌, length, IfOk};
-ghost use Rattle.clone_wire.specs.declared.redo.TheConstants.{MOST_REDO};
+ghost use Rattle.clone_wire.specs.declared.limits.TheConstants.{MOST_REDO};
 
 use std::alloc::{AllocError, Global};
 use std::marker::Model;
-
-/// The most bytes of redo in a block.
-pub const MOST_REDO: usize = 16_384;
 
 /// A list of 1 to 16,384 bytes of redo.
 #[derive(Drop)]
@@ -14,13 +11,14 @@ pub struct RedoBytes {
 }
 
 impl Model for RedoBytes {
+    ghost use Rattle.clone_wire.specs.declared.limits.TheConstants.{MOST_REDO};
     ghost use Rattle.std.specs.Prelude.{List, ℕ, length, ◌≤◌};
 
     ghost Value = { List ℕ };
 
     ghost view = { λ r. r.bytes.items };
 
-    ghost invariant = { λ r. (1 ≤ length r.bytes.items) × (length r.bytes.items ≤ 16384) };
+    ghost invariant = { λ r. (1 ≤ length r.bytes.items) × (length r.bytes.items ≤ MOST_REDO) };
 }
 
 impl RedoBytes {

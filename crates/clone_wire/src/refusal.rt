@@ -1,5 +1,6 @@
 ghost use Rattle.std.specs.Prelude.{◌≡◌};
-ghost use Rattle.clone_wire.specs.Refusals.{refusal_number, refusal_first, refusal_second, refusal_numbered};
+ghost use Rattle.clone_wire.specs.Refusals.{refusal_number, refusal_first, refusal_second};
+ghost use Rattle.clone_wire.specs.Refusals.{refusal_numbered};
 
 /// Why the donor refuses a command, numbered 1 to 12, with the values that say more.
 #[derive(Clone, Copy, Debug, PartialEq, Eq)]

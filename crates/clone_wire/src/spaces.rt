@@ -1,11 +1,9 @@
 ghost use Rattle.std.specs.Prelude.{◌≡◌, ◌≤◌, ◌<◌, ◌++◌, ◌∷◌, ◌↔◌, [], length, OnOk, OnErr, IsTrue};
-ghost use Rattle.clone_wire.specs.declared.spaces.TheConstants.{MOST_SPACES};
+ghost use Rattle.clone_wire.specs.declared.limits.TheConstants.{MOST_SPACES};
 
+use crate::limits::MOST_SPACES;
 use std::alloc::{AllocError, Global};
 use std::marker::Model;
-
-/// The most spaces of a stage: 62 tables and the system space.
-pub const MOST_SPACES: usize = 63;
 
 /// A space, and how many pages it has.
 #[derive(Clone, Copy, Debug, PartialEq, Eq)]
@@ -21,6 +19,7 @@ pub struct Spaces {
 }
 
 impl Model for Spaces {
+    ghost use Rattle.clone_wire.specs.declared.limits.TheConstants.{MOST_SPACES};
     ghost use Rattle.std.specs.Prelude.{List, length, ◌≤◌};
     ghost use Rattle.clone_wire.specs.declared.spaces.SpaceSize.{SpaceSize};
 
@@ -28,7 +27,7 @@ impl Model for Spaces {
 
     ghost view = { λ s. s.list.items };
 
-    ghost invariant = { λ s. length s.list.items ≤ 63 };
+    ghost invariant = { λ s. length s.list.items ≤ MOST_SPACES };
 }
 
 impl Spaces {

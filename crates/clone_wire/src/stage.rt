@@ -1,30 +1,9 @@
 ghost use Rattle.std.specs.Prelude.{◌≡◌};
-ghost use Rattle.clone_wire.specs.Stages.{stage_number, copy_number, page_number, copy_numbered, page_numbered};
+ghost use Rattle.clone_wire.specs.Stages.{copy_number, page_number};
+ghost use Rattle.clone_wire.specs.Stages.{copy_numbered, page_numbered};
 
 use crate::{SpaceSize, Spaces};
-
-/// The stages of a clone, numbered 1 to 4.
-#[derive(Clone, Copy, Debug, PartialEq, Eq)]
-pub enum Stage {
-    FileCopy,
-    PageCopy,
-    RedoCopy,
-    Done,
-}
-
-impl Stage {
-    /// The stage's number, from 1 to 4.
-    pub fn number(self) -> u8
-        ensures { result ≡ stage_number self }
-    {
-        match self {
-            Stage::FileCopy => 1,
-            Stage::PageCopy => 2,
-            Stage::RedoCopy => 3,
-            Stage::Done => 4,
-        }
-    }
-}
+use clone_chunk::Stage;
 
 /// The stages in which something is copied, numbered 1 to 3.
 #[derive(Clone, Copy, Debug, PartialEq, Eq)]
@@ -85,7 +64,8 @@ impl PageStage {
     }
 }
 
-/// What a donor says of the stage that it is in. The numbers that a stage doesn't have aren't there.
+/// What a donor says of the stage that it is in. The numbers that a stage doesn't have aren't
+/// there.
 #[derive(Drop)]
 pub enum StagePlan {
     /// The spaces, as they were when the session opened.
@@ -98,7 +78,8 @@ pub enum StagePlan {
         chunks: u32,
         position: u64,
     },
-    /// The redo from `checkpoint` to `lsn` is copied; `position` is the number of commits up to `lsn`.
+    /// The redo from `checkpoint` to `lsn` is copied; `position` is the number of commits up to
+    /// `lsn`.
     RedoCopy {
         chunks: u32,
         checkpoint: u64,
@@ -116,7 +97,9 @@ pub enum StagePlan {
 impl StagePlan {
     ghost use Rattle.std.specs.Prelude.{length, ◌≤◌};
     ghost use Rattle.clone_wire.specs.Frames.{stage_of};
-    ghost use Rattle.clone_wire.specs.Spelling.{chunks_of, checkpoint_of, lsn_of, position_of, spaces_of};
+    ghost use Rattle.clone_wire.specs.declared.limits.TheConstants.{MOST_SPACES};
+    ghost use Rattle.clone_wire.specs.Spelling.{chunks_of, checkpoint_of, lsn_of, position_of};
+    ghost use Rattle.clone_wire.specs.Spelling.{spaces_of};
 
     /// The stage that this is of.
     pub fn stage(&self) -> Stage
@@ -179,7 +162,7 @@ impl StagePlan {
     /// The spaces, which are listed in the copy of files alone.
     pub fn spaces(&self) -> &[SpaceSize]
         ensures value { result.now ≡ spaces_of self.now }
-        ensures few { length result.now ≤ 63 }
+        ensures few { length result.now ≤ MOST_SPACES }
     {
         match self {
             StagePlan::FileCopy { spaces, .. } => spaces.as_slice(),

@@ -1,5 +1,5 @@
 use super::*;
-use clone_page::{Page, PageKind};
+use clone_page::Page;
 use std::alloc::{AllocError, Global};
 use std::test::*;
 
@@ -8,8 +8,14 @@ const ATTEMPT: Attempt = Attempt {
     incarnation: 1,
 };
 
-// A frame, its side, and its bytes. Each field whose bytes may not be any is given by its place, by the
-// place of its byte that is not 0 or may differ, and by the values that this byte may have.
+/// The bytes of a frame of a side.
+#[derive(Drop)]
+struct Vector<'a> {
+    name: &'static str,
+    side: Side,
+    bytes: &'a [u8],
+}
+
 const INIT: [u8; 25] = [
     1, 0, 0, 0, 20, 0, 1, 0, 0, 16, 0, 0, 1, 0, 0, 0, 0, 0, 0, 0, 1, 0, 0, 0, 1,
 ];
@@ -32,8 +38,18 @@ const STAGE_OF_FILES: [u8; 64] = [
     0, 0, 0, 0, 0, 0, 1, 1, 0, 0, 0, 1, 0, 0, 0, 4,
 ];
 
+const STAGE_OF_PAGES: [u8; 48] = [
+    16, 0, 0, 0, 43, 0, 0, 0, 0, 0, 0, 0, 1, 0, 0, 0, 1, 2, 0, 0, 0, 1, //
+    0, 0, 0, 0, 0, 0, 0, 0, 0, 0, 0, 0, 0, 0, 0, 0, 0, 0, 0, 0, 0, 0, 0, 5, 0, 0,
+];
+
 const STAGE_OF_REDO: [u8; 48] = [
     16, 0, 0, 0, 43, 0, 0, 0, 0, 0, 0, 0, 1, 0, 0, 0, 1, 3, 0, 0, 0, 1, //
+    0, 0, 0, 0, 0, 0, 32, 0, 0, 0, 0, 0, 0, 0, 33, 125, 0, 0, 0, 0, 0, 0, 0, 1, 0, 0,
+];
+
+const STAGE_DONE: [u8; 48] = [
+    16, 0, 0, 0, 43, 0, 0, 0, 0, 0, 0, 0, 1, 0, 0, 0, 1, 4, 0, 0, 0, 0, //
     0, 0, 0, 0, 0, 0, 32, 0, 0, 0, 0, 0, 0, 0, 33, 125, 0, 0, 0, 0, 0, 0, 0, 1, 0, 0,
 ];
 
@@ -44,33 +60,136 @@ const REDO: [u8; 38] = [
 
 const END: [u8; 18] = [19, 0, 0, 0, 13, 0, 0, 0, 0, 0, 0, 0, 1, 0, 0, 0, 1, 2];
 
-const REFUSED: [u8; 22] = [
+const REFUSED_9: [u8; 22] = [
     20, 0, 0, 0, 17, 9, 0, 0, 0, 0, 0, 0, 0, 3, 0, 0, 0, 0, 0, 0, 0, 0,
 ];
 
-fn vectors() -> [(Side, &'static [u8]); 11] {
+const REFUSED_6: [u8; 22] = [
+    20, 0, 0, 0, 17, 6, 0, 0, 0, 0, 0, 0, 0, 0, 0, 0, 0, 0, 0, 0, 0, 0,
+];
+
+// The front of PAGES with eight pages, whose payload has 32,851 bytes.
+const PAGES: [u8; 24] = [
+    17, 0, 0, 128, 83, 0, 0, 0, 0, 0, 0, 0, 1, 0, 0, 0, 1, 1, 0, 0, 0, 0, 0, 8,
+];
+
+/// A field of a payload that may not have every number: the frame, the place where the field
+/// begins, its bytes, and the least and the most that it may have.
+type Field = (&'static str, usize, usize, u64, u64);
+
+const FIELDS: [Field; 30] = [
+    ("INIT", 11, 1, 0, 1),
+    ("REINIT", 17, 1, 1, 3),
+    ("REINIT", 18, 4, 1, 8),
+    ("REINIT", 22, 1, 0, 63),
+    ("EXECUTE", 5, 1, 1, 3),
+    ("ACK", 5, 1, 1, 3),
+    ("STAGE of files", 17, 1, 1, 1),
+    ("STAGE of files", 22, 8, 0, 0),
+    ("STAGE of files", 30, 8, 0, 0),
+    ("STAGE of files", 38, 8, 0, 0),
+    ("STAGE of files", 46, 2, 2, 2),
+    ("STAGE of pages", 17, 1, 1, 4),
+    ("STAGE of pages", 22, 8, 0, 0),
+    ("STAGE of pages", 30, 8, 0, 0),
+    ("STAGE of pages", 46, 2, 0, 0),
+    ("STAGE of redo", 17, 1, 1, 4),
+    ("STAGE of redo", 46, 2, 0, 0),
+    ("STAGE, done", 17, 1, 1, 4),
+    ("STAGE, done", 18, 4, 0, 0),
+    ("STAGE, done", 46, 2, 0, 0),
+    ("PAGES", 17, 1, 1, 2),
+    ("PAGES", 23, 1, 8, 8),
+    ("REDO", 17, 1, 3, 3),
+    ("REDO", 31, 4, 3, 3),
+    ("END", 17, 1, 1, 3),
+    ("REFUSED 9", 5, 1, 1, 12),
+    ("REFUSED 9", 14, 8, 0, 0),
+    ("REFUSED 6", 5, 1, 1, 12),
+    ("REFUSED 6", 6, 8, 0, 0),
+    ("REFUSED 6", 14, 8, 0, 0),
+];
+
+/// A change that is in its own field's range and is wrong by a later field: the frame, the changed
+/// byte's place, its value, and the place where the later field begins. Another code of the side
+/// goes with another length. Another length that the code has goes with another number of chunks in
+/// REINIT, with another number of spaces, which stages after the first don't have, in STAGE, and
+/// with another length of the redo in REDO. Nothing is left to copy in the last stage.
+type Later = (&'static str, usize, u8, usize);
+
+const LATER: [Later; 25] = [
+    ("INIT", 0, 2, 1),
+    ("ATTACH", 0, 3, 1),
+    ("REINIT", 0, 4, 1),
+    ("REINIT", 2, 1, 18),
+    ("REINIT", 3, 1, 18),
+    ("REINIT", 3, 255, 18),
+    ("REINIT", 4, 19, 18),
+    ("REINIT", 4, 255, 18),
+    ("EXECUTE", 0, 5, 1),
+    ("ACK", 0, 6, 1),
+    ("STAGE of files", 0, 17, 1),
+    ("STAGE of files", 3, 1, 46),
+    ("STAGE of pages", 0, 17, 1),
+    ("STAGE of pages", 3, 1, 17),
+    ("STAGE of redo", 0, 17, 1),
+    ("STAGE of redo", 3, 1, 17),
+    ("STAGE of redo", 17, 4, 18),
+    ("STAGE, done", 0, 17, 1),
+    ("STAGE, done", 3, 1, 17),
+    ("PAGES", 0, 18, 1),
+    ("REDO", 0, 19, 1),
+    ("REDO", 3, 1, 31),
+    ("REDO", 4, 34, 31),
+    ("REDO", 4, 255, 31),
+    ("END", 0, 20, 1),
+];
+
+fn command<'a>(name: &'static str, bytes: &'a [u8]) -> Vector<'a> {
+    Vector {
+        name,
+        side: Side::Command,
+        bytes,
+    }
+}
+
+fn answer<'a>(name: &'static str, bytes: &'a [u8]) -> Vector<'a> {
+    Vector {
+        name,
+        side: Side::Answer,
+        bytes,
+    }
+}
+
+fn vectors() -> [Vector<'static>; 14] {
     [
-        (Side::Command, &INIT),
-        (Side::Command, &ATTACH),
-        (Side::Command, &REINIT),
-        (Side::Command, &EXECUTE),
-        (Side::Command, &ACK),
-        (Side::Command, &EXIT),
-        (Side::Answer, &STAGE_OF_FILES),
-        (Side::Answer, &STAGE_OF_REDO),
-        (Side::Answer, &REDO),
-        (Side::Answer, &END),
-        (Side::Answer, &REFUSED),
+        command("INIT", &INIT),
+        command("ATTACH", &ATTACH),
+        command("REINIT", &REINIT),
+        command("EXECUTE", &EXECUTE),
+        command("ACK", &ACK),
+        command("EXIT", &EXIT),
+        answer("STAGE of files", &STAGE_OF_FILES),
+        answer("STAGE of pages", &STAGE_OF_PAGES),
+        answer("STAGE of redo", &STAGE_OF_REDO),
+        answer("STAGE, done", &STAGE_DONE),
+        answer("REDO", &REDO),
+        answer("END", &END),
+        answer("REFUSED 9", &REFUSED_9),
+        answer("REFUSED 6", &REFUSED_6),
     ]
 }
 
-fn frames(alloc: Global) -> Result<[Frame; 11], AllocError> {
+fn frames(alloc: Global) -> Result<[Frame; 14], AllocError> {
     let mut spaces = Spaces::new(alloc);
     spaces.push(SpaceSize {
         space: 0,
         pages: 257,
     })?;
     spaces.push(SpaceSize { space: 1, pages: 4 })?;
+    let mut finished = Bitmap::new(alloc, 6)?;
+    finished.set(0);
+    finished.set(2);
     Ok([
         Frame::Init {
             attempt: ATTEMPT,
@@ -86,7 +205,7 @@ fn frames(alloc: Global) -> Result<[Frame; 11], AllocError> {
         Frame::Reinit {
             attempt: ATTEMPT,
             stage: CopyStage::FileCopy,
-            finished: Bitmap::new(alloc, 6, &[5])?,
+            finished,
         },
         Frame::Execute {
             stage: CopyStage::FileCopy,
@@ -102,8 +221,23 @@ fn frames(alloc: Global) -> Result<[Frame; 11], AllocError> {
         },
         Frame::Stage {
             attempt: ATTEMPT,
+            plan: StagePlan::PageCopy {
+                chunks: 1,
+                position: 5,
+            },
+        },
+        Frame::Stage {
+            attempt: ATTEMPT,
             plan: StagePlan::RedoCopy {
                 chunks: 1,
+                checkpoint: 8192,
+                lsn: 8573,
+                position: 1,
+            },
+        },
+        Frame::Stage {
+            attempt: ATTEMPT,
+            plan: StagePlan::Done {
                 checkpoint: 8192,
                 lsn: 8573,
                 position: 1,
@@ -123,6 +257,9 @@ fn frames(alloc: Global) -> Result<[Frame; 11], AllocError> {
         Frame::Refused {
             refusal: Refusal::ChunksLeft { count: 3 },
         },
+        Frame::Refused {
+            refusal: Refusal::NoSuchSession,
+        },
     ])
 }
 
@@ -131,27 +268,99 @@ fn frames(alloc: Global) -> Result<[Frame; 11], AllocError> {
 fn spells(rt: HostRuntime) -> Result<(), Fail> {
     let alloc = rt.alloc();
     let list = Vec::from_array(alloc, frames(alloc)?)?;
-    for (frame, (side, bytes)) in list.iter().zip(vectors()) {
+    for (frame, vector) in list.iter().zip(vectors()) {
         let text = encode(alloc, frame)?;
-        assert_eq!(rt; text.as_slice(), bytes);
-        let (read, long) = decode(alloc, bytes, side).ok().ok_or("a frame")?;
-        assert_eq!(rt; long, bytes.len());
-        let again = encode(alloc, &read)?;
-        assert_eq!(rt; again.as_slice(), bytes);
+        assert_eq!(rt; text.as_slice(), vector.bytes);
+        assert!(rt; is_read(alloc, &vector, vector.bytes));
     }
     Ok(())
+}
+
+// Whether all of the bytes are the spelling of a frame of the vector's side.
+fn is_read(alloc: Global, vector: &Vector, bytes: &[u8]) -> bool {
+    let Ok((frame, long)) = decode(alloc, bytes, vector.side) else {
+        return false;
+    };
+    let Ok(text) = encode(alloc, &frame) else {
+        return false;
+    };
+    long == bytes.len() && text.as_slice() == bytes
 }
 
 // Each front of a frame needs 5 bytes, or those of the frame.
 #[test]
 fn needs_more(rt: HostRuntime) {
-    for (side, bytes) in vectors() {
-        for n in 0..bytes.len() {
-            let need = if n < 5 { 5 } else { bytes.len() };
-            let refusal = decode(rt.alloc(), &bytes[..n], side).err();
+    for vector in vectors() {
+        for n in 0..vector.bytes.len() {
+            let need = if n < 5 { 5 } else { vector.bytes.len() };
+            let refusal = decode(rt.alloc(), &vector.bytes[..n], vector.side).err();
             assert!(rt; refusal == Some(WireRefusal::NotYet { need }));
         }
     }
+}
+
+// Each byte of each frame, changed to 0, to 255 and by one.
+#[test]
+fn changed_bytes(rt: HostRuntime) {
+    for vector in vectors() {
+        for place in 0..vector.bytes.len() {
+            assert!(rt; is_told_at(rt.alloc(), &vector, place));
+        }
+    }
+}
+
+fn is_told_at(alloc: Global, vector: &Vector, place: usize) -> bool {
+    let Some(byte) = vector.bytes.get(place) else {
+        return false;
+    };
+    for value in [0, 255, byte.wrapping_add(1)] {
+        if value != *byte && !is_told(alloc, vector, place, value) {
+            return false;
+        }
+    }
+    true
+}
+
+// Whether a change of one byte is answered as the tables say.
+fn is_told(alloc: Global, vector: &Vector, place: usize, value: u8) -> bool {
+    let Ok(mut bytes) = Vec::from_slice(alloc, vector.bytes) else {
+        return false;
+    };
+    let Some(byte) = bytes.get_mut(place) else {
+        return false;
+    };
+    *byte = value;
+    match garbled_at(vector.name, &bytes, place, value) {
+        Some(at) => decode(alloc, &bytes, vector.side).err() == Some(WireRefusal::Garbled { at }),
+        None => is_read(alloc, vector, &bytes),
+    }
+}
+
+// Where a frame is garbled after a change of one byte, by the tables.
+fn garbled_at(name: &str, bytes: &[u8], place: usize, value: u8) -> Option<usize> {
+    for (of, at, byte, later) in LATER {
+        if of == name && at == place && byte == value {
+            return Some(later);
+        }
+    }
+    if place < 5 {
+        return Some(place.min(1));
+    }
+    for (of, at, width, least, most) in FIELDS {
+        let number = number_at(bytes, at, width);
+        if of == name && (number < least || most < number) {
+            return Some(at);
+        }
+    }
+    None
+}
+
+fn number_at(bytes: &[u8], at: usize, width: usize) -> u64 {
+    let mut number: u64 = 0;
+    for byte in bytes.iter().skip(at).take(width) {
+        number = number.wrapping_mul(256).wrapping_add(*byte as u64);
+    }
+    number
 }
 
 fn why(alloc: Global, bytes: &[u8], side: Side) -> Option<WireRefusal> {
@@ -170,42 +379,6 @@ fn garbled(rt: HostRuntime) {
     assert!(rt; why(alloc, &[0x10, 0, 0, 0, 44], Side::Answer) == at(1));
     assert!(rt; why(alloc, &[4, 0, 0, 0, 1, 4], Side::Command) == at(5));
     assert!(rt; why(alloc, &[4, 0, 0, 0, 1, 0], Side::Command) == at(5));
-}
-
-// A frame whose byte at a place was changed to a value that its field may not have.
-#[test]
-fn changed_fields(rt: HostRuntime) {
-    let alloc = rt.alloc();
-    let at = |at: usize| Some(WireRefusal::Garbled { at });
-    let mut init = INIT;
-    init[11] = 2;
-    assert!(rt; why(alloc, &init, Side::Command) == at(11));
-    let mut reinit = REINIT;
-    reinit[22] = 64;
-    assert!(rt; why(alloc, &reinit, Side::Command) == at(22));
-    reinit[21] = 9;
-    assert!(rt; why(alloc, &reinit[..22], Side::Command) == at(18));
-    reinit[17] = 4;
-    assert!(rt; why(alloc, &reinit[..18], Side::Command) == at(17));
-    let mut files = STAGE_OF_FILES;
-    files[47] = 1;
-    assert!(rt; why(alloc, &files, Side::Answer) == at(46));
-    files[45] = 1;
-    assert!(rt; why(alloc, &files, Side::Answer) == at(38));
-    files[22] = 1;
-    assert!(rt; why(alloc, &files[..23], Side::Answer) == at(22));
-    files[17] = 2;
-    assert!(rt; why(alloc, &files, Side::Answer) == at(17));
-    let mut redo = REDO;
-    redo[34] = 4;
-    assert!(rt; why(alloc, &redo, Side::Answer) == at(31));
-    redo[17] = 2;
-    assert!(rt; why(alloc, &redo, Side::Answer) == at(17));
-    let mut refused = REFUSED;
-    refused[21] = 1;
-    assert!(rt; why(alloc, &refused, Side::Answer) == at(14));
-    refused[5] = 13;
-    assert!(rt; why(alloc, &refused, Side::Answer) == at(5));
 }
 
 #[test]
@@ -231,38 +404,57 @@ fn heads(rt: HostRuntime) {
     );
 }
 
-// Eight pages have a payload of 32,851 bytes, and come back as they were.
-#[test]
-fn eight_pages(rt: HostRuntime) -> Result<(), Fail> {
-    let alloc = rt.alloc();
+// Page n of eight is filled with the number n.
+fn pages_bytes(alloc: Global) -> Result<Vec<u8>, AllocError> {
+    let mut bytes = Vec::from_slice(alloc, &PAGES)?;
+    for number in 0..8 {
+        bytes.extend_from_slice(&[0, 0, 0, 1, 0, 0, 0, number])?;
+        bytes.extend_from_slice(&[number; 4096])?;
+    }
+    Ok(bytes)
+}
+
+fn pages_frame(alloc: Global) -> Result<Frame, AllocError> {
     let mut list = Vec::with_capacity(alloc, 8)?;
-    for number in 0..8_u32 {
-        let mut page = Page::zero();
-        page.init(1, number, PageKind::Bucket, 8293);
+    for number in 0..8_u8 {
         list.push(PageAt {
             space: 1,
-            number,
-            page,
+            number: number as u32,
+            page: Page::from_bytes(&[number; 4096]),
         })?;
     }
-    assert!(rt; 1 <= list.len() && list.len() <= 8);
-    let frame = Frame::Pages {
+    if list.is_empty() || list.len() > MOST_PAGES {
+        return Err(AllocError);
+    }
+    Ok(Frame::Pages {
         attempt: ATTEMPT,
         stage: PageStage::FileCopy,
         chunk: 0,
         block: 0,
         pages: Pages::new(list),
-    };
-    let text = encode(alloc, &frame)?;
-    assert_eq!(rt; text.len(), 32_856);
-    assert!(rt; text.starts_with(&[0x11, 0, 0, 0x80, 0x53]));
-    let fields = text.get(17..28).ok_or("fields")?;
-    assert_eq!(rt; fields, [1, 0, 0, 0, 0, 0, 8, 0, 0, 0, 1].as_slice());
-    let (read, long) = decode(alloc, &text, Side::Answer).ok().ok_or("pages")?;
-    assert_eq!(rt; long, 32_856);
-    let again = encode(alloc, &read)?;
-    assert!(rt; again == text);
-    let front = text.get(..30_000).ok_or("a front")?;
-    assert!(rt; why(alloc, front, Side::Answer) == Some(WireRefusal::NotYet { need: 32_856 }));
+    })
+}
+
+// Of the 32,856 bytes of a frame of eight pages those of the head are changed, those of the first
+// and the last page's place, the first and last bytes of these pages, and two between.
+#[test]
+fn eight_pages(rt: HostRuntime) -> Result<(), Fail> {
+    let alloc = rt.alloc();
+    let bytes = pages_bytes(alloc)?;
+    assert_eq!(rt; bytes.len(), 32_856);
+    let text = encode(alloc, &pages_frame(alloc)?)?;
+    assert!(rt; text == bytes);
+    let vector = answer("PAGES", &bytes);
+    assert!(rt; is_read(alloc, &vector, &bytes));
+    let places = (0..33)
+        .chain([4127, 4128, 16_000])
+        .chain(28_751..28_761)
+        .chain([32_855]);
+    for place in places {
+        assert!(rt; is_told_at(alloc, &vector, place));
+        let front = bytes.get(..place).ok_or("a front")?;
+        let need = if place < 5 { 5 } else { 32_856 };
+        assert!(rt; decode(alloc, front, Side::Answer).err() == Some(WireRefusal::NotYet { need }));
+    }
     Ok(())
 }

@@ -1,16 +1,27 @@
 ghost use Rattle.std.specs.Prelude.{◌≡◌, ◌≤◌, ◌+◌, ◌*◌, ◌++◌, length, vec_len, OnOk};
 ghost use Rattle.std.specs.List.{flat_map};
 ghost use Rattle.byteorder.specs.Endian.{big_bytes};
+ghost use Rattle.clone_chunk.specs.Stages.{stage_number};
+ghost use Rattle.clone_wire.specs.declared.limits.TheConstants.{MOST_BITMAP, MOST_SPACES};
+ghost use Rattle.clone_wire.specs.declared.limits.TheConstants.{MOST_PAGES, MOST_REDO};
+ghost use Rattle.clone_wire.specs.declared.limits.TheConstants.{REINIT_FIELDS, STAGE_FIELDS};
+ghost use Rattle.clone_wire.specs.declared.limits.TheConstants.{PAGES_FIELDS, REDO_FIELDS};
+ghost use Rattle.clone_wire.specs.declared.limits.TheConstants.{SPACE_BYTES, PAGE_AT_BYTES};
 ghost use Rattle.clone_wire.specs.Frames.{stage_of};
-ghost use Rattle.clone_wire.specs.Spelling.{space_bytes, page_bytes, flag, payload, chunks_of, checkpoint_of, lsn_of, position_of, spaces_of};
-ghost use Rattle.clone_wire.specs.Stages.{copy_number, stage_number};
+ghost use Rattle.clone_wire.specs.Spelling.{attempt_bytes, space_bytes, page_bytes, plan_bytes};
+ghost use Rattle.clone_wire.specs.Spelling.{flag, payload};
+ghost use Rattle.clone_wire.specs.Spelling.{chunks_of, checkpoint_of, lsn_of};
+ghost use Rattle.clone_wire.specs.Spelling.{position_of, spaces_of};
+ghost use Rattle.clone_wire.specs.Stages.{copy_number, page_number};
 ghost use Rattle.clone_bytes.specs.Fields.{IsBytes};
 ghost use Rattle.clone_wire.specs.Bitmaps.{IsBitmap};
-ghost use Rattle.clone_wire.specs.Ranges.{HasWidth, AllAre, IsAttempt, IsSpace, IsPageAt, IsFrame};
+ghost use Rattle.clone_wire.specs.Ranges.{HasWidth, AllAre, IsAttempt, IsSpace};
+ghost use Rattle.clone_wire.specs.Ranges.{IsPlan, IsPageAt, IsFrame};
 ghost use Rattle.clone_wire.specs.Refusals.{refusal_number, refusal_first, refusal_second};
 
 use crate::{
-    Attempt, Bitmap, CopyStage, Frame, PageAt, Pages, RedoBytes, Refusal, SpaceSize, StagePlan,
+    Attempt, Bitmap, CopyStage, Frame, PageAt, PageStage, Pages, RedoBytes, Refusal, SpaceSize,
+    StagePlan,
 };
 use byteorder::{BigEndian, ByteOrder};
 use std::alloc::AllocError;
@@ -65,7 +76,8 @@ fn push_bytes(text: &mut Vec<u8>, bytes: &[u8]) -> Result<(), AllocError>
 }
 
 fn push_attempt(text: &mut Vec<u8>, attempt: Attempt) -> Result<(), AllocError>
-    ensures text { OnOk result (text.new.items ≡ text.old.items ++ big_bytes 8 attempt.session ++ big_bytes 4 attempt.incarnation) }
+    ensures text { OnOk result (text.new.items ≡ text.old.items ++ big_bytes 8 attempt.session
+        ++ big_bytes 4 attempt.incarnation) }
     ensures long { OnOk result (vec_len text.new ≤ vec_len text.old + 12) }
     ensures kept { OnOk result (IsAttempt attempt) }
 {
@@ -74,7 +86,8 @@ fn push_attempt(text: &mut Vec<u8>, attempt: Attempt) -> Result<(), AllocError>
 }
 
 fn push_space(text: &mut Vec<u8>, space: &SpaceSize) -> Result<(), AllocError>
-    ensures text { OnOk result (text.new.items ≡ text.old.items ++ big_bytes 4 space.now.space ++ big_bytes 4 space.now.pages) }
+    ensures text { OnOk result (text.new.items ≡ text.old.items ++ big_bytes 4 space.now.space
+        ++ big_bytes 4 space.now.pages) }
     ensures long { OnOk result (vec_len text.new ≤ vec_len text.old + 8) }
     ensures kept { OnOk result (IsSpace space.now) }
 {
@@ -83,8 +96,9 @@ fn push_space(text: &mut Vec<u8>, space: &SpaceSize) -> Result<(), AllocError>
 }
 
 fn push_page(text: &mut Vec<u8>, page: &PageAt) -> Result<(), AllocError>
-    ensures text { OnOk result (text.new.items ≡ text.old.items ++ big_bytes 4 page.now.space ++ big_bytes 4 page.now.number ++ page.now.page) }
-    ensures long { OnOk result (vec_len text.new ≤ vec_len text.old + 4104) }
+    ensures text { OnOk result (text.new.items ≡ text.old.items ++ big_bytes 4 page.now.space
+        ++ big_bytes 4 page.now.number ++ page.now.page) }
+    ensures long { OnOk result (vec_len text.new ≤ vec_len text.old + PAGE_AT_BYTES) }
     ensures kept { OnOk result (IsPageAt page.now) }
 {
     push_u32(text, page.space)?;
@@ -100,9 +114,12 @@ fn push_init(
     compressed: bool,
     tasks: u8,
 ) -> Result<(), AllocError>
-    ensures text { OnOk result (text.new.items ≡ text.old.items ++ big_bytes 2 version ++ big_bytes 4 page_size ++ big_bytes 1 (flag compressed) ++ big_bytes 1 tasks ++ big_bytes 8 attempt.session ++ big_bytes 4 attempt.incarnation) }
+    ensures text { OnOk result (text.new.items ≡ text.old.items ++ big_bytes 2 version
+        ++ big_bytes 4 page_size ++ big_bytes 1 (flag compressed) ++ big_bytes 1 tasks
+        ++ big_bytes 8 attempt.session ++ big_bytes 4 attempt.incarnation) }
     ensures long { OnOk result (vec_len text.new ≤ vec_len text.old + 20) }
-    ensures kept { OnOk result (IsAttempt attempt × HasWidth 2 version × HasWidth 4 page_size × HasWidth 1 tasks) }
+    ensures kept { OnOk result (IsAttempt attempt × HasWidth 2 version × HasWidth 4 page_size
+        × HasWidth 1 tasks) }
 {
     push_u16(text, version)?;
     push_u32(text, page_size)?;
@@ -111,15 +128,39 @@ fn push_init(
     push_attempt(text, attempt)
 }
 
+fn push_attach(text: &mut Vec<u8>, attempt: Attempt, task: u8) -> Result<(), AllocError>
+    ensures text { OnOk result (text.new.items ≡ text.old.items ++ big_bytes 8 attempt.session
+        ++ big_bytes 4 attempt.incarnation ++ big_bytes 1 task) }
+    ensures long { OnOk result (vec_len text.new ≤ vec_len text.old + 13) }
+    ensures kept { OnOk result (IsAttempt attempt × HasWidth 1 task) }
+{
+    push_attempt(text, attempt)?;
+    push_u8(text, task)
+}
+
+fn push_ack(text: &mut Vec<u8>, stage: CopyStage, floor: u64) -> Result<(), AllocError>
+    ensures text { OnOk result (text.new.items ≡ text.old.items
+        ++ big_bytes 1 (copy_number stage) ++ big_bytes 8 floor) }
+    ensures long { OnOk result (vec_len text.new ≤ vec_len text.old + 9) }
+    ensures kept { OnOk result (HasWidth 8 floor) }
+{
+    push_u8(text, stage.number())?;
+    push_u64(text, floor)
+}
+
 fn push_reinit(
     text: &mut Vec<u8>,
     attempt: Attempt,
     stage: CopyStage,
     finished: &Bitmap,
 ) -> Result<(), AllocError>
-    ensures text { OnOk result (text.new.items ≡ text.old.items ++ big_bytes 8 attempt.session ++ big_bytes 4 attempt.incarnation ++ big_bytes 1 (copy_number stage) ++ big_bytes 4 finished.now.count ++ finished.now.bytes) }
-    ensures long { OnOk result (vec_len text.new ≤ vec_len text.old + 1048593) }
-    ensures kept { OnOk result (IsAttempt attempt × IsBitmap finished.now.count finished.now.bytes × IsBytes finished.now.bytes) }
+    ensures text { OnOk result (text.new.items ≡ text.old.items ++ big_bytes 8 attempt.session
+        ++ big_bytes 4 attempt.incarnation ++ big_bytes 1 (copy_number stage)
+        ++ big_bytes 4 finished.now.count ++ finished.now.bytes) }
+    ensures long { OnOk result
+        (vec_len text.new ≤ vec_len text.old + (REINIT_FIELDS + MOST_BITMAP)) }
+    ensures kept { OnOk result (IsAttempt attempt × IsBitmap finished.now.count finished.now.bytes
+        × IsBytes finished.now.bytes) }
 {
     push_attempt(text, attempt)?;
     push_u8(text, stage.number())?;
@@ -128,7 +169,8 @@ fn push_reinit(
 }
 
 fn push_staged(text: &mut Vec<u8>, attempt: Attempt, stage: CopyStage) -> Result<(), AllocError>
-    ensures text { OnOk result (text.new.items ≡ text.old.items ++ big_bytes 8 attempt.session ++ big_bytes 4 attempt.incarnation ++ big_bytes 1 (copy_number stage)) }
+    ensures text { OnOk result (text.new.items ≡ text.old.items ++ big_bytes 8 attempt.session
+        ++ big_bytes 4 attempt.incarnation ++ big_bytes 1 (copy_number stage)) }
     ensures long { OnOk result (vec_len text.new ≤ vec_len text.old + 13) }
     ensures kept { OnOk result (IsAttempt attempt) }
 {
@@ -143,7 +185,9 @@ fn push_block(
     chunk: u32,
     block: u8,
 ) -> Result<(), AllocError>
-    ensures text { OnOk result (text.new.items ≡ text.old.items ++ big_bytes 8 attempt.session ++ big_bytes 4 attempt.incarnation ++ big_bytes 1 stage ++ big_bytes 4 chunk ++ big_bytes 1 block) }
+    ensures text { OnOk result (text.new.items ≡ text.old.items ++ big_bytes 8 attempt.session
+        ++ big_bytes 4 attempt.incarnation ++ big_bytes 1 stage ++ big_bytes 4 chunk
+        ++ big_bytes 1 block) }
     ensures long { OnOk result (vec_len text.new ≤ vec_len text.old + 18) }
     ensures kept { OnOk result (IsAttempt attempt × HasWidth 4 chunk × HasWidth 1 block) }
 {
@@ -154,9 +198,12 @@ fn push_block(
 }
 
 fn push_refusal(text: &mut Vec<u8>, refusal: Refusal) -> Result<(), AllocError>
-    ensures text { OnOk result (text.new.items ≡ text.old.items ++ big_bytes 1 (refusal_number refusal) ++ big_bytes 8 (refusal_first refusal) ++ big_bytes 8 (refusal_second refusal)) }
+    ensures text { OnOk result (text.new.items ≡ text.old.items
+        ++ big_bytes 1 (refusal_number refusal) ++ big_bytes 8 (refusal_first refusal)
+        ++ big_bytes 8 (refusal_second refusal)) }
     ensures long { OnOk result (vec_len text.new ≤ vec_len text.old + 17) }
-    ensures kept { OnOk result (HasWidth 8 (refusal_first refusal) × HasWidth 8 (refusal_second refusal)) }
+    ensures kept { OnOk result (HasWidth 8 (refusal_first refusal)
+        × HasWidth 8 (refusal_second refusal)) }
 {
     push_u8(text, refusal.number())?;
     push_u64(text, refusal.first())?;
@@ -164,8 +211,10 @@ fn push_refusal(text: &mut Vec<u8>, refusal: Refusal) -> Result<(), AllocError>
 }
 
 fn push_spaces(text: &mut Vec<u8>, spaces: &[SpaceSize]) -> Result<(), AllocError>
-    ensures text { OnOk result (text.new.items ≡ text.old.items ++ flat_map space_bytes spaces.now) }
-    ensures long { OnOk result (vec_len text.new ≤ vec_len text.old + 8 * length spaces.now) }
+    ensures text { OnOk result (text.new.items ≡ text.old.items
+        ++ flat_map space_bytes spaces.now) }
+    ensures long { OnOk result
+        (vec_len text.new ≤ vec_len text.old + SPACE_BYTES * length spaces.now) }
     ensures kept { OnOk result (AllAre IsSpace spaces.now) }
 {
     for space in spaces {
@@ -176,7 +225,8 @@ fn push_spaces(text: &mut Vec<u8>, spaces: &[SpaceSize]) -> Result<(), AllocErro
 
 fn push_pages(text: &mut Vec<u8>, pages: &[PageAt]) -> Result<(), AllocError>
     ensures text { OnOk result (text.new.items ≡ text.old.items ++ flat_map page_bytes pages.now) }
-    ensures long { OnOk result (vec_len text.new ≤ vec_len text.old + 4104 * length pages.now) }
+    ensures long { OnOk result
+        (vec_len text.new ≤ vec_len text.old + PAGE_AT_BYTES * length pages.now) }
     ensures kept { OnOk result (AllAre IsPageAt pages.now) }
 {
     for page in pages {
@@ -186,18 +236,23 @@ fn push_pages(text: &mut Vec<u8>, pages: &[PageAt]) -> Result<(), AllocError>
 }
 
 fn push_counted_pages(text: &mut Vec<u8>, pages: &Pages) -> Result<(), AllocError>
-    ensures text { OnOk result (text.new.items ≡ text.old.items ++ big_bytes 1 (length pages.now) ++ flat_map page_bytes pages.now) }
-    ensures long { OnOk result (vec_len text.new ≤ vec_len text.old + 32833) }
-    ensures kept { OnOk result (AllAre IsPageAt pages.now × (1 ≤ length pages.now) × (length pages.now ≤ 8)) }
+    ensures text { OnOk result (text.new.items ≡ text.old.items ++ big_bytes 1 (length pages.now)
+        ++ flat_map page_bytes pages.now) }
+    ensures long { OnOk result
+        (vec_len text.new ≤ vec_len text.old + (1 + PAGE_AT_BYTES * MOST_PAGES)) }
+    ensures kept { OnOk result (AllAre IsPageAt pages.now × (1 ≤ length pages.now)
+        × (length pages.now ≤ MOST_PAGES)) }
 {
     push_u8(text, pages.as_slice().len() as u8)?;
     push_pages(text, pages.as_slice())
 }
 
 fn push_redo(text: &mut Vec<u8>, from: u64, bytes: &RedoBytes) -> Result<(), AllocError>
-    ensures text { OnOk result (text.new.items ≡ text.old.items ++ big_bytes 8 from ++ big_bytes 4 (length bytes.now) ++ bytes.now) }
-    ensures long { OnOk result (vec_len text.new ≤ vec_len text.old + 16396) }
-    ensures kept { OnOk result (HasWidth 8 from × IsBytes bytes.now × (1 ≤ length bytes.now) × (length bytes.now ≤ 16384)) }
+    ensures text { OnOk result (text.new.items ≡ text.old.items ++ big_bytes 8 from
+        ++ big_bytes 4 (length bytes.now) ++ bytes.now) }
+    ensures long { OnOk result (vec_len text.new ≤ vec_len text.old + (12 + MOST_REDO)) }
+    ensures kept { OnOk result (HasWidth 8 from × IsBytes bytes.now × (1 ≤ length bytes.now)
+        × (length bytes.now ≤ MOST_REDO)) }
 {
     push_u64(text, from)?;
     push_u32(text, bytes.as_slice().len() as u32)?;
@@ -206,9 +261,17 @@ fn push_redo(text: &mut Vec<u8>, from: u64, bytes: &RedoBytes) -> Result<(), All
 
 #[tactic(auto, unfolding(crate::specs::Spelling::plan_bytes))]
 fn push_plan(text: &mut Vec<u8>, plan: &StagePlan) -> Result<(), AllocError>
-    ensures text { OnOk result (text.new.items ≡ text.old.items ++ big_bytes 1 (stage_number (stage_of plan.now)) ++ big_bytes 4 (chunks_of plan.now) ++ big_bytes 8 (checkpoint_of plan.now) ++ big_bytes 8 (lsn_of plan.now) ++ big_bytes 8 (position_of plan.now) ++ big_bytes 2 (length (spaces_of plan.now)) ++ flat_map space_bytes (spaces_of plan.now)) }
-    ensures long { OnOk result (vec_len text.new ≤ vec_len text.old + 535) }
-    ensures kept { OnOk result (HasWidth 4 (chunks_of plan.now) × HasWidth 8 (checkpoint_of plan.now) × HasWidth 8 (lsn_of plan.now) × HasWidth 8 (position_of plan.now) × AllAre IsSpace (spaces_of plan.now) × (length (spaces_of plan.now) ≤ 63)) }
+    ensures text { OnOk result (text.new.items ≡ text.old.items
+        ++ big_bytes 1 (stage_number (stage_of plan.now)) ++ big_bytes 4 (chunks_of plan.now)
+        ++ big_bytes 8 (checkpoint_of plan.now) ++ big_bytes 8 (lsn_of plan.now)
+        ++ big_bytes 8 (position_of plan.now) ++ big_bytes 2 (length (spaces_of plan.now))
+        ++ flat_map space_bytes (spaces_of plan.now)) }
+    ensures long { OnOk result
+        (vec_len text.new ≤ vec_len text.old + (31 + SPACE_BYTES * MOST_SPACES)) }
+    ensures kept { OnOk result (HasWidth 4 (chunks_of plan.now)
+        × HasWidth 8 (checkpoint_of plan.now) × HasWidth 8 (lsn_of plan.now)
+        × HasWidth 8 (position_of plan.now) × AllAre IsSpace (spaces_of plan.now)
+        × (length (spaces_of plan.now) ≤ MOST_SPACES)) }
 {
     push_u8(text, plan.stage().number())?;
     push_u32(text, plan.chunks())?;
@@ -219,9 +282,62 @@ fn push_plan(text: &mut Vec<u8>, plan: &StagePlan) -> Result<(), AllocError>
     push_spaces(text, plan.spaces())
 }
 
+fn push_stage(text: &mut Vec<u8>, attempt: Attempt, plan: &StagePlan) -> Result<(), AllocError>
+    ensures text { OnOk result (text.new.items ≡ text.old.items ++ attempt_bytes attempt
+        ++ plan_bytes plan.now) }
+    ensures long { OnOk result
+        (vec_len text.new ≤ vec_len text.old + (STAGE_FIELDS + SPACE_BYTES * MOST_SPACES)) }
+    ensures kept { OnOk result (IsAttempt attempt × IsPlan plan.now) }
+{
+    push_attempt(text, attempt)?;
+    push_plan(text, plan)
+}
+
+fn push_pages_block(
+    text: &mut Vec<u8>,
+    attempt: Attempt,
+    stage: PageStage,
+    chunk: u32,
+    block: u8,
+    pages: &Pages,
+) -> Result<(), AllocError>
+    ensures text { OnOk result (text.new.items ≡ text.old.items ++ big_bytes 8 attempt.session
+        ++ big_bytes 4 attempt.incarnation ++ big_bytes 1 (page_number stage) ++ big_bytes 4 chunk
+        ++ big_bytes 1 block ++ big_bytes 1 (length pages.now) ++ flat_map page_bytes pages.now) }
+    ensures long { OnOk result
+        (vec_len text.new ≤ vec_len text.old + (PAGES_FIELDS + PAGE_AT_BYTES * MOST_PAGES)) }
+    ensures kept { OnOk result (IsAttempt attempt × HasWidth 4 chunk × HasWidth 1 block
+        × AllAre IsPageAt pages.now × (1 ≤ length pages.now) × (length pages.now ≤ MOST_PAGES)) }
+{
+    push_block(text, attempt, stage.number(), chunk, block)?;
+    push_counted_pages(text, pages)
+}
+
+fn push_redo_block(
+    text: &mut Vec<u8>,
+    attempt: Attempt,
+    chunk: u32,
+    block: u8,
+    from: u64,
+    bytes: &RedoBytes,
+) -> Result<(), AllocError>
+    ensures text { OnOk result (text.new.items ≡ text.old.items ++ big_bytes 8 attempt.session
+        ++ big_bytes 4 attempt.incarnation ++ big_bytes 1 3 ++ big_bytes 4 chunk
+        ++ big_bytes 1 block ++ big_bytes 8 from ++ big_bytes 4 (length bytes.now) ++ bytes.now) }
+    ensures long { OnOk result
+        (vec_len text.new ≤ vec_len text.old + (REDO_FIELDS + MOST_REDO)) }
+    ensures kept { OnOk result (IsAttempt attempt × HasWidth 4 chunk × HasWidth 1 block
+        × HasWidth 8 from × IsBytes bytes.now × (1 ≤ length bytes.now)
+        × (length bytes.now ≤ MOST_REDO)) }
+{
+    push_block(text, attempt, 3, chunk, block)?;
+    push_redo(text, from, bytes)
+}
+
 pub(crate) fn push_payload(text: &mut Vec<u8>, frame: &Frame) -> Result<(), AllocError>
     ensures text { OnOk result (text.new.items ≡ text.old.items ++ payload frame.now) }
-    ensures long { OnOk result (vec_len text.new ≤ vec_len text.old + 1048593) }
+    ensures long { OnOk result
+        (vec_len text.new ≤ vec_len text.old + (REINIT_FIELDS + MOST_BITMAP)) }
     ensures kept { OnOk result (IsFrame frame.now) }
 {
     match frame {
@@ -232,45 +348,30 @@ pub(crate) fn push_payload(text: &mut Vec<u8>, frame: &Frame) -> Result<(), Allo
             compressed,
             tasks,
         } => push_init(text, *attempt, *version, *page_size, *compressed, *tasks),
-        Frame::Attach { attempt, task } => {
-            push_attempt(text, *attempt)?;
-            push_u8(text, *task)
-        }
+        Frame::Attach { attempt, task } => push_attach(text, *attempt, *task),
         Frame::Reinit {
             attempt,
             stage,
             finished,
         } => push_reinit(text, *attempt, *stage, finished),
         Frame::Execute { stage } => push_u8(text, stage.number()),
-        Frame::Ack { stage, floor } => {
-            push_u8(text, stage.number())?;
-            push_u64(text, *floor)
-        }
+        Frame::Ack { stage, floor } => push_ack(text, *stage, *floor),
         Frame::Exit => Ok(()),
-        Frame::Stage { attempt, plan } => {
-            push_attempt(text, *attempt)?;
-            push_plan(text, plan)
-        }
+        Frame::Stage { attempt, plan } => push_stage(text, *attempt, plan),
         Frame::Pages {
             attempt,
             stage,
             chunk,
             block,
             pages,
-        } => {
-            push_block(text, *attempt, stage.number(), *chunk, *block)?;
-            push_counted_pages(text, pages)
-        }
+        } => push_pages_block(text, *attempt, *stage, *chunk, *block, pages),
         Frame::Redo {
             attempt,
             chunk,
             block,
             from,
             bytes,
-        } => {
-            push_block(text, *attempt, 3, *chunk, *block)?;
-            push_redo(text, *from, bytes)
-        }
+        } => push_redo_block(text, *attempt, *chunk, *block, *from, bytes),
         Frame::End { attempt, stage } => push_staged(text, *attempt, *stage),
         Frame::Refused { refusal } => push_refusal(text, *refusal),
     }

@@ -1,0 +1,38 @@
+/// The bytes of a frame's code and length.
+pub const HEAD_BYTES: usize = 5;
+
+/// The most chunks of a bitmap.
+pub const MOST_CHUNKS: u32 = 8_388_608;
+
+/// The most bytes of a bitmap, which has 8 chunks a byte.
+pub const MOST_BITMAP: usize = MOST_CHUNKS as usize / 8;
+
+/// The most spaces of a stage: 62 tables and the system space.
+pub const MOST_SPACES: usize = 63;
+
+/// The most pages of a block.
+pub const MOST_PAGES: usize = 8;
+
+/// The most bytes of redo in a block.
+pub const MOST_REDO: usize = 16_384;
+
+/// The bytes of REINIT's fields before the bitmap.
+pub const REINIT_FIELDS: usize = 17;
+
+/// The bytes of STAGE's fields before the spaces.
+pub const STAGE_FIELDS: usize = 43;
+
+/// The bytes of PAGES's fields before the pages.
+pub const PAGES_FIELDS: usize = 19;
+
+/// The bytes of REDO's fields before the redo.
+pub const REDO_FIELDS: usize = 30;
+
+/// The bytes of a space and its number of pages.
+pub const SPACE_BYTES: usize = 8;
+
+/// The bytes of a page.
+pub const PAGE_BYTES: usize = 4096;
+
+/// The bytes of a page with its space and its number.
+pub const PAGE_AT_BYTES: usize = 8 + PAGE_BYTES;
