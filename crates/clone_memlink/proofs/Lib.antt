@@ -1,1 +1,5 @@
 pub mod Carrying
+pub mod Seen
+pub mod Sending
+pub mod Settling
+pub mod Naming

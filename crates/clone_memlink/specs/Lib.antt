@@ -1,3 +1,5 @@
 pub mod Ways
 pub mod Connections
 pub mod Ends
+pub mod Held
+pub mod Nets

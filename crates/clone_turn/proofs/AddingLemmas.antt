@@ -5,24 +5,10 @@ use Rattle.std.specs.List.Sorted.{IsPermutation}
 use Rattle.std.proofs.lemmas.List.{append-nil, length-append, map-append}
 use Rattle.std.proofs.lemmas.List.Sorted.{IsPermutation-map, length_permutation}
 use Rattle.clone_turn.specs.declared.view.Entry.{Entry}
-use Rattle.clone_turn.specs.Runs.{IsLegalRun, end_of, entries, others, calls}
+use Rattle.clone_turn.specs.Runs.{IsLegalRun, end_of, entries, calls}
 use Rattle.clone_turn.specs.Seats.{SeatModel, CellModel, MakesCall, ClosesAt, HasWhole, first_seat, left_seat, right_seat, joined_seat}
 use Rattle.clone_turn.specs.Adding.{Adds, HasMade, answers_of}
-
-module _ {S C A : Type 0} where
-  calls-append : (xs ys : List (Entry S C A × Bool)) → calls (xs ++ ys) ≡ calls xs ++ calls ys
-  calls-append [] ys = refl
-  calls-append ((e, true) ∷ xs) ys = ap (λ es. e ∷ es) (calls-append xs ys)
-  calls-append ((e, false) ∷ xs) ys = calls-append xs ys
-
-  calls-others : (es : List (Entry S C A)) → calls (others es) ≡ []
-  calls-others [] = refl
-  calls-others (e ∷ es) = calls-others es
-
-  -- one call more
-  calls_more : (xs : List (Entry S C A × Bool)) (rest : List (Entry S C A)) (e : Entry S C A) → calls ((xs ++ others rest) ++ (e, true) ∷ []) ≡ calls xs ++ e ∷ []
-  calls_more xs rest e =
-      calls-append (xs ++ others rest) ((e, true) ∷ []) ∙ ap (λ es. es ++ e ∷ []) (calls-append xs (others rest) ∙ (ap (λ es. calls xs ++ es) (calls-others rest) ∙ append-nil (calls xs)))
+use Rattle.clone_turn.proofs.OwnCalls.{calls_more}
 
 abbrev Adding : Type 0
 Adding = SeatModel ℕ (Unit {0}) ℕ

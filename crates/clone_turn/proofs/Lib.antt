@@ -12,6 +12,7 @@ pub mod Melding
 pub mod Settling
 pub mod SeatLemmas
 pub mod Sending
+pub mod OwnCalls
 pub mod AddingLemmas
 pub mod AdderSending
 pub mod Crossing
