@@ -1,6 +1,6 @@
 -- Each edit keeps what holds of a frame.
-use Rattle.std.proofs.Common.{◌≡◌, ◌≢◌, ◌<◌, ◌≤◌, ◌-◌, ◌^◌, ◌⊎◌, inl, inr, ◌==◌, ◌&&◌, ℕ, Bool, true, false, cond, List, not, Option, Some, None, IsSome, is_some, unwrap_or, refl, sym, ap, subst, ◌∙◌, arith}
-use Rattle.std.proofs.lemmas.Bool.{false≢true, and_parts, and_from, and_cases, eqb-true, eqb-false, eq-eqb, not_from_false, cond_both}
+use Rattle.std.proofs.Common.{◌≡◌, ◌<◌, ◌≤◌, ◌-◌, ◌⊎◌, inl, inr, ◌==◌, ◌&&◌, ℕ, Bool, true, false, List, not, Option, Some, None, is_some, unwrap_or, refl, sym, ap, ◌∙◌, arith}
+use Rattle.std.proofs.lemmas.Bool.{false≢true, and_parts, and_from, and_cases, eqb-false, eq-eqb, not_from_false, cond_both}
 use Rattle.clone_pool.specs.declared.frame.Frame.{Frame}
 use Rattle.clone_pool.specs.declared.frame.Content.{Content}
 use Rattle.clone_pool.specs.declared.frame.Content.TheVariants.{Unused, Fresh, Held}
@@ -9,7 +9,7 @@ use Rattle.clone_pool.specs.declared.frame.Flush.TheVariants.{Idle, Begun, Faile
 use Rattle.clone_pool.specs.declared.frame.PageName.{PageName}
 use Rattle.clone_pool.specs.declared.tournament.TheConstants.{NO_NUMBER}
 use Rattle.clone_mtr.specs.declared.record.Record.{Record}
-use Rattle.clone_pool.specs.Frames.{no_frame, name_of, name_in, HoldsPage, is_dirty, may_go, is_begun, is_waiting, IsInFlight, is_fresh, made, noted, later_in, next_use, touched, emptied, filled, freshened, pinned, unpinned, changed, begun, landed, failed, discarded}
+use Rattle.clone_pool.specs.Frames.{no_frame, name_of, name_in, HoldsPage, is_dirty, may_go, is_begun, is_waiting, IsInFlight, is_fresh, made, noted, later_in, touched, emptied, filled, freshened, pinned, unpinned, changed, begun, landed, failed, discarded}
 use Rattle.clone_pool.specs.Pool.{IsFrame}
 
 no_page : (f : Frame) → HoldsPage f → name_of f ≡ None → ⊥

@@ -4,3 +4,4 @@ pub mod NameLemmas
 pub mod FrameLemmas
 pub mod PoolLemmas
 pub mod OrderLemmas
+pub mod ChainLemmas

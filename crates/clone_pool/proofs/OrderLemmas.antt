@@ -1,5 +1,5 @@
 -- What the orders of a pool say of its frames.
-use Rattle.std.proofs.Common.{◌≡◌, ◌<◌, ◌≤◌, ◌&&◌, ℕ, Bool, true, false, cond, not, List, length, map, refl, sym, ap, subst, ◌∙◌, arith, Option, Some, None, IfSome, is_some, unwrap_or}
+use Rattle.std.proofs.Common.{◌≡◌, ◌<◌, ◌≤◌, ℕ, Bool, true, false, cond, not, List, length, map, refl, ap, subst, ◌∙◌, arith, Option, Some, None, IfSome, is_some, unwrap_or}
 use Rattle.std.proofs.lemmas.Bool.{and_parts, false≢true}
 use Rattle.std.proofs.lemmas.List.{length-map, get_or-map}
 use Rattle.clone_pool.specs.declared.frame.Frame.{Frame}
@@ -8,7 +8,7 @@ use Rattle.clone_pool.specs.declared.tournament.Rank.{Rank}
 use Rattle.clone_pool.specs.declared.tournament.TheConstants.{NO_NUMBER}
 use Rattle.clone_pool.specs.Frames.{no_frame, frame_at, may_go, is_dirty, is_waiting, is_begun}
 use Rattle.clone_pool.specs.Orders.{use_rank, age_rank, waiting_rank, no_name}
-use Rattle.clone_pool.specs.Pool.{Frames, IsKept, IsFrame, IsVictim, AreKept, AreClean, IsOldest, AreNotWaiting, IsNextToFlush}
+use Rattle.clone_pool.specs.Pool.{Frames, IsKept, IsVictim, AreKept, AreClean, IsOldest, AreNotWaiting, IsNextToFlush}
 use Rattle.clone_pool.specs.Tournament.{IsFirst, HasNoRank, rank_at, no_rank, is_before}
 use Rattle.clone_pool.proofs.RankLemmas.{number_le}
 

@@ -1,6 +1,5 @@
 -- What is kept of the frames beside them: their pages, and three orders.
-use Rattle.std.specs.Prelude.{ℕ, ◌≡◌, List, length, map, if◌then◌else◌, None, Some, unwrap_or, slice_set}
-use Rattle.std.specs.declared.option.Option.{Option}
+use Rattle.std.specs.Prelude.{ℕ, ◌≡◌, List, length, map, if◌then◌else◌, unwrap_or, slice_set}
 use Rattle.clone_pool.specs.declared.frame.Frame.{Frame}
 use Rattle.clone_pool.specs.declared.frame.PageName.{PageName}
 use Rattle.clone_pool.specs.declared.orders.Orders.{Orders}

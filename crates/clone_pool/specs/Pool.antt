@@ -1,8 +1,6 @@
 -- What contracts see of a pool, and what its calls do to it.
-use Rattle.std.specs.Prelude.{ℕ, ◌≡◌, ◌<◌, ◌≤◌, ◌^◌, ◌-◌, true, false, List, length, Some, None, IfNone, Result, Ok, Err, MatchOption, slice_set, unwrap_or}
-use Rattle.std.specs.declared.option.Option.{Option}
+use Rattle.std.specs.Prelude.{ℕ, ◌≡◌, ◌<◌, ◌≤◌, ◌^◌, ◌-◌, true, false, List, length, Some, None, Result, Ok, Err, MatchOption, slice_set, unwrap_or}
 use Rattle.clone_pool.specs.declared.frame.Frame.{Frame}
-use Rattle.clone_pool.specs.declared.frame.Content.TheVariants.{Unused}
 use Rattle.clone_pool.specs.declared.frame.Flush.TheVariants.{Idle}
 use Rattle.clone_pool.specs.declared.frame.PageName.{PageName}
 use Rattle.clone_pool.specs.declared.orders.Orders.{Orders}

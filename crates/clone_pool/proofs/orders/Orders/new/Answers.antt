@@ -1,4 +1,4 @@
-use Rattle.std.proofs.Common.{◌≡◌, ◌∙◌, replicate, sym}
+use Rattle.std.proofs.Common.{◌∙◌, sym}
 use Rattle.clone_pool.specs.Frames.{no_frame, name_of}
 use Rattle.clone_pool.specs.Orders.{use_rank, age_rank, waiting_rank}
 use Rattle.clone_pool.proofs.PoolLemmas.{map_all}

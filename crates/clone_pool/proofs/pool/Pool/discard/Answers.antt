@@ -1,7 +1,7 @@
 use Rattle.std.proofs.Common.{◌≡◌, ◌<◌, ◌∙◌, length, ap, subst, sym, arith, Some, None}
 use Rattle.std.proofs.lemmas.List.{get_or_read}
 use Rattle.clone_pool.specs.declared.frame.Frame.{Frame}
-use Rattle.clone_pool.specs.Frames.{no_frame, frame_at, name_of, HoldsPage}
+use Rattle.clone_pool.specs.Frames.{no_frame, frame_at, name_of}
 use Rattle.clone_pool.specs.Pool.{Frames, IsFrame}
 use Rattle.clone_pool.proofs.FrameLemmas.{discarded_frame}
 use Rattle.clone_pool.proofs.PoolLemmas.{replaced}

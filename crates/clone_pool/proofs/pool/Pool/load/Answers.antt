@@ -1,7 +1,7 @@
-use Rattle.std.proofs.Common.{◌≡◌, ◌<◌, ◌∙◌, length, set, Some, None, true, ap, subst, sym, arith}
+use Rattle.std.proofs.Common.{◌≡◌, ◌∙◌, set, Some, None, true, ap, subst, sym, arith}
 use Rattle.std.proofs.lemmas.List.{get_or_read}
 use Rattle.clone_pool.specs.declared.frame.Frame.{Frame}
-use Rattle.clone_pool.specs.Frames.{no_frame, frame_at, name_of, holder, may_go, filled, next_use}
+use Rattle.clone_pool.specs.Frames.{no_frame, frame_at, name_of, holder, may_go, filled}
 use Rattle.clone_pool.specs.Pool.{Frames, Fills, IsFrame, IsVictim}
 use Rattle.clone_pool.proofs.FrameLemmas.{emptied_frame, filled_frame}
 use Rattle.clone_pool.proofs.PoolLemmas.{replaced, other_page}

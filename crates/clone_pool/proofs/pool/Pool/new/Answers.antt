@@ -2,7 +2,7 @@ use Rattle.std.proofs.Common.{◌≡◌, ◌∙◌, List, replicate, ap, subst, 
 use Rattle.clone_pool.specs.declared.frame.Frame.{Frame}
 use Rattle.clone_pool.specs.declared.orders.Orders.{Orders}
 use Rattle.clone_pool.specs.Frames.{no_frame}
-use Rattle.clone_pool.specs.Pool.{Frames, IsKept}
+use Rattle.clone_pool.specs.Pool.{IsKept}
 use Rattle.clone_pool.proofs.PoolLemmas.{made}
 use Rattle.clone_pool.proofs.pool.Pool.new.Goals as goal
 

@@ -1,4 +1,4 @@
-use Rattle.std.proofs.Common.{IfSome, ap, subst, sym, arith}
+use Rattle.std.proofs.Common.{IfSome, ap, subst, sym}
 use Rattle.std.proofs.lemmas.List.{get_or_read}
 use Rattle.clone_pool.specs.declared.frame.Frame.{Frame}
 use Rattle.clone_pool.specs.Frames.{no_frame}

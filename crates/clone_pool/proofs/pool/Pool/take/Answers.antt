@@ -1,8 +1,7 @@
-use Rattle.std.proofs.Common.{◌≡◌, ◌<◌, ◌∙◌, length, Some, None, true, ap, subst, sym, arith}
+use Rattle.std.proofs.Common.{◌≡◌, None, true, ap, subst, sym, arith}
 use Rattle.std.proofs.lemmas.List.{get_or_read}
 use Rattle.clone_pool.specs.declared.frame.Frame.{Frame}
-use Rattle.clone_pool.specs.declared.frame.PageName.{PageName}
-use Rattle.clone_pool.specs.Frames.{no_frame, frame_at, name_of, holder, may_go}
+use Rattle.clone_pool.specs.Frames.{no_frame, name_of, holder, may_go}
 use Rattle.clone_pool.specs.Pool.{Frames, IsFrame, IsVictim}
 use Rattle.clone_pool.proofs.FrameLemmas.{freshened_frame}
 use Rattle.clone_pool.proofs.PoolLemmas.{replaced, other_page}

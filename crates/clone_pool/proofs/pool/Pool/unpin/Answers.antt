@@ -1,7 +1,7 @@
-use Rattle.std.proofs.Common.{◌≡◌, ◌<◌, ◌∙◌, length, ap, subst, sym, arith}
+use Rattle.std.proofs.Common.{◌<◌, ◌∙◌, length, ap, subst, sym}
 use Rattle.std.proofs.lemmas.List.{get_or_read}
 use Rattle.clone_pool.specs.declared.frame.Frame.{Frame}
-use Rattle.clone_pool.specs.Frames.{no_frame, frame_at, name_of, HoldsPage}
+use Rattle.clone_pool.specs.Frames.{no_frame, frame_at, HoldsPage}
 use Rattle.clone_pool.specs.Pool.{Frames, IsFrame}
 use Rattle.clone_pool.proofs.FrameLemmas.{KeepsOrLosesPage, unpinned_frame, unpinned_page}
 use Rattle.clone_pool.proofs.PoolLemmas.{shrunk}

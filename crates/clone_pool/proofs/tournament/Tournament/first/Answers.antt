@@ -1,4 +1,4 @@
-use Rattle.std.proofs.Common.{◌≡◌, ◌≤◌, ◌-◌, ℕ, false, List, drop, get_or, subst, sym, ap, ◌∙◌, arith}
+use Rattle.std.proofs.Common.{◌≡◌, ◌-◌, false, List, drop, subst, sym, ap, ◌∙◌, arith}
 use Rattle.std.proofs.lemmas.List.{get_or-drop, length-drop, get_or_read}
 use Rattle.clone_pool.specs.declared.tournament.Rank.{Rank}
 use Rattle.clone_pool.specs.Tournament.{HasNoRank, IsFirst, rank_at, is_before, no_rank}

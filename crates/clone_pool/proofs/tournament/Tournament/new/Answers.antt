@@ -1,4 +1,4 @@
-use Rattle.std.proofs.Common.{◌≡◌, ◌∙◌, ◌*◌, ◌-◌, replicate, drop, ap, subst, sym, arith}
+use Rattle.std.proofs.Common.{◌≡◌, ◌∙◌, ◌*◌, replicate, drop, ap, subst, sym, arith}
 use Rattle.std.proofs.lemmas.List.{drop-replicate}
 use Rattle.clone_pool.specs.Tournament.{IsTournament}
 use Rattle.clone_pool.proofs.TournamentLemmas.{one_rank}
