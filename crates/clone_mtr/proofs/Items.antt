@@ -64,7 +64,7 @@ pub byte_takes : (bytes : List ℕ) (x : ℕ × List ℕ) → IsBytes bytes → 
 byte_takes [] x fit e = absurd (cc)
 byte_takes (b ∷ rest) x fit e =
     let made : ℕ × List ℕ = (b, rest) in
-    subst (λ (y : ℕ × List ℕ). Takes (b ∷ rest) (y.0 ∷ []) y.1 × (y.0 < 256)) (ok_is made x e) (record { parts = refl; rest_fits = λ i. fit (suc i) }, fit 0)
+    subst (λ (y : ℕ × List ℕ). Takes (b ∷ rest) (y.0 ∷ []) y.1 × (y.0 < 256)) {x = made} (ok_is made x e) (record { parts = refl; rest_fits = λ i. fit (suc i) }, fit 0)
 
 two_bytes : (high low : ℕ) → high < 256 → low < 256 → big_bytes 2 (high * 256 + low) ≡ high ∷ low ∷ []
 two_bytes high low p q =
@@ -94,7 +94,7 @@ kind_at_takes at bytes x fit e =
           let both = Takes-then bytes (a.0.0 ∷ []) a.0.1 (b.0.0 ∷ []) b.0.1 high.0 low.0 in
           let known : Takes bytes (0 ∷ kind_number c.0 ∷ []) b.0.1 = subst (λ n. Takes bytes (n ∷ kind_number c.0 ∷ []) b.0.1) zero_high (subst (λ n. Takes bytes (a.0.0 ∷ n ∷ []) b.0.1) (kind_takes at b.0.0 c.0 c.1) both) in
           let made : PageKind × List ℕ = (c.0, b.0.1) in
-          subst (λ (y : PageKind × List ℕ). Takes bytes (big_bytes 2 (kind_number y.0)) y.1) (ok_is made x c.2) (rw kind_bytes known)
+          subst (λ (y : PageKind × List ℕ). Takes bytes (big_bytes 2 (kind_number y.0)) y.1) {x = made} (ok_is made x c.2) (rw kind_bytes known)
     ]
 
 kind_at_again : (at : ℕ) (kind : PageKind) (rest : List ℕ) → kind_at at (big_bytes 2 (kind_number kind) ++ rest) ≡ Ok (kind, rest)
@@ -147,7 +147,7 @@ long_takes at offset bytes x fit e =
     let known = subst P (sym body.1) (Takes-then bytes (big_bytes 2 long) c.0.1 f.0.0 f.0.1 spelled body.0, told.0, told.1) in
     let made : Patched × List ℕ = (record { offset = offset; bytes = f.0.0 }, f.0.1) in
     subst (λ (y : Patched × List ℕ). Takes bytes (big_bytes 2 (length y.0.bytes) ++ y.0.bytes) y.1 × (y.0.offset ≡ offset) × IsAllowed offset (length y.0.bytes) × AreBytes y.0.bytes × (at + (4 + length y.0.bytes) ≤ 1023))
-    (ok_is made x f.2) (known.0, refl, known.1, bytes_all f.0.0 body.2, known.2)
+    {x = made} (ok_is made x f.2) (known.0, refl, known.1, bytes_all f.0.0 body.2, known.2)
 
 patch_takes : (at : ℕ) (bytes : List ℕ) (x : Patched × List ℕ) → IsBytes bytes → patch_at at bytes ≡ Ok x
     → Takes bytes (big_bytes 2 x.0.offset ++ (big_bytes 2 (length x.0.bytes) ++ x.0.bytes)) x.1 × IsAllowed x.0.offset (length x.0.bytes) × AreBytes x.0.bytes × (at + (4 + length x.0.bytes) ≤ 1023)
@@ -237,7 +237,7 @@ extend_takes at bytes x room_there fits e =
     let a = bind_ok (pair_at bytes) (λ pair. Ok (Extend pair.0 pair.1, pair.2)) x e in
     let pair = pair_takes bytes a.0 fits a.1 in
     let made : Record × List ℕ = (Extend a.0.0 a.0.1, a.0.2) in
-    subst (λ (y : Record × List ℕ). Reads 3 at bytes y) (ok_is made x a.2)
+    subst (λ (y : Record × List ℕ). Reads 3 at bytes y) {x = made} (ok_is made x a.2)
     (Takes-cons 3 bytes (big_bytes 4 a.0.0 ++ big_bytes 4 a.0.1) a.0.2 pair.0, (pair.1, pair.2), room_there)
 
 create_takes : (at : ℕ) (bytes : List ℕ) (x : Record × List ℕ) → at + 9 ≤ 1023 → IsBytes bytes → create_at bytes ≡ Ok x → Reads 4 at bytes x
@@ -246,7 +246,7 @@ create_takes at bytes x room_there fits e =
     let a = bind_ok (pair_at bytes) (λ pair. Ok (Create pair.0 pair.1, pair.2)) x e in
     let pair = pair_takes bytes a.0 fits a.1 in
     let made : Record × List ℕ = (Create a.0.0 a.0.1, a.0.2) in
-    subst (λ (y : Record × List ℕ). Reads 4 at bytes y) (ok_is made x a.2)
+    subst (λ (y : Record × List ℕ). Reads 4 at bytes y) {x = made} (ok_is made x a.2)
     (Takes-cons 4 bytes (big_bytes 4 a.0.0 ++ big_bytes 4 a.0.1) a.0.2 pair.0, (pair.1, pair.2), room_there)
 
 drop_takes : (at : ℕ) (bytes : List ℕ) (x : Record × List ℕ) → at + 5 ≤ 1023 → IsBytes bytes → drop_at bytes ≡ Ok x → Reads 5 at bytes x
@@ -255,7 +255,7 @@ drop_takes at bytes x room_there fits e =
     let a = bind_ok (number_at 4 bytes) (λ space. Ok (Drop space.0, space.1)) x e in
     let space = number_takes 4 (2 ^ 32) wide4 bytes a.0.0 a.0.1 fits a.1 in
     let made : Record × List ℕ = (Drop a.0.0, a.0.1) in
-    subst (λ (y : Record × List ℕ). Reads 5 at bytes y) (ok_is made x a.2)
+    subst (λ (y : Record × List ℕ). Reads 5 at bytes y) {x = made} (ok_is made x a.2)
     (Takes-cons 5 bytes (big_bytes 4 a.0.0) a.0.1 space.0, space.1, room_there)
 
 one_record : (kind k at least : ℕ) (bytes : List ℕ) (x : Record × List ℕ) (here others : Result (Record × List ℕ) DecodeRefusal)
