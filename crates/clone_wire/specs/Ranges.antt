@@ -11,7 +11,7 @@ use Rattle.clone_wire.specs.declared.stage.StagePlan.TheVariants as plan
 use Rattle.clone_wire.specs.declared.spaces.SpaceSize.{SpaceSize}
 use Rattle.clone_wire.specs.declared.pages.PageAt.{PageAt}
 use Rattle.clone_wire.specs.declared.limits.TheConstants.{MOST_SPACES, MOST_PAGES, MOST_REDO}
-use Rattle.clone_wire.specs.declared.limits.TheConstants.{PAGE_BYTES}
+use Rattle.clone_base.specs.declared.limits.TheConstants.{PAGE_SIZE}
 use Rattle.clone_wire.specs.Bitmaps.{IsBitmap}
 use Rattle.clone_wire.specs.Refusals.{refusal_first, refusal_second}
 
@@ -32,7 +32,7 @@ IsSpace space = HasWidth 4 space.space × HasWidth 4 space.pages
 pub record IsPageAt (page : PageAt) : Type 0 where
   pub space : HasWidth 4 page.space
   pub number : HasWidth 4 page.number
-  pub long : length page.page ≡ PAGE_BYTES
+  pub long : length page.page ≡ PAGE_SIZE
   pub bytes : IsBytes page.page
 
 abbrev pub IsPlan : StagePlan → Type 0

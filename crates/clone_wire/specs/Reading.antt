@@ -17,7 +17,8 @@ use Rattle.clone_wire.specs.declared.pages.PageAt.{PageAt}
 use Rattle.clone_wire.specs.declared.fault.Fault.{Fault}
 use Rattle.clone_wire.specs.declared.fault.Fault.TheVariants.{Short, Garbled, NoMemory}
 use Rattle.clone_wire.specs.declared.numbers.Numbers.{Numbers}
-use Rattle.clone_wire.specs.declared.limits.TheConstants.{PAGE_BYTES, SPACE_BYTES, PAGE_AT_BYTES}
+use Rattle.clone_base.specs.declared.limits.TheConstants.{PAGE_SIZE}
+use Rattle.clone_wire.specs.declared.limits.TheConstants.{SPACE_BYTES, PAGE_AT_BYTES}
 use Rattle.clone_wire.specs.declared.limits.TheConstants.{REINIT_FIELDS, STAGE_FIELDS, PAGES_FIELDS}
 use Rattle.clone_wire.specs.declared.limits.TheConstants.{REDO_FIELDS}
 use Rattle.clone_wire.specs.Choices.{between, only, any_if, has_between}
@@ -154,7 +155,7 @@ unfoldable pub page_at : List ℕ → Result (PageAt × List ℕ) Fault
 page_at bytes = do
   space ← number_at 4 bytes
   number ← number_at 4 space.1
-  page ← bytes_at PAGE_BYTES number.1
+  page ← bytes_at PAGE_SIZE number.1
   Ok (record { space = space.0; number = number.0; page = page.0 }, page.1)
 
 unfoldable pub pages_frame_at : ℕ → List ℕ → Result (Frame × List ℕ) Fault

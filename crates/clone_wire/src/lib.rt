@@ -27,7 +27,7 @@ pub use frame::{Attempt, Frame, Side};
 pub use laws::{one_answer, one_spelling, spells_back};
 pub use limits::{
     HEAD_BYTES, MOST_BITMAP, MOST_CHUNKS, MOST_PAGES, MOST_REDO, MOST_SPACES, PAGE_AT_BYTES,
-    PAGE_BYTES, PAGES_FIELDS, REDO_FIELDS, REINIT_FIELDS, SPACE_BYTES, STAGE_FIELDS,
+    PAGES_FIELDS, REDO_FIELDS, REINIT_FIELDS, SPACE_BYTES, STAGE_FIELDS,
 };
 pub use pages::{PageAt, Pages};
 pub use reading::{decode, read_head};

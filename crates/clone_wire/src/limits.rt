@@ -1,3 +1,5 @@
+use clone_base::{PAGE_SIZE, TABLE_LIMIT};
+
 /// The bytes of a frame's code and length.
 pub const HEAD_BYTES: usize = 5;
 
@@ -7,8 +9,8 @@ pub const MOST_CHUNKS: u32 = 8_388_608;
 /// The most bytes of a bitmap, which has 8 chunks a byte.
 pub const MOST_BITMAP: usize = MOST_CHUNKS as usize / 8;
 
-/// The most spaces of a stage: 62 tables and the system space.
-pub const MOST_SPACES: usize = 63;
+/// The most spaces of a stage: those of the tables, and the system space.
+pub const MOST_SPACES: usize = TABLE_LIMIT + 1;
 
 /// The most pages of a block.
 pub const MOST_PAGES: usize = 8;
@@ -31,8 +33,5 @@ pub const REDO_FIELDS: usize = 30;
 /// The bytes of a space and its number of pages.
 pub const SPACE_BYTES: usize = 8;
 
-/// The bytes of a page.
-pub const PAGE_BYTES: usize = 4096;
-
 /// The bytes of a page with its space and its number.
-pub const PAGE_AT_BYTES: usize = 8 + PAGE_BYTES;
+pub const PAGE_AT_BYTES: usize = 8 + PAGE_SIZE;

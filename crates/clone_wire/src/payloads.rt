@@ -1,9 +1,10 @@
 ghost use Rattle.std.specs.Prelude.{◌≡◌, ◌≤◌, ◌+◌, ◌/◌};
+ghost use Rattle.clone_base.specs.declared.limits.TheConstants.{PAGE_SIZE};
 ghost use Rattle.clone_wire.specs.Bitmaps.{HasLength};
 ghost use Rattle.clone_wire.specs.Choices.{any_if};
 ghost use Rattle.clone_wire.specs.declared.limits.TheConstants.{MOST_BITMAP, MOST_CHUNKS};
 ghost use Rattle.clone_wire.specs.declared.limits.TheConstants.{MOST_SPACES};
-ghost use Rattle.clone_wire.specs.declared.limits.TheConstants.{MOST_PAGES, MOST_REDO, PAGE_BYTES};
+ghost use Rattle.clone_wire.specs.declared.limits.TheConstants.{MOST_PAGES, MOST_REDO};
 ghost use Rattle.clone_wire.specs.Reading.{Gives, attempt_at, init_at, attach_at, reinit_at};
 ghost use Rattle.clone_wire.specs.Reading.{execute_at, ack_at, list_at, space_at, planned};
 ghost use Rattle.clone_wire.specs.Reading.{stage_at, page_at, pages_frame_at, redo_at, end_at};
@@ -13,12 +14,12 @@ ghost use Rattle.clone_wire.specs.Refusals.{value_count};
 use crate::bitmap::ends_at;
 use crate::fault::Fault;
 use crate::fields::{attempt_of, bytes_of, number_in, u8_of, u16_of, u32_of, u64_of};
-use crate::limits::PAGE_BYTES;
 use crate::numbers::Numbers;
 use crate::{
     Bitmap, CopyStage, Frame, PageAt, PageStage, Pages, RedoBytes, Refusal, SpaceSize, Spaces,
     StagePlan,
 };
+use clone_base::PAGE_SIZE;
 use clone_bytes::Reader;
 use clone_page::Page;
 use std::alloc::Global;
@@ -218,9 +219,9 @@ fn page_of(reader: &mut Reader) -> Result<PageAt, Fault>
 }
 
 fn body_of(reader: &mut Reader) -> Result<Page, Fault>
-    ensures { Gives (λ x. (x, reader.new)) result (bytes_at PAGE_BYTES reader.old) }
+    ensures { Gives (λ x. (x, reader.new)) result (bytes_at PAGE_SIZE reader.old) }
 {
-    let bytes = bytes_of(reader, PAGE_BYTES)?;
+    let bytes = bytes_of(reader, PAGE_SIZE)?;
     Ok(Page::from_bytes(bytes))
 }
 
