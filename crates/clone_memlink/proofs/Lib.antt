@@ -3,3 +3,4 @@ pub mod Seen
 pub mod Sending
 pub mod Settling
 pub mod Naming
+pub mod EndSending

@@ -10,6 +10,7 @@ use Rattle.clone_memlink.specs.declared.connection.Connection.{Connection}
 use Rattle.clone_memlink.specs.Connections.{Steps, other}
 use Rattle.clone_memlink.specs.Ends.{LinkEntry, side_of, sent_of, received_of, where_same, sent_in, received_in}
 use Rattle.clone_memlink.specs.Held.{EndModel, IsHalf, MadeBy, sent_by, received_by}
+use Rattle.clone_turn.proofs.Halves.{halves}
 use Rattle.clone_memlink.proofs.Carrying.{honest}
 use Rattle.clone_memlink.proofs.Seen.{LinkSeat}
 
@@ -72,18 +73,11 @@ module _ (side : Side) where
       skip_received side e (calls (meld xs ys)) (ap (λ (x : LinkEntry). side_of x.call) agree.0 ∙ made.0) ∙ received_alone xs ys agree.2 made.1
   received_alone ((e, false) ∷ xs) ((d, false) ∷ ys) agree made = received_alone xs ys agree.2 made
 
-abbrev Sums : ℕ → ℕ → ℕ → ℕ → Type 0
-Sums a h b k = a * 2 ^ (max h k - h) + b * 2 ^ (max h k - k) ≡ 2 ^ max h k
-
-two_halves : (a h b k : ℕ) → a ≡ 1 → h ≡ 1 → b ≡ 1 → k ≡ 1 → Sums a h b k
-two_halves a h b k ea eh eb ek =
-    subst (λ x. Sums x h b k) (sym ea) (subst (λ x. Sums 1 x b k) (sym eh) (subst (λ x. Sums 1 1 x k) (sym eb) (subst (λ x. Sums 1 1 1 x) (sym ek) refl)))
-
 -- the donor's half and the requester's, joined and closed
 module _ (cell : CellModel Connection) (p q all : LinkSeat) (last : Connection) (a : IsHalf cell Donor p) (b : IsHalf cell Requester q) (agree : Agree p.seen q.seen) (joined : all ≡ joined_seat p q)
     (closed : ClosesAt Steps cell.first all last) where
   whole : HasWhole all
-  whole = subst HasWhole (sym joined) (two_halves p.part p.halvings q.part q.halvings a.half.0 a.half.1 b.half.0 b.half.1)
+  whole = subst HasWhole (sym joined) (halves p.part p.halvings q.part q.halvings a.half.0 a.half.1 b.half.0 b.half.1)
 
   -- the run is made of the calls of both
   legal : IsLegalRun Steps cell.first (calls (meld p.seen q.seen))

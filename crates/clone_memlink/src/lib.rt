@@ -7,6 +7,8 @@ mod connection;
 mod cut;
 mod mem_end;
 mod mem_net;
+#[cfg(test)]
+mod net_tests;
 mod piece;
 #[cfg(test)]
 mod tests;

@@ -8,6 +8,7 @@ use Rattle.clone_turn.specs.declared.view.Entry.{Entry}
 use Rattle.clone_turn.specs.Runs.{IsLegalRun, end_of, entries, calls}
 use Rattle.clone_turn.specs.Seats.{SeatModel, CellModel, MakesCall, ClosesAt, HasWhole, first_seat, left_seat, right_seat, joined_seat}
 use Rattle.clone_turn.specs.Adding.{Adds, HasMade, answers_of}
+use Rattle.clone_turn.proofs.Halves.{halves}
 use Rattle.clone_turn.proofs.OwnCalls.{calls_more}
 
 abbrev Adding : Type 0
@@ -40,14 +41,6 @@ sum_of_run first (e ∷ es) legal low =
     let after : e.after ≡ first + 1 = (let a : e.after ≡ (first + 1) % 2 ^ 64 = legal.0.0 in omega arith) in
     let more = sum_of_run e.after es legal.1 (omega arith) in
     (more.0 ∙ omega arith, ap (λ a. a ∷ map (λ (x : Entry ℕ (Unit {0}) ℕ). x.answer) es) (legal.0.1 ∙ after) ∙ ap (λ xs. (first + 1) ∷ xs) (more.1 ∙ ap (λ s. range_with_len (s + 1) (length es)) after))
-
-abbrev Sums : ℕ → ℕ → ℕ → ℕ → Type 0
-Sums a h b k = a * 2 ^ (max h k - h) + b * 2 ^ (max h k - k) ≡ 2 ^ max h k
-
--- two halves are the whole
-halves : (a h b k : ℕ) → a ≡ 1 → h ≡ 1 → b ≡ 1 → k ≡ 1 → Sums a h b k
-halves a h b k ea eh eb ek =
-    subst (λ x. Sums x h b k) (sym ea) (subst (λ x. Sums 1 x b k) (sym eh) (subst (λ x. Sums 1 1 x k) (sym eb) (subst (λ x. Sums 1 1 1 x) (sym ek) refl)))
 
 -- n calls by each of the two halves of a seat that had made none
 module _ (n sum : ℕ) (c : CellModel ℕ) (p l r one two all : Adding) (low : n < 2 ^ 62) (zero_first : c.first ≡ 0) (start : p ≡ first_seat c) (left_is : l ≡ left_seat p) (right_is : r ≡ right_seat p)

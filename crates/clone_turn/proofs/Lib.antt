@@ -13,6 +13,7 @@ pub mod Settling
 pub mod SeatLemmas
 pub mod Sending
 pub mod OwnCalls
+pub mod Halves
 pub mod AddingLemmas
 pub mod AdderSending
 pub mod Crossing

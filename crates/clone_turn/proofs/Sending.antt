@@ -1,4 +1,4 @@
--- A seat may go to another thread.
+-- A seat and a cell may go to another thread, and a cell is shared.
 use mathlib.Core.List.{[], ◌∷◌}
 use denote.RattleType.{RattleType}
 use denote.Param.Send.{IsSend, IsSync, struct_send, recorded_send, view_send}
@@ -16,7 +16,7 @@ use Rattle.clone_turn.specs.contracts.raw.RawCell as RawCell
 use Rattle.clone_turn.specs.contracts.cell.TurnCell as Cell
 use Rattle.clone_turn.specs.contracts.cell.TurnCell.TheInside as CellInside
 use denote.Param.Send.{struct_sync, recorded_sync, view_sync}
-use Rattle.atomic_table.proofs.owned.Table.TheSendSync.{the_field_sync as table_sync}
+use Rattle.atomic_table.proofs.owned.Table.TheSendSync.{the_field_send as whole_table_send, the_field_sync as table_sync}
 use Rattle.clone_turn.specs.contracts.view.View as View
 use Rattle.clone_turn.specs.contracts.rule.Turns as Turns
 use Rattle.clone_turn.specs.contracts.rule.TurnsTableRuleHeldOfViewOfSnapshotState.TheImpl as Rule
@@ -52,3 +52,12 @@ module _ (M S C A K : RattleType) (g : Ghosts M.Denot S.Denot C.Denot A.Denot K.
 
   pub cell_sync : IsSync (Cell.the_row M S C A K g)
   cell_sync = view_sync _ _ _ _ _ cell_inside_sync
+
+  raw_cell_send : IsSend (RawCell.the_field M S C A K g).row
+  raw_cell_send = struct_send (shape (RawCell.the_type M S C A K g)) (whole_table_send _ (View.the_row S C A) (Snap.the_row S) (Turns.the_row M) _ (Rule.ghosts M S C A K g Rule.no_dict Rule.no_dict) _ (held_send M S C A K s) global_send the_frees, tt)
+
+  cell_inside_send : IsSend (CellInside.the_row M S C A K g)
+  cell_inside_send = recorded_send (CellInside.the_field M S C A K g).row _ _ (CellInside.the_type M S C A K g).to_one (struct_send (shape (CellInside.the_type M S C A K g)) (raw_cell_send, tt))
+
+  pub cell_send : IsSend (Cell.the_row M S C A K g)
+  cell_send = view_send _ _ _ _ _ cell_inside_send
