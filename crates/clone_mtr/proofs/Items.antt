@@ -125,6 +125,18 @@ fits_again at offset long allowed short =
 pub allowed_fewer : (offset m n : ℕ) → IsAllowed offset n → 1 ≤ m → m ≤ n → IsAllowed offset m
 allowed_fewer offset m n allowed some fewer = grind arith
 
+-- two bytes, one after the other, as a number
+two_takes : (bytes middle rest : List ℕ) (high low : ℕ) → Takes bytes (high ∷ []) middle → high < 256 → Takes middle (low ∷ []) rest → low < 256 → Takes bytes (big_bytes 2 (high * 256 + low)) rest
+two_takes bytes middle rest high low first above second below =
+    subst (λ (t : List ℕ). Takes bytes t rest) (sym (two_bytes high low above below)) (Takes-then bytes (high ∷ []) middle (low ∷ []) rest first second)
+
+-- the length of a patch and the bytes that follow it
+long_known : (at offset long : ℕ) (bytes rest body after : List ℕ) → Takes bytes (big_bytes 2 long) rest → Takes rest body after → length body ≡ long → IsAllowed offset long × (at + (4 + long) ≤ 1023)
+    → Takes bytes (big_bytes 2 (length body) ++ body) after × IsAllowed offset (length body) × (at + (4 + length body) ≤ 1023)
+long_known at offset long bytes rest body after spelled taken is told =
+    let P : ℕ → Type 0 = λ n. Takes bytes (big_bytes 2 n ++ body) after × IsAllowed offset n × (at + (4 + n) ≤ 1023) in
+    subst P (sym is) (Takes-then bytes (big_bytes 2 long) rest body after spelled taken, told.0, told.1)
+
 long_takes : (at offset : ℕ) (bytes : List ℕ) (x : Patched × List ℕ) → IsBytes bytes → long_at at offset bytes ≡ Ok x
     → Takes bytes (big_bytes 2 (length x.0.bytes) ++ x.0.bytes) x.1 × (x.0.offset ≡ offset) × IsAllowed offset (length x.0.bytes) × AreBytes x.0.bytes × (at + (4 + length x.0.bytes) ≤ 1023)
 unfolding long_at
@@ -141,13 +153,18 @@ long_takes at offset bytes x fit e =
     let low = byte_takes a.0.1 c.0 high.0.rest_fits c.1 in
     let body = bytes_takes long c.0.1 f.0.0 f.0.1 low.0.rest_fits f.1 in
     let told = fits_tells at offset long d.0 d.1 in
-    let number = Takes-then bytes (a.0.0 ∷ []) a.0.1 (c.0.0 ∷ []) c.0.1 high.0 low.0 in
-    let spelled : Takes bytes (big_bytes 2 long) c.0.1 = subst (λ (t : List ℕ). Takes bytes t c.0.1) (sym (two_bytes a.0.0 c.0.0 high.1 low.1)) number in
-    let P : ℕ → Type 0 = λ n. Takes bytes (big_bytes 2 n ++ f.0.0) f.0.1 × IsAllowed offset n × (at + (4 + n) ≤ 1023) in
-    let known = subst P (sym body.1) (Takes-then bytes (big_bytes 2 long) c.0.1 f.0.0 f.0.1 spelled body.0, told.0, told.1) in
+    let spelled : Takes bytes (big_bytes 2 long) c.0.1 = two_takes bytes a.0.1 c.0.1 a.0.0 c.0.0 high.0 high.1 low.0 low.1 in
+    let known = long_known at offset long bytes c.0.1 f.0.0 f.0.1 spelled body.0 body.1 told in
     let made : Patched × List ℕ = (record { offset = offset; bytes = f.0.0 }, f.0.1) in
     subst (λ (y : Patched × List ℕ). Takes bytes (big_bytes 2 (length y.0.bytes) ++ y.0.bytes) y.1 × (y.0.offset ≡ offset) × IsAllowed offset (length y.0.bytes) × AreBytes y.0.bytes × (at + (4 + length y.0.bytes) ≤ 1023))
     {x = made} (ok_is made x f.2) (known.0, refl, known.1, bytes_all f.0.0 body.2, known.2)
+
+-- the offset of a patch and what follows it
+patch_known : (offset : ℕ) (bytes rest : List ℕ) (x : Patched × List ℕ) → Takes bytes (big_bytes 2 offset) rest → Takes rest (big_bytes 2 (length x.0.bytes) ++ x.0.bytes) x.1 → x.0.offset ≡ offset → IsAllowed offset (length x.0.bytes)
+    → Takes bytes (big_bytes 2 x.0.offset ++ (big_bytes 2 (length x.0.bytes) ++ x.0.bytes)) x.1 × IsAllowed x.0.offset (length x.0.bytes)
+patch_known offset bytes rest x spelled taken is allowed =
+    let P : ℕ → Type 0 = λ n. Takes bytes (big_bytes 2 n ++ (big_bytes 2 (length x.0.bytes) ++ x.0.bytes)) x.1 × IsAllowed n (length x.0.bytes) in
+    subst P (sym is) (Takes-then bytes (big_bytes 2 offset) rest (big_bytes 2 (length x.0.bytes) ++ x.0.bytes) x.1 spelled taken, allowed)
 
 patch_takes : (at : ℕ) (bytes : List ℕ) (x : Patched × List ℕ) → IsBytes bytes → patch_at at bytes ≡ Ok x
     → Takes bytes (big_bytes 2 x.0.offset ++ (big_bytes 2 (length x.0.bytes) ++ x.0.bytes)) x.1 × IsAllowed x.0.offset (length x.0.bytes) × AreBytes x.0.bytes × (at + (4 + length x.0.bytes) ≤ 1023)
@@ -165,10 +182,8 @@ patch_takes at bytes x fit e =
                 let high = byte_takes bytes a.0 fit a.1 in
                 let low = byte_takes a.0.1 b.0 high.0.rest_fits b.1 in
                 let long = long_takes at offset b.0.1 x low.0.rest_fits allowed.1 in
-                let number = Takes-then bytes (a.0.0 ∷ []) a.0.1 (b.0.0 ∷ []) b.0.1 high.0 low.0 in
-                let spelled : Takes bytes (big_bytes 2 offset) b.0.1 = subst (λ (t : List ℕ). Takes bytes t b.0.1) (sym (two_bytes a.0.0 b.0.0 high.1 low.1)) number in
-                let P : ℕ → Type 0 = λ n. Takes bytes (big_bytes 2 n ++ (big_bytes 2 (length x.0.bytes) ++ x.0.bytes)) x.1 × IsAllowed n (length x.0.bytes) in
-                let known = subst P (sym long.1) (Takes-then bytes (big_bytes 2 offset) b.0.1 (big_bytes 2 (length x.0.bytes) ++ x.0.bytes) x.1 spelled long.0, long.2) in
+                let spelled : Takes bytes (big_bytes 2 offset) b.0.1 = two_takes bytes a.0.1 b.0.1 a.0.0 b.0.0 high.0 high.1 low.0 low.1 in
+                let known = patch_known offset bytes b.0.1 x spelled long.0 long.1 long.2 in
                 (known.0, known.1, long.3, long.4)
             | inr refused ↦ absurd (cc)
           ]

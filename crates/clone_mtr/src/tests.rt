@@ -200,35 +200,41 @@ fn write(alloc: Global, field: [u8; 4]) -> Option<DecodeRefusal> {
 
 #[test]
 fn refuses_writes(rt: HostRuntime) {
-    let out = Some(DecodeRefusal::OutOfPage { at: 9 });
-    let alloc = rt.alloc();
-    assert!(rt; write(alloc, [0, 7, 0, 1]) == out);
-    assert!(rt; write(alloc, [0, 8, 0, 0]) == out);
-    assert!(rt; write(alloc, [0, 8, 0, 8]) == Some(DecodeRefusal::Short));
-    assert!(rt; write(alloc, [0, 8, 0, 9]) == out);
-    assert!(rt; write(alloc, [0, 15, 0, 1]) == Some(DecodeRefusal::Short));
-    assert!(rt; write(alloc, [0, 15, 0, 2]) == out);
-    assert!(rt; write(alloc, [0, 16, 0, 1]) == out);
-    assert!(rt; write(alloc, [0, 37, 0, 1]) == out);
-    assert!(rt; write(alloc, [0, 38, 0, 0]) == out);
-    assert!(rt; write(alloc, [0, 38, 3, 242]) == Some(DecodeRefusal::Short));
-    assert!(rt; write(alloc, [0, 38, 3, 243]) == Some(DecodeRefusal::TooLong));
-    assert!(rt; write(alloc, [15, 247, 0, 1]) == Some(DecodeRefusal::Short));
-    assert!(rt; write(alloc, [15, 247, 0, 2]) == out);
-    assert!(rt; write(alloc, [15, 248, 0, 1]) == out);
+    let out = DecodeRefusal::OutOfPage { at: 9 };
+    let rows = [
+        ([0, 7, 0, 1], out),
+        ([0, 8, 0, 0], out),
+        ([0, 8, 0, 8], DecodeRefusal::Short),
+        ([0, 8, 0, 9], out),
+        ([0, 15, 0, 1], DecodeRefusal::Short),
+        ([0, 15, 0, 2], out),
+        ([0, 16, 0, 1], out),
+        ([0, 37, 0, 1], out),
+        ([0, 38, 0, 0], out),
+        ([0, 38, 3, 242], DecodeRefusal::Short),
+        ([0, 38, 3, 243], DecodeRefusal::TooLong),
+        ([15, 247, 0, 1], DecodeRefusal::Short),
+        ([15, 247, 0, 2], out),
+        ([15, 248, 0, 1], out),
+    ];
+    for (field, refusal) in rows {
+        assert!(rt; write(rt.alloc(), field) == Some(refusal));
+    }
 }
 
 #[test]
 fn refuses_kinds(rt: HostRuntime) {
-    let first = Some(DecodeRefusal::BadKind { at: 0 });
-    let page = Some(DecodeRefusal::BadKind { at: 9 });
-    let alloc = rt.alloc();
-    assert!(rt; decode(alloc, &[6]).err() == first);
-    assert!(rt; decode(alloc, &[0]).err() == first);
-    assert!(rt; decode(alloc, &[7]).err() == first);
-    assert!(rt; decode(alloc, &[1, 0, 0, 0, 0, 0, 0, 0, 0, 1]).err() == page);
-    assert!(rt; decode(alloc, &[1, 0, 0, 0, 0, 0, 0, 0, 0, 0, 0]).err() == page);
-    assert!(rt; decode(alloc, &[1, 0, 0, 0, 0, 0, 0, 0, 0, 0, 5]).err() == page);
+    let rows = [
+        ([6].as_slice(), 0),
+        (&[0], 0),
+        (&[7], 0),
+        (&[1, 0, 0, 0, 0, 0, 0, 0, 0, 1], 9),
+        (&[1, 0, 0, 0, 0, 0, 0, 0, 0, 0, 0], 9),
+        (&[1, 0, 0, 0, 0, 0, 0, 0, 0, 0, 5], 9),
+    ];
+    for (bytes, at) in rows {
+        assert!(rt; decode(rt.alloc(), bytes).err() == Some(DecodeRefusal::BadKind { at }));
+    }
 }
 
 #[test]
