@@ -17,6 +17,4 @@ pub mod ScanLemmas
 pub mod LastChangeLemmas
 pub mod LockListLemmas
 pub mod SpellingLengths
-pub mod BeginLemmas
-pub mod ChangeSpellings
 pub mod LastRecordLemmas
