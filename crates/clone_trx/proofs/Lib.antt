@@ -1,3 +1,4 @@
+pub mod Common
 pub mod RowSlotLemmas
 pub mod UndoRecordLemmas
 pub mod SoundChangeLemmas

@@ -1,24 +1,8 @@
 -- The rows that transactions have locked, by row and by transaction, when one is locked and when those of a transaction are released.
-use Rattle.std.proofs.Common.{true, false, ◌≡◌, ◌≢◌, ℕ, ◌+◌, ◌<◌, ◌≤◌, ◌⊎◌, inl, inr, List, [], ◌∷◌, ◌++◌, length, refl, sym, ap, subst, ◌∙◌, Some, None, arith, set, get_or, drop, drop-cons, add-one}
-use Rattle.std.specs.Prelude.{is_some, IfSome, Vec, slice_get, slice_set}
-use Rattle.std.specs.declared.option.Option.{Option}
-use Rattle.std.specs.declared.alloc.Global.{Global}
-use Rattle.std.specs.Option.{option_map_or}
-use Rattle.std.specs.List.{Contains}
+use Rattle.std.proofs.Common.{true, false, ◌≡◌, ◌≢◌, ℕ, ◌+◌, ◌<◌, ◌≤◌, ◌⊎◌, inl, inr, List, [], ◌∷◌, ◌++◌, length, refl, sym, ap, subst, ◌∙◌, Some, None, arith, set, get_or, drop, drop-cons, add-one, is_some, IfSome, Vec, slice_get, slice_set, Option, Global, Contains, length-set, get_or-set_same, get_or-set_other}
+use Rattle.clone_trx.proofs.Common.{option_map_or, get-empty, cases_lt, cases_eq, slice_get-get_or, slice_get_past, none-some, same_Some, row_cmp, row_cmp_total, row_cmp_exact, Locks, transaction_limit, Releases, Lists, list_at, AreListed, without, get-set_same, get-set_other, get-removed_same, get-removed_other, cases_row, get-remove_some}
 use Rattle.std.specs.FinMap as finite
-use Rattle.std.specs.FinMap.{get-empty}
-use Rattle.std.proofs.lemmas.Bool.{cases_lt, cases_eq}
-use Rattle.std.proofs.lemmas.List.{length-set, get_or-set_same, get_or-set_other}
 use Rattle.std.proofs.lemmas.List.Elements.{Contains-append_left, Contains-append_right, Contains-push, Contains-push_cases, Contains-append_cases}
-use Rattle.std.proofs.lemmas.Option.{slice_get-get_or, slice_get_past, none-some, same_Some}
-use Rattle.clone_model.specs.Keys.{row_cmp}
-use Rattle.clone_model.proofs.RowMaps.{row_cmp_total, row_cmp_exact}
-use Rattle.clone_plain.specs.Donor.{Locks}
-use Rattle.clone_plain.specs.Causes.{transaction_limit}
-use Rattle.clone_plain.specs.Effects.{Releases}
-use Rattle.clone_trx.specs.Locked.{Lists, list_at, AreListed, without}
-use Rattle.clone_base.proofs.MapEntries.{get-set_same, get-set_other, get-removed_same, get-removed_other, cases_row}
-use Rattle.clone_base.proofs.OrderedMaps.{get-remove_some}
 
 abbrev pub Row : Type 0
 Row = ℕ × ℕ

@@ -1,18 +1,7 @@
 -- The records of a begin and of a change: how long their spelling is, and those from the second on.
-use Rattle.std.proofs.Common.{◌≡◌, ◌≤◌, ◌+◌, ◌==◌, ℕ, zero, suc, Bool, true, false, List, [], ◌∷◌, ◌++◌, length, drop, replicate, ◌-◌, refl, ap, ◌∙◌, arith, if◌then◌else◌}
-use Rattle.std.specs.List.{AllByRecursion}
-use Rattle.std.proofs.lemmas.List.{length-append, length-replicate}
-use Rattle.byteorder.specs.Endian.{big_bytes}
+use Rattle.std.proofs.Common.{◌≡◌, ◌≤◌, ◌+◌, ◌==◌, ℕ, zero, suc, Bool, true, false, List, [], ◌∷◌, ◌++◌, length, drop, replicate, ◌-◌, refl, ap, ◌∙◌, arith, if◌then◌else◌, length-append}
+use Rattle.clone_trx.proofs.Common.{AllByRecursion, length-replicate, big_bytes, Undo, Bucket, slot_at, record_spelling, spelling, longest, Record, Write, UndoEntry, entry_bytes, header_page, record_page, record_place, count_place, made_first, entry_record, count_record, row_record, records_of_begin, records_of_change, MakesNoPage}
 use Rattle.clone_page.specs.declared.kind.PageKind.{PageKind}
-use Rattle.clone_page.specs.declared.kind.PageKind.TheVariants.{Undo, Bucket}
-use Rattle.clone_page.specs.Slots.{slot_at}
-use Rattle.clone_mtr.specs.Spelling.{record_spelling, spelling, longest}
-use Rattle.clone_mtr.specs.declared.record.Record.{Record}
-use Rattle.clone_mtr.specs.declared.record.Record.TheVariants.{Write}
-use Rattle.clone_undo.specs.Entries.{UndoEntry, entry_bytes}
-use Rattle.clone_undo.specs.Places.{header_page, record_page, record_place, count_place}
-use Rattle.clone_undo.specs.Changes.{made_first, entry_record, count_record, row_record, records_of_begin, records_of_change}
-use Rattle.clone_image.specs.Image.{MakesNoPage}
 
 -- A transaction begins.
 

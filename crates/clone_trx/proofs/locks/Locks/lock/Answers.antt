@@ -1,14 +1,8 @@
-use Rattle.std.proofs.Common.{◌≡◌, ◌∙◌, ◌<◌, ◌++◌, ◌∷◌, [], sym, ap, subst, refl, arith, length, None, List}
-use Rattle.std.specs.Prelude.{is_some, slice_set}
+use Rattle.std.proofs.Common.{◌≡◌, ◌∙◌, ◌<◌, ◌++◌, ◌∷◌, [], sym, ap, subst, refl, arith, length, None, List, is_some, slice_set, length-set}
+use Rattle.clone_trx.proofs.Common.{row_cmp_total, row_cmp_exact, Locks, Lists, AreListed, holders_of, get_listed, inserted, inserted_same, none-some}
 use Rattle.std.specs.FinMap as finite
-use Rattle.std.proofs.lemmas.List.{length-set}
-use Rattle.clone_model.proofs.RowMaps.{row_cmp_total, row_cmp_exact}
-use Rattle.clone_plain.specs.Donor.{Locks}
-use Rattle.clone_trx.specs.Locked.{Lists, AreListed, holders_of}
-use Rattle.clone_base.proofs.OrderedMaps.{get_listed, inserted, inserted_same}
 use Rattle.clone_trx.proofs.LockListLemmas.{Row, same_listed, more_listed, list_at_item, own_row}
 use Rattle.clone_trx.proofs.WriteLemmas.{is_none}
-use Rattle.std.proofs.lemmas.Option.{none-some}
 use Rattle.clone_trx.proofs.locks.Locks.lock.Goals as goal
 
 pub returns-then-contains_key-clause-ok : goal.returns-then-contains_key-clause-ok
