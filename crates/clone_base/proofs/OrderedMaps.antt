@@ -5,8 +5,9 @@ use Rattle.std.specs.declared.option.Option.{Option}
 use Rattle.std.specs.declared.cmp.Ordering.{Ordering}
 use Rattle.std.specs.declared.cmp.Ordering.TheVariants.{Less}
 use Rattle.std.specs.FinMap as finite
-use Rattle.std.specs.FinMap.{IsAntisymmetric, nat_cmp-IsAntisymmetric, same_map, get-empty, get-insert, get-remove, get-from_entries, len-insert, len-remove, len-empty}
+use Rattle.std.specs.FinMap.{IsAntisymmetric, nat_cmp-IsAntisymmetric, same_map, get-empty, get-insert, get-remove, get-from_entries, entries-insert, len-insert, len-remove, len-empty, len-entries}
 use Rattle.std.specs.Cmp.{IsTotalOrder, eq_by_cmp_equiv, nat_cmp_total}
+use Rattle.std.specs.FinMap.Entries.{by_order}
 use Rattle.std.specs.Ordering.{nat_cmp, eq_by_cmp, is_eq}
 use Rattle.std.specs.BTreeMap.{BTreeMap, get, Updates, is_at, IsOrdered}
 use Rattle.std.specs.Map.{lookup, keys_of}
@@ -24,6 +25,14 @@ not_found : {K X : Type 0} (R : K → K → Ordering) (k : K) (es : List (K × X
 not_found R k [] all = refl
 not_found R k (e ∷ es) all = ap (λ r. cond (is_eq r) (Some e.1) (finite.find R k es)) all.0 ∙ not_found R k es all.1
 
+nothing : {A : Type 0} (xs : List A) → length xs ≡ 0 → xs ≡ []
+nothing [] e = refl
+nothing (x ∷ xs) e = cc
+
+put_first : {K X : Type 0} (R : K → K → Ordering) (k : K) (v : X) (es : List (K × X)) → AllByRecursion (λ y. R k y ≡ Less) (keys_of es) → finite.put R k v es ≡ (k, v) ∷ es
+put_first R k v [] below = refl
+put_first R k v (e ∷ es) below = ap (λ r. by_order r ((k, v) ∷ e ∷ es) ((e.0, v) ∷ es) (e ∷ finite.put R k v es)) below.0
+
 module _ {K X : Type 0} {R : K → K → Ordering} (o : IsTotalOrder R) where
   -- what an ordered map has at a key
   pub get_listed : (m : BTreeMap K X) (q : K) → finite.get (finite.from_entries {R = R} m.entries) q ≡ get R m q
@@ -39,6 +48,15 @@ module _ {K X : Type 0} {R : K → K → Ordering} (o : IsTotalOrder R) where
 
   pub len_listed : (m : BTreeMap K X) → IsOrdered R m → finite.len (finite.from_entries {R = R} m.entries) ≡ length m.entries
   len_listed m sorted = len_sorted m.entries sorted
+
+  entries_sorted : (es : List (K × X)) → IsStrictlySortedBy R (keys_of es) → finite.entries (finite.from_entries {R = R} es) ≡ es
+  entries_sorted [] sorted = nothing _ (sym (len-entries (finite.empty {X = X} {R = R})) ∙ len-empty R X)
+  entries_sorted (e ∷ es) sorted =
+      entries-insert o (finite.from_entries es) e.0 e.1 ∙ ap (finite.put R e.0 e.1) (entries_sorted es (sorted_tail R e.0 (keys_of es) sorted)) ∙ put_first R e.0 e.1 es (sorted_head R e.0 (keys_of es) sorted)
+
+  -- its entries
+  pub entries_listed : (m : BTreeMap K X) → IsOrdered R m → finite.entries (finite.from_entries {R = R} m.entries) ≡ m.entries
+  entries_listed m sorted = entries_sorted m.entries sorted
 
   module _ (same : IsAntisymmetric R) where
     -- a key that got its value

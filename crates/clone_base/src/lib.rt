@@ -1,2 +1,9 @@
-//! Lemmas on finite maps and lists that several crates need.
+//! What several crates need: the numbers that more than one of them keeps to, each once, and lemmas on
+//! finite maps and lists.
 #![tactic(auto)]
+
+mod limits;
+
+pub use limits::{
+    CHANGE_LIMIT, FIRST_LSN, LSN_LIMIT, PAGE_SIZE, TABLE_LIMIT, TRANSACTION_LIMIT, VALUE_LIMIT,
+};

@@ -9,4 +9,5 @@ IsBytes bytes = (i : ℕ) → slice_index bytes i < 256
 -- a value of so many bytes, which are behind the reader then, or that too few are left
 abbrev pub Reads : {X : Type 0} → (X → Type 0) → ℕ → List ℕ → List ℕ → Result X Short → Type 0
 Reads IsValue n old new (Ok x) = (n ≤ length old) × IsValue x × (new ≡ drop n old)
-Reads IsValue n old new (Err short) = (length old < n) × (short.need ≡ n) × (short.have ≡ length old) × (new ≡ old)
+Reads IsValue n old new (Err short) =
+    (length old < n) × (short.need ≡ n) × (short.have ≡ length old) × (new ≡ old)

@@ -2,6 +2,7 @@
 use Rattle.std.specs.Prelude.{ℕ, ◌≡◌, ◌<◌, ◌≤◌, ◌^◌, ◌==◌, ◌++◌, ◌∷◌, [], Bool, List, length, IfSome, None, Some}
 use Rattle.std.specs.declared.option.Option.{Option}
 use Rattle.std.specs.List.{AllByRecursion}
+use Rattle.clone_model.specs.declared.line.TheConstants.{HIGHEST_TABLE}
 use Rattle.clone_page.specs.Header.{kind_of}
 use Rattle.clone_page.specs.Dictionary.{entry_count}
 use Rattle.clone_row.specs.Slots.{unused, row_slot, bound_key}
@@ -30,7 +31,7 @@ opened = record {
 pub record MayCreate (c : Contents) (place table : ℕ) : Type 0 where
   pub room : place < entry_count
   pub used : 1 ≤ table
-  pub low : table ≤ 1000000
+  pub low : table ≤ HIGHEST_TABLE
   pub free : c.size table ≡ None
 
 -- a table is named at a place of the dictionary, and has a space of so many pages

@@ -1,36 +1,23 @@
 -- The pages of an image when a record is applied to it.
-use Rattle.std.proofs.Common.{◌≡◌, ◌≢◌, ℕ, ◌<◌, ◌≤◌, Bool, true, false, cond, List, [], length, replicate, get_or, refl, sym, ap, ◌∙◌, arith, inl, inr, ◌⊎◌, Option, Some, None, set}
+use Rattle.std.proofs.Common.{◌≡◌, ◌≢◌, ℕ, ◌<◌, ◌≤◌, List, [], replicate, get_or, refl, sym, ap, ◌∙◌, arith, inl, inr, ◌⊎◌, Option, Some, None}
 use Rattle.std.specs.Prelude.{slice_get, option_map, option_and_then}
 use Rattle.std.specs.FinMap as finite
-use Rattle.std.specs.FinMap.{get-insert}
-use Rattle.std.specs.Cmp.{eq_by_cmp_equiv, nat_cmp_total, unsigned_tied}
-use Rattle.std.specs.Ordering.{nat_cmp, eq_by_cmp}
-use Rattle.std.proofs.lemmas.Bool.{cases_lt, cases_eq, eqb-true}
-use Rattle.std.proofs.lemmas.List.{length-set, get_or-set_same, get_or-set_other, length-replicate, get_or-replicate}
+use Rattle.std.specs.Cmp.{nat_cmp_total}
+use Rattle.std.specs.Ordering.{nat_cmp}
+use Rattle.std.proofs.lemmas.Bool.{cases_eq}
+use Rattle.std.proofs.lemmas.List.{length-replicate, get_or-replicate}
+use Rattle.std.proofs.lemmas.Map.Lookups.{exact_unsigned}
 use Rattle.std.proofs.lemmas.Option.{slice_get_within, slice_get-get_or, slice_get_past, get_or_from_slice_get}
+use Rattle.clone_base.proofs.MapEntries.{get-set_same, get-set_other, slice_get-set_same, slice_get-set_other}
 use Rattle.clone_page.specs.Header.{zero_page}
 use Rattle.clone_image.specs.Image.{Image, page_of, with_pages, with_edit, edited}
 
 -- a finite map by numbers, where one entry was set
 pub get-put_same : {X : Type 0} (m : finite.FinMap nat_cmp X) (k : ℕ) (x : X) → finite.get (finite.insert m k x) k ≡ Some x
-get-put_same m k x = get-insert nat_cmp_total m k x k ∙ ap (λ (b : Bool). cond b (Some x) (finite.get m k)) ((eq_by_cmp_equiv nat_cmp_total).refl k)
+get-put_same m k x = get-set_same nat_cmp_total exact_unsigned m k x
 
 pub get-put_other : {X : Type 0} (m : finite.FinMap nat_cmp X) (k q : ℕ) (x : X) → q ≢ k → finite.get (finite.insert m k x) q ≡ finite.get m q
-get-put_other m k q x other = get-insert nat_cmp_total m k x q ∙ ap (λ (b : Bool). cond b (Some x) (finite.get m q)) (misses (eq_by_cmp nat_cmp q k) (λ e. other (eqb-true q k (sym (unsigned_tied q k) ∙ e))))
-  where
-    misses : (b : Bool) → (b ≡ true → ⊥) → b ≡ false
-    misses true no_tie = absurd (no_tie refl)
-    misses false no_tie = refl
-
-pub slice_get-set_same : {X : Type 0} (xs : List X) (i : ℕ) (x : X) → i < length xs → slice_get (set xs i x) i ≡ Some x
-slice_get-set_same xs i x lt = slice_get-get_or (set xs i x) i x (omega (arith, lt, length-set xs i x)) ∙ ap (λ y. Some y) (get_or-set_same xs i x x lt)
-
-pub slice_get-set_other : {X : Type 0} (xs : List X) (i j : ℕ) (x : X) → j ≢ i → slice_get (set xs i x) j ≡ slice_get xs j
-slice_get-set_other xs i j x other = at (cases_lt j (length xs))
-  where
-    at : (j < length xs) ⊎ (length xs ≤ j) → slice_get (set xs i x) j ≡ slice_get xs j
-    at (inl low) = slice_get-get_or (set xs i x) j x (omega (arith, low, length-set xs i x)) ∙ ap (λ y. Some y) (get_or-set_other xs i j x x other) ∙ sym (slice_get-get_or xs j x low)
-    at (inr high) = slice_get_past (set xs i x) j (omega (arith, high, length-set xs i x)) ∙ sym (slice_get_past xs j high)
+get-put_other m k q x other = get-set_other nat_cmp_total exact_unsigned m k x q other
 
 -- the page that is edited
 pub page_of-edited_same : (image : Image) (space number : ℕ) (edit : List ℕ → List ℕ) (page : List ℕ) → page_of image space number ≡ Some page → page_of (with_edit image space (edited number edit)) space number ≡ Some (edit page)

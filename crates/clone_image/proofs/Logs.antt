@@ -4,6 +4,7 @@ use Rattle.std.specs.List.{AllByRecursion}
 use Rattle.std.proofs.lemmas.List.{append-nil, length-append, append_cancel_left}
 use Rattle.std.specs.Prelude.{Result, Ok, Err, IfOk}
 use Rattle.std.specs.FinMap as finite
+use Rattle.clone_base.proofs.Lists.{All-push}
 use Rattle.clone_mtr.specs.declared.record.Record.{Record}
 use Rattle.clone_mtr.specs.Spelling.{spelling, Spells, log_of}
 use Rattle.clone_mtr.proofs.Spellings.{one_spelling, spelling_some}
@@ -21,10 +22,6 @@ pub after_log-push : (start : ℕ) (image : Image) (front : List (List Record)) 
 after_log-push start image [] m end is = ap (λ e. after_records e image m) (omega (arith, is))
 after_log-push start image (n ∷ front) m end is = after_log-push (end_of start n) (after_records (end_of start n) image n) front m end (omega (arith, is, length-append (spelling n) (log_of front)))
 
-pub All-push : (ms : List (List Record)) (m : List Record) → AllByRecursion IsSpelled ms → IsSpelled m → AllByRecursion IsSpelled (ms ++ m ∷ [])
-All-push [] m each one = (one, tt)
-All-push (n ∷ ms) m each one = (each.0, All-push ms m each.1 one)
-
 pub spelled_by : (bytes : List ℕ) (records : List Record) → Spells bytes records → IsSpelled records
 spelled_by bytes records is = subst (λ (xs : List ℕ). Spells xs records) is.text is
 
@@ -33,7 +30,7 @@ pub Replays-push : (bytes : List ℕ) (image : Image) (m : List Record) (end : �
 Replays-push bytes image m end r one is = record {
   log = record {
     mtrs = r.log.mtrs ++ m ∷ [];
-    each = All-push r.log.mtrs m r.log.each one;
+    each = All-push IsSpelled r.log.mtrs m r.log.each one;
     text = ap (λ xs. xs ++ spelling m) r.log.text ∙ sym (log_of-push r.log.mtrs m);
   };
   made = ap (λ i. after_records end i m) r.made ∙ sym (after_log-push first_lsn finite.empty r.log.mtrs m end (is ∙ ap (λ (xs : List ℕ). first_lsn + length xs + length (spelling m)) r.log.text));

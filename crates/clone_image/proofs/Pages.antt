@@ -8,7 +8,7 @@ use Rattle.std.specs.Cmp.{nat_cmp_total}
 use Rattle.std.specs.Ordering.{nat_cmp, eq_by_cmp}
 use Rattle.std.proofs.lemmas.Bool.{cases_lt, cases_eq}
 use Rattle.std.proofs.lemmas.List.{length-set, length-append, length-replicate, get_or-replicate, get_or_append_left, get_or-append_right}
-use Rattle.std.proofs.lemmas.Option.{slice_get_within, slice_get-get_or, slice_get_past}
+use Rattle.std.proofs.lemmas.Option.{same_Some, slice_get_within, slice_get-get_or, slice_get_past}
 use Rattle.clone_page.specs.Header.{zero_page}
 use Rattle.clone_page.proofs.Parts.{length-put_allowed, length-with_lsn, length-initialised}
 use Rattle.clone_page.specs.Bytes.{put_at}
@@ -19,13 +19,11 @@ use Rattle.clone_mtr.specs.Records.{IsRecord}
 use Rattle.clone_undo.specs.Changes as undo
 use Rattle.clone_undo.proofs.Edits.{edit-same, edit-other}
 use Rattle.clone_image.specs.Image.{Image, page_of, with_pages, with_edit, edited, extended, after_record, after_records, EditsPages, all_pages, page_count, AreWholePages}
-use Rattle.clone_image.proofs.Images.{get-put_same, get-put_other, slice_get-set_same, slice_get-set_other, page_of-edited_same, page_of-edited_other}
+use Rattle.clone_base.proofs.MapEntries.{slice_get-set_same, slice_get-set_other}
+use Rattle.clone_image.proofs.Images.{get-put_same, get-put_other, page_of-edited_same, page_of-edited_other}
 
 abbrev pub Pages : Type 0
 Pages = ℕ → ℕ → List ℕ
-
-some_inner : {x y : List ℕ} → Some x ≡ Some y → x ≡ y
-some_inner e = cc
 
 none_some : {A : Type 0} {x : List ℕ} → None ≡ Some x → A
 none_some e = absurd (let f = e in cc)
@@ -195,7 +193,7 @@ whole_edit image space edit whole stays = at (finite.get image space) refl
 whole_zeros : (count : ℕ) → AreWholeIn (replicate count zero_page)
 whole_zeros count n page is =
     let low = slice_get_within (replicate count zero_page) n page is in
-    ap length (some_inner (sym is ∙ slice_get-get_or (replicate count zero_page) n zero_page low) ∙ get_or-replicate count n zero_page zero_page (omega (arith, low, length-replicate count zero_page))) ∙ length-replicate 4096 (let z : ℕ = 0 in z)
+    ap length (same_Some _ _ (sym is ∙ slice_get-get_or (replicate count zero_page) n zero_page low) ∙ get_or-replicate count n zero_page zero_page (omega (arith, low, length-replicate count zero_page))) ∙ length-replicate 4096 (let z : ℕ = 0 in z)
 
 whole_edited : (number : ℕ) (edit : List ℕ → List ℕ) → ((page : List ℕ) → length page ≡ 4096 → length (edit page) ≡ 4096) → (pages : List (List ℕ)) → AreWholeIn pages → AreWholeIn (edited number edit pages)
 whole_edited number edit stays pages whole n page is =
@@ -205,7 +203,7 @@ whole_edited number edit stays pages whole n page is =
     elim (cases_eq n number) [
       | inl same ↦
           let there : number < length pages = omega (arith, was, same) in
-          ap length (some_inner (sym is ∙ ap (slice_get (edited number edit pages)) same ∙ slice_get-set_same pages number new there)) ∙ stays (get_or pages number []) (whole number (get_or pages number []) (slice_get-get_or pages number [] there))
+          ap length (same_Some _ _ (sym is ∙ ap (slice_get (edited number edit pages)) same ∙ slice_get-set_same pages number new there)) ∙ stays (get_or pages number []) (whole number (get_or pages number []) (slice_get-get_or pages number [] there))
       | inr other ↦ whole n page (sym (slice_get-set_other pages number n new other) ∙ is)
     ]
 
@@ -219,7 +217,7 @@ whole_extended count pages whole n page is = at (cases_lt n (length pages))
     low = slice_get_within (extended count pages) n page is
 
     page_is : page ≡ get_or (pages ++ more) n []
-    page_is = some_inner (sym is ∙ slice_get-get_or (extended count pages) n [] low)
+    page_is = same_Some _ _ (sym is ∙ slice_get-get_or (extended count pages) n [] low)
 
     at : (n < length pages) ⊎ (length pages ≤ n) → length page ≡ 4096
     at (inl old) = ap length (page_is ∙ get_or_append_left pages more [] n old) ∙ whole n (get_or pages n []) (slice_get-get_or pages n [] old)

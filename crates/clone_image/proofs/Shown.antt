@@ -9,7 +9,7 @@ use Rattle.clone_model.specs.History.{Row, Rows}
 use Rattle.clone_model.proofs.RowMaps.{row_cmp_total, row_cmp_exact}
 use Rattle.clone_page.specs.Dictionary.{Lists, entry_space}
 use Rattle.clone_image.specs.Image.{Image, page_of}
-use Rattle.clone_image.specs.Rows.{Pages, IsListed, IsRow, AreOnce, HasRows, ShowsRows}
+use Rattle.clone_image.specs.Rows.{Pages, IsListed, IsRow, AreOnce, ShowsRows}
 use Rattle.clone_image.specs.Added.{Adds, InPage, InPages, InTable, InTables}
 
 -- what holds of the value that is there

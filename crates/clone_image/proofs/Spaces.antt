@@ -4,13 +4,14 @@ use Rattle.std.proofs.Math.Nat.{sub-zero}
 use Rattle.std.specs.declared.option.Option.{Option}
 use Rattle.std.specs.FinMap as finite
 use Rattle.std.specs.FinMap.{same_map, get-empty, get-insert, get-remove}
-use Rattle.std.specs.Cmp.{nat_cmp_total, eq_by_cmp_equiv, Equal-is}
+use Rattle.std.specs.Cmp.{nat_cmp_total, eq_by_cmp_equiv}
 use Rattle.std.specs.Ordering.{nat_cmp, eq_by_cmp}
 use Rattle.std.specs.BTreeMap.{BTreeMap, get, Updates, is_at}
 use Rattle.std.specs.Map.{lookup}
 use Rattle.std.proofs.lemmas.Map.Lookups.{exact_unsigned}
+use Rattle.clone_base.proofs.OrderedMaps.{inserted_same}
 use Rattle.clone_page.specs.Header.{zero_page}
-use Rattle.clone_image.specs.Image.{Image, with_pages, with_edit, extended}
+use Rattle.clone_image.specs.Image.{with_pages, with_edit, extended}
 use Rattle.clone_image.specs.Spaces.{pages_of_spaces}
 
 abbrev pub Kept : Type 0
@@ -68,20 +69,10 @@ pub absent_space : (m : Spaces) (k : ℕ) (edit : List (List ℕ) → List (List
 absent_space m k edit none =
     sym (ap (λ o. with_pages (pages_of_spaces m.entries) k (option_map edit o)) (get_space m k ∙ ap (option_map (λ u. u.items)) (sym none)))
 
-chosen_same : (b : Bool) (pages : List (List ℕ)) (o : Option (List (List ℕ))) → (b ≡ true → o ≡ Some pages) → cond b (Some pages) o ≡ o
-chosen_same true pages o h = sym (h refl)
-chosen_same false pages o h = refl
-
--- a space that gets the pages that it has
-inserted_same : (image : Image) (k : ℕ) (pages : List (List ℕ)) → finite.get image k ≡ Some pages → finite.insert image k pages ≡ image
-inserted_same image k pages has =
-    same_map nat_cmp_total exact_unsigned _ _ (λ q. get-insert nat_cmp_total image k pages q
-    ∙ chosen_same (eq_by_cmp nat_cmp q k) pages (finite.get image q) (λ e. ap (finite.get image) (exact_unsigned q k ((Equal-is (nat_cmp q k)).0 e)) ∙ has))
-
 -- a space whose pages stayed
 pub same_space : (m n : Spaces) (k : ℕ) (v w : Kept) → Some v ≡ get nat_cmp m k → (IsSome (get nat_cmp m k) → Updates nat_cmp m n k (Some w)) → w.items ≡ v.items → pages_of_spaces n.entries ≡ pages_of_spaces m.entries
 same_space m n k v w there is items =
-    inserted_space m n k w v.items (is (ap is_some (sym there))) items ∙ inserted_same (pages_of_spaces m.entries) k v.items (get_space m k ∙ ap (option_map (λ u. u.items)) (sym there))
+    inserted_space m n k w v.items (is (ap is_some (sym there))) items ∙ sym (inserted_same nat_cmp_total exact_unsigned (pages_of_spaces m.entries) k v.items (get_space m k ∙ ap (option_map (λ u. u.items)) (sym there)))
 
 -- pages added to none
 pub extended_empty : (count : ℕ) → extended count [] ≡ replicate count zero_page

@@ -15,7 +15,7 @@ use Rattle.clone_mtr.specs.declared.record.Record.{Record}
 use Rattle.clone_mtr.specs.declared.record.Record.TheVariants.{Init, Write, Extend, Create, Drop}
 use Rattle.clone_image.specs.Image.{Image, with_pages, with_edit, edited, extended, after_record}
 use Rattle.clone_image.specs.Redone.{Standing, no_space, past_end, stands, made, stretched, standing_at, standing_in, standing_of}
-use Rattle.clone_image.proofs.Images.{slice_get-set_same, slice_get-set_other}
+use Rattle.clone_base.proofs.MapEntries.{slice_get-set_same, slice_get-set_other}
 
 -- a page that stands is edited
 abbrev pub edited_standing : (List ℕ → List ℕ) → Standing → Standing

@@ -1,4 +1,5 @@
--- The rows that are found slot by slot, page by page and table by table, and the map to which they are added.
+-- The rows that are found slot by slot, page by page and table by table, and the map to which they
+-- are added.
 use Rattle.std.specs.Prelude.{ℕ, ◌≡◌, ◌<◌, ◌⊎◌, List, length, Some, IsSome, IsSomeAnd, slice_get}
 use Rattle.std.specs.FinMap as finite
 use Rattle.clone_model.specs.History.{Row, Rows}
@@ -7,11 +8,15 @@ use Rattle.clone_page.specs.Slots.{slot_count, slot, row_of}
 use Rattle.clone_image.specs.Image.{Image}
 use Rattle.clone_image.specs.Rows.{HoldsSlots}
 
--- Whatever the new map has is of the old one or one of the rows found. What has a value keeps having one, and each row found has one.
+-- Whatever the new map has is of the old one or one of the rows found. What has a value keeps
+-- having one, and each row found has one.
 pub record Adds (old new : Rows) (Found : Row → Type 0) : Type 0 where
-  pub sound : (table key : ℕ) (value : List ℕ) → finite.get new (table, key) ≡ Some value → (finite.get old (table, key) ≡ Some value) ⊎ Found (table, key, value)
-  pub stays : (table key : ℕ) → IsSome (finite.get old (table, key)) → IsSome (finite.get new (table, key))
-  pub complete : (table key : ℕ) (value : List ℕ) → Found (table, key, value) → IsSome (finite.get new (table, key))
+  pub sound : (table key : ℕ) (value : List ℕ) → finite.get new (table, key) ≡ Some value
+      → (finite.get old (table, key) ≡ Some value) ⊎ Found (table, key, value)
+  pub stays : (table key : ℕ) → IsSome (finite.get old (table, key))
+      → IsSome (finite.get new (table, key))
+  pub complete : (table key : ℕ) (value : List ℕ) → Found (table, key, value)
+      → IsSome (finite.get new (table, key))
 
 -- a row that is found at some place below the count
 pub record Below (count : ℕ) (At : ℕ → Row → Type 0) (row : Row) : Type 0 where

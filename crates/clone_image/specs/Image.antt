@@ -1,8 +1,9 @@
--- An image: the pages of each space that is there. A page is a list of 4,096 bytes.
+-- An image: the pages of each space that is there. A page is a list of bytes.
 use Rattle.std.specs.Prelude.{ℕ, ◌-◌, List, [], ◌∷◌, ◌++◌, length, replicate, None, Some, slice_get, slice_set, get_or, option_map, option_and_then, unwrap_or, ◌≡◌}
 use Rattle.std.specs.declared.option.Option.{Option}
 use Rattle.std.specs.FinMap as finite
 use Rattle.std.specs.Ordering.{nat_cmp}
+use Rattle.clone_base.specs.declared.limits.TheConstants.{PAGE_SIZE}
 use Rattle.clone_page.specs.Header.{zero_page}
 use Rattle.clone_mtr.specs.Effects.{effect}
 use Rattle.clone_mtr.specs.declared.record.Record.{Record}
@@ -14,7 +15,8 @@ Image = finite.FinMap nat_cmp (List (List ℕ))
 
 -- the page, if it is there
 abbrev pub page_of : Image → ℕ → ℕ → Option (List ℕ)
-page_of image space number = option_and_then (λ pages. slice_get pages number) (finite.get image space)
+page_of image space number =
+    option_and_then (λ pages. slice_get pages number) (finite.get image space)
 
 -- the space gets these pages, or stays as it is
 abbrev pub with_pages : Image → ℕ → Option (List (List ℕ)) → Image
@@ -33,10 +35,13 @@ edited number edit pages = slice_set pages number (edit (get_or pages number [])
 abbrev pub extended : ℕ → List (List ℕ) → List (List ℕ)
 extended count pages = pages ++ replicate (count - length pages) zero_page
 
--- What a record does to an image. A record of a space or of a page that isn't there changes nothing.
+-- What a record does to an image. A record of a space or of a page that isn't there changes
+-- nothing.
 abbrev pub after_record : ℕ → Image → Record → Image
-after_record lsn image (Init space number kind) = with_edit image space (edited number (effect lsn (Init space number kind)))
-after_record lsn image (Write space number patch) = with_edit image space (edited number (effect lsn (Write space number patch)))
+after_record lsn image (Init space number kind) =
+    with_edit image space (edited number (effect lsn (Init space number kind)))
+after_record lsn image (Write space number patch) =
+    with_edit image space (edited number (effect lsn (Write space number patch)))
 after_record lsn image (Extend space count) = with_edit image space (extended count)
 after_record lsn image (Create space count) = finite.insert image space (replicate count zero_page)
 after_record lsn image (Drop space) = finite.remove image space
@@ -70,6 +75,8 @@ all_pages image space number = unwrap_or (page_of image space number) []
 abbrev pub page_count : Image → ℕ → Option ℕ
 page_count image space = option_map length (finite.get image space)
 
--- each page has 4,096 bytes
+-- each page is whole
 abbrev pub AreWholePages : Image → Type 0
-AreWholePages image = (space number : ℕ) (page : List ℕ) → page_of image space number ≡ Some page → length page ≡ 4096
+AreWholePages image =
+    (space number : ℕ) (page : List ℕ) → page_of image space number ≡ Some page
+    → length page ≡ PAGE_SIZE

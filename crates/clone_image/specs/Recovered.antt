@@ -1,4 +1,6 @@
--- What recovery makes of the image that a log leaves: the changes of each transaction that was open are taken back, last change first. Nothing else changes, and page LSNs stay. It is the textbook rule of undo logging.
+-- What recovery makes of the image that a log leaves: the changes of each transaction that was open
+-- are taken back, last change first. Nothing else changes, and page LSNs stay. It is the textbook
+-- rule of undo logging.
 use Rattle.std.specs.Prelude.{ℕ, zero, suc, List, [], ◌∷◌, replicate, None, Some, unwrap_or}
 use Rattle.std.specs.declared.option.Option.{Option}
 use Rattle.clone_page.specs.Bytes.{put_at}
@@ -38,7 +40,8 @@ taken_back image s (Some slot) = freed (all_undone image slot.records) s
 -- the undo slots below a number, in ascending order
 unfoldable pub taken_back_below : ℕ → Image → Image
 taken_back_below zero image = image
-taken_back_below (suc s) image = taken_back (taken_back_below s image) s (undo_slot_of (taken_back_below s image) s)
+taken_back_below (suc s) image =
+    taken_back (taken_back_below s image) s (undo_slot_of (taken_back_below s image) s)
 
 unfoldable pub recovered : Image → Image
 recovered image = taken_back_below slot_count image

@@ -1,4 +1,5 @@
--- What a log makes of one page by itself, from nothing. It is the textbook rule of redo by page LSN: a record counts where the page is older than its mini-transaction.
+-- What a log makes of one page by itself, from nothing. It is the textbook rule of redo by page
+-- LSN: a record counts where the page is older than its mini-transaction.
 use Rattle.std.specs.Prelude.{ℕ, ◌==◌, ◌&&◌, nat_lt, Bool, List, [], ◌∷◌, if◌then◌else◌, None, Some, slice_get}
 use Rattle.std.specs.declared.option.Option.{Option}
 use Rattle.std.specs.FinMap as finite
@@ -15,12 +16,14 @@ pub data Standing : Type 0 where
   past_end : Standing
   stands : List ℕ → Standing
 
--- a page within a mini-transaction: whether the records of it that name the page count is settled by the first of them that meets it
+-- a page within a mini-transaction: whether the records of it that name the page count is settled
+-- by the first of them that meets it
 pub record Redoing : Type 0 where
   pub standing : Standing
   pub counts : Option Bool
 
--- whether a record that meets the page counts: the page's LSN was below the end of the mini-transaction when the first one met it
+-- whether a record that meets the page counts: the page's LSN was below the end of the
+-- mini-transaction when the first one met it
 abbrev pub settled : ℕ → Option Bool → List ℕ → Bool
 settled end None page = nat_lt (lsn_of page) end
 settled end (Some counts) page = counts
@@ -29,7 +32,11 @@ settled end (Some counts) page = counts
 abbrev pub named_on : ℕ → Record → Option Bool → Standing → Redoing
 named_on end r counts no_space = record { standing = no_space; counts = counts }
 named_on end r counts past_end = record { standing = past_end; counts = counts }
-named_on end r counts (stands page) = record { standing = stands (if settled end counts page then effect end r page else page); counts = Some (settled end counts page) }
+named_on end r counts (stands page) =
+    record {
+      standing = stands (if settled end counts page then effect end r page else page);
+      counts = Some (settled end counts page);
+    }
 
 -- a record that names the page
 abbrev pub named : ℕ → Record → Redoing → Redoing
@@ -47,20 +54,28 @@ stretched number count (stands page) = stands page
 
 -- one record of a mini-transaction that ends here, for the page of this number of this space
 abbrev pub redone_by : ℕ → ℕ → ℕ → Redoing → Record → Redoing
-redone_by end space number p (Init s n kind) = if (s == space) && (n == number) then named end (Init s n kind) p else p
-redone_by end space number p (Write s n patch) = if (s == space) && (n == number) then named end (Write s n patch) p else p
-redone_by end space number p (Extend s count) = if s == space then record p { standing = stretched number count p.standing } else p
-redone_by end space number p (Create s count) = if s == space then record p { standing = made number count } else p
+redone_by end space number p (Init s n kind) =
+    if (s == space) && (n == number) then named end (Init s n kind) p else p
+redone_by end space number p (Write s n patch) =
+    if (s == space) && (n == number) then named end (Write s n patch) p else p
+redone_by end space number p (Extend s count) =
+    if s == space then record p { standing = stretched number count p.standing } else p
+redone_by end space number p (Create s count) =
+    if s == space then record p { standing = made number count } else p
 redone_by end space number p (Drop s) = if s == space then record p { standing = no_space } else p
 
 abbrev pub redone_records : ℕ → ℕ → ℕ → Redoing → List Record → Redoing
 redone_records end space number p [] = p
-redone_records end space number p (r ∷ rs) = redone_records end space number (redone_by end space number p r) rs
+redone_records end space number p (r ∷ rs) =
+    redone_records end space number (redone_by end space number p r) rs
 
 -- mini-transactions in their order, the first of which begins at start
 abbrev pub redone_from : ℕ → ℕ → ℕ → Standing → List (List Record) → Standing
 redone_from start space number p [] = p
-redone_from start space number p (m ∷ ms) = redone_from (end_of start m) space number (redone_records (end_of start m) space number (record { standing = p; counts = None }) m).standing ms
+redone_from start space number p (m ∷ ms) =
+    redone_from (end_of start m) space number
+    (redone_records (end_of start m) space number (record { standing = p; counts = None }) m).standing
+    ms
 
 -- what a log leaves of a page from nothing
 abbrev pub redone : ℕ → ℕ → List (List Record) → Standing

@@ -19,7 +19,8 @@ IsListed pages table = IsSomeAnd (pages 0 0) (λ page. Lists page table)
 abbrev pub HoldsSlots : List ℕ → Type 0
 HoldsSlots page = (kind_of page ≡ 3) ⊎ (kind_of page ≡ 4)
 
--- The row's table is listed, and some page of the table's space has a slot that holds the row's key and value.
+-- The row's table is listed, and some page of the table's space has a slot that holds the row's key
+-- and value.
 pub record IsRow (pages : Pages) (row : Row) : Type 0 where
   pub listed : IsListed pages row.0
   pub number : ℕ
@@ -32,15 +33,23 @@ pub record IsRow (pages : Pages) (row : Row) : Type 0 where
 
 -- the rows of an image are those of a map, as a set of tables, keys and values
 pub record HasRows (pages : Pages) (rows : Rows) : Type 0 where
-  pub here : (table key : ℕ) (value : List ℕ) → IsRow pages (table, key, value) → finite.get rows (table, key) ≡ Some value
-  pub there : (table key : ℕ) (value : List ℕ) → finite.get rows (table, key) ≡ Some value → IsRow pages (table, key, value)
+  pub here : (table key : ℕ) (value : List ℕ) → IsRow pages (table, key, value)
+      → finite.get rows (table, key) ≡ Some value
+  pub there : (table key : ℕ) (value : List ℕ) → finite.get rows (table, key) ≡ Some value
+      → IsRow pages (table, key, value)
 
 -- the image has no two values for one row
 abbrev pub AreOnce : Pages → Type 0
-AreOnce pages = (table key : ℕ) (value other : List ℕ) → IsRow pages (table, key, value) → IsRow pages (table, key, other) → value ≡ other
+AreOnce pages =
+    (table key : ℕ) (value other : List ℕ) → IsRow pages (table, key, value)
+    → IsRow pages (table, key, other) → value ≡ other
 
--- A map shows the rows of an image: whatever it has at a table and a key is a row of the image, and it has a value wherever the image has a row. Where the image has no two values for one row, the rows of the map are those of the image as a set.
+-- A map shows the rows of an image: whatever it has at a table and a key is a row of the image, and
+-- it has a value wherever the image has a row. Where the image has no two values for one row, the
+-- rows of the map are those of the image as a set.
 pub record ShowsRows (pages : Pages) (rows : Rows) : Type 0 where
-  pub sound : (table key : ℕ) (value : List ℕ) → finite.get rows (table, key) ≡ Some value → IsRow pages (table, key, value)
-  pub complete : (table key : ℕ) (value : List ℕ) → IsRow pages (table, key, value) → IsSome (finite.get rows (table, key))
+  pub sound : (table key : ℕ) (value : List ℕ) → finite.get rows (table, key) ≡ Some value
+      → IsRow pages (table, key, value)
+  pub complete : (table key : ℕ) (value : List ℕ) → IsRow pages (table, key, value)
+      → IsSome (finite.get rows (table, key))
   pub all : AreOnce pages → HasRows pages rows

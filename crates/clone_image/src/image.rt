@@ -91,7 +91,8 @@ impl Image {
         lsn: u64,
     ) -> Result<(), AllocError>
         ensures ok { OnOk result (self.new ≡ after_records lsn self.old records.now) }
-        ensures err { AllByRecursion MakesNoPage (drop 1 records.now) → OnErr result (self.new ≡ self.old) }
+        ensures err { AllByRecursion MakesNoPage (drop 1 records.now)
+            → OnErr result (self.new ≡ self.old) }
         ensures without_memory { AllByRecursion MakesNoPage records.now → IsOk result }
     {
         for entry in records {
@@ -122,7 +123,8 @@ fn pages_in(spaces: &Spaces, space: u32) -> Option<&[Page]>
 
 // Changes the page that an INIT or a WRITE names, if it is there.
 fn change(spaces: &mut Spaces, space: u32, number: u32, entry: &Record, lsn: u64)
-    ensures { pages_of_spaces spaces.new.entries ≡ with_edit (pages_of_spaces spaces.old.entries) space (edited number (effect lsn entry.now)) }
+    ensures { pages_of_spaces spaces.new.entries ≡ with_edit
+        (pages_of_spaces spaces.old.entries) space (edited number (effect lsn entry.now)) }
 {
     if let Some(pages) = spaces.get_mut(&space) {
         change_page(pages, number as usize, entry, lsn);
@@ -140,7 +142,8 @@ fn change_page(pages: &mut Vec<Page>, number: usize, entry: &Record, lsn: u64)
 // Puts bytes on a page, if it is there.
 fn lay_in(spaces: &mut Spaces, space: u32, number: u32, offset: u16, bytes: &[u8])
     requires { IsAllowed offset (length bytes.now) }
-    ensures { pages_of_spaces spaces.new.entries ≡ with_edit (pages_of_spaces spaces.old.entries) space (edited number (put_at offset bytes.now)) }
+    ensures { pages_of_spaces spaces.new.entries ≡ with_edit
+        (pages_of_spaces spaces.old.entries) space (edited number (put_at offset bytes.now)) }
 {
     if let Some(pages) = spaces.get_mut(&space) {
         lay_on_page(pages, number as usize, offset, bytes);
@@ -158,8 +161,10 @@ fn lay_on_page(pages: &mut Vec<Page>, number: usize, offset: u16, bytes: &[u8])
 
 // Gives a space at least so many pages, if it is there.
 fn extend(spaces: &mut Spaces, space: u32, count: u32) -> Result<(), AllocError>
-    ensures ok { OnOk result (pages_of_spaces spaces.new.entries ≡ with_edit (pages_of_spaces spaces.old.entries) space (extended count)) }
-    ensures err { OnErr result (pages_of_spaces spaces.new.entries ≡ pages_of_spaces spaces.old.entries) }
+    ensures ok { OnOk result (pages_of_spaces spaces.new.entries
+        ≡ with_edit (pages_of_spaces spaces.old.entries) space (extended count)) }
+    ensures err { OnErr result
+        (pages_of_spaces spaces.new.entries ≡ pages_of_spaces spaces.old.entries) }
 {
     match spaces.get_mut(&space) {
         Some(pages) => add_pages(pages, count as usize),
@@ -182,8 +187,10 @@ fn add_pages(pages: &mut Vec<Page>, count: usize) -> Result<(), AllocError>
 
 // Makes a space of unused pages, in the place of one of the same number.
 fn create(alloc: Global, spaces: &mut Spaces, space: u32, count: u32) -> Result<(), AllocError>
-    ensures ok { OnOk result (pages_of_spaces spaces.new.entries ≡ finite.insert (pages_of_spaces spaces.old.entries) space (replicate count zero_page)) }
-    ensures err { OnErr result (pages_of_spaces spaces.new.entries ≡ pages_of_spaces spaces.old.entries) }
+    ensures ok { OnOk result (pages_of_spaces spaces.new.entries
+        ≡ finite.insert (pages_of_spaces spaces.old.entries) space (replicate count zero_page)) }
+    ensures err { OnErr result
+        (pages_of_spaces spaces.new.entries ≡ pages_of_spaces spaces.old.entries) }
 {
     let mut pages = Vec::new(alloc);
     add_pages(&mut pages, count as usize)?;
@@ -192,7 +199,8 @@ fn create(alloc: Global, spaces: &mut Spaces, space: u32, count: u32) -> Result<
 }
 
 fn remove(spaces: &mut Spaces, space: u32)
-    ensures { pages_of_spaces spaces.new.entries ≡ finite.remove (pages_of_spaces spaces.old.entries) space }
+    ensures { pages_of_spaces spaces.new.entries
+        ≡ finite.remove (pages_of_spaces spaces.old.entries) space }
 {
     spaces.remove(&space);
 }

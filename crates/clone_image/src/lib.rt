@@ -3,12 +3,10 @@
 
 mod image;
 mod laws;
-mod lsn;
 mod rows;
 #[cfg(test)]
 mod tests;
 
 pub use image::Image;
 pub use laws::{page_laws, redone_laws, replay_laws};
-pub use lsn::FIRST_LSN;
 pub use rows::{rows_of, shown_is_the_map};

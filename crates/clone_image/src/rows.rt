@@ -14,9 +14,9 @@ use clone_row::present;
 use std::alloc::{AllocError, Global};
 
 /// The rows of an image: of each page of kind bucket or overflow in the space of a table that the
-/// system page lists. A slot whose length is above 64 holds no row. Where a row stands more than once,
-/// one of its values is kept. An image without a system page has no rows. The one refusal is for want
-/// of memory.
+/// system page lists. A slot whose length is above that of a value holds no row. Where a row stands
+/// more than once, one of its values is kept. An image without a system page has no rows. The one
+/// refusal is for want of memory.
 pub fn rows_of(alloc: Global, image: &Image) -> Result<Tables, AllocError>
     ensures { IfOk result (λ tables. ShowsRows (page_of image.now) tables) }
 {
@@ -127,5 +127,8 @@ fn row_at(page: &Page, place: u16) -> Option<(u64, Value)>
 
 /// Where the rows of the pages are those of a map, whatever shows them is that map.
 pub fn shown_is_the_map()
-    ensures { (pages : Pages) (rows m : Rows) → ShowsRows pages rows → ((table key : ℕ) (value : List ℕ) → IsRow pages (table, key, value) → finite.get m (table, key) ≡ Some value) → ((table key : ℕ) (value : List ℕ) → finite.get m (table, key) ≡ Some value → IsRow pages (table, key, value)) → rows ≡ m }
+    ensures { (pages : Pages) (rows m : Rows) → ShowsRows pages rows
+        → ((table key : ℕ) (value : List ℕ) → IsRow pages (table, key, value)
+        → finite.get m (table, key) ≡ Some value) → ((table key : ℕ) (value : List ℕ)
+        → finite.get m (table, key) ≡ Some value → IsRow pages (table, key, value)) → rows ≡ m }
 {}

@@ -1,6 +1,7 @@
 -- What mini-transactions do to one page: the records are seen from the page alone.
 use Rattle.std.specs.Prelude.{ℕ, ◌≡◌, ◌<◌, ◌≤◌, ◌==◌, ◌&&◌, Bool, true, false, List, [], ◌∷◌, length, if◌then◌else◌, None, Some}
 use Rattle.std.specs.declared.option.Option.{Option}
+use Rattle.clone_base.specs.declared.limits.TheConstants.{PAGE_SIZE}
 use Rattle.clone_page.specs.Header.{zero_page, lsn_of}
 use Rattle.clone_mtr.specs.Effects.{effect}
 use Rattle.clone_mtr.specs.declared.record.Record.{Record}
@@ -115,11 +116,11 @@ Ordered (reaches s ∷ ts) = Ordered ts
 abbrev pub NotAbove : ℕ → Standing → Type 0
 NotAbove bound no_space = Unit {0}
 NotAbove bound past_end = Unit {0}
-NotAbove bound (stands page) = (4096 ≤ length page) × (lsn_of page ≤ bound)
+NotAbove bound (stands page) = (PAGE_SIZE ≤ length page) × (lsn_of page ≤ bound)
 
 -- an edit leaves the mini-transaction's end on the page
 abbrev pub Marks : ℕ → (List ℕ → List ℕ) → Type 0
-Marks end f = (page : List ℕ) → 4096 ≤ length page → (4096 ≤ length (f page)) × (lsn_of (f page) ≡ end)
+Marks end f = (page : List ℕ) → PAGE_SIZE ≤ length page → (PAGE_SIZE ≤ length (f page)) × (lsn_of (f page) ≡ end)
 
 abbrev pub IsMade : Standing → Type 0
 IsMade no_space = ⊥

@@ -5,6 +5,7 @@ use Rattle.std.specs.declared.option.Option.{Option}
 use Rattle.std.specs.Option.{option_map_or}
 use Rattle.std.specs.FinMap as finite
 use Rattle.std.specs.Coded.{Coded, code_by, coded×, coded⊎, coded_ℕ, coded_bool, coded_list, coded_option}
+use Rattle.clone_base.specs.declared.limits.TheConstants.{PAGE_SIZE}
 use Rattle.clone_outside.specs.Calls.{Calls, no_calls, FailsNext, after_call, with_failing, nth_from_now}
 use Rattle.clone_outside.specs.Disk.{DiskImage, Spaces, blank}
 use Rattle.clone_outside.specs.declared.Refusal.{Refusal}
@@ -21,14 +22,21 @@ pub record Stored : Type 0 where
   pub orders : List DiskOrder
 
 abbrev pub held_code : Coded Held
-held_code = code_by (List ℕ × Bool) (coded× (coded_list coded_ℕ) coded_bool) (λ h. (h.bytes, h.writing)) (λ p. record { bytes = p.0; writing = p.1 }) (λ _. refl)
+held_code =
+    code_by (List ℕ × Bool) (coded× (coded_list coded_ℕ) coded_bool) (λ h. (h.bytes, h.writing))
+    (λ p. record { bytes = p.0; writing = p.1 }) (λ _. refl)
 
 abbrev pub image_code : Coded DiskImage
 image_code =
-    code_by (Spaces × Option (List ℕ)) (coded× (finite.code coded_ℕ (coded_list held_code)) (coded_option (coded_list coded_ℕ))) (λ m. (m.spaces, m.mark)) (λ p. record { spaces = p.0; mark = p.1 }) (λ _. refl)
+    code_by (Spaces × Option (List ℕ))
+    (coded× (finite.code coded_ℕ (coded_list held_code)) (coded_option (coded_list coded_ℕ)))
+    (λ m. (m.spaces, m.mark)) (λ p. record { spaces = p.0; mark = p.1 }) (λ _. refl)
 
 abbrev pub calls_code : Coded Calls
-calls_code = code_by (ℕ × (ℕ × List ℕ)) (coded× coded_ℕ (coded× coded_ℕ (coded_list coded_ℕ))) (λ c. (c.made, (c.faults, c.failing))) (λ p. record { made = p.0; faults = p.1.0; failing = p.1.1 }) (λ _. refl)
+calls_code =
+    code_by (ℕ × (ℕ × List ℕ)) (coded× coded_ℕ (coded× coded_ℕ (coded_list coded_ℕ)))
+    (λ c. (c.made, (c.faults, c.failing)))
+    (λ p. record { made = p.0; faults = p.1.0; failing = p.1.1 }) (λ _. refl)
 
 abbrev pub order_number : DiskOrder → ℕ ⊎ ℕ
 order_number (FailAt call) = inl call
@@ -47,8 +55,10 @@ order_code = code_by (ℕ ⊎ ℕ) (coded⊎ coded_ℕ coded_ℕ) order_number o
 
 abbrev pub stored_code : Coded Stored
 stored_code =
-    code_by (DiskImage × (Option ℕ × (Calls × List DiskOrder))) (coded× image_code (coded× (coded_option coded_ℕ) (coded× calls_code (coded_list order_code))))
-    (λ d. (d.image, (d.tear, (d.calls, d.orders)))) (λ p. record { image = p.0; tear = p.1.0; calls = p.1.1.0; orders = p.1.1.1 }) (λ _. refl)
+    code_by (DiskImage × (Option ℕ × (Calls × List DiskOrder)))
+    (coded× image_code (coded× (coded_option coded_ℕ) (coded× calls_code (coded_list order_code))))
+    (λ d. (d.image, (d.tear, (d.calls, d.orders))))
+    (λ p. record { image = p.0; tear = p.1.0; calls = p.1.1.0; orders = p.1.1.1 }) (λ _. refl)
 
 -- nothing is held, and no call was made
 abbrev pub fresh : Stored
@@ -66,13 +76,17 @@ pub record IsCounted {T : Type 0} (old new : Stored) (result : Result T Refusal)
 
 -- an order was given
 abbrev pub ordered : DiskOrder → Stored → Stored
-ordered (FailAt call) disk = record disk { calls = with_failing disk.calls (nth_from_now disk.calls call); orders = disk.orders ++ FailAt call ∷ [] }
+ordered (FailAt call) disk =
+    record disk {
+      calls = with_failing disk.calls (nth_from_now disk.calls call);
+      orders = disk.orders ++ FailAt call ∷ [];
+    }
 ordered (Tear byte) disk = record disk { tear = Some byte; orders = disk.orders ++ Tear byte ∷ [] }
 
 -- what a page gives: its bytes, or where its write is open and a byte was ordered, that byte alone
 abbrev pub given : Option ℕ → Held → List ℕ
 given None page = page.bytes
-given (Some byte) page = if page.writing then replicate 4096 byte else page.bytes
+given (Some byte) page = if page.writing then replicate PAGE_SIZE byte else page.bytes
 
 -- a read of a page, which leaves the bytes before where the page isn't there
 abbrev pub IsRead : Option ℕ → Option Held → List ℕ → List ℕ → Type 0

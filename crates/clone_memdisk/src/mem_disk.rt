@@ -8,7 +8,8 @@ ghost use Rattle.clone_memdisk.specs.Stored.{IsCounted, fresh, interrupted, orde
 ghost use Rattle.clone_memdisk.specs.Listed.{spaces_of};
 
 use crate::space::Space;
-use clone_outside::{DiskOrder, FaultPlan, Held, MARK_SIZE, PAGE_SIZE, PageDisk, Refusal};
+use clone_base::PAGE_SIZE;
+use clone_outside::{DiskOrder, FaultPlan, Held, MARK_SIZE, PageDisk, Refusal};
 use std::alloc::{AllocError, Global};
 use std::collections::BTreeMap;
 use std::marker::Model;
@@ -38,7 +39,15 @@ impl Model for MemDisk {
 
     ghost coded = { stored_code };
 
-    ghost view = { λ d. record { image = record { spaces = spaces_of d.spaces.entries; mark = d.mark }; tear = d.tear; calls = d.plan; orders = d.orders.items } };
+    ghost view = { λ d. record {
+      image = record {
+        spaces = spaces_of d.spaces.entries;
+        mark = d.mark;
+      };
+      tear = d.tear;
+      calls = d.plan;
+      orders = d.orders.items;
+    } };
 }
 
 impl MemDisk {
@@ -111,7 +120,8 @@ impl PageDisk for MemDisk {
         ensures cause { HasCause self.old.calls.faults self.new.calls.faults result }
         ensures orders { self.new.orders ≡ self.old.orders }
 
-        ensures read { OnOk result (IsRead self.old.tear (page_of self.old.image space page) into.old into.new) }
+        ensures read { OnOk result
+            (IsRead self.old.tear (page_of self.old.image space page) into.old into.new) }
         ensures counted { IsCounted self.old self.new result }
     {
         self.plan.begin()?;
@@ -120,13 +130,17 @@ impl PageDisk for MemDisk {
     }
 
     fn write_half(&mut self, space: u32, page: u32, from: &[u8; PAGE_SIZE]) -> Result<(), Refusal>
-        ensures written { OnOk result (Some self.new.image ≡ Some (with_page self.old.image space page (half_written from.now))) }
-        ensures fault { IsErrOf result Refusal.Fault → Opens space page (Some self.old.image) (Some self.new.image) }
-        ensures memory { IsErrOf result Refusal.NoMemory → Some self.new.image ≡ Some self.old.image }
+        ensures written { OnOk result (Some self.new.image
+            ≡ Some (with_page self.old.image space page (half_written from.now))) }
+        ensures fault { IsErrOf result Refusal.Fault
+            → Opens space page (Some self.old.image) (Some self.new.image) }
+        ensures memory { IsErrOf result Refusal.NoMemory
+            → Some self.new.image ≡ Some self.old.image }
         ensures cause { HasCause self.old.calls.faults self.new.calls.faults result }
         ensures orders { self.new.orders ≡ self.old.orders }
 
-        ensures opened { OnErr result (self.new.image ≡ with_page self.old.image space page interrupted) }
+        ensures opened { OnErr result
+            (self.new.image ≡ with_page self.old.image space page interrupted) }
         ensures counted { IsCounted self.old self.new result }
     {
         if self.plan.begin().is_err() {
@@ -138,13 +152,17 @@ impl PageDisk for MemDisk {
     }
 
     fn write_rest(&mut self, space: u32, page: u32, from: &[u8; PAGE_SIZE]) -> Result<(), Refusal>
-        ensures written { OnOk result (Some self.new.image ≡ Some (with_page self.old.image space page (rest_written from.now))) }
-        ensures fault { IsErrOf result Refusal.Fault → Opens space page (Some self.old.image) (Some self.new.image) }
-        ensures memory { IsErrOf result Refusal.NoMemory → Some self.new.image ≡ Some self.old.image }
+        ensures written { OnOk result (Some self.new.image
+            ≡ Some (with_page self.old.image space page (rest_written from.now))) }
+        ensures fault { IsErrOf result Refusal.Fault
+            → Opens space page (Some self.old.image) (Some self.new.image) }
+        ensures memory { IsErrOf result Refusal.NoMemory
+            → Some self.new.image ≡ Some self.old.image }
         ensures cause { HasCause self.old.calls.faults self.new.calls.faults result }
         ensures orders { self.new.orders ≡ self.old.orders }
 
-        ensures opened { OnErr result (self.new.image ≡ with_page self.old.image space page interrupted) }
+        ensures opened { OnErr result
+            (self.new.image ≡ with_page self.old.image space page interrupted) }
         ensures counted { IsCounted self.old self.new result }
     {
         if self.plan.begin().is_err() {
@@ -156,9 +174,12 @@ impl PageDisk for MemDisk {
     }
 
     fn extend(&mut self, space: u32, pages: u32) -> Result<(), Refusal>
-        ensures extended { OnOk result (Some self.new.image ≡ Some (with_extended self.old.image space pages)) }
-        ensures fault { IsErrOf result Refusal.Fault → IsBeforeOrAfter (Some self.old.image) (Some self.new.image) (λ m. with_extended m space pages) }
-        ensures memory { IsErrOf result Refusal.NoMemory → Some self.new.image ≡ Some self.old.image }
+        ensures extended { OnOk result
+            (Some self.new.image ≡ Some (with_extended self.old.image space pages)) }
+        ensures fault { IsErrOf result Refusal.Fault → IsBeforeOrAfter (Some self.old.image)
+            (Some self.new.image) (λ m. with_extended m space pages) }
+        ensures memory { IsErrOf result Refusal.NoMemory
+            → Some self.new.image ≡ Some self.old.image }
         ensures cause { HasCause self.old.calls.faults self.new.calls.faults result }
         ensures orders { self.new.orders ≡ self.old.orders }
 
@@ -171,9 +192,12 @@ impl PageDisk for MemDisk {
     }
 
     fn create(&mut self, space: u32, pages: u32) -> Result<(), Refusal>
-        ensures created { OnOk result (Some self.new.image ≡ Some (with_created self.old.image space pages)) }
-        ensures fault { IsErrOf result Refusal.Fault → IsBeforeOrAfter (Some self.old.image) (Some self.new.image) (λ m. with_created m space pages) }
-        ensures memory { IsErrOf result Refusal.NoMemory → Some self.new.image ≡ Some self.old.image }
+        ensures created { OnOk result
+            (Some self.new.image ≡ Some (with_created self.old.image space pages)) }
+        ensures fault { IsErrOf result Refusal.Fault → IsBeforeOrAfter (Some self.old.image)
+            (Some self.new.image) (λ m. with_created m space pages) }
+        ensures memory { IsErrOf result Refusal.NoMemory
+            → Some self.new.image ≡ Some self.old.image }
         ensures cause { HasCause self.old.calls.faults self.new.calls.faults result }
         ensures orders { self.new.orders ≡ self.old.orders }
 
@@ -186,9 +210,12 @@ impl PageDisk for MemDisk {
     }
 
     fn remove(&mut self, space: u32) -> Result<(), Refusal>
-        ensures removed { OnOk result (Some self.new.image ≡ Some (with_removed self.old.image space)) }
-        ensures fault { IsErrOf result Refusal.Fault → IsBeforeOrAfter (Some self.old.image) (Some self.new.image) (λ m. with_removed m space) }
-        ensures memory { IsErrOf result Refusal.NoMemory → Some self.new.image ≡ Some self.old.image }
+        ensures removed { OnOk result
+            (Some self.new.image ≡ Some (with_removed self.old.image space)) }
+        ensures fault { IsErrOf result Refusal.Fault → IsBeforeOrAfter (Some self.old.image)
+            (Some self.new.image) (λ m. with_removed m space) }
+        ensures memory { IsErrOf result Refusal.NoMemory
+            → Some self.new.image ≡ Some self.old.image }
         ensures cause { HasCause self.old.calls.faults self.new.calls.faults result }
         ensures orders { self.new.orders ≡ self.old.orders }
 
@@ -214,9 +241,12 @@ impl PageDisk for MemDisk {
     }
 
     fn write_mark(&mut self, mark: &[u8; MARK_SIZE]) -> Result<(), Refusal>
-        ensures written { OnOk result (Some self.new.image ≡ Some (with_mark self.old.image mark.now)) }
-        ensures fault { IsErrOf result Refusal.Fault → IsBeforeOrAfter (Some self.old.image) (Some self.new.image) (λ m. with_mark m mark.now) }
-        ensures memory { IsErrOf result Refusal.NoMemory → Some self.new.image ≡ Some self.old.image }
+        ensures written { OnOk result
+            (Some self.new.image ≡ Some (with_mark self.old.image mark.now)) }
+        ensures fault { IsErrOf result Refusal.Fault → IsBeforeOrAfter (Some self.old.image)
+            (Some self.new.image) (λ m. with_mark m mark.now) }
+        ensures memory { IsErrOf result Refusal.NoMemory
+            → Some self.new.image ≡ Some self.old.image }
         ensures cause { HasCause self.old.calls.faults self.new.calls.faults result }
         ensures orders { self.new.orders ≡ self.old.orders }
 
@@ -312,7 +342,8 @@ fn give(held: &Held, tear: Option<u8>, into: &mut [u8; PAGE_SIZE])
 }
 
 fn write_half_in(spaces: &mut Spaces, space: u32, page: u32, from: &[u8; PAGE_SIZE])
-    ensures { spaces_of spaces.new.entries ≡ with_pages (spaces_of spaces.old.entries) space (edited page (half_written from.now)) }
+    ensures { spaces_of spaces.new.entries
+        ≡ with_pages (spaces_of spaces.old.entries) space (edited page (half_written from.now)) }
 {
     if let Some(pages) = spaces.get_mut(&space) {
         pages.write_half(page, from);
@@ -320,7 +351,8 @@ fn write_half_in(spaces: &mut Spaces, space: u32, page: u32, from: &[u8; PAGE_SI
 }
 
 fn write_rest_in(spaces: &mut Spaces, space: u32, page: u32, from: &[u8; PAGE_SIZE])
-    ensures { spaces_of spaces.new.entries ≡ with_pages (spaces_of spaces.old.entries) space (edited page (rest_written from.now)) }
+    ensures { spaces_of spaces.new.entries
+        ≡ with_pages (spaces_of spaces.old.entries) space (edited page (rest_written from.now)) }
 {
     if let Some(pages) = spaces.get_mut(&space) {
         pages.write_rest(page, from);
@@ -328,7 +360,8 @@ fn write_rest_in(spaces: &mut Spaces, space: u32, page: u32, from: &[u8; PAGE_SI
 }
 
 fn open_in(spaces: &mut Spaces, space: u32, page: u32)
-    ensures { spaces_of spaces.new.entries ≡ with_pages (spaces_of spaces.old.entries) space (edited page interrupted) }
+    ensures { spaces_of spaces.new.entries
+        ≡ with_pages (spaces_of spaces.old.entries) space (edited page interrupted) }
 {
     if let Some(pages) = spaces.get_mut(&space) {
         pages.open(page);
@@ -337,7 +370,8 @@ fn open_in(spaces: &mut Spaces, space: u32, page: u32)
 
 // Gives a space at least so many pages, if it is there.
 fn extend_in(spaces: &mut Spaces, space: u32, count: u32) -> Result<(), AllocError>
-    ensures ok { OnOk result (spaces_of spaces.new.entries ≡ with_pages (spaces_of spaces.old.entries) space (extended count)) }
+    ensures ok { OnOk result (spaces_of spaces.new.entries
+        ≡ with_pages (spaces_of spaces.old.entries) space (extended count)) }
     ensures err { OnErr result (spaces_of spaces.new.entries ≡ spaces_of spaces.old.entries) }
 {
     match spaces.get_mut(&space) {
@@ -348,7 +382,8 @@ fn extend_in(spaces: &mut Spaces, space: u32, count: u32) -> Result<(), AllocErr
 
 // Makes a space of pages of zero bytes, in the place of one of the same number.
 fn create_in(alloc: Global, spaces: &mut Spaces, space: u32, count: u32) -> Result<(), AllocError>
-    ensures ok { OnOk result (spaces_of spaces.new.entries ≡ finite.insert (spaces_of spaces.old.entries) space (replicate count zero_page)) }
+    ensures ok { OnOk result (spaces_of spaces.new.entries
+        ≡ finite.insert (spaces_of spaces.old.entries) space (replicate count zero_page)) }
     ensures err { OnErr result (spaces_of spaces.new.entries ≡ spaces_of spaces.old.entries) }
 {
     spaces.insert(space, Space::zero(alloc, count)?)?;

@@ -2,7 +2,8 @@ ghost use Rattle.std.specs.Prelude.{◌≡◌, ◌++◌, IfOk, OnOk, OnErr, opti
 ghost use Rattle.clone_outside.specs.Disk.{zero_page, edited, half_written, rest_written, extended};
 ghost use Rattle.clone_memdisk.specs.Stored.{interrupted};
 
-use clone_outside::{HALF_PAGE, Held, PAGE_SIZE};
+use clone_base::PAGE_SIZE;
+use clone_outside::{HALF_PAGE, Held};
 use std::alloc::{AllocError, Global};
 use std::marker::Model;
 

@@ -13,7 +13,8 @@ use Rattle.std.proofs.lemmas.Map.Keys.{sorted_head, sorted_tail}
 use Rattle.clone_model.specs.Keys.{row_cmp}
 use Rattle.clone_model.specs.History.{Row, Rows, rows_in, set_or_remove}
 use Rattle.clone_model.specs.Room.{kept}
-use Rattle.clone_model.proofs.RowMaps.{row_cmp_total, row_cmp_exact, is_equal, chosen_none, get-set_or_remove}
+use Rattle.clone_base.proofs.MapEntries.{is_equal}
+use Rattle.clone_model.proofs.RowMaps.{row_cmp_total, row_cmp_exact, chosen_none, get-set_or_remove}
 
 -- the slots with a value
 abbrev pub present : List ((ℕ × ℕ) × Option (List ℕ)) → List ((ℕ × ℕ) × List ℕ)

@@ -1,17 +1,16 @@
 use Rattle.std.proofs.Common.{◌≡◌, ℕ, List, [], ◌∷◌, refl, sym, ap, ◌∙◌, cond, Some, None, Bool, true, false, option_and_then, is_some, IsSome, subst, ◌++◌, ◌+◌, ◌<◌, length, get_or, take, drop}
 use Rattle.std.proofs.lemmas.List.{drop_more, take_more}
-use Rattle.std.specs.declared.cmp.Ordering.{Ordering}
-use Rattle.std.specs.declared.cmp.Ordering.TheVariants.{Less, Equal, Greater}
 use Rattle.clone_model.specs.declared.change.Change.{Change}
 use Rattle.clone_model.specs.Room.{HasRoom, HasRoomFor}
 use Rattle.std.specs.declared.option.Option.{Option}
 use Rattle.std.specs.FinMap as map
 use Rattle.std.specs.FinMap.{IsAntisymmetric, same_map, get-empty, get-insert, get-remove}
 use Rattle.std.specs.Cmp.{IsTotalOrder, then_total, on_total, nat_cmp_total, eq_by_cmp_equiv}
-use Rattle.std.specs.Ordering.{nat_cmp, eq_by_cmp, is_eq}
+use Rattle.std.specs.Ordering.{nat_cmp, eq_by_cmp}
 use Rattle.std.specs.BTreeMap.{BTreeMap, get, Updates, is_at}
 use Rattle.std.proofs.lemmas.Map.Lookups.{exact_pairs, exact_unsigned}
 use Rattle.std.specs.Map.{lookup}
+use Rattle.clone_base.proofs.MapEntries.{is_equal}
 use Rattle.clone_model.specs.Keys.{row_cmp}
 use Rattle.clone_model.specs.History.{Rows, set_or_remove, after_change, after_changes}
 use Rattle.clone_model.specs.Room.{kept}
@@ -49,11 +48,6 @@ updated_rows m n k v is =
     same_map row_cmp_total row_cmp_exact _ _ (λ q. get_rows n q ∙ ap inside (is.0 q) ∙ inside_cond (eq_by_cmp row_cmp k q) v (get row_cmp m q) ∙ ap (cond (eq_by_cmp row_cmp k q) v) (sym (get_rows m q))
     ∙ ap (λ b. cond b v (map.get (kept m.entries) q)) ((eq_by_cmp_equiv row_cmp_total).symm k q)
     ∙ sym (get-set_or_remove (kept m.entries) k v q))
-
-pub is_equal : (r : Ordering) → is_eq r ≡ true → r ≡ Equal
-is_equal Less e = cc
-is_equal Equal e = refl
-is_equal Greater e = cc
 
 none_there : (m : BTreeMap (ℕ × ℕ) (Option (List ℕ))) (k q : ℕ × ℕ) → is_some (get row_cmp m k) ≡ false → eq_by_cmp row_cmp k q ≡ true → inside (get row_cmp m q) ≡ None
 none_there m k q none tie =

@@ -1,4 +1,5 @@
--- What contracts see of a binlog: its commits, the first one first, and for how many more there is room.
+-- What contracts see of a binlog: its commits, the first one first, and for how many more there is
+-- room.
 use Rattle.std.specs.Prelude.{ℕ, List}
 use Rattle.clone_model.specs.declared.change.Commit.{Commit}
 

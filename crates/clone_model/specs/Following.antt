@@ -22,16 +22,20 @@ pub record IsChangeLine (line : List ℕ) : Type 0 where
   pub is_change : IsChange change
   pub same : line ≡ change_text change
 
--- Where so many changes of a commit are missing, the line may follow, and so many are missing behind it.
+-- Where so many changes of a commit are missing, the line may follow, and so many are missing
+-- behind it.
 abbrev pub Follows : ℕ → List ℕ → ℕ → Type 0
-Follows missing line after = ((missing ≡ 0) × IsFirstLine line after) ⊎ ((missing ≡ after + 1) × IsChangeLine line)
+Follows missing line after =
+    ((missing ≡ 0) × IsFirstLine line after) ⊎ ((missing ≡ after + 1) × IsChangeLine line)
 
 -- the same of lines, one after the other
 abbrev pub Follow : ℕ → List (List ℕ) → ℕ → Type 0
 Follow missing [] after = after ≡ missing
-Follow missing (line ∷ lines) after = (between : ℕ) × Follows missing line between × Follow between lines after
+Follow missing (line ∷ lines) after =
+    (between : ℕ) × Follows missing line between × Follow between lines after
 
--- Where so many changes are missing and so many lines stand before the text, the line of this number is the first that may not follow or that is missing.
+-- Where so many changes are missing and so many lines stand before the text, the line of this
+-- number is the first that may not follow or that is missing.
 pub record StopsAt (missing : ℕ) (text : List ℕ) (before number : ℕ) : Type 0 where
   pub front : List (List ℕ)
   pub rest : List ℕ
@@ -39,7 +43,8 @@ pub record StopsAt (missing : ℕ) (text : List ℕ) (before number : ℕ) : Typ
   pub split : text ≡ flat_map ended front ++ rest
   pub count : number ≡ before + length front + 1
   pub good : Follow missing front after
-  pub no_line : (line behind : List ℕ) (more : ℕ) → rest ≡ ended line ++ behind → Follows after line more → ⊥
+  pub no_line : (line behind : List ℕ) (more : ℕ) → rest ≡ ended line ++ behind
+      → Follows after line more → ⊥
   pub no_end : rest ≡ [] → after ≡ 0 → ⊥
 
 -- the refusal has that number. Want of memory is free

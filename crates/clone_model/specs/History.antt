@@ -53,14 +53,17 @@ after_entries rows (entry ∷ entries) = after_entries (after_entry rows entry) 
 abbrev pub fold : List Entry → Rows
 fold history = after_entries finite.empty history
 
--- The drops of tables in their order: of each the position at which it stands, which is the number of commits before it, and the table.
+-- The drops of tables in their order: of each the position at which it stands, which is the number
+-- of commits before it, and the table.
 abbrev pub Drops : Type 0
 Drops = List (ℕ × ℕ)
 
 -- the commits of a binlog from a position on, and the drops that stand among them
 abbrev pub history_from : ℕ → List Commit → Drops → List Entry
 history_from position binlog [] = map Committed (drop position binlog)
-history_from position binlog (d ∷ drops) = map Committed (take (d.0 - position) (drop position binlog)) ++ Dropped d.1 ∷ history_from d.0 binlog drops
+history_from position binlog (d ∷ drops) =
+    map Committed (take (d.0 - position) (drop position binlog))
+    ++ Dropped d.1 ∷ history_from d.0 binlog drops
 
 -- a binlog and the drops that stand in it, as one history
 abbrev pub history_of : List Commit → Drops → List Entry

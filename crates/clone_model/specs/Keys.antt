@@ -1,4 +1,5 @@
--- A row is named by its table and its key. Rows are in the order of their tables, and then of their keys.
+-- A row is named by its table and its key. Rows are in the order of their tables, and then of their
+-- keys.
 use Rattle.std.specs.Prelude.{ℕ}
 use Rattle.std.specs.declared.cmp.Ordering.{Ordering}
 use Rattle.std.specs.Ordering.{nat_cmp, ordering_then}

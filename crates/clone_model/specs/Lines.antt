@@ -3,37 +3,47 @@ use Rattle.std.specs.Prelude.{ℕ, ◌<◌, ◌≤◌, ◌^◌, List, ◌++◌, 
 use Rattle.std.specs.Fmt.{decimal}
 use Rattle.std.specs.List.{AllByRecursion}
 use Rattle.clone_model.specs.Texts.{value_text}
+use Rattle.clone_model.specs.declared.line.TheConstants.{HIGHEST_TABLE, MOST_BUCKETS}
+use Rattle.clone_model.specs.declared.script_value.TheConstants.{LONGEST_SCRIPT_VALUE}
 use Rattle.clone_model.specs.declared.line.Line.{Line}
 use Rattle.clone_model.specs.declared.line.Line.TheVariants.{Create, Begin, Put, Delete, Get, Undo, Commit, Set, Clone, Rows}
 
 abbrev pub line_text : Line → List ℕ
 line_text (Create table buckets) = codes "create " ++ decimal table ++ codes " " ++ decimal buckets
 line_text (Begin writer) = codes "begin " ++ decimal writer
-line_text (Put trx table key value) = codes "put " ++ decimal trx ++ codes " " ++ decimal table ++ codes " " ++ decimal key ++ codes " " ++ value_text value
-line_text (Delete trx table key) = codes "del " ++ decimal trx ++ codes " " ++ decimal table ++ codes " " ++ decimal key
-line_text (Get trx table key) = codes "get " ++ decimal trx ++ codes " " ++ decimal table ++ codes " " ++ decimal key
+line_text (Put trx table key value) =
+    codes "put " ++ decimal trx ++ codes " " ++ decimal table ++ codes " " ++ decimal key
+    ++ codes " " ++ value_text value
+line_text (Delete trx table key) =
+    codes "del " ++ decimal trx ++ codes " " ++ decimal table ++ codes " " ++ decimal key
+line_text (Get trx table key) =
+    codes "get " ++ decimal trx ++ codes " " ++ decimal table ++ codes " " ++ decimal key
 line_text (Undo trx) = codes "undo " ++ decimal trx
 line_text (Commit trx) = codes "commit " ++ decimal trx
-line_text (Set writer table key value) = codes "set " ++ decimal writer ++ codes " " ++ decimal table ++ codes " " ++ decimal key ++ codes " " ++ value_text value
+line_text (Set writer table key value) =
+    codes "set " ++ decimal writer ++ codes " " ++ decimal table ++ codes " " ++ decimal key
+    ++ codes " " ++ value_text value
 line_text Clone = codes "clone"
 line_text Rows = codes "rows"
 
 abbrev pub IsTable : ℕ → Type 0
-IsTable table = (1 ≤ table) × (table ≤ 1000000)
+IsTable table = (1 ≤ table) × (table ≤ HIGHEST_TABLE)
 
--- the bytes of a value that a script may give, no more than 1,024
+-- the bytes of a value that a script may give
 abbrev pub IsScriptValue : List ℕ → Type 0
-IsScriptValue value = (length value ≤ 1024) × AllByRecursion (λ b. b < 256) value
+IsScriptValue value = (length value ≤ LONGEST_SCRIPT_VALUE) × AllByRecursion (λ b. b < 256) value
 
 -- each number of the line is in its range, and so is its value
 abbrev pub IsInRange : Line → Type 0
-IsInRange (Create table buckets) = IsTable table × (1 ≤ buckets) × (buckets ≤ 1024)
+IsInRange (Create table buckets) = IsTable table × (1 ≤ buckets) × (buckets ≤ MOST_BUCKETS)
 IsInRange (Begin writer) = writer < 2 ^ 32
-IsInRange (Put trx table key value) = (trx < 2 ^ 32) × IsTable table × (key < 2 ^ 64) × IsScriptValue value
+IsInRange (Put trx table key value) =
+    (trx < 2 ^ 32) × IsTable table × (key < 2 ^ 64) × IsScriptValue value
 IsInRange (Delete trx table key) = (trx < 2 ^ 32) × IsTable table × (key < 2 ^ 64)
 IsInRange (Get trx table key) = (trx < 2 ^ 32) × IsTable table × (key < 2 ^ 64)
 IsInRange (Undo trx) = trx < 2 ^ 32
 IsInRange (Commit trx) = trx < 2 ^ 32
-IsInRange (Set writer table key value) = (writer < 2 ^ 32) × IsTable table × (key < 2 ^ 64) × IsScriptValue value
+IsInRange (Set writer table key value) =
+    (writer < 2 ^ 32) × IsTable table × (key < 2 ^ 64) × IsScriptValue value
 IsInRange Clone = Unit {0}
 IsInRange Rows = Unit {0}

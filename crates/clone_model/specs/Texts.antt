@@ -1,4 +1,5 @@
--- The texts of values, rows and the binlog. Each number is decimal, and each line is ended by a line feed.
+-- The texts of values, rows and the binlog. Each number is decimal, and each line is ended by a
+-- line feed.
 use Rattle.std.specs.Prelude.{ℕ, ◌+◌, ◌/◌, ◌%◌, List, [], ◌∷◌, ◌++◌, length, codes, if◌then◌else◌, nat_lt, None, Some}
 use Rattle.std.specs.Fmt.{decimal}
 use Rattle.std.specs.List.{flat_map}
@@ -40,7 +41,9 @@ value_or_none None = codes "none"
 value_or_none (Some value) = value_text value
 
 abbrev pub change_text : Change → List ℕ
-change_text change = decimal change.table ++ codes " " ++ decimal change.key ++ codes " " ++ value_or_none change.value
+change_text change =
+    decimal change.table ++ codes " " ++ decimal change.key ++ codes " "
+    ++ value_or_none change.value
 
 abbrev pub changes_text : List Change → List ℕ
 changes_text changes = flat_map (λ change. ended (change_text change)) changes
@@ -48,7 +51,8 @@ changes_text changes = flat_map (λ change. ended (change_text change)) changes
 -- writer, index and number of changes, and then the changes
 abbrev pub commit_text : Commit → List ℕ
 commit_text commit =
-    ended (codes "commit " ++ decimal commit.writer ++ codes " " ++ decimal commit.index ++ codes " " ++ decimal (length commit.changes)) ++ changes_text commit.changes
+    ended (codes "commit " ++ decimal commit.writer ++ codes " " ++ decimal commit.index
+    ++ codes " " ++ decimal (length commit.changes)) ++ changes_text commit.changes
 
 abbrev pub binlog_text : List Commit → List ℕ
 binlog_text commits = flat_map commit_text commits

@@ -8,7 +8,8 @@ ghost use Rattle.clone_model.specs.declared.change.Commit.{Commit};
 pub fn history_laws()
     ensures committed { (binlog : List Commit) (drops : Drops) (commit : Commit)
         → AllByRecursion (λ d. d.0 ≤ length binlog) drops
-        → history_of (binlog ++ commit ∷ []) drops ≡ history_of binlog drops ++ Committed commit ∷ [] }
+        → history_of (binlog ++ commit ∷ []) drops
+        ≡ history_of binlog drops ++ Committed commit ∷ [] }
     ensures dropped { (binlog : List Commit) (drops : Drops) (table : ℕ)
         → history_of binlog (drops ++ (length binlog, table) ∷ [])
         ≡ history_of binlog drops ++ Dropped table ∷ [] }

@@ -16,13 +16,13 @@ mod value;
 
 pub use change::{Change, Commit};
 pub use history::history_laws;
-pub use line::{BucketCount, Line, TableNumber};
+pub use line::{BucketCount, HIGHEST_TABLE, Line, MOST_BUCKETS, TableNumber};
 pub use list::{Binlog, Changes};
 pub use reading::{
     ReadRefusal, as_u32, binlog_reads_back, leading_number, number_of, one_answer, one_binlog,
     read_binlog, script_value_of, split_once, value_of,
 };
-pub use script_value::ScriptValue;
+pub use script_value::{LONGEST_SCRIPT_VALUE, ScriptValue};
 pub use tables::{Tables, fold};
 pub use text::{binlog_text, line_text, push_value, rows_text};
 pub use value::Value;

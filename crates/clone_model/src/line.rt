@@ -3,6 +3,12 @@ ghost use Rattle.std.specs.Prelude.{◌≡◌, ◌≤◌, ◌<◌, ◌⊎◌, If
 use crate::ScriptValue;
 use std::marker::Model;
 
+/// The highest number of a table. The lowest is 1.
+pub const HIGHEST_TABLE: u32 = 1_000_000;
+
+/// The most buckets that a table may have. It has at least one.
+pub const MOST_BUCKETS: u32 = 1_024;
+
 /// The number of a table, from 1 to 1,000,000.
 #[derive(Clone, Copy, Debug, PartialEq, Eq)]
 pub struct TableNumber {
@@ -11,12 +17,13 @@ pub struct TableNumber {
 
 impl Model for TableNumber {
     ghost use Rattle.std.specs.Prelude.{ℕ, ◌≤◌};
+    ghost use Rattle.clone_model.specs.declared.line.TheConstants.{HIGHEST_TABLE};
 
     ghost Value = { ℕ };
 
     ghost view = { λ t. t.number };
 
-    ghost invariant = { λ t. (1 ≤ t.number) × (t.number ≤ 1000000) };
+    ghost invariant = { λ t. (1 ≤ t.number) × (t.number ≤ HIGHEST_TABLE) };
 
     ghost inverse = { λ n. record { number = n } };
 }
@@ -25,9 +32,9 @@ impl TableNumber {
     /// The table of this number, or none where it is out of range.
     pub fn new(number: u32) -> Option<TableNumber>
         ensures some { IfSome result (λ t. t ≡ number) }
-        ensures none { IfNone result ((number ≡ 0) ⊎ (1000000 < number)) }
+        ensures none { IfNone result ((number ≡ 0) ⊎ (HIGHEST_TABLE < number)) }
     {
-        if number == 0 || number > 1_000_000 {
+        if number == 0 || number > HIGHEST_TABLE {
             return None;
         }
         Some(TableNumber { number })
@@ -37,7 +44,7 @@ impl TableNumber {
     pub fn get(self) -> u32
         ensures value { result ≡ self }
         ensures low { 1 ≤ self }
-        ensures high { self ≤ 1000000 }
+        ensures high { self ≤ HIGHEST_TABLE }
     {
         self.number
     }
@@ -51,12 +58,13 @@ pub struct BucketCount {
 
 impl Model for BucketCount {
     ghost use Rattle.std.specs.Prelude.{ℕ, ◌≤◌};
+    ghost use Rattle.clone_model.specs.declared.line.TheConstants.{MOST_BUCKETS};
 
     ghost Value = { ℕ };
 
     ghost view = { λ b. b.count };
 
-    ghost invariant = { λ b. (1 ≤ b.count) × (b.count ≤ 1024) };
+    ghost invariant = { λ b. (1 ≤ b.count) × (b.count ≤ MOST_BUCKETS) };
 
     ghost inverse = { λ n. record { count = n } };
 }
@@ -65,9 +73,9 @@ impl BucketCount {
     /// So many buckets, or none where that is out of range.
     pub fn new(count: u32) -> Option<BucketCount>
         ensures some { IfSome result (λ b. b ≡ count) }
-        ensures none { IfNone result ((count ≡ 0) ⊎ (1024 < count)) }
+        ensures none { IfNone result ((count ≡ 0) ⊎ (MOST_BUCKETS < count)) }
     {
-        if count == 0 || count > 1024 {
+        if count == 0 || count > MOST_BUCKETS {
             return None;
         }
         Some(BucketCount { count })
@@ -77,7 +85,7 @@ impl BucketCount {
     pub fn get(self) -> u32
         ensures value { result ≡ self }
         ensures low { 1 ≤ self }
-        ensures high { self ≤ 1024 }
+        ensures high { self ≤ MOST_BUCKETS }
     {
         self.count
     }

@@ -89,7 +89,10 @@ impl Model for Binlog {
 
     ghost Value = { BinlogState };
 
-    ghost view = { λ b. record { commits = b.list.items; room = vec_capacity b.list - vec_len b.list } };
+    ghost view = { λ b. record {
+      commits = b.list.items;
+      room = vec_capacity b.list - vec_len b.list;
+    } };
 }
 
 impl Binlog {
@@ -139,7 +142,8 @@ impl Binlog {
     /// Puts a commit in place of the last one.
     pub fn set_last(&mut self, commit: Commit)
         requires some { 0 < length self.old.commits }
-        ensures value { self.new.commits ≡ take (length self.old.commits - 1) self.old.commits ++ commit ∷ [] }
+        ensures value { self.new.commits
+            ≡ take (length self.old.commits - 1) self.old.commits ++ commit ∷ [] }
     {
         let last = self.list.len() - 1;
         self.list[last] = commit;

@@ -89,7 +89,8 @@ fn read_changes(
 ) -> Result<(Changes, &[u8]), ReadRefusal>
     requires { before + length text.now + 1 < 2 ^ 64 }
     ensures { MatchResult result
-        (λ read. AllByRecursion IsChange read.0 × (length read.0 ≡ count) × (text.now ≡ changes_text read.0 ++ read.1.now))
+        (λ read. AllByRecursion IsChange read.0 × (length read.0 ≡ count)
+        × (text.now ≡ changes_text read.0 ++ read.1.now))
         (λ refusal. IsRefusedBy count text.now before refusal) }
 {
     let mut changes = Changes::new(alloc);
@@ -108,15 +109,19 @@ fn read_changes(
 
 /// Two binlogs with one text are one.
 pub fn one_binlog()
-    ensures { (a b : List Commit) → AreCommits a → AreCommits b → binlog_text a ≡ binlog_text b → a ≡ b }
+    ensures { (a b : List Commit) → AreCommits a → AreCommits b → binlog_text a ≡ binlog_text b
+        → a ≡ b }
 {}
 
 /// A text has one answer, want of memory aside.
 pub fn one_answer()
-    ensures { (text : List ℕ) (a b : Result (List Commit) ReadRefusal) → ReadsBinlog text a → ReadsBinlog text b → a ≢ Err NoMemory → b ≢ Err NoMemory → a ≡ b }
+    ensures { (text : List ℕ) (a b : Result (List Commit) ReadRefusal) → ReadsBinlog text a
+        → ReadsBinlog text b → a ≢ Err NoMemory → b ≢ Err NoMemory → a ≡ b }
 {}
 
 /// A binlog is read back from its text, want of memory aside.
 pub fn binlog_reads_back()
-    ensures { (commits : List Commit) (answer : Result (List Commit) ReadRefusal) → AreCommits commits → ReadsBinlog (binlog_text commits) answer → answer ≢ Err NoMemory → answer ≡ Ok commits }
+    ensures { (commits : List Commit) (answer : Result (List Commit) ReadRefusal)
+        → AreCommits commits → ReadsBinlog (binlog_text commits) answer → answer ≢ Err NoMemory
+        → answer ≡ Ok commits }
 {}

@@ -6,7 +6,7 @@ use std::fmt;
 use std::marker::Model;
 
 /// The most bytes that a script may give a value.
-const LONGEST: usize = 1_024;
+pub const LONGEST_SCRIPT_VALUE: usize = 1_024;
 
 /// The value of a row as a script gives it: at most 1,024 bytes. A row keeps at most 64 of them, and
 /// it is for the reader of a script's lines to refuse more.
@@ -27,25 +27,26 @@ enum Kept {
 impl Model for ScriptValue {
     ghost use Rattle.std.specs.Prelude.{List, ℕ, length, ◌≤◌};
     ghost use Rattle.clone_model.specs.Kept.{bytes_of};
+    ghost use Rattle.clone_model.specs.declared.script_value.TheConstants.{LONGEST_SCRIPT_VALUE};
 
     ghost Value = { List ℕ };
 
     ghost view = { λ v. bytes_of v.kept };
 
-    ghost invariant = { λ v. length (bytes_of v.kept) ≤ 1024 };
+    ghost invariant = { λ v. length (bytes_of v.kept) ≤ LONGEST_SCRIPT_VALUE };
 }
 
 impl ScriptValue {
     /// The value of these bytes, or none where there are more than 1,024.
     pub fn new(alloc: Global, bytes: &[u8]) -> Result<Option<ScriptValue>, AllocError>
         ensures value { IfOk result (λ read. IfSome read (λ v. v ≡ bytes.now)) }
-        ensures none { IfOk result (λ read. IfNone read (1024 < length bytes.now)) }
+        ensures none { IfOk result (λ read. IfNone read (LONGEST_SCRIPT_VALUE < length bytes.now)) }
     {
         if let Some(value) = Value::new(bytes) {
             let kept = Kept::Short(value);
             return Ok(Some(ScriptValue { kept }));
         }
-        if bytes.len() > LONGEST {
+        if bytes.len() > LONGEST_SCRIPT_VALUE {
             return Ok(None);
         }
         let kept = Kept::Long(bytes.to_vec(alloc)?);
@@ -55,7 +56,7 @@ impl ScriptValue {
     /// The bytes of the value.
     pub fn bytes(&self) -> &[u8]
         ensures value { result.now ≡ self.now }
-        ensures short { length self.now ≤ 1024 }
+        ensures short { length self.now ≤ LONGEST_SCRIPT_VALUE }
     {
         match &self.kept {
             Kept::Short(value) => value.bytes(),

@@ -111,7 +111,8 @@ fn rows_of(alloc: Global, slots: &Slots) -> Result<Vec<(u32, u64, Value)>, Alloc
 }
 
 fn put(slots: &mut Slots, table: u32, key: u64, value: Value) -> Result<(), AllocError>
-    ensures ok { OnOk result (kept slots.new.entries ≡ finite.insert (kept slots.old.entries) (table, key) value) }
+    ensures ok { OnOk result
+        (kept slots.new.entries ≡ finite.insert (kept slots.old.entries) (table, key) value) }
     ensures err { OnErr result (kept slots.new.entries ≡ kept slots.old.entries) }
 {
     slots.insert((table, key), Some(value))?;

@@ -68,7 +68,8 @@ pub fn line_text(alloc: Global, line: &Line) -> Result<String, AllocError>
 }
 
 fn push_row(text: &mut String, row: &(u32, u64, Value)) -> Result<(), AllocError>
-    ensures { OnOk result (string_bytes text.new ≡ string_bytes text.old ++ texts.ended (texts.row_text row.now)) }
+    ensures { OnOk result
+        (string_bytes text.new ≡ string_bytes text.old ++ texts.ended (texts.row_text row.now)) }
 {
     let (table, key, value) = row;
     write!(text, "{table} {key} ")?;
@@ -77,7 +78,8 @@ fn push_row(text: &mut String, row: &(u32, u64, Value)) -> Result<(), AllocError
 }
 
 fn push_commit(text: &mut String, commit: &Commit) -> Result<(), AllocError>
-    ensures { OnOk result (string_bytes text.new ≡ string_bytes text.old ++ texts.commit_text commit.now) }
+    ensures { OnOk result
+        (string_bytes text.new ≡ string_bytes text.old ++ texts.commit_text commit.now) }
 {
     let changes = commit.changes.as_slice();
     let Commit { writer, index, .. } = commit;
@@ -89,7 +91,8 @@ fn push_commit(text: &mut String, commit: &Commit) -> Result<(), AllocError>
 }
 
 fn push_change(text: &mut String, change: &Change) -> Result<(), AllocError>
-    ensures { OnOk result (string_bytes text.new ≡ string_bytes text.old ++ texts.ended (texts.change_text change.now)) }
+    ensures { OnOk result (string_bytes text.new
+        ≡ string_bytes text.old ++ texts.ended (texts.change_text change.now)) }
 {
     let Change { table, key, value } = change;
     write!(text, "{table} {key} ")?;
@@ -102,7 +105,8 @@ fn push_change(text: &mut String, change: &Change) -> Result<(), AllocError>
 
 /// Adds the text of a value with these bytes.
 pub fn push_value(text: &mut String, bytes: &[u8]) -> Result<(), AllocError>
-    ensures { OnOk result (string_bytes text.new ≡ string_bytes text.old ++ texts.value_text bytes.now) }
+    ensures { OnOk result
+        (string_bytes text.new ≡ string_bytes text.old ++ texts.value_text bytes.now) }
 {
     if bytes.is_empty() {
         return text.push('-');

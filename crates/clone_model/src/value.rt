@@ -1,12 +1,14 @@
 ghost use Rattle.std.specs.Prelude.{◌≡◌, ◌≤◌, ◌<◌, List, ℕ, length, IfSome, IfNone, take};
+ghost use Rattle.clone_base.specs.declared.limits.TheConstants.{VALUE_LIMIT};
 
+use clone_base::VALUE_LIMIT;
 use std::fmt;
 use std::marker::Model;
 
 /// The value of a row: at most 64 bytes, kept in place.
 #[derive(Drop)]
 pub struct Value {
-    bytes: [u8; 64],
+    bytes: [u8; VALUE_LIMIT],
     len: u8,
 }
 
@@ -15,19 +17,19 @@ impl Model for Value {
 
     ghost view = { λ v. take v.len v.bytes };
 
-    ghost invariant = { λ v. v.len ≤ 64 };
+    ghost invariant = { λ v. v.len ≤ VALUE_LIMIT };
 }
 
 impl Value {
     /// The value of these bytes, or none where there are more than 64.
     pub fn new(bytes: &[u8]) -> Option<Value>
         ensures value { IfSome result (λ v. v ≡ bytes.now) }
-        ensures none { IfNone result (64 < length bytes.now) }
+        ensures none { IfNone result (VALUE_LIMIT < length bytes.now) }
     {
-        if bytes.len() > 64 {
+        if bytes.len() > VALUE_LIMIT {
             return None;
         }
-        let mut kept = [0; 64];
+        let mut kept = [0; VALUE_LIMIT];
         kept[..bytes.len()].copy_from_slice(bytes);
         Some(Value {
             bytes: kept,
@@ -38,7 +40,7 @@ impl Value {
     /// The bytes of the value.
     pub fn bytes(&self) -> &[u8]
         ensures value { result.now ≡ self.now }
-        ensures short { length self.now ≤ 64 }
+        ensures short { length self.now ≤ VALUE_LIMIT }
     {
         &self.bytes[..self.len as usize]
     }

@@ -2,6 +2,7 @@
 use Rattle.std.proofs.Common.{◌≡◌, ℕ, ◌+◌, ◌-◌, ◌<◌, ◌≤◌, List, [], ◌∷◌, ◌++◌, length, take, drop, None, Some, Ok, Err, refl, sym, ap, subst, ◌∙◌, append_assoc, arith, inl, inr}
 use Rattle.std.specs.List.{AllByRecursion}
 use Rattle.std.proofs.lemmas.List.{append-nil, length-append, take_at}
+use Rattle.clone_base.proofs.Lists.{All-push}
 use Rattle.clone_mtr.specs.Records.{IsRecord}
 use Rattle.clone_mtr.specs.Spelling.{record_spelling, spelling, Spells}
 use Rattle.clone_mtr.specs.Answers.{BeginsNone, IsLost, IsFront, Stops, Decodes}
@@ -14,7 +15,7 @@ use Rattle.clone_bytes.specs.Fields.{IsBytes}
 use Rattle.clone_bytes.proofs.Numbers.{IsBytes-take}
 use Rattle.std.proofs.Math.Seq.{take-append-add}
 use Rattle.clone_mtr.proofs.FirstPlaces.{turns}
-use Rattle.clone_mtr.proofs.Items.{IsShort, Found, answer, item_takes, item_ends, item_again, end_again}
+use Rattle.clone_mtr.proofs.Items.{IsShort, Found, answer, not_found, item_takes, item_ends, item_again, end_again}
 use Rattle.clone_mtr.proofs.Fronts.{item_grown}
 use Rattle.clone_mtr.proofs.Openings.{bytes_append, item_opens}
 use Rattle.clone_mtr.proofs.Spellings.{text_of, spelling-append, spelling_is, spelling_some, first_same, not_end, short_first}
@@ -31,10 +32,6 @@ text-push : (rs : List Record) (r : Record) → text_of (rs ++ r ∷ []) ≡ tex
 text-push [] r = append-nil (record_spelling r)
 text-push (s ∷ rs) r = ap (λ t. record_spelling s ++ t) (text-push rs r) ∙ sym (append_assoc (record_spelling s) (text_of rs) (record_spelling r))
 
-all-push : (P : Record → Type 0) (rs : List Record) (r : Record) → AllByRecursion P rs → P r → AllByRecursion P (rs ++ r ∷ [])
-all-push P [] r all one = (one, tt)
-all-push P (s ∷ rs) r all one = (all.0, all-push P rs r all.1 one)
-
 -- one more record
 pub Splits-more : (bytes rest after : List ℕ) (rs : List Record) (r : Record) (at : ℕ) → at ≡ length (text_of rs) → Splits bytes rs rest → item_at at rest ≡ Ok (Some (r, after)) → Splits bytes (rs ++ r ∷ []) after
 Splits-more bytes rest after rs r at here so_far found =
@@ -43,8 +40,8 @@ Splits-more bytes rest after rs r at here so_far found =
     record {
       below = omega (arith, taken.2);
       parts = so_far.parts ∙ ap (λ t. text_of rs ++ t) taken.0.parts ∙ sym (append_assoc (text_of rs) (record_spelling r) after) ∙ ap (λ t. t ++ after) (sym (text-push rs r));
-      each = all-push IsRecord rs r so_far.each taken.1;
-      short = all-push IsShort rs r so_far.short (omega (arith, taken.2));
+      each = All-push IsRecord rs r so_far.each taken.1;
+      short = All-push IsShort rs r so_far.short (omega (arith, taken.2));
       fits = taken.0.rest_fits;
     }
 
@@ -82,9 +79,6 @@ item_there at (r ∷ more) after each short =
     let some = spelling_some more in
     (Some (r, spelling more ++ after), ap (item_at at) (append_assoc (record_spelling r) (spelling more) after) ∙ item_again at r (spelling more ++ after) each.0 (omega arith))
 
-answer_is : {x : Found} {e : DecodeRefusal} → answer x ≡ Err e → ⊥
-answer_is h = cc
-
 -- where reading is refused no front is a spelling
 pub refused : (bytes rest : List ℕ) (rs : List Record) (at : ℕ) (e : DecodeRefusal) → at ≡ length (text_of rs) → AllByRecursion IsRecord rs → AllByRecursion IsShort rs → bytes ≡ text_of rs ++ rest → item_at at rest ≡ Err e → BeginsNone bytes
 refused bytes rest rs at e here each small parts failed front after all split spells =
@@ -93,7 +87,7 @@ refused bytes rest rs at e here each small parts failed front after all split sp
     let lengths = ap length whole ∙ length-append (text_of rs) (spelling on.more) in
     let short : length (spelling all) ≤ 1024 = rw (← spells.text) spells.short in
     let there = item_there at on.more after on.each (omega arith) in
-    answer_is (sym there.1 ∙ ap (item_at at) (sym on.parts) ∙ failed)
+    not_found (sym there.1 ∙ ap (item_at at) (sym on.parts) ∙ failed)
 
 -- an end mark alone is no spelling
 pub no_record : (bytes : List ℕ) (at : ℕ) → item_at at bytes ≡ Ok None → BeginsNone bytes
@@ -156,7 +150,7 @@ front bytes (kind ∷ rest) rs at here so_far failed =
     let parts : bytes ++ (x.more ++ 6 ∷ []) ≡ text_of all ++ 6 ∷ [] =
     sym (append_assoc bytes x.more (6 ∷ [])) ∙ ap (λ t. (t ++ x.more) ++ 6 ∷ []) so_far.parts ∙ ap (λ t. t ++ 6 ∷ []) (append_assoc (text_of rs) (kind ∷ rest) x.more ∙ ap (λ t. text_of rs ++ t) made ∙ sym (text-push rs x.value)) in
     let counted = length-append rs (x.value ∷ []) in
-    (x.more ++ 6 ∷ [], (all, (omega (arith, length-append x.more (6 ∷ [])), spelled (bytes ++ (x.more ++ 6 ∷ [])) all parts (omega arith) (all-push IsRecord rs x.value so_far.each taken.1) (omega (arith, taken.2)))))
+    (x.more ++ 6 ∷ [], (all, (omega (arith, length-append x.more (6 ∷ [])), spelled (bytes ++ (x.more ++ 6 ∷ [])) all parts (omega arith) (All-push IsRecord rs x.value so_far.each taken.1) (omega (arith, taken.2)))))
 
 -- a front of the bytes that has the records and so many bytes of the rest
 cut : (bytes rest : List ℕ) (rs : List Record) (k : ℕ) → Splits bytes rs rest → Splits (take (length (text_of rs) + k) bytes) rs (take k rest)

@@ -1,26 +1,19 @@
 -- A refusal other than `Short` comes with one byte: before it more bytes would help, and with it none do.
-use Rattle.std.proofs.Common.{◌≡◌, ℕ, zero, suc, ◌+◌, ◌<◌, ◌≤◌, ◌⊎◌, List, [], ◌∷◌, ◌++◌, length, take, drop, None, Some, Ok, Err, Result, refl, sym, ap, subst, ◌∙◌, append_assoc, add-one, arith, inl, inr}
+use Rattle.std.proofs.Common.{◌≡◌, ℕ, zero, suc, ◌+◌, ◌<◌, ◌≤◌, ◌⊎◌, List, [], ◌++◌, length, take, drop, None, Some, Ok, Err, Result, refl, sym, ap, ◌∙◌, append_assoc, add-one, arith, inl, inr}
 use Rattle.std.proofs.Math.Seq.{take-add}
 use Rattle.std.proofs.lemmas.List.{take_all}
-use Rattle.clone_mtr.specs.declared.record.Record.{Record}
 use Rattle.clone_mtr.specs.declared.refusal.DecodeRefusal.{DecodeRefusal}
 use Rattle.clone_mtr.specs.declared.refusal.DecodeRefusal.TheVariants.{Short, BadKind, OutOfPage, TooLong, NoMemory}
 use Rattle.clone_mtr.specs.Reading.{item_at}
 use Rattle.clone_mtr.specs.Spelling.{record_spelling}
 use Rattle.clone_bytes.specs.Fields.{IsBytes}
 use Rattle.clone_bytes.proofs.Numbers.{IsBytes-take}
-use Rattle.clone_mtr.proofs.Items.{Found, answer, item_takes, item_ends, item_again, end_again}
+use Rattle.clone_mtr.proofs.Items.{Found, not_found, same_refusal, item_takes, item_ends, item_again, end_again}
 use Rattle.clone_mtr.proofs.Fronts.{item_grown}
 
 nothing_yet : (at : ℕ) → item_at at [] ≡ Err Short
 unfolding item_at
 nothing_yet at = refl
-
-same_refusal : {d e : DecodeRefusal} → ◌≡◌ {A = Result Found DecodeRefusal} (Err d) (Err e) → d ≡ e
-same_refusal h = cc
-
-not_found : {x : Found} {e : DecodeRefusal} → answer x ≡ Err e → ⊥
-not_found h = cc
 
 short_or_other : (d : DecodeRefusal) → (Short ≡ d) ⊎ (Short ≡ d → ⊥)
 short_or_other Short = inl refl

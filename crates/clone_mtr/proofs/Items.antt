@@ -296,6 +296,13 @@ answer x = Ok x
 pub some_is : {x : Record × List ℕ} → answer None ≡ answer (Some x) → ⊥
 some_is e = cc
 
+-- what is found is no refusal
+pub not_found : {x : Found} {e : DecodeRefusal} → answer x ≡ Err e → ⊥
+not_found h = cc
+
+pub same_refusal : {d e : DecodeRefusal} → ◌≡◌ {A = Result Found DecodeRefusal} (Err d) (Err e) → d ≡ e
+same_refusal h = cc
+
 pub found_is : (x y : Record × List ℕ) → answer (Some x) ≡ answer (Some y) → x ≡ y
 found_is x y e = cc
 

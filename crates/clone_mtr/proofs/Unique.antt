@@ -10,21 +10,15 @@ use Rattle.clone_mtr.specs.declared.record.Mtr.{Mtr}
 use Rattle.clone_mtr.specs.declared.refusal.DecodeRefusal.{DecodeRefusal}
 use Rattle.clone_mtr.specs.declared.refusal.DecodeRefusal.TheVariants.{Short, BadKind, OutOfPage, TooLong, NoMemory}
 use Rattle.clone_mtr.specs.Reading.{item_at}
-use Rattle.clone_mtr.proofs.Items.{Found, answer, item_again, end_again}
+use Rattle.clone_mtr.proofs.Items.{Found, not_found, same_refusal, item_again, end_again}
 use Rattle.clone_mtr.proofs.Spellings.{text_of, first_same, not_end, one_spelling}
-
-not_found : {x : Found} {e : DecodeRefusal} → answer x ≡ Err e → ⊥
-not_found h = cc
 
 abbrev refusal : DecodeRefusal → Result Found DecodeRefusal
 refusal e = Err e
 
-same_refusal : (d e : DecodeRefusal) → refusal d ≡ refusal e → d ≡ e
-same_refusal d e h = cc
-
 same_stop : (rs ss : List Record) (x y : List ℕ) (a b : ℕ) (d e : DecodeRefusal) → AllByRecursion IsRecord rs → AllByRecursion IsRecord ss → a + length (text_of rs) ≤ 1023 → b + length (text_of ss) ≤ 1023
     → a ≡ b → text_of rs ++ x ≡ text_of ss ++ y → item_at (a + length (text_of rs)) x ≡ Err d → item_at (b + length (text_of ss)) y ≡ Err e → d ≡ e
-same_stop [] [] x y a b d e p q r s here parts f g = same_refusal d e (sym f ∙ ap (λ n. item_at (n + 0) x) here ∙ ap (item_at (b + 0)) parts ∙ g)
+same_stop [] [] x y a b d e p q r s here parts f g = same_refusal (sym f ∙ ap (λ n. item_at (n + 0) x) here ∙ ap (item_at (b + 0)) parts ∙ g)
 same_stop [] (t ∷ ss) x y a b d e p q r s here parts f g =
     let long = length-append (record_spelling t) (text_of ss) in
     absurd (not_found (sym (item_again (a + 0) t (text_of ss ++ y) q.0 (omega arith)) ∙ ap (item_at (a + 0)) (sym (parts ∙ append_assoc (record_spelling t) (text_of ss) y)) ∙ f))

@@ -22,21 +22,27 @@ Encodes text (Err encode.NoMemory) = ⊤
 -- the text at the front of the bytes, unless it is too long. All other bytes are as they were.
 abbrev pub EncodesInto : List ℕ → List ℕ → List ℕ → Result ℕ TooLong → Type 0
 EncodesInto text old new (Ok n) = (n ≡ length text) × (n ≤ longest) × (new ≡ text ++ drop n old)
-EncodesInto text old new (Err refusal) = (refusal.length ≡ min (length text) (2 ^ 64 - 1)) × (longest < length text) × (new ≡ old)
+EncodesInto text old new (Err refusal) =
+    (refusal.length ≡ min (length text) (2 ^ 64 - 1)) × (longest < length text) × (new ≡ old)
 
 -- no front of the bytes is the spelling of a mini-transaction
 abbrev pub BeginsNone : List ℕ → Type 0
-BeginsNone bytes = (front rest : List ℕ) (records : List Record) → bytes ≡ front ++ rest → Spells front records → ⊥
+BeginsNone bytes =
+    (front rest : List ℕ) (records : List Record) → bytes ≡ front ++ rest → Spells front records → ⊥
 
 -- further bytes, at least one, make the spelling of a mini-transaction of these
 abbrev pub IsFront : List ℕ → Type 0
-IsFront bytes = (more : List ℕ) × ((records : List Record) × ((1 ≤ length more) × Spells (bytes ++ more) records))
+IsFront bytes =
+    (more : List ℕ)
+    × ((records : List Record) × ((1 ≤ length more) × Spells (bytes ++ more) records))
 
 -- whatever follows the bytes, no front of all that is the spelling of a mini-transaction
 abbrev pub IsLost : List ℕ → Type 0
 IsLost bytes = (more : List ℕ) → BeginsNone (bytes ++ more)
 
--- Whole records stand at the front, and what stands behind them, read from left to right, is refused first for this cause. It is refused with the byte at a place: the bytes before that place are the front of some spelling, and with the byte they are of none.
+-- Whole records stand at the front, and what stands behind them, read from left to right, is
+-- refused first for this cause. It is refused with the byte at a place: the bytes before that place
+-- are the front of some spelling, and with the byte they are of none.
 pub record Stops (bytes : List ℕ) (cause : DecodeRefusal) : Type 0 where
   pub records : List Record
   pub rest : List ℕ
@@ -49,11 +55,16 @@ pub record Stops (bytes : List ℕ) (cause : DecodeRefusal) : Type 0 where
   pub before : IsFront (take place bytes)
   pub with_it : IsLost (take (place + 1) bytes)
 
--- The mini-transaction whose spelling is at the front, and the length of that front. A refusal other than want of memory comes only where no front is one: `Short` exactly where further bytes would make one, and the others exactly where none could, with the first cause.
+-- The mini-transaction whose spelling is at the front, and the length of that front. A refusal
+-- other than want of memory comes only where no front is one: `Short` exactly where further bytes
+-- would make one, and the others exactly where none could, with the first cause.
 abbrev pub Decodes : List ℕ → Result (Mtr × ℕ) DecodeRefusal → Type 0
 Decodes bytes (Ok found) = Spells (take found.1 bytes) found.0 × (found.1 ≤ length bytes)
 Decodes bytes (Err decode.Short) = BeginsNone bytes × IsFront bytes
-Decodes bytes (Err (decode.BadKind at)) = BeginsNone bytes × IsLost bytes × (Stops bytes (decode.BadKind at) ⊎ ((at ≡ 0) × (bytes ≡ 6 ∷ drop 1 bytes)))
-Decodes bytes (Err (decode.OutOfPage at)) = BeginsNone bytes × IsLost bytes × Stops bytes (decode.OutOfPage at)
+Decodes bytes (Err (decode.BadKind at)) =
+    BeginsNone bytes × IsLost bytes
+    × (Stops bytes (decode.BadKind at) ⊎ ((at ≡ 0) × (bytes ≡ 6 ∷ drop 1 bytes)))
+Decodes bytes (Err (decode.OutOfPage at)) =
+    BeginsNone bytes × IsLost bytes × Stops bytes (decode.OutOfPage at)
 Decodes bytes (Err decode.TooLong) = BeginsNone bytes × IsLost bytes × Stops bytes decode.TooLong
 Decodes bytes (Err decode.NoMemory) = ⊤

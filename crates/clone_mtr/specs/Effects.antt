@@ -1,4 +1,5 @@
--- What a record does to the page that it names. The page takes the end of the record's mini-transaction as its page LSN.
+-- What a record does to the page that it names. The page takes the end of the record's
+-- mini-transaction as its page LSN.
 use Rattle.std.specs.Prelude.{ℕ, List}
 use Rattle.clone_page.specs.Bytes.{put_at}
 use Rattle.clone_page.specs.Header.{initialised, with_lsn}

@@ -1,22 +1,26 @@
 -- Reading from left to right: a value and the bytes behind it, or the first refusal.
-use Rattle.std.specs.Prelude.{ℕ, ◌≡◌, ◌+◌, ◌*◌, max, Bool, List, [], ◌∷◌, length, take, drop, if◌then◌else◌, nat_lt, nat_le, ◌==◌, ◌&&◌, ◌||◌, None, Some, Ok, Err, Result}
+use Rattle.std.specs.Prelude.{ℕ, ◌≡◌, ◌+◌, ◌-◌, ◌*◌, max, Bool, List, [], ◌∷◌, length, take, drop, if◌then◌else◌, nat_lt, nat_le, ◌==◌, ◌&&◌, ◌||◌, None, Some, Ok, Err, Result}
 use Rattle.std.specs.declared.option.Option.{Option}
 use Rattle.byteorder.specs.Endian.{big_number}
+use Rattle.clone_page.specs.declared.layout.TheConstants.{PREVIOUS_AT, LSN_AT, BODY_AT, TRAILER_AT}
 use Rattle.clone_page.specs.declared.kind.PageKind.{PageKind}
 use Rattle.clone_page.specs.declared.kind.PageKind.TheVariants.{System, Undo, Bucket, Overflow}
 use Rattle.clone_mtr.specs.Patches.{Patched}
 use Rattle.clone_mtr.specs.declared.record.Record.{Record}
 use Rattle.clone_mtr.specs.declared.record.Record.TheVariants.{Init, Write, Extend, Create, Drop}
 use Rattle.clone_mtr.specs.declared.refusal.DecodeRefusal.{DecodeRefusal}
+use Rattle.clone_mtr.specs.declared.writing.TheConstants.{LONGEST_MTR}
 use Rattle.clone_mtr.specs.declared.refusal.DecodeRefusal.TheVariants.{Short, BadKind, OutOfPage, TooLong}
 
 infixl 10 ◌>>=◌
-abbrev pub ◌>>=◌ : {A B : Type 0} → Result A DecodeRefusal → (A → Result B DecodeRefusal) → Result B DecodeRefusal
+abbrev pub ◌>>=◌ : {A B : Type 0} → Result A DecodeRefusal → (A → Result B DecodeRefusal)
+    → Result B DecodeRefusal
 (Ok x) >>= f = f x
 (Err e) >>= f = Err e
 
 -- what a function returned, seen by view, is what reading gives
-abbrev pub Gives : {X Y : Type 0} → (X → Y) → Result X DecodeRefusal → Result Y DecodeRefusal → Type 0
+abbrev pub Gives : {X Y : Type 0} → (X → Y) → Result X DecodeRefusal → Result Y DecodeRefusal
+    → Type 0
 Gives view (Ok x) read = read ≡ Ok (view x)
 Gives view (Err e) read = read ≡ Err e
 
@@ -27,7 +31,8 @@ byte_at (byte ∷ rest) = Ok (byte, rest)
 
 -- a number of n bytes
 abbrev pub number_at : ℕ → List ℕ → Result (ℕ × List ℕ) DecodeRefusal
-number_at n bytes = if nat_lt (length bytes) n then Err Short else Ok (big_number n bytes, drop n bytes)
+number_at n bytes =
+    if nat_lt (length bytes) n then Err Short else Ok (big_number n bytes, drop n bytes)
 
 -- so many bytes
 abbrev pub bytes_at : ℕ → List ℕ → Result (List ℕ × List ℕ) DecodeRefusal
@@ -36,11 +41,16 @@ bytes_at n bytes = if nat_lt (length bytes) n then Err Short else Ok (take n byt
 -- the kind of this number, which stands at this place
 abbrev pub kind_numbered : ℕ → ℕ → Result PageKind DecodeRefusal
 kind_numbered at n =
-    if n == 1 then Ok System else (if n == 2 then Ok Undo else (if n == 3 then Ok Bucket else (if n == 4 then Ok Overflow else Err (BadKind at))))
+    if n == 1 then Ok System
+    else (if n == 2 then Ok Undo
+    else (if n == 3 then Ok Bucket
+    else (if n == 4 then Ok Overflow else Err (BadKind at))))
 
 -- whether a write may name so many bytes from an offset on
 abbrev pub allows : ℕ → ℕ → Bool
-allows offset long = nat_le 1 long && ((nat_le 8 offset && nat_le (offset + long) 16) || (nat_le 38 offset && nat_le (offset + long) 4088))
+allows offset long =
+    nat_le 1 long && ((nat_le PREVIOUS_AT offset && nat_le (offset + long) LSN_AT)
+    || (nat_le BODY_AT offset && nat_le (offset + long) TRAILER_AT))
 
 -- two numbers of 4 bytes each
 unfoldable pub pair_at : List ℕ → Result (ℕ × ℕ × List ℕ) DecodeRefusal
@@ -65,12 +75,16 @@ init_at at bytes = do
   kind ← kind_at (at + 9) page.2
   Ok (Init page.0 page.1 kind.0, kind.1)
 
--- A write whose offset stands at this place may have so many bytes: they lie where a write may, and an end mark behind them is within 1,024 bytes.
+-- A write whose offset stands at this place may have so many bytes: they lie where a write may, and
+-- there is place for an end mark behind them.
 abbrev pub fits : ℕ → ℕ → ℕ → Result (Unit {0}) DecodeRefusal
 fits at offset long =
-    if allows offset long then (if nat_lt 1023 (at + (4 + long)) then Err TooLong else Ok tt) else Err (OutOfPage at)
+    if allows offset long
+    then (if nat_lt (LONGEST_MTR - 1) (at + (4 + long)) then Err TooLong else Ok tt)
+    else Err (OutOfPage at)
 
--- The length and the bytes of a patch, whose offset stands at this place. Each byte of the length is refused where no length that begins so fits.
+-- The length and the bytes of a patch, whose offset stands at this place. Each byte of the length
+-- is refused where no length that begins so fits.
 unfoldable pub long_at : ℕ → ℕ → List ℕ → Result (Patched × List ℕ) DecodeRefusal
 long_at at offset bytes = do
   high ← byte_at bytes
@@ -86,7 +100,9 @@ patch_at at bytes = do
   high ← byte_at bytes
   if nat_lt 15 high.0 then Err (OutOfPage at) else (do
     low ← byte_at high.1
-    if allows (high.0 * 256 + low.0) 1 then long_at at (high.0 * 256 + low.0) low.1 else Err (OutOfPage at))
+    if allows (high.0 * 256 + low.0) 1
+        then long_at at (high.0 * 256 + low.0) low.1
+        else Err (OutOfPage at))
 
 unfoldable pub write_at : ℕ → List ℕ → Result (Record × List ℕ) DecodeRefusal
 write_at at bytes = do
@@ -110,8 +126,9 @@ drop_at bytes = do
   Ok (Drop space.0, space.1)
 
 -- a record of so many bytes or more, which has to leave place for an end mark
-abbrev pub room : ℕ → ℕ → Result (Record × List ℕ) DecodeRefusal → Result (Record × List ℕ) DecodeRefusal
-room at least read = if nat_lt 1023 (at + least) then Err TooLong else read
+abbrev pub room : ℕ → ℕ → Result (Record × List ℕ) DecodeRefusal
+    → Result (Record × List ℕ) DecodeRefusal
+room at least read = if nat_lt (LONGEST_MTR - 1) (at + least) then Err TooLong else read
 
 -- the record of this kind
 unfoldable pub record_at : ℕ → ℕ → List ℕ → Result (Record × List ℕ) DecodeRefusal

@@ -9,8 +9,11 @@ use Rattle.clone_mtr.specs.declared.record.Record.TheVariants.{Init, Write, Exte
 use Rattle.clone_mtr.specs.declared.writing.TheConstants.{LONGEST_MTR}
 
 abbrev pub record_spelling : Record → List ℕ
-record_spelling (Init space page kind) = 1 ∷ (big_bytes 4 space ++ (big_bytes 4 page ++ big_bytes 2 (kind_number kind)))
-record_spelling (Write space page patch) = 2 ∷ (big_bytes 4 space ++ (big_bytes 4 page ++ (big_bytes 2 patch.offset ++ (big_bytes 2 (length patch.bytes) ++ patch.bytes))))
+record_spelling (Init space page kind) =
+    1 ∷ (big_bytes 4 space ++ (big_bytes 4 page ++ big_bytes 2 (kind_number kind)))
+record_spelling (Write space page patch) =
+    2 ∷ (big_bytes 4 space ++ (big_bytes 4 page
+    ++ (big_bytes 2 patch.offset ++ (big_bytes 2 (length patch.bytes) ++ patch.bytes))))
 record_spelling (Extend space pages) = 3 ∷ (big_bytes 4 space ++ big_bytes 4 pages)
 record_spelling (Create space pages) = 4 ∷ (big_bytes 4 space ++ big_bytes 4 pages)
 record_spelling (Drop space) = 5 ∷ big_bytes 4 space

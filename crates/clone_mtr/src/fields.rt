@@ -1,7 +1,7 @@
-ghost use Rattle.std.specs.Prelude.{◌≤◌};
+ghost use Rattle.std.specs.Prelude.{◌≤◌, ◌+◌};
 ghost use Rattle.clone_mtr.specs.Reading.{Gives, byte_at, number_at, bytes_at, kind_numbered, kind_at, pair_at, fits, long_at, patch_at, init_at, write_at, extend_at, create_at, drop_at};
 
-use crate::{DecodeRefusal, Patch, Record};
+use crate::{DecodeRefusal, LONGEST_MTR, Patch, Record};
 use clone_bytes::Reader;
 use clone_page::{PageKind, is_allowed};
 
@@ -10,7 +10,7 @@ use clone_page::{PageKind, is_allowed};
 
 #[tactic(auto, unfolding(crate::specs::Reading::init_at))]
 pub(crate) fn init_of(at: usize, reader: &mut Reader) -> Result<Record, DecodeRefusal>
-    requires { at ≤ 1024 }
+    requires { at ≤ LONGEST_MTR }
     ensures { Gives (λ x. (x, reader.new)) result (init_at at reader.old) }
 {
     let (space, page) = pair_of(reader)?;
@@ -20,7 +20,7 @@ pub(crate) fn init_of(at: usize, reader: &mut Reader) -> Result<Record, DecodeRe
 
 #[tactic(auto, unfolding(crate::specs::Reading::write_at))]
 pub(crate) fn write_of(at: usize, reader: &mut Reader) -> Result<Record, DecodeRefusal>
-    requires { at ≤ 1024 }
+    requires { at ≤ LONGEST_MTR }
     ensures { Gives (λ x. (x, reader.new)) result (write_at at reader.old) }
 {
     let (space, page) = pair_of(reader)?;
@@ -56,7 +56,7 @@ pub(crate) fn drop_of(reader: &mut Reader) -> Result<Record, DecodeRefusal>
 #[tactic(auto, unfolding(crate::specs::Reading::patch_at))]
 fn patch_of(at: usize, reader: &mut Reader) -> Result<Patch, DecodeRefusal>
     requires low { 9 ≤ at }
-    requires high { at ≤ 1033 }
+    requires high { at ≤ LONGEST_MTR + 9 }
     ensures { Gives (λ x. (x, reader.new)) result (patch_at at reader.old) }
 {
     let high = u8_of(reader)?;
@@ -74,7 +74,7 @@ fn patch_of(at: usize, reader: &mut Reader) -> Result<Patch, DecodeRefusal>
 #[tactic(auto, unfolding(crate::specs::Reading::long_at))]
 fn long_of(at: usize, offset: u16, reader: &mut Reader) -> Result<Patch, DecodeRefusal>
     requires low { 9 ≤ at }
-    requires high { at ≤ 1033 }
+    requires high { at ≤ LONGEST_MTR + 9 }
     ensures { Gives (λ x. (x, reader.new)) result (long_at at offset reader.old) }
 {
     let high = u8_of(reader)?;
@@ -88,14 +88,14 @@ fn long_of(at: usize, offset: u16, reader: &mut Reader) -> Result<Patch, DecodeR
 
 // Whether a write may have so many bytes.
 fn fitting(at: usize, offset: u16, long: usize) -> Result<(), DecodeRefusal>
-    requires high { at ≤ 1033 }
+    requires high { at ≤ LONGEST_MTR + 9 }
     requires short { long ≤ 65535 }
     ensures { Gives (λ x. x) result (fits at offset long) }
 {
     if !is_allowed(offset, long) {
         return Err(DecodeRefusal::OutOfPage { at });
     }
-    if at + 4 + long > 1023 {
+    if at + 4 + long >= LONGEST_MTR {
         return Err(DecodeRefusal::TooLong);
     }
     Ok(())

@@ -9,10 +9,12 @@ ghost use Rattle.clone_mtr.specs.declared.refusal.DecodeRefusal.TheVariants.{NoM
 /// No spelling of a mini-transaction begins another. So what was encoded is decoded again, whatever
 /// follows it.
 pub fn one_spelling()
-    ensures { (a b x y : List ℕ) (m n : List Record) → Spells a m → Spells b n → a ++ x ≡ b ++ y → (a ≡ b) × (m ≡ n) }
+    ensures { (a b x y : List ℕ) (m n : List Record) → Spells a m → Spells b n → a ++ x ≡ b ++ y
+        → (a ≡ b) × (m ≡ n) }
 {}
 
 /// For every list of bytes one answer of `decode` fits, want of memory aside.
 pub fn one_answer()
-    ensures { (bytes : List ℕ) (a b : Result (Mtr × ℕ) DecodeRefusal) → Decodes bytes a → Decodes bytes b → (a ≡ b) ⊎ ((a ≡ Err NoMemory) ⊎ (b ≡ Err NoMemory)) }
+    ensures { (bytes : List ℕ) (a b : Result (Mtr × ℕ) DecodeRefusal) → Decodes bytes a
+        → Decodes bytes b → (a ≡ b) ⊎ ((a ≡ Err NoMemory) ⊎ (b ≡ Err NoMemory)) }
 {}

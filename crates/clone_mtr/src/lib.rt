@@ -14,7 +14,7 @@ mod writing;
 
 pub use effects::apply;
 pub use laws::{one_answer, one_spelling};
-pub use patch::Patch;
+pub use patch::{LONGEST_PATCH, Patch};
 pub use placing::encode_into;
 pub use reading::decode;
 pub use record::{Mtr, Record};

@@ -85,7 +85,8 @@ fn place_record(into: &mut [u8], at: usize, entry: &Record) -> usize
 // Puts the byte of a record's kind and two numbers at this place.
 fn place_pair(into: &mut [u8], at: usize, kind: u8, first: u32, second: u32) -> usize
     requires { at + 9 ≤ length into.old }
-    ensures text { into.new ≡ put_at at (kind ∷ (big_bytes 4 first ++ big_bytes 4 second)) into.old }
+    ensures text { into.new
+        ≡ put_at at (kind ∷ (big_bytes 4 first ++ big_bytes 4 second)) into.old }
     ensures behind { result ≡ at + 9 }
 {
     let mut bytes = [kind, 0, 0, 0, 0, 0, 0, 0, 0];
@@ -97,7 +98,8 @@ fn place_pair(into: &mut [u8], at: usize, kind: u8, first: u32, second: u32) -> 
 // Puts the offset, the length and the bytes of a patch at this place.
 fn place_patch(into: &mut [u8], at: usize, patch: &Patch) -> usize
     requires { at + (4 + length patch.now.bytes) ≤ length into.old }
-    ensures text { into.new ≡ put_at at (big_bytes 2 patch.now.offset ++ (big_bytes 2 (length patch.now.bytes) ++ patch.now.bytes)) into.old }
+    ensures text { into.new ≡ put_at at (big_bytes 2 patch.now.offset
+        ++ (big_bytes 2 (length patch.now.bytes) ++ patch.now.bytes)) into.old }
     ensures behind { result ≡ at + (4 + length patch.now.bytes) }
 {
     let bytes = patch.bytes();

@@ -3,7 +3,7 @@ ghost use Rattle.clone_mtr.specs.Answers.{Decodes};
 ghost use Rattle.clone_mtr.specs.Reading.{Gives, item_at, record_at};
 
 use crate::fields::{create_of, drop_of, extend_of, init_of, u8_of, write_of};
-use crate::{DecodeRefusal, Mtr, Record};
+use crate::{DecodeRefusal, LONGEST_MTR, Mtr, Record};
 use clone_bytes::Reader;
 use std::alloc::Global;
 
@@ -29,8 +29,9 @@ pub fn decode(alloc: Global, bytes: &[u8]) -> Result<(Mtr, usize), DecodeRefusal
 // The record at the front, or none where the end mark stands. `at` is the place where it begins.
 #[tactic(auto, unfolding(crate::specs::Reading::item_at))]
 fn item_of(at: usize, reader: &mut Reader) -> Result<Option<Record>, DecodeRefusal>
-    requires { at ≤ 1024 }
-    ensures { Gives (λ x. option_map (λ found. (found, reader.new)) x) result (item_at at reader.old) }
+    requires { at ≤ LONGEST_MTR }
+    ensures { Gives (λ x. option_map (λ found. (found, reader.new)) x) result
+        (item_at at reader.old) }
 {
     match u8_of(reader)? {
         6 => Ok(None),
@@ -40,7 +41,7 @@ fn item_of(at: usize, reader: &mut Reader) -> Result<Option<Record>, DecodeRefus
 
 #[tactic(auto, unfolding(crate::specs::Reading::record_at))]
 fn record_of(kind: u8, at: usize, reader: &mut Reader) -> Result<Record, DecodeRefusal>
-    requires { at ≤ 1024 }
+    requires { at ≤ LONGEST_MTR }
     ensures { Gives (λ x. (x, reader.new)) result (record_at kind at reader.old) }
 {
     let least = match kind {
@@ -50,7 +51,7 @@ fn record_of(kind: u8, at: usize, reader: &mut Reader) -> Result<Record, DecodeR
         5 => 5,
         _ => return Err(DecodeRefusal::BadKind { at }),
     };
-    if at + least > 1023 {
+    if at + least >= LONGEST_MTR {
         return Err(DecodeRefusal::TooLong);
     }
     match kind {

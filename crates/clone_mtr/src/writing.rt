@@ -64,7 +64,8 @@ fn push_record(text: &mut Writer, entry: &Record) -> Result<(), AllocError>
 
 // Writes the byte of a record's kind and two numbers behind the text.
 fn push_pair(text: &mut Writer, kind: u8, first: u32, second: u32) -> Result<(), AllocError>
-    ensures { OnOk result (text.new ≡ text.old ++ kind ∷ (big_bytes 4 first ++ big_bytes 4 second)) }
+    ensures { OnOk result
+        (text.new ≡ text.old ++ kind ∷ (big_bytes 4 first ++ big_bytes 4 second)) }
 {
     text.u8(kind)?;
     text.u32(first)?;
@@ -73,7 +74,8 @@ fn push_pair(text: &mut Writer, kind: u8, first: u32, second: u32) -> Result<(),
 
 // Writes the offset, the length and the bytes of a patch behind the text.
 fn push_patch(text: &mut Writer, patch: &Patch) -> Result<(), AllocError>
-    ensures { OnOk result (text.new ≡ text.old ++ (big_bytes 2 patch.now.offset ++ (big_bytes 2 (length patch.now.bytes) ++ patch.now.bytes))) }
+    ensures { OnOk result (text.new ≡ text.old ++ (big_bytes 2 patch.now.offset
+        ++ (big_bytes 2 (length patch.now.bytes) ++ patch.now.bytes))) }
 {
     let bytes = patch.bytes();
     text.u16(patch.offset())?;

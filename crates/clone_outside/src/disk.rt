@@ -3,13 +3,11 @@ ghost use Rattle.std.specs.List.Sorted.{IsStrictlyIncreasing};
 ghost use Rattle.clone_outside.specs.Causes.{HasCause, Rose};
 
 use crate::Refusal;
+use clone_base::PAGE_SIZE;
 use std::alloc::{AllocError, Global};
 
-/// How many bytes a page has.
-pub const PAGE_SIZE: usize = 4096;
-
 /// How many bytes of a page are written at a time.
-pub const HALF_PAGE: usize = 2048;
+pub const HALF_PAGE: usize = PAGE_SIZE / 2;
 
 /// How many bytes the mark of a disk has.
 pub const MARK_SIZE: usize = 64;
@@ -62,7 +60,8 @@ pub trait PageDisk {
     /// The numbers of the spaces that are there, ascending.
     fn spaces(&mut self, alloc: Global) -> Result<Vec<u32>, Refusal>
         ensures ascending { IfOk result (λ all. IsStrictlyIncreasing all.items) }
-        ensures all { IfOk result (λ all. ForTold (told self.old) (λ m. all.items ≡ space_numbers m)) }
+        ensures all { IfOk result
+            (λ all. ForTold (told self.old) (λ m. all.items ≡ space_numbers m)) }
         ensures same { told self.new ≡ told self.old }
         ensures cause { HasCause (failures self.old) (failures self.new) result }
         ensures orders { orders self.new ≡ orders self.old };
@@ -82,7 +81,8 @@ pub trait PageDisk {
         page: u32,
         into: &mut [u8; PAGE_SIZE],
     ) -> Result<(), Refusal>
-        ensures quiet { OnOk result (ForTold (told self.old) (λ m. GivesQuiet m space page into.new)) }
+        ensures quiet { OnOk result
+            (ForTold (told self.old) (λ m. GivesQuiet m space page into.new)) }
         ensures same { told self.new ≡ told self.old }
         ensures fault { OnErr result (Rose (failures self.old) (failures self.new)) }
         ensures memory { result ≢ Err Refusal.NoMemory }
@@ -92,8 +92,10 @@ pub trait PageDisk {
     /// Writes the first 2,048 bytes of a page, and opens its write. After `Fault` the write is open too,
     /// and what bytes the page has is left open. A page that isn't there stays so.
     fn write_half(&mut self, space: u32, page: u32, from: &[u8; PAGE_SIZE]) -> Result<(), Refusal>
-        ensures written { OnOk result (Steps (told self.old) (told self.new) (λ m. with_page m space page (half_written from.now))) }
-        ensures fault { IsErrOf result Refusal.Fault → Opens space page (told self.old) (told self.new) }
+        ensures written { OnOk result (Steps (told self.old) (told self.new)
+            (λ m. with_page m space page (half_written from.now))) }
+        ensures fault { IsErrOf result Refusal.Fault
+            → Opens space page (told self.old) (told self.new) }
         ensures memory { IsErrOf result Refusal.NoMemory → told self.new ≡ told self.old }
         ensures cause { HasCause (failures self.old) (failures self.new) result }
         ensures orders { orders self.new ≡ orders self.old };
@@ -101,8 +103,10 @@ pub trait PageDisk {
     /// Writes the other 2,048 bytes of a page, and closes its write. After `Fault` the write is open,
     /// and what bytes the page has is left open. A page that isn't there stays so.
     fn write_rest(&mut self, space: u32, page: u32, from: &[u8; PAGE_SIZE]) -> Result<(), Refusal>
-        ensures written { OnOk result (Steps (told self.old) (told self.new) (λ m. with_page m space page (rest_written from.now))) }
-        ensures fault { IsErrOf result Refusal.Fault → Opens space page (told self.old) (told self.new) }
+        ensures written { OnOk result (Steps (told self.old) (told self.new)
+            (λ m. with_page m space page (rest_written from.now))) }
+        ensures fault { IsErrOf result Refusal.Fault
+            → Opens space page (told self.old) (told self.new) }
         ensures memory { IsErrOf result Refusal.NoMemory → told self.new ≡ told self.old }
         ensures cause { HasCause (failures self.old) (failures self.new) result }
         ensures orders { orders self.new ≡ orders self.old };
@@ -111,8 +115,10 @@ pub trait PageDisk {
     /// is, and so does one that isn't there. After `Fault` the space is as before or as the call leaves
     /// it.
     fn extend(&mut self, space: u32, pages: u32) -> Result<(), Refusal>
-        ensures extended { OnOk result (Steps (told self.old) (told self.new) (λ m. with_extended m space pages)) }
-        ensures fault { IsErrOf result Refusal.Fault → IsBeforeOrAfter (told self.old) (told self.new) (λ m. with_extended m space pages) }
+        ensures extended { OnOk result
+            (Steps (told self.old) (told self.new) (λ m. with_extended m space pages)) }
+        ensures fault { IsErrOf result Refusal.Fault
+            → IsBeforeOrAfter (told self.old) (told self.new) (λ m. with_extended m space pages) }
         ensures memory { IsErrOf result Refusal.NoMemory → told self.new ≡ told self.old }
         ensures cause { HasCause (failures self.old) (failures self.new) result }
         ensures orders { orders self.new ≡ orders self.old };
@@ -120,16 +126,20 @@ pub trait PageDisk {
     /// Makes a space of so many pages of zero bytes, in the place of one of the same number. After
     /// `Fault` the space is as before or as the call leaves it.
     fn create(&mut self, space: u32, pages: u32) -> Result<(), Refusal>
-        ensures created { OnOk result (Steps (told self.old) (told self.new) (λ m. with_created m space pages)) }
-        ensures fault { IsErrOf result Refusal.Fault → IsBeforeOrAfter (told self.old) (told self.new) (λ m. with_created m space pages) }
+        ensures created { OnOk result
+            (Steps (told self.old) (told self.new) (λ m. with_created m space pages)) }
+        ensures fault { IsErrOf result Refusal.Fault
+            → IsBeforeOrAfter (told self.old) (told self.new) (λ m. with_created m space pages) }
         ensures memory { IsErrOf result Refusal.NoMemory → told self.new ≡ told self.old }
         ensures cause { HasCause (failures self.old) (failures self.new) result }
         ensures orders { orders self.new ≡ orders self.old };
 
     /// Takes a space away, if it is there. After `Fault` the space is as before or as the call leaves it.
     fn remove(&mut self, space: u32) -> Result<(), Refusal>
-        ensures removed { OnOk result (Steps (told self.old) (told self.new) (λ m. with_removed m space)) }
-        ensures fault { IsErrOf result Refusal.Fault → IsBeforeOrAfter (told self.old) (told self.new) (λ m. with_removed m space) }
+        ensures removed { OnOk result
+            (Steps (told self.old) (told self.new) (λ m. with_removed m space)) }
+        ensures fault { IsErrOf result Refusal.Fault
+            → IsBeforeOrAfter (told self.old) (told self.new) (λ m. with_removed m space) }
         ensures memory { IsErrOf result Refusal.NoMemory → told self.new ≡ told self.old }
         ensures cause { HasCause (failures self.old) (failures self.new) result }
         ensures orders { orders self.new ≡ orders self.old };
@@ -143,8 +153,10 @@ pub trait PageDisk {
 
     /// Makes these bytes the mark. After `Fault` the mark is as before or as the call leaves it.
     fn write_mark(&mut self, mark: &[u8; MARK_SIZE]) -> Result<(), Refusal>
-        ensures written { OnOk result (Steps (told self.old) (told self.new) (λ m. with_mark m mark.now)) }
-        ensures fault { IsErrOf result Refusal.Fault → IsBeforeOrAfter (told self.old) (told self.new) (λ m. with_mark m mark.now) }
+        ensures written { OnOk result
+            (Steps (told self.old) (told self.new) (λ m. with_mark m mark.now)) }
+        ensures fault { IsErrOf result Refusal.Fault
+            → IsBeforeOrAfter (told self.old) (told self.new) (λ m. with_mark m mark.now) }
         ensures memory { IsErrOf result Refusal.NoMemory → told self.new ≡ told self.old }
         ensures cause { HasCause (failures self.old) (failures self.new) result }
         ensures orders { orders self.new ≡ orders self.old };

@@ -2,8 +2,8 @@ ghost use Rattle.std.specs.Prelude.{◌≡◌, ◌≢◌, ◌↔◌, OnOk, OnErr
 ghost use Rattle.clone_outside.specs.Calls.{FailsNext, after_call, no_calls, nth_from_now, with_failing};
 ghost use Rattle.clone_outside.specs.Causes.{HasCause};
 
-use crate::{NoMemory, Refusal};
-use std::alloc::Global;
+use crate::Refusal;
+use std::alloc::{AllocError, Global};
 use std::marker::Model;
 
 /// Counts the calls of something in memory, and says which of them fail. Both counts stay at 2^64 - 1.
@@ -42,7 +42,7 @@ impl FaultPlan {
     }
 
     /// Lets the call with this number fail, where the first has number 1. The error is want of memory.
-    pub fn fail_at(&mut self, call: u64) -> Result<(), NoMemory>
+    pub fn fail_at(&mut self, call: u64) -> Result<(), AllocError>
         ensures ok { OnOk result (self.new ≡ with_failing self.old call) }
         ensures err { OnErr result (self.new ≡ self.old) }
     {
@@ -52,7 +52,7 @@ impl FaultPlan {
 
     /// Lets the call with this number from now on fail, where the next has number 1. The error is want of
     /// memory.
-    pub fn fail_from_now(&mut self, call: u64) -> Result<(), std::alloc::AllocError>
+    pub fn fail_from_now(&mut self, call: u64) -> Result<(), AllocError>
         ensures ok { OnOk result (self.new ≡ with_failing self.old (nth_from_now self.old call)) }
         ensures err { OnErr result (self.new ≡ self.old) }
     {

@@ -132,10 +132,14 @@ pub trait Net {
     fn pair(&mut self) -> Result<(Self::End, Self::End), Refusal>
         ensures name { IfOk result (λ r. ◌≡◌ (Self.End.name r.0) (Self.End.name r.1)) }
         ensures made { IfOk result (λ r. made self.new (Self.End.name r.0)) }
-        ensures sides { IfOk result (λ r. (Self.End.side r.0 ≡ Donor) × (Self.End.side r.1 ≡ Requester)) }
-        ensures open { IfOk result (λ r. (Self.End.is_open r.0 ≡ true) × (Self.End.is_open r.1 ≡ true)) }
-        ensures sent { IfOk result (λ r. IsUnused (Self.End.sent r.0) × IsUnused (Self.End.sent r.1)) }
-        ensures received { IfOk result (λ r. IsUnused (Self.End.received r.0) × IsUnused (Self.End.received r.1)) }
+        ensures sides { IfOk result
+            (λ r. (Self.End.side r.0 ≡ Donor) × (Self.End.side r.1 ≡ Requester)) }
+        ensures open { IfOk result
+            (λ r. (Self.End.is_open r.0 ≡ true) × (Self.End.is_open r.1 ≡ true)) }
+        ensures sent { IfOk result
+            (λ r. IsUnused (Self.End.sent r.0) × IsUnused (Self.End.sent r.1)) }
+        ensures received { IfOk result
+            (λ r. IsUnused (Self.End.received r.0) × IsUnused (Self.End.received r.1)) }
         ensures keeps { (n : Self.End.Name) → made self.old n → made self.new n }
         ensures more { OnOk result (unsettled self.new ≡ unsettled self.old + 1) }
         ensures refused { OnErr result (unsettled self.new ≡ unsettled self.old) }
@@ -149,7 +153,8 @@ pub trait Net {
         requires donor { Self.End.side donor_end ≡ Donor }
         requires requester { Self.End.side requester_end ≡ Requester }
         ensures to_donor { ReceivedOf (Self.End.received donor_end) (Self.End.sent requester_end) }
-        ensures to_requester { ReceivedOf (Self.End.received requester_end) (Self.End.sent donor_end) }
+        ensures to_requester { ReceivedOf (Self.End.received requester_end)
+            (Self.End.sent donor_end) }
         ensures keeps { (n : Self.End.Name) → made self.old n → made self.new n }
         ensures fewer { unsettled self.new ≡ unsettled self.old - 1 }
         ensures planned { planned self.new ≡ planned self.old }

@@ -6,13 +6,11 @@
 //! the LSN is below 2^39. Other bytes are no mark.
 ghost use Rattle.std.specs.Prelude.{◌≡◌, ◌≢◌, ◌≤◌, ◌<◌, ◌+◌, ◌^◌, ℕ, take, drop, IfSome, IsNone, Some};
 ghost use Rattle.std.specs.Int.{w64, from_be_bytes};
-ghost use Rattle.clone_outside.specs.declared.mark.TheConstants.{LSN_LIMIT};
+ghost use Rattle.clone_base.specs.declared.limits.TheConstants.{LSN_LIMIT};
 ghost use Rattle.clone_outside.specs.MarkLayout.{mark_layout};
 
 use crate::MARK_SIZE;
-
-/// Each log ends below this LSN.
-pub const LSN_LIMIT: u64 = 1 << 39;
+use clone_base::LSN_LIMIT;
 
 // The letters at the front of each mark.
 const LETTERS: &[u8; 8] = b"CLONMARK";
@@ -119,7 +117,8 @@ impl CloneEnd {
 
     // The only end that may stand in these bytes.
     fn named_in(bytes: &[u8; MARK_SIZE]) -> Option<CloneEnd>
-        ensures { (kind : ℕ) (end : CloneEnd) → IsEnd end → end_bytes kind end ≡ bytes.now → result ≡ Some end }
+        ensures { (kind : ℕ) (end : CloneEnd) → IsEnd end → end_bytes kind end ≡ bytes.now
+            → result ≡ Some end }
     {
         let checkpoint = number_at(bytes, CHECKPOINT_AT);
         let lsn = number_at(bytes, LSN_AT);
@@ -151,7 +150,7 @@ fn lay_out(kind: u8, session: u64, checkpoint: u64, lsn: u64, position: u64) -> 
 
 // The number in the eight bytes from a place on.
 fn number_at(bytes: &[u8; MARK_SIZE], at: usize) -> u64
-    requires { at + 8 ≤ 64 }
+    requires { at + 8 ≤ MARK_SIZE }
     ensures { result ≡ from_be_bytes w64 (take 8 (drop at bytes.now)) }
 {
     let mut number = [0; 8];

@@ -6,8 +6,8 @@ ghost use Rattle.clone_outside.specs.Causes.{HasCause};
 ghost use Rattle.clone_outside.specs.Memory.{fresh};
 
 use crate::fault_plan::FaultPlan;
-use crate::{NoMemory, Refusal, Sink};
-use std::alloc::Global;
+use crate::{Refusal, Sink};
+use std::alloc::{AllocError, Global};
 use std::marker::Model;
 
 /// A sink that keeps its bytes in memory, and fails the calls that it is told to.
@@ -46,7 +46,7 @@ impl MemSink {
     /// Lets the `write` with this number fail, where the first has number 1. The count of writes stays
     /// at 2^64 - 1, so that number names each write from there on. The error is want of memory, and the
     /// sink is as before.
-    pub fn fail_at(&mut self, call: u64) -> Result<(), NoMemory>
+    pub fn fail_at(&mut self, call: u64) -> Result<(), AllocError>
         ensures bytes { self.new.bytes ≡ self.old.bytes }
         ensures ok { OnOk result (self.new.calls ≡ with_failing self.old.calls call) }
         ensures err { OnErr result (self.new.calls ≡ self.old.calls) }

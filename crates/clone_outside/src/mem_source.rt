@@ -6,8 +6,8 @@ ghost use Rattle.clone_outside.specs.Causes.{HasCause};
 ghost use Rattle.clone_outside.specs.Memory.{fresh};
 
 use crate::fault_plan::FaultPlan;
-use crate::{NoMemory, Refusal, Source};
-use std::alloc::Global;
+use crate::{Refusal, Source};
+use std::alloc::{AllocError, Global};
 use std::marker::Model;
 
 /// A source of bytes in memory, which fails the calls that it is told to.
@@ -51,7 +51,7 @@ impl MemSource {
     /// Lets the `read` with this number fail, where the first has number 1. The count of reads stays
     /// at 2^64 - 1, so that number names each read from there on. The error is want of memory, and the
     /// source is as before.
-    pub fn fail_at(&mut self, call: u64) -> Result<(), NoMemory>
+    pub fn fail_at(&mut self, call: u64) -> Result<(), AllocError>
         ensures bytes { self.new.bytes ≡ self.old.bytes }
         ensures ok { OnOk result (self.new.calls ≡ with_failing self.old.calls call) }
         ensures err { OnErr result (self.new.calls ≡ self.old.calls) }
@@ -77,14 +77,16 @@ impl Source for MemSource {
     fn read(&mut self, into: &mut [u8]) -> Result<usize, Refusal>
         ensures bound { ReadsAtMost result into.new }
         ensures bytes { Gives (Some self.old.bytes) (Some self.new.bytes) result into.new }
-        ensures end { IfOk result (λ n. n ≡ 0 → 0 < length into.new → IsSpent (Some self.old.bytes)) }
+        ensures end { IfOk result
+            (λ n. n ≡ 0 → 0 < length into.new → IsSpent (Some self.old.bytes)) }
         ensures cause { HasCause self.old.calls.faults self.new.calls.faults result }
         ensures steady { OnOk result (self.new.calls.faults ≡ self.old.calls.faults) }
 
         ensures fault { (result ≡ Err Refusal.Fault) ↔ FailsNext self.old.calls }
         ensures memory { result ≢ Err Refusal.NoMemory }
         ensures count { IfOk result (λ n. n ≡ min (length into.old) (length self.old.bytes)) }
-        ensures given { MatchResult result (λ n. into.new ≡ take n self.old.bytes ++ drop n into.old) (λ _. into.new ≡ into.old) }
+        ensures given { MatchResult result
+            (λ n. into.new ≡ take n self.old.bytes ++ drop n into.old) (λ _. into.new ≡ into.old) }
         ensures calls { self.new.calls ≡ after_call self.old.calls result }
     {
         self.plan.begin()?;

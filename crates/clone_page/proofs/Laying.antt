@@ -1,6 +1,6 @@
 -- Pieces of a page, written one after the other.
-use Rattle.std.proofs.Common.{◌≡◌, ◌+◌, ℕ, List, [], ◌++◌, length, take, drop, arith, refl}
-use Rattle.std.proofs.lemmas.List.{drop_all, append_assoc, append-nil, take_at, drop_at, drop-drop, length-append, length-drop, length-take}
+use Rattle.std.proofs.Common.{◌≡◌, ◌+◌, ◌-◌, ◌∙◌, ℕ, List, [], ◌++◌, length, replicate, take, drop, arith, refl, sym, ap}
+use Rattle.std.proofs.lemmas.List.{drop_all, append_assoc, append-nil, take_at, drop_at, drop-drop, drop-replicate, length-append, length-drop, length-take}
 use Rattle.clone_page.specs.Bytes.{put_at}
 
 -- three pieces written one after the other
@@ -25,3 +25,10 @@ joined p q r = cc
 -- what a write to a range leaves
 pub written : (at n : ℕ) (old new piece : List ℕ) → new ≡ piece → length piece ≡ n → take at old ++ (new ++ drop n (drop at old)) ≡ put_at at piece old
 written at n old new piece is long = rw (is, drop-drop n at old, ← long) refl
+
+-- a value behind a head, with zero bytes behind it
+pub padded : (at room : ℕ) (front value : List ℕ) → length front ≡ at → put_at at value (front ++ replicate room 0) ≡ front ++ (value ++ replicate (room - length value) 0)
+padded at room front value long =
+    let head = take_at front (replicate room 0) at long in
+    let tail = sym (drop-drop (length value) at (front ++ replicate room 0)) ∙ ap (drop (length value)) (drop_at front (replicate room 0) at long) ∙ drop-replicate (length value) room 0 in
+    (λ i. head i ++ (value ++ tail i))

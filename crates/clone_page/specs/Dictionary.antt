@@ -1,4 +1,5 @@
--- The dictionary stands on the system page: 62 entries of 16 bytes, each of a space, its buckets and its pages.
+-- The dictionary stands on the system page: 62 entries of 16 bytes, each of a space, its buckets
+-- and its pages.
 use Rattle.std.specs.Prelude.{ℕ, ◌≡◌, ◌<◌, ◌+◌, ◌*◌, List, ◌++◌}
 use Rattle.byteorder.specs.Endian.{big_bytes}
 use Rattle.clone_page.specs.Bytes.{field}
@@ -19,7 +20,8 @@ abbrev pub entry_space : ℕ → List ℕ → ℕ
 entry_space j page = field (entry_at j) 4 page
 
 abbrev pub entry : ℕ → ℕ → ℕ → List ℕ
-entry space buckets pages = big_bytes 4 space ++ big_bytes 4 buckets ++ big_bytes 4 pages ++ big_bytes 4 0
+entry space buckets pages =
+    big_bytes 4 space ++ big_bytes 4 buckets ++ big_bytes 4 pages ++ big_bytes 4 0
 
 -- the system page lists the table
 pub record Lists (page : List ℕ) (table : ℕ) : Type 0 where

@@ -5,38 +5,18 @@ ghost use Rattle.clone_page.specs.Header.{zero_page, number_of, next_of, lsn_of,
 
 use crate::PageKind;
 use crate::bytes::{u16_at, u32_at, u64_at};
+use crate::layout::{
+    BODY_AT, CHECKSUM, END_LSN_AT, KIND_AT, LSN_AT, NEXT_AT, NO_PAGE, NUMBER_AT, PREVIOUS_AT,
+    SPACE_AT, TRAILER_AT,
+};
 use byteorder::{BigEndian, ByteOrder};
+use clone_base::PAGE_SIZE;
 use std::marker::Model;
-
-// Where the fields of the header and of the trailer stand.
-const NUMBER_AT: usize = 4;
-
-const PREVIOUS_AT: usize = 8;
-
-const NEXT_AT: usize = 12;
-
-const LSN_AT: usize = 16;
-
-const KIND_AT: usize = 24;
-
-const SPACE_AT: usize = 34;
-
-const BODY_AT: usize = 38;
-
-const TRAILER_AT: usize = 4088;
-
-const END_LSN_AT: usize = 4092;
-
-/// What stands in the place of a checksum.
-const CHECKSUM: u32 = 0xDEAD_BEEF;
-
-/// What stands in the place of a neighbour that isn't there.
-const NO_PAGE: u32 = 0xFFFF_FFFF;
 
 /// A page. Contracts see it as its 4,096 bytes.
 #[derive(Drop)]
 pub struct Page {
-    bytes: [u8; 4096],
+    bytes: [u8; PAGE_SIZE],
 }
 
 impl Model for Page {
@@ -55,12 +35,14 @@ impl Page {
     pub fn zero() -> Page
         ensures { result ≡ zero_page }
     {
-        Page { bytes: [0; 4096] }
+        Page {
+            bytes: [0; PAGE_SIZE],
+        }
     }
 
     /// The page of these 4,096 bytes.
     pub fn from_bytes(bytes: &[u8]) -> Page
-        requires { length bytes.now ≡ 4096 }
+        requires { length bytes.now ≡ PAGE_SIZE }
         ensures { result ≡ bytes.now }
     {
         let mut page = Page::zero();
@@ -116,7 +98,7 @@ impl Page {
     pub fn is_zero(&self) -> bool
         ensures { IsTrue result ↔ (self.now ≡ zero_page) }
     {
-        self.bytes == [0; 4096]
+        self.bytes == [0; PAGE_SIZE]
     }
 
     /// Sets the page LSN, and its low 32 bits in the trailer.
@@ -159,14 +141,15 @@ impl Page {
 
     // Whether both constants stand in the place of the checksums.
     fn has_constants(&self) -> bool
-        ensures { IsTrue result ↔ (field 0 4 self.now ≡ checksum) × (field 4088 4 self.now ≡ checksum) }
+        ensures { IsTrue result ↔ (field 0 4 self.now ≡ checksum)
+            × (field TRAILER_AT 4 self.now ≡ checksum) }
     {
         u32_at(&self.bytes, 0) == CHECKSUM && u32_at(&self.bytes, TRAILER_AT) == CHECKSUM
     }
 
     // Whether the trailer has the low 32 bits of the page LSN.
     fn ends_with_lsn(&self) -> bool
-        ensures { IsTrue result ↔ (field 4092 4 self.now ≡ field 20 4 self.now) }
+        ensures { IsTrue result ↔ (field END_LSN_AT 4 self.now ≡ field (LSN_AT + 4) 4 self.now) }
     {
         u32_at(&self.bytes, END_LSN_AT) == u32_at(&self.bytes, LSN_AT + 4)
     }
@@ -187,16 +170,16 @@ impl Page {
     }
 
     /// The page's bytes.
-    pub fn bytes(&self) -> &[u8; 4096]
+    pub fn bytes(&self) -> &[u8; PAGE_SIZE]
         ensures value { result.now ≡ self.now }
-        ensures long { length self.now ≡ 4096 }
+        ensures long { length self.now ≡ PAGE_SIZE }
     {
         &self.bytes
     }
 
     /// The page's bytes, to be read over.
-    pub fn bytes_mut(&mut self) -> &mut [u8; 4096]
-        ensures* { sem 𝓛 (Lends the_row (Array u8 4096) self.entry result (λ bytes. bytes)) }
+    pub fn bytes_mut(&mut self) -> &mut [u8; PAGE_SIZE]
+        ensures* { sem 𝓛 (Lends the_row (Array u8 PAGE_SIZE) self.entry result (λ bytes. bytes)) }
     {
         &mut self.bytes
     }
@@ -207,18 +190,19 @@ impl Page {
 pub fn is_allowed(offset: u16, long: usize) -> bool
     ensures { IsTrue result ↔ IsAllowed offset long }
 {
-    if long == 0 || long > 4050 {
+    if long == 0 || long > TRAILER_AT - BODY_AT {
         return false;
     }
-    let end = offset as usize + long;
-    (offset >= 8 && end <= 16) || (offset >= 38 && end <= 4088)
+    let at = offset as usize;
+    let end = at + long;
+    (at >= PREVIOUS_AT && end <= LSN_AT) || (at >= BODY_AT && end <= TRAILER_AT)
 }
 
 // The header of a page that is made.
-fn header_of(space: u32, number: u32, kind: PageKind, lsn: u64) -> [u8; 38]
+fn header_of(space: u32, number: u32, kind: PageKind, lsn: u64) -> [u8; BODY_AT]
     ensures { result ≡ header space number kind lsn }
 {
-    let mut bytes = [0; 38];
+    let mut bytes = [0; BODY_AT];
     put_u32(&mut bytes, 0, CHECKSUM);
     put_u32(&mut bytes, NUMBER_AT, number);
     put_u32(&mut bytes, PREVIOUS_AT, NO_PAGE);

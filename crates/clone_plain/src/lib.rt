@@ -3,11 +3,10 @@
 #![tactic(auto)]
 
 mod laws;
-mod limits;
 mod refusal;
 #[cfg(test)]
 mod tests;
 
+pub use clone_base::{CHANGE_LIMIT, TABLE_LIMIT, TRANSACTION_LIMIT, VALUE_LIMIT};
 pub use laws::{run_laws, runs_join};
-pub use limits::{CHANGE_LIMIT, TABLE_LIMIT, TRANSACTION_LIMIT, VALUE_LIMIT};
 pub use refusal::{Cause, EngineRefusal, Undone};

@@ -6,10 +6,8 @@ ghost use Rattle.clone_script.specs.Script.{longest_script};
 ghost use Rattle.clone_prog.specs.Stops.{stop_of, TookAtMost};
 
 use clone_outside::{Refusal, Source};
+use clone_script::LONGEST_SCRIPT;
 use std::alloc::{AllocError, Global};
-
-/// The most bytes that a script may have.
-const LONGEST_SCRIPT: usize = 1_048_576;
 
 /// How many bytes of the source are asked for at once.
 const PIECE: usize = 4_096;

@@ -9,7 +9,8 @@ use Rattle.clone_mtr.specs.Spelling.{spelling, Spells, log_of}
 use Rattle.clone_mtr.proofs.Spellings.{one_spelling, spelling_some}
 use Rattle.clone_image.specs.Image.{Image, after_records}
 use Rattle.clone_image.specs.Replay.{first_lsn, replayed, IsSpelled, IsLog, Replays}
-use Rattle.clone_image.proofs.Logs.{log_of-push, after_log-push, All-push, same_tails}
+use Rattle.clone_base.proofs.Lists.{All-push}
+use Rattle.clone_image.proofs.Logs.{log_of-push, after_log-push, same_tails}
 use Rattle.clone_recover.specs.Replaying.{Applied}
 
 -- the front of a log was replayed, and the rest is to come
@@ -68,7 +69,7 @@ no_log redo rest image lsn some h none log = let b = behind h.done log.mtrs rest
 pub goes_on : (redo rest : List ℕ) (old new : Image) (lsn n : ℕ) → Applied rest lsn n old new → Halfway redo rest old lsn → Halfway redo (drop n rest) new (lsn + n)
 goes_on redo rest old new lsn n a h = record {
   done = h.done ++ a.mtr ∷ [];
-  each = All-push h.done a.mtr h.each (subst (λ (bytes : List ℕ). Spells bytes a.mtr) a.spelled.text a.spelled);
+  each = All-push IsSpelled h.done a.mtr h.each (subst (λ (bytes : List ℕ). Spells bytes a.mtr) a.spelled.text a.spelled);
   whole = h.whole ∙ ap (λ xs. log_of h.done ++ xs) (sym (take-append-drop n rest) ∙ ap (λ xs. xs ++ drop n rest) a.spelled.text) ∙ sym (append_assoc (log_of h.done) (spelling a.mtr) (drop n rest)) ∙ ap (λ xs. xs ++ drop n rest) (sym (log_of-push h.done a.mtr));
   made = a.made ∙ ap (λ i. after_records (lsn + n) i a.mtr) h.made ∙ sym (after_log-push first_lsn finite.empty h.done a.mtr (lsn + n) (omega (arith, h.end, long)));
   end = omega (arith, h.end, long, length-append (log_of h.done) (spelling a.mtr), ap length (log_of-push h.done a.mtr));

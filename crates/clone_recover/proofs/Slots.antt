@@ -73,9 +73,6 @@ unfolding recovered
 taking_ends s start image all t =
     (t.made ∙ ap (λ n. taken_back_below n start) all, subst (λ n. InRange n start) all t.ranges)
 
-inner : {A : Type 0} {x y : A} → Some x ≡ Some y → x ≡ y
-inner e = cc
-
 -- what a header that is in use says of its slot
 header_has : (image : Image) (s : ℕ) → is_in_use (system_pages image (header_page s)) ≡ true → HasChanges (count_of (system_pages image (header_page s))) s image
 header_has image s used =

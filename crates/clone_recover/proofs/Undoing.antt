@@ -3,6 +3,7 @@ use Rattle.std.proofs.Common.{◌≡◌, ℕ, zero, suc, ◌<◌, ◌≤◌, Lis
 use Rattle.std.specs.Prelude.{unwrap_or}
 use Rattle.std.specs.List.{AllByRecursion}
 use Rattle.std.proofs.lemmas.Bool.{cases_lt}
+use Rattle.clone_base.proofs.Lists.{All-push}
 use Rattle.clone_page.specs.Bytes.{put_at}
 use Rattle.clone_page.specs.Slots.{slot_at}
 use Rattle.clone_undo.specs.Entries.{UndoEntry, IsEntry}
@@ -29,17 +30,13 @@ all_undone_system image (e ∷ es) m each = undone_system (all_undone image es) 
 
 -- the records of an undo slot, one by one
 
-all-push : (es : List UndoEntry) (e : UndoEntry) → AllByRecursion IsEntry es → IsEntry e → AllByRecursion IsEntry (es ++ e ∷ [])
-all-push [] e each one = (one, tt)
-all-push (x ∷ es) e each one = (each.0, all-push es e each.1 one)
-
 all-front : (es : List UndoEntry) (e : UndoEntry) → AllByRecursion IsEntry (es ++ e ∷ []) → AllByRecursion IsEntry es × IsEntry e
 all-front [] e each = (tt, each.0)
 all-front (x ∷ es) e each = let rest = all-front es e each.1 in ((each.0, rest.0), rest.1)
 
 pub all_in_range : (s : ℕ) (pages : ℕ → List ℕ) (n : ℕ) → ((i : ℕ) → i < n → IsEntry (entry_on i (pages (record_page s i)))) → AllByRecursion IsEntry (entries s pages n)
 all_in_range s pages zero each = tt
-all_in_range s pages (suc n) each = all-push (entries s pages n) (entry_on n (pages (record_page s n))) (all_in_range s pages n (λ i lt. each i (omega arith))) (each n (omega arith))
+all_in_range s pages (suc n) each = All-push IsEntry (entries s pages n) (entry_on n (pages (record_page s n))) (all_in_range s pages n (λ i lt. each i (omega arith))) (each n (omega arith))
 
 pub one_in_range : (s : ℕ) (pages : ℕ → List ℕ) (n i : ℕ) → i < n → AllByRecursion IsEntry (entries s pages n) → IsEntry (entry_on i (pages (record_page s i)))
 one_in_range s pages zero i lt all = absurd (omega (arith, lt))

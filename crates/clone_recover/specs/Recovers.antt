@@ -36,12 +36,16 @@ IsSlotInRange slot = IfSome slot (λ u. AllByRecursion IsEntry u.records)
 abbrev pub InRange : ℕ → Image → Type 0
 InRange count image = (s : ℕ) → s < count → IsSlotInRange (undo_slot_of image s)
 
--- The undo slot is the first that is in use with more records than it can have. Or, where none has, it is the first that is in use with a record out of its ranges.
+-- The undo slot is the first that is in use with more records than it can have. Or, where none has,
+-- it is the first that is in use with a record out of its ranges.
 pub data FirstDamaged (image : Image) (slot : ℕ) : Type 0 where
-  by_count : slot < slot_count → CountsInRange slot image → (IsCountInRange (undo_slot_of image slot) → ⊥) → FirstDamaged image slot
-  by_record : slot < slot_count → CountsInRange slot_count image → InRange slot image → (IsSlotInRange (undo_slot_of image slot) → ⊥) → FirstDamaged image slot
+  by_count : slot < slot_count → CountsInRange slot image
+      → (IsCountInRange (undo_slot_of image slot) → ⊥) → FirstDamaged image slot
+  by_record : slot < slot_count → CountsInRange slot_count image → InRange slot image
+      → (IsSlotInRange (undo_slot_of image slot) → ⊥) → FirstDamaged image slot
 
--- The image that the log leaves of nothing, each page by itself by the rule of redo, with what was open taken back.
+-- The image that the log leaves of nothing, each page by itself by the rule of redo, with what was
+-- open taken back.
 pub record Recovers (redo : List ℕ) (image : Image) : Type 0 where
   pub log : IsLog redo
   pub left : Image

@@ -8,7 +8,8 @@ use Rattle.clone_recover.specs.declared.refusal.Damage.TheVariants as damage
 use Rattle.clone_recover.specs.declared.refusal.RecoverRefusal.{RecoverRefusal}
 use Rattle.clone_recover.specs.declared.refusal.RecoverRefusal.TheVariants.{Damaged, NoMemory}
 
--- the n bytes at the front are a mini-transaction that begins here, and the new image is what it leaves of the old one
+-- the n bytes at the front are a mini-transaction that begins here, and the new image is what it
+-- leaves of the old one
 pub record Applied (bytes : List ℕ) (start n : ℕ) (old new : Image) : Type 0 where
   pub mtr : List Record
   pub within : n ≤ length bytes

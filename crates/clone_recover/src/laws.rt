@@ -6,5 +6,6 @@ ghost use Rattle.clone_recover.specs.Recovers.{Recovers, DamagedUndo};
 pub fn recover_laws()
     ensures image { (redo : List ℕ) (i j : Image) → Recovers redo i → Recovers redo j → i ≡ j }
     ensures slot { (redo : List ℕ) (s t : ℕ) → DamagedUndo redo s → DamagedUndo redo t → s ≡ t }
-    ensures apart { (redo : List ℕ) (image : Image) (s : ℕ) → Recovers redo image → DamagedUndo redo s → ⊥ }
+    ensures apart { (redo : List ℕ) (image : Image) (s : ℕ) → Recovers redo image
+        → DamagedUndo redo s → ⊥ }
 {}

@@ -5,7 +5,8 @@ ghost use Rattle.clone_recover.specs.Replaying.{Applied, BeginsNoneUnlessMemory}
 ghost use Rattle.clone_recover.specs.Recovers.{IsNoLogUnlessMemory};
 
 use crate::RecoverRefusal;
-use clone_image::{FIRST_LSN, Image};
+use clone_base::FIRST_LSN;
+use clone_image::Image;
 use clone_mtr::{Mtr, decode};
 use std::alloc::Global;
 

@@ -26,7 +26,8 @@ pub fn recover(alloc: Global, redo: &[u8]) -> Result<Image, RecoverRefusal>
 
 /// The rows of an image, ascending by table and key. The one refusal is for want of memory.
 pub fn open_rows(alloc: Global, image: &Image) -> Result<Vec<(u32, u64, Value)>, AllocError>
-    ensures { IfOk result (λ list. (rows : Rows) × ShowsRows (page_of image.now) rows × (list.items ≡ rows_in rows)) }
+    ensures { IfOk result
+        (λ list. (rows : Rows) × ShowsRows (page_of image.now) rows × (list.items ≡ rows_in rows)) }
 {
     rows_of(alloc, image)?.rows(alloc)
 }

@@ -69,7 +69,8 @@ fn take_back_all(image: &mut Image) -> Result<(), Damage>
 fn take_back(image: &mut Image, slot: u32) -> Result<(), Damage>
     requires slot { slot < places.slot_count }
     requires count { IsCountInRange (undo_slot_of image.old slot) }
-    ensures taken_back { OnOk result (image.new ≡ taken_back image.old slot (undo_slot_of image.old slot)) }
+    ensures taken_back { OnOk result
+        (image.new ≡ taken_back image.old slot (undo_slot_of image.old slot)) }
     ensures ranges { OnOk result (IsSlotInRange (undo_slot_of image.old slot)) }
     ensures damage { IfErr result (IsDamage slot (IsSlotInRange (undo_slot_of image.old slot))) }
 {
@@ -94,9 +95,12 @@ fn header_of(image: &Image, slot: u32) -> Option<SlotHeader>
 fn undo_changes(image: &mut Image, slot: u32, count: u16) -> Result<(), Damage>
     requires slot { slot < places.slot_count }
     requires count { count ≤ places.capacity }
-    ensures undone { OnOk result (image.new ≡ all_undone image.old (entries slot (system_pages image.old) count)) }
-    ensures ranges { OnOk result (AllByRecursion IsEntry (entries slot (system_pages image.old) count)) }
-    ensures damage { IfErr result (IsDamage slot (AllByRecursion IsEntry (entries slot (system_pages image.old) count))) }
+    ensures undone { OnOk result
+        (image.new ≡ all_undone image.old (entries slot (system_pages image.old) count)) }
+    ensures ranges { OnOk result
+        (AllByRecursion IsEntry (entries slot (system_pages image.old) count)) }
+    ensures damage { IfErr result
+        (IsDamage slot (AllByRecursion IsEntry (entries slot (system_pages image.old) count))) }
 {
     for number in (0..count as usize).rev() {
         undo_change(image, slot, number)?;
@@ -108,9 +112,12 @@ fn undo_changes(image: &mut Image, slot: u32, count: u16) -> Result<(), Damage>
 fn undo_change(image: &mut Image, slot: u32, number: usize) -> Result<(), Damage>
     requires slot { slot < places.slot_count }
     requires number { number < places.capacity }
-    ensures undone { OnOk result (image.new ≡ undone image.old (entry_on number (system_pages image.old (places.record_page slot number)))) }
-    ensures range { OnOk result (IsEntry (entry_on number (system_pages image.old (places.record_page slot number)))) }
-    ensures damage { IfErr result (IsDamage slot (IsEntry (entry_on number (system_pages image.old (places.record_page slot number))))) }
+    ensures undone { OnOk result (image.new ≡ undone image.old
+        (entry_on number (system_pages image.old (places.record_page slot number)))) }
+    ensures range { OnOk result
+        (IsEntry (entry_on number (system_pages image.old (places.record_page slot number)))) }
+    ensures damage { IfErr result (IsDamage slot
+        (IsEntry (entry_on number (system_pages image.old (places.record_page slot number))))) }
 {
     let Some(change) = change_at(image, slot, number) else {
         return Err(Damage::Undo { slot });
@@ -124,9 +131,11 @@ fn undo_change(image: &mut Image, slot: u32, number: usize) -> Result<(), Damage
 fn change_at(image: &Image, slot: u32, number: usize) -> Option<UndoRecord>
     requires slot { slot < places.slot_count }
     requires number { number < places.capacity }
-    ensures some { IfSome result (λ r. r ≡ entry_on number (system_pages image.now (places.record_page slot number))) }
+    ensures some { IfSome result
+        (λ r. r ≡ entry_on number (system_pages image.now (places.record_page slot number))) }
     ensures range { IfSome result (λ r. IsEntry r) }
-    ensures none { IfNone result (IsEntry (entry_on number (system_pages image.now (places.record_page slot number))) → ⊥) }
+    ensures none { IfNone result
+        (IsEntry (entry_on number (system_pages image.now (places.record_page slot number))) → ⊥) }
 {
     record_at(image.page(0, record_page(slot, number))?, number)
 }

@@ -5,7 +5,7 @@ mod log_full;
 mod ring;
 
 pub use log_full::LogFull;
-pub use ring::{FIRST_LSN, Ring};
+pub use ring::Ring;
 
 #[cfg(test)]
 mod tests;

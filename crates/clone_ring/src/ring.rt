@@ -3,12 +3,9 @@ ghost use Rattle.clone_ring.specs.Window.{Appends, empty, end_of, free_in, raise
 
 use crate::LogFull;
 use circular_buffer::HeapCircularBuffer;
-use clone_outside::LSN_LIMIT;
+use clone_base::{FIRST_LSN, LSN_LIMIT};
 use std::alloc::{AllocError, Global};
 use std::marker::Model;
-
-/// The LSN of a log's first byte.
-pub const FIRST_LSN: u64 = 8192;
 
 /// The bytes of the redo log from its floor to its end. Both are LSNs, and the end is below 2^39.
 #[derive(Drop)]
@@ -19,14 +16,18 @@ pub struct Ring {
 
 impl Model for Ring {
     ghost use Rattle.std.specs.Prelude.{◌<◌, ◌+◌, length};
-    ghost use Rattle.clone_outside.specs.declared.mark.TheConstants.{LSN_LIMIT};
+    ghost use Rattle.clone_base.specs.declared.limits.TheConstants.{LSN_LIMIT};
     ghost use Rattle.clone_ring.specs.Window.{Window, window_code};
 
     ghost Value = { Window };
 
     ghost coded = { window_code };
 
-    ghost view = { λ r. record { floor = r.floor; bytes = r.bytes.items; size = r.bytes.capacity } };
+    ghost view = { λ r. record {
+      floor = r.floor;
+      bytes = r.bytes.items;
+      size = r.bytes.capacity;
+    } };
 
     ghost invariant = { λ r. r.floor + length r.bytes.items < LSN_LIMIT };
 }

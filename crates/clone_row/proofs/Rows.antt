@@ -1,7 +1,7 @@
 -- The slots of a page, one by one, and after a write.
-use Rattle.std.proofs.Common.{◌≡◌, ◌≢◌, ◌≤◌, ◌<◌, ◌-◌, ◌^◌, ◌==◌, ℕ, Bool, cond, Option, Some, None, List, ◌++◌, length, drop, set, get_or, replicate, arith, refl, sym, ap, ◌∙◌, inl, inr}
+use Rattle.std.proofs.Common.{◌≡◌, ◌≢◌, ◌≤◌, ◌<◌, ◌-◌, ◌^◌, ◌==◌, ℕ, Bool, cond, Option, Some, None, List, length, set, get_or, replicate, arith, refl, sym, ap, ◌∙◌, inl, inr}
 use Rattle.std.specs.Prelude.{IfSome}
-use Rattle.std.proofs.lemmas.List.{ext_get_or, get_or-set_same, get_or-set_other, get_or_past, get_or-replicate, length-replicate, length-append, take_at, drop_at, drop-drop, drop-replicate}
+use Rattle.std.proofs.lemmas.List.{ext_get_or, get_or-set_same, get_or-set_other, get_or_past, get_or-replicate, length-replicate, length-append}
 use Rattle.std.proofs.Math.ListN.{length-set}
 use Rattle.std.proofs.lemmas.List.FromFn.{length-map-range_with_len, get_or-map-range_with_len}
 use Rattle.std.proofs.lemmas.Bool.Decides.{eqb_tells}
@@ -201,14 +201,3 @@ slots-initialised space number lsn kind =
 
 pub slots-zero : slots zero_page ≡ replicate 50 unused
 slots-zero = all_unused zero_page slot-zero
-
--- A slot as it is put together.
-
-joined : {a b c d : List ℕ} → a ≡ b → c ≡ d → a ++ c ≡ b ++ d
-joined p q = λ i. p i ++ q i
-
--- a value behind a head, with zero bytes behind it
-pub padded : (front value : List ℕ) → length front ≡ 16 → put_at 16 value (front ++ replicate 64 0) ≡ front ++ (value ++ replicate (64 - length value) 0)
-padded front value long =
-    joined (take_at front (replicate 64 0) 16 long)
-    (ap (λ (zs : List ℕ). value ++ zs) (sym (drop-drop (length value) 16 (front ++ replicate 64 0)) ∙ ap (drop (length value)) (drop_at front (replicate 64 0) 16 long) ∙ drop-replicate (length value) 64 0))

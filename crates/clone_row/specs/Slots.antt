@@ -1,12 +1,13 @@
--- A bucket page or an overflow page as a list of 50 slots.
+-- A bucket page or an overflow page as a list of slots.
 use Rattle.std.specs.Prelude.{ℕ, ◌≡◌, ◌<◌, List, ◌∷◌, ◌++◌, map, replicate, slice_index_or, if◌then◌else◌, ◌==◌, None, Some, MatchOption}
 use Rattle.std.specs.declared.option.Option.{Option}
 use Rattle.std.specs.List.{range_with_len}
 use Rattle.byteorder.specs.Endian.{big_bytes}
 use Rattle.clone_page.specs.Slots.{slot_count, slot, state_of, key_of, row_of, present_slot}
 
--- A slot was never used, or it holds the row of a key, or it says that the key has no row. A slot in
--- none of the three states is damaged, and so is one whose row has a length above 64.
+-- A slot was never used, or it holds the row of a key, or it says that the key has no row. A slot
+-- in
+-- none of the three states is damaged, and so is one whose row has a length above that of a value.
 pub data Slot : Type 0 where
   unused : Slot
   present : ℕ → List ℕ → Slot
@@ -18,11 +19,13 @@ abbrev pub held : Option (ℕ × List ℕ) → Slot
 held (Some row) = present row.0 row.1
 held None = damaged
 
--- the slot in these 80 bytes
+-- the slot in these bytes
 abbrev pub slot_of : List ℕ → Slot
-slot_of bytes = if state_of bytes == 0 then unused else (if state_of bytes == 2 then absent (key_of bytes) else held (row_of bytes))
+slot_of bytes =
+    if state_of bytes == 0 then unused
+    else (if state_of bytes == 2 then absent (key_of bytes) else held (row_of bytes))
 
--- the 50 slots of a page
+-- the slots of a page
 unfoldable pub slots : List ℕ → List Slot
 slots page = map (λ j. slot_of (slot j page)) (range_with_len 0 slot_count)
 
@@ -48,13 +51,15 @@ row_in damaged = None
 abbrev pub Finds : ℕ → List Slot → Option ℕ → Type 0
 Finds key list found =
     MatchOption found ((k : ℕ) → k < slot_count → ¬ (bound_key (slot_in list k) ≡ Some key))
-    (λ j. (j < slot_count) × (bound_key (slot_in list j) ≡ Some key) × ((k : ℕ) → k < j → ¬ (bound_key (slot_in list k) ≡ Some key)))
+    (λ j. (j < slot_count) × (bound_key (slot_in list j) ≡ Some key)
+    × ((k : ℕ) → k < j → ¬ (bound_key (slot_in list k) ≡ Some key)))
 
 -- the first slot that was never used, or none where each was
 abbrev pub FindsFree : List Slot → Option ℕ → Type 0
 FindsFree list found =
     MatchOption found ((k : ℕ) → k < slot_count → ¬ (slot_in list k ≡ unused))
-    (λ j. (j < slot_count) × (slot_in list j ≡ unused) × ((k : ℕ) → k < j → ¬ (slot_in list k ≡ unused)))
+    (λ j. (j < slot_count) × (slot_in list j ≡ unused)
+    × ((k : ℕ) → k < j → ¬ (slot_in list k ≡ unused)))
 
 -- a key with a value is present, and one without is absent
 abbrev pub row_slot : ℕ → Option (List ℕ) → Slot

@@ -1,6 +1,7 @@
 -- What a write does to the slots of its page, and what it leaves.
 use Rattle.std.specs.Prelude.{ℕ, ◌≡◌, ◌<◌, ◌≤◌, ◌+◌, ◌^◌, List, length, IfSome}
 use Rattle.std.specs.declared.option.Option.{Option}
+use Rattle.clone_base.specs.declared.limits.TheConstants.{VALUE_LIMIT}
 use Rattle.clone_page.specs.Header.{kind_of, space_of, number_of, next_of, IsAllowed}
 use Rattle.clone_page.specs.Slots.{slot_count, slot_at}
 use Rattle.clone_mtr.specs.Patches.{Patched}
@@ -12,7 +13,7 @@ pub record WritesSlot (j key : ℕ) (value : Option (List ℕ)) (patch : Patched
   pub place : patch.offset ≡ slot_at j
   pub bytes : patch.bytes ≡ image key value
   pub key_fits : key < 2 ^ 64
-  pub short : IfSome value (λ v. length v ≤ 64)
+  pub short : IfSome value (λ v. length v ≤ VALUE_LIMIT)
 
 -- bytes before the first slot are written, as those of the neighbours are
 pub record WritesHeader (patch : Patched) : Type 0 where

@@ -3,8 +3,11 @@ ghost use Rattle.std.specs.Option.{option_copied};
 ghost use Rattle.clone_page.specs.Slots.{slot_count, slot_at, state_of, length_of, key_of, present_slot};
 ghost use Rattle.clone_row.specs.Slots.{slots, slot_of, slot_in, bound_key, row_in, unused, Finds, FindsFree, absent_slot, image};
 
+use clone_base::VALUE_LIMIT;
 use clone_model::Value;
-use clone_page::{Page, SLOT_BYTES, SLOT_COUNT, SLOTS_AT, put, u64_at};
+use clone_page::{
+    Page, SLOT_BYTES, SLOT_COUNT, SLOT_KEY_AT, SLOT_LENGTH_AT, SLOT_VALUE_AT, SLOTS_AT, put, u64_at,
+};
 
 // The state of a slot, in its first byte.
 const UNUSED: u8 = 0;
@@ -12,13 +15,6 @@ const UNUSED: u8 = 0;
 const PRESENT: u8 = 1;
 
 const ABSENT: u8 = 2;
-
-// Where the fields of a slot stand.
-const LENGTH_AT: usize = 1;
-
-const KEY_AT: usize = 8;
-
-const VALUE_AT: usize = 16;
 
 /// The first slot that is bound to the key, present or absent. None exactly where no slot is.
 pub fn find(page: &Page, key: u64) -> Option<u16>
@@ -45,7 +41,7 @@ pub fn free_slot(page: &Page) -> Option<u16>
 }
 
 /// The key and the value of a slot. None exactly where there is no such slot, or it isn't present. A
-/// slot whose length is above 64 isn't.
+/// slot whose length is above that of a value isn't.
 pub fn present(page: &Page, slot: u16) -> Option<(u64, Value)>
     ensures { result ≡ row_in (slot_in (slots page.now) slot) }
 {
@@ -55,8 +51,8 @@ pub fn present(page: &Page, slot: u16) -> Option<(u64, Value)>
     row(slot_bytes(page, slot))
 }
 
-/// The 80 bytes of the slot of a key: present with this value, or absent where there is none.
-pub fn slot_image(key: u64, value: Option<&Value>) -> [u8; 80]
+/// The bytes of the slot of a key: present with this value, or absent where there is none.
+pub fn slot_image(key: u64, value: Option<&Value>) -> [u8; SLOT_BYTES]
     ensures { result ≡ image key (option_copied value.entry) }
 {
     match value {
@@ -77,7 +73,7 @@ pub fn slot_offset(slot: u16) -> u16
 fn slot_bytes(page: &Page, place: u16) -> &[u8]
     requires { place < slot_count }
     ensures slot { slot_of result.now ≡ slot_in (slots page.now) place }
-    ensures long { length result.now ≡ 80 }
+    ensures long { length result.now ≡ SLOT_BYTES }
 {
     let at = slot_offset(place) as usize;
     &page.bytes()[at..at + SLOT_BYTES]
@@ -85,7 +81,7 @@ fn slot_bytes(page: &Page, place: u16) -> &[u8]
 
 // Whether the slot was never used.
 fn is_unused(bytes: &[u8]) -> bool
-    requires { length bytes.now ≡ 80 }
+    requires { length bytes.now ≡ SLOT_BYTES }
     ensures { IsTrue result ↔ (slot_of bytes.now ≡ unused) }
 {
     bytes[0] == UNUSED
@@ -93,7 +89,7 @@ fn is_unused(bytes: &[u8]) -> bool
 
 // Whether the slot is bound to the key.
 fn is_bound(bytes: &[u8], key: u64) -> bool
-    requires { length bytes.now ≡ 80 }
+    requires { length bytes.now ≡ SLOT_BYTES }
     ensures { IsTrue result ↔ (bound_key (slot_of bytes.now) ≡ Some key) }
 {
     if bytes[0] == ABSENT || is_present(bytes) {
@@ -105,50 +101,50 @@ fn is_bound(bytes: &[u8], key: u64) -> bool
 
 // The row of a slot.
 fn row(bytes: &[u8]) -> Option<(u64, Value)>
-    requires { length bytes.now ≡ 80 }
+    requires { length bytes.now ≡ SLOT_BYTES }
     ensures { result ≡ row_in (slot_of bytes.now) }
 {
     if !is_present(bytes) {
         return None;
     }
-    let value = Value::new(&bytes[VALUE_AT..VALUE_AT + bytes[LENGTH_AT] as usize])?;
+    let value = Value::new(&bytes[SLOT_VALUE_AT..SLOT_VALUE_AT + bytes[SLOT_LENGTH_AT] as usize])?;
     Some((read_key(bytes), value))
 }
 
 // Whether the slot holds a row.
 fn is_present(bytes: &[u8]) -> bool
-    requires { length bytes.now ≡ 80 }
-    ensures { IsTrue result ↔ (state_of bytes.now ≡ 1) × (length_of bytes.now ≤ 64) }
+    requires { length bytes.now ≡ SLOT_BYTES }
+    ensures { IsTrue result ↔ (state_of bytes.now ≡ 1) × (length_of bytes.now ≤ VALUE_LIMIT) }
 {
-    bytes[0] == PRESENT && bytes[LENGTH_AT] <= 64
+    bytes[0] == PRESENT && bytes[SLOT_LENGTH_AT] as usize <= VALUE_LIMIT
 }
 
 // The key in the bytes of a slot.
 fn read_key(bytes: &[u8]) -> u64
-    requires { length bytes.now ≡ 80 }
+    requires { length bytes.now ≡ SLOT_BYTES }
     ensures { result ≡ key_of bytes.now }
 {
-    u64_at(bytes, KEY_AT)
+    u64_at(bytes, SLOT_KEY_AT)
 }
 
 // A slot that holds a row.
-fn present_image(key: u64, value: &[u8]) -> [u8; 80]
-    requires { length value.now ≤ 64 }
+fn present_image(key: u64, value: &[u8]) -> [u8; SLOT_BYTES]
+    requires { length value.now ≤ VALUE_LIMIT }
     ensures { result ≡ present_slot key value.now }
 {
     let mut bytes = [0; SLOT_BYTES];
     put(&mut bytes, 0, &[PRESENT, value.len() as u8]);
-    put(&mut bytes, KEY_AT, &key.to_be_bytes());
-    put(&mut bytes, VALUE_AT, value);
+    put(&mut bytes, SLOT_KEY_AT, &key.to_be_bytes());
+    put(&mut bytes, SLOT_VALUE_AT, value);
     bytes
 }
 
 // A slot whose key has no row.
-fn absent_image(key: u64) -> [u8; 80]
+fn absent_image(key: u64) -> [u8; SLOT_BYTES]
     ensures { result ≡ absent_slot key }
 {
     let mut bytes = [0; SLOT_BYTES];
     put(&mut bytes, 0, &[ABSENT, 0]);
-    put(&mut bytes, KEY_AT, &key.to_be_bytes());
+    put(&mut bytes, SLOT_KEY_AT, &key.to_be_bytes());
     bytes
 }

@@ -15,7 +15,8 @@ Reads bytes (Err (BadLine number)) = IsFirstBad bytes number
 Reads bytes (Err NoMemory) = ⊤
 
 -- what reading a text answers: something in its ranges that has this text, and nothing else is so
-pub record Parses {X : Type 0} (InRange : X → Type 0) (text_of : X → List ℕ) (text : List ℕ) (result : Option X) : Type 0 where
+pub record Parses {X : Type 0} (InRange : X → Type 0) (text_of : X → List ℕ) (text : List ℕ)
+    (result : Option X) : Type 0 where
   pub some : IfSome result (λ x. InRange x × (text ≡ text_of x))
   pub only : (x : X) → InRange x → text ≡ text_of x → result ≡ Some x
 

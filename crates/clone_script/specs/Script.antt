@@ -2,9 +2,11 @@
 use Rattle.std.specs.Prelude.{ℕ, ◌≡◌, ◌+◌, ◌⊎◌, ◌==◌, List, [], ◌∷◌, ◌++◌, length, if◌then◌else◌}
 use Rattle.clone_model.specs.Lines.{line_text, IsInRange}
 use Rattle.clone_model.specs.declared.line.Line.{Line}
+use Rattle.clone_script.specs.declared.read.TheConstants.{LONGEST_SCRIPT}
 
+-- how many bytes a script may have
 abbrev pub longest_script : ℕ
-longest_script = 1048576
+longest_script = LONGEST_SCRIPT
 
 abbrev pub line_feed : ℕ
 line_feed = 10
@@ -32,13 +34,16 @@ pub record IsLine (text : List ℕ) (l : Line) : Type 0 where
 -- Each of the texts is passed over or is that of a line, and these are the lines in order.
 abbrev pub Give : List (List ℕ) → List Line → Type 0
 Give [] lines = lines ≡ []
-Give (text ∷ texts) lines = (IsPassed text × Give texts lines) ⊎ ((l : Line) × (others : List Line) × IsLine text l × Give texts others × (lines ≡ l ∷ others))
+Give (text ∷ texts) lines =
+    (IsPassed text × Give texts lines)
+    ⊎ ((l : Line) × (others : List Line) × IsLine text l × Give texts others × (lines ≡ l ∷ others))
 
 -- the lines of a script
 abbrev pub IsScript : List ℕ → List Line → Type 0
 IsScript bytes lines = Give (texts_of bytes) lines
 
--- The text of this number, counted from 1, is the first outside the grammar: those before it give lines, and it is neither passed over nor that of a line.
+-- The text of this number, counted from 1, is the first outside the grammar: those before it give
+-- lines, and it is neither passed over nor that of a line.
 pub record IsFirstBad (bytes : List ℕ) (number : ℕ) : Type 0 where
   pub front : List (List ℕ)
   pub text : List ℕ

@@ -1,6 +1,7 @@
 ghost use Rattle.std.specs.Prelude.{ℕ, ◌≡◌, ◌≤◌, ◌<◌, ◌^◌, ◌∷◌, ◌++◌, List, Some, IfOk, IfSome, IsSomeAnd};
 ghost use Rattle.std.specs.Option.{SomeIff};
 ghost use Rattle.std.specs.Fmt.{decimal};
+ghost use Rattle.clone_model.specs.declared.line.TheConstants.{HIGHEST_TABLE, MOST_BUCKETS};
 ghost use Rattle.clone_script.specs.Fields.{IsRow, IsRowWithValue, row_text, row_with_value_text};
 ghost use Rattle.clone_script.specs.Reading.{Parses};
 ghost use Rattle.clone_script.specs.declared.fields.Row.{Row};
@@ -47,7 +48,8 @@ pub fn read_row_with_value(
 
 /// The row in front of a blank, and what stands behind that blank.
 fn leading_row(text: &[u8]) -> Option<(Row, &[u8])>
-    ensures some { IfSome result (λ found. IsRow found.0 × (text.now ≡ row_text found.0 ++ 32 ∷ found.1.now)) }
+    ensures some { IfSome result
+        (λ found. IsRow found.0 × (text.now ≡ row_text found.0 ++ 32 ∷ found.1.now)) }
     ensures only { (r : Row) (rest : List ℕ) → IsRow r → text.now ≡ row_text r ++ 32 ∷ rest
         → IsSomeAnd result (λ found. (found.0 ≡ r) × (found.1.now ≡ rest)) }
 {
@@ -60,7 +62,8 @@ fn leading_row(text: &[u8]) -> Option<(Row, &[u8])>
 fn leading_pair(text: &[u8]) -> Option<((u64, u64), &[u8])>
     ensures some { IfSome result (λ found. (found.0.0 < 2 ^ 64) × (found.0.1 < 2 ^ 64)
         × (text.now ≡ decimal found.0.0 ++ 32 ∷ (decimal found.0.1 ++ 32 ∷ found.1.now))) }
-    ensures only { (m n : ℕ) (rest : List ℕ) → m < 2 ^ 64 → n < 2 ^ 64 → text.now ≡ decimal m ++ 32 ∷ (decimal n ++ 32 ∷ rest)
+    ensures only { (m n : ℕ) (rest : List ℕ) → m < 2 ^ 64 → n < 2 ^ 64
+        → text.now ≡ decimal m ++ 32 ∷ (decimal n ++ 32 ∷ rest)
         → IsSomeAnd result (λ found. (found.0.0 ≡ m) × (found.0.1 ≡ n) × (found.1.now ≡ rest)) }
 {
     let (first, rest) = leading_number(text)?;
@@ -70,8 +73,10 @@ fn leading_pair(text: &[u8]) -> Option<((u64, u64), &[u8])>
 
 /// The row of these numbers.
 fn row_from(number: u64, table: u64, key: u64) -> Option<Row>
-    ensures some { IfSome result (λ r. (r.number ≡ number) × (r.table ≡ table) × (r.key ≡ key) × IsRow r) }
-    ensures only { (r : Row) → IsRow r → number ≡ r.number → table ≡ r.table → key ≡ r.key → result ≡ Some r }
+    ensures some { IfSome result
+        (λ r. (r.number ≡ number) × (r.table ≡ table) × (r.key ≡ key) × IsRow r) }
+    ensures only { (r : Row) → IsRow r → number ≡ r.number → table ≡ r.table → key ≡ r.key
+        → result ≡ Some r }
 {
     Some(Row {
         number: as_u32(number)?,
@@ -82,14 +87,14 @@ fn row_from(number: u64, table: u64, key: u64) -> Option<Row>
 
 /// The table of this number.
 pub fn table_number(number: u64) -> Option<TableNumber>
-    ensures { SomeIff result ((1 ≤ number) × (number ≤ 1000000)) number }
+    ensures { SomeIff result ((1 ≤ number) × (number ≤ HIGHEST_TABLE)) number }
 {
     TableNumber::new(as_u32(number)?)
 }
 
 /// So many buckets.
 pub fn bucket_count(number: u64) -> Option<BucketCount>
-    ensures { SomeIff result ((1 ≤ number) × (number ≤ 1024)) number }
+    ensures { SomeIff result ((1 ≤ number) × (number ≤ MOST_BUCKETS)) number }
 {
     BucketCount::new(as_u32(number)?)
 }

@@ -14,4 +14,4 @@ mod split;
 #[cfg(test)]
 mod tests;
 
-pub use read::{ReadRefusal, read_script};
+pub use read::{LONGEST_SCRIPT, ReadRefusal, read_script};

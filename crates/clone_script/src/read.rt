@@ -8,6 +8,9 @@ use crate::split::first_text;
 use clone_model::Line;
 use std::alloc::{AllocError, AllocFailed, Global};
 
+/// How many bytes a script may have.
+pub const LONGEST_SCRIPT: usize = 1_048_576;
+
 /// Why a script has no lines.
 #[derive(Clone, Copy, Debug, PartialEq, Eq)]
 pub enum ReadRefusal {

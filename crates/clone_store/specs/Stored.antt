@@ -17,10 +17,13 @@ pub record Stored : Type 0 where
 -- it is stored as the pairs of its parts
 abbrev pub stored_code : Coded Stored
 stored_code =
-    code_by (finite.FinMap nat_cmp (List (List ℕ)) × (List ℕ × ℕ)) (coded× (finite.code coded_ℕ (coded_list (coded_list coded_ℕ))) (coded× (coded_list coded_ℕ) coded_ℕ))
-    (λ s. (s.image, (s.log, s.room))) (λ p. record { image = p.0; log = p.1.0; room = p.1.1 }) (λ _. refl)
+    code_by (finite.FinMap nat_cmp (List (List ℕ)) × (List ℕ × ℕ)) (coded×
+    (finite.code coded_ℕ (coded_list (coded_list coded_ℕ))) (coded× (coded_list coded_ℕ) coded_ℕ))
+    (λ s. (s.image, (s.log, s.room))) (λ p. record { image = p.0; log = p.1.0; room = p.1.1 })
+    (λ _. refl)
 
--- A mini-transaction of these records was written. The pages that it changes take its end as their LSN.
+-- A mini-transaction of these records was written. The pages that it changes take its end as their
+-- LSN.
 pub record Writes (records : List Record) (old new : Stored) : Type 0 where
   pub log : new.log ≡ old.log ++ spelling records
   pub image : new.image ≡ after_records (first_lsn + length new.log) old.image records

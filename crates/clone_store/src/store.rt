@@ -7,7 +7,8 @@ ghost use Rattle.clone_image.specs.Image.{page_of, MakesNoPage};
 ghost use Rattle.clone_image.specs.Replay.{first_lsn, Replays};
 ghost use Rattle.clone_store.specs.Stored.{Writes, Keeps};
 
-use clone_image::{FIRST_LSN, Image};
+use clone_base::FIRST_LSN;
+use clone_image::Image;
 use clone_mtr::{LONGEST_MTR, Record, encode_into};
 use clone_page::Page;
 use std::alloc::{AllocError, Global};
@@ -30,7 +31,11 @@ impl Model for Store {
 
     ghost use Rattle.clone_image.specs.Replay.{Replays};
 
-    ghost view = { λ s. record { image = s.image; log = s.redo.items; room = vec_capacity s.redo - vec_len s.redo } };
+    ghost view = { λ s. record {
+      image = s.image;
+      log = s.redo.items;
+      room = vec_capacity s.redo - vec_len s.redo;
+    } };
 
     ghost invariant = { λ s. Replays s.redo.items s.image };
 }

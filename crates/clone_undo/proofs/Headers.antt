@@ -2,6 +2,7 @@
 use Rattle.std.proofs.Common.{◌≡◌, ◌≤◌, ◌<◌, ◌+◌, ◌^◌, ◌==◌, ◌⊎◌, ℕ, Bool, true, false, cond, Option, Some, None, List, length, take, drop, arith, refl, sym, ap, ◌∙◌, inl, inr}
 use Rattle.std.proofs.lemmas.List.{drop-drop, drop-take, take-take}
 use Rattle.std.proofs.lemmas.Bool.Decides.{eqb_tells}
+use Rattle.std.proofs.lemmas.Option.{same_Some}
 use Rattle.byteorder.specs.Endian.{big_bytes}
 use Rattle.byteorder.specs.Numbers.{length-bytes_high_first}
 use Rattle.clone_page.specs.Bytes.{part, field, put_at}
@@ -68,16 +69,13 @@ pub record Tells (s : ℕ) (pages : ℕ → List ℕ) (slot : UndoSlot) : Type 0
 abbrev pub slot_of : ℕ → (ℕ → List ℕ) → UndoSlot
 slot_of s pages = record { writer = writer_of (pages (header_page s)); index = index_of (pages (header_page s)); records = entries s pages (count_of (pages (header_page s))) }
 
-inner : {A : Type 0} {x y : A} → Some x ≡ Some y → x ≡ y
-inner e = cc
-
 pub slot-tells : (s : ℕ) (pages : ℕ → List ℕ) (slot : UndoSlot) → undo_slot s pages ≡ Some slot → Tells s pages slot
 slot-tells s pages slot is = at (is_in_use (pages (header_page s))) refl
   where
     at : (b : Bool) → is_in_use (pages (header_page s)) ≡ b → Tells s pages slot
     at false free = absurd (let e : None ≡ Some slot = sym (ap (λ (b : Bool). cond b (Some (slot_of s pages)) None) free) ∙ is in cc)
     at true used =
-        let same : slot_of s pages ≡ slot = inner (sym (ap (λ (b : Bool). cond b (Some (slot_of s pages)) None) used) ∙ is) in
+        let same : slot_of s pages ≡ slot = same_Some _ _ (sym (ap (λ (b : Bool). cond b (Some (slot_of s pages)) None) used) ∙ is) in
         let long : length slot.records ≡ count_of (pages (header_page s)) = ap (λ (w : UndoSlot). length w.records) (sym same) ∙ length-entries s pages (count_of (pages (header_page s))) in
         record {
           active = is_one (active_of (pages (header_page s))) used;

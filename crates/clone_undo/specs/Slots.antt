@@ -1,4 +1,5 @@
--- An undo slot as what its four pages tell: free, or who writes and which changes were made, oldest first.
+-- An undo slot as what its four pages tell: free, or who writes and which changes were made, oldest
+-- first.
 use Rattle.std.specs.Prelude.{ℕ, zero, suc, ◌==◌, Bool, if◌then◌else◌, List, [], ◌∷◌, ◌++◌, None, Some}
 use Rattle.std.specs.declared.option.Option.{Option}
 use Rattle.byteorder.specs.Endian.{big_bytes}
@@ -27,7 +28,8 @@ index_of page = field INDEX_AT 8 page
 
 -- the 16 bytes of an active slot's header
 abbrev pub header_bytes : ℕ → ℕ → ℕ → List ℕ
-header_bytes count writer index = 1 ∷ 0 ∷ (big_bytes 2 count ++ (big_bytes 4 writer ++ big_bytes 8 index))
+header_bytes count writer index =
+    1 ∷ 0 ∷ (big_bytes 2 count ++ (big_bytes 4 writer ++ big_bytes 8 index))
 
 -- what the record of this number tells, on its page
 abbrev pub entry_on : ℕ → List ℕ → UndoEntry

@@ -3,14 +3,16 @@
 ghost use Rattle.std.specs.Prelude.{◌≡◌, ◌<◌, ◌+◌, ◌*◌};
 ghost use Rattle.clone_undo.specs.Places as places;
 
+use clone_base::{CHANGE_LIMIT, TRANSACTION_LIMIT};
+
 /// How many undo slots there are.
-pub const UNDO_SLOT_COUNT: u32 = 64;
+pub const UNDO_SLOT_COUNT: u32 = TRANSACTION_LIMIT;
 
 /// How many pages an undo slot has.
 pub const UNDO_SLOT_PAGES: u32 = 4;
 
 /// How many changes an undo slot tells at most.
-pub const UNDO_CAPACITY: u16 = 160;
+pub const UNDO_CAPACITY: u16 = CHANGE_LIMIT as u16;
 
 /// How many records stand on a page.
 pub const RECORDS_ON_PAGE: usize = 40;
@@ -20,6 +22,27 @@ pub const RECORDS_AT: usize = 64;
 
 /// How many bytes a record has.
 pub const RECORD_BYTES: usize = 96;
+
+/// Where in a record the page of the changed row slot stands. Its table comes first.
+pub const RECORD_PAGE_AT: usize = 4;
+
+/// Where in a record the changed row slot stands.
+pub const RECORD_SLOT_AT: usize = 8;
+
+/// Where in a record the state before stands.
+pub const RECORD_STATE_AT: usize = 10;
+
+/// Where in a record the length of the value before stands.
+pub const RECORD_LENGTH_AT: usize = 11;
+
+/// Where in a record the key stands.
+pub const RECORD_KEY_AT: usize = 16;
+
+/// Where in a record the value before stands.
+pub const RECORD_VALUE_AT: usize = 24;
+
+/// The pages of a table's space have numbers below this.
+pub const TABLE_PAGE_LIMIT: u32 = 65_536;
 
 /// Where the header stands, on the first page of an undo slot. Its first byte is 1 where the slot is in use.
 pub const HEADER_AT: u16 = 40;

@@ -6,24 +6,13 @@ ghost use Rattle.clone_undo.specs.Slots.{entry_on, is_in_use, count_of, writer_o
 
 use crate::before::Before;
 use crate::places::{
-    COUNT_AT, HEADER_AT, INDEX_AT, RECORD_BYTES, UNDO_CAPACITY, WRITER_AT, record_place,
+    COUNT_AT, HEADER_AT, INDEX_AT, RECORD_BYTES, RECORD_KEY_AT, RECORD_LENGTH_AT, RECORD_PAGE_AT,
+    RECORD_SLOT_AT, RECORD_STATE_AT, RECORD_VALUE_AT, UNDO_CAPACITY, WRITER_AT, record_place,
 };
 use crate::record::{UndoRecord, is_place};
+use clone_base::VALUE_LIMIT;
 use clone_model::Value;
 use clone_page::{Page, u8_at, u16_at, u32_at, u64_at};
-
-// Where the fields of a record stand in its bytes. The table comes first.
-const PAGE_AT: usize = 4;
-
-const SLOT_AT: usize = 8;
-
-const STATE_AT: usize = 10;
-
-const LENGTH_AT: usize = 11;
-
-const KEY_AT: usize = 16;
-
-const VALUE_AT: usize = 24;
 
 /// The header of an undo slot that is in use.
 #[derive(Clone, Copy, Debug, PartialEq, Eq)]
@@ -72,9 +61,9 @@ pub fn record_at(page: &Page, number: usize) -> Option<UndoRecord>
 {
     let bytes = record_bytes(page, number);
     let table = u32_at(bytes, 0);
-    let row_page = u32_at(bytes, PAGE_AT);
-    let slot = u16_at(bytes, SLOT_AT);
-    let key = u64_at(bytes, KEY_AT);
+    let row_page = u32_at(bytes, RECORD_PAGE_AT);
+    let slot = u16_at(bytes, RECORD_SLOT_AT);
+    let key = u64_at(bytes, RECORD_KEY_AT);
     if !is_place(table, row_page, slot) {
         return None;
     }
@@ -96,8 +85,8 @@ pub fn last_record(page: &Page, count: u16) -> Option<UndoRecord>
 // The bytes of the record of this number.
 fn record_bytes(page: &Page, number: usize) -> &[u8]
     requires { number < places.capacity }
-    ensures value { result.now ≡ part (places.record_place number) 96 page.now }
-    ensures long { length result.now ≡ 96 }
+    ensures value { result.now ≡ part (places.record_place number) RECORD_BYTES page.now }
+    ensures long { length result.now ≡ RECORD_BYTES }
 {
     let at = record_place(number);
     &page.bytes()[at..at + RECORD_BYTES]
@@ -106,31 +95,34 @@ fn record_bytes(page: &Page, number: usize) -> &[u8]
 // What the slot held before, by the bytes of a record, or none where the state or the length is out of
 // range.
 fn before_in(bytes: &[u8]) -> Option<Before>
-    requires { length bytes.now ≡ 96 }
-    ensures state { IfSome result (λ b. state_number b ≡ field 10 1 bytes.now) }
-    ensures value { IfSome result (λ b. value_before b ≡ part 24 (field 11 1 bytes.now) bytes.now) }
+    requires { length bytes.now ≡ RECORD_BYTES }
+    ensures state { IfSome result (λ b. state_number b ≡ field RECORD_STATE_AT 1 bytes.now) }
+    ensures value { IfSome result (λ b. value_before b
+        ≡ part RECORD_VALUE_AT (field RECORD_LENGTH_AT 1 bytes.now) bytes.now) }
     ensures ranges { IfSome result (λ b. IsBefore (state_number b) (value_before b)) }
-    ensures none { IfNone result (IsBefore (field 10 1 bytes.now) (part 24 (field 11 1 bytes.now) bytes.now) → ⊥) }
+    ensures none { IfNone result (IsBefore (field RECORD_STATE_AT 1 bytes.now)
+        (part RECORD_VALUE_AT (field RECORD_LENGTH_AT 1 bytes.now) bytes.now) → ⊥) }
 {
-    let long = u8_at(bytes, LENGTH_AT);
-    match u8_at(bytes, STATE_AT) {
+    let long = u8_at(bytes, RECORD_LENGTH_AT);
+    match u8_at(bytes, RECORD_STATE_AT) {
         1 => present_in(bytes, long),
         2 if long == 0 => Some(Before::Absent),
         _ => None,
     }
 }
 
-// A row with the value of so many bytes in a record, or none where they are more than 64.
+// A row with the value of so many bytes in a record, or none where they are more than a value has.
 fn present_in(bytes: &[u8], long: u8) -> Option<Before>
-    requires { length bytes.now ≡ 96 }
+    requires { length bytes.now ≡ RECORD_BYTES }
     ensures state { IfSome result (λ b. state_number b ≡ 1) }
-    ensures value { IfSome result (λ b. value_before b ≡ part 24 long bytes.now) }
-    ensures short { IfSome result (λ b. length (value_before b) ≤ 64) }
-    ensures none { IfNone result (64 < long) }
+    ensures value { IfSome result (λ b. value_before b ≡ part RECORD_VALUE_AT long bytes.now) }
+    ensures short { IfSome result (λ b. length (value_before b) ≤ VALUE_LIMIT) }
+    ensures none { IfNone result (VALUE_LIMIT < long) }
 {
-    if long > 64 {
+    let long = long as usize;
+    if long > VALUE_LIMIT {
         return None;
     }
-    let value = Value::new(&bytes[VALUE_AT..VALUE_AT + long as usize])?;
+    let value = Value::new(&bytes[RECORD_VALUE_AT..RECORD_VALUE_AT + long])?;
     Some(Before::Present(value))
 }

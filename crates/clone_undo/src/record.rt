@@ -4,8 +4,13 @@ ghost use Rattle.clone_undo.specs.Entries.{IsPlace, IsBefore, IsEntry, state_num
 ghost use Rattle.clone_undo.specs.Changes.{slot_before};
 
 use crate::before::Before;
-use crate::places::RECORD_BYTES;
-use clone_page::{SLOT_BYTES, SLOT_COUNT, put};
+use crate::places::{
+    RECORD_BYTES, RECORD_KEY_AT, RECORD_PAGE_AT, RECORD_SLOT_AT, RECORD_STATE_AT, RECORD_VALUE_AT,
+    TABLE_PAGE_LIMIT,
+};
+use clone_base::VALUE_LIMIT;
+use clone_model::HIGHEST_TABLE;
+use clone_page::{SLOT_BYTES, SLOT_COUNT, SLOT_KEY_AT, SLOT_VALUE_AT, put};
 use std::marker::Model;
 
 /// One change of a row slot: which slot it was, and what it held before. The table is from 1 to
@@ -25,7 +30,14 @@ impl Model for UndoRecord {
 
     ghost Value = { UndoEntry };
 
-    ghost view = { λ r. record { table = r.table; page = r.page; slot = r.slot; state = state_number r.before; key = r.key; value = value_before r.before } };
+    ghost view = { λ r. record {
+      table = r.table;
+      page = r.page;
+      slot = r.slot;
+      state = state_number r.before;
+      key = r.key;
+      value = value_before r.before;
+    } };
 
     ghost invariant = { λ r. IsPlace r.table r.page r.slot };
 }
@@ -34,7 +46,14 @@ impl UndoRecord {
     /// A change of the key's slot, which held this before.
     pub fn new(table: u32, page: u32, slot: u16, key: u64, before: Before) -> UndoRecord
         requires { IsPlace table page slot }
-        ensures { result ≡ record { table = table; page = page; slot = slot; state = state_number before; key = key; value = value_before before } }
+        ensures { result ≡ record {
+          table = table;
+          page = page;
+          slot = slot;
+          state = state_number before;
+          key = key;
+          value = value_before before;
+        } }
     {
         UndoRecord {
             table,
@@ -95,7 +114,7 @@ impl UndoRecord {
     /// The value before, which is empty where the slot held no row.
     pub fn value(&self) -> &[u8]
         ensures value { result.now ≡ self.now.value }
-        ensures short { length self.now.value ≤ 64 }
+        ensures short { length self.now.value ≤ VALUE_LIMIT }
     {
         match &self.before {
             Before::Present(value) => value.bytes(),
@@ -112,7 +131,7 @@ impl UndoRecord {
     }
 
     /// The bytes of the record.
-    pub fn image(&self) -> [u8; 96]
+    pub fn image(&self) -> [u8; RECORD_BYTES]
         ensures bytes { result ≡ entry_bytes self.now }
         ensures ranges { IsEntry self.now }
     {
@@ -120,23 +139,24 @@ impl UndoRecord {
         let value = self.value();
         let mut bytes = [0; RECORD_BYTES];
         put(&mut bytes, 0, &self.table.to_be_bytes());
-        put(&mut bytes, 4, &self.page.to_be_bytes());
-        put(&mut bytes, 8, &self.slot.to_be_bytes());
-        put(&mut bytes, 10, &[self.state(), value.len() as u8]);
-        put(&mut bytes, 16, &self.key.to_be_bytes());
-        put(&mut bytes, 24, value);
+        put(&mut bytes, RECORD_PAGE_AT, &self.page.to_be_bytes());
+        put(&mut bytes, RECORD_SLOT_AT, &self.slot.to_be_bytes());
+        let state = [self.state(), value.len() as u8];
+        put(&mut bytes, RECORD_STATE_AT, &state);
+        put(&mut bytes, RECORD_KEY_AT, &self.key.to_be_bytes());
+        put(&mut bytes, RECORD_VALUE_AT, value);
         bytes
     }
 
     /// The bytes of the row slot before the change.
-    pub fn slot_before(&self) -> [u8; 80]
+    pub fn slot_before(&self) -> [u8; SLOT_BYTES]
         ensures { result ≡ slot_before self.now }
     {
         let value = self.value();
         let mut bytes = [0; SLOT_BYTES];
         put(&mut bytes, 0, &[self.state(), value.len() as u8]);
-        put(&mut bytes, 8, &self.key.to_be_bytes());
-        put(&mut bytes, 16, value);
+        put(&mut bytes, SLOT_KEY_AT, &self.key.to_be_bytes());
+        put(&mut bytes, SLOT_VALUE_AT, value);
         bytes
     }
 }
@@ -157,5 +177,5 @@ fn known_before(before: &Before)
 pub fn is_place(table: u32, page: u32, slot: u16) -> bool
     ensures { IsTrue result ↔ IsPlace table page slot }
 {
-    1 <= table && table <= 1_000_000 && page < 65_536 && slot < SLOT_COUNT
+    1 <= table && table <= HIGHEST_TABLE && page < TABLE_PAGE_LIMIT && slot < SLOT_COUNT
 }

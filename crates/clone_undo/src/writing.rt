@@ -29,7 +29,12 @@ pub fn begin_records(slot: u32, writer: u32, index: u64) -> [Record; 2]
 /// A change is made behind `count` others: its undo record, the new count, and the row slot that the
 /// record names, which gets the bytes of `image`. The first record makes the page of the undo record.
 /// Where that page is in use, only the others are written.
-pub fn change_records(slot: u32, count: u16, entry: &UndoRecord, image: &[u8; 80]) -> [Record; 4]
+pub fn change_records(
+    slot: u32,
+    count: u16,
+    entry: &UndoRecord,
+    image: &[u8; SLOT_BYTES],
+) -> [Record; 4]
     requires slot { slot < places.slot_count }
     requires room { count < places.capacity }
     ensures { result ≡ records_of_change true false slot count entry.now image.now }
@@ -48,7 +53,7 @@ pub fn first_change_records(
     slot: u32,
     count: u16,
     entry: &UndoRecord,
-    image: &[u8; 80],
+    image: &[u8; SLOT_BYTES],
 ) -> [Record; 5]
     requires slot { slot < places.slot_count }
     requires room { count < places.capacity }
@@ -107,7 +112,7 @@ fn made(page: u32) -> Record
 }
 
 // The header of a slot that is in use and has no records.
-fn header_of(writer: u32, index: u64) -> [u8; 16]
+fn header_of(writer: u32, index: u64) -> [u8; HEADER_BYTES]
     ensures { result ≡ header_bytes 0 writer index }
 {
     let mut bytes = [0; HEADER_BYTES];
@@ -142,7 +147,7 @@ fn count_write(slot: u32, count: u16) -> Record
 }
 
 // The row slot that the record names gets these bytes.
-fn row_write(entry: &UndoRecord, image: &[u8; 80]) -> Record
+fn row_write(entry: &UndoRecord, image: &[u8; SLOT_BYTES]) -> Record
     ensures { result ≡ row_record entry.now image.now }
 {
     Record::Write {

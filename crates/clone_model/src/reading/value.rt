@@ -4,15 +4,17 @@ ghost use Rattle.clone_model.specs.Texts as texts;
 ghost use Rattle.clone_model.specs.Lines.{IsScriptValue};
 ghost use Rattle.clone_model.specs.Reading.{IsValue, IsValueOrNone, AreBytes, IsFront};
 
-use crate::{ScriptValue, Value};
+use crate::{LONGEST_SCRIPT_VALUE, ScriptValue, Value};
+use clone_base::VALUE_LIMIT;
 use std::alloc::{AllocError, Global};
 
-/// The value that the whole text shows: a dash for the empty one, or two lower-case hex digits for each of its bytes.
+/// The value that the whole text shows: a dash for the empty one, or two lower-case hex digits for each
+/// of its bytes.
 pub fn value_of(text: &[u8]) -> Option<Value>
     ensures some { IfSome result (λ v. IsValue v × (text.now ≡ value_text v)) }
     ensures only { (v : List ℕ) → IsValue v → text.now ≡ value_text v → result ≡ Some v }
 {
-    let mut room = [0; 64];
+    let mut room = [0; VALUE_LIMIT];
     let len = decode_value(text, &mut room)?;
     Value::new(&room[..len])
 }
@@ -20,10 +22,12 @@ pub fn value_of(text: &[u8]) -> Option<Value>
 /// The value of at most 1,024 bytes that the whole text shows, in the form of `value_of`. None where
 /// it shows no such value.
 pub fn script_value_of(alloc: Global, text: &[u8]) -> Result<Option<ScriptValue>, AllocError>
-    ensures some { IfOk result (λ read. IfSome read (λ v. IsScriptValue v × (text.now ≡ value_text v))) }
-    ensures only { IfOk result (λ read. (v : List ℕ) → IsScriptValue v → text.now ≡ value_text v → read ≡ Some v) }
+    ensures some { IfOk result
+        (λ read. IfSome read (λ v. IsScriptValue v × (text.now ≡ value_text v))) }
+    ensures only { IfOk result
+        (λ read. (v : List ℕ) → IsScriptValue v → text.now ≡ value_text v → read ≡ Some v) }
 {
-    let mut room = [0; 1_024];
+    let mut room = [0; LONGEST_SCRIPT_VALUE];
     match decode_value(text, &mut room) {
         Some(len) => ScriptValue::new(alloc, &room[..len]),
         None => Ok(None),
@@ -33,7 +37,8 @@ pub fn script_value_of(alloc: Global, text: &[u8]) -> Result<Option<ScriptValue>
 /// The value that the whole text shows, or none where the text says that there is none.
 pub fn value_or_none(text: &[u8]) -> Option<Option<Value>>
     ensures some { IfSome result (λ v. IsValueOrNone v × (text.now ≡ texts.value_or_none v)) }
-    ensures only { (v : Option (List ℕ)) → IsValueOrNone v → text.now ≡ texts.value_or_none v → result ≡ Some v }
+    ensures only { (v : Option (List ℕ)) → IsValueOrNone v → text.now ≡ texts.value_or_none v
+        → result ≡ Some v }
 {
     if text == b"none".as_slice() {
         return Some(None);
@@ -44,7 +49,8 @@ pub fn value_or_none(text: &[u8]) -> Option<Option<Value>>
 /// Puts the bytes of the value that the whole text shows at the front of the room, and says how many
 /// they are. None where the text shows no value that fits.
 fn decode_value(text: &[u8], room: &mut [u8]) -> Option<usize>
-    ensures some { IfSome result (λ n. IsFront n room.new × (text.now ≡ value_text (take n room.new))) }
+    ensures some { IfSome result
+        (λ n. IsFront n room.new × (text.now ≡ value_text (take n room.new))) }
     ensures only { (v : List ℕ) → length v ≤ length room.old → AreBytes v → text.now ≡ value_text v
         → IsSomeAnd result (λ n. take n room.new ≡ v) }
     ensures same_room { length room.new ≡ length room.old }

@@ -1,5 +1,4 @@
-use Rattle.std.proofs.Common.{◌+◌, arith, refl}
-use Rattle.std.proofs.lemmas.Result.{err_from_is_err_and}
+use Rattle.std.proofs.Common.{◌+◌, arith}
 use Rattle.clone_recover.proofs.Slots.{counts_more}
 use Rattle.clone_recover.proofs.rollback.check_counts.Goals as goal
 

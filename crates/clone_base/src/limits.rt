@@ -1,0 +1,20 @@
+/// How many bytes a page has.
+pub const PAGE_SIZE: usize = 4_096;
+
+/// The LSN at which the log begins.
+pub const FIRST_LSN: u64 = 8_192;
+
+/// Each log ends below this LSN.
+pub const LSN_LIMIT: u64 = 1 << 39;
+
+/// How many bytes the value of a row may have.
+pub const VALUE_LIMIT: usize = 64;
+
+/// How many tables there may be.
+pub const TABLE_LIMIT: usize = 62;
+
+/// How many transactions may be open. Their numbers are below it.
+pub const TRANSACTION_LIMIT: u32 = 64;
+
+/// How many changes a transaction may have.
+pub const CHANGE_LIMIT: usize = 160;
