@@ -1,6 +1,6 @@
 -- What recovery's edits of pages do to contents.
 use Rattle.std.proofs.Common.{◌≡◌, ◌≢◌, ◌<◌, ◌≤◌, ◌+◌, ◌⊎◌, ℕ, cond, ltb, List, [], length, replicate, set, refl, sym, ap, subst, ◌∙◌, arith, inl, inr, Option, Some, None, unwrap_or}
-use Rattle.clone_contents.proofs.Common.{cases_eq, put_at, field, entry_space, position_at, kind_of, slot_at, length-put_at, kind_of-put_body, slot-put_same, slot-put_other, field-put_front, slots, slot_in, slot_of, row_slot, unused, slots-set, length-image, slot_of-image, UndoEntry, header_page, header_place, UndoSlot, is_in_use, entries, writer_of, index_of, count_of, slot_before, not_in_use, Image, page_of, all_pages, with_edit, edited, undo_slot_of, page_of-edited_same, page_of-edited_other, all_pages-is, page_count-edited, Contents, contents_of, told_value, undone, with_undo, IsFormed, IsOrUnused, MayUndo}
+use Rattle.clone_contents.proofs.Common.{cases_eq, put_at, field, entry_space, position_at, kind_of, slot_at, length-put_at, kind_of-put_body, slot-put_same, slot-put_other, field-put_front, slots, slot_of, row_slot, slots-set, length-image, slot_of-image, UndoEntry, header_page, header_place, UndoSlot, is_in_use, entries, writer_of, index_of, count_of, slot_before, not_in_use, Image, page_of, all_pages, with_edit, edited, undo_slot_of, page_of-edited_same, page_of-edited_other, all_pages-is, page_count-edited, Contents, contents_of, told_value, undone, with_undo, IsFormed, IsOrUnused, MayUndo}
 use Rattle.clone_row.specs.Slots as rows
 use Rattle.clone_undo.proofs.Effects as undo
 use Rattle.clone_image.specs.Recovered as recovered

@@ -1,6 +1,5 @@
 -- The words that the lemmas of this crate share.
 pub use Rattle.std.proofs.lemmas.Bool.{cases_eq}
-pub use Rattle.std.proofs.lemmas.Cmp.{eq_by_cmp_equiv}
 pub use Rattle.std.proofs.lemmas.List.{length_push, take-append-le}
 pub use Rattle.std.proofs.lemmas.Option.{none-some, same_Some, slice_get_within, slice_get-get_or}
 pub use Rattle.std.specs.Cmp.{nat_cmp_total}

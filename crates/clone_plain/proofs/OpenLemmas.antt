@@ -1,6 +1,6 @@
 -- The open transactions stay few, with few changes each, when one is set, removed or loses its last change.
-use Rattle.std.proofs.Common.{◌≡◌, ◌≢◌, ◌<◌, ◌≤◌, ℕ, length, refl, sym, ap, subst, ◌∙◌, inl, inr, Some, None, IsSome, is_some, Option, nat_cmp}
-use Rattle.clone_plain.proofs.Common.{nat_cmp-IsAntisymmetric, get-empty, nat_cmp_total, cases_eq, same_Some, none-some, Commit, transaction_limit, change_limit, Opened, AreFew, get-set_same, get-set_other}
+use Rattle.std.proofs.Common.{◌≡◌, ◌≢◌, ◌<◌, ◌≤◌, ℕ, length, refl, sym, ap, subst, ◌∙◌, inl, inr, Some, None, IsSome, is_some, Option}
+use Rattle.clone_plain.proofs.Common.{nat_cmp-IsAntisymmetric, nat_cmp_total, cases_eq, same_Some, Commit, transaction_limit, change_limit, Opened, AreFew, get-set_same, get-set_other}
 use Rattle.std.specs.FinMap as finite
 use Rattle.clone_base.proofs.OrderedMaps.{get-remove_some}
 

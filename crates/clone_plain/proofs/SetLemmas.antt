@@ -1,5 +1,5 @@
 -- The commit of a `set` is of its writer, and has its one change.
-use Rattle.std.proofs.Common.{◌≡◌, ℕ, ◌+◌, ◌-◌, ◌<◌, List, [], ◌∷◌, ◌++◌, length, Bool, cond, sym, ap, ◌∙◌, subst, arith, length-append, append_assoc, Option, Some, unwrap_or, slice_get, filter_map, nat_cmp}
+use Rattle.std.proofs.Common.{◌≡◌, ℕ, ◌+◌, ◌-◌, ◌<◌, List, [], ◌∷◌, ◌++◌, length, sym, ap, ◌∙◌, subst, arith, length-append, append_assoc, Some, slice_get, filter_map}
 use Rattle.clone_plain.proofs.Common.{nat_cmp_total, nat_cmp-IsAntisymmetric, get-set_same, same_Some, slice_get-get_or, Change, Commit, Line, Donor, begun, put_of, with_change, Changes, did_begin, did_put, did_commit, Made, done, PlainStep, World, Event, made, Happens, Events, MakesSet, not_begun, not_changed, set, Runs, committed_at, IsSet, AreSets}
 use Rattle.std.specs.FinMap as finite
 use Rattle.std.proofs.Math.Seq.{get_or-append_seam}
