@@ -15,7 +15,7 @@ pub use Rattle.clone_undo.specs.Entries.{IsBefore, entry_of}
 pub use Rattle.clone_undo.specs.Places.{capacity, count_place}
 pub use Rattle.clone_undo.specs.Slots.{entry_on}
 pub use Rattle.clone_image.specs.Image.{MakesNoPage}
-pub use Rattle.clone_image.specs.Recovered.{recovered, system_pages, taken_back_below}
+pub use Rattle.clone_image.specs.Recovered.{recovered, system_pages}
 pub use Rattle.clone_image.specs.Replay.{first_lsn}
 pub use Rattle.clone_image.specs.Rows.{HasRows}
 pub use Rattle.clone_contents.proofs.ChangeLemmas.{undo_is, undo_there, change_is, page_there}
@@ -24,11 +24,11 @@ pub use Rattle.clone_contents.specs.Records.{system_size}
 pub use Rattle.clone_store.specs.Stored.{Writes, Keeps, Stored}
 pub use Rattle.clone_plain.proofs.LockLemmas.{taken_locked, committed_locked, begun_locked, left_locked, changed_locked}
 pub use Rattle.clone_plain.proofs.ValueLemmas.{changes_of_active, own-set, others-set, others-removed, taken_value, own_value, SameOthers, after_changes_same, committed_other, committed_value, begun_value, left_value, after_changes-append, value_is, changed_value, changed_value_other, taken_value_other}
-pub use Rattle.clone_plain.specs.Causes.{table_limit, change_cause, no_trx, whether, row_locked, least_unused, no_table, too_long, undo_full, locked_by, value_limit, create_cause, get_cause}
+pub use Rattle.clone_plain.specs.Causes.{table_limit, change_cause, no_trx, whether, row_locked, least_unused, no_table, too_long, undo_full, locked_by, value_limit, get_cause}
 pub use Rattle.clone_plain.specs.Donor.{Locks, history}
 pub use Rattle.clone_plain.specs.Effects.{created, Gets}
 pub use Rattle.clone_plain.specs.declared.refusal.Cause.{Cause}
-pub use Rattle.clone_plain.specs.declared.refusal.Cause.TheVariants.{NoSuchTable, SpaceFull, NoSuchTrx, TableExists, RowLocked, ValueTooLong, UndoFull, TooManyTables}
+pub use Rattle.clone_plain.specs.declared.refusal.Cause.TheVariants.{NoSuchTable, SpaceFull, NoSuchTrx, RowLocked, ValueTooLong, UndoFull}
 pub use Rattle.clone_trx.specs.Engine.{EngineState, page_number, donor_of}
 pub use Rattle.clone_trx.specs.Keys.{keys_in, BindsKey, Keys, full_cause, may_hold}
 pub use Rattle.clone_trx.specs.Locked.{holders_of, without, Lists, list_at, AreListed}

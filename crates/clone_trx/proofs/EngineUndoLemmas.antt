@@ -1,6 +1,6 @@
 -- Taking back, as the engine does it.
 use Rattle.std.proofs.Common.{◌≡◌, ◌≢◌, ◌<◌, ◌+◌, ◌-◌, ◌%◌, ◌==◌, ◌++◌, ℕ, List, [], ◌∷◌, length, take, cond, refl, sym, ap, subst, ◌∙◌, arith, inl, inr, Option, Some, None, MatchOption, slice_get, unwrap_or, take_at}
-use Rattle.clone_trx.proofs.Common.{length_push, slice_get-pushed_last, after_changes, Change, Commit, slots, bound_key, Finds, UndoEntry, IsBefore, UndoSlot, records_of_taking_back, Image, all_pages, after_records, undo_slot_of, contents_of, told_value, undo_is, undo_there, Donor, TakesBack, Opened, committed_rows, value_of, changes_of_active, taken_value, EngineState, page_number, Pops, TakesLast, front_of, told, state_of_row, IsKept, TellsChange, TellsChanges, Appends, AppendsTakingBack}
+use Rattle.clone_trx.proofs.Common.{length_push, slice_get-pushed_last, after_changes, Change, Commit, slots, bound_key, Finds, UndoEntry, IsBefore, UndoSlot, records_of_taking_back, Image, all_pages, after_records, undo_slot_of, contents_of, told_value, undo_is, undo_there, Donor, TakesBack, Opened, committed_rows, value_of, changes_of_active, taken_value, EngineState, page_number, Pops, TakesLast, front_of, told, state_of_row, IsKept, TellsChange, Appends, AppendsTakingBack}
 use Rattle.std.specs.FinMap as finite
 use Rattle.clone_contents.proofs.RowSlots.{slot_is}
 use Rattle.clone_trx.proofs.LastRecordLemmas.{HasRecords}
