@@ -1,22 +1,8 @@
 -- A change, for the contents.
-use Rattle.std.proofs.Common.{◌≡◌, ◌≢◌, ◌<◌, ◌%◌, ◌++◌, ◌==◌, ℕ, Bool, true, cond, List, [], ◌∷◌, length, sym, ap, ◌∙◌, arith, inl, inr, Option, Some, None}
-use Rattle.std.proofs.lemmas.Bool.{lt-ltb}
-use Rattle.clone_page.specs.Header.{kind_of}
-use Rattle.clone_mtr.specs.declared.record.Record.{Record}
+use Rattle.std.proofs.Common.{◌≡◌, ◌≢◌, ◌<◌, ◌%◌, ◌++◌, ◌==◌, ℕ, Bool, true, cond, List, [], ◌∷◌, length, sym, ap, ◌∙◌, arith, inl, inr, Option, Some, None, lt-ltb}
+use Rattle.clone_contents.proofs.Common.{kind_of, Record, length-image, UndoEntry, header_page, record_page, UndoSlot, records_of_change, after, AreWhole, slot-tells, Image, page_of, all_pages, after_records, undo_slot_of, all_pages-is, contents_of, HasPage, IsFormed, IsOrUnused, HasContents, is_unused, MayChange, changed, telling}
 use Rattle.clone_row.specs.Slots as rows
-use Rattle.clone_row.proofs.Rows.{length-image}
-use Rattle.clone_undo.specs.Entries.{UndoEntry}
-use Rattle.clone_undo.specs.Places.{header_page, record_page}
-use Rattle.clone_undo.specs.Slots.{UndoSlot}
-use Rattle.clone_undo.specs.Changes.{records_of_change, after, AreWhole}
-use Rattle.clone_undo.proofs.Headers.{slot-tells}
 use Rattle.clone_undo.proofs.Effects as undo
-use Rattle.clone_image.specs.Image.{Image, page_of, all_pages, after_records}
-use Rattle.clone_image.specs.Recovered.{undo_slot_of}
-use Rattle.clone_image.proofs.Pages.{all_pages-is}
-use Rattle.clone_contents.specs.Contents.{contents_of, HasPage}
-use Rattle.clone_contents.specs.Formed.{IsFormed, IsOrUnused, HasContents}
-use Rattle.clone_contents.specs.Steps.{is_unused, MayChange, changed, telling}
 use Rattle.clone_contents.proofs.ImagePages.{there, whole_slot}
 use Rattle.clone_contents.proofs.FittingRecords.{IsOfPlace, FitAll, undo_page, table_page}
 use Rattle.clone_contents.proofs.ChangeRecords.{change_fits, unused_page, used_kind}

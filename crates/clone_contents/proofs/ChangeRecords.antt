@@ -1,23 +1,7 @@
 -- What the records of a change leave of the pages that they name.
-use Rattle.std.proofs.Common.{◌≡◌, ◌≢◌, ◌<◌, ◌≤◌, ◌+◌, ◌*◌, ◌^◌, ◌==◌, ◌++◌, ◌⊎◌, ℕ, Bool, true, false, List, [], ◌∷◌, length, refl, sym, ap, ◌∙◌, arith, inl, inr, Option, set}
-use Rattle.std.specs.Prelude.{IfSome}
-use Rattle.std.proofs.lemmas.Bool.{eqb-true, eq-eqb}
-use Rattle.std.proofs.lemmas.List.{drop-replicate, take-replicate}
-use Rattle.byteorder.specs.Endian.{big_bytes}
-use Rattle.byteorder.specs.Numbers.{length-bytes_high_first}
-use Rattle.clone_page.specs.Bytes.{part, field}
-use Rattle.clone_page.specs.Header.{zero_page, kind_of, IsAllowed}
-use Rattle.clone_page.specs.declared.kind.PageKind.TheVariants.{Undo, Bucket}
-use Rattle.clone_page.proofs.Parts.{field-part, length-initialised}
-use Rattle.clone_mtr.specs.Effects.{effect}
-use Rattle.clone_mtr.specs.declared.record.Record.{Record}
-use Rattle.clone_mtr.specs.declared.record.Record.TheVariants.{Init}
-use Rattle.clone_row.specs.Slots.{slots, row_slot, image}
+use Rattle.std.proofs.Common.{◌≡◌, ◌≢◌, ◌<◌, ◌≤◌, ◌+◌, ◌*◌, ◌^◌, ◌==◌, ◌++◌, ◌⊎◌, ℕ, Bool, true, false, List, [], ◌∷◌, length, refl, sym, ap, ◌∙◌, arith, inl, inr, Option, set, IfSome, eqb-true, eq-eqb}
+use Rattle.clone_contents.proofs.Common.{drop-replicate, take-replicate, big_bytes, length-bytes_high_first, part, field, zero_page, kind_of, IsAllowed, Undo, Bucket, field-part, length-initialised, effect, Record, Init, slots, row_slot, image, slots-WritesSlot, slots-initialised, slots-zero, UndoEntry, IsEntry, entry_bytes, header_page, record_page, record_place, made_first, count_record, entry_record, row_record, records_of_change, after_record, after_row}
 use Rattle.clone_row.specs.Writes.{WritesSlot}
-use Rattle.clone_row.proofs.Rows.{slots-WritesSlot, slots-initialised, slots-zero}
-use Rattle.clone_undo.specs.Entries.{UndoEntry, IsEntry, entry_bytes}
-use Rattle.clone_undo.specs.Places.{header_page, record_page, record_place}
-use Rattle.clone_undo.specs.Changes.{made_first, count_record, entry_record, row_record, records_of_change, after_record, after_row}
 use Rattle.clone_undo.proofs.Entries.{length-entry_bytes}
 use Rattle.clone_contents.proofs.FittingRecords.{IsOfPlace, FitsOn, FitAll, stays, made_stands}
 

@@ -1,16 +1,6 @@
 -- A transaction commits, for the contents: it ends, and the position is written.
 use Rattle.std.proofs.Common.{◌≡◌, ◌<◌, ◌^◌, ◌≤◌, ℕ, [], ◌∷◌, length, sym, ap, ◌∙◌, arith, inr, Some}
-use Rattle.byteorder.specs.Endian.{big_bytes}
-use Rattle.byteorder.specs.Numbers.{length-bytes_high_first}
-use Rattle.clone_page.specs.Dictionary.{position_at}
-use Rattle.clone_page.proofs.Parts.{entry_space-put_position, field-put_at_same}
-use Rattle.clone_undo.specs.Slots.{UndoSlot}
-use Rattle.clone_undo.specs.Changes.{records_of_end}
-use Rattle.clone_image.specs.Image.{Image, all_pages, after_records}
-use Rattle.clone_contents.specs.Contents.{Contents, contents_of}
-use Rattle.clone_contents.specs.Formed.{IsFormed, HasContents}
-use Rattle.clone_contents.specs.Records.{commit_records, position_record}
-use Rattle.clone_contents.specs.Steps.{committed}
+use Rattle.clone_contents.proofs.Common.{big_bytes, length-bytes_high_first, position_at, entry_space-put_position, field-put_at_same, UndoSlot, records_of_end, Image, all_pages, after_records, Contents, contents_of, IsFormed, HasContents, commit_records, position_record, committed}
 use Rattle.clone_contents.proofs.SystemLemmas.{named_on, named_past, system_long, system_written}
 use Rattle.clone_contents.proofs.UndoSlotLemmas.{end_is}
 

@@ -1,26 +1,8 @@
 -- A table is made, for the contents: its space is made, and it is named in the dictionary.
-use Rattle.std.proofs.Common.{◌≡◌, ◌≢◌, ◌<◌, ◌≤◌, ◌+◌, ◌*◌, ◌⊎◌, ℕ, cond, eqb, List, [], ◌∷◌, length, get_or, replicate, take, refl, sym, ap, subst, ◌∙◌, arith, inl, inr, Option, Some, None}
-use Rattle.std.specs.Prelude.{unwrap_or, option_map, option_and_then, slice_get, slice_index, nat_lt}
+use Rattle.std.proofs.Common.{◌≡◌, ◌≢◌, ◌<◌, ◌≤◌, ◌+◌, ◌*◌, ◌⊎◌, ℕ, cond, eqb, List, [], ◌∷◌, length, get_or, replicate, take, refl, sym, ap, subst, ◌∙◌, arith, inl, inr, Option, Some, None, unwrap_or, option_map, option_and_then, slice_get, slice_index, nat_lt}
+use Rattle.clone_contents.proofs.Common.{drop-nil, cases_eq, cases_lt, get_or-replicate, length-replicate, same_Some, slice_get_within, slice_get-get_or, put_at, field, entry_at, entry, entry_space, position_at, zero_page, slot, entry_space-put_entry_same, entry_space-put_entry_other, field-put_at_other, Write, unused, slots, slot_in, slot_in-slots, slot_in-past, slot_of-unused, slots-zero, Image, page_of, all_pages, after_records, get-put_same, get-put_other, page_of-elsewhere, Contents, contents_of, set_at, IsFormed, IsOrUnused, HasContents, create_records, MayCreate, created}
 use Rattle.std.specs.FinMap as finite
-use Rattle.std.proofs.Math.Seq.{drop-nil}
-use Rattle.std.proofs.lemmas.Bool.{cases_eq, cases_lt}
-use Rattle.std.proofs.lemmas.List.{get_or-replicate, length-replicate}
-use Rattle.std.proofs.lemmas.Option.{same_Some, slice_get_within, slice_get-get_or}
-use Rattle.clone_page.specs.Bytes.{put_at, field}
-use Rattle.clone_page.specs.Dictionary.{entry_at, entry, entry_space, position_at}
-use Rattle.clone_page.specs.Header.{zero_page}
-use Rattle.clone_page.specs.Slots.{slot}
-use Rattle.clone_page.proofs.Parts.{entry_space-put_entry_same, entry_space-put_entry_other, field-put_at_other}
-use Rattle.clone_mtr.specs.declared.record.Record.TheVariants.{Write}
-use Rattle.clone_row.specs.Slots.{unused, slots, slot_in}
-use Rattle.clone_row.proofs.Rows.{slot_in-slots, slot_in-past, slot_of-unused, slots-zero}
 use Rattle.clone_undo.proofs.Effects as undo
-use Rattle.clone_image.specs.Image.{Image, page_of, all_pages, after_records}
-use Rattle.clone_image.proofs.Images.{get-put_same, get-put_other, page_of-elsewhere}
-use Rattle.clone_contents.specs.Contents.{Contents, contents_of, set_at}
-use Rattle.clone_contents.specs.Formed.{IsFormed, IsOrUnused, HasContents}
-use Rattle.clone_contents.specs.Records.{create_records}
-use Rattle.clone_contents.specs.Steps.{MayCreate, created}
 use Rattle.clone_contents.proofs.SameContents.{set_at-same, set_at-other, same_contents}
 use Rattle.clone_contents.proofs.SystemLemmas.{named_on, named_past, system_long, system_written}
 

@@ -1,11 +1,6 @@
 -- What is found on a page of a table is what the contents have there.
 use Rattle.std.proofs.Common.{◌≡◌, ◌≢◌, ℕ, List, sym, ap, ◌∙◌, inl, inr, Option, Some, None}
-use Rattle.std.proofs.lemmas.Bool.{cases_lt}
-use Rattle.clone_row.specs.Slots.{slots, slot_in, bound_key, Finds, FindsFree}
-use Rattle.clone_row.proofs.Rows.{slot_in-past}
-use Rattle.clone_image.specs.Image.{Image, page_of}
-use Rattle.clone_image.proofs.Pages.{all_pages-is}
-use Rattle.clone_contents.specs.Contents.{contents_of}
+use Rattle.clone_contents.proofs.Common.{cases_lt, slots, slot_in, bound_key, Finds, FindsFree, slot_in-past, Image, page_of, all_pages-is, contents_of}
 use Rattle.clone_contents.specs.Finding.{FindsIn, FindsFreeIn}
 use Rattle.clone_contents.proofs.RowSlots.{slot_is}
 

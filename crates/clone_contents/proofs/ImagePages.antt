@@ -1,16 +1,8 @@
 -- An image told by its pages, and what records that edit pages leave of them.
-use Rattle.std.proofs.Common.{◌≡◌, ◌<◌, ℕ, List, [], length, get_or, refl, sym, ap, ◌∙◌, arith, Option, Some, None}
-use Rattle.std.specs.Prelude.{slice_get, option_map, option_and_then}
-use Rattle.std.specs.List.{AllByRecursion}
+use Rattle.std.proofs.Common.{◌≡◌, ◌<◌, ℕ, List, [], length, get_or, refl, sym, ap, ◌∙◌, arith, Option, Some, None, slice_get, option_map, option_and_then}
+use Rattle.clone_contents.proofs.Common.{AllByRecursion, same_Some, slice_get-get_or, Record, undo_slot, after, AreWhole, Image, page_of, page_count, all_pages, after_records, EditsPages, AreWholePages, undo_slot_of, records_pages, all_pages-is}
 use Rattle.std.specs.FinMap as finite
-use Rattle.std.proofs.lemmas.Option.{same_Some, slice_get-get_or}
-use Rattle.clone_mtr.specs.declared.record.Record.{Record}
-use Rattle.clone_undo.specs.Slots.{undo_slot}
-use Rattle.clone_undo.specs.Changes.{after, AreWhole}
 use Rattle.clone_undo.proofs.Effects.{own}
-use Rattle.clone_image.specs.Image.{Image, page_of, page_count, all_pages, after_records, EditsPages, AreWholePages}
-use Rattle.clone_image.specs.Recovered.{undo_slot_of}
-use Rattle.clone_image.proofs.Pages.{records_pages, all_pages-is}
 
 -- Pages after records.
 

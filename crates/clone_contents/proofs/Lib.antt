@@ -1,3 +1,4 @@
+pub mod Common
 pub mod SameContents
 pub mod ImagePages
 pub mod FittingRecords

@@ -1,29 +1,8 @@
 -- What opening leaves, for the contents.
-use Rattle.std.proofs.Common.{◌≡◌, ◌≢◌, ◌<◌, ◌≤◌, ◌⊎◌, ℕ, Bool, true, false, cond, eqb, List, length, replicate, refl, sym, ap, ◌∙◌, arith, inl, inr, Option, Some, None}
-use Rattle.std.specs.Prelude.{option_map, nat_lt}
+use Rattle.std.proofs.Common.{◌≡◌, ◌≢◌, ◌<◌, ◌≤◌, ◌⊎◌, ℕ, Bool, true, false, cond, eqb, List, length, replicate, refl, sym, ap, ◌∙◌, arith, inl, inr, Option, Some, None, option_map, nat_lt, nat_cmp, eq-eqb, le-ltb}
+use Rattle.clone_contents.proofs.Common.{cases_eq, cases_lt, drop-replicate, take-replicate, length-replicate, same_Some, part, field, entry_space, position_at, zero_page, initialised, header, trailer, System, entry_space-initialised, field-part, part-zeros, length-initialised, unused, slots, slot_in, header_page, UndoSlot, active_of, slot-free, Image, page_of, all_pages, page_count, after_records, undo_slot_of, get-put_same, get-put_other, page_of-edited_same, page_of-edited_other, page_of-made, all_pages-is, page_count-edited, contents_of, set_at, IsFormed, HasContents, opening_records, opened}
 use Rattle.std.specs.FinMap as finite
 use Rattle.std.specs.FinMap.{get-empty}
-use Rattle.std.specs.Ordering.{nat_cmp}
-use Rattle.std.proofs.lemmas.Bool.{cases_eq, cases_lt, eq-eqb, le-ltb}
-use Rattle.std.proofs.lemmas.List.{drop-replicate, take-replicate, length-replicate}
-use Rattle.std.proofs.lemmas.Option.{same_Some}
-use Rattle.clone_page.specs.Bytes.{part, field}
-use Rattle.clone_page.specs.Dictionary.{entry_space, position_at}
-use Rattle.clone_page.specs.Header.{zero_page, initialised, header, trailer}
-use Rattle.clone_page.specs.declared.kind.PageKind.TheVariants.{System}
-use Rattle.clone_page.proofs.Parts.{entry_space-initialised, field-part, part-zeros, length-initialised}
-use Rattle.clone_row.specs.Slots.{unused, slots, slot_in}
-use Rattle.clone_undo.specs.Places.{header_page}
-use Rattle.clone_undo.specs.Slots.{UndoSlot, active_of}
-use Rattle.clone_undo.proofs.Headers.{slot-free}
-use Rattle.clone_image.specs.Image.{Image, page_of, all_pages, page_count, after_records}
-use Rattle.clone_image.specs.Recovered.{undo_slot_of}
-use Rattle.clone_image.proofs.Images.{get-put_same, get-put_other, page_of-edited_same, page_of-edited_other, page_of-made}
-use Rattle.clone_image.proofs.Pages.{all_pages-is, page_count-edited}
-use Rattle.clone_contents.specs.Contents.{contents_of, set_at}
-use Rattle.clone_contents.specs.Formed.{IsFormed, HasContents}
-use Rattle.clone_contents.specs.Records.{opening_records}
-use Rattle.clone_contents.specs.Steps.{opened}
 use Rattle.clone_contents.proofs.SameContents.{set_at-same, set_at-other, same_contents}
 use Rattle.clone_contents.proofs.SystemLemmas.{named_on, named_past}
 use Rattle.clone_contents.proofs.CreateLemmas.{no_slot, made_zeros, absent}

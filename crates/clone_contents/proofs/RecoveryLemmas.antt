@@ -1,29 +1,9 @@
 -- What recovery's edits of pages do to contents.
-use Rattle.std.proofs.Common.{◌≡◌, ◌≢◌, ◌<◌, ◌≤◌, ◌+◌, ◌⊎◌, ℕ, cond, ltb, List, [], length, replicate, set, refl, sym, ap, subst, ◌∙◌, arith, inl, inr, Option, Some, None}
-use Rattle.std.specs.Prelude.{unwrap_or}
-use Rattle.std.proofs.lemmas.Bool.{cases_eq}
-use Rattle.clone_page.specs.Bytes.{put_at, field}
-use Rattle.clone_page.specs.Dictionary.{entry_space, position_at}
-use Rattle.clone_page.specs.Header.{kind_of}
-use Rattle.clone_page.specs.Slots.{slot_at}
-use Rattle.clone_page.proofs.Parts.{length-put_at, kind_of-put_body, slot-put_same, slot-put_other, field-put_front}
+use Rattle.std.proofs.Common.{◌≡◌, ◌≢◌, ◌<◌, ◌≤◌, ◌+◌, ◌⊎◌, ℕ, cond, ltb, List, [], length, replicate, set, refl, sym, ap, subst, ◌∙◌, arith, inl, inr, Option, Some, None, unwrap_or}
+use Rattle.clone_contents.proofs.Common.{cases_eq, put_at, field, entry_space, position_at, kind_of, slot_at, length-put_at, kind_of-put_body, slot-put_same, slot-put_other, field-put_front, slots, slot_of, row_slot, slots-set, length-image, slot_of-image, UndoEntry, header_page, header_place, UndoSlot, is_in_use, entries, writer_of, index_of, count_of, slot_before, not_in_use, Image, page_of, all_pages, with_edit, edited, undo_slot_of, page_of-edited_same, page_of-edited_other, all_pages-is, page_count-edited, Contents, contents_of, told_value, undone, with_undo, IsFormed, IsOrUnused, MayUndo}
 use Rattle.clone_row.specs.Slots as rows
-use Rattle.clone_row.specs.Slots.{slots, slot_in, slot_of, row_slot, unused}
-use Rattle.clone_row.proofs.Rows.{slots-set, length-image, slot_of-image}
-use Rattle.clone_undo.specs.Entries.{UndoEntry}
-use Rattle.clone_undo.specs.Places.{header_page, header_place}
-use Rattle.clone_undo.specs.Slots.{UndoSlot, is_in_use, entries, writer_of, index_of, count_of}
-use Rattle.clone_undo.specs.Changes.{slot_before}
-use Rattle.clone_undo.proofs.Headers.{not_in_use}
 use Rattle.clone_undo.proofs.Effects as undo
-use Rattle.clone_image.specs.Image.{Image, page_of, all_pages, with_edit, edited}
 use Rattle.clone_image.specs.Recovered as recovered
-use Rattle.clone_image.specs.Recovered.{undo_slot_of}
-use Rattle.clone_image.proofs.Images.{page_of-edited_same, page_of-edited_other}
-use Rattle.clone_image.proofs.Pages.{all_pages-is, page_count-edited}
-use Rattle.clone_contents.specs.Contents.{Contents, contents_of, told_value, undone, with_undo}
-use Rattle.clone_contents.specs.Formed.{IsFormed, IsOrUnused}
-use Rattle.clone_contents.specs.Steps.{MayUndo}
 use Rattle.clone_contents.proofs.SameContents.{same_contents}
 use Rattle.clone_contents.proofs.ImagePages.{there}
 use Rattle.clone_contents.proofs.UndoEntries.{slot_before-is, told_short}

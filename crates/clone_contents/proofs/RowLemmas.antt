@@ -1,19 +1,8 @@
 -- The rows of an image are those of its contents.
-use Rattle.std.proofs.Common.{◌≡◌, ◌≢◌, ◌<◌, ℕ, ◌+◌, ◌*◌, List, [], take, refl, sym, ap, subst, ◌∙◌, arith, inl, inr, Option, Some, None}
-use Rattle.std.specs.Prelude.{IsSomeAnd, slice_index, unwrap_or}
-use Rattle.std.proofs.Math.Seq.{drop-nil}
-use Rattle.std.proofs.lemmas.Bool.{cases_lt}
-use Rattle.std.proofs.lemmas.Option.{same_Some}
+use Rattle.std.proofs.Common.{◌≡◌, ◌≢◌, ◌<◌, ℕ, ◌+◌, ◌*◌, List, [], take, refl, sym, ap, subst, ◌∙◌, arith, inl, inr, Option, Some, None, IsSomeAnd, slice_index, unwrap_or}
+use Rattle.clone_contents.proofs.Common.{drop-nil, cases_lt, same_Some, Lists, entry_space, slot, Slot, unused, present, absent, damaged, slots, slot_in, slot_of, row_in, bound_key, slot_in-slots, slot_in-past, slot_of-unused, row_in-slot_of, Image, page_of, all_pages, all_pages-is, contents_of, IsFormed}
 use Rattle.clone_model.specs.History.{Row}
-use Rattle.clone_page.specs.Dictionary.{Lists, entry_space}
-use Rattle.clone_page.specs.Slots.{slot}
-use Rattle.clone_row.specs.Slots.{Slot, unused, present, absent, damaged, slots, slot_in, slot_of, row_in, bound_key}
-use Rattle.clone_row.proofs.Rows.{slot_in-slots, slot_in-past, slot_of-unused, row_in-slot_of}
-use Rattle.clone_image.specs.Image.{Image, page_of, all_pages}
 use Rattle.clone_image.specs.Rows.{IsRow}
-use Rattle.clone_image.proofs.Pages.{all_pages-is}
-use Rattle.clone_contents.specs.Contents.{contents_of}
-use Rattle.clone_contents.specs.Formed.{IsFormed}
 use Rattle.clone_contents.specs.Rows.{IsRowIn}
 use Rattle.clone_contents.proofs.ImagePages.{there}
 use Rattle.clone_contents.proofs.SystemLemmas.{named_on, named_past}

@@ -1,11 +1,6 @@
 -- One slot of a page of a table was set.
-use Rattle.std.proofs.Common.{◌≡◌, ◌≢◌, ◌<◌, ◌⊎◌, ℕ, cond, eqb, set, sym, ap, ◌∙◌, arith, inl, inr}
-use Rattle.std.proofs.lemmas.Bool.{cases_eq, eq-eqb, ne_eqb}
-use Rattle.std.proofs.lemmas.List.{get_or-set_same, get_or-set_other}
-use Rattle.clone_row.specs.Slots.{Slot, unused, slots, slot_in}
-use Rattle.clone_row.proofs.Rows.{length-slots}
-use Rattle.clone_image.specs.Image.{Image, all_pages}
-use Rattle.clone_contents.specs.Contents.{contents_of, with_slot}
+use Rattle.std.proofs.Common.{◌≡◌, ◌≢◌, ◌<◌, ◌⊎◌, ℕ, cond, eqb, set, sym, ap, ◌∙◌, arith, inl, inr, eq-eqb, ne_eqb, get_or-set_same, get_or-set_other}
+use Rattle.clone_contents.proofs.Common.{cases_eq, Slot, unused, slots, slot_in, length-slots, Image, all_pages, contents_of, with_slot}
 use Rattle.clone_contents.proofs.SameContents.{cases_place, slot-same, slot-other}
 
 -- the slot of a table that is on a page

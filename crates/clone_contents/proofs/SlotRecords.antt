@@ -1,22 +1,7 @@
 -- Mini-transactions that change one undo slot, and at most one row slot.
-use Rattle.std.proofs.Common.{◌≡◌, ◌≢◌, ◌<◌, ◌≤◌, ◌⊎◌, ◌==◌, ℕ, Bool, cond, ltb, List, [], length, set, sym, ap, ◌∙◌, arith, inl, inr, Option, Some, None}
-use Rattle.std.specs.Prelude.{IfSome, unwrap_or}
-use Rattle.std.specs.List.{AllByRecursion}
-use Rattle.std.proofs.lemmas.Bool.{cases_eq, cases_lt, lt-ltb, le-ltb}
-use Rattle.clone_page.specs.Bytes.{field}
-use Rattle.clone_page.specs.Dictionary.{entry_space, position_at}
-use Rattle.clone_page.specs.Header.{kind_of}
-use Rattle.clone_mtr.specs.declared.record.Record.{Record}
+use Rattle.std.proofs.Common.{◌≡◌, ◌≢◌, ◌<◌, ◌≤◌, ◌⊎◌, ◌==◌, ℕ, Bool, cond, ltb, List, [], length, set, sym, ap, ◌∙◌, arith, inl, inr, Option, Some, None, IfSome, unwrap_or, lt-ltb, le-ltb}
+use Rattle.clone_contents.proofs.Common.{AllByRecursion, cases_eq, cases_lt, field, entry_space, position_at, kind_of, Record, Slot, unused, slots, row_slot, UndoEntry, IsEntry, UndoSlot, undo_slot, after, after_row, Image, page_of, all_pages, after_records, EditsPages, undo_slot_of, all_pages-is, records_counts, contents_of, with_slot, with_undo, set_at, IsFormed, HasContents}
 use Rattle.clone_row.specs.Slots as rows
-use Rattle.clone_row.specs.Slots.{Slot, unused, slots, slot_in, row_slot}
-use Rattle.clone_undo.specs.Entries.{UndoEntry, IsEntry}
-use Rattle.clone_undo.specs.Slots.{UndoSlot, undo_slot}
-use Rattle.clone_undo.specs.Changes.{after, after_row}
-use Rattle.clone_image.specs.Image.{Image, page_of, all_pages, after_records, EditsPages}
-use Rattle.clone_image.specs.Recovered.{undo_slot_of}
-use Rattle.clone_image.proofs.Pages.{all_pages-is, records_counts}
-use Rattle.clone_contents.specs.Contents.{contents_of, with_slot, with_undo, set_at}
-use Rattle.clone_contents.specs.Formed.{IsFormed, HasContents}
 use Rattle.clone_contents.proofs.SameContents.{set_at-same, set_at-other, same_contents}
 use Rattle.clone_contents.proofs.RowSlots.{slots_same, slot_set}
 use Rattle.clone_contents.proofs.ImagePages.{page_kept, all_after, slot_after}

@@ -1,20 +1,7 @@
 -- A write on the system page, for the contents: it changes the dictionary or the position and nothing else.
-use Rattle.std.proofs.Common.{◌≡◌, ◌<◌, ◌≤◌, ℕ, cond, List, [], ◌∷◌, length, refl, sym, ap, ◌∙◌, arith, inl, inr, Option, None}
-use Rattle.std.specs.Prelude.{nat_lt, unwrap_or}
-use Rattle.std.proofs.lemmas.Bool.{cases_lt, lt-ltb, le-ltb}
-use Rattle.clone_page.specs.Bytes.{put_at, field}
-use Rattle.clone_page.specs.Dictionary.{entry_space, position_at}
-use Rattle.clone_page.specs.Header.{with_lsn, IsAllowed}
-use Rattle.clone_page.proofs.Parts.{length-put_allowed, entry_space-with_lsn}
-use Rattle.clone_mtr.specs.declared.record.Record.{Record}
-use Rattle.clone_mtr.specs.declared.record.Record.TheVariants.{Write}
-use Rattle.clone_undo.proofs.Headers.{field-stamped}
+use Rattle.std.proofs.Common.{◌≡◌, ◌<◌, ◌≤◌, ℕ, cond, List, [], ◌∷◌, length, refl, sym, ap, ◌∙◌, arith, inl, inr, Option, None, nat_lt, unwrap_or, lt-ltb, le-ltb}
+use Rattle.clone_contents.proofs.Common.{cases_lt, put_at, field, entry_space, position_at, with_lsn, IsAllowed, length-put_allowed, entry_space-with_lsn, Record, Write, field-stamped, Image, all_pages, after_records, page_of-edited_same, page_of-edited_other, all_pages-is, page_count-edited, contents_of, IsFormed, HasContents}
 use Rattle.clone_undo.proofs.Effects as undo
-use Rattle.clone_image.specs.Image.{Image, all_pages, after_records}
-use Rattle.clone_image.proofs.Images.{page_of-edited_same, page_of-edited_other}
-use Rattle.clone_image.proofs.Pages.{all_pages-is, page_count-edited}
-use Rattle.clone_contents.specs.Contents.{contents_of}
-use Rattle.clone_contents.specs.Formed.{IsFormed, HasContents}
 use Rattle.clone_contents.proofs.SameContents.{same_contents}
 use Rattle.clone_contents.proofs.ImagePages.{there}
 use Rattle.clone_contents.proofs.FittingRecords.{formed_after}

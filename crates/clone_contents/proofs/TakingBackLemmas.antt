@@ -1,22 +1,8 @@
 -- The last change is taken back, for the contents.
 use Rattle.std.proofs.Common.{◌≡◌, ◌≢◌, ◌<◌, ◌-◌, ◌==◌, ℕ, false, List, length, sym, ap, ◌∙◌, arith, inl, inr, Some}
-use Rattle.std.proofs.lemmas.List.{get_or-replicate}
-use Rattle.clone_page.specs.Header.{kind_of}
-use Rattle.clone_mtr.specs.declared.record.Record.{Record}
+use Rattle.clone_contents.proofs.Common.{get_or-replicate, kind_of, Record, unused, slots, slot_in, bound_key, length-image, slots-zero, UndoEntry, header_page, UndoSlot, row_record, records_of_taking_back, slot_before, after, after_row, AreWhole, Image, page_of, all_pages, after_records, undo_slot_of, all_pages-is, contents_of, told_value, IsFormed, HasContents, MayTakeBack, taken_back, telling}
 use Rattle.clone_row.specs.Slots as rows
-use Rattle.clone_row.specs.Slots.{unused, slots, slot_in, bound_key}
-use Rattle.clone_row.proofs.Rows.{length-image, slots-zero}
-use Rattle.clone_undo.specs.Entries.{UndoEntry}
-use Rattle.clone_undo.specs.Places.{header_page}
-use Rattle.clone_undo.specs.Slots.{UndoSlot}
-use Rattle.clone_undo.specs.Changes.{row_record, records_of_taking_back, slot_before, after, after_row, AreWhole}
 use Rattle.clone_undo.proofs.Effects as undo
-use Rattle.clone_image.specs.Image.{Image, page_of, all_pages, after_records}
-use Rattle.clone_image.specs.Recovered.{undo_slot_of}
-use Rattle.clone_image.proofs.Pages.{all_pages-is}
-use Rattle.clone_contents.specs.Contents.{contents_of, told_value}
-use Rattle.clone_contents.specs.Formed.{IsFormed, HasContents}
-use Rattle.clone_contents.specs.Steps.{MayTakeBack, taken_back, telling}
 use Rattle.clone_contents.proofs.RowSlots.{slot_is}
 use Rattle.clone_contents.proofs.ImagePages.{whole_slot}
 use Rattle.clone_contents.proofs.FittingRecords.{FitsOn, FitAll, stays, table_page}

@@ -1,11 +1,7 @@
 -- What an undo record puts back.
-use Rattle.std.proofs.Common.{◌≡◌, ◌≤◌, ℕ, cond, List, length, sym, ap, subst, ◌∙◌, arith, inl, inr, Option, Some, None}
-use Rattle.std.specs.Prelude.{IfSome}
-use Rattle.std.proofs.lemmas.Bool.{eq-eqb, ne_eqb}
+use Rattle.std.proofs.Common.{◌≡◌, ◌≤◌, ℕ, cond, List, length, sym, ap, subst, ◌∙◌, arith, inl, inr, Option, Some, None, IfSome, eq-eqb, ne_eqb}
+use Rattle.clone_contents.proofs.Common.{UndoEntry, IsEntry, slot_before, told_value}
 use Rattle.clone_row.specs.Slots as rows
-use Rattle.clone_undo.specs.Entries.{UndoEntry, IsEntry}
-use Rattle.clone_undo.specs.Changes.{slot_before}
-use Rattle.clone_contents.specs.Contents.{told_value}
 
 told_some : (e : UndoEntry) → e.state ≡ 1 → told_value e ≡ Some e.value
 told_some e is = ap (λ b. cond b (Some e.value) None) (eq-eqb e.state 1 is)

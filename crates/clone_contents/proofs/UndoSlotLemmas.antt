@@ -1,16 +1,7 @@
 -- A transaction begins, or ends, for the contents.
 use Rattle.std.proofs.Common.{◌≡◌, ◌<◌, ◌^◌, ℕ, Bool, true, false, List, [], refl, arith, inr, Option, Some, None}
-use Rattle.clone_page.specs.Header.{IsAllowed}
-use Rattle.clone_page.specs.declared.kind.PageKind.TheVariants.{Undo}
-use Rattle.clone_mtr.specs.declared.record.Record.TheVariants.{Init}
-use Rattle.clone_undo.specs.Places.{header_page}
-use Rattle.clone_undo.specs.Slots.{UndoSlot}
-use Rattle.clone_undo.specs.Changes.{records_of_begin, records_of_end}
+use Rattle.clone_contents.proofs.Common.{IsAllowed, Undo, Init, header_page, UndoSlot, records_of_begin, records_of_end, Image, all_pages, after_records, contents_of, IsFormed, HasContents, is_unused, begun, ended}
 use Rattle.clone_undo.proofs.Effects as undo
-use Rattle.clone_image.specs.Image.{Image, all_pages, after_records}
-use Rattle.clone_contents.specs.Contents.{contents_of}
-use Rattle.clone_contents.specs.Formed.{IsFormed, HasContents}
-use Rattle.clone_contents.specs.Steps.{is_unused, begun, ended}
 use Rattle.clone_contents.proofs.ImagePages.{whole_slot}
 use Rattle.clone_contents.proofs.FittingRecords.{FitsOn, FitAll, made_stands, undo_page}
 use Rattle.clone_contents.proofs.ChangeRecords.{used_kind}

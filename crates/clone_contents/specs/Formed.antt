@@ -12,8 +12,10 @@ IsOrUnused kind page = (kind_of page ≡ kind) ⊎ (page ≡ zero_page)
 pub record IsFormed (image : Image) : Type 0 where
   pub whole : AreWholePages image
   pub size : page_count image 0 ≡ Some system_size
-  pub undo : (number : ℕ) → number ≢ 0 → number < system_size → IsOrUnused 2 (all_pages image 0 number)
-  pub tables : (table number : ℕ) (page : List ℕ) → table ≢ 0 → page_of image table number ≡ Some page → IsOrUnused 3 page
+  pub undo : (number : ℕ) → number ≢ 0 → number < system_size
+      → IsOrUnused 2 (all_pages image 0 number)
+  pub tables : (table number : ℕ) (page : List ℕ) → table ≢ 0
+      → page_of image table number ≡ Some page → IsOrUnused 3 page
 
 -- the image is formed, and contains this
 abbrev pub HasContents : Image → Contents → Type 0

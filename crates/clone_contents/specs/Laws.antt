@@ -26,69 +26,92 @@ OpeningLaw = (lsn : ℕ) → HasContents (after_records lsn finite.empty opening
 
 abbrev pub CreateLaw : Type 0
 CreateLaw =
-    (lsn place table buckets : ℕ) (image : Image) → IsFormed image → MayCreate (contents_of image) place table
-    → HasContents (after_records lsn image (create_records place table buckets)) (created place table buckets (contents_of image))
+    (lsn place table buckets : ℕ) (image : Image) → IsFormed image
+    → MayCreate (contents_of image) place table
+    → HasContents (after_records lsn image (create_records place table buckets))
+    (created place table buckets (contents_of image))
 
 abbrev pub BeginLaw : Type 0
 BeginLaw =
     (lsn s writer index : ℕ) (image : Image) → IsFormed image → MayBegin s writer index
-    → HasContents (after_records lsn image (records_of_begin (is_unused image 0 (header_page s)) s writer index)) (begun s writer index (contents_of image))
+    → HasContents
+    (after_records lsn image
+    (records_of_begin (is_unused image 0 (header_page s)) s writer index))
+    (begun s writer index (contents_of image))
 
 abbrev pub ChangeLaw : Type 0
 ChangeLaw =
-    (lsn s : ℕ) (image : Image) (slot : UndoSlot) (e : UndoEntry) (value : Option (List ℕ)) → IsFormed image → MayChange (contents_of image) s slot e value
-    → let records = records_of_change (is_unused image 0 (record_page s (length slot.records))) (is_unused image e.table e.page) s (length slot.records) e (rows.image e.key value) in
+    (lsn s : ℕ) (image : Image) (slot : UndoSlot) (e : UndoEntry) (value : Option (List ℕ))
+    → IsFormed image → MayChange (contents_of image) s slot e value
+    → let records =
+    records_of_change (is_unused image 0 (record_page s (length slot.records)))
+    (is_unused image e.table e.page) s (length slot.records) e (rows.image e.key value) in
     HasContents (after_records lsn image records) (changed s slot e value (contents_of image))
 
 abbrev pub TakingBackLaw : Type 0
 TakingBackLaw =
-    (lsn s : ℕ) (image : Image) (slot : UndoSlot) (front : List UndoEntry) (e : UndoEntry) → IsFormed image → MayTakeBack (contents_of image) s slot front e
-    → HasContents (after_records lsn image (records_of_taking_back s (length slot.records) e)) (taken_back s slot front e (contents_of image))
+    (lsn s : ℕ) (image : Image) (slot : UndoSlot) (front : List UndoEntry) (e : UndoEntry)
+    → IsFormed image → MayTakeBack (contents_of image) s slot front e
+    → HasContents (after_records lsn image (records_of_taking_back s (length slot.records) e))
+    (taken_back s slot front e (contents_of image))
 
 abbrev pub EndLaw : Type 0
 EndLaw =
-    (lsn s : ℕ) (image : Image) (slot : UndoSlot) → IsFormed image → s < slot_count → (contents_of image).undo s ≡ Some slot
+    (lsn s : ℕ) (image : Image) (slot : UndoSlot) → IsFormed image → s < slot_count
+    → (contents_of image).undo s ≡ Some slot
     → HasContents (after_records lsn image (records_of_end s)) (ended s (contents_of image))
 
 abbrev pub CommitLaw : Type 0
 CommitLaw =
-    (lsn s position : ℕ) (image : Image) (slot : UndoSlot) → IsFormed image → s < slot_count → (contents_of image).undo s ≡ Some slot → position < 2 ^ 64
-    → HasContents (after_records lsn image (commit_records s position)) (committed s position (contents_of image))
+    (lsn s position : ℕ) (image : Image) (slot : UndoSlot) → IsFormed image → s < slot_count
+    → (contents_of image).undo s ≡ Some slot → position < 2 ^ 64
+    → HasContents (after_records lsn image (commit_records s position))
+    (committed s position (contents_of image))
 
 -- Recovery's edits.
 
 abbrev pub UndoingLaw : Type 0
-UndoingLaw = (image : Image) (e : UndoEntry) → IsFormed image → MayUndo (contents_of image) e → HasContents (recovered.undone image e) (undone e (contents_of image))
+UndoingLaw =
+    (image : Image) (e : UndoEntry) → IsFormed image → MayUndo (contents_of image) e
+    → HasContents (recovered.undone image e) (undone e (contents_of image))
 
 abbrev pub FreeingLaw : Type 0
 FreeingLaw =
-    (image : Image) (s : ℕ) (slot : UndoSlot) → IsFormed image → s < slot_count → (contents_of image).undo s ≡ Some slot
+    (image : Image) (s : ℕ) (slot : UndoSlot) → IsFormed image → s < slot_count
+    → (contents_of image).undo s ≡ Some slot
     → HasContents (recovered.freed image s) (with_undo s None (contents_of image))
 
 -- Rows and look-ups.
 
 -- a row of the contents is one of the image
 abbrev pub RowsShown : Type 0
-RowsShown = (image : Image) (row : Row) → IsFormed image → IsRowIn (contents_of image) row → IsRow (page_of image) row
+RowsShown =
+    (image : Image) (row : Row) → IsFormed image → IsRowIn (contents_of image) row
+    → IsRow (page_of image) row
 
 -- a row of the image is one of the contents
 abbrev pub RowsContained : Type 0
-RowsContained = (image : Image) (row : Row) → IsFormed image → IsRow (page_of image) row → IsRowIn (contents_of image) row
+RowsContained =
+    (image : Image) (row : Row) → IsFormed image → IsRow (page_of image) row
+    → IsRowIn (contents_of image) row
 
 -- a slot of a table's page is that of the contents
 abbrev pub SlotsContained : Type 0
 SlotsContained =
-    (image : Image) (table number j : ℕ) (page : List ℕ) → table ≢ 0 → page_of image table number ≡ Some page
+    (image : Image) (table number j : ℕ) (page : List ℕ) → table ≢ 0
+    → page_of image table number ≡ Some page
     → (contents_of image).slot table number j ≡ slot_in (slots page) j
 
 -- the slot of a key that is found on a table's page is that of the contents
 abbrev pub KeysFound : Type 0
 KeysFound =
-    (image : Image) (table number key : ℕ) (page : List ℕ) (found : Option ℕ) → table ≢ 0 → page_of image table number ≡ Some page
+    (image : Image) (table number key : ℕ) (page : List ℕ) (found : Option ℕ) → table ≢ 0
+    → page_of image table number ≡ Some page
     → Finds key (slots page) found → FindsIn (contents_of image) table number key found
 
 -- the free slot that is found on a table's page is that of the contents
 abbrev pub FreeFound : Type 0
 FreeFound =
-    (image : Image) (table number : ℕ) (page : List ℕ) (found : Option ℕ) → table ≢ 0 → page_of image table number ≡ Some page
+    (image : Image) (table number : ℕ) (page : List ℕ) (found : Option ℕ) → table ≢ 0
+    → page_of image table number ≡ Some page
     → FindsFree (slots page) found → FindsFreeIn (contents_of image) table number found

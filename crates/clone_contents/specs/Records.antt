@@ -18,7 +18,9 @@ opening_records = Create 0 system_size ∷ Init 0 0 System ∷ []
 
 -- A table's space is made, and the table named in the dictionary, in the entry of this place.
 abbrev pub create_records : ℕ → ℕ → ℕ → List Record
-create_records place table buckets = Create table buckets ∷ Write 0 0 record { offset = entry_at place; bytes = entry table buckets buckets } ∷ []
+create_records place table buckets =
+    Create table buckets
+    ∷ Write 0 0 record { offset = entry_at place; bytes = entry table buckets buckets } ∷ []
 
 -- the number of commits is written
 abbrev pub position_record : ℕ → Record

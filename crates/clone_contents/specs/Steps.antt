@@ -36,7 +36,8 @@ pub record MayCreate (c : Contents) (place table : ℕ) : Type 0 where
 
 -- a table is named at a place of the dictionary, and has a space of so many pages
 abbrev pub created : ℕ → ℕ → ℕ → Contents → Contents
-created place table buckets c = record c { named = set_at place table c.named; size = set_at table (Some buckets) c.size }
+created place table buckets c =
+    record c { named = set_at place table c.named; size = set_at table (Some buckets) c.size }
 
 -- a transaction of this writer and index may begin
 pub record MayBegin (s writer index : ℕ) : Type 0 where
@@ -46,7 +47,8 @@ pub record MayBegin (s writer index : ℕ) : Type 0 where
 
 -- a transaction has begun, without a change
 abbrev pub begun : ℕ → ℕ → ℕ → Contents → Contents
-begun s writer index c = with_undo s (Some (record { writer = writer; index = index; records = [] })) c
+begun s writer index c =
+    with_undo s (Some (record { writer = writer; index = index; records = [] })) c
 
 -- a transaction has ended
 abbrev pub ended : ℕ → Contents → Contents
@@ -61,7 +63,8 @@ abbrev pub telling : UndoSlot → List UndoEntry → Option UndoSlot
 telling slot records = Some (record slot { records = records })
 
 -- a change may be written, with an undo record behind those of its undo slot
-pub record MayChange (c : Contents) (s : ℕ) (slot : UndoSlot) (e : UndoEntry) (value : Option (List ℕ)) : Type 0 where
+pub record MayChange (c : Contents) (s : ℕ) (slot : UndoSlot) (e : UndoEntry)
+    (value : Option (List ℕ)) : Type 0 where
   pub small : s < slot_count
   pub used : c.undo s ≡ Some slot
   pub known : AllByRecursion IsEntry slot.records
@@ -71,10 +74,13 @@ pub record MayChange (c : Contents) (s : ℕ) (slot : UndoSlot) (e : UndoEntry) 
   pub short : IfSome value (λ v. length v ≤ 64)
 
 abbrev pub changed : ℕ → UndoSlot → UndoEntry → Option (List ℕ) → Contents → Contents
-changed s slot e value c = with_slot e.table e.page e.slot (row_slot e.key value) (with_undo s (telling slot (slot.records ++ e ∷ [])) c)
+changed s slot e value c =
+    with_slot e.table e.page e.slot (row_slot e.key value)
+    (with_undo s (telling slot (slot.records ++ e ∷ [])) c)
 
 -- the last record of an undo slot may be taken back
-pub record MayTakeBack (c : Contents) (s : ℕ) (slot : UndoSlot) (front : List UndoEntry) (e : UndoEntry) : Type 0 where
+pub record MayTakeBack (c : Contents) (s : ℕ) (slot : UndoSlot) (front : List UndoEntry)
+    (e : UndoEntry) : Type 0 where
   pub small : s < slot_count
   pub used : c.undo s ≡ Some slot
   pub last : slot.records ≡ front ++ e ∷ []

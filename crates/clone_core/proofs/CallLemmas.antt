@@ -1,31 +1,9 @@
 -- A call by the clauses of the engine, and what it leaves of a world and of its clone.
-use Rattle.std.proofs.Common.{◌≡◌, ℕ, ◌+◌, List, [], Bool, true, false, refl, sym, ap, ◌∙◌, subst, inl, inr, ◌⊎◌, arith, length-append, length, Option, Some, None, Result, Ok, Err, IfOk, OnErr}
-use Rattle.std.specs.Option.{option_or, ForSome}
-use Rattle.std.specs.Result.{is_err}
+use Rattle.std.proofs.Common.{◌≡◌, ℕ, ◌+◌, List, [], Bool, true, false, refl, sym, ap, ◌∙◌, subst, inl, inr, ◌⊎◌, arith, length-append, length, Option, Some, None, Result, Ok, Err, IfOk, OnErr, is_err, nat_cmp}
+use Rattle.clone_core.proofs.Common.{option_or, Entry, fold, page_of, HasRows, Cause, SpaceFull, EngineRefusal, Because, NoMemory, Donor, whether, Gets, Call, create, begin, put, delete, get, undo_one, commit, Done, did_get, did_begin, done, refused, call_of, cause_of, Does, index_in, counted, Adds, adds_none, made_adds, before_stop-longer, EngineState, below_cause, BindsKeys, EngineStep, State, EngineCalled, Called, Carries, IsCopy, stop_of, Copy}
 use Rattle.std.specs.FinMap as finite
-use Rattle.std.specs.Ordering.{nat_cmp}
-use Rattle.clone_model.specs.History.{Entry, fold}
-use Rattle.clone_image.specs.Image.{page_of}
-use Rattle.clone_image.specs.Rows.{HasRows}
-use Rattle.clone_plain.specs.declared.refusal.Cause.{Cause}
-use Rattle.clone_plain.specs.declared.refusal.Cause.TheVariants.{SpaceFull}
-use Rattle.clone_plain.specs.declared.refusal.EngineRefusal.{EngineRefusal}
-use Rattle.clone_plain.specs.declared.refusal.EngineRefusal.TheVariants.{Because, NoMemory}
-use Rattle.clone_plain.specs.Donor.{Donor}
-use Rattle.clone_plain.specs.Causes.{whether}
+use Rattle.std.specs.Option.{ForSome}
 use Rattle.clone_plain.specs.Decided.{Decided, none_outside}
-use Rattle.clone_plain.specs.Effects.{Gets}
-use Rattle.clone_plain.specs.Calls.{Call, create, begin, put, delete, get, undo_one, commit, Done, did_get, did_begin, done, refused, call_of, cause_of, Does}
-use Rattle.clone_plain.specs.World.{index_in}
-use Rattle.clone_plain.specs.Events.{counted}
-use Rattle.clone_plain.proofs.BinlogLemmas.{Adds, adds_none, made_adds}
-use Rattle.clone_plain.proofs.StopLemmas.{before_stop-longer}
-use Rattle.clone_trx.specs.Engine.{EngineState}
-use Rattle.clone_trx.specs.Step.{below_cause, BindsKeys, EngineStep}
-use Rattle.clone_core.specs.Lines.{State}
-use Rattle.clone_core.specs.Called.{EngineCalled, Called, Carries}
-use Rattle.clone_core.specs.Copied.{IsCopy, stop_of}
-use Rattle.clone_core.specs.declared.world.Copy.{Copy}
 
 -- ---- a call of the engine
 

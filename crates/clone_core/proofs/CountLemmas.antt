@@ -1,14 +1,8 @@
 -- A count that is given back.
-use Rattle.std.proofs.Common.{◌≡◌, ℕ, Bool, true, false, cond, refl, sym, ap, ◌∙◌, Some}
-use Rattle.std.specs.declared.option.Option.{Option}
+use Rattle.std.proofs.Common.{◌≡◌, ℕ, Bool, true, false, cond, refl, sym, ap, ◌∙◌, Some, Option, nat_cmp, BTreeMap}
+use Rattle.clone_core.proofs.Common.{get-insert, same_map, nat_cmp_total, eq_by_cmp_equiv, eq_by_cmp, exact_unsigned, is_equal, get_listed}
 use Rattle.std.specs.FinMap as finite
-use Rattle.std.specs.FinMap.{get-insert, same_map}
-use Rattle.std.specs.Cmp.{nat_cmp_total, eq_by_cmp_equiv}
-use Rattle.std.specs.Ordering.{nat_cmp, eq_by_cmp}
-use Rattle.std.specs.BTreeMap.{BTreeMap, get, Updates}
-use Rattle.std.proofs.lemmas.Map.Lookups.{exact_unsigned}
-use Rattle.clone_base.proofs.MapEntries.{is_equal}
-use Rattle.clone_base.proofs.OrderedMaps.{get_listed}
+use Rattle.std.specs.BTreeMap.{get, Updates}
 
 chosen : (b : Bool) (was p : Option ℕ) (count : ℕ) → (b ≡ true → p ≡ was) → cond b was (cond b (Some count) p) ≡ p
 chosen true was p count is = sym (is refl)

@@ -1,31 +1,12 @@
 -- What lines do, by what their calls answered.
-use Rattle.std.proofs.Common.{◌≡◌, ℕ, ◌+◌, List, [], ◌∷◌, ◌++◌, length, take, arith, refl, sym, ap, ◌∙◌, subst, inl, inr, Option, Some, None, Result, Ok, Err, IfOk, OnErr}
-use Rattle.std.specs.Prelude.{MatchOption, MatchResult, IsErr, IsErrAnd, codes}
-use Rattle.std.specs.Fmt.{decimal}
+use Rattle.std.proofs.Common.{◌≡◌, ℕ, ◌+◌, List, [], ◌∷◌, ◌++◌, length, take, arith, refl, sym, ap, ◌∙◌, subst, inl, inr, Option, Some, None, Result, Ok, Err, IfOk, OnErr, MatchOption, MatchResult, IsErr, IsErrAnd, codes, decimal, take_all}
+use Rattle.clone_core.proofs.Common.{Entry, Rows, fold, history_of, rows_in, Line, Cause, NoSuchTrx, EngineRefusal, Because, NoMemory, page_of, Pages, IsRow, ShowsRows, HasRows, Donor, history, Call, create, begin, put, delete, get, undo_one, commit, Done, did_begin, did_put, did_get, did_commit, done, refused, call_of, Stop, index_in, stop_now, before_stop, Event, made, completed, showed, incomplete, event_text, said, Happens, Events, Makes, MakesOne, not_begun, not_changed, set, EngineStep, State, donor_of, Answers, BreaksOff, IsCopy, stop_of, Copy, Called, Carries, SaysCause, RefusesSet, Sets}
 use Rattle.std.specs.FinMap as finite
-use Rattle.std.proofs.lemmas.List.{take_all}
-use Rattle.std.specs.declared.alloc.AllocError.{AllocError}
-use Rattle.clone_model.specs.History.{Entry, Rows, fold, history_of, rows_in}
-use Rattle.clone_model.specs.declared.line.Line.{Line}
 use Rattle.clone_model.specs.declared.line.Line.TheVariants as lines
-use Rattle.clone_plain.specs.declared.refusal.Cause.{Cause}
-use Rattle.clone_plain.specs.declared.refusal.Cause.TheVariants.{NoSuchTrx}
-use Rattle.clone_plain.specs.declared.refusal.EngineRefusal.{EngineRefusal}
-use Rattle.clone_plain.specs.declared.refusal.EngineRefusal.TheVariants.{Because, NoMemory}
-use Rattle.clone_image.specs.Image.{page_of}
-use Rattle.clone_image.specs.Rows.{Pages, IsRow, ShowsRows, HasRows}
-use Rattle.clone_plain.specs.Donor.{Donor, history}
-use Rattle.clone_plain.specs.Answers.{Text, done_text, value_answer, complete_answer, rows_answer}
-use Rattle.clone_plain.specs.Calls.{Call, create, begin, put, delete, get, undo_one, commit, Done, did_begin, did_put, did_get, did_commit, done, refused, call_of}
-use Rattle.clone_plain.specs.World.{Stop, index_in, stop_now, before_stop}
-use Rattle.clone_plain.specs.Events.{Event, made, completed, showed, incomplete, event_text, said, Happens, Events}
-use Rattle.clone_plain.specs.Runs.{Makes, MakesOne, not_begun, not_changed, set, IsDone}
+use Rattle.std.specs.declared.alloc.AllocError.{AllocError}
+use Rattle.clone_plain.specs.Answers.{Text, done_text, value_answer, rows_answer}
+use Rattle.clone_plain.specs.BreaksOff.{IsDone}
 use Rattle.clone_plain.proofs.RunLemmas.{Events-append}
-use Rattle.clone_trx.specs.Step.{EngineStep}
-use Rattle.clone_core.specs.Lines.{State, donor_of, Answers, BreaksOff}
-use Rattle.clone_core.specs.Copied.{IsCopy, stop_of}
-use Rattle.clone_core.specs.declared.world.Copy.{Copy}
-use Rattle.clone_core.specs.Called.{Called, Carries, SaysCause, RefusesSet, Sets}
 
 -- ---- one event
 
@@ -65,11 +46,11 @@ get_refused bytes s trx table key refusal (Ok a) is says = one_answers s s (line
 
 -- ---- a clone, and its rows
 
-clone_answers : (s t : State) (text : Text) (n : ℕ) → Happens donor_of EngineStep s (completed n) t → text ≡ complete_answer n → Answers s lines.Clone text t
+clone_answers : (s t : State) (text : Text) (n : ℕ) → Happens donor_of EngineStep s (completed n) t → text ≡ event_text (completed n) → Answers s lines.Clone text t
 clone_answers s t text n is says = record { events = completed n ∷ []; step = ((n, refl), (t, is, refl)); is = says }
 
 -- the stop that stands is answered again
-pub cloned_again : {A : Type 0} (bytes : A → Text) (r s : State) (copy : Copy) (result : Result A AllocError) → r ≡ s → r.stop ≡ Some (stop_of copy) → IfOk result (λ a. bytes a ≡ complete_answer copy.position) → IfOk result (λ a. Answers s lines.Clone (bytes a) s)
+pub cloned_again : {A : Type 0} (bytes : A → Text) (r s : State) (copy : Copy) (result : Result A AllocError) → r ≡ s → r.stop ≡ Some (stop_of copy) → IfOk result (λ a. bytes a ≡ event_text (completed copy.position)) → IfOk result (λ a. Answers s lines.Clone (bytes a) s)
 cloned_again bytes r s copy (Err e) same stop says = tt
 cloned_again bytes r s copy (Ok a) same stop says =
     let now = stop_now s.donor.donor in
@@ -81,7 +62,7 @@ no_copy None is = refl
 no_copy (Some copy) is = absurd (is copy refl)
 
 -- the first clone stops at the moment that stands
-pub cloned : (r s : State) (position drops : ℕ) (text : Text) → r ≡ s → r.stop ≡ None → position ≡ length r.donor.donor.binlog → drops ≡ length r.donor.donor.drops → text ≡ complete_answer position
+pub cloned : (r s : State) (position drops : ℕ) (text : Text) → r ≡ s → r.stop ≡ None → position ≡ length r.donor.donor.binlog → drops ≡ length r.donor.donor.drops → text ≡ event_text (completed position)
     → Answers s lines.Clone text (record r { stop = Some (record { position = position; drops = drops }) })
 cloned r s position drops text same none commits dropped says =
     let P : State → Type 0 = λ w. Answers w lines.Clone text (record r { stop = Some (record { position = position; drops = drops }) }) in

@@ -1,17 +1,8 @@
 -- What recovery gives of a log that replays to an image.
-use Rattle.std.proofs.Common.{◌≡◌, ℕ, ◌<◌, ◌≤◌, List, length, refl, sym, ap, ◌∙◌, subst, None, Some}
-use Rattle.std.specs.Prelude.{IfSome}
-use Rattle.std.specs.declared.option.Option.{Option}
-use Rattle.std.specs.List.{AllByRecursion}
-use Rattle.clone_model.specs.History.{Rows}
-use Rattle.clone_undo.specs.Entries.{IsEntry}
-use Rattle.clone_undo.specs.Places.{slot_count, capacity}
-use Rattle.clone_undo.specs.Slots.{UndoSlot}
-use Rattle.clone_image.specs.Image.{Image, page_of}
-use Rattle.clone_image.specs.Recovered.{undo_slot_of, recovered}
+use Rattle.std.proofs.Common.{◌≡◌, ℕ, ◌<◌, ◌≤◌, List, length, refl, sym, ap, ◌∙◌, subst, None, Some, IfSome, Option}
+use Rattle.clone_core.proofs.Common.{AllByRecursion, Rows, IsEntry, capacity, UndoSlot, Image, page_of, undo_slot_of, recovered, HasRows, Recovers, IsCause, FirstDamaged, by_count, by_record}
+use Rattle.clone_undo.specs.Places.{slot_count}
 use Rattle.clone_image.specs.Replay.{Replays, replayed}
-use Rattle.clone_image.specs.Rows.{HasRows}
-use Rattle.clone_recover.specs.Recovers.{Recovers, IsCause, FirstDamaged, by_count, by_record}
 use Rattle.clone_recover.specs.declared.refusal.Damage.{Damage}
 use Rattle.clone_recover.specs.declared.refusal.Damage.TheVariants.{Redo, Undo}
 use Rattle.clone_recover.specs.declared.refusal.RecoverRefusal.TheVariants.{Damaged}

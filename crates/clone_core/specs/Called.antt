@@ -11,16 +11,19 @@ use Rattle.clone_plain.specs.Answers.{Text, refusal_text}
 use Rattle.clone_plain.specs.Calls.{Call, Done, done, refused}
 use Rattle.clone_plain.specs.World.{index_in}
 use Rattle.clone_plain.specs.Events.{Event, made, counted, said, Events}
-use Rattle.clone_plain.specs.Runs.{MakesSet, IsDone}
+use Rattle.clone_plain.specs.Runs.{MakesSet}
+use Rattle.clone_plain.specs.BreaksOff.{IsDone}
 use Rattle.clone_model.specs.declared.line.Line.TheVariants.{Set}
 use Rattle.clone_trx.specs.Engine.{EngineState}
 use Rattle.clone_trx.specs.Step.{EngineStep}
 use Rattle.clone_core.specs.Lines.{State, donor_of, BreaksOff}
 
 -- a call of the engine: it was carried out, or refused for a cause, or there was no memory for it
-abbrev pub EngineCalled : {X : Type 0} → EngineState → Call → (X → Done) → Result X EngineRefusal → EngineState → Type 0
+abbrev pub EngineCalled : {X : Type 0} → EngineState → Call → (X → Done) → Result X EngineRefusal
+    → EngineState → Type 0
 EngineCalled e call did (Ok x) after = EngineStep e (done (did x)) after
-EngineCalled e call did (Err (Because cause)) after = EngineStep e (refused call cause) e × (after ≡ e)
+EngineCalled e call did (Err (Because cause)) after =
+    EngineStep e (refused call cause) e × (after ≡ e)
 EngineCalled e call did (Err NoMemory) after = after ≡ e
 
 -- the call was carried out in a world
@@ -30,9 +33,11 @@ pub record Carries (s : State) (d : Done) (t : State) : Type 0 where
   pub is : t ≡ record s { donor = engine; begun = counted (done d) s.begun }
 
 -- the same of a world
-abbrev pub Called : {X : Type 0} → State → Call → (X → Done) → Result X EngineRefusal → State → Type 0
+abbrev pub Called : {X : Type 0} → State → Call → (X → Done) → Result X EngineRefusal → State
+    → Type 0
 Called s call did (Ok x) t = Carries s (did x) t
-Called s call did (Err (Because cause)) t = EngineStep s.donor (refused call cause) s.donor × (t ≡ s)
+Called s call did (Err (Because cause)) t =
+    EngineStep s.donor (refused call cause) s.donor × (t ≡ s)
 Called s call did (Err NoMemory) t = t ≡ s
 
 -- the refusal is for a cause, and this is its text
@@ -42,16 +47,19 @@ pub record SaysCause (refusal : EngineRefusal) (text : Text) : Type 0 where
   pub same : text ≡ refusal_text cause
 
 -- one of the calls of a `set` was refused, and those before it were carried out
-pub record RefusesSet (s : State) (writer table key : ℕ) (value : List ℕ) (cause : Cause) (t : State) : Type 0 where
+pub record RefusesSet (s : State) (writer table key : ℕ) (value : List ℕ) (cause : Cause)
+    (t : State) : Type 0 where
   pub front : List Event
   pub call : Call
-  pub makes : MakesSet writer (index_in s.begun writer) table key value (front ++ made (refused call cause) ∷ [])
+  pub makes : MakesSet writer (index_in s.begun writer) table key value
+      (front ++ made (refused call cause) ∷ [])
   pub carried : AllByRecursion IsDone front
   pub happened : Events donor_of EngineStep s front t
   pub stands : EngineStep t.donor (refused call cause) t.donor
 
 -- all calls of a `set` were carried out
-pub record CommitsSet (s : State) (writer table key : ℕ) (value : List ℕ) (position : ℕ) (t : State) : Type 0 where
+pub record CommitsSet (s : State) (writer table key : ℕ) (value : List ℕ) (position : ℕ)
+    (t : State) : Type 0 where
   pub events : List Event
   pub makes : MakesSet writer (index_in s.begun writer) table key value events
   pub happened : Events donor_of EngineStep s events t

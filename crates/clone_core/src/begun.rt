@@ -45,7 +45,8 @@ impl Begun {
     /// A writer begins a transaction. After a refusal nothing has changed.
     pub fn begin(&mut self, writer: u32) -> Result<(), AllocError>
         requires { unwrap_or (finite.get self.old writer) 0 < 2 ^ 64 - 1 }
-        ensures ok { OnOk result (self.new ≡ finite.insert self.old writer (unwrap_or (finite.get self.old writer) 0 + 1)) }
+        ensures ok { OnOk result (self.new
+            ≡ finite.insert self.old writer (unwrap_or (finite.get self.old writer) 0 + 1)) }
         ensures err { OnErr result (self.new ≡ self.old) }
     {
         let next = self.count(writer).unwrap_or(0) + 1;
@@ -56,7 +57,8 @@ impl Begun {
     /// Gives a writer that is counted the count back that it had before. This takes no memory.
     pub fn restore(&mut self, writer: u32, was: Option<u64>)
         requires { IsSome (finite.get self.old writer) }
-        ensures { (before : finite.FinMap nat_cmp ℕ) (count : ℕ) → finite.get before writer ≡ was → self.old ≡ finite.insert before writer count → self.new ≡ before }
+        ensures { (before : finite.FinMap nat_cmp ℕ) (count : ℕ) → finite.get before writer ≡ was
+            → self.old ≡ finite.insert before writer count → self.new ≡ before }
     {
         let Some(count) = was else {
             let _ = self.counts.remove(&writer);

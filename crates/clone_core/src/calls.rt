@@ -19,7 +19,8 @@ impl World {
         table: TableNumber,
         buckets: BucketCount,
     ) -> Result<(), EngineRefusal>
-        ensures { Called self.old (call.create table buckets) (λ _. did_create table buckets) result self.new }
+        ensures { Called self.old (call.create table buckets) (λ _. did_create table buckets) result
+            self.new }
     {
         self.engine.create(alloc, table, buckets)
     }
@@ -27,7 +28,8 @@ impl World {
     // Begins a transaction of a writer, and counts it. Where none begins nothing changes.
     pub(crate) fn begin(&mut self, alloc: Global, writer: u32) -> Result<u32, EngineRefusal>
         requires { IsWithin donor_of (2 ^ 63 - 1) self.old }
-        ensures { Called self.old (call.begin writer (index_in self.old.begun writer)) (λ trx. did_begin writer (index_in self.old.begun writer) trx) result self.new }
+        ensures { Called self.old (call.begin writer (index_in self.old.begun writer))
+            (λ trx. did_begin writer (index_in self.old.begun writer) trx) result self.new }
     {
         let was = self.begun.count(writer);
         self.begun.begin(writer)?;
@@ -47,7 +49,8 @@ impl World {
         key: u64,
         value: &[u8],
     ) -> Result<(), EngineRefusal>
-        ensures { Called self.old (call.put trx table key value.now) (λ _. did_put trx table key value.now) result self.new }
+        ensures { Called self.old (call.put trx table key value.now)
+            (λ _. did_put trx table key value.now) result self.new }
     {
         self.engine.put(alloc, trx, table.get(), key, value)
     }
@@ -60,7 +63,8 @@ impl World {
         table: TableNumber,
         key: u64,
     ) -> Result<(), EngineRefusal>
-        ensures { Called self.old (call.delete trx table key) (λ _. did_delete trx table key) result self.new }
+        ensures { Called self.old (call.delete trx table key) (λ _. did_delete trx table key) result
+            self.new }
     {
         self.engine.delete(alloc, trx, table.get(), key)
     }
@@ -72,21 +76,24 @@ impl World {
         table: TableNumber,
         key: u64,
     ) -> Result<Option<Value>, EngineRefusal>
-        ensures { Called self.now (call.get trx table key) (λ value. did_get trx table key value) result self.now }
+        ensures { Called self.now (call.get trx table key) (λ value. did_get trx table key value)
+            result self.now }
     {
         self.engine.get(trx, table.get(), key)
     }
 
     // Takes the last change of a transaction back, or ends it.
     pub(crate) fn undo_one(&mut self, alloc: Global, trx: u32) -> Result<Undone, EngineRefusal>
-        ensures { Called self.old (call.undo_one trx) (λ undone. did_undo_one trx undone) result self.new }
+        ensures { Called self.old (call.undo_one trx) (λ undone. did_undo_one trx undone) result
+            self.new }
     {
         self.engine.undo_one(alloc, trx)
     }
 
     // Commits a transaction.
     pub(crate) fn commit(&mut self, alloc: Global, trx: u32) -> Result<u64, EngineRefusal>
-        ensures { Called self.old (call.commit trx) (λ position. did_commit trx position) result self.new }
+        ensures { Called self.old (call.commit trx) (λ position. did_commit trx position) result
+            self.new }
     {
         self.engine.commit(alloc, trx)
     }

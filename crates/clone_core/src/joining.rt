@@ -14,7 +14,8 @@ use std::alloc::{AllocError, Global};
 /// back. It is what recovery makes of the log's bytes, and its rows are those that the donor's history leaves.
 pub fn recovered_image(alloc: Global, engine: &Engine) -> Result<Image, AllocError>
     ensures recovers { IfOk result (Recovers engine.now.log) }
-    ensures rows { IfOk result (λ image. HasRows (page_of image) (fold (history engine.now.donor))) }
+    ensures rows { IfOk result (λ image. HasRows (page_of image)
+        (fold (history engine.now.donor))) }
 {
     engine.laws();
     replay_laws();

@@ -17,6 +17,7 @@ pub fn run_laws()
         → IsNew s
         → Runs s lines events t
         → ShowsStop t.donor.donor.binlog t.donor.donor.drops None (all_events events) }
-    ensures within { (s : State) (lines : List Line) (events : List (List Event)) (t : State) (n : ℕ)
+    ensures within { (s : State) (lines : List Line) (events : List (List Event)) (t : State)
+        → (n : ℕ)
         → IsNew s → Runs s lines events t → length lines ≤ n → IsWithin donor_of n t }
 {}

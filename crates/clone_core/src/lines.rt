@@ -25,7 +25,8 @@ impl World {
         table: TableNumber,
         buckets: BucketCount,
     ) -> Result<String, AllocError>
-        ensures ok { IfOk result (λ text. Answers self.old (lines.Create table buckets) (string_bytes text) self.new) }
+        ensures ok { IfOk result (λ text. Answers self.old (lines.Create table buckets)
+            (string_bytes text) self.new) }
         ensures err { OnErr result (self.new ≡ self.old) }
     {
         let text = String::from_str(alloc, "created")?;
@@ -36,7 +37,8 @@ impl World {
     // Begins a transaction.
     pub(crate) fn begin_line(&mut self, alloc: Global, writer: u32) -> Result<String, AllocError>
         requires { IsWithin donor_of (2 ^ 63 - 1) self.old }
-        ensures ok { IfOk result (λ text. Answers self.old (lines.Begin writer) (string_bytes text) self.new) }
+        ensures ok { IfOk result (λ text. Answers self.old (lines.Begin writer) (string_bytes text)
+            self.new) }
         ensures err { OnErr result (self.new ≡ self.old) }
     {
         let text = begun_text(alloc, &self.engine)?;
@@ -53,7 +55,8 @@ impl World {
         key: u64,
         value: &[u8],
     ) -> Result<String, AllocError>
-        ensures ok { IfOk result (λ text. Answers self.old (lines.Put trx table key value.now) (string_bytes text) self.new) }
+        ensures ok { IfOk result (λ text. Answers self.old (lines.Put trx table key value.now)
+            (string_bytes text) self.new) }
         ensures err { OnErr result (self.new ≡ self.old) }
     {
         let text = String::from_str(alloc, "ok")?;
@@ -69,7 +72,8 @@ impl World {
         table: TableNumber,
         key: u64,
     ) -> Result<String, AllocError>
-        ensures ok { IfOk result (λ text. Answers self.old (lines.Delete trx table key) (string_bytes text) self.new) }
+        ensures ok { IfOk result (λ text. Answers self.old (lines.Delete trx table key)
+            (string_bytes text) self.new) }
         ensures err { OnErr result (self.new ≡ self.old) }
     {
         let text = String::from_str(alloc, "ok")?;
@@ -85,7 +89,8 @@ impl World {
         table: TableNumber,
         key: u64,
     ) -> Result<String, AllocError>
-        ensures { IfOk result (λ text. Answers self.now (lines.Get trx table key) (string_bytes text) self.now) }
+        ensures { IfOk result (λ text. Answers self.now (lines.Get trx table key)
+            (string_bytes text) self.now) }
     {
         match self.get(trx, table, key) {
             Ok(value) => value_shown(alloc, value.as_ref()),
@@ -95,7 +100,8 @@ impl World {
 
     // Takes the last change of a transaction back, or ends it.
     pub(crate) fn undo_line(&mut self, alloc: Global, trx: u32) -> Result<String, AllocError>
-        ensures ok { IfOk result (λ text. Answers self.old (lines.Undo trx) (string_bytes text) self.new) }
+        ensures ok { IfOk result (λ text. Answers self.old (lines.Undo trx) (string_bytes text)
+            self.new) }
         ensures err { OnErr result (self.new ≡ self.old) }
     {
         let text = undone_text(alloc, &self.engine, trx)?;
@@ -106,7 +112,8 @@ impl World {
     // Commits a transaction.
     pub(crate) fn commit_line(&mut self, alloc: Global, trx: u32) -> Result<String, AllocError>
         requires { IsWithin donor_of (2 ^ 63 - 1) self.old }
-        ensures ok { IfOk result (λ text. Answers self.old (lines.Commit trx) (string_bytes text) self.new) }
+        ensures ok { IfOk result (λ text. Answers self.old (lines.Commit trx) (string_bytes text)
+            self.new) }
         ensures err { OnErr result (self.new ≡ self.old) }
     {
         let text = committed_text(alloc, &self.engine)?;
@@ -124,8 +131,10 @@ impl World {
         value: &[u8],
     ) -> Result<String, AllocError>
         requires { IsWithin donor_of (2 ^ 63 - 1) self.old }
-        ensures ok { IfOk result (λ text. Answers self.old (lines.Set writer table key value.now) (string_bytes text) self.new) }
-        ensures err { OnErr result (BreaksOff self.old (lines.Set writer table key value.now) self.new) }
+        ensures ok { IfOk result (λ text. Answers self.old (lines.Set writer table key value.now)
+            (string_bytes text) self.new) }
+        ensures err { OnErr result
+            (BreaksOff self.old (lines.Set writer table key value.now) self.new) }
     {
         let text = committed_text(alloc, &self.engine)?;
         let called = self.set(alloc, writer, table, key, value);
@@ -151,7 +160,8 @@ impl World {
 
     // Takes a clone from the log alone, unless one was taken.
     pub(crate) fn clone_line(&mut self, alloc: Global) -> Result<String, AllocError>
-        ensures ok { IfOk result (λ text. Answers self.old lines.Clone (string_bytes text) self.new) }
+        ensures ok { IfOk result (λ text. Answers self.old lines.Clone (string_bytes text)
+            self.new) }
         ensures err { OnErr result (self.new ≡ self.old) }
     {
         if let Some(copy) = &self.copy {

@@ -6,7 +6,7 @@ ghost use Rattle.clone_image.specs.Image.{page_of};
 ghost use Rattle.clone_image.specs.Rows.{ShowsRows};
 ghost use Rattle.clone_plain.specs.declared.refusal.Undone.{Undone};
 ghost use Rattle.clone_plain.specs.Donor.{Donor};
-ghost use Rattle.clone_plain.specs.Causes.{least_free};
+ghost use Rattle.clone_plain.specs.Causes.{least_unused};
 ghost use Rattle.clone_plain.specs.Effects.{Undoes};
 ghost use Rattle.clone_plain.specs.Answers.{undone_answer, rows_answer, value_answer};
 ghost use Rattle.clone_core.specs.Called.{SaysCause};
@@ -20,7 +20,8 @@ use std::alloc::{AllocError, Global};
 
 /// The answer of a `begin` that isn't refused.
 pub fn begun_text(alloc: Global, engine: &Engine) -> Result<String, AllocError>
-    ensures { IfOk result (λ text. (trx : ℕ) → least_free engine.now.donor ≡ Some trx → string_bytes text ≡ codes "trx " ++ decimal trx) }
+    ensures { IfOk result (λ text. (trx : ℕ) → least_unused engine.now.donor.active ≡ Some trx
+        → string_bytes text ≡ codes "trx " ++ decimal trx) }
 {
     match engine.next_number() {
         Some(trx) => format!(in alloc; "trx {trx}"),
@@ -30,7 +31,8 @@ pub fn begun_text(alloc: Global, engine: &Engine) -> Result<String, AllocError>
 
 /// The answer of an `undo` that isn't refused.
 pub fn undone_text(alloc: Global, engine: &Engine, trx: u32) -> Result<String, AllocError>
-    ensures { IfOk result (λ text. (undone : Undone) (after : Donor) → Undoes engine.now.donor trx undone after → string_bytes text ≡ undone_answer undone) }
+    ensures { IfOk result (λ text. (undone : Undone) (after : Donor)
+        → Undoes engine.now.donor trx undone after → string_bytes text ≡ undone_answer undone) }
 {
     let count = engine.transaction(trx).map_or(0, |open| open.changes.len());
     match count.checked_sub(1) {
@@ -42,7 +44,8 @@ pub fn undone_text(alloc: Global, engine: &Engine, trx: u32) -> Result<String, A
 /// The answer of a line that commits.
 pub fn committed_text(alloc: Global, engine: &Engine) -> Result<String, AllocError>
     requires { length engine.now.donor.binlog < 2 ^ 64 - 1 }
-    ensures { IfOk result (λ text. string_bytes text ≡ codes "committed " ++ decimal (length engine.now.donor.binlog + 1)) }
+    ensures { IfOk result (λ text. string_bytes text ≡ codes "committed "
+        ++ decimal (length engine.now.donor.binlog + 1)) }
 {
     let position = engine.binlog().len() as u64 + 1;
     format!(in alloc; "committed {position}")
@@ -54,7 +57,9 @@ pub fn answered<T: Drop>(
     called: Result<T, EngineRefusal>,
     text: String,
 ) -> Result<String, AllocError>
-    ensures ok { IfOk result (λ answer. MatchResult called (λ _. string_bytes answer ≡ string_bytes text) (λ refusal. SaysCause refusal (string_bytes answer))) }
+    ensures ok { IfOk result (λ answer. MatchResult called
+        (λ _. string_bytes answer ≡ string_bytes text)
+        (λ refusal. SaysCause refusal (string_bytes answer))) }
     ensures err { OnErr result (IsErr called) }
 {
     match called {
@@ -87,7 +92,8 @@ pub fn value_shown(alloc: Global, value: Option<&Value>) -> Result<String, Alloc
 
 /// The rows of an image, each on a line, and then their number.
 pub fn rows_shown(alloc: Global, image: &Image) -> Result<String, AllocError>
-    ensures { IfOk result (λ text. (rows : Rows) × ShowsRows (page_of image.now) rows × (string_bytes text ≡ rows_answer (rows_in rows))) }
+    ensures { IfOk result (λ text. (rows : Rows) × ShowsRows (page_of image.now) rows
+        × (string_bytes text ≡ rows_answer (rows_in rows))) }
 {
     let rows = open_rows(alloc, image)?;
     let mut text = rows_text(alloc, &rows)?;

@@ -42,7 +42,11 @@ impl Model for World {
 
     ghost coded = { world_code engine_code };
 
-    ghost view = { λ w. record { donor = w.engine; begun = w.begun; stop = option_map stop_of w.copy } };
+    ghost view = { λ w. record {
+      donor = w.engine;
+      begun = w.begun;
+      stop = option_map stop_of w.copy;
+    } };
 
     ghost invariant = { λ w. ForSome w.copy (IsCopy w.engine.donor) };
 }

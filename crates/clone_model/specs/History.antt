@@ -41,7 +41,7 @@ abbrev pub without_table : ℕ → Rows → Rows
 without_table table rows = finite.retain_keys rows (λ row. not (row.0 == table))
 
 abbrev pub after_entry : Rows → Entry → Rows
-after_entry rows (Committed commit) = after_commit rows commit
+after_entry rows (Committed commit) = after_changes rows commit.changes
 after_entry rows (Dropped table) = without_table table rows
 
 -- entries in their order

@@ -1,17 +1,8 @@
 -- What events add to the binlog: a commit each time that one is answered, and nothing else.
-use Rattle.std.proofs.Common.{◌≡◌, ℕ, ◌+◌, List, [], ◌∷◌, ◌++◌, length, refl, sym, ap, ◌∙◌, subst, zero, suc, zero-add, add-zero, arith, append_assoc, length-append, Option, Some, None}
-use Rattle.std.proofs.lemmas.List.{append-nil}
-use Rattle.std.specs.Prelude.{MatchOption}
-use Rattle.std.specs.List.{cons_option, filter_map, range_with_len}
-use Rattle.clone_model.specs.declared.change.Commit.{Commit}
+use Rattle.std.proofs.Common.{◌≡◌, ℕ, ◌+◌, List, [], ◌∷◌, ◌++◌, length, refl, sym, ap, ◌∙◌, subst, zero, suc, zero-add, add-zero, arith, append_assoc, length-append, Option, Some, None, append-nil, MatchOption, filter_map}
+use Rattle.clone_plain.proofs.Common.{cons_option, range_with_len, Commit, Donor, Undoes, Done, did_create, did_begin, did_put, did_delete, did_get, did_undo_one, did_commit, Made, done, refused, Does, PlainStep, World, Stop, Event, made, completed, showed, incomplete, Happens, Events, committed_at, AreCommits}
 use Rattle.clone_plain.specs.declared.refusal.Undone.{Undone}
 use Rattle.clone_plain.specs.declared.refusal.Undone.TheVariants.{Left, Ended}
-use Rattle.clone_plain.specs.Donor.{Donor}
-use Rattle.clone_plain.specs.Effects.{Undoes}
-use Rattle.clone_plain.specs.Calls.{Done, did_create, did_begin, did_put, did_delete, did_get, did_undo_one, did_commit, Made, done, refused, Does, PlainStep}
-use Rattle.clone_plain.specs.World.{World, Stop}
-use Rattle.clone_plain.specs.Events.{Event, made, completed, showed, incomplete, Happens, Events}
-use Rattle.clone_plain.specs.Headline.{committed_at, AreCommits}
 
 -- commits that were added, answered one after the other behind those before
 pub record Adds (before after : Donor) (answered : List ℕ) : Type 0 where

@@ -1,11 +1,7 @@
 -- A line makes one event, or it is a `set`.
 use Rattle.std.proofs.Common.{◌≡◌, ℕ, List, [], ◌∷◌, inl, inr, ◌⊎◌, refl, ap}
-use Rattle.clone_model.specs.declared.line.Line.{Line}
+use Rattle.clone_plain.proofs.Common.{Line, Cause, Call, commit, did_create, did_begin, did_put, did_delete, did_get, did_undo_one, did_commit, Made, done, refused, made_call, Event, made, completed, showed, incomplete, Makes, MakesOne, MakesSet}
 use Rattle.clone_model.specs.declared.line.Line.TheVariants.{Create, Begin, Put, Delete, Get, Undo, Commit, Set, Clone, Rows}
-use Rattle.clone_plain.specs.declared.refusal.Cause.{Cause}
-use Rattle.clone_plain.specs.Calls.{Call, commit, did_create, did_begin, did_put, did_delete, did_get, did_undo_one, did_commit, Made, done, refused, made_call}
-use Rattle.clone_plain.specs.Events.{Event, made, completed, showed, incomplete}
-use Rattle.clone_plain.specs.Runs.{Makes, MakesOne, MakesSet}
 
 pub data Shape (events : List Event) : Type 0 where
   one : (e : Event) → events ≡ e ∷ [] → Shape events

@@ -1,21 +1,7 @@
 -- Locks stay with the open transactions that changed their rows, at each step of the plain donor.
 use Rattle.std.proofs.Common.{◌≡◌, ◌≢◌, ℕ, ◌<◌, ◌≤◌, ◌⊎◌, List, [], ◌∷◌, ◌++◌, length, Some, None, IsSome, is_some, refl, sym, ap, subst, ◌∙◌, inl, inr, arith, slice_get}
-use Rattle.std.proofs.lemmas.Bool.{cases_eq}
-use Rattle.std.proofs.lemmas.List.{length_push}
-use Rattle.std.proofs.lemmas.Option.{same_Some, none-some, slice_get_within}
-use Rattle.std.specs.List.{AllByRecursion}
+use Rattle.clone_plain.proofs.Common.{cases_eq, length_push, same_Some, none-some, slice_get_within, AllByRecursion, nat_cmp-IsAntisymmetric, nat_cmp_total, Change, Commit, row_cmp_total, row_cmp_exact, Drops, Donor, changes_of, transaction_limit, change_limit, begun, with_change, Changes, TakesBack, Leaves, Commits, Releases, IsLocked, get-set_same, get-set_other, get-removed_same, cases_row, cases_held, cases_pushed, slice_get-pushed_front}
 use Rattle.std.specs.FinMap as finite
-use Rattle.std.specs.FinMap.{nat_cmp-IsAntisymmetric}
-use Rattle.std.specs.Cmp.{nat_cmp_total}
-use Rattle.clone_model.specs.declared.change.Change.{Change}
-use Rattle.clone_model.specs.declared.change.Commit.{Commit}
-use Rattle.clone_model.proofs.RowMaps.{row_cmp_total, row_cmp_exact}
-use Rattle.clone_model.specs.History.{Drops}
-use Rattle.clone_plain.specs.Donor.{Donor, changes_of}
-use Rattle.clone_plain.specs.Causes.{transaction_limit, change_limit}
-use Rattle.clone_plain.specs.Effects.{begun, with_change, Changes, TakesBack, Leaves, Commits, Releases}
-use Rattle.clone_plain.specs.Locked.{IsLocked}
-use Rattle.clone_base.proofs.MapEntries.{get-set_same, get-set_other, get-removed_same, cases_row, cases_held, cases_pushed, slice_get-pushed_front}
 use Rattle.clone_plain.proofs.OpenLemmas.{few_inserted, few_removed}
 use Rattle.clone_plain.proofs.ValueLemmas.{changes_of_active, others-set, others-removed, own-set}
 

@@ -1,31 +1,12 @@
 -- The open transactions stay few, with few changes each, when one is set, removed or loses its last change.
-use Rattle.std.proofs.Common.{◌≡◌, ◌≢◌, ◌<◌, ◌≤◌, ℕ, length, refl, sym, ap, subst, ◌∙◌, inl, inr, Some, None}
-use Rattle.std.specs.Prelude.{IsSome, is_some}
-use Rattle.std.specs.declared.option.Option.{Option}
+use Rattle.std.proofs.Common.{◌≡◌, ◌≢◌, ◌<◌, ◌≤◌, ℕ, length, refl, sym, ap, subst, ◌∙◌, inl, inr, Some, None, IsSome, is_some, Option}
+use Rattle.clone_plain.proofs.Common.{nat_cmp-IsAntisymmetric, nat_cmp_total, cases_eq, same_Some, Commit, transaction_limit, change_limit, Opened, AreFew, get-set_same, get-set_other}
 use Rattle.std.specs.FinMap as finite
-use Rattle.std.specs.FinMap.{nat_cmp-IsAntisymmetric, get-empty}
-use Rattle.std.specs.Cmp.{nat_cmp_total}
-use Rattle.std.specs.Ordering.{nat_cmp}
-use Rattle.std.proofs.lemmas.Bool.{cases_eq}
-use Rattle.std.proofs.lemmas.Option.{same_Some, none-some}
-use Rattle.clone_model.specs.declared.change.Commit.{Commit}
-use Rattle.clone_plain.specs.Causes.{transaction_limit, change_limit}
-use Rattle.clone_plain.specs.Locked.{Opened, AreFew}
-use Rattle.clone_base.proofs.MapEntries.{get-set_same, get-set_other}
 use Rattle.clone_base.proofs.OrderedMaps.{get-remove_some}
 
 some_there : {X : Type 0} (o : Option X) → IsSome o → (x : X) × (o ≡ Some x)
 some_there None there = absurd cc
 some_there (Some x) there = (x, refl)
-
-pub few_empty : (m : Opened) → m ≡ finite.empty → AreFew m
-few_empty m is = record {
-  numbers = λ n there. let w = some_there (finite.get m n) there in absurd (none-some w.0 (sym (nothing n) ∙ w.1));
-  few = λ n c at. absurd (none-some c (sym (nothing n) ∙ at));
-}
-  where
-    nothing : (n : ℕ) → finite.get m n ≡ None
-    nothing n = ap (λ (o : Opened). finite.get o n) is ∙ get-empty nat_cmp n
 
 pub few_inserted : (old new : Opened) (trx : ℕ) (commit : Commit) → AreFew old → new ≡ finite.insert old trx commit → trx < transaction_limit → length commit.changes ≤ change_limit → AreFew new
 few_inserted old new trx commit before is number short = record {

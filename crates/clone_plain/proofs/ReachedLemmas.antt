@@ -1,19 +1,9 @@
 -- A line adds at most one commit, and at most one transaction of each writer.
-use Rattle.std.proofs.Common.{◌≡◌, ℕ, ◌+◌, ◌≤◌, List, [], ◌∷◌, length, Bool, true, false, cond, refl, sym, ap, ◌∙◌, subst, arith, length-append, Option, Some, None, unwrap_or, inl, inr, ◌⊎◌}
+use Rattle.std.proofs.Common.{◌≡◌, ℕ, ◌+◌, ◌≤◌, List, [], ◌∷◌, length, Bool, true, false, cond, refl, sym, ap, ◌∙◌, subst, arith, length-append, Option, Some, None, unwrap_or, inl, inr, ◌⊎◌, MatchOption, filter_map, nat_cmp}
+use Rattle.clone_plain.proofs.Common.{cons_option, FinMap, get, get-empty, get-insert, eq_by_cmp, Line, Cause, Donor, Call, begin, put, Done, did_create, did_begin, did_put, did_delete, did_get, did_undo_one, did_commit, Made, done, refused, PlainStep, World, Stop, opened, index_in, IsWithin, Event, made, completed, showed, incomplete, counted, Happens, Events, MakesSet, not_begun, not_changed, set, LineStep, Runs, committed_at}
+use Rattle.std.specs.FinMap.{insert}
 use Rattle.std.proofs.lemmas.Cmp.{nat_cmp_total}
-use Rattle.std.specs.Prelude.{MatchOption}
-use Rattle.std.specs.List.{cons_option, filter_map}
 use Rattle.std.proofs.lemmas.List.FromFn.{length-range_with_len}
-use Rattle.std.specs.FinMap.{FinMap, get, get-empty, get-insert, insert}
-use Rattle.std.specs.Ordering.{nat_cmp, eq_by_cmp}
-use Rattle.clone_model.specs.declared.line.Line.{Line}
-use Rattle.clone_plain.specs.declared.refusal.Cause.{Cause}
-use Rattle.clone_plain.specs.Donor.{Donor}
-use Rattle.clone_plain.specs.Calls.{Call, begin, put, Done, did_create, did_begin, did_put, did_delete, did_get, did_undo_one, did_commit, Made, done, refused, PlainStep}
-use Rattle.clone_plain.specs.World.{World, Stop, opened, index_in, IsWithin}
-use Rattle.clone_plain.specs.Events.{Event, made, completed, showed, incomplete, counted, Happens, Events}
-use Rattle.clone_plain.specs.Runs.{MakesSet, not_begun, not_changed, set, LineStep, Runs}
-use Rattle.clone_plain.specs.Headline.{committed_at}
 use Rattle.clone_plain.proofs.BinlogLemmas.{events_add}
 use Rattle.clone_plain.proofs.LineLemmas.{Shape, one, sets, shape, CommitMade, was_refused, was_done, commit_made}
 

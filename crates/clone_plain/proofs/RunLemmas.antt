@@ -1,14 +1,7 @@
 -- Runs join, and so do events and what they write.
-use Rattle.std.proofs.Common.{◌≡◌, List, [], ◌∷◌, ◌++◌, refl, sym, ap, ◌∙◌, subst, append_assoc}
-use Rattle.std.proofs.lemmas.List.{append-nil}
-use Rattle.std.specs.List.{flat_map}
+use Rattle.std.proofs.Common.{◌≡◌, List, [], ◌∷◌, ◌++◌, refl, sym, ap, ◌∙◌, subst, append_assoc, append-nil, flat_map}
+use Rattle.clone_plain.proofs.Common.{Line, Donor, Made, World, Event, said, Events, LineStep, Runs, output}
 use Rattle.clone_model.specs.Texts.{ended}
-use Rattle.clone_model.specs.declared.line.Line.{Line}
-use Rattle.clone_plain.specs.Donor.{Donor}
-use Rattle.clone_plain.specs.Calls.{Made}
-use Rattle.clone_plain.specs.World.{World}
-use Rattle.clone_plain.specs.Events.{Event, said, Events}
-use Rattle.clone_plain.specs.Runs.{LineStep, Runs, output}
 
 module _ {D : Type 0} (plain : D → Donor) (Step : D → Made → D → Type 0) where
   pub Events-append : (s : World D) (xs ys : List Event) (t u : World D) → Events plain Step s xs t → Events plain Step t ys u → Events plain Step s (xs ++ ys) u

@@ -1,40 +1,19 @@
 -- The commit of a `set` is of its writer, and has its one change.
-use Rattle.std.proofs.Common.{◌≡◌, ℕ, ◌+◌, ◌-◌, ◌<◌, List, [], ◌∷◌, ◌++◌, length, Bool, cond, sym, ap, ◌∙◌, subst, arith, length-append, append_assoc, Option, Some, unwrap_or}
-use Rattle.std.proofs.lemmas.Cmp.{nat_cmp_total, eq_by_cmp_equiv}
-use Rattle.std.proofs.lemmas.Option.{slice_get-get_or}
-use Rattle.std.proofs.Math.Seq.{get_or-append_seam}
-use Rattle.std.specs.Prelude.{slice_get}
-use Rattle.std.specs.List.{filter_map}
+use Rattle.std.proofs.Common.{◌≡◌, ℕ, ◌+◌, ◌-◌, ◌<◌, List, [], ◌∷◌, ◌++◌, length, sym, ap, ◌∙◌, subst, arith, length-append, append_assoc, Some, slice_get, filter_map}
+use Rattle.clone_plain.proofs.Common.{nat_cmp_total, nat_cmp-IsAntisymmetric, get-set_same, same_Some, slice_get-get_or, Change, Commit, Line, Donor, begun, put_of, with_change, Changes, did_begin, did_put, did_commit, Made, done, PlainStep, World, Event, made, Happens, Events, MakesSet, not_begun, not_changed, set, Runs, committed_at, IsSet, AreSets}
 use Rattle.std.specs.FinMap as finite
-use Rattle.std.specs.Ordering.{nat_cmp}
-use Rattle.clone_model.specs.declared.change.Change.{Change}
-use Rattle.clone_model.specs.declared.change.Commit.{Commit}
-use Rattle.clone_model.specs.declared.line.Line.{Line}
+use Rattle.std.proofs.Math.Seq.{get_or-append_seam}
 use Rattle.clone_model.specs.declared.line.Line.TheVariants as lines
-use Rattle.clone_plain.specs.Donor.{Donor}
-use Rattle.clone_plain.specs.Effects.{begun, put_of, with_change, Changes}
-use Rattle.clone_plain.specs.Calls.{did_begin, did_put, did_commit, Made, done, PlainStep}
-use Rattle.clone_plain.specs.World.{World}
-use Rattle.clone_plain.specs.Events.{Event, made, Happens, Events}
-use Rattle.clone_plain.specs.Runs.{MakesSet, not_begun, not_changed, set, Runs}
-use Rattle.clone_plain.specs.Headline.{committed_at, IsSet, AreSets}
 use Rattle.clone_plain.proofs.BinlogLemmas.{events_add}
 use Rattle.clone_plain.proofs.LineLemmas.{CommitMade, was_refused, was_done, commit_made}
 use Rattle.clone_plain.proofs.RunLemmas.{Runs-Events}
-
-get-put_same : (m : finite.FinMap nat_cmp Commit) (k : ℕ) (x : Commit) → finite.get (finite.insert m k x) k ≡ Some x
-get-put_same m k x = finite.get-insert nat_cmp_total m k x k ∙ ap (λ (b : Bool). cond b (Some x) (finite.get m k)) ((eq_by_cmp_equiv nat_cmp_total).refl k)
-
--- two commits that a map has under one key are the same
-same_commit : (a b : Commit) → Some a ≡ Some b → a ≡ b
-same_commit a b is = ap (λ (o : Option Commit). unwrap_or o a) is
 
 -- the commit of a transaction that began and made one change
 one_change : (d e f : Donor) (trx writer index : ℕ) (change : Change) (commit : Commit) → e ≡ begun trx writer index d → Changes e trx change f → finite.get f.active trx ≡ Some commit → commit ≡ record { writer = writer; index = index; changes = change ∷ [] }
 one_change d e f trx writer index change commit begins changes active =
     let empty : Commit = record { writer = writer; index = index; changes = [] } in
-    let first : changes.commit ≡ empty = same_commit _ _ (sym changes.was_active ∙ ap (λ (d : Donor). finite.get d.active trx) begins ∙ get-put_same d.active trx empty) in
-    let last : commit ≡ with_change change changes.commit = same_commit _ _ (sym active ∙ ap (λ (d : Donor). finite.get d.active trx) changes.is ∙ get-put_same e.active trx (with_change change changes.commit)) in
+    let first : changes.commit ≡ empty = same_Some _ _ (sym changes.was_active ∙ ap (λ (d : Donor). finite.get d.active trx) begins ∙ get-set_same nat_cmp_total nat_cmp-IsAntisymmetric d.active trx empty) in
+    let last : commit ≡ with_change change changes.commit = same_Some _ _ (sym active ∙ ap (λ (d : Donor). finite.get d.active trx) changes.is ∙ get-set_same nat_cmp_total nat_cmp-IsAntisymmetric e.active trx (with_change change changes.commit)) in
     last ∙ ap (with_change change) first
 
 -- what stands behind others

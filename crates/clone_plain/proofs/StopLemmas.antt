@@ -1,14 +1,6 @@
 -- What events show of a clone is what the history before its stop leaves, however long the history becomes.
-use Rattle.std.proofs.Common.{◌≡◌, ℕ, ◌≤◌, List, [], ◌∷◌, length, take, refl, sym, ap, ◌∙◌, subst, arith, inl, inr, ◌⊎◌, length-append, Option, Some, None}
-use Rattle.std.proofs.lemmas.List.{take-append-le}
-use Rattle.std.specs.Prelude.{MatchOption}
-use Rattle.clone_model.specs.History.{Rows, Drops, fold, history_of}
-use Rattle.clone_model.specs.declared.change.Commit.{Commit}
-use Rattle.clone_plain.specs.Donor.{Donor}
-use Rattle.clone_plain.specs.Calls.{Made, PlainStep}
-use Rattle.clone_plain.specs.World.{World, Stop, stop_now, before_stop}
-use Rattle.clone_plain.specs.Events.{Event, made, completed, showed, incomplete, Happens, Events}
-use Rattle.clone_plain.specs.Headline.{ShowsStop}
+use Rattle.std.proofs.Common.{◌≡◌, ℕ, ◌≤◌, List, [], ◌∷◌, length, take, refl, sym, ap, ◌∙◌, subst, arith, inl, inr, ◌⊎◌, length-append, Option, Some, None, MatchOption}
+use Rattle.clone_plain.proofs.Common.{take-append-le, Rows, Drops, fold, history_of, Commit, Donor, Made, PlainStep, World, Stop, stop_now, before_stop, Event, made, completed, showed, incomplete, Happens, Events, ShowsStop}
 use Rattle.clone_plain.proofs.BinlogLemmas.{Adds, event_adds, events_add}
 
 -- a stop lies within what there is

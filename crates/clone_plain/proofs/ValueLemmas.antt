@@ -1,21 +1,10 @@
 -- The value that each row shows, after each step of the plain donor.
 use Rattle.std.proofs.Common.{◌≡◌, ◌≢◌, ℕ, suc, ◌⊎◌, cond, List, [], ◌∷◌, ◌++◌, length, Option, Some, None, IsSome, refl, sym, ap, subst, ◌∙◌, inl, inr, slice_get}
-use Rattle.std.specs.Option.{option_map_or}
-use Rattle.std.proofs.lemmas.Option.{none-some}
+use Rattle.clone_plain.proofs.Common.{none-some, nat_cmp-IsAntisymmetric, nat_cmp_total, eq_by_cmp, Rows, after_change, after_changes, Change, Commit, row_cmp_total, row_cmp_exact, get-set_or_remove, Donor, changes_of, begun, with_change, Changes, TakesBack, Leaves, Commits, changes_by, committed_rows, value_of, IsLocked, ties, apart, get-set_same, get-set_other, get-removed_other, cases_held, slice_get-pushed_last}
 use Rattle.std.specs.FinMap as finite
-use Rattle.std.specs.FinMap.{nat_cmp-IsAntisymmetric}
-use Rattle.std.specs.Cmp.{nat_cmp_total}
-use Rattle.std.specs.Ordering.{eq_by_cmp}
+use Rattle.std.specs.Option.{option_map_or}
 use Rattle.clone_model.specs.Keys.{row_cmp}
-use Rattle.clone_model.specs.History.{Rows, after_change, after_changes}
-use Rattle.clone_model.specs.declared.change.Change.{Change}
-use Rattle.clone_model.specs.declared.change.Commit.{Commit}
 use Rattle.clone_model.proofs.HistoryLemmas.{fold-committed}
-use Rattle.clone_model.proofs.RowMaps.{row_cmp_total, row_cmp_exact, get-set_or_remove}
-use Rattle.clone_plain.specs.Donor.{Donor, changes_of}
-use Rattle.clone_plain.specs.Effects.{begun, with_change, Changes, TakesBack, Leaves, Commits}
-use Rattle.clone_plain.specs.Locked.{changes_by, committed_rows, value_of, IsLocked}
-use Rattle.clone_base.proofs.MapEntries.{ties, apart, get-set_same, get-set_other, get-removed_other, cases_held, slice_get-pushed_last}
 
 -- Rows after changes.
 
@@ -103,6 +92,15 @@ begun_value d trx writer index locked none table key =
     let first : Commit = record { writer = writer; index = index; changes = [] } in
     value_same d after table key refl refl (changes_by_others d after trx (others-set d after trx first refl) (finite.get d.locks (table, key)) (not_held d trx table key locked none))
 
+-- The changes of one transaction have become others, which leave the row as they did.
+other_row : (d after : Donor) (trx table key : ℕ) (cs ds : List Change) → committed_rows after ≡ committed_rows d → finite.get after.locks (table, key) ≡ finite.get d.locks (table, key) → SameOthers trx d after → changes_of d trx ≡ cs → changes_of after trx ≡ ds
+    → finite.get (after_changes (committed_rows d) ds) (table, key) ≡ finite.get (after_changes (committed_rows d) cs) (table, key) → value_of after table key ≡ value_of d table key
+other_row d after trx table key cs ds rows lock others was now same = at (cases_held (finite.get d.locks (table, key)) trx)
+  where
+    at : (finite.get d.locks (table, key) ≡ Some trx) ⊎ (finite.get d.locks (table, key) ≢ Some trx) → value_of after table key ≡ value_of d table key
+    at (inl held) = value_is after (committed_rows d) (Some trx) ds table key rows (lock ∙ held) now ∙ same ∙ sym (value_is d (committed_rows d) (Some trx) cs table key refl held was)
+    at (inr free) = value_same d after table key rows lock (changes_by_others d after trx others (finite.get d.locks (table, key)) free)
+
 -- A change is made.
 
 pub changed_value : {d after : Donor} {trx : ℕ} {change : Change} → IsLocked d → Changes d trx change after → value_of after change.table change.key ≡ change.value
@@ -112,28 +110,13 @@ changed_value {d} {after} {trx} {change} locked c =
     value_is after (committed_rows d) (Some trx) (c.commit.changes ++ change ∷ []) change.table change.key (ap committed_rows c.is) held own ∙ pushed_own (committed_rows d) c.commit.changes change
 
 pub changed_value_other : {d after : Donor} {trx : ℕ} {change : Change} → IsLocked d → Changes d trx change after → (table key : ℕ) → ((table ≡ change.table) → (key ≡ change.key) → ⊥) → value_of after table key ≡ value_of d table key
-changed_value_other {d} {after} {trx} {change} locked c table key other = at (cases_held (finite.get d.locks (table, key)) trx)
-  where
-    row : ℕ × ℕ
-    row = (table, key)
-
-    apart_row : row ≢ (change.table, change.key)
-    apart_row e = other (ap (λ (p : ℕ × ℕ). p.0) e) (ap (λ (p : ℕ × ℕ). p.1) e)
-
-    lock : finite.get after.locks row ≡ finite.get d.locks row
-    lock = ap (λ (e : Donor). finite.get e.locks row) c.is ∙ get-set_other row_cmp_total row_cmp_exact d.locks (change.table, change.key) trx row apart_row
-
-    active : after.active ≡ finite.insert d.active trx (with_change change c.commit)
-    active = ap (λ (e : Donor). e.active) c.is
-
-    rows_same : committed_rows after ≡ committed_rows d
-    rows_same = ap committed_rows c.is
-
-    at : (finite.get d.locks row ≡ Some trx) ⊎ (finite.get d.locks row ≢ Some trx) → value_of after table key ≡ value_of d table key
-    at (inl held) =
-        value_is after (committed_rows d) (Some trx) (c.commit.changes ++ change ∷ []) table key rows_same (lock ∙ held) (changes_of_active after trx (with_change change c.commit) (own-set d after trx (with_change change c.commit) active))
-        ∙ pushed_other (committed_rows d) c.commit.changes change row apart_row ∙ sym (value_is d (committed_rows d) (Some trx) c.commit.changes table key refl held (changes_of_active d trx c.commit c.was_active))
-    at (inr free) = value_same d after table key rows_same lock (changes_by_others d after trx (others-set d after trx (with_change change c.commit) active) (finite.get d.locks row) free)
+changed_value_other {d} {after} {trx} {change} locked c table key other =
+    let apart_row : (table, key) ≢ (change.table, change.key) = λ e. other (ap (λ (p : ℕ × ℕ). p.0) e) (ap (λ (p : ℕ × ℕ). p.1) e) in
+    let lock = ap (λ (e : Donor). finite.get e.locks (table, key)) c.is ∙ get-set_other row_cmp_total row_cmp_exact d.locks (change.table, change.key) trx (table, key) apart_row in
+    let active : after.active ≡ finite.insert d.active trx (with_change change c.commit) = ap (λ (e : Donor). e.active) c.is in
+    let now = changes_of_active after trx (with_change change c.commit) (own-set d after trx (with_change change c.commit) active) in
+    other_row d after trx table key c.commit.changes (c.commit.changes ++ change ∷ []) (ap committed_rows c.is) lock (others-set d after trx (with_change change c.commit) active) (changes_of_active d trx c.commit c.was_active) now
+    (pushed_other (committed_rows d) c.commit.changes change (table, key) apart_row)
 
 -- A change is taken back.
 
@@ -146,31 +129,13 @@ taken_value {d} {after} {trx} {left} locked t =
     (changes_of_active after trx fewer (own-set d after trx fewer (ap (λ (e : Donor). e.active) t.is)))
 
 pub taken_value_other : {d after : Donor} {trx left : ℕ} → IsLocked d → (t : TakesBack d trx left after) → (table key : ℕ) → ((table ≡ t.last.table) → (key ≡ t.last.key) → ⊥) → value_of after table key ≡ value_of d table key
-taken_value_other {d} {after} {trx} {left} locked t table key other = at (cases_held (finite.get d.locks (table, key)) trx)
-  where
-    row : ℕ × ℕ
-    row = (table, key)
-
-    fewer : Commit
-    fewer = record t.commit { changes = t.front }
-
-    apart_row : row ≢ (t.last.table, t.last.key)
-    apart_row e = other (ap (λ (p : ℕ × ℕ). p.0) e) (ap (λ (p : ℕ × ℕ). p.1) e)
-
-    lock : finite.get after.locks row ≡ finite.get d.locks row
-    lock = ap (λ (e : Donor). finite.get e.locks row) t.is
-
-    active : after.active ≡ finite.insert d.active trx fewer
-    active = ap (λ (e : Donor). e.active) t.is
-
-    rows_same : committed_rows after ≡ committed_rows d
-    rows_same = ap committed_rows t.is
-
-    at : (finite.get d.locks row ≡ Some trx) ⊎ (finite.get d.locks row ≢ Some trx) → value_of after table key ≡ value_of d table key
-    at (inl held) =
-        value_is after (committed_rows d) (Some trx) t.front table key rows_same (lock ∙ held) (changes_of_active after trx fewer (own-set d after trx fewer active)) ∙ sym (pushed_other (committed_rows d) t.front t.last row apart_row)
-        ∙ sym (value_is d (committed_rows d) (Some trx) (t.front ++ t.last ∷ []) table key refl held (changes_of_active d trx t.commit t.was_active ∙ t.split))
-    at (inr free) = value_same d after table key rows_same lock (changes_by_others d after trx (others-set d after trx fewer active) (finite.get d.locks row) free)
+taken_value_other {d} {after} {trx} {left} locked t table key other =
+    let apart_row : (table, key) ≢ (t.last.table, t.last.key) = λ e. other (ap (λ (p : ℕ × ℕ). p.0) e) (ap (λ (p : ℕ × ℕ). p.1) e) in
+    let fewer : Commit = record t.commit { changes = t.front } in
+    let active : after.active ≡ finite.insert d.active trx fewer = ap (λ (e : Donor). e.active) t.is in
+    let was = changes_of_active d trx t.commit t.was_active ∙ t.split in
+    other_row d after trx table key (t.front ++ t.last ∷ []) t.front (ap committed_rows t.is) (ap (λ (e : Donor). finite.get e.locks (table, key)) t.is) (others-set d after trx fewer active) was
+    (changes_of_active after trx fewer (own-set d after trx fewer active)) (sym (pushed_other (committed_rows d) t.front t.last (table, key) apart_row))
 
 -- A transaction ends.
 

@@ -49,10 +49,6 @@ abbrev pub made_text : Made → Text
 made_text (done d) = done_text d
 made_text (refused call cause) = refusal_text cause
 
--- a clone is complete at a position
-abbrev pub complete_answer : ℕ → Text
-complete_answer position = codes "complete position " ++ decimal position
-
 -- the rows, each on a line, and then their number
 abbrev pub rows_answer : List Row → Text
 rows_answer rows = rows_text rows ++ codes "rows " ++ decimal (length rows)

@@ -1,5 +1,5 @@
 -- Why the plain donor refuses a call: the first cause that stands, in the order of each call, or none.
-use Rattle.std.specs.Prelude.{ℕ, ◌==◌, not, nat_lt, Bool, true, false, length, if◌then◌else◌, None, Some}
+use Rattle.std.specs.Prelude.{ℕ, ◌==◌, not, nat_lt, Bool, true, false, length, if◌then◌else◌, is_none, None, Some}
 use Rattle.std.specs.declared.option.Option.{Option}
 use Rattle.std.specs.Option.{option_or}
 use Rattle.std.specs.List.{range_with_len, find}
@@ -58,19 +58,11 @@ row_locked d trx table key = locked_by trx (finite.get d.locks (table, key))
 unfoldable pub least_unused : finite.FinMap nat_cmp Commit → Option ℕ
 least_unused active = find (λ trx. not (finite.contains_key active trx)) (range_with_len 0 transaction_limit)
 
-abbrev pub least_free : Donor → Option ℕ
-least_free d = least_unused d.active
-
--- each number below the limit is that of an open transaction
-abbrev pub all_taken : Option ℕ → Option Cause
-all_taken None = Some TooManyTransactions
-all_taken (Some trx) = None
-
 abbrev pub create_cause : Donor → ℕ → Option Cause
 create_cause d table = option_or (whether (finite.contains_key d.tables table) TableExists) (whether (finite.len d.tables == table_limit) TooManyTables)
 
 abbrev pub begin_cause : Donor → Option Cause
-begin_cause d = all_taken (least_free d)
+begin_cause d = whether (is_none (least_unused d.active)) TooManyTransactions
 
 -- of a change whose value has so many bytes; a removal has none
 abbrev pub change_cause : Donor → ℕ → ℕ → ℕ → ℕ → Option Cause

@@ -27,16 +27,30 @@ pub record Donor : Type 0 where
 
 -- a donor is stored as the pairs of its parts
 abbrev pub change_code : Coded Change
-change_code = code_by (ℕ × (ℕ × Option (List ℕ))) (coded× coded_ℕ (coded× coded_ℕ (coded_option (coded_list coded_ℕ)))) (λ c. (c.table, (c.key, c.value))) (λ p. record { table = p.0; key = p.1.0; value = p.1.1 }) (λ _. refl)
+change_code =
+    code_by (ℕ × (ℕ × Option (List ℕ)))
+    (coded× coded_ℕ (coded× coded_ℕ (coded_option (coded_list coded_ℕ))))
+    (λ c. (c.table, (c.key, c.value))) (λ p. record { table = p.0; key = p.1.0; value = p.1.1 })
+    (λ _. refl)
 
 abbrev pub commit_code : Coded Commit
-commit_code = code_by (ℕ × (ℕ × List Change)) (coded× coded_ℕ (coded× coded_ℕ (coded_list change_code))) (λ c. (c.writer, (c.index, c.changes))) (λ p. record { writer = p.0; index = p.1.0; changes = p.1.1 }) (λ _. refl)
+commit_code =
+    code_by (ℕ × (ℕ × List Change)) (coded× coded_ℕ (coded× coded_ℕ (coded_list change_code)))
+    (λ c. (c.writer, (c.index, c.changes)))
+    (λ p. record { writer = p.0; index = p.1.0; changes = p.1.1 }) (λ _. refl)
 
 abbrev pub donor_code : Coded Donor
 donor_code =
-    code_by (finite.FinMap nat_cmp ℕ × (finite.FinMap nat_cmp Commit × (Locks × (List Commit × Drops))))
-    (coded× (finite.code coded_ℕ coded_ℕ) (coded× (finite.code coded_ℕ commit_code) (coded× (finite.code (coded× coded_ℕ coded_ℕ) coded_ℕ) (coded× (coded_list commit_code) (coded_list (coded× coded_ℕ coded_ℕ))))))
-    (λ d. (d.tables, (d.active, (d.locks, (d.binlog, d.drops))))) (λ p. record { tables = p.0; active = p.1.0; locks = p.1.1.0; binlog = p.1.1.1.0; drops = p.1.1.1.1 }) (λ _. refl)
+    code_by (finite.FinMap nat_cmp ℕ
+    × (finite.FinMap nat_cmp Commit × (Locks × (List Commit × Drops))))
+    (coded× (finite.code coded_ℕ coded_ℕ)
+    (coded× (finite.code coded_ℕ commit_code)
+    (coded× (finite.code (coded× coded_ℕ coded_ℕ) coded_ℕ)
+    (coded× (coded_list commit_code) (coded_list (coded× coded_ℕ coded_ℕ))))))
+    (λ d. (d.tables, (d.active, (d.locks, (d.binlog, d.drops)))))
+    (λ p. record
+    { tables = p.0; active = p.1.0; locks = p.1.1.0; binlog = p.1.1.1.0; drops = p.1.1.1.1 })
+    (λ _. refl)
 
 -- before anything happened
 abbrev pub no_donor : Donor

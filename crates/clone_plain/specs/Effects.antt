@@ -8,7 +8,7 @@ use Rattle.clone_model.specs.declared.change.Commit.{Commit}
 use Rattle.clone_plain.specs.declared.refusal.Undone.{Undone}
 use Rattle.clone_plain.specs.declared.refusal.Undone.TheVariants.{Left, Ended}
 use Rattle.clone_plain.specs.Donor.{Donor, Locks, history}
-use Rattle.clone_plain.specs.Causes.{least_free}
+use Rattle.clone_plain.specs.Causes.{least_unused}
 
 -- a table is made, of so many buckets
 abbrev pub created : ℕ → ℕ → Donor → Donor
@@ -20,7 +20,7 @@ begun trx writer index d = record d { active = finite.insert d.active trx (recor
 
 -- the transaction that begins gets the least free number
 abbrev pub Begins : Donor → ℕ → ℕ → ℕ → Donor → Type 0
-Begins d writer index trx after = (least_free d ≡ Some trx) × (after ≡ begun trx writer index d)
+Begins d writer index trx after = (least_unused d.active ≡ Some trx) × (after ≡ begun trx writer index d)
 
 abbrev pub put_of : ℕ → ℕ → List ℕ → Change
 put_of table key value = record { table = table; key = key; value = Some value }

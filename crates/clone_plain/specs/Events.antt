@@ -1,11 +1,12 @@
 -- What happens while a script is carried out, one event after the other: calls of the donor, the moment of its clone, and rows that are shown. The donor is of a type D; `plain` tells the plain donor that it is, and `Step` what a call does to it.
-use Rattle.std.specs.Prelude.{ℕ, ◌≡◌, ◌+◌, List, [], ◌∷◌, None, Some, MatchOption, codes}
+use Rattle.std.specs.Prelude.{ℕ, ◌≡◌, ◌+◌, List, [], ◌∷◌, ◌++◌, None, Some, MatchOption, codes}
+use Rattle.std.specs.Fmt.{decimal}
 use Rattle.std.specs.FinMap as finite
 use Rattle.std.specs.Ordering.{nat_cmp}
 use Rattle.clone_model.specs.History.{Rows, fold, rows_in}
 use Rattle.clone_plain.specs.Donor.{Donor}
 use Rattle.clone_plain.specs.Calls.{did_begin, Made, done}
-use Rattle.clone_plain.specs.Answers.{Text, made_text, complete_answer, rows_answer}
+use Rattle.clone_plain.specs.Answers.{Text, made_text, rows_answer}
 use Rattle.clone_plain.specs.World.{World, Stop, index_in, stop_now, before_stop}
 
 pub data Event : Type 0 where
@@ -20,7 +21,7 @@ pub data Event : Type 0 where
 
 abbrev pub event_text : Event → Text
 event_text (made m) = made_text m
-event_text (completed position) = complete_answer position
+event_text (completed position) = codes "complete position " ++ decimal position
 event_text (showed rows) = rows_answer (rows_in rows)
 event_text incomplete = codes "incomplete"
 

@@ -33,8 +33,7 @@ IsSet writer table key value binlog position =
 abbrev pub AreSets : List Line → List (List Event) → List Commit → Type 0
 AreSets (lines.Set writer table key value ∷ ls) (es ∷ more) binlog = ((position : ℕ) → filter_map committed_at es ≡ position ∷ [] → IsSet writer table key value binlog position) × AreSets ls more binlog
 AreSets (l ∷ ls) (es ∷ more) binlog = AreSets ls more binlog
-AreSets [] more binlog = Unit {0}
-AreSets ls [] binlog = Unit {0}
+AreSets ls more binlog = Unit {0}
 
 -- Each clone answers the position of the stop, which the first one sets. The rows shown behind it are exactly those that the history before the stop leaves: each commit before the stop whole, none later, and nothing of a transaction that was open then.
 abbrev pub ShowsStop : List Commit → Drops → Option Stop → List Event → Type 0

@@ -7,5 +7,6 @@ pub mod Answers
 pub mod World
 pub mod Events
 pub mod Runs
+pub mod BreaksOff
 pub mod Headline
 pub mod Locked

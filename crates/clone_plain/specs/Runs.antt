@@ -1,13 +1,13 @@
 -- Which events a line makes, and runs of lines.
-use Rattle.std.specs.Prelude.{ℕ, ◌≡◌, ◌⊎◌, List, [], ◌∷◌, ◌++◌}
-use Rattle.std.specs.List.{flat_map, AllByRecursion}
+use Rattle.std.specs.Prelude.{ℕ, ◌≡◌, ◌⊎◌, List, [], ◌∷◌}
+use Rattle.std.specs.List.{flat_map}
 use Rattle.clone_model.specs.History.{Rows}
 use Rattle.clone_model.specs.Texts.{ended}
 use Rattle.clone_model.specs.declared.line.Line.{Line}
 use Rattle.clone_model.specs.declared.line.Line.TheVariants.{Create, Begin, Put, Delete, Get, Undo, Commit, Set, Clone, Rows as ShowRows}
 use Rattle.clone_plain.specs.declared.refusal.Cause.{Cause}
 use Rattle.clone_plain.specs.Donor.{Donor}
-use Rattle.clone_plain.specs.Calls.{Call, create, begin, put, delete, get, undo_one, commit, Done, did_begin, did_put, Made, done, refused, made_call}
+use Rattle.clone_plain.specs.Calls.{Call, create, begin, put, delete, get, undo_one, commit, did_begin, did_put, Made, done, refused, made_call}
 use Rattle.clone_plain.specs.World.{World, index_in}
 use Rattle.clone_plain.specs.Events.{Event, made, completed, showed, incomplete, said, Events}
 
@@ -34,10 +34,6 @@ Makes next (Set writer table key value) events = MakesSet writer (next writer) t
 Makes next Clone events = (n : ℕ) × (events ≡ completed n ∷ [])
 Makes next ShowRows events = (events ≡ incomplete ∷ []) ⊎ ((rows : Rows) × (events ≡ showed rows ∷ []))
 
--- a call was carried out, against which there was no cause
-abbrev pub IsDone : Event → Type 0
-IsDone event = (d : Done) × (event ≡ made (done d))
-
 -- each answer is ended by a line feed
 abbrev pub output : List (List Event) → List ℕ
 output events = flat_map (λ es. ended (said es)) events
@@ -46,15 +42,6 @@ module _ {D : Type 0} (plain : D → Donor) (Step : D → Made → D → Type 0)
   -- a line makes its events
   abbrev pub LineStep : World D → Line → List Event → World D → Type 0
   LineStep s line events t = Makes (index_in s.begun) line events × Events plain Step s events t
-
-  -- Memory ran out in a line: a front of its calls was carried out, and against none of these was there a cause.
-  pub record BreaksOff (s : World D) (line : Line) (t : World D) : Type 0 where
-    pub front : List Event
-    pub next : Event
-    pub rest : List Event
-    pub makes : Makes (index_in s.begun) line (front ++ next ∷ rest)
-    pub carried : AllByRecursion IsDone front
-    pub happened : Events plain Step s front t
 
   -- lines are carried out one after the other
   abbrev pub Runs : World D → List Line → List (List Event) → World D → Type 0

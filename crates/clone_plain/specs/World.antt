@@ -19,13 +19,17 @@ pub record World (D : Type 0) : Type 0 where
   pub stop : Option Stop
 
 abbrev pub stop_code : Coded Stop
-stop_code = code_by (ℕ × ℕ) (coded× coded_ℕ coded_ℕ) (λ s. (s.position, s.drops)) (λ p. record { position = p.0; drops = p.1 }) (λ _. refl)
+stop_code =
+    code_by (ℕ × ℕ) (coded× coded_ℕ coded_ℕ) (λ s. (s.position, s.drops))
+    (λ p. record { position = p.0; drops = p.1 }) (λ _. refl)
 
 -- it is stored as the pairs of its parts
 abbrev pub world_code : {D : Type 0} → Coded D → Coded (World D)
 world_code {D} code =
-    code_by (D × (finite.FinMap nat_cmp ℕ × Option Stop)) (coded× code (coded× (finite.code coded_ℕ coded_ℕ) (coded_option stop_code)))
-    (λ s. (s.donor, (s.begun, s.stop))) (λ p. record { donor = p.0; begun = p.1.0; stop = p.1.1 }) (λ _. refl)
+    code_by (D × (finite.FinMap nat_cmp ℕ × Option Stop))
+    (coded× code (coded× (finite.code coded_ℕ coded_ℕ) (coded_option stop_code)))
+    (λ s. (s.donor, (s.begun, s.stop))) (λ p. record { donor = p.0; begun = p.1.0; stop = p.1.1 })
+    (λ _. refl)
 
 -- a donor of which nothing was asked
 abbrev pub opened : {D : Type 0} → D → World D

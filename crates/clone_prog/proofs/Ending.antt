@@ -1,7 +1,7 @@
 -- What a run is, by how it ended.
 use Rattle.std.proofs.Common.{◌≡◌, ◌≤◌, ℕ, List, [], length, refl, sym, ap, subst, None, ◌⊎◌, inl, inr}
 use Rattle.clone_outside.specs.Causes.{Rose}
-use Rattle.clone_outside.specs.Bytes.{IsSpent}
+use Rattle.clone_outside.specs.Bytes.{IsSpent, prepended}
 use Rattle.clone_outside.specs.declared.Refusal.{Refusal}
 use Rattle.clone_outside.specs.declared.Refusal.TheVariants.{Fault, NoMemory}
 use Rattle.clone_model.specs.Texts.{ended, binlog_text}
@@ -15,7 +15,7 @@ use Rattle.clone_prog.specs.Status.{status_of}
 use Rattle.clone_script.specs.Script.{IsScript, longest_script}
 use Rattle.clone_prog.specs.Carrying.{Finished, Stopped, before_lines, in_lines, in_binlog}
 use Rattle.clone_prog.specs.Saying.{Says}
-use Rattle.clone_prog.specs.Main.{Ends, IsCommand, Gave, GaveAll, Carried, Defined, Front, Outcome, Said, some_lines, all_lines}
+use Rattle.clone_prog.specs.Main.{Ends, IsCommand, GaveAll, Carried, Defined, Front, Outcome, Said, some_lines, all_lines}
 
 -- a run that ends with one line
 pub said : (words : List (List ℕ)) (old new : Ends) (asked got : Status) (text : Text) → Says asked got old.out.told new.out.told old.out.faults new.out.faults (ended text)
@@ -53,7 +53,7 @@ front : (words : List (List ℕ)) (old new : Ends) (script : List ℕ) (lines : 
     → Stopped lines old.out.told new.out.told old.binlog.told new.binlog.told → Front words old new
 front words old new script lines command gave read (before_lines out binlog) = inl (out, binlog)
 front words old new script lines command gave read (in_lines is same) =
-    inr (output is.events, [], some_lines command script lines is.events is.final gave read is.carried refl refl, inl (is.out, same))
+    inr (output is.events, [], some_lines command script lines is.count is.events is.final gave read is.carried refl refl, inl (is.out, same))
 front words old new script lines command gave read (in_binlog final is some) =
     inr (output is.events, binlog_text final.donor.donor.binlog, all_lines command script lines is.events final gave read is.run refl refl, inr (is.out, some))
 
@@ -67,7 +67,7 @@ given_up words old new script lines NoMemory got command gave read stopped rose 
     let P : Status → Type 0 = λ s. Outcome s words old new in subst P (sym is) (front words old new script lines command gave read stopped)
 
 -- the source was read to its end
-pub all_given : (old new : Ends) (script : List ℕ) → Gave old new script → new.source.faults ≡ old.source.faults → IsSpent new.source.told → length script ≤ longest_script → GaveAll old new script
+pub all_given : (old new : Ends) (script : List ℕ) → old.source.told ≡ prepended script new.source.told → new.source.faults ≡ old.source.faults → IsSpent new.source.told → length script ≤ longest_script → GaveAll old new script
 all_given old new script given steady spent short = record { given = given; steady = steady; spent = spent; short = short }
 
 -- the same bytes and lines, as they were passed

@@ -1,6 +1,6 @@
 -- How far a run has come: what was carried out, and what of its answers was written.
-use Rattle.std.proofs.Common.{◌≡◌, ℕ, ◌+◌, ◌≤◌, ◌<◌, List, [], ◌∷◌, ◌++◌, length, take, drop, get_or, refl, sym, ap, ◌∙◌, subst, Some, None, Result, Ok, Err, OnOk, OnErr, IsErrOf, IsErrAnd, append_assoc, arith}
-use Rattle.std.proofs.lemmas.List.{take_more, take-append-drop, append-nil, take_all, length-take}
+use Rattle.std.proofs.Common.{◌≡◌, ℕ, ◌+◌, ◌≤◌, ◌<◌, List, [], ◌∷◌, ◌++◌, length, take, get_or, refl, sym, ap, ◌∙◌, subst, Some, None, Result, Ok, Err, OnOk, OnErr, IsErrOf, IsErrAnd, append_assoc, arith}
+use Rattle.std.proofs.lemmas.List.{take_more, append-nil, take_all, length-take}
 use Rattle.std.proofs.Math.Seq.{take-length, take-append-add}
 use Rattle.std.specs.declared.option.Option.{Option}
 use Rattle.clone_outside.specs.Bytes.{appended, TakesSome}
@@ -67,7 +67,8 @@ stopped lines i l w u old now new at lt far (in_it off out) =
     record {
       events = far.events;
       final = w;
-      carried = record { carried = take i lines; rest = drop i lines; split = sym (take-append-drop i lines); run = far.run };
+      count = i;
+      carried = far.run;
       out = all_taken old new (output far.events) (out ∙ far.out);
     }
 stopped lines i l w u old now new at lt far (behind_it answer step out) =
@@ -76,7 +77,8 @@ stopped lines i l w u old now new at lt far (behind_it answer step out) =
     record {
       events = far.events ++ step.events ∷ [];
       final = u;
-      carried = record { carried = take (i + 1) lines; rest = drop (i + 1) lines; split = sym (take-append-drop (i + 1) lines); run = carried_on lines i l w u old now _ at lt far next };
+      count = i + 1;
+      carried = carried_on lines i l w u old now _ at lt far next;
       out = subst P (ap (λ a. output far.events ++ ended a) step.is ∙ output-push far.events step.events) (some_behind old now new (output far.events) (ended answer) far.out out);
     }
 

@@ -1,5 +1,5 @@
 -- What carrying out the lines of a script does: to its end, or up to a stop.
-use Rattle.std.specs.Prelude.{ℕ, ◌≡◌, List}
+use Rattle.std.specs.Prelude.{ℕ, ◌≡◌, List, take}
 use Rattle.std.specs.declared.option.Option.{Option}
 use Rattle.clone_outside.specs.Bytes.{appended, TakesSome}
 use Rattle.clone_model.specs.Texts.{ended, binlog_text}
@@ -8,7 +8,7 @@ use Rattle.clone_plain.specs.Answers.{Text}
 use Rattle.clone_plain.specs.Events.{Event}
 use Rattle.clone_plain.specs.Runs.{output}
 use Rattle.clone_core.specs.Lines.{State, Answers, BreaksOff}
-use Rattle.clone_prog.specs.Main.{Carried, CarriedSome}
+use Rattle.clone_prog.specs.Main.{Carried}
 
 -- the line was carried out, and its whole answer was written
 pub record Answered (line : Line) (before after : State) (old new : Option (List ℕ)) : Type 0 where
@@ -17,12 +17,15 @@ pub record Answered (line : Line) (before after : State) (old new : Option (List
   pub out : new ≡ appended old (ended answer)
 
 -- Memory ran out in the line, and nothing was written. Or the line was carried out, and a front of its answer was written.
-pub data StoppedAtLine (line : Line) (before after : State) (old new : Option (List ℕ)) : Type 0 where
+pub data StoppedAtLine (line : Line) (before after : State)
+    (old new : Option (List ℕ)) : Type 0 where
   in_it : BreaksOff before line after → new ≡ old → StoppedAtLine line before after old new
-  behind_it : (answer : Text) → Answers before line answer after → TakesSome old new (ended answer) → StoppedAtLine line before after old new
+  behind_it : (answer : Text) → Answers before line answer after → TakesSome old new (ended answer)
+      → StoppedAtLine line before after old new
 
 -- all lines were carried out, and all of their answers were written
-pub record AnsweredAll (lines : List Line) (final : State) (old new : Option (List ℕ)) : Type 0 where
+pub record AnsweredAll (lines : List Line) (final : State)
+    (old new : Option (List ℕ)) : Type 0 where
   pub events : List (List Event)
   pub run : Carried lines events final
   pub out : new ≡ appended old (output events)
@@ -31,17 +34,24 @@ pub record AnsweredAll (lines : List Line) (final : State) (old new : Option (Li
 pub record AnsweredSome (lines : List Line) (old new : Option (List ℕ)) : Type 0 where
   pub events : List (List Event)
   pub final : State
-  pub carried : CarriedSome lines events final
+  pub count : ℕ
+  pub carried : Carried (take count lines) events final
   pub out : TakesSome old new (output events)
 
 -- all lines were carried out, and their answers and then the binlog were written
-pub record Finished (lines : List Line) (out_old out_new binlog_old binlog_new : Option (List ℕ)) : Type 0 where
+pub record Finished (lines : List Line)
+    (out_old out_new binlog_old binlog_new : Option (List ℕ)) : Type 0 where
   pub final : State
   pub answered : AnsweredAll lines final out_old out_new
   pub binlog : binlog_new ≡ appended binlog_old (binlog_text final.donor.donor.binlog)
 
 -- it stopped before the lines, in the lines, or behind them in the binlog
-pub data Stopped (lines : List Line) (out_old out_new binlog_old binlog_new : Option (List ℕ)) : Type 0 where
-  before_lines : out_new ≡ out_old → binlog_new ≡ binlog_old → Stopped lines out_old out_new binlog_old binlog_new
-  in_lines : AnsweredSome lines out_old out_new → binlog_new ≡ binlog_old → Stopped lines out_old out_new binlog_old binlog_new
-  in_binlog : (final : State) → AnsweredAll lines final out_old out_new → TakesSome binlog_old binlog_new (binlog_text final.donor.donor.binlog) → Stopped lines out_old out_new binlog_old binlog_new
+pub data Stopped (lines : List Line)
+    (out_old out_new binlog_old binlog_new : Option (List ℕ)) : Type 0 where
+  before_lines : out_new ≡ out_old → binlog_new ≡ binlog_old
+      → Stopped lines out_old out_new binlog_old binlog_new
+  in_lines : AnsweredSome lines out_old out_new → binlog_new ≡ binlog_old
+      → Stopped lines out_old out_new binlog_old binlog_new
+  in_binlog : (final : State) → AnsweredAll lines final out_old out_new
+      → TakesSome binlog_old binlog_new (binlog_text final.donor.donor.binlog)
+      → Stopped lines out_old out_new binlog_old binlog_new

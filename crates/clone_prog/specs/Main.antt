@@ -1,5 +1,5 @@
 -- What a run of the program is: when each status comes, and what was written by then.
-use Rattle.std.specs.Prelude.{ℕ, ◌≡◌, ◌⊎◌, ◌<◌, ◌≤◌, List, [], ◌∷◌, ◌++◌, length, None, codes}
+use Rattle.std.specs.Prelude.{ℕ, ◌≡◌, ◌⊎◌, ◌<◌, ◌≤◌, List, [], ◌∷◌, ◌++◌, length, take, None, codes}
 use Rattle.std.specs.Fmt.{decimal}
 use Rattle.std.specs.declared.option.Option.{Option}
 use Rattle.clone_outside.specs.Causes.{Rose}
@@ -35,20 +35,16 @@ ends left source_faults taken out_faults binlog binlog_faults =
 abbrev pub IsCommand : List (List ℕ) → Type 0
 IsCommand words = words ≡ codes "steps" ∷ []
 
--- the bytes that the source gave
-abbrev pub Gave : Ends → Ends → List ℕ → Type 0
-Gave before after script = before.source.told ≡ prepended script after.source.told
-
 -- the source was read to its end without a failure, and gave no more than a script may have
 pub record GaveAll (before after : Ends) (script : List ℕ) : Type 0 where
-  pub given : Gave before after script
+  pub given : before.source.told ≡ prepended script after.source.told
   pub steady : after.source.faults ≡ before.source.faults
   pub spent : IsSpent after.source.told
   pub short : length script ≤ longest_script
 
 -- the source gave more than a script may have, and didn't fail
 pub record GaveTooMuch (before after : Ends) (script : List ℕ) : Type 0 where
-  pub given : Gave before after script
+  pub given : before.source.told ≡ prepended script after.source.told
   pub steady : after.source.faults ≡ before.source.faults
   pub long : longest_script < length script
 
@@ -57,13 +53,6 @@ pub record Carried (lines : List Line) (events : List (List Event)) (final : Sta
   pub first : State
   pub new : IsNew first
   pub run : Runs first lines events final
-
--- Some of the lines were carried out, from the first on.
-pub record CarriedSome (lines : List Line) (events : List (List Event)) (final : State) : Type 0 where
-  pub carried : List Line
-  pub rest : List Line
-  pub split : lines ≡ carried ++ rest
-  pub run : Carried carried events final
 
 -- one line was written to the output, and nothing to the binlog
 pub record Said (before after : Ends) (text : Text) : Type 0 where
@@ -91,8 +80,8 @@ pub data Defined (words : List (List ℕ)) (before after : Ends) (out binlog : L
   no_source : IsCommand words → Rose before.source.faults after.source.faults → out ≡ ended (codes "source fault") → binlog ≡ [] → Defined words before after out binlog
   too_long : IsCommand words → (script : List ℕ) → GaveTooMuch before after script → out ≡ ended (codes "script too long") → binlog ≡ [] → Defined words before after out binlog
   bad_line : IsCommand words → (script : List ℕ) (number : ℕ) → GaveAll before after script → IsFirstBad script number → out ≡ ended (codes "bad line " ++ decimal number) → binlog ≡ [] → Defined words before after out binlog
-  -- some of the lines, and no binlog yet
-  some_lines : IsCommand words → (script : List ℕ) (all : List Line) (events : List (List Event)) (final : State) → GaveAll before after script → IsScript script all → CarriedSome all events final
+  -- the first n lines, and no binlog yet
+  some_lines : IsCommand words → (script : List ℕ) (all : List Line) (n : ℕ) (events : List (List Event)) (final : State) → GaveAll before after script → IsScript script all → Carried (take n all) events final
       → out ≡ output events → binlog ≡ [] → Defined words before after out binlog
   -- all of the lines, and then the binlog
   all_lines : IsCommand words → (script : List ℕ) (all : List Line) (events : List (List Event)) (final : State) → GaveAll before after script → IsScript script all → Carried all events final

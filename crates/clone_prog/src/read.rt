@@ -46,15 +46,20 @@ impl From<AllocError> for ReadStop {
 /// of it than that. The first read that fails is the last: where the answer is a script or `TooLong`, the
 /// source's count of faults is as before.
 pub fn read_all<S: Source>(alloc: Global, source: &mut S) -> Result<Vec<u8>, ReadStop>
-    ensures gave { IfOk result (λ script. S.left source.old ≡ prepended script.items (S.left source.new)) }
+    ensures gave { IfOk result (λ script. S.left source.old
+        ≡ prepended script.items (S.left source.new)) }
     ensures spent { OnOk result (IsSpent (S.left source.new)) }
     ensures short { IfOk result (λ script. length script.items ≤ longest_script) }
-    ensures fault { IsErrOf result ReadStop.Fault → Rose (S.failures source.old) (S.failures source.new) }
-    ensures long { IsErrOf result ReadStop.TooLong → (script : List ℕ) × (S.left source.old ≡ prepended script (S.left source.new)) × (longest_script < length script) }
+    ensures fault { IsErrOf result ReadStop.Fault
+        → Rose (S.failures source.old) (S.failures source.new) }
+    ensures long { IsErrOf result ReadStop.TooLong → (script : List ℕ)
+        × (S.left source.old ≡ prepended script (S.left source.new))
+        × (longest_script < length script) }
     ensures later { S.failures source.old ≤ S.failures source.new }
     ensures most { TookAtMost (longest_script + 1) (S.left source.old) (S.left source.new) }
     ensures steady { OnOk result (S.failures source.new ≡ S.failures source.old) }
-    ensures steady_long { IsErrOf result ReadStop.TooLong → S.failures source.new ≡ S.failures source.old }
+    ensures steady_long { IsErrOf result ReadStop.TooLong
+        → S.failures source.new ≡ S.failures source.old }
 {
     let mut script = Vec::new(alloc);
     let mut piece = [0; PIECE];

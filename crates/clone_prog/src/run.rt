@@ -28,9 +28,12 @@ pub fn clone_main<S: Source, K: Sink, B: Sink>(
     out: &mut K,
     binlog: &mut B,
 ) -> u8
-    ensures { (status : Status) × (result ≡ number_of status) × Outcome status (map (λ w. string_bytes w) words.now)
-        (ends (S.left source.old) (S.failures source.old) (K.taken out.old) (K.failures out.old) (B.taken binlog.old) (B.failures binlog.old))
-        (ends (S.left source.new) (S.failures source.new) (K.taken out.new) (K.failures out.new) (B.taken binlog.new) (B.failures binlog.new)) }
+    ensures { (status : Status) × (result ≡ number_of status)
+        × Outcome status (map (λ w. string_bytes w) words.now)
+        (ends (S.left source.old) (S.failures source.old) (K.taken out.old) (K.failures out.old)
+        (B.taken binlog.old) (B.failures binlog.old))
+        (ends (S.left source.new) (S.failures source.new) (K.taken out.new) (K.failures out.new)
+        (B.taken binlog.new) (B.failures binlog.new)) }
 {
     run_words(alloc, words, source, out, binlog).number()
 }
@@ -44,8 +47,10 @@ fn run_words<S: Source, K: Sink, B: Sink>(
     binlog: &mut B,
 ) -> Status
     ensures { Outcome result (map (λ w. string_bytes w) words.now)
-        (ends (S.left source.old) (S.failures source.old) (K.taken out.old) (K.failures out.old) (B.taken binlog.old) (B.failures binlog.old))
-        (ends (S.left source.new) (S.failures source.new) (K.taken out.new) (K.failures out.new) (B.taken binlog.new) (B.failures binlog.new)) }
+        (ends (S.left source.old) (S.failures source.old) (K.taken out.old) (K.failures out.old)
+        (B.taken binlog.old) (B.failures binlog.old))
+        (ends (S.left source.new) (S.failures source.new) (K.taken out.new) (K.failures out.new)
+        (B.taken binlog.new) (B.failures binlog.new)) }
 {
     if !is_command(words) {
         return say(out, "usage\n", Status::Usage);
@@ -74,9 +79,13 @@ fn run_lines<K: Sink, B: Sink>(
     out: &mut K,
     binlog: &mut B,
 ) -> Result<(), Refusal>
-    ensures ok { OnOk result (Finished lines.now (K.taken out.old) (K.taken out.new) (B.taken binlog.old) (B.taken binlog.new)) }
-    ensures err { OnErr result (Stopped lines.now (K.taken out.old) (K.taken out.new) (B.taken binlog.old) (B.taken binlog.new)) }
-    ensures fault { IsErrOf result Refusal.Fault → Rose (K.failures out.old) (K.failures out.new) ⊎ Rose (B.failures binlog.old) (B.failures binlog.new) }
+    ensures ok { OnOk result (Finished lines.now (K.taken out.old) (K.taken out.new)
+        (B.taken binlog.old) (B.taken binlog.new)) }
+    ensures err { OnErr result
+        (Stopped lines.now (K.taken out.old) (K.taken out.new) (B.taken binlog.old)
+        (B.taken binlog.new)) }
+    ensures fault { IsErrOf result Refusal.Fault → Rose (K.failures out.old) (K.failures out.new)
+        ⊎ Rose (B.failures binlog.old) (B.failures binlog.new) }
 {
     let mut world = World::new(alloc)?;
     carry_out(alloc, lines, out, &mut world)?;
@@ -110,8 +119,10 @@ fn carry_one<K: Sink>(
     world: &mut World,
 ) -> Result<(), Refusal>
     requires { IsWithin donor_of (2 ^ 63 - 1) world.old }
-    ensures ok { OnOk result (Answered line.now world.old world.new (K.taken out.old) (K.taken out.new)) }
-    ensures err { OnErr result (StoppedAtLine line.now world.old world.new (K.taken out.old) (K.taken out.new)) }
+    ensures ok { OnOk result (Answered line.now world.old world.new (K.taken out.old)
+        (K.taken out.new)) }
+    ensures err { OnErr result
+        (StoppedAtLine line.now world.old world.new (K.taken out.old) (K.taken out.new)) }
     ensures cause { HasCause (K.failures out.old) (K.failures out.new) result }
 {
     let mut answer = world.event(alloc, line)?;
@@ -136,7 +147,8 @@ fn is_steps(word: &str) -> bool
 
 /// Writes a text, and says that the run ended so, or why it was not written.
 fn say<K: Sink>(out: &mut K, text: &str, status: Status) -> Status
-    ensures { Says status result (K.taken out.old) (K.taken out.new) (K.failures out.old) (K.failures out.new) text.now }
+    ensures { Says status result (K.taken out.old) (K.taken out.new) (K.failures out.old)
+        (K.failures out.new) text.now }
 {
     match write_all(out, text.as_bytes()) {
         Ok(()) => status,
@@ -146,7 +158,8 @@ fn say<K: Sink>(out: &mut K, text: &str, status: Status) -> Status
 
 /// Says which line is the first bad one.
 fn say_bad_line<K: Sink>(alloc: Global, out: &mut K, line: u64) -> Status
-    ensures { Says Status.BadLine result (K.taken out.old) (K.taken out.new) (K.failures out.old) (K.failures out.new) (ended (codes "bad line " ++ decimal line)) }
+    ensures { Says Status.BadLine result (K.taken out.old) (K.taken out.new) (K.failures out.old)
+        (K.failures out.new) (ended (codes "bad line " ++ decimal line)) }
 {
     let Ok(text) = format!(in alloc; "bad line {line}\n") else {
         return Status::Memory;

@@ -1,19 +1,7 @@
 -- Which cause there is against a call, and what it means that there is none.
-use Rattle.std.proofs.Common.{◌≡◌, ◌≢◌, ◌<◌, ◌≤◌, ◌⊎◌, ℕ, Bool, true, false, cond, length, Bor, Option, Some, None, refl, sym, ap, ◌∙◌, inl, inr, arith, eq-eqb, eqb-true}
-use Rattle.std.specs.Prelude.{◌==◌, not}
-use Rattle.std.specs.Option.{is_some, option_copied, option_or}
-use Rattle.std.specs.declared.result.Result.{Result}
-use Rattle.std.specs.declared.result.Result.TheVariants.{Ok, Err}
-use Rattle.std.specs.Result.{IsErrAnd, MatchResult}
+use Rattle.std.proofs.Common.{◌≡◌, ◌≢◌, ◌<◌, ◌≤◌, ◌⊎◌, ℕ, Bool, true, false, cond, length, Bor, Option, Some, None, refl, sym, ap, ◌∙◌, inl, inr, arith, eq-eqb, eqb-true, ◌==◌, not, is_some, option_copied, Result, Ok, Err, IsErrAnd, MatchResult, le-ltb}
+use Rattle.clone_trx.proofs.Common.{option_or, Commit, Cause, NoSuchTrx, NoSuchTable, RowLocked, ValueTooLong, UndoFull, Donor, changes_of, whether, no_trx, no_table, too_long, undo_full, row_locked, locked_by, value_limit, change_limit, change_cause, IsLocked, changes_of_active}
 use Rattle.std.specs.FinMap as finite
-use Rattle.std.proofs.lemmas.Bool.{le-ltb}
-use Rattle.clone_model.specs.declared.change.Commit.{Commit}
-use Rattle.clone_plain.specs.declared.refusal.Cause.{Cause}
-use Rattle.clone_plain.specs.declared.refusal.Cause.TheVariants.{NoSuchTrx, NoSuchTable, TableExists, RowLocked, ValueTooLong, UndoFull, TooManyTables}
-use Rattle.clone_plain.specs.Donor.{Donor, changes_of}
-use Rattle.clone_plain.specs.Causes.{whether, no_trx, no_table, too_long, undo_full, row_locked, locked_by, value_limit, change_limit, table_limit, create_cause, change_cause}
-use Rattle.clone_plain.specs.Locked.{IsLocked}
-use Rattle.clone_plain.proofs.ValueLemmas.{changes_of_active}
 
 -- what is borrowed of a map stands there
 pub copied_there : {X : Type 0} (o : Option (Bor X)) (there : Option X) → option_copied o ≡ there → is_some o ≡ true → (x : X) × (there ≡ Some x)
@@ -69,12 +57,6 @@ own_or_free trx (Some holder) none = at (holder == trx) refl none
     at : (b : Bool) → (holder == trx) ≡ b → cond b None (Some (RowLocked holder)) ≡ None → ◌⊎◌ (Some holder ≡ None) (Some holder ≡ Some trx)
     at true same free = inr (ap (λ n. Some n) (eqb-true holder trx same))
     at false other free = absurd (let e = free in cc)
-
--- A table is made.
-
-pub no_create_cause : (d : Donor) (table : ℕ) → finite.get d.tables table ≡ None → finite.len d.tables ≢ table_limit → create_cause d table ≡ None
-no_create_cause d table away room =
-    passed {first = whether (finite.contains_key d.tables table) TableExists} (ap (λ (o : Option ℕ). whether (is_some o) TableExists) away) ∙ ap (λ (b : Bool). whether b TooManyTables) (not_equal (finite.len d.tables) table_limit room)
 
 -- A change.
 

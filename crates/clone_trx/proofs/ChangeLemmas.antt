@@ -1,39 +1,8 @@
 -- An engine after a change that was made at its place, and after one that was taken away at once.
-use Rattle.std.proofs.Common.{◌≡◌, ◌≢◌, ◌<◌, ◌≤◌, ◌+◌, ◌-◌, ◌%◌, ◌==◌, ◌⊎◌, ℕ, Bool, true, false, List, [], ◌∷◌, ◌++◌, length, take, replicate, sym, ap, subst, ◌∙◌, arith, inl, inr, Option, Some, None}
-use Rattle.std.specs.Prelude.{IfSome, MatchOption, if◌then◌else◌, unwrap_or}
+use Rattle.std.proofs.Common.{◌≡◌, ◌≢◌, ◌<◌, ◌≤◌, ◌+◌, ◌-◌, ◌%◌, ◌==◌, ◌⊎◌, ℕ, Bool, true, false, List, [], ◌∷◌, ◌++◌, length, take, replicate, sym, ap, subst, ◌∙◌, arith, inl, inr, Option, Some, None, IfSome, MatchOption, if◌then◌else◌, unwrap_or, nat_cmp, length-append}
+use Rattle.clone_trx.proofs.Common.{nat_cmp-IsAntisymmetric, same_map, nat_cmp_total, take-append_seam, cases_eq, length-replicate, big_bytes, length-bytes_high_first, get-set_same, get-set_other, Change, Commit, Record, bound_key, slots, Finds, FindsFree, UndoEntry, IsEntry, record_page, records_of_change, Image, page_of, all_pages, first_lsn, all_pages-is, contents_of, is_unused, Donor, changes_of, change_cause, Changes, with_change, Opened, value_of, EngineState, page_number, keys_in, BindsKey, IsKept, Appends, AppendsChange, IsPlaceFor, Places, told, front_of, TakesLast, Pops}
 use Rattle.std.specs.FinMap as finite
-use Rattle.std.specs.FinMap.{nat_cmp-IsAntisymmetric, same_map}
-use Rattle.std.specs.Cmp.{nat_cmp_total}
-use Rattle.std.specs.Ordering.{nat_cmp}
-use Rattle.std.proofs.Math.Seq.{take-append_seam}
-use Rattle.std.proofs.lemmas.Bool.{cases_eq}
-use Rattle.std.proofs.lemmas.List.{length-append, length-replicate}
-use Rattle.byteorder.specs.Endian.{big_bytes}
-use Rattle.byteorder.specs.Numbers.{length-bytes_high_first}
-use Rattle.clone_base.proofs.MapEntries.{get-set_same, get-set_other}
-use Rattle.clone_model.specs.declared.change.Change.{Change}
-use Rattle.clone_model.specs.declared.change.Commit.{Commit}
-use Rattle.clone_mtr.specs.declared.record.Record.{Record}
 use Rattle.clone_row.specs.Slots as rows
-use Rattle.clone_row.specs.Slots.{bound_key, slots, Finds, FindsFree}
-use Rattle.clone_undo.specs.Entries.{UndoEntry, IsEntry}
-use Rattle.clone_undo.specs.Places.{record_page}
-use Rattle.clone_undo.specs.Changes.{records_of_change}
-use Rattle.clone_image.specs.Image.{Image, page_of, all_pages}
-use Rattle.clone_image.specs.Replay.{first_lsn}
-use Rattle.clone_image.proofs.Pages.{all_pages-is}
-use Rattle.clone_contents.specs.Contents.{contents_of}
-use Rattle.clone_contents.specs.Steps.{is_unused}
-use Rattle.clone_plain.specs.Donor.{Donor, changes_of}
-use Rattle.clone_plain.specs.Causes.{change_cause}
-use Rattle.clone_plain.specs.Effects.{Changes, with_change}
-use Rattle.clone_plain.specs.Locked.{Opened, value_of}
-use Rattle.clone_trx.specs.Engine.{EngineState, page_number}
-use Rattle.clone_trx.specs.Keys.{keys_in, BindsKey}
-use Rattle.clone_trx.specs.Sound.{IsKept}
-use Rattle.clone_trx.specs.Written.{Appends, AppendsChange}
-use Rattle.clone_trx.specs.Places.{IsPlaceFor, Places, told}
-use Rattle.clone_trx.specs.Opened.{front_of, TakesLast, Pops}
 use Rattle.clone_trx.proofs.CauseLemmas.{MayChange, may_change}
 use Rattle.clone_trx.proofs.KeyPlaceLemmas.{bucket_page, may_take, on_page, free_slot}
 use Rattle.clone_trx.proofs.SoundChangeLemmas.{Puts}

@@ -1,30 +1,7 @@
 -- A transaction commits, and the contents stay sound. At first, with no table and no transaction, they are.
-use Rattle.std.proofs.Common.{◌≡◌, ◌≢◌, ℕ, suc, List, [], ◌∷◌, refl, sym, ap, subst, ◌∙◌, inl, inr, Option, Some, None, slice_get, arith, length}
-use Rattle.std.specs.Option.{is_some}
+use Rattle.std.proofs.Common.{◌≡◌, ◌≢◌, ℕ, suc, List, [], ◌∷◌, refl, sym, ap, subst, ◌∙◌, inl, inr, Option, Some, None, slice_get, arith, length, is_some, nat_cmp}
+use Rattle.clone_trx.proofs.Common.{nat_cmp-IsAntisymmetric, get-empty, len-empty, nat_cmp_total, cases_eq, same_Some, none-some, length_push, row_cmp, Rows, after_change, after_changes, Change, Commit, unused, bound_key, UndoEntry, Contents, set_at, system_size, committed, opened, set_at-same, set_at-other, Donor, no_donor, Commits, Slots, TellsChanges, StandsFor, IsSound, committed_rows, changes_by, value_of, get-removed_same, after_changes_same, others-removed, committed_other, committed_value, committed_locked}
 use Rattle.std.specs.FinMap as finite
-use Rattle.std.specs.FinMap.{nat_cmp-IsAntisymmetric, get-empty, len-empty}
-use Rattle.std.specs.Cmp.{nat_cmp_total}
-use Rattle.std.specs.Ordering.{nat_cmp}
-use Rattle.std.proofs.lemmas.Bool.{cases_eq}
-use Rattle.std.proofs.lemmas.Option.{same_Some, none-some}
-use Rattle.std.proofs.lemmas.List.{length_push}
-use Rattle.clone_model.specs.Keys.{row_cmp}
-use Rattle.clone_model.specs.History.{Rows, after_change, after_changes}
-use Rattle.clone_model.specs.declared.change.Change.{Change}
-use Rattle.clone_model.specs.declared.change.Commit.{Commit}
-use Rattle.clone_row.specs.Slots.{unused, bound_key}
-use Rattle.clone_undo.specs.Entries.{UndoEntry}
-use Rattle.clone_contents.specs.Contents.{Contents, set_at}
-use Rattle.clone_contents.specs.Records.{system_size}
-use Rattle.clone_contents.specs.Steps.{committed, opened}
-use Rattle.clone_contents.proofs.SameContents.{set_at-same, set_at-other}
-use Rattle.clone_plain.specs.Donor.{Donor, no_donor}
-use Rattle.clone_plain.specs.Effects.{Commits}
-use Rattle.clone_trx.specs.Sound.{Slots, TellsChanges, StandsFor, IsSound}
-use Rattle.clone_plain.specs.Locked.{committed_rows, changes_by, value_of}
-use Rattle.clone_base.proofs.MapEntries.{get-removed_same}
-use Rattle.clone_plain.proofs.ValueLemmas.{after_changes_same, others-removed, committed_other, committed_value}
-use Rattle.clone_plain.proofs.LockLemmas.{committed_locked}
 use Rattle.clone_trx.proofs.SoundChangeLemmas.{same_tables}
 use Rattle.clone_trx.proofs.OpenTransactionLemmas.{rows_still}
 

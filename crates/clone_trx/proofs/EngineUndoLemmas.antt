@@ -1,30 +1,8 @@
 -- Taking back, as the engine does it.
-use Rattle.std.proofs.Common.{◌≡◌, ◌≢◌, ◌<◌, ◌+◌, ◌-◌, ◌%◌, ◌==◌, ◌++◌, ℕ, List, [], ◌∷◌, length, take, cond, refl, sym, ap, subst, ◌∙◌, arith, inl, inr, Option, Some, None}
-use Rattle.std.specs.Prelude.{MatchOption, slice_get, unwrap_or}
+use Rattle.std.proofs.Common.{◌≡◌, ◌≢◌, ◌<◌, ◌+◌, ◌-◌, ◌%◌, ◌==◌, ◌++◌, ℕ, List, [], ◌∷◌, length, take, cond, refl, sym, ap, subst, ◌∙◌, arith, inl, inr, Option, Some, None, MatchOption, slice_get, unwrap_or, take_at}
+use Rattle.clone_trx.proofs.Common.{length_push, slice_get-pushed_last, after_changes, Change, Commit, slots, bound_key, Finds, UndoEntry, IsBefore, UndoSlot, records_of_taking_back, Image, all_pages, after_records, undo_slot_of, contents_of, told_value, undo_is, undo_there, Donor, TakesBack, Opened, committed_rows, value_of, changes_of_active, taken_value, EngineState, page_number, Pops, TakesLast, front_of, told, state_of_row, IsKept, TellsChange, Appends, AppendsTakingBack}
 use Rattle.std.specs.FinMap as finite
-use Rattle.std.proofs.lemmas.List.{length_push, take_at}
-use Rattle.clone_base.proofs.MapEntries.{slice_get-pushed_last}
-use Rattle.clone_model.specs.History.{after_changes}
-use Rattle.clone_model.specs.declared.change.Change.{Change}
-use Rattle.clone_model.specs.declared.change.Commit.{Commit}
-use Rattle.clone_row.specs.Slots.{slots, bound_key, Finds}
-use Rattle.clone_undo.specs.Entries.{UndoEntry, IsBefore}
-use Rattle.clone_undo.specs.Slots.{UndoSlot}
-use Rattle.clone_undo.specs.Changes.{records_of_taking_back}
-use Rattle.clone_image.specs.Image.{Image, all_pages, after_records}
-use Rattle.clone_image.specs.Recovered.{undo_slot_of}
-use Rattle.clone_contents.specs.Contents.{contents_of, told_value}
-use Rattle.clone_contents.proofs.ChangeLemmas.{undo_is, undo_there}
 use Rattle.clone_contents.proofs.RowSlots.{slot_is}
-use Rattle.clone_plain.specs.Donor.{Donor}
-use Rattle.clone_plain.specs.Effects.{TakesBack}
-use Rattle.clone_plain.specs.Locked.{Opened, committed_rows, value_of}
-use Rattle.clone_plain.proofs.ValueLemmas.{changes_of_active, taken_value}
-use Rattle.clone_trx.specs.Engine.{EngineState, page_number}
-use Rattle.clone_trx.specs.Opened.{Pops, TakesLast, front_of}
-use Rattle.clone_trx.specs.Places.{told, state_of_row}
-use Rattle.clone_trx.specs.Sound.{IsKept, TellsChange, TellsChanges}
-use Rattle.clone_trx.specs.Written.{Appends, AppendsTakingBack}
 use Rattle.clone_trx.proofs.LastRecordLemmas.{HasRecords}
 use Rattle.clone_trx.proofs.KeptLemmas.{Keeps, take_back_keeps, in_use}
 use Rattle.clone_trx.proofs.TakingBackLemmas as taking
@@ -45,7 +23,7 @@ has_last d image trx count commit kept is counts some =
     let many = counted slot (committed_rows d) commit.changes u.own.records u.own.tells in
     let changes = last_apart commit.changes (count - 1) (omega (arith, counts, some)) in
     let last = last_apart u.own.records (count - 1) (omega (arith, counts, some, many)) in
-    let tells = tells_split slot (committed_rows d) changes.0 last.0 changes.1 last.1 (subst (λ (p : List Change × List UndoEntry). TellsChanges slot (committed_rows d) p.0 p.1) (λ i. (changes.2 i, last.2 i)) u.own.tells) in
+    let tells = tells_split slot (committed_rows d) commit.changes changes.0 u.own.records last.0 changes.1 last.1 changes.2 last.2 u.own.tells in
     let whole : UndoSlot = record { writer = commit.writer; index = commit.index; records = u.own.records } in
     (whole, last.0, last.1, undo_there image trx whole u.small u.own.is, last.2, counts ∙ sym many, tells.1.in_range)
 

@@ -1,36 +1,13 @@
 -- Each mini-transaction of the engine keeps its image formed, and what the plain donor is.
 use Rattle.std.proofs.Common.{◌≡◌, ◌≢◌, ℕ, ◌<◌, ◌≤◌, ◌+◌, ◌++◌, ◌^◌, List, [], ◌∷◌, length, refl, sym, ap, subst, ◌∙◌, arith, Option, Some, None, is_some}
-use Rattle.std.specs.List.{AllByRecursion}
+use Rattle.clone_trx.proofs.Common.{AllByRecursion, same_Some, Change, Commit, Record, UndoEntry, IsEntry, UndoSlot, header_page, record_page, capacity, records_of_begin, records_of_change, records_of_taking_back, records_of_end, Image, after_records, undo_slot_of, Contents, contents_of, set_at, told_value, HasContents, opening_records, create_records, commit_records, is_unused, change_is, undo_is, Donor, no_donor, changes_of, least_unused, table_limit, transaction_limit, created, begun, TakesBack, Leaves, Commits, value_of, committed_rows, page_number, Keys, keys_in, told, IsSound, IsKept, IsUndoSlot, StandsFor}
 use Rattle.std.specs.FinMap as finite
-use Rattle.std.proofs.lemmas.Option.{same_Some}
-use Rattle.clone_model.specs.declared.change.Change.{Change}
-use Rattle.clone_model.specs.declared.change.Commit.{Commit}
-use Rattle.clone_mtr.specs.declared.record.Record.{Record}
 use Rattle.clone_row.specs.Slots as rows
-use Rattle.clone_undo.specs.Entries.{UndoEntry, IsEntry}
-use Rattle.clone_undo.specs.Slots.{UndoSlot}
-use Rattle.clone_undo.specs.Places.{header_page, record_page, capacity}
-use Rattle.clone_undo.specs.Changes.{records_of_begin, records_of_change, records_of_taking_back, records_of_end}
-use Rattle.clone_image.specs.Image.{Image, after_records}
-use Rattle.clone_image.specs.Recovered.{undo_slot_of}
-use Rattle.clone_contents.specs.Contents.{Contents, contents_of, set_at, told_value}
-use Rattle.clone_contents.specs.Formed.{HasContents}
-use Rattle.clone_contents.specs.Records.{opening_records, create_records, commit_records}
-use Rattle.clone_contents.specs.Steps.{is_unused}
 use Rattle.clone_contents.proofs.OpeningLemmas.{opening_is}
 use Rattle.clone_contents.proofs.CreateLemmas.{create_is}
 use Rattle.clone_contents.proofs.UndoSlotLemmas.{begin_is, end_is}
-use Rattle.clone_contents.proofs.ChangeLemmas.{change_is, undo_is}
 use Rattle.clone_contents.proofs.TakingBackLemmas.{taking_back_is}
 use Rattle.clone_contents.proofs.CommitLemmas.{commit_is}
-use Rattle.clone_plain.specs.Donor.{Donor, no_donor, changes_of}
-use Rattle.clone_plain.specs.Causes.{least_free, table_limit, transaction_limit}
-use Rattle.clone_plain.specs.Effects.{created, begun, TakesBack, Leaves, Commits}
-use Rattle.clone_plain.specs.Locked.{value_of, committed_rows}
-use Rattle.clone_trx.specs.Engine.{page_number}
-use Rattle.clone_trx.specs.Keys.{Keys, keys_in}
-use Rattle.clone_trx.specs.Places.{told}
-use Rattle.clone_trx.specs.Sound.{IsSound, IsKept, IsUndoSlot, StandsFor}
 use Rattle.clone_trx.proofs.ScanLemmas.{least_free_is}
 use Rattle.clone_trx.proofs.RowSlotLemmas.{keys_of, set_keys, same_keys}
 use Rattle.clone_trx.proofs.UndoRecordLemmas.{own_slot, counted, in_range}
@@ -65,7 +42,7 @@ create_keeps lsn table buckets d image is none room low high some few =
     keeps (create_is image lsn (finite.len d.tables) table buckets is.formed record { room = room; used = low; low = high; free = is.sound.tables.spaces table used none })
     (created_sound d (contents_of image) (finite.len d.tables) table buckets is.sound none (λ i. finite.len d.tables) room used low high some few) refl
 
-pub begin_keeps : (lsn trx writer index : ℕ) (d : Donor) (image : Image) → IsKept d image → least_free d ≡ Some trx → writer < 2 ^ 32 → index < 2 ^ 64
+pub begin_keeps : (lsn trx writer index : ℕ) (d : Donor) (image : Image) → IsKept d image → least_unused d.active ≡ Some trx → writer < 2 ^ 32 → index < 2 ^ 64
     → Keeps (begun trx writer index d) image (after_records lsn image (records_of_begin (is_unused image 0 (header_page trx)) trx writer index))
 begin_keeps lsn trx writer index d image is least writer_fits index_fits =
     let free = least_free_is d trx least in

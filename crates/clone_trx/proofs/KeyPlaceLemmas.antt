@@ -1,25 +1,8 @@
 -- What the page of a row's bucket tells of the row: its place, the value that it shows, and whether there is a place for it.
-use Rattle.std.proofs.Common.{◌≡◌, ◌≢◌, ◌<◌, ◌≤◌, ◌+◌, ◌%◌, ◌⊎◌, ℕ, zero, suc, Bool, true, false, List, refl, sym, ap, ◌∙◌, inl, inr, Option, Some, None, arith, eq-eqb, eqb-true}
-use Rattle.std.specs.Prelude.{option_map, option_and_then, unwrap_or, ◌==◌, ◌||◌, not}
-use Rattle.std.specs.List.{list_any, range_with_len}
+use Rattle.std.proofs.Common.{◌≡◌, ◌≢◌, ◌<◌, ◌≤◌, ◌+◌, ◌%◌, ◌⊎◌, ℕ, zero, suc, Bool, true, false, List, refl, sym, ap, ◌∙◌, inl, inr, Option, Some, None, arith, eq-eqb, eqb-true, option_map, option_and_then, unwrap_or, ◌==◌, ◌||◌, not, mod-lt}
+use Rattle.clone_trx.proofs.Common.{list_any, range_with_len, cases_eq, same_Some, slots, slot_in, row_in, row_slot, bound_key, unused, Finds, Image, page_of, Contents, contents_of, page_there, Cause, SpaceFull, Donor, whether, value_of, page_number, keys_in, may_hold, full_cause, Places, held_value, IsBound, IsKept}
 use Rattle.std.specs.FinMap as finite
-use Rattle.std.proofs.Math.Nat.{mod-lt}
-use Rattle.std.proofs.lemmas.Bool.{cases_eq}
-use Rattle.std.proofs.lemmas.Option.{same_Some}
-use Rattle.clone_row.specs.Slots.{slots, slot_in, row_in, row_slot, bound_key, unused, Finds}
-use Rattle.clone_image.specs.Image.{Image, page_of}
-use Rattle.clone_contents.specs.Contents.{Contents, contents_of}
-use Rattle.clone_contents.proofs.ChangeLemmas.{page_there}
 use Rattle.clone_contents.proofs.FindLemmas.{slot_on, key_found}
-use Rattle.clone_plain.specs.declared.refusal.Cause.{Cause}
-use Rattle.clone_plain.specs.declared.refusal.Cause.TheVariants.{SpaceFull}
-use Rattle.clone_plain.specs.Donor.{Donor}
-use Rattle.clone_plain.specs.Causes.{whether}
-use Rattle.clone_plain.specs.Locked.{value_of}
-use Rattle.clone_trx.specs.Engine.{page_number}
-use Rattle.clone_trx.specs.Keys.{keys_in, may_hold, full_cause}
-use Rattle.clone_trx.specs.Places.{Places, held_value}
-use Rattle.clone_trx.specs.Sound.{IsBound, IsKept}
 use Rattle.clone_trx.proofs.RowSlotLemmas.{MayTake}
 
 -- A number of a range that passes a test, or none.

@@ -1,18 +1,8 @@
 -- What a change of one open transaction makes of them all.
-use Rattle.std.proofs.Common.{◌≡◌, ℕ, ◌++◌, List, sym, ap, subst, ◌∙◌, Some, None}
-use Rattle.std.specs.Prelude.{IsSome, MatchOption, IfSome, option_to_list, is_some}
-use Rattle.std.specs.declared.option.Option.{Option}
+use Rattle.std.proofs.Common.{◌≡◌, ℕ, ◌++◌, List, sym, ap, subst, ◌∙◌, Some, None, IsSome, MatchOption, IfSome, option_to_list, is_some, Option, nat_cmp, BTreeMap}
+use Rattle.clone_trx.proofs.Common.{nat_cmp_total, exact_unsigned, Change, Commit, with_change, Opened, opened_of, front_of, TakesLast, Pops, get_listed, inserted, inserted_same}
 use Rattle.std.specs.FinMap as finite
-use Rattle.std.specs.Cmp.{nat_cmp_total}
-use Rattle.std.specs.Ordering.{nat_cmp}
-use Rattle.std.specs.BTreeMap.{BTreeMap, get, Updates}
-use Rattle.std.proofs.lemmas.Map.Lookups.{exact_unsigned}
-use Rattle.clone_model.specs.declared.change.Change.{Change}
-use Rattle.clone_model.specs.declared.change.Commit.{Commit}
-use Rattle.clone_plain.specs.Effects.{with_change}
-use Rattle.clone_plain.specs.Locked.{Opened}
-use Rattle.clone_trx.specs.Opened.{opened_of, front_of, TakesLast, Pops}
-use Rattle.clone_base.proofs.OrderedMaps.{get_listed, inserted, inserted_same}
+use Rattle.std.specs.BTreeMap.{get, Updates}
 
 abbrev pub Kept : Type 0
 Kept = BTreeMap ℕ Commit

@@ -1,15 +1,7 @@
 -- The last record of an undo slot, as its page tells it.
-use Rattle.std.proofs.Common.{◌≡◌, ◌≤◌, ◌+◌, ◌-◌, ◌++◌, ℕ, List, [], ◌∷◌, length, take, sym, ap, subst, ◌∙◌, arith, Option, Some, None}
-use Rattle.std.specs.Prelude.{unwrap_or}
-use Rattle.std.proofs.Math.Seq.{drop-nil}
-use Rattle.std.proofs.lemmas.List.{length_push}
-use Rattle.clone_page.specs.Bytes.{part}
-use Rattle.clone_undo.specs.Entries.{UndoEntry, IsEntry, entry_of}
-use Rattle.clone_undo.specs.Places.{record_page, record_place}
-use Rattle.clone_undo.specs.Slots.{UndoSlot, entry_on}
+use Rattle.std.proofs.Common.{◌≡◌, ◌≤◌, ◌+◌, ◌-◌, ◌++◌, ℕ, List, [], ◌∷◌, length, take, sym, ap, subst, ◌∙◌, arith, Option, Some, None, unwrap_or}
+use Rattle.clone_trx.proofs.Common.{drop-nil, length_push, part, UndoEntry, IsEntry, entry_of, record_page, record_place, UndoSlot, entry_on, Image, page_of, system_pages, undo_slot_of}
 use Rattle.clone_undo.proofs.Effects as undo
-use Rattle.clone_image.specs.Image.{Image, page_of}
-use Rattle.clone_image.specs.Recovered.{system_pages, undo_slot_of}
 
 -- no bytes tell of no record that is in range
 no_entry : (i : ℕ) → IsEntry (entry_on i []) → ⊥

@@ -1,3 +1,4 @@
+pub mod Common
 pub mod RowSlotLemmas
 pub mod UndoRecordLemmas
 pub mod SoundChangeLemmas
@@ -17,6 +18,4 @@ pub mod ScanLemmas
 pub mod LastChangeLemmas
 pub mod LockListLemmas
 pub mod SpellingLengths
-pub mod BeginLemmas
-pub mod ChangeSpellings
 pub mod LastRecordLemmas

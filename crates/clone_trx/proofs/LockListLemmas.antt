@@ -1,24 +1,8 @@
 -- The rows that transactions have locked, by row and by transaction, when one is locked and when those of a transaction are released.
-use Rattle.std.proofs.Common.{true, false, ◌≡◌, ◌≢◌, ℕ, ◌+◌, ◌<◌, ◌≤◌, ◌⊎◌, inl, inr, List, [], ◌∷◌, ◌++◌, length, refl, sym, ap, subst, ◌∙◌, Some, None, arith, set, get_or, drop, drop-cons, add-one}
-use Rattle.std.specs.Prelude.{is_some, IfSome, Vec, slice_get, slice_set}
-use Rattle.std.specs.declared.option.Option.{Option}
-use Rattle.std.specs.declared.alloc.Global.{Global}
-use Rattle.std.specs.Option.{option_map_or}
-use Rattle.std.specs.List.{Contains}
+use Rattle.std.proofs.Common.{true, ◌≡◌, ◌≢◌, ℕ, ◌+◌, ◌<◌, ◌≤◌, ◌⊎◌, inl, inr, List, [], ◌∷◌, ◌++◌, length, refl, sym, ap, subst, ◌∙◌, Some, None, arith, set, get_or, drop, drop-cons, add-one, is_some, IfSome, Vec, slice_get, slice_set, Option, Global, Contains, length-set, get_or-set_same, get_or-set_other}
+use Rattle.clone_trx.proofs.Common.{option_map_or, get-empty, cases_lt, cases_eq, slice_get-get_or, slice_get_past, none-some, same_Some, row_cmp, row_cmp_total, row_cmp_exact, Locks, transaction_limit, Releases, Lists, list_at, AreListed, without, get-set_same, get-set_other, get-removed_same, get-removed_other, cases_row, get-remove_some}
 use Rattle.std.specs.FinMap as finite
-use Rattle.std.specs.FinMap.{get-empty}
-use Rattle.std.proofs.lemmas.Bool.{cases_lt, cases_eq}
-use Rattle.std.proofs.lemmas.List.{length-set, get_or-set_same, get_or-set_other}
 use Rattle.std.proofs.lemmas.List.Elements.{Contains-append_left, Contains-append_right, Contains-push, Contains-push_cases, Contains-append_cases}
-use Rattle.std.proofs.lemmas.Option.{slice_get-get_or, slice_get_past}
-use Rattle.clone_model.specs.Keys.{row_cmp}
-use Rattle.clone_model.proofs.RowMaps.{row_cmp_total, row_cmp_exact}
-use Rattle.clone_plain.specs.Donor.{Locks}
-use Rattle.clone_plain.specs.Causes.{transaction_limit}
-use Rattle.clone_plain.specs.Effects.{Releases}
-use Rattle.clone_trx.specs.Locked.{Lists, list_at, AreListed, without}
-use Rattle.clone_base.proofs.MapEntries.{get-set_same, get-set_other, get-removed_same, get-removed_other, cases_row}
-use Rattle.clone_base.proofs.OrderedMaps.{get-remove_some}
 
 abbrev pub Row : Type 0
 Row = ℕ × ℕ
@@ -34,12 +18,6 @@ cons_cases r rows q h = elim (Contains-append_cases (r ∷ []) rows q h) [
   ]
   | inr more ↦ inr more
 ]
-
-pub none_some : {X : Type 0} (o : Option X) (x : X) → o ≡ None → o ≡ Some x → ⊥
-none_some o x e f = let g = sym e ∙ f in cc
-
-same_some : (x y : ℕ) → Some x ≡ Some y → x ≡ y
-same_some x y e = cc
 
 -- a list that was set
 pub list_at-set_same : (lists : Lists) (trx : ℕ) (rows : Vec Row Global) → trx < length lists → list_at (slice_set lists trx rows) trx ≡ rows.items
@@ -60,7 +38,7 @@ without_none (r ∷ rows) h q none = without_none rows (finite.remove h r) q (at
   where
     at : (o : Option ℕ) → finite.get (finite.remove h r) q ≡ o → o ≡ None
     at None e = refl
-    at (Some t) e = absurd (none_some (finite.get h q) t none (get-remove_some row_cmp_total row_cmp_exact h r q t e))
+    at (Some t) e = absurd (none-some t (sym none ∙ get-remove_some row_cmp_total row_cmp_exact h r q t e))
 
 pub without_some : (rows : List Row) (h : Locks) (q : Row) (t : ℕ) → finite.get (without rows h) q ≡ Some t → finite.get h q ≡ Some t
 without_some [] h q t e = e
@@ -84,7 +62,7 @@ pub none_listed : (h : Locks) (lists : Lists) → h ≡ finite.empty → length 
 none_listed h lists empty count none = record {
   count = count;
   held = λ t q among. absurd (nothing_in q (subst (λ (rows : List Row). Contains rows q) (none t) among));
-  listed = λ t q has. absurd (none_some (finite.get h q) t (ap (λ (m : Locks). finite.get m q) empty ∙ get-empty row_cmp q) has);
+  listed = λ t q has. absurd (none-some t (sym (ap (λ (m : Locks). finite.get m q) empty ∙ get-empty row_cmp q) ∙ has));
 }
 
 -- a list that is set to what it was
@@ -119,7 +97,7 @@ more_listed h lists trx row rows lt free more is = record {
     kept : (t : ℕ) (q : Row) → Contains (list_at lists t) q → finite.get (finite.insert h row trx) q ≡ Some t
     kept t q among =
         let has = is.held t q among in
-        get-set_other row_cmp_total row_cmp_exact h row trx q (λ e. none_some (finite.get h q) t (ap (finite.get h) e ∙ free) has) ∙ has
+        get-set_other row_cmp_total row_cmp_exact h row trx q (λ e. none-some t (sym (ap (finite.get h) e ∙ free) ∙ has)) ∙ has
 
     held : (t : ℕ) (q : Row) → Contains (list_at new t) q → finite.get (finite.insert h row trx) q ≡ Some t
     held t q among = elim (cases_eq t trx) [
@@ -139,7 +117,7 @@ more_listed h lists trx row rows lt free more is = record {
     listed : (t : ℕ) (q : Row) → finite.get (finite.insert h row trx) q ≡ Some t → Contains (list_at new t) q
     listed t q has = elim (cases_row q row) [
       | inl e ↦
-          let mine : trx ≡ t = same_some trx t (sym (get-set_same row_cmp_total row_cmp_exact h row trx) ∙ ap (finite.get (finite.insert h row trx)) (sym e) ∙ has) in
+          let mine : trx ≡ t = same_Some trx t (sym (get-set_same row_cmp_total row_cmp_exact h row trx) ∙ ap (finite.get (finite.insert h row trx)) (sym e) ∙ has) in
           subst (λ (x : ℕ). Contains (list_at new x) q) mine (subst (λ (xs : List Row). Contains xs q) (sym own) (subst (λ (x : Row). Contains (list_at lists trx ++ row ∷ []) x) (sym e) (Contains-push (list_at lists trx) row)))
       | inr other ↦ stays t q (is.listed t q (sym (get-set_other row_cmp_total row_cmp_exact h row trx q other) ∙ has))
     ]
@@ -152,13 +130,13 @@ released_listed h new lists trx rows lt taken none is = record {
     | inl e ↦ absurd (nothing_in q (subst (λ (xs : List Row). Contains xs q) (ap (list_at (slice_set lists trx rows)) e ∙ list_at-set_same lists trx rows lt ∙ none) among))
     | inr other ↦
         let has = is.held t q (subst (λ (xs : List Row). Contains xs q) (list_at-set_other lists trx t rows other) among) in
-        ap (λ (m : Locks). finite.get m q) taken ∙ without_out (list_at lists trx) h q (λ own. other (same_some t trx (sym has ∙ is.held trx q own))) ∙ has
+        ap (λ (m : Locks). finite.get m q) taken ∙ without_out (list_at lists trx) h q (λ own. other (same_Some t trx (sym has ∙ is.held trx q own))) ∙ has
   ];
   listed = λ t q has.
       let left : finite.get (without (list_at lists trx) h) q ≡ Some t = ap (λ (m : Locks). finite.get m q) (sym taken) ∙ has in
       let among = is.listed t q (without_some (list_at lists trx) h q t left) in
       elim (cases_eq t trx) [
-        | inl e ↦ absurd (none_some (finite.get (without (list_at lists trx) h) q) t (without_in (list_at lists trx) h q (subst (λ (x : ℕ). Contains (list_at lists x) q) e among)) left)
+        | inl e ↦ absurd (none-some t (sym (without_in (list_at lists trx) h q (subst (λ (x : ℕ). Contains (list_at lists x) q) e among)) ∙ left))
         | inr other ↦ subst (λ (xs : List Row). Contains xs q) (sym (list_at-set_other lists trx t rows other)) among
       ];
 }
@@ -184,7 +162,3 @@ without_goes_on rows i d h new lt taken =
 pub own_row : (o : Option ℕ) (trx : ℕ) → is_some o ≡ true → IfSome o (λ holder. holder ≡ trx) → o ≡ Some trx
 own_row None trx e own = cc
 own_row (Some holder) trx e own = ap (λ (t : ℕ). Some t) own
-
-pub no_row : (o : Option ℕ) → is_some o ≡ false → o ≡ None
-no_row None e = refl
-no_row (Some holder) e = cc

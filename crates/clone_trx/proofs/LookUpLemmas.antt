@@ -1,24 +1,7 @@
 -- What the engine finds of a row: the value that it shows, and the place for a change of it.
-use Rattle.std.proofs.Common.{◌≡◌, ◌≢◌, ◌<◌, ◌≤◌, ◌%◌, ◌^◌, ◌∙◌, ℕ, List, [], length, Option, Some, None, IsSome, refl, sym, ap, subst, arith}
-use Rattle.std.specs.Prelude.{option_map, unwrap_or, ◌==◌}
-use Rattle.std.specs.Option.{is_some, option_or}
+use Rattle.std.proofs.Common.{◌≡◌, ◌≢◌, ◌<◌, ◌≤◌, ◌%◌, ◌^◌, ◌∙◌, ℕ, List, [], length, Option, Some, None, IsSome, refl, sym, ap, subst, arith, option_map, unwrap_or, ◌==◌, is_some, mod-lt}
+use Rattle.clone_trx.proofs.Common.{option_or, same_Some, Commit, kind_of, UndoEntry, IsBefore, Image, page_of, all_pages, all_pages-is, NoSuchTable, SpaceFull, Donor, row_locked, change_limit, change_cause, get_cause, Gets, changes_of_active, own_value, EngineState, page_number, full_cause, Places, HasValue, IsPlaceFor, held_value, state_of_row, IsKept}
 use Rattle.std.specs.FinMap as finite
-use Rattle.std.proofs.Math.Nat.{mod-lt}
-use Rattle.std.proofs.lemmas.Option.{same_Some}
-use Rattle.clone_model.specs.declared.change.Commit.{Commit}
-use Rattle.clone_page.specs.Header.{kind_of}
-use Rattle.clone_undo.specs.Entries.{UndoEntry, IsBefore}
-use Rattle.clone_image.specs.Image.{Image, page_of, all_pages}
-use Rattle.clone_image.proofs.Pages.{all_pages-is}
-use Rattle.clone_plain.specs.declared.refusal.Cause.TheVariants.{NoSuchTable, SpaceFull}
-use Rattle.clone_plain.specs.Donor.{Donor}
-use Rattle.clone_plain.specs.Causes.{row_locked, change_limit, change_cause, get_cause}
-use Rattle.clone_plain.specs.Effects.{Gets}
-use Rattle.clone_plain.proofs.ValueLemmas.{changes_of_active, own_value}
-use Rattle.clone_trx.specs.Engine.{EngineState, page_number}
-use Rattle.clone_trx.specs.Keys.{full_cause}
-use Rattle.clone_trx.specs.Places.{Places, HasValue, IsPlaceFor, held_value, state_of_row}
-use Rattle.clone_trx.specs.Sound.{IsKept}
 use Rattle.clone_trx.proofs.CauseLemmas.{passed, stopped, trx_there, table_there, table_away, own_or_free, Starts, change_by_lock}
 use Rattle.clone_trx.proofs.KeyPlaceLemmas.{bucket_page, shown, held_is, not_full, is_full}
 

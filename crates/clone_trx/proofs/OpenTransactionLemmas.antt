@@ -1,21 +1,7 @@
 -- A transaction begins, or ends without a change, and the contents stay sound.
 use Rattle.std.proofs.Common.{◌≡◌, ◌<◌, ℕ, [], length, refl, sym, ap, subst, ◌∙◌, inl, inr, Option, Some, None}
+use Rattle.clone_trx.proofs.Common.{nat_cmp-IsAntisymmetric, nat_cmp_total, cases_eq, Commit, row_slot, UndoSlot, Contents, with_undo, set_at-same, set_at-other, Donor, begun, Leaves, Slots, HoldsRows, HoldsUndo, StandsFor, IsSound, committed_rows, value_of, get-removed_same, SameOthers, own-set, others-set, others-removed, begun_value, left_value, begun_locked, left_locked}
 use Rattle.std.specs.FinMap as finite
-use Rattle.std.specs.FinMap.{nat_cmp-IsAntisymmetric}
-use Rattle.std.specs.Cmp.{nat_cmp_total}
-use Rattle.std.proofs.lemmas.Bool.{cases_eq}
-use Rattle.clone_model.specs.declared.change.Commit.{Commit}
-use Rattle.clone_row.specs.Slots.{row_slot}
-use Rattle.clone_undo.specs.Slots.{UndoSlot}
-use Rattle.clone_contents.specs.Contents.{Contents, with_undo}
-use Rattle.clone_contents.proofs.SameContents.{set_at-same, set_at-other}
-use Rattle.clone_plain.specs.Donor.{Donor}
-use Rattle.clone_plain.specs.Effects.{begun, Leaves}
-use Rattle.clone_trx.specs.Sound.{Slots, HoldsRows, HoldsUndo, StandsFor, IsSound}
-use Rattle.clone_plain.specs.Locked.{committed_rows, value_of}
-use Rattle.clone_base.proofs.MapEntries.{get-removed_same}
-use Rattle.clone_plain.proofs.ValueLemmas.{SameOthers, own-set, others-set, others-removed, begun_value, left_value}
-use Rattle.clone_plain.proofs.LockLemmas.{begun_locked, left_locked}
 use Rattle.clone_trx.proofs.UndoRecordLemmas.{stands_still}
 use Rattle.clone_trx.proofs.SoundChangeLemmas.{same_tables}
 

@@ -1,32 +1,12 @@
 -- Recovery gives the rows of the history: it takes changes back, as a transaction does itself.
-use Rattle.std.proofs.Common.{◌≡◌, ◌<◌, ◌≤◌, ◌++◌, ℕ, zero, suc, List, [], ◌∷◌, length, refl, sym, ap, subst, ◌∙◌, arith, inl, inr, Option, Some, None}
-use Rattle.std.specs.Option.{is_some, option_map_or}
+use Rattle.std.proofs.Common.{◌≡◌, ◌<◌, ◌≤◌, ◌++◌, ℕ, zero, suc, List, [], ◌∷◌, length, refl, sym, ap, subst, ◌∙◌, arith, inl, inr, Option, Some, None, is_some, append-nil, append_assoc}
+use Rattle.clone_trx.proofs.Common.{option_map_or, cases_eq, Rows, after_changes, Change, Commit, present, row_slot, bound_key, UndoEntry, UndoSlot, Image, page_of, undo_slot_of, HasRows, Contents, contents_of, undone, with_undo, IsFormed, set_at-other, undo_is, Donor, changes_of, TakesBack, HoldsTables, HoldsRows, IsUndoSlot, StandsFor, IsSound, TellsChange, TellsChanges, committed_rows, IsLocked, value_of, changes_by, SameOthers, after_changes-append, changes_of_active, own-set, others-set, value_is, taken_locked}
+use Rattle.clone_image.specs.Recovered.{taken_back_below, recovered}
 use Rattle.std.specs.FinMap as finite
-use Rattle.std.proofs.lemmas.Bool.{cases_eq}
-use Rattle.std.proofs.lemmas.List.{append-nil, append_assoc}
-use Rattle.clone_model.specs.History.{Rows, after_changes}
-use Rattle.clone_model.specs.declared.change.Change.{Change}
-use Rattle.clone_model.specs.declared.change.Commit.{Commit}
-use Rattle.clone_row.specs.Slots.{present, row_slot, bound_key}
-use Rattle.clone_undo.specs.Entries.{UndoEntry}
-use Rattle.clone_undo.specs.Slots.{UndoSlot}
-use Rattle.clone_image.specs.Image.{Image, page_of}
 use Rattle.clone_image.specs.Recovered as images
-use Rattle.clone_image.specs.Recovered.{undo_slot_of, taken_back_below, recovered}
-use Rattle.clone_image.specs.Rows.{HasRows}
-use Rattle.clone_contents.specs.Contents.{Contents, contents_of, undone, with_undo}
-use Rattle.clone_contents.specs.Formed.{IsFormed}
 use Rattle.clone_contents.specs.Rows.{IsRowIn}
-use Rattle.clone_contents.proofs.SameContents.{set_at-other}
-use Rattle.clone_contents.proofs.ChangeLemmas.{undo_is}
 use Rattle.clone_contents.proofs.RecoveryLemmas.{undone_is, freed_is}
 use Rattle.clone_contents.proofs.RowLemmas.{row_contained, row_in_image}
-use Rattle.clone_plain.specs.Donor.{Donor, changes_of}
-use Rattle.clone_plain.specs.Effects.{TakesBack}
-use Rattle.clone_trx.specs.Sound.{HoldsTables, HoldsRows, IsUndoSlot, StandsFor, IsSound, TellsChange, TellsChanges}
-use Rattle.clone_plain.specs.Locked.{committed_rows, IsLocked, value_of, changes_by}
-use Rattle.clone_plain.proofs.ValueLemmas.{SameOthers, after_changes-append, changes_of_active, own-set, others-set, value_is}
-use Rattle.clone_plain.proofs.LockLemmas.{taken_locked}
 use Rattle.clone_trx.proofs.RowSlotLemmas.{KeepsBound}
 use Rattle.clone_trx.proofs.UndoRecordLemmas.{tells_on}
 use Rattle.clone_trx.proofs.SoundChangeLemmas.{same_tables}

@@ -1,16 +1,7 @@
 -- The rows of the contents when one slot is set.
-use Rattle.std.proofs.Common.{◌≡◌, ◌%◌, ◌⊎◌, ℕ, Bool, true, false, cond, List, refl, sym, ap, ◌∙◌, inl, inr, Option, Some, None}
-use Rattle.std.specs.Prelude.{◌==◌}
+use Rattle.std.proofs.Common.{◌≡◌, ◌%◌, ◌⊎◌, ℕ, Bool, true, false, cond, List, refl, sym, ap, ◌∙◌, inl, inr, Option, Some, None, ◌==◌}
+use Rattle.clone_trx.proofs.Common.{same_Some, row_slot, bound_key, unused, Contents, set_at, with_slot, cases_place, slot-same, slot-other, Donor, Keys, Slots, IsBound, HoldsRows, value_of, cases_row}
 use Rattle.std.specs.FinMap as finite
-use Rattle.std.proofs.lemmas.Option.{same_Some}
-use Rattle.clone_row.specs.Slots.{row_slot, bound_key, unused}
-use Rattle.clone_contents.specs.Contents.{Contents, set_at, with_slot}
-use Rattle.clone_contents.proofs.SameContents.{cases_place, slot-same, slot-other}
-use Rattle.clone_plain.specs.Donor.{Donor}
-use Rattle.clone_trx.specs.Keys.{Keys}
-use Rattle.clone_trx.specs.Sound.{Slots, IsBound, HoldsRows}
-use Rattle.clone_plain.specs.Locked.{value_of}
-use Rattle.clone_base.proofs.MapEntries.{cases_row}
 
 pub bound-row_slot : (key : ℕ) (value : Option (List ℕ)) → bound_key (row_slot key value) ≡ Some key
 bound-row_slot key (Some value) = refl

@@ -1,28 +1,7 @@
 -- A change keeps the contents sound.
-use Rattle.std.proofs.Common.{◌≡◌, ◌<◌, ◌≤◌, ◌%◌, ◌⊎◌, ◌++◌, ℕ, List, [], ◌∷◌, length, refl, sym, ap, subst, ◌∙◌, arith, inl, inr, Option, Some, None}
-use Rattle.std.specs.Option.{is_some}
-use Rattle.std.specs.Prelude.{IfSome, unwrap_or}
+use Rattle.std.proofs.Common.{◌≡◌, ◌<◌, ◌≤◌, ◌%◌, ◌⊎◌, ◌++◌, ℕ, List, [], ◌∷◌, length, refl, sym, ap, subst, ◌∙◌, arith, inl, inr, Option, Some, None, is_some, IfSome, unwrap_or, mod-lt}
+use Rattle.clone_trx.proofs.Common.{cases_eq, after_changes, Change, Commit, row_slot, bound_key, UndoEntry, IsEntry, UndoSlot, Contents, told_value, MayChange, changed, telling, set_at-same, set_at-other, slot-same, change_limit, table_limit, Donor, changes_of, with_change, Changes, HoldsTables, HoldsRows, IsUndoSlot, StandsFor, IsSound, TellsChange, TellsChanges, committed_rows, value_of, page_number, told, changes_of_active, own-set, others-set, own_value, changed_value, changed_value_other, changed_locked}
 use Rattle.std.specs.FinMap as finite
-use Rattle.std.proofs.Math.Nat.{mod-lt}
-use Rattle.std.proofs.lemmas.Bool.{cases_eq}
-use Rattle.clone_model.specs.History.{after_changes}
-use Rattle.clone_model.specs.declared.change.Change.{Change}
-use Rattle.clone_model.specs.declared.change.Commit.{Commit}
-use Rattle.clone_row.specs.Slots.{row_slot, bound_key}
-use Rattle.clone_undo.specs.Entries.{UndoEntry, IsEntry}
-use Rattle.clone_undo.specs.Slots.{UndoSlot}
-use Rattle.clone_contents.specs.Contents.{Contents, told_value}
-use Rattle.clone_contents.specs.Steps.{MayChange, changed, telling}
-use Rattle.clone_contents.proofs.SameContents.{set_at-same, set_at-other, slot-same}
-use Rattle.clone_plain.specs.Causes.{change_limit, table_limit}
-use Rattle.clone_plain.specs.Donor.{Donor, changes_of}
-use Rattle.clone_plain.specs.Effects.{with_change, Changes}
-use Rattle.clone_trx.specs.Sound.{HoldsTables, HoldsRows, IsUndoSlot, StandsFor, IsSound, TellsChange, TellsChanges}
-use Rattle.clone_plain.specs.Locked.{committed_rows, value_of}
-use Rattle.clone_trx.specs.Engine.{page_number}
-use Rattle.clone_trx.specs.Places.{told}
-use Rattle.clone_plain.proofs.ValueLemmas.{changes_of_active, own-set, others-set, own_value, changed_value, changed_value_other}
-use Rattle.clone_plain.proofs.LockLemmas.{changed_locked}
 use Rattle.clone_trx.proofs.RowSlotLemmas.{MayTake, KeepsBound, SetsSlot, bound-row_slot, rows_set, kept}
 use Rattle.clone_trx.proofs.UndoRecordLemmas.{counted, in_range, tells_on, tells_push, own_slot, stands_open, stands_still}
 

@@ -1,26 +1,7 @@
 -- The last change of a transaction is taken back, and the contents stay sound.
-use Rattle.std.proofs.Common.{◌≡◌, ◌<◌, ◌≤◌, ◌+◌, ◌++◌, ℕ, List, [], ◌∷◌, length, refl, sym, ap, subst, ◌∙◌, arith, inl, inr, Option, Some}
-use Rattle.std.specs.Option.{is_some}
+use Rattle.std.proofs.Common.{◌≡◌, ◌<◌, ◌≤◌, ◌+◌, ◌++◌, ℕ, List, [], ◌∷◌, length, refl, sym, ap, subst, ◌∙◌, arith, inl, inr, Option, Some, is_some}
+use Rattle.clone_trx.proofs.Common.{cases_eq, length_push, same_Some, after_changes, Commit, row_slot, UndoEntry, capacity, UndoSlot, Contents, HasPage, told_value, undone, with_slot, MayTakeBack, taken_back, telling, set_at-same, set_at-other, Donor, TakesBack, IsBound, HoldsTables, HoldsRows, IsUndoSlot, StandsFor, IsSound, TellsChange, TellsChanges, committed_rows, IsLocked, value_of, own-set, others-set, taken_value, taken_value_other, taken_locked}
 use Rattle.std.specs.FinMap as finite
-use Rattle.std.proofs.lemmas.Bool.{cases_eq}
-use Rattle.std.proofs.lemmas.List.{length_push}
-use Rattle.std.proofs.lemmas.Option.{same_Some}
-use Rattle.clone_model.specs.History.{after_changes}
-use Rattle.clone_model.specs.declared.change.Change.{Change}
-use Rattle.clone_model.specs.declared.change.Commit.{Commit}
-use Rattle.clone_row.specs.Slots.{row_slot}
-use Rattle.clone_undo.specs.Entries.{UndoEntry}
-use Rattle.clone_undo.specs.Places.{capacity}
-use Rattle.clone_undo.specs.Slots.{UndoSlot}
-use Rattle.clone_contents.specs.Contents.{Contents, HasPage, told_value, undone, with_slot}
-use Rattle.clone_contents.specs.Steps.{MayTakeBack, taken_back, telling}
-use Rattle.clone_contents.proofs.SameContents.{set_at-same, set_at-other}
-use Rattle.clone_plain.specs.Donor.{Donor}
-use Rattle.clone_plain.specs.Effects.{TakesBack}
-use Rattle.clone_trx.specs.Sound.{IsBound, HoldsTables, HoldsRows, IsUndoSlot, StandsFor, IsSound, TellsChange, TellsChanges}
-use Rattle.clone_plain.specs.Locked.{committed_rows, IsLocked, value_of}
-use Rattle.clone_plain.proofs.ValueLemmas.{own-set, others-set, taken_value, taken_value_other}
-use Rattle.clone_plain.proofs.LockLemmas.{taken_locked}
 use Rattle.clone_trx.proofs.RowSlotLemmas.{KeepsBound, SetsSlot, rows_set, kept}
 use Rattle.clone_trx.proofs.UndoRecordLemmas.{counted, tells_on, tells_split, own_slot, stands_open, stands_still}
 use Rattle.clone_trx.proofs.SoundChangeLemmas.{same_tables}
@@ -70,7 +51,7 @@ module _ (d after : Donor) (c : Contents) (trx left : ℕ) (slot : UndoSlot) (fr
   records = ap (λ (u : UndoSlot). u.records) same_slot ∙ last
 
   pub told : TellsChanges c.slot (committed_rows d) t.front front × TellsChange c.slot (after_changes (committed_rows d) t.front) t.last e
-  told = tells_split c.slot (committed_rows d) t.front front t.last e (subst (λ (p : List Change × List UndoEntry). TellsChanges c.slot (committed_rows d) p.0 p.1) (λ i. (t.split i, records i)) own.tells)
+  told = tells_split c.slot (committed_rows d) commit.changes t.front own.records front t.last e t.split records own.tells
 
   pub count_is : length slot.records ≡ left + 1
   count_is = omega (arith, ap length last, length_push front e, counted c.slot (committed_rows d) t.front front told.0, t.count)

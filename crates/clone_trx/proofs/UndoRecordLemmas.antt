@@ -1,14 +1,6 @@
 -- Undo records tell of changes, and go on doing so.
 use Rattle.std.proofs.Common.{◌≡◌, ◌++◌, List, [], ◌∷◌, length, refl, sym, subst, ◌∙◌, arith, Option, Some, None}
-use Rattle.std.specs.List.{AllByRecursion}
-use Rattle.clone_model.specs.History.{Rows, after_change, after_changes}
-use Rattle.clone_model.specs.declared.change.Change.{Change}
-use Rattle.clone_model.specs.declared.change.Commit.{Commit}
-use Rattle.clone_undo.specs.Entries.{UndoEntry, IsEntry}
-use Rattle.clone_undo.specs.Slots.{UndoSlot}
-use Rattle.clone_plain.specs.Locked.{committed_rows}
-use Rattle.clone_plain.specs.Donor.{Donor}
-use Rattle.clone_trx.specs.Sound.{Slots, TellsChange, TellsChanges, IsUndoSlot, StandsFor}
+use Rattle.clone_trx.proofs.Common.{AllByRecursion, Rows, after_change, after_changes, Change, Commit, UndoEntry, IsEntry, UndoSlot, committed_rows, Donor, Slots, TellsChange, TellsChanges, IsUndoSlot, StandsFor}
 use Rattle.clone_trx.proofs.RowSlotLemmas.{KeepsBound}
 
 -- as many records as changes, each in its ranges
@@ -45,12 +37,16 @@ none_behind slot rows [] c tells = tells
 none_behind slot rows (x ∷ cs) c tells = tells
 
 -- the last change and its record
-pub tells_split : (slot : Slots) (rows : Rows) (cs : List Change) (es : List UndoEntry) (c : Change) (e : UndoEntry) → TellsChanges slot rows (cs ++ c ∷ []) (es ++ e ∷ []) → TellsChanges slot rows cs es × TellsChange slot (after_changes rows cs) c e
-tells_split slot rows [] [] c e tells = (tt, tells.0)
-tells_split slot rows [] (y ∷ []) c e tells = absurd tells.1
-tells_split slot rows [] (y ∷ (z ∷ es)) c e tells = absurd tells.1
-tells_split slot rows (x ∷ cs) [] c e tells = absurd (none_behind slot (after_change rows x) cs c tells.1)
-tells_split slot rows (x ∷ cs) (y ∷ es) c e tells = let rest = tells_split slot (after_change rows x) cs es c e tells.1 in ((tells.0, rest.0), rest.1)
+last_told : (slot : Slots) (rows : Rows) (cs : List Change) (es : List UndoEntry) (c : Change) (e : UndoEntry) → TellsChanges slot rows (cs ++ c ∷ []) (es ++ e ∷ []) → TellsChanges slot rows cs es × TellsChange slot (after_changes rows cs) c e
+last_told slot rows [] [] c e tells = (tt, tells.0)
+last_told slot rows [] (y ∷ []) c e tells = absurd tells.1
+last_told slot rows [] (y ∷ (z ∷ es)) c e tells = absurd tells.1
+last_told slot rows (x ∷ cs) [] c e tells = absurd (none_behind slot (after_change rows x) cs c tells.1)
+last_told slot rows (x ∷ cs) (y ∷ es) c e tells = let rest = last_told slot (after_change rows x) cs es c e tells.1 in ((tells.0, rest.0), rest.1)
+
+pub tells_split : (slot : Slots) (rows : Rows) (changes cs : List Change) (records es : List UndoEntry) (c : Change) (e : UndoEntry) → changes ≡ cs ++ c ∷ [] → records ≡ es ++ e ∷ [] → TellsChanges slot rows changes records
+    → TellsChanges slot rows cs es × TellsChange slot (after_changes rows cs) c e
+tells_split slot rows changes cs records es c e split ends tells = last_told slot rows cs es c e (subst (λ (p : List Change × List UndoEntry). TellsChanges slot rows p.0 p.1) (λ i. (split i, ends i)) tells)
 
 -- the undo slot of a transaction that is open
 pub own_slot : (d : Donor) (slot : Slots) (active : Option Commit) (found : Option UndoSlot) (commit : Commit) → active ≡ Some commit → StandsFor d slot active found → IsUndoSlot d slot commit found

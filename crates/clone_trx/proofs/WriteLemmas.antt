@@ -1,16 +1,6 @@
 -- What a call has written, and what it leaves that was refused.
-use Rattle.std.proofs.Common.{◌≡◌, ◌+◌, ◌++◌, ◌∷◌, [], ℕ, true, false, List, length, ap, ◌∙◌, Option, None, Some, refl}
-use Rattle.std.specs.Prelude.{OnOk, OnErr, is_some}
-use Rattle.std.specs.declared.result.Result.{Result}
-use Rattle.std.specs.declared.result.Result.TheVariants.{Ok, Err}
-use Rattle.std.specs.Result.{is_err}
-use Rattle.clone_mtr.specs.declared.record.Record.{Record}
-use Rattle.clone_mtr.specs.Spelling.{spelling}
-use Rattle.clone_undo.specs.Changes.{records_of_end}
-use Rattle.clone_image.specs.Image.{Image, after_records}
-use Rattle.clone_image.specs.Replay.{first_lsn}
-use Rattle.clone_store.specs.Stored.{Stored, Writes, Keeps}
-use Rattle.clone_contents.specs.Records.{commit_records, position_record}
+use Rattle.std.proofs.Common.{◌≡◌, ◌+◌, ◌++◌, ◌∷◌, [], ℕ, true, false, List, length, ap, ◌∙◌, Option, None, Some, refl, OnOk, OnErr, is_some, Result, Ok, Err, is_err}
+use Rattle.clone_trx.proofs.Common.{Record, spelling, records_of_end, Image, after_records, first_lsn, Stored, Writes, Keeps, commit_records, position_record}
 
 -- what was written behind a log in which room was made
 pub kept_writes : (old kept new : Stored) (written records : List Record) → Keeps old kept → Writes written kept new → written ≡ records → Writes records old new

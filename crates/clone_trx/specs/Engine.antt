@@ -17,12 +17,16 @@ pub record EngineState : Type 0 where
 -- an engine is stored as the pairs of its parts
 abbrev pub engine_code : Coded EngineState
 engine_code =
-    code_by (Donor × (finite.FinMap nat_cmp (List (List ℕ)) × List ℕ)) (coded× donor_code (coded× (finite.code coded_ℕ (coded_list (coded_list coded_ℕ))) (coded_list coded_ℕ)))
-    (λ e. (e.donor, (e.image, e.log))) (λ p. record { donor = p.0; image = p.1.0; log = p.1.1 }) (λ _. refl)
+    code_by (Donor × (finite.FinMap nat_cmp (List (List ℕ)) × List ℕ))
+    (coded× donor_code
+    (coded× (finite.code coded_ℕ (coded_list (coded_list coded_ℕ))) (coded_list coded_ℕ)))
+    (λ e. (e.donor, (e.image, e.log))) (λ p. record { donor = p.0; image = p.1.0; log = p.1.1 })
+    (λ _. refl)
 
 -- The donor of these parts. An engine drops no table.
 abbrev pub donor_of : finite.FinMap nat_cmp ℕ → Opened → Locks → List Commit → Donor
-donor_of tables active locks binlog = record { tables = tables; active = active; locks = locks; binlog = binlog; drops = [] }
+donor_of tables active locks binlog =
+    record { tables = tables; active = active; locks = locks; binlog = binlog; drops = [] }
 
 -- the page of a row's bucket, by its number in the space of its table
 abbrev pub page_number : Donor → ℕ → ℕ → ℕ

@@ -21,8 +21,10 @@ list_at lists trx = option_map_or (λ rows. rows.items) (slice_get lists trx) []
 -- each row stands in the list of the transaction that holds it, and in no other
 pub record AreListed (holders : Locks) (lists : Lists) : Type 0 where
   pub count : length lists ≡ transaction_limit
-  pub held : (trx : ℕ) (row : ℕ × ℕ) → Contains (list_at lists trx) row → finite.get holders row ≡ Some trx
-  pub listed : (trx : ℕ) (row : ℕ × ℕ) → finite.get holders row ≡ Some trx → Contains (list_at lists trx) row
+  pub held : (trx : ℕ) (row : ℕ × ℕ) → Contains (list_at lists trx) row
+      → finite.get holders row ≡ Some trx
+  pub listed : (trx : ℕ) (row : ℕ × ℕ) → finite.get holders row ≡ Some trx
+      → Contains (list_at lists trx) row
 
 -- the locks without those of some rows
 abbrev pub without : List (ℕ × ℕ) → Locks → Locks

@@ -15,10 +15,13 @@ abbrev pub front_of : List Change → List Change
 front_of changes = take (length changes - 1) changes
 
 -- The last change of a transaction leaves it, if it has any.
-pub record TakesLast (trx : ℕ) (commit : Commit) (old new : Opened) (last : Option Change) : Type 0 where
+pub record TakesLast (trx : ℕ) (commit : Commit) (old new : Opened)
+    (last : Option Change) : Type 0 where
   pub split : commit.changes ≡ front_of commit.changes ++ option_to_list last
   pub is : new ≡ finite.insert old trx (record commit { changes = front_of commit.changes })
 
 -- where there is no such transaction, nothing leaves
 abbrev pub Pops : ℕ → Opened → Opened → Option Change → Type 0
-Pops trx old new last = MatchOption (finite.get old trx) ((last ≡ None) × (new ≡ old)) (λ commit. TakesLast trx commit old new last)
+Pops trx old new last =
+    MatchOption (finite.get old trx) ((last ≡ None) × (new ≡ old))
+    (λ commit. TakesLast trx commit old new last)

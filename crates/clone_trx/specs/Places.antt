@@ -14,7 +14,9 @@ use Rattle.clone_trx.specs.Engine.{EngineState, page_number}
 abbrev pub Places : ℕ → List ℕ → Option ℕ → Type 0
 Places key page found =
     MatchOption found (Finds key (slots page) None × FindsFree (slots page) None)
-    (λ j. (j < slot_count) × (Finds key (slots page) (Some j) ⊎ (Finds key (slots page) None × FindsFree (slots page) (Some j))))
+    (λ j. (j < slot_count)
+    × (Finds key (slots page) (Some j)
+    ⊎ (Finds key (slots page) None × FindsFree (slots page) (Some j))))
 
 -- the value of the row that a slot holds, if it holds one
 abbrev pub held_value : List ℕ → ℕ → Option (List ℕ)
@@ -33,10 +35,19 @@ state_of_row (Some value) = 1
 
 -- what the undo record of a change tells: the row's place, and the value that the row had
 abbrev pub told : Donor → ℕ → ℕ → ℕ → Option (List ℕ) → UndoEntry
-told d table key place value = record { table = table; page = page_number d table key; slot = place; state = state_of_row value; key = key; value = unwrap_or value [] }
+told d table key place value =
+    record {
+      table = table;
+      page = page_number d table key;
+      slot = place;
+      state = state_of_row value;
+      key = key;
+      value = unwrap_or value [];
+    }
 
 -- where a change of a row goes, for the transaction of this number: the place of its key, with what its undo record tells, and how many changes the transaction has made
-pub record IsPlaceFor (s : EngineState) (trx table key : ℕ) (entry : UndoEntry) (fresh : Bool) (made : ℕ) : Type 0 where
+pub record IsPlaceFor (s : EngineState) (trx table key : ℕ) (entry : UndoEntry) (fresh : Bool)
+    (made : ℕ) : Type 0 where
   pub place : Places key (all_pages s.image table entry.page) (Some entry.slot)
   pub told : entry ≡ told s.donor table key entry.slot (value_of s.donor table key)
   pub in_range : IsEntry entry

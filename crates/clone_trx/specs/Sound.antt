@@ -25,7 +25,8 @@ IsBound slot table page place key = bound_key (slot table page place) ≡ Some k
 
 -- Each table stands in one entry of the dictionary and has a space with a page for each bucket, and there are no others. The entries that are used are the first ones.
 pub record HoldsTables (d : Donor) (named : ℕ → ℕ) (size : ℕ → Option ℕ) : Type 0 where
-  pub sizes : (table count : ℕ) → finite.get d.tables table ≡ Some count → (size table ≡ Some count) × (1 ≤ table) × (table ≤ 1000000) × (1 ≤ count) × (count ≤ 1024)
+  pub sizes : (table count : ℕ) → finite.get d.tables table ≡ Some count → (size table ≡ Some count)
+      × (1 ≤ table) × (table ≤ 1000000) × (1 ≤ count) × (count ≤ 1024)
   pub spaces : (table : ℕ) → table ≢ 0 → finite.get d.tables table ≡ None → size table ≡ None
   pub listed : (table : ℕ) → IsSome (finite.get d.tables table) → (j : ℕ) × (named j ≡ table)
   pub tables : (j : ℕ) → named j ≢ 0 → IsSome (finite.get d.tables (named j))
@@ -35,11 +36,16 @@ pub record HoldsTables (d : Donor) (named : ℕ → ℕ) (size : ℕ → Option 
 
 -- A slot that is bound to a key shows the key's value, and all others were never used. A key is bound once at most, on the page of its bucket, and it is wherever it has a value.
 pub record HoldsRows (d : Donor) (slot : Slots) : Type 0 where
-  pub shown : (table page place key : ℕ) → IsBound slot table page place key → slot table page place ≡ row_slot key (value_of d table key)
-  pub clean : (table page place : ℕ) → bound_key (slot table page place) ≡ None → slot table page place ≡ unused
-  pub own : (table page place key : ℕ) → IsBound slot table page place key → (count : ℕ) × (finite.get d.tables table ≡ Some count) × (page ≡ key % count)
-  pub once : (table key p i q j : ℕ) → IsBound slot table p i key → IsBound slot table q j key → (p ≡ q) × (i ≡ j)
-  pub found : (table key : ℕ) (value : List ℕ) → value_of d table key ≡ Some value → (page : ℕ) × (place : ℕ) × IsBound slot table page place key
+  pub shown : (table page place key : ℕ) → IsBound slot table page place key
+      → slot table page place ≡ row_slot key (value_of d table key)
+  pub clean : (table page place : ℕ) → bound_key (slot table page place) ≡ None
+      → slot table page place ≡ unused
+  pub own : (table page place key : ℕ) → IsBound slot table page place key → (count : ℕ)
+      × (finite.get d.tables table ≡ Some count) × (page ≡ key % count)
+  pub once : (table key p i q j : ℕ) → IsBound slot table p i key → IsBound slot table q j key
+      → (p ≡ q) × (i ≡ j)
+  pub found : (table key : ℕ) (value : List ℕ) → value_of d table key ≡ Some value → (page : ℕ)
+      × (place : ℕ) × IsBound slot table page place key
 
 -- an undo record tells of a change that was made where the rows were these
 pub record TellsChange (slot : Slots) (rows : Rows) (change : Change) (e : UndoEntry) : Type 0 where
@@ -52,22 +58,26 @@ pub record TellsChange (slot : Slots) (rows : Rows) (change : Change) (e : UndoE
 -- undo records tell of changes that were made one after the other, where the rows were these at first
 abbrev pub TellsChanges : Slots → Rows → List Change → List UndoEntry → Type 0
 TellsChanges slot rows [] [] = Unit {0}
-TellsChanges slot rows (c ∷ cs) (e ∷ es) = TellsChange slot rows c e × TellsChanges slot (after_change rows c) cs es
+TellsChanges slot rows (c ∷ cs) (e ∷ es) =
+    TellsChange slot rows c e × TellsChanges slot (after_change rows c) cs es
 TellsChanges slot rows [] (e ∷ es) = ⊥
 TellsChanges slot rows (c ∷ cs) [] = ⊥
 
 -- an undo slot in use has the writer and the index of its transaction, and tells of its changes
-pub record IsUndoSlot (d : Donor) (slot : Slots) (commit : Commit) (found : Option UndoSlot) : Type 0 where
+pub record IsUndoSlot (d : Donor) (slot : Slots) (commit : Commit)
+    (found : Option UndoSlot) : Type 0 where
   pub records : List UndoEntry
   pub is : found ≡ Some (record { writer = commit.writer; index = commit.index; records = records })
   pub tells : TellsChanges slot (committed_rows d) commit.changes records
 
 -- an undo slot is that of the open transaction of its number, or free where there is none
 abbrev pub StandsFor : Donor → Slots → Option Commit → Option UndoSlot → Type 0
-StandsFor d slot active found = MatchOption active (found ≡ None) (λ commit. IsUndoSlot d slot commit found)
+StandsFor d slot active found =
+    MatchOption active (found ≡ None) (λ commit. IsUndoSlot d slot commit found)
 
 abbrev pub HoldsUndo : Donor → Slots → (ℕ → Option UndoSlot) → Type 0
-HoldsUndo d slot undo = (s : ℕ) → s < transaction_limit → StandsFor d slot (finite.get d.active s) (undo s)
+HoldsUndo d slot undo =
+    (s : ℕ) → s < transaction_limit → StandsFor d slot (finite.get d.active s) (undo s)
 
 -- all of it, with the number of commits
 pub record IsSound (d : Donor) (c : Contents) : Type 0 where

@@ -74,7 +74,9 @@ impl Active {
         writer: u32,
         index: u64,
     ) -> Result<(), AllocError>
-        ensures ok { OnOk result (self.new ≡ finite.insert self.old trx (record { writer = writer; index = index; changes = [] })) }
+        ensures ok { OnOk result (self.new
+            ≡ finite.insert self.old trx
+            (record { writer = writer; index = index; changes = [] })) }
         ensures err { OnErr result (self.new ≡ self.old) }
     {
         let changes = Changes::new(alloc);
@@ -92,7 +94,8 @@ impl Active {
     /// Adds a change behind the others of an open transaction. After a refusal all is as before.
     pub fn push(&mut self, trx: u32, change: Change) -> Result<(), AllocError>
         requires { IsSome (finite.get self.old trx) }
-        ensures ok { OnOk result (IfSome (finite.get self.old trx) (λ commit. self.new ≡ finite.insert self.old trx (with_change change commit))) }
+        ensures ok { OnOk result (IfSome (finite.get self.old trx)
+            (λ commit. self.new ≡ finite.insert self.old trx (with_change change commit))) }
         ensures err { OnErr result (self.new ≡ self.old) }
     {
         match self.commits.get_mut(&trx) {

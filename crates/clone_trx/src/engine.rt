@@ -13,7 +13,7 @@ ghost use Rattle.clone_image.specs.Replay.{first_lsn, Replays};
 ghost use Rattle.clone_image.specs.Rows.{HasRows};
 ghost use Rattle.clone_contents.specs.Records.{opening_records};
 ghost use Rattle.clone_plain.specs.Donor.{no_donor, history};
-ghost use Rattle.clone_plain.specs.Causes.{create_cause, begin_cause, least_free, transaction_limit};
+ghost use Rattle.clone_plain.specs.Causes.{create_cause, begin_cause, least_unused, transaction_limit};
 ghost use Rattle.clone_plain.specs.Decided.{Decided, none_outside};
 ghost use Rattle.clone_plain.specs.Effects.{created, Begins};
 ghost use Rattle.clone_trx.specs.Keys.{keys_in};
@@ -59,9 +59,15 @@ impl Model for Engine {
 
     ghost coded = { engine_code };
 
-    ghost view = { λ e. record { donor = donor_of e.tables e.active e.locks e.binlog.commits; image = e.store.image; log = e.store.log } };
+    ghost view = { λ e. record {
+      donor = donor_of e.tables e.active e.locks e.binlog.commits;
+      image = e.store.image;
+      log = e.store.log;
+    } };
 
-    ghost invariant = { λ e. IsKept (donor_of e.tables e.active e.locks e.binlog.commits) e.store.image × (finite.len e.active ≤ e.binlog.room) };
+    ghost invariant = { λ e.
+        IsKept (donor_of e.tables e.active e.locks e.binlog.commits) e.store.image
+        × (finite.len e.active ≤ e.binlog.room) };
 }
 
 impl Engine {
@@ -70,7 +76,8 @@ impl Engine {
         ensures donor { IfOk result (λ engine. engine.donor ≡ no_donor) }
         ensures written { IfOk result (λ engine. engine.log ≡ spelling opening_records) }
         ensures keys { IfOk result (λ engine. keys_in engine.image ≡ (λ table page place. None)) }
-        ensures image { IfOk result (λ engine. engine.image ≡ after_records (first_lsn + length engine.log) finite.empty opening_records) }
+        ensures image { IfOk result (λ engine. engine.image
+            ≡ after_records (first_lsn + length engine.log) finite.empty opening_records) }
     {
         let mut store = Store::new(alloc);
         store.write(alloc, &opening())?;
@@ -99,7 +106,7 @@ impl Engine {
 
     /// The number that the next transaction gets: the least of which none is open, if there is one below 64.
     pub fn next_number(&self) -> Option<u32>
-        ensures { result ≡ least_free self.now.donor }
+        ensures { result ≡ least_unused self.now.donor.active }
     {
         self.active.least_free()
     }
@@ -118,7 +125,9 @@ impl Engine {
         table: TableNumber,
         buckets: BucketCount,
     ) -> Result<(), EngineRefusal>
-        ensures answer { Decided (create_cause self.old.donor table) None none_outside self.old.donor self.new.donor result (λ _. self.new.donor ≡ created table buckets self.old.donor) }
+        ensures answer { Decided (create_cause self.old.donor table) None none_outside
+            self.old.donor self.new.donor result
+            (λ _. self.new.donor ≡ created table buckets self.old.donor) }
         ensures written { OnOk result (AppendsCreate table buckets self.old self.new) }
         ensures keys { OnOk result (keys_in self.new.image ≡ keys_in self.old.image) }
         ensures refused { OnErr result (self.new ≡ self.old) }
@@ -144,7 +153,8 @@ impl Engine {
     /// number below 64 of which none is open. Refused where each is. The room of its commit in the binlog
     /// is made here.
     pub fn begin(&mut self, alloc: Global, writer: u32, index: u64) -> Result<u32, EngineRefusal>
-        ensures answer { Decided (begin_cause self.old.donor) None none_outside self.old.donor self.new.donor result (λ trx. Begins self.old.donor writer index trx self.new.donor) }
+        ensures answer { Decided (begin_cause self.old.donor) None none_outside self.old.donor
+            self.new.donor result (λ trx. Begins self.old.donor writer index trx self.new.donor) }
         ensures written { IfOk result (λ trx. AppendsBegin writer index trx self.old self.new) }
         ensures keys { OnOk result (keys_in self.new.image ≡ keys_in self.old.image) }
         ensures refused { OnErr result (self.new ≡ self.old) }
@@ -170,9 +180,12 @@ impl Engine {
     /// more records than fit, and each is in its ranges; no table was dropped; and the pages are formed, and contain what the donor is.
     pub fn laws(&self)
         ensures replays { Replays self.now.log self.now.image }
-        ensures rows { HasRows (page_of (recovered self.now.image)) (fold (history self.now.donor)) }
-        ensures in_range { (s : ℕ) (slot : UndoSlot) → s < transaction_limit → undo_slot_of self.now.image s ≡ Some slot → AllByRecursion IsEntry slot.records }
-        ensures counts { (s : ℕ) (slot : UndoSlot) → s < transaction_limit → undo_slot_of self.now.image s ≡ Some slot → length slot.records ≤ capacity }
+        ensures rows { HasRows (page_of (recovered self.now.image))
+            (fold (history self.now.donor)) }
+        ensures in_range { (s : ℕ) (slot : UndoSlot) → s < transaction_limit
+            → undo_slot_of self.now.image s ≡ Some slot → AllByRecursion IsEntry slot.records }
+        ensures counts { (s : ℕ) (slot : UndoSlot) → s < transaction_limit
+            → undo_slot_of self.now.image s ≡ Some slot → length slot.records ≤ capacity }
         ensures kept { IsKept self.now.donor self.now.image }
         ensures drops { self.now.donor.drops ≡ [] }
     {
@@ -181,7 +194,8 @@ impl Engine {
 
     // The page of a row's bucket, by its number, or none where no table has this number.
     fn bucket_of(&self, table: u32, key: u64) -> Option<u32>
-        ensures { result ≡ option_map (λ count. key % count) (finite.get self.now.donor.tables table) }
+        ensures { result ≡ option_map (λ count. key % count)
+            (finite.get self.now.donor.tables table) }
     {
         let buckets = self.tables.get(table)?;
         Some((key % buckets as u64) as u32)

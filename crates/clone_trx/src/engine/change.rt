@@ -32,9 +32,13 @@ impl Engine {
         key: u64,
         value: &[u8],
     ) -> Result<(), EngineRefusal>
-        ensures answer { Decided (change_cause self.old.donor trx table key (length value.now)) (full_cause self.old table key) none_outside self.old.donor self.new.donor result (λ _. Changes self.old.donor trx (put_of table key value.now) self.new.donor) }
-        ensures written { OnOk result (AppendsChange trx (put_of table key value.now) self.old self.new) }
-        ensures keys { OnOk result (BindsKey table (page_number self.old.donor table key) key (keys_in self.old.image) (keys_in self.new.image)) }
+        ensures answer { Decided (change_cause self.old.donor trx table key (length value.now))
+            (full_cause self.old table key) none_outside self.old.donor self.new.donor result
+            (λ _. Changes self.old.donor trx (put_of table key value.now) self.new.donor) }
+        ensures written { OnOk result (AppendsChange trx (put_of table key value.now) self.old
+            self.new) }
+        ensures keys { OnOk result (BindsKey table (page_number self.old.donor table key) key
+            (keys_in self.old.image) (keys_in self.new.image)) }
         ensures refused { OnErr result (self.new ≡ self.old) }
     {
         let place = self.place_for(trx, table, key, value.len())?;
@@ -59,9 +63,12 @@ impl Engine {
         table: u32,
         key: u64,
     ) -> Result<(), EngineRefusal>
-        ensures answer { Decided (change_cause self.old.donor trx table key 0) (full_cause self.old table key) none_outside self.old.donor self.new.donor result (λ _. Changes self.old.donor trx (delete_of table key) self.new.donor) }
+        ensures answer { Decided (change_cause self.old.donor trx table key 0)
+            (full_cause self.old table key) none_outside self.old.donor self.new.donor result
+            (λ _. Changes self.old.donor trx (delete_of table key) self.new.donor) }
         ensures written { OnOk result (AppendsChange trx (delete_of table key) self.old self.new) }
-        ensures keys { OnOk result (BindsKey table (page_number self.old.donor table key) key (keys_in self.old.image) (keys_in self.new.image)) }
+        ensures keys { OnOk result (BindsKey table (page_number self.old.donor table key) key
+            (keys_in self.old.image) (keys_in self.new.image)) }
         ensures refused { OnErr result (self.new ≡ self.old) }
     {
         let place = self.place_for(trx, table, key, 0)?;
@@ -82,11 +89,15 @@ impl Engine {
         change: Change,
         place: &Place,
     ) -> Result<(), AllocError>
-        requires cause { (long : ℕ) × (change_cause self.old.donor trx change.table change.key long ≡ None) }
-        requires place { IsPlaceFor self.old trx change.table change.key place.now.entry place.now.unused place.now.count }
+        requires cause { (long : ℕ) × (change_cause self.old.donor trx change.table change.key long
+            ≡ None) }
+        requires place { IsPlaceFor self.old trx change.table change.key place.now.entry
+            place.now.unused place.now.count }
         ensures donor { OnOk result (Changes self.old.donor trx change self.new.donor) }
         ensures written { OnOk result (AppendsChange trx change self.old self.new) }
-        ensures keys { OnOk result (BindsKey change.table (page_number self.old.donor change.table change.key) change.key (keys_in self.old.image) (keys_in self.new.image)) }
+        ensures keys { OnOk result (BindsKey change.table
+            (page_number self.old.donor change.table change.key) change.key (keys_in self.old.image)
+            (keys_in self.new.image)) }
         ensures refused { OnErr result (self.new ≡ self.old) }
     {
         let image = slot_image(change.key, change.value.as_ref());
@@ -117,7 +128,8 @@ fn write_change(
     requires trx { trx < transaction_limit }
     requires count { place.now.count < change_limit }
     requires first { first ≤ 1 }
-    ensures { Writes (records_of_change (first == 0) place.now.unused trx place.now.count place.now.entry image.now) store.old store.new }
+    ensures { Writes (records_of_change (first == 0) place.now.unused trx place.now.count
+        place.now.entry image.now) store.old store.new }
 {
     // an old value has at most 64 bytes, so the records fit one mini-transaction
     place.entry.value();

@@ -29,7 +29,8 @@ pub struct Place {
 impl Engine {
     /// The row's value after the history and then the transaction's own changes. No lock is taken.
     pub fn get(&self, trx: u32, table: u32, key: u64) -> Result<Option<Value>, EngineRefusal>
-        ensures { Decided (get_cause self.now.donor trx table key) None none_outside self.now.donor self.now.donor result (λ value. Gets self.now.donor trx table key value) }
+        ensures { Decided (get_cause self.now.donor trx table key) None none_outside self.now.donor
+            self.now.donor result (λ value. Gets self.now.donor trx table key value) }
     {
         if self.active.get(trx).is_none() {
             return Err(Cause::NoSuchTrx.into());
@@ -50,8 +51,11 @@ impl Engine {
         long: usize,
     ) -> Result<Place, Cause>
         ensures { MatchResult result
-            (λ place. (change_cause self.now.donor trx table key long ≡ None) × (full_cause self.now table key ≡ None) × IsPlaceFor self.now trx table key place.entry place.unused place.count)
-            (λ cause. option_or (change_cause self.now.donor trx table key long) (full_cause self.now table key) ≡ Some cause) }
+            (λ place. (change_cause self.now.donor trx table key long ≡ None)
+            × (full_cause self.now table key ≡ None)
+            × IsPlaceFor self.now trx table key place.entry place.unused place.count)
+            (λ cause. option_or (change_cause self.now.donor trx table key long)
+            (full_cause self.now table key) ≡ Some cause) }
     {
         let Some(commit) = self.active.get(trx) else {
             return Err(Cause::NoSuchTrx);
@@ -80,7 +84,8 @@ impl Engine {
 
     // Refuses where another transaction holds the row's lock.
     fn check_lock(&self, trx: u32, table: u32, key: u64) -> Result<(), Cause>
-        ensures { MatchResult result (λ _. row_locked self.now.donor trx table key ≡ None) (λ cause. row_locked self.now.donor trx table key ≡ Some cause) }
+        ensures { MatchResult result (λ _. row_locked self.now.donor trx table key ≡ None)
+            (λ cause. row_locked self.now.donor trx table key ≡ Some cause) }
     {
         match self.locks.holder(table, key) {
             Some(holder) if holder != trx => Err(Cause::RowLocked { holder }),

@@ -15,7 +15,8 @@ impl Engine {
     /// Commits all changes of a transaction, which ends, and answers the new number of commits. Refused
     /// where no open transaction has this number. The binlog has the room, which `begin` made.
     pub fn commit(&mut self, alloc: Global, trx: u32) -> Result<u64, EngineRefusal>
-        ensures answer { Decided (no_trx self.old.donor trx) None none_outside self.old.donor self.new.donor result (λ position. Commits self.old.donor trx position self.new.donor) }
+        ensures answer { Decided (no_trx self.old.donor trx) None none_outside self.old.donor
+            self.new.donor result (λ position. Commits self.old.donor trx position self.new.donor) }
         ensures written { IfOk result (λ position. AppendsCommit trx position self.old self.new) }
         ensures keys { OnOk result (keys_in self.new.image ≡ keys_in self.old.image) }
         ensures refused { OnErr result (self.new ≡ self.old) }

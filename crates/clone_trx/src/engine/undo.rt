@@ -19,7 +19,8 @@ impl Engine {
     /// Takes the last change of a transaction back and answers how many are left. The locks stay. Where it
     /// has no change, it ends without a commit. Refused where no open transaction has this number.
     pub fn undo_one(&mut self, alloc: Global, trx: u32) -> Result<Undone, EngineRefusal>
-        ensures answer { Decided (no_trx self.old.donor trx) None none_outside self.old.donor self.new.donor result (λ undone. Undoes self.old.donor trx undone self.new.donor) }
+        ensures answer { Decided (no_trx self.old.donor trx) None none_outside self.old.donor
+            self.new.donor result (λ undone. Undoes self.old.donor trx undone self.new.donor) }
         ensures written { IfOk result (λ undone. AppendsUndo trx undone self.old self.new) }
         ensures keys { OnOk result (keys_in self.new.image ≡ keys_in self.old.image) }
         ensures refused { OnErr result (self.new ≡ self.old) }
@@ -47,8 +48,11 @@ impl Engine {
 fn last_entry(store: &Store, trx: u32, count: u16) -> UndoRecord
     requires trx { trx < transaction_limit }
     requires few { count ≤ capacity }
-    requires slot { (slot : UndoSlot) × (front : List UndoEntry) × (e : UndoEntry) × (undo_slot_of store.now.image trx ≡ Some slot) × (slot.records ≡ front ++ e ∷ []) × (count ≡ length slot.records) × IsEntry e }
-    ensures { (slot : UndoSlot) × (front : List UndoEntry) × (undo_slot_of store.now.image trx ≡ Some slot) × (slot.records ≡ front ++ result ∷ []) }
+    requires slot { (slot : UndoSlot) × (front : List UndoEntry) × (e : UndoEntry)
+        × (undo_slot_of store.now.image trx ≡ Some slot) × (slot.records ≡ front ++ e ∷ [])
+        × (count ≡ length slot.records) × IsEntry e }
+    ensures { (slot : UndoSlot) × (front : List UndoEntry)
+        × (undo_slot_of store.now.image trx ≡ Some slot) × (slot.records ≡ front ++ result ∷ []) }
 {
     let Some(page) = store.page(0, record_page(trx, count as usize - 1)) else {
         unreachable!();

@@ -1,5 +1,5 @@
 use Rattle.std.proofs.Common.{subst}
-use Rattle.clone_recover.specs.Recovers.{IsCause}
+use Rattle.clone_core.proofs.Common.{IsCause}
 use Rattle.clone_recover.specs.declared.refusal.RecoverRefusal.{RecoverRefusal}
 use Rattle.clone_core.proofs.RecoveredLemmas.{rows_recovered, recovers_log, no_damage}
 use Rattle.clone_core.proofs.joining.recovered_image.Goals as goal

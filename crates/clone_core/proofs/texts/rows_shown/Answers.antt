@@ -1,8 +1,5 @@
-use Rattle.std.proofs.Common.{◌≡◌, ◌++◌, List, ℕ, sym, ap, ◌∙◌, append_assoc, length}
-use Rattle.std.specs.Prelude.{codes}
-use Rattle.std.specs.Fmt.{decimal}
-use Rattle.std.specs.String.{string_bytes}
-use Rattle.clone_model.specs.History.{rows_in}
+use Rattle.std.proofs.Common.{◌≡◌, ◌++◌, List, ℕ, sym, ap, ◌∙◌, append_assoc, length, codes, decimal, string_bytes}
+use Rattle.clone_core.proofs.Common.{rows_in}
 use Rattle.clone_model.specs.Texts as texts
 use Rattle.clone_core.proofs.texts.rows_shown.Goals as goal
 

@@ -1,8 +1,5 @@
 use Rattle.std.proofs.Common.{refl}
-use Rattle.clone_plain.specs.Calls.{PlainStep}
-use Rattle.clone_plain.specs.Donor.{no_donor}
-use Rattle.clone_plain.specs.Headline.{all_events}
-use Rattle.clone_plain.specs.World.{opened}
+use Rattle.clone_plain.proofs.Common.{PlainStep, no_donor, all_events, opened}
 use Rattle.clone_plain.proofs.BinlogLemmas.{events_add, are_commits}
 use Rattle.clone_plain.proofs.ReachedLemmas.{Runs-IsWithin}
 use Rattle.clone_plain.proofs.RunLemmas.{Runs-Events}

@@ -1,4 +1,4 @@
-use Rattle.clone_plain.specs.Calls.{PlainStep}
+use Rattle.clone_plain.proofs.Common.{PlainStep}
 use Rattle.clone_plain.proofs.RunLemmas.{Runs-append}
 use Rattle.clone_plain.proofs.laws.runs_join.Goals as goal
 

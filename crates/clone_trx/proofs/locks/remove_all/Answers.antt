@@ -1,7 +1,5 @@
 use Rattle.std.proofs.Common.{◌∙◌, get_or}
-use Rattle.clone_model.proofs.RowMaps.{row_cmp_total, row_cmp_exact}
-use Rattle.clone_trx.specs.Locked.{holders_of}
-use Rattle.clone_base.proofs.OrderedMaps.{removed}
+use Rattle.clone_trx.proofs.Common.{row_cmp_total, row_cmp_exact, holders_of, removed}
 use Rattle.clone_trx.proofs.LockListLemmas.{Row, without_goes_on}
 use Rattle.clone_trx.proofs.locks.remove_all.Goals as goal
 

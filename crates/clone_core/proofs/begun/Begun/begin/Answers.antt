@@ -1,11 +1,6 @@
-use Rattle.std.proofs.Common.{ℕ, ◌+◌, ap, ◌∙◌}
-use Rattle.std.specs.Prelude.{unwrap_or}
-use Rattle.std.specs.declared.option.Option.{Option}
-use Rattle.std.specs.Cmp.{nat_cmp_total}
+use Rattle.std.proofs.Common.{ℕ, ◌+◌, ap, ◌∙◌, unwrap_or, Option, nat_cmp}
+use Rattle.clone_core.proofs.Common.{nat_cmp_total, exact_unsigned, inserted}
 use Rattle.std.specs.FinMap as finite
-use Rattle.std.specs.Ordering.{nat_cmp}
-use Rattle.std.proofs.lemmas.Map.Lookups.{exact_unsigned}
-use Rattle.clone_base.proofs.OrderedMaps.{inserted}
 use Rattle.clone_core.proofs.begun.Begun.begin.Goals as goal
 
 pub returns-clause-ok : goal.returns-clause-ok

@@ -1,8 +1,6 @@
-use Rattle.std.proofs.Common.{ℕ, ap, sym, ◌∙◌}
-use Rattle.std.specs.Cmp.{nat_cmp_total}
+use Rattle.std.proofs.Common.{ℕ, ap, sym, ◌∙◌, nat_cmp}
+use Rattle.clone_core.proofs.Common.{nat_cmp_total, get_listed}
 use Rattle.std.specs.FinMap as finite
-use Rattle.std.specs.Ordering.{nat_cmp}
-use Rattle.clone_base.proofs.OrderedMaps.{get_listed}
 use Rattle.clone_core.proofs.begun.Begun.count.Goals as goal
 
 pub returns : goal.returns

@@ -1,10 +1,6 @@
-use Rattle.std.proofs.Common.{ℕ, ◌∙◌, sym, ap, subst, None, Some}
-use Rattle.std.specs.Prelude.{IsSome}
-use Rattle.std.specs.declared.option.Option.{Option}
-use Rattle.std.specs.Cmp.{nat_cmp_total}
+use Rattle.std.proofs.Common.{ℕ, ◌∙◌, sym, ap, subst, None, Some, IsSome, Option, nat_cmp}
+use Rattle.clone_core.proofs.Common.{nat_cmp_total, get_listed}
 use Rattle.std.specs.FinMap as finite
-use Rattle.std.specs.Ordering.{nat_cmp}
-use Rattle.clone_base.proofs.OrderedMaps.{get_listed}
 use Rattle.clone_core.proofs.CountLemmas.{restored}
 use Rattle.clone_core.proofs.begun.Begun.restore.Goals as goal
 

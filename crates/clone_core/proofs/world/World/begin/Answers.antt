@@ -1,12 +1,6 @@
-use Rattle.std.proofs.Common.{◌∙◌, ℕ, refl, sym, ap}
-use Rattle.std.specs.Prelude.{unwrap_or, is_some}
-use Rattle.std.specs.declared.option.Option.{Option}
-use Rattle.std.specs.Cmp.{nat_cmp_total}
+use Rattle.std.proofs.Common.{◌∙◌, ℕ, refl, sym, ap, unwrap_or, is_some, Option, nat_cmp}
+use Rattle.clone_core.proofs.Common.{nat_cmp_total, exact_unsigned, get-set_same, begin, did_begin}
 use Rattle.std.specs.FinMap as finite
-use Rattle.std.specs.Ordering.{nat_cmp}
-use Rattle.std.proofs.lemmas.Map.Lookups.{exact_unsigned}
-use Rattle.clone_base.proofs.MapEntries.{get-set_same}
-use Rattle.clone_plain.specs.Calls.{begin, did_begin}
 use Rattle.clone_core.proofs.CallLemmas.{engine_called, begun_called, call_kept}
 use Rattle.clone_core.proofs.world.World.begin.Goals as goal
 

@@ -1,7 +1,5 @@
-use Rattle.std.proofs.Common.{ap, ◌∙◌, sym, length}
-use Rattle.std.specs.Prelude.{option_map}
-use Rattle.std.specs.String.{string_bytes}
-use Rattle.clone_core.specs.Copied.{stop_of}
+use Rattle.std.proofs.Common.{ap, ◌∙◌, sym, length, option_map, string_bytes}
+use Rattle.clone_core.proofs.Common.{stop_of}
 use Rattle.clone_core.proofs.LineLemmas.{cloned, cloned_again, no_copy}
 use Rattle.clone_core.proofs.world.World.clone_line.Goals as goal
 

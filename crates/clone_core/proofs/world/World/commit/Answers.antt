@@ -1,5 +1,5 @@
 use Rattle.std.proofs.Common.{refl}
-use Rattle.clone_plain.specs.Calls.{commit, did_commit}
+use Rattle.clone_core.proofs.Common.{commit, did_commit}
 use Rattle.clone_core.proofs.CallLemmas.{engine_called, called, call_kept}
 use Rattle.clone_core.proofs.world.World.commit.Goals as goal
 

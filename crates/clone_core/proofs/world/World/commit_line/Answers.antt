@@ -1,10 +1,6 @@
-use Rattle.std.proofs.Common.{◌+◌, ◌++◌, length, refl, sym, ap, ◌∙◌}
-use Rattle.std.specs.String.{string_bytes}
-use Rattle.std.specs.Prelude.{codes}
-use Rattle.std.specs.Fmt.{decimal}
+use Rattle.std.proofs.Common.{◌+◌, ◌++◌, length, refl, sym, ap, ◌∙◌, string_bytes, codes, decimal}
+use Rattle.clone_core.proofs.Common.{commit, did_commit, State}
 use Rattle.clone_model.specs.declared.line.Line.TheVariants as lines
-use Rattle.clone_plain.specs.Calls.{commit, did_commit}
-use Rattle.clone_core.specs.Lines.{State}
 use Rattle.clone_core.proofs.LineLemmas.{line_answers}
 use Rattle.clone_core.proofs.world.World.commit_line.Goals as goal
 

@@ -1,5 +1,5 @@
 use Rattle.std.proofs.Common.{refl}
-use Rattle.clone_plain.specs.Calls.{delete, did_delete}
+use Rattle.clone_core.proofs.Common.{delete, did_delete}
 use Rattle.clone_core.proofs.CallLemmas.{engine_called, called_on, call_kept}
 use Rattle.clone_core.proofs.world.World.delete.Goals as goal
 

@@ -1,4 +1,4 @@
-use Rattle.std.specs.String.{string_bytes}
+use Rattle.std.proofs.Common.{string_bytes}
 use Rattle.clone_core.proofs.LineLemmas.{value_answers, get_refused}
 use Rattle.clone_core.proofs.world.World.get_line.Goals as goal
 

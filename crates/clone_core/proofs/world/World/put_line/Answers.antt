@@ -1,7 +1,6 @@
-use Rattle.std.proofs.Common.{refl}
-use Rattle.std.specs.String.{string_bytes}
+use Rattle.std.proofs.Common.{refl, string_bytes}
+use Rattle.clone_core.proofs.Common.{put, did_put}
 use Rattle.clone_model.specs.declared.line.Line.TheVariants as lines
-use Rattle.clone_plain.specs.Calls.{put, did_put}
 use Rattle.clone_core.proofs.LineLemmas.{line_answers}
 use Rattle.clone_core.proofs.world.World.put_line.Goals as goal
 

@@ -1,7 +1,5 @@
-use Rattle.std.proofs.Common.{ap}
-use Rattle.std.specs.Prelude.{option_map}
-use Rattle.std.specs.String.{string_bytes}
-use Rattle.clone_core.specs.Copied.{stop_of}
+use Rattle.std.proofs.Common.{ap, option_map, string_bytes}
+use Rattle.clone_core.proofs.Common.{stop_of}
 use Rattle.clone_core.proofs.LineLemmas.{no_rows, rows_answers}
 use Rattle.clone_core.proofs.world.World.rows_line.Goals as goal
 

@@ -1,9 +1,6 @@
-use Rattle.std.proofs.Common.{◌+◌, ◌++◌, length, ap, ◌∙◌}
-use Rattle.std.specs.Prelude.{codes}
-use Rattle.std.specs.Fmt.{decimal}
-use Rattle.std.specs.String.{string_bytes}
+use Rattle.std.proofs.Common.{◌+◌, ◌++◌, length, ap, ◌∙◌, codes, decimal, string_bytes}
+use Rattle.clone_core.proofs.Common.{State}
 use Rattle.clone_model.specs.declared.line.Line.TheVariants as lines
-use Rattle.clone_core.specs.Lines.{State}
 use Rattle.clone_core.proofs.LineLemmas.{shown_breaks, set_answers, set_breaks}
 use Rattle.clone_core.proofs.world.World.set_line.Goals as goal
 

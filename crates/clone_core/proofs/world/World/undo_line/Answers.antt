@@ -1,9 +1,6 @@
-use Rattle.std.proofs.Common.{refl, sym, subst}
-use Rattle.std.specs.String.{string_bytes}
-use Rattle.clone_plain.specs.Effects.{Undoes}
+use Rattle.std.proofs.Common.{refl, sym, subst, string_bytes}
+use Rattle.clone_core.proofs.Common.{Undoes, undo_one, did_undo_one, State}
 use Rattle.clone_model.specs.declared.line.Line.TheVariants as lines
-use Rattle.clone_plain.specs.Calls.{undo_one, did_undo_one}
-use Rattle.clone_core.specs.Lines.{State}
 use Rattle.clone_core.proofs.LineLemmas.{line_answers}
 use Rattle.clone_core.proofs.world.World.undo_line.Goals as goal
 

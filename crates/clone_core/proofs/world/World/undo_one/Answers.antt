@@ -1,5 +1,5 @@
 use Rattle.std.proofs.Common.{refl}
-use Rattle.clone_plain.specs.Calls.{undo_one, did_undo_one}
+use Rattle.clone_core.proofs.Common.{undo_one, did_undo_one}
 use Rattle.clone_core.proofs.CallLemmas.{engine_called, called, call_kept}
 use Rattle.clone_core.proofs.world.World.undo_one.Goals as goal
 

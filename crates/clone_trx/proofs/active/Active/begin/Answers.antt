@@ -1,10 +1,6 @@
 use Rattle.std.proofs.Common.{◌∙◌, ap, List}
+use Rattle.clone_trx.proofs.Common.{nat_cmp_total, exact_unsigned, Change, Opened, inserted}
 use Rattle.std.specs.FinMap as finite
-use Rattle.std.specs.Cmp.{nat_cmp_total}
-use Rattle.std.proofs.lemmas.Map.Lookups.{exact_unsigned}
-use Rattle.clone_model.specs.declared.change.Change.{Change}
-use Rattle.clone_plain.specs.Locked.{Opened}
-use Rattle.clone_base.proofs.OrderedMaps.{inserted}
 use Rattle.clone_trx.proofs.active.Active.begin.Goals as goal
 
 pub returns-clause-ok : goal.returns-clause-ok

@@ -1,9 +1,6 @@
-use Rattle.std.proofs.Common.{◌≡◌, ◌∙◌, ◌<◌, ◌≤◌, ap, sym, not, true, false, arith}
-use Rattle.std.specs.Prelude.{is_some}
+use Rattle.std.proofs.Common.{◌≡◌, ◌∙◌, ◌<◌, ◌≤◌, ap, sym, not, true, false, arith, is_some, Option}
+use Rattle.clone_trx.proofs.Common.{Commit, transaction_limit}
 use Rattle.std.specs.FinMap as finite
-use Rattle.std.specs.declared.option.Option.{Option}
-use Rattle.clone_model.specs.declared.change.Commit.{Commit}
-use Rattle.clone_plain.specs.Causes.{transaction_limit}
 use Rattle.clone_trx.proofs.LastChangeLemmas.{get_opened}
 use Rattle.clone_trx.proofs.ScanLemmas.{least_unused-found, find_skips, find_takes, find_ends}
 use Rattle.clone_trx.proofs.active.Active.least_free.Goals as goal

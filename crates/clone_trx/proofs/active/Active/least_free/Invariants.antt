@@ -1,7 +1,6 @@
-use Rattle.std.proofs.Common.{◌≡◌, ◌-◌, not}
+use Rattle.std.proofs.Common.{◌≡◌, ◌-◌, not, find}
+use Rattle.clone_trx.proofs.Common.{range_with_len, transaction_limit}
 use Rattle.std.specs.FinMap as finite
-use Rattle.std.specs.List.{find, range_with_len}
-use Rattle.clone_plain.specs.Causes.{transaction_limit}
 use Rattle.clone_trx.proofs.active.Active.least_free.Given as goal
 
 -- no number before this one is free

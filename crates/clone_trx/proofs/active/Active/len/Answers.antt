@@ -1,8 +1,6 @@
 use Rattle.std.proofs.Common.{◌∙◌, sym, ap}
+use Rattle.clone_trx.proofs.Common.{nat_cmp_total, Opened, len_listed}
 use Rattle.std.specs.FinMap as finite
-use Rattle.std.specs.Cmp.{nat_cmp_total}
-use Rattle.clone_plain.specs.Locked.{Opened}
-use Rattle.clone_base.proofs.OrderedMaps.{len_listed}
 use Rattle.clone_trx.proofs.active.Active.len.Goals as goal
 
 pub returns : goal.returns

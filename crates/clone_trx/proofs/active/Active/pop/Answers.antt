@@ -1,6 +1,5 @@
 use Rattle.std.proofs.Common.{◌∙◌, ap}
-use Rattle.clone_model.specs.declared.change.Commit.{Commit}
-use Rattle.clone_trx.specs.Opened.{opened_of}
+use Rattle.clone_trx.proofs.Common.{Commit, opened_of}
 use Rattle.clone_trx.proofs.LastChangeLemmas.{popped, popped_none}
 use Rattle.clone_trx.proofs.active.Active.pop.Goals as goal
 

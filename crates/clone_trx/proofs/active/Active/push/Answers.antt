@@ -1,8 +1,6 @@
-use Rattle.std.proofs.Common.{◌∙◌, sym, subst}
-use Rattle.std.specs.Prelude.{IsSome}
+use Rattle.std.proofs.Common.{◌∙◌, sym, subst, IsSome, Option}
+use Rattle.clone_trx.proofs.Common.{Commit}
 use Rattle.std.proofs.lemmas.Result.{on_ok_weaker, on_err_weaker}
-use Rattle.clone_model.specs.declared.change.Commit.{Commit}
-use Rattle.std.specs.declared.option.Option.{Option}
 use Rattle.clone_trx.proofs.LastChangeLemmas.{get_opened, pushed, rewritten}
 use Rattle.clone_trx.proofs.active.Active.push.Goals as goal
 

@@ -1,9 +1,6 @@
 use Rattle.std.proofs.Common.{◌∙◌, sym, ap}
+use Rattle.clone_trx.proofs.Common.{nat_cmp_total, exact_unsigned, Opened, removed}
 use Rattle.std.specs.FinMap as finite
-use Rattle.std.specs.Cmp.{nat_cmp_total}
-use Rattle.std.proofs.lemmas.Map.Lookups.{exact_unsigned}
-use Rattle.clone_plain.specs.Locked.{Opened}
-use Rattle.clone_base.proofs.OrderedMaps.{removed}
 use Rattle.clone_trx.proofs.LastChangeLemmas.{get_opened}
 use Rattle.clone_trx.proofs.active.Active.remove.Goals as goal
 

@@ -1,20 +1,7 @@
 use Rattle.std.proofs.Common.{◌≡◌, ◌≤◌, ◌+◌, ℕ, ◌++◌, Bool, List, length, drop, sym, ap, subst, ◌∙◌, arith}
+use Rattle.clone_trx.proofs.Common.{AllByRecursion, Record, spelling, longest, header_page, records_of_begin, Image, MakesNoPage, after_records, first_lsn, is_unused, len-below, Donor, begun, EngineState, donor_of, keys_in, AppendsBegin}
 use Rattle.std.specs.FinMap as finite
-use Rattle.std.specs.List.{AllByRecursion}
-use Rattle.clone_mtr.specs.declared.record.Record.{Record}
-use Rattle.clone_mtr.specs.Spelling.{spelling, longest}
-use Rattle.clone_undo.specs.Places.{header_page}
-use Rattle.clone_undo.specs.Changes.{records_of_begin}
-use Rattle.clone_image.specs.Image.{Image, MakesNoPage, after_records}
-use Rattle.clone_image.specs.Replay.{first_lsn}
-use Rattle.clone_contents.specs.Steps.{is_unused}
-use Rattle.clone_base.proofs.OrderedMaps.{len-below}
-use Rattle.clone_plain.specs.Donor.{Donor}
-use Rattle.clone_plain.specs.Effects.{begun}
-use Rattle.clone_trx.specs.Engine.{EngineState, donor_of}
-use Rattle.clone_trx.specs.Keys.{keys_in}
-use Rattle.clone_trx.specs.Written.{AppendsBegin}
-use Rattle.clone_trx.proofs.BeginLemmas as lem
+use Rattle.clone_trx.proofs.SpellingLengths as lem
 use Rattle.clone_trx.proofs.ScanLemmas.{least_free_is}
 use Rattle.clone_trx.proofs.KeptLemmas.{Keeps, begin_keeps}
 use Rattle.clone_trx.proofs.engine.Engine.begin.Goals as goal
@@ -29,7 +16,7 @@ pub write_from-requires-clause-short : goal.write_from-requires-clause-short
 write_from-requires-clause-short c =
     let u : Bool = is_unused c.self.inside.store.image 0 (header_page c.in-Some.trx) in
     let from : c.first_record-first.result ≡ lem.first u = c.first_record-first.ensures.value ∙ ap (λ (p : ℕ). lem.first (is_unused c.self.inside.store.image 0 p)) c.header_page.ensures in
-    subst (λ (rs : List Record). length (spelling rs) ≤ longest) (sym (lem.written u c.in-Some.trx c.args.writer c.args.index c.first_record-first.result c.begin_records.result from c.begin_records.ensures)) (lem.short u c.in-Some.trx c.args.writer c.args.index)
+    subst (λ (rs : List Record). length (spelling rs) ≤ longest) (sym (lem.written u c.in-Some.trx c.args.writer c.args.index c.first_record-first.result c.begin_records.result from c.begin_records.ensures)) (lem.short_begin u c.in-Some.trx c.args.writer c.args.index)
 
 pub write_from-requires-clause-grows : goal.write_from-requires-clause-grows
 write_from-requires-clause-grows c =

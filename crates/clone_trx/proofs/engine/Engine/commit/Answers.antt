@@ -1,17 +1,6 @@
 use Rattle.std.proofs.Common.{◌≡◌, ◌+◌, ◌∷◌, [], length, refl, sym, ap, subst, ◌∙◌, arith}
+use Rattle.clone_trx.proofs.Common.{nat_cmp_total, length_push, exact_unsigned, len-without, Image, first_lsn, commit_records, Donor, no_trx, Commits, EngineState, donor_of, keys_in}
 use Rattle.std.specs.FinMap as finite
-use Rattle.std.specs.Cmp.{nat_cmp_total}
-use Rattle.std.proofs.lemmas.List.{length_push}
-use Rattle.std.proofs.lemmas.Map.Lookups.{exact_unsigned}
-use Rattle.clone_base.proofs.OrderedMaps.{len-without}
-use Rattle.clone_image.specs.Image.{Image}
-use Rattle.clone_image.specs.Replay.{first_lsn}
-use Rattle.clone_contents.specs.Records.{commit_records}
-use Rattle.clone_plain.specs.Donor.{Donor}
-use Rattle.clone_plain.specs.Causes.{no_trx}
-use Rattle.clone_plain.specs.Effects.{Commits}
-use Rattle.clone_trx.specs.Engine.{EngineState, donor_of}
-use Rattle.clone_trx.specs.Keys.{keys_in}
 use Rattle.clone_trx.proofs.CauseLemmas.{trx_there}
 use Rattle.clone_trx.proofs.KeptLemmas.{Keeps, commit_keeps}
 use Rattle.clone_trx.proofs.WriteLemmas.{kept_writes, commit_written}

@@ -1,19 +1,6 @@
 use Rattle.std.proofs.Common.{◌≡◌, ◌≢◌, ◌<◌, ◌+◌, List, length, None, sym, ap, subst, ◌∙◌, arith}
+use Rattle.clone_trx.proofs.Common.{nat_cmp_total, exact_unsigned, removed_again, Record, Image, first_lsn, create_records, Keeps, Writes, Donor, created, EngineState, donor_of, keys_in, IsKept, AppendsCreate}
 use Rattle.std.specs.FinMap as finite
-use Rattle.std.specs.Cmp.{nat_cmp_total}
-use Rattle.std.proofs.lemmas.Map.Lookups.{exact_unsigned}
-use Rattle.clone_base.proofs.OrderedMaps.{removed_again}
-use Rattle.clone_mtr.specs.declared.record.Record.{Record}
-use Rattle.clone_image.specs.Image.{Image}
-use Rattle.clone_image.specs.Replay.{first_lsn}
-use Rattle.clone_contents.specs.Records.{create_records}
-use Rattle.clone_store.specs.Stored.{Keeps, Writes}
-use Rattle.clone_plain.specs.Donor.{Donor}
-use Rattle.clone_plain.specs.Effects.{created}
-use Rattle.clone_trx.specs.Engine.{EngineState, donor_of}
-use Rattle.clone_trx.specs.Keys.{keys_in}
-use Rattle.clone_trx.specs.Sound.{IsKept}
-use Rattle.clone_trx.specs.Written.{AppendsCreate}
 use Rattle.clone_trx.proofs.KeptLemmas as steps
 use Rattle.clone_trx.proofs.WriteLemmas.{is_none, done, refused}
 use Rattle.clone_trx.proofs.engine.Engine.create.Goals as goal

@@ -1,15 +1,5 @@
 use Rattle.std.proofs.Common.{◌≡◌, ◌<◌, ◌≤◌, ℕ, length, Some, sym, ap, subst}
-use Rattle.std.specs.List.{AllByRecursion}
-use Rattle.clone_model.specs.History.{fold}
-use Rattle.clone_undo.specs.Entries.{IsEntry}
-use Rattle.clone_undo.specs.Places.{capacity}
-use Rattle.clone_undo.specs.Slots.{UndoSlot}
-use Rattle.clone_image.specs.Image.{page_of}
-use Rattle.clone_image.specs.Recovered.{recovered, undo_slot_of}
-use Rattle.clone_image.specs.Rows.{HasRows}
-use Rattle.clone_plain.specs.Causes.{transaction_limit}
-use Rattle.clone_plain.specs.Donor.{history}
-use Rattle.clone_trx.specs.Engine.{EngineState}
+use Rattle.clone_trx.proofs.Common.{AllByRecursion, fold, IsEntry, capacity, UndoSlot, page_of, recovered, undo_slot_of, HasRows, transaction_limit, history, EngineState}
 use Rattle.clone_trx.proofs.RecoveredRowLemmas.{recovered_rows}
 use Rattle.clone_trx.proofs.KeptLemmas.{known_records}
 use Rattle.clone_trx.proofs.engine.Engine.laws.Goals as goal

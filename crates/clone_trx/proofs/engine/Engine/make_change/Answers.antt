@@ -1,26 +1,7 @@
-use Rattle.std.proofs.Common.{◌≡◌, ◌≤◌, ◌==◌, ◌+◌, ◌++◌, ◌∙◌, ℕ, List, length, refl, sym, ap, subst, arith, None}
-use Rattle.std.specs.Prelude.{if◌then◌else◌}
+use Rattle.std.proofs.Common.{◌≡◌, ◌≤◌, ◌==◌, ◌+◌, ◌++◌, ◌∙◌, ℕ, List, length, refl, sym, ap, subst, arith, None, if◌then◌else◌}
+use Rattle.clone_trx.proofs.Common.{nat_cmp_total, exact_unsigned, len-again, spelling, Record, records_of_change, record_page, after_records, first_lsn, is_unused, Keeps, Writes, change_cause, Donor, Changes, EngineState, donor_of, page_number, keys_in, BindsKey, IsKept, IsPlaceFor, AppendsChange}
 use Rattle.std.specs.FinMap as finite
-use Rattle.std.specs.Cmp.{nat_cmp_total}
-use Rattle.std.proofs.lemmas.Map.Lookups.{exact_unsigned}
-use Rattle.clone_base.proofs.OrderedMaps.{len-again}
 use Rattle.clone_row.specs.Slots as rows
-use Rattle.clone_mtr.specs.Spelling.{spelling}
-use Rattle.clone_mtr.specs.declared.record.Record.{Record}
-use Rattle.clone_undo.specs.Changes.{records_of_change}
-use Rattle.clone_undo.specs.Places.{record_page}
-use Rattle.clone_image.specs.Image.{after_records}
-use Rattle.clone_image.specs.Replay.{first_lsn}
-use Rattle.clone_contents.specs.Steps.{is_unused}
-use Rattle.clone_store.specs.Stored.{Keeps, Writes}
-use Rattle.clone_plain.specs.Causes.{change_cause}
-use Rattle.clone_plain.specs.Donor.{Donor}
-use Rattle.clone_plain.specs.Effects.{Changes}
-use Rattle.clone_trx.specs.Engine.{EngineState, donor_of, page_number}
-use Rattle.clone_trx.specs.Keys.{keys_in, BindsKey}
-use Rattle.clone_trx.specs.Sound.{IsKept}
-use Rattle.clone_trx.specs.Places.{IsPlaceFor}
-use Rattle.clone_trx.specs.Written.{AppendsChange}
 use Rattle.clone_trx.proofs.CauseLemmas.{may_change}
 use Rattle.clone_trx.proofs.ChangeLemmas.{IsMade, made_by, made_kept, made_change, made_text, made_keys, left_again}
 use Rattle.clone_trx.proofs.LookUpLemmas.{kept_at}

@@ -1,16 +1,6 @@
-use Rattle.std.proofs.Common.{◌≡◌, ◌+◌, ℕ, length, sym, ap, subst, ◌∙◌, arith}
+use Rattle.std.proofs.Common.{◌≡◌, ◌+◌, ℕ, length, sym, ap, subst, ◌∙◌, arith, nat_cmp}
+use Rattle.clone_trx.proofs.Common.{len-empty, Commit, Image, after_records, first_lsn, Stored, opening_records, Donor, no_donor, donor_of, keys_in, IsKept}
 use Rattle.std.specs.FinMap as finite
-use Rattle.std.specs.FinMap.{len-empty}
-use Rattle.std.specs.Ordering.{nat_cmp}
-use Rattle.clone_model.specs.declared.change.Commit.{Commit}
-use Rattle.clone_image.specs.Image.{Image, after_records}
-use Rattle.clone_image.specs.Replay.{first_lsn}
-use Rattle.clone_store.specs.Stored.{Stored}
-use Rattle.clone_contents.specs.Records.{opening_records}
-use Rattle.clone_plain.specs.Donor.{Donor, no_donor}
-use Rattle.clone_trx.specs.Engine.{donor_of}
-use Rattle.clone_trx.specs.Keys.{keys_in}
-use Rattle.clone_trx.specs.Sound.{IsKept}
 use Rattle.clone_trx.proofs.KeptLemmas.{opening_keeps, opening_keys}
 use Rattle.clone_trx.proofs.engine.Engine.new.Goals as goal
 

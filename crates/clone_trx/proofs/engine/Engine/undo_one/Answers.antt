@@ -1,21 +1,6 @@
-use Rattle.std.proofs.Common.{◌≡◌, ◌≢◌, ◌<◌, ◌-◌, ◌+◌, ◌∷◌, [], length, refl, sym, ap, subst, ◌∙◌, arith}
-use Rattle.std.specs.Option.{is_some}
+use Rattle.std.proofs.Common.{◌≡◌, ◌≢◌, ◌<◌, ◌-◌, ◌+◌, ◌∷◌, [], length, refl, sym, ap, subst, ◌∙◌, arith, is_some}
+use Rattle.clone_trx.proofs.Common.{nat_cmp_total, nil_from_length, exact_unsigned, len-again, len-without, records_of_end, records_of_taking_back, Image, undo_slot_of, first_lsn, Writes, Donor, no_trx, Leaves, TakesBack, EngineState, donor_of, keys_in, AppendsTakingBack}
 use Rattle.std.specs.FinMap as finite
-use Rattle.std.specs.Cmp.{nat_cmp_total}
-use Rattle.std.proofs.lemmas.List.{nil_from_length}
-use Rattle.std.proofs.lemmas.Map.Lookups.{exact_unsigned}
-use Rattle.clone_base.proofs.OrderedMaps.{len-again, len-without}
-use Rattle.clone_undo.specs.Changes.{records_of_end, records_of_taking_back}
-use Rattle.clone_image.specs.Image.{Image}
-use Rattle.clone_image.specs.Recovered.{undo_slot_of}
-use Rattle.clone_image.specs.Replay.{first_lsn}
-use Rattle.clone_store.specs.Stored.{Writes}
-use Rattle.clone_plain.specs.Donor.{Donor}
-use Rattle.clone_plain.specs.Causes.{no_trx}
-use Rattle.clone_plain.specs.Effects.{Leaves, TakesBack}
-use Rattle.clone_trx.specs.Engine.{EngineState, donor_of}
-use Rattle.clone_trx.specs.Keys.{keys_in}
-use Rattle.clone_trx.specs.Written.{AppendsTakingBack}
 use Rattle.clone_trx.proofs.CauseLemmas.{trx_there}
 use Rattle.clone_trx.proofs.LastRecordLemmas.{HasRecords}
 use Rattle.clone_trx.proofs.KeptLemmas.{Keeps, leave_keeps}

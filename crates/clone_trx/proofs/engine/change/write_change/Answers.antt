@@ -1,9 +1,6 @@
 use Rattle.std.proofs.Common.{◌≤◌, ◌==◌, ◌∙◌, Bool, List, length, drop, true, false, sym, ap, subst}
-use Rattle.clone_mtr.specs.Spelling.{spelling, longest}
-use Rattle.clone_mtr.specs.declared.record.Record.{Record}
-use Rattle.clone_undo.specs.Changes.{records_of_change}
-use Rattle.clone_store.specs.Stored.{Writes}
-use Rattle.clone_trx.proofs.ChangeSpellings.{short_change, change_from}
+use Rattle.clone_trx.proofs.Common.{spelling, longest, Record, records_of_change, Writes}
+use Rattle.clone_trx.proofs.SpellingLengths.{short_change, change_from}
 use Rattle.clone_trx.proofs.engine.change.write_change.Goals as goal
 
 pub write_from-requires-clause-short : goal.write_from-requires-clause-short

@@ -1,5 +1,4 @@
-use Rattle.std.proofs.Common.{sym, ap, ◌∙◌, arith}
-use Rattle.std.specs.Option.{option_copied}
+use Rattle.std.proofs.Common.{sym, ap, ◌∙◌, arith, option_copied}
 use Rattle.clone_trx.proofs.LastRecordLemmas.{some, page_there, last_on, ends_with}
 use Rattle.clone_trx.proofs.engine.undo.last_entry.Goals as goal
 

@@ -1,8 +1,6 @@
 use Rattle.std.proofs.Common.{◌∙◌, sym, ap}
+use Rattle.clone_trx.proofs.Common.{row_cmp_total, Locks, get_listed}
 use Rattle.std.specs.FinMap as finite
-use Rattle.clone_model.proofs.RowMaps.{row_cmp_total}
-use Rattle.clone_plain.specs.Donor.{Locks}
-use Rattle.clone_base.proofs.OrderedMaps.{get_listed}
 use Rattle.clone_trx.proofs.locks.Locks.holder.Goals as goal
 
 pub returns : goal.returns

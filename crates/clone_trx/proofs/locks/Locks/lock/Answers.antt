@@ -1,12 +1,8 @@
-use Rattle.std.proofs.Common.{◌≡◌, ◌∙◌, ◌<◌, ◌++◌, ◌∷◌, [], sym, ap, subst, refl, arith, length, None, List}
-use Rattle.std.specs.Prelude.{is_some, slice_set}
+use Rattle.std.proofs.Common.{◌≡◌, ◌∙◌, ◌<◌, ◌++◌, ◌∷◌, [], sym, ap, subst, refl, arith, length, None, List, is_some, slice_set, length-set}
+use Rattle.clone_trx.proofs.Common.{row_cmp_total, row_cmp_exact, Locks, Lists, AreListed, holders_of, get_listed, inserted, inserted_same, none-some}
 use Rattle.std.specs.FinMap as finite
-use Rattle.std.proofs.lemmas.List.{length-set}
-use Rattle.clone_model.proofs.RowMaps.{row_cmp_total, row_cmp_exact}
-use Rattle.clone_plain.specs.Donor.{Locks}
-use Rattle.clone_trx.specs.Locked.{Lists, AreListed, holders_of}
-use Rattle.clone_base.proofs.OrderedMaps.{get_listed, inserted, inserted_same}
-use Rattle.clone_trx.proofs.LockListLemmas.{Row, same_listed, more_listed, list_at_item, none_some, own_row, no_row}
+use Rattle.clone_trx.proofs.LockListLemmas.{Row, same_listed, more_listed, list_at_item, own_row}
+use Rattle.clone_trx.proofs.WriteLemmas.{is_none}
 use Rattle.clone_trx.proofs.locks.Locks.lock.Goals as goal
 
 pub returns-then-contains_key-clause-ok : goal.returns-then-contains_key-clause-ok
@@ -25,7 +21,7 @@ pub returns-in_err-reserve-clause-without_memory : goal.returns-in_err-reserve-c
 returns-in_err-reserve-clause-without_memory c =
     let row : Row = (c.args.table, c.args.key) in
     let at = ap (λ (m : Locks). finite.get m row) (sym c.self.view_is) ∙ get_listed row_cmp_total c.self.inside.holders row in
-    λ e. absurd (none_some (finite.get c.args.self.now row) c.args.trx (no_row (finite.get c.args.self.now row) (ap is_some at ∙ sym c.contains_key.ensures ∙ c.if-contains_key.false)) e)
+    λ e. absurd (none-some c.args.trx (sym (is_none (finite.get c.args.self.now row) (ap is_some at ∙ sym c.contains_key.ensures ∙ c.if-contains_key.false)) ∙ e))
 
 pub invariant_of-self-in_err-insert : goal.invariant_of-self-in_err-insert
 invariant_of-self-in_err-insert c =
@@ -38,7 +34,7 @@ pub returns-in_err-insert-clause-without_memory : goal.returns-in_err-insert-cla
 returns-in_err-insert-clause-without_memory c =
     let row : Row = (c.args.table, c.args.key) in
     let at = ap (λ (m : Locks). finite.get m row) (sym c.self.view_is) ∙ get_listed row_cmp_total c.self.inside.holders row in
-    λ e. absurd (none_some (finite.get c.args.self.now row) c.args.trx (no_row (finite.get c.args.self.now row) (ap is_some at ∙ sym c.contains_key.ensures ∙ c.if-contains_key.false)) e)
+    λ e. absurd (none-some c.args.trx (sym (is_none (finite.get c.args.self.now row) (ap is_some at ∙ sym c.contains_key.ensures ∙ c.if-contains_key.false)) ∙ e))
 
 pub invariant_of-self-2 : goal.invariant_of-self-2
 invariant_of-self-2 c =
@@ -49,7 +45,7 @@ invariant_of-self-2 c =
     let within : c.args.trx < length lists = omega (arith, lt, length-set c.self.inside.rows.items c.args.trx c.reserve.new.self) in
     let before : AreListed h lists =
     same_listed h h c.self.inside.rows.items c.args.trx c.reserve.new.self refl lt (c.in_ok-reserve.ensures.items ∙ list_at_item c.self.inside.rows.items c.args.trx c.index_mut.result.now lt c.index_mut.ensures.value) c.self.invariant in
-    let free : finite.get h row ≡ None = no_row (finite.get h row) (ap is_some (get_listed row_cmp_total c.self.inside.holders row) ∙ sym c.contains_key.ensures ∙ c.if-contains_key.false) in
+    let free : finite.get h row ≡ None = is_none (finite.get h row) (ap is_some (get_listed row_cmp_total c.self.inside.holders row) ∙ sym c.contains_key.ensures ∙ c.if-contains_key.false) in
     subst (λ (m : Locks). AreListed m (slice_set lists c.args.trx c.push_reserved.new.self))
     (sym (inserted row_cmp_total row_cmp_exact c.self.inside.holders c.insert.new.self row c.args.trx c.in_ok-insert.ensures.updates))
     (more_listed h lists c.args.trx row c.push_reserved.new.self within free

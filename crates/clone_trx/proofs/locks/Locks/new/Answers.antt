@@ -1,6 +1,5 @@
 use Rattle.std.proofs.Common.{◌≡◌, ap, arith, length}
-use Rattle.clone_plain.specs.Causes.{transaction_limit}
-use Rattle.clone_trx.specs.Locked.{holders_of}
+use Rattle.clone_trx.proofs.Common.{transaction_limit, holders_of}
 use Rattle.clone_trx.proofs.LockListLemmas.{none_listed}
 use Rattle.clone_trx.proofs.locks.Locks.new.Goals as goal
 

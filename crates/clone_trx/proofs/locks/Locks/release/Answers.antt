@@ -1,7 +1,5 @@
 use Rattle.std.proofs.Common.{◌∙◌, ◌<◌, ap, subst, arith, length, List}
-use Rattle.clone_plain.specs.Donor.{Locks}
-use Rattle.clone_plain.specs.Effects.{Releases}
-use Rattle.clone_trx.specs.Locked.{holders_of, without}
+use Rattle.clone_trx.proofs.Common.{Locks, Releases, holders_of, without}
 use Rattle.clone_trx.proofs.LockListLemmas.{Row, released_listed, releases, list_at_item}
 use Rattle.clone_trx.proofs.locks.Locks.release.Goals as goal
 

@@ -1,9 +1,6 @@
-use Rattle.std.proofs.Common.{◌∙◌, ℕ, ap}
+use Rattle.std.proofs.Common.{◌∙◌, ℕ, ap, nat_cmp}
+use Rattle.clone_trx.proofs.Common.{nat_cmp_total, exact_unsigned, inserted}
 use Rattle.std.specs.FinMap as finite
-use Rattle.std.specs.Cmp.{nat_cmp_total}
-use Rattle.std.specs.Ordering.{nat_cmp}
-use Rattle.std.proofs.lemmas.Map.Lookups.{exact_unsigned}
-use Rattle.clone_base.proofs.OrderedMaps.{inserted}
 use Rattle.clone_trx.proofs.tables.Tables.insert.Goals as goal
 
 pub returns-clause-ok : goal.returns-clause-ok

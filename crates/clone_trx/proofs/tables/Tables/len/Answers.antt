@@ -1,8 +1,6 @@
-use Rattle.std.proofs.Common.{◌∙◌, ℕ, sym, ap}
+use Rattle.std.proofs.Common.{◌∙◌, ℕ, sym, ap, nat_cmp}
+use Rattle.clone_trx.proofs.Common.{nat_cmp_total, len_listed}
 use Rattle.std.specs.FinMap as finite
-use Rattle.std.specs.Cmp.{nat_cmp_total}
-use Rattle.std.specs.Ordering.{nat_cmp}
-use Rattle.clone_base.proofs.OrderedMaps.{len_listed}
 use Rattle.clone_trx.proofs.tables.Tables.len.Goals as goal
 
 pub returns : goal.returns
