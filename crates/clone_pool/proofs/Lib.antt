@@ -1,5 +1,6 @@
-pub mod PairLemmas
-pub mod PlaceLemmas
+pub mod RankLemmas
 pub mod TournamentLemmas
+pub mod NameLemmas
+pub mod FrameLemmas
 pub mod PoolLemmas
-pub mod KeyLemmas
+pub mod OrderLemmas

@@ -1,29 +1,43 @@
--- The top of a tournament has the least key.
-use Rattle.std.proofs.Common.{◌≡◌, ◌≢◌, ◌<◌, ◌≤◌, ◌+◌, ◌*◌, ◌/◌, ◌⊎◌, inl, inr, ℕ, zero, suc, List, length, drop, get_or, min, sym, subst, arith}
-use Rattle.std.proofs.lemmas.List.{get_or-drop, length-drop}
+-- The top of a tournament has the first rank.
+use Rattle.std.proofs.Common.{◌≡◌, ◌≢◌, ◌<◌, ◌≤◌, ◌+◌, ◌*◌, ◌/◌, ◌⊎◌, inl, inr, ℕ, zero, suc, false, List, length, drop, get_or, replicate, sym, subst, ◌∙◌, ap, arith}
+use Rattle.std.proofs.lemmas.List.{get_or-drop, length-drop, get_or-replicate, length-replicate}
 use Rattle.std.proofs.lemmas.Bool.{cases_lt, cases_eq}
-use Rattle.clone_pool.specs.Tournament.{AreMatchedBut, IsTournament}
+use Rattle.clone_pool.specs.declared.tournament.Rank.{Rank}
+use Rattle.clone_pool.specs.Tournament.{AreMatchedBut, IsTournament, rank_at, is_before, first_of, no_rank}
+use Rattle.clone_pool.proofs.RankLemmas.{rank_trans, rank_irrefl, left_after, right_after, first_of_same}
 
-pub top_least : (count : ℕ) (nodes : List ℕ) → AreMatchedBut 0 count nodes → (fuel node : ℕ) → node ≤ fuel → 0 < node → node < 2 * count → get_or nodes 1 0 ≤ get_or nodes node 0
-top_least count nodes matched zero node le some low = absurd (omega arith)
-top_least count nodes matched (suc fuel) node le some low = by (cases_lt 1 node) (λ more. top_least count nodes matched fuel (node / 2) (omega arith) (omega arith) (omega arith))
+pub top_first : (count : ℕ) (nodes : List Rank) → AreMatchedBut 0 count nodes → (fuel node : ℕ) → node ≤ fuel → 0 < node → node < 2 * count → is_before (rank_at nodes node) (rank_at nodes 1) ≡ false
+top_first count nodes matched zero node le some low = absurd (omega arith)
+top_first count nodes matched (suc fuel) node le some low = by (cases_lt 1 node) (λ more. top_first count nodes matched fuel (node / 2) (omega arith) (omega arith) (omega arith))
   where
-    Below : ℕ → Type 0
-    Below n = get_or nodes 1 0 ≤ get_or nodes n 0
+    After : ℕ → Type 0
+    After n = is_before (rank_at nodes n) (rank_at nodes 1) ≡ false
 
-    under : 1 < node → Below (node / 2) → Below node
+    under : 1 < node → After (node / 2) → After node
     under more above = side (cases_eq node (2 * (node / 2))) (matched (node / 2) (omega arith) (omega arith) (omega arith))
       where
-        side : (node ≡ 2 * (node / 2)) ⊎ (node ≢ 2 * (node / 2)) → get_or nodes (node / 2) 0 ≡ min (get_or nodes (2 * (node / 2)) 0) (get_or nodes (2 * (node / 2) + 1) 0) → Below node
-        side (inl even) match = subst Below (sym even) (omega (arith, above, match))
-        side (inr odd) match = let e : node ≡ 2 * (node / 2) + 1 = omega arith in subst Below (sym e) (omega (arith, above, match))
+        side : (node ≡ 2 * (node / 2)) ⊎ (node ≢ 2 * (node / 2)) → rank_at nodes (node / 2) ≡ first_of (rank_at nodes (2 * (node / 2))) (rank_at nodes (2 * (node / 2) + 1)) → After node
+        side (inl even) match = subst After (sym even) (rank_trans (rank_at nodes 1) (rank_at nodes (node / 2)) (rank_at nodes (2 * (node / 2))) above (subst (λ (r : Rank). is_before (rank_at nodes (2 * (node / 2))) r ≡ false) (sym match) (left_after (rank_at nodes (2 * (node / 2))) (rank_at nodes (2 * (node / 2) + 1)))))
+        side (inr odd) match =
+            let e : node ≡ 2 * (node / 2) + 1 = omega (arith, odd) in
+            subst After (sym e) (rank_trans (rank_at nodes 1) (rank_at nodes (node / 2)) (rank_at nodes (2 * (node / 2) + 1)) above (subst (λ (r : Rank). is_before (rank_at nodes (2 * (node / 2) + 1)) r ≡ false) (sym match) (right_after (rank_at nodes (2 * (node / 2))) (rank_at nodes (2 * (node / 2) + 1)))))
 
-    by : (1 < node) ⊎ (node ≤ 1) → (1 < node → Below (node / 2)) → Below node
+    by : (1 < node) ⊎ (node ≤ 1) → (1 < node → After (node / 2)) → After node
     by (inl more) above = under more (above more)
-    by (inr one) above = let e : node ≡ 1 = omega arith in subst Below (sym e) (omega arith)
+    by (inr one) above = let e : node ≡ 1 = omega arith in subst After (sym e) (rank_irrefl (rank_at nodes 1))
 
--- no key is less than that of the top
-pub top_of_keys : (count : ℕ) (nodes : List ℕ) → IsTournament count nodes → (place : ℕ) → place < length (drop count nodes) → get_or nodes 1 0 ≤ get_or (drop count nodes) place 0
-top_of_keys count nodes t place low =
+-- no rank goes before that of the top
+pub top_of_ranks : (count : ℕ) (nodes : List Rank) → IsTournament count nodes → (place : ℕ) → place < length (drop count nodes) → is_before (rank_at (drop count nodes) place) (rank_at nodes 1) ≡ false
+top_of_ranks count nodes t place low =
     let long = length-drop count nodes in
-    subst (λ (key : ℕ). get_or nodes 1 0 ≤ key) (sym (get_or-drop count nodes place 0)) (top_least count nodes t.matched (count + place) (count + place) (omega arith) (omega (arith, long, t.long)) (omega (arith, long, t.long)))
+    subst (λ (r : Rank). is_before r (rank_at nodes 1) ≡ false) (sym (get_or-drop count nodes place no_rank)) (top_first count nodes t.matched (count + place) (count + place) (omega arith) (omega (arith, long, t.long)) (omega (arith, long, t.long)))
+
+-- nodes that have one rank are matched
+pub one_rank : (count : ℕ) (r : Rank) → IsTournament count (replicate (2 * count) r)
+one_rank count r = record {
+  long = length-replicate (2 * count) r;
+  matched = λ node some low but. here node (omega arith) ∙ sym (ap (λ (a : Rank). first_of a (rank_at (replicate (2 * count) r) (2 * node + 1))) (here (2 * node) (omega arith)) ∙ ap (λ (b : Rank). first_of r b) (here (2 * node + 1) (omega arith)) ∙ first_of_same r);
+}
+  where
+    here : (n : ℕ) → n < 2 * count → rank_at (replicate (2 * count) r) n ≡ r
+    here n low = get_or-replicate (2 * count) n r no_rank low

@@ -1,43 +1,59 @@
 -- Frames, and what becomes of one.
-use Rattle.std.specs.Prelude.{ℕ, ◌==◌, ◌&&◌, ◌+◌, ◌-◌, ◌*◌, ◌^◌, Bool, List, [], ◌∷◌, None, Some, is_some, not, min, get_or, if◌then◌else◌, unwrap_or, option_map}
+use Rattle.std.specs.Prelude.{◌≡◌, ℕ, ◌==◌, ◌&&◌, ◌+◌, ◌-◌, ◌^◌, Bool, true, false, IsSome, List, map, None, Some, is_some, not, min, get_or, if◌then◌else◌, unwrap_or}
 use Rattle.std.specs.declared.option.Option.{Option}
 use Rattle.clone_page.specs.Header.{zero_page}
 use Rattle.clone_mtr.specs.Effects.{effect}
 use Rattle.clone_mtr.specs.declared.record.Record.{Record}
-use Rattle.clone_pool.specs.declared.tournament.TheConstants.{NO_KEY}
+use Rattle.clone_mtr.specs.declared.record.Record.TheVariants as record_is
 use Rattle.clone_pool.specs.declared.frame.Frame.{Frame}
+use Rattle.clone_pool.specs.declared.frame.Content.{Content}
+use Rattle.clone_pool.specs.declared.frame.Content.TheVariants.{Unused, Fresh, Held}
 use Rattle.clone_pool.specs.declared.frame.Flush.{Flush}
 use Rattle.clone_pool.specs.declared.frame.Flush.TheVariants.{Idle, Begun, Failed}
 use Rattle.clone_pool.specs.declared.frame.PageName.{PageName}
+use Rattle.clone_pool.specs.Index.{place_of}
 
 -- a frame without a page
 abbrev pub no_frame : Frame
-no_frame = record { name = None; page = zero_page; oldest = None; flush = Idle; pins = 0; last_use = 0 }
+no_frame = record { content = Unused; page = zero_page; oldest = None; flush = Idle; pins = 0; last_use = 0 }
 
 abbrev pub frame_at : List Frame → ℕ → Frame
 frame_at frames at = get_or frames at no_frame
 
--- a page's name as one number
-abbrev pub key_of : PageName → ℕ
-key_of name = name.space * 2 ^ 32 + name.number
+abbrev pub name_in : Content → Option PageName
+name_in Unused = None
+name_in (Fresh name) = Some name
+name_in (Held name) = Some name
 
-abbrev pub tag : Frame → Option ℕ
-tag f = option_map key_of f.name
+-- the page that a frame holds
+abbrev pub name_of : Frame → Option PageName
+name_of f = name_in f.content
 
-abbrev pub key_at : List Frame → ℕ → Option ℕ
-key_at frames at = tag (frame_at frames at)
+abbrev pub HoldsPage : Frame → Type 0
+HoldsPage f = IsSome (name_of f)
+
+-- the number of the frame that holds the page
+abbrev pub holder : List Frame → PageName → Option ℕ
+holder frames page = place_of page (map name_of frames)
+
+abbrev pub is_dirty : Frame → Bool
+is_dirty f = is_some f.oldest
 
 -- neither pinned nor dirty. A page that is on its way to the disk, or whose write failed, is dirty.
 abbrev pub may_go : Frame → Bool
-may_go f = (f.pins == 0) && not (is_some f.oldest)
+may_go f = (f.pins == 0) && not (is_dirty f)
 
--- the number of a frame's last use, where the frame may go
-abbrev pub use_key : Frame → ℕ
-use_key f = if may_go f then f.last_use else NO_KEY
+abbrev pub is_begun : Flush → Bool
+is_begun Idle = false
+is_begun (Begun later) = true
+is_begun Failed = false
 
--- where a frame's oldest change begins, where it is dirty
-abbrev pub oldest_key : Frame → ℕ
-oldest_key f = unwrap_or f.oldest NO_KEY
+-- dirty, and no flush of it is under way
+abbrev pub is_waiting : Frame → Bool
+is_waiting f = is_dirty f && not (is_begun f.flush)
+
+abbrev pub IsInFlight : Frame → Type 0
+IsInFlight f = is_begun f.flush ≡ true
 
 -- the number of the next use, which stays at the last number but one
 abbrev pub next_use : ℕ → ℕ
@@ -49,17 +65,33 @@ touched number f = record f { last_use = number }
 
 -- the frame has no page any more, and any bytes
 abbrev pub emptied : List ℕ → Frame → Frame
-emptied bytes f = record f { name = None; page = bytes; last_use = 0 }
+emptied bytes f = record f { content = Unused; page = bytes; last_use = 0 }
 
 -- the frame holds this page, which was used
 abbrev pub filled : PageName → List ℕ → ℕ → Frame → Frame
-filled name bytes number f = record f { name = Some name; page = bytes; last_use = number }
+filled name bytes number f = record f { content = Held name; page = bytes; last_use = number }
+
+-- the frame is pinned for a new page of zero bytes, which was used
+abbrev pub freshened : PageName → ℕ → Frame → Frame
+freshened name number f = record f { content = Fresh name; page = zero_page; pins = 1; last_use = number }
 
 abbrev pub pinned : Frame → Frame
 pinned f = record f { pins = f.pins + 1 }
 
+abbrev pub is_fresh : Content → Bool
+is_fresh Unused = false
+is_fresh (Fresh name) = true
+is_fresh (Held name) = false
+
+-- a pin less. A new page that no change made goes with its last pin.
 abbrev pub unpinned : Frame → Frame
-unpinned f = record f { pins = f.pins - 1 }
+unpinned f = if is_fresh f.content && (f.pins == 1) then record f { content = Unused; pins = 0; last_use = 0 } else record f { pins = f.pins - 1 }
+
+-- a change makes a new page
+abbrev pub made : Content → Content
+made Unused = Unused
+made (Fresh name) = Held name
+made (Held name) = Held name
 
 -- the first change after a flush began
 abbrev pub noted : ℕ → Flush → Flush
@@ -67,19 +99,35 @@ noted start Idle = Idle
 noted start (Begun later) = Begun (Some (unwrap_or later start))
 noted start Failed = Failed
 
+-- the page that a record changes
+abbrev pub page_changed : Record → Option PageName
+page_changed (record_is.Init space number kind) = Some (record { space = space; number = number })
+page_changed (record_is.Write space number patch) = Some (record { space = space; number = number })
+page_changed (record_is.Extend space pages) = None
+page_changed (record_is.Create space pages) = None
+page_changed (record_is.Drop space) = None
+
 -- a record of the mini-transaction from start to end changed the page
 abbrev pub changed : Record → ℕ → ℕ → Frame → Frame
-changed entry start end f = record f { page = effect end entry f.page; oldest = Some (unwrap_or f.oldest start); flush = noted start f.flush }
+changed entry start end f = record f { content = made f.content; page = effect end entry f.page; oldest = Some (unwrap_or f.oldest start); flush = noted start f.flush }
 
--- how many frames have a page
-abbrev pub one : Option ℕ → ℕ
-one o = if is_some o then 1 else 0
+-- a flush begins, and no change has come after it
+abbrev pub begun : Frame → Frame
+begun f = record f { flush = Begun None }
 
-abbrev pub named : List Frame → ℕ
-named [] = 0
-named (f ∷ fs) = one (tag f) + named fs
+-- the first change after the flush began
+abbrev pub later_in : Flush → Option ℕ
+later_in Idle = None
+later_in (Begun later) = later
+later_in Failed = None
 
--- what a key has once another one, if there is one, is taken out
-abbrev pub forgotten : Option ℕ → ℕ → Option ℕ → Option ℕ
-forgotten None q at = at
-forgotten (Some key) q at = if key == q then None else at
+-- the flush ends with the page on the disk as it was when it began
+abbrev pub landed : Frame → Frame
+landed f = record f { oldest = later_in f.flush; flush = Idle }
+
+abbrev pub failed : Frame → Frame
+failed f = record f { flush = Failed }
+
+-- the frame holds its page no more, whatever was changed
+abbrev pub discarded : Frame → Frame
+discarded f = record f { content = Unused; oldest = None; flush = Idle; last_use = 0 }

@@ -1,4 +1,5 @@
 pub mod Frames
-pub mod Pairs
+pub mod Index
+pub mod Orders
 pub mod Pool
 pub mod Tournament

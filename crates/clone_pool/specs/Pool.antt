@@ -1,41 +1,57 @@
 -- What contracts see of a pool, and what its calls do to it.
-use Rattle.std.specs.Prelude.{ℕ, ◌≡◌, ◌<◌, ◌≤◌, ◌^◌, true, false, List, length, map, Some, None, Result, Ok, Err, MatchOption, slice_set, unwrap_or}
-use Rattle.clone_pool.specs.Pairs.{Pairs, get}
-use Rattle.clone_pool.specs.declared.tournament.TheConstants.{NO_KEY}
+use Rattle.std.specs.Prelude.{ℕ, ◌≡◌, ◌<◌, ◌≤◌, ◌^◌, ◌-◌, true, false, List, length, Some, None, IfNone, Result, Ok, Err, MatchOption, slice_set, unwrap_or}
+use Rattle.std.specs.declared.option.Option.{Option}
 use Rattle.clone_pool.specs.declared.frame.Frame.{Frame}
+use Rattle.clone_pool.specs.declared.frame.Content.TheVariants.{Unused}
+use Rattle.clone_pool.specs.declared.frame.Flush.TheVariants.{Idle}
 use Rattle.clone_pool.specs.declared.frame.PageName.{PageName}
+use Rattle.clone_pool.specs.declared.orders.Orders.{Orders}
 use Rattle.clone_pool.specs.declared.pool.FetchRefusal.{FetchRefusal}
 use Rattle.clone_pool.specs.declared.pool.FetchRefusal.TheVariants.{PoolFull, DiskFault}
-use Rattle.clone_pool.specs.Frames.{frame_at, key_at, key_of, named, use_key, oldest_key, may_go, next_use, touched, filled, emptied}
+use Rattle.clone_pool.specs.declared.tournament.TheConstants.{NO_NUMBER}
+use Rattle.clone_pool.specs.Frames.{frame_at, name_of, is_fresh, holder, may_go, is_dirty, is_waiting, later_in, next_use, touched, filled, emptied, freshened, pinned}
+use Rattle.clone_pool.specs.Orders.{orders_of, age_rank}
+use Rattle.clone_pool.specs.Tournament.{is_before}
 
--- the frames by their numbers, how many uses there were, and where each page has its frame, by its name as one number
+-- the frames by their numbers, and how many uses there were
 pub record Frames : Type 0 where
   pub frames : List Frame
   pub uses : ℕ
-  pub names : Pairs
 
--- the names are those of the frames
+-- what holds of each frame, after so many uses
+pub record IsFrame (uses : ℕ) (f : Frame) : Type 0 where
+  -- a frame without a page is neither pinned nor dirty, and was never used
+  pub unused : name_of f ≡ None → (may_go f ≡ true) × (f.last_use ≡ 0)
+  -- a frame with one was
+  pub used : (name : PageName) → name_of f ≡ Some name → 0 < f.last_use
+  -- a new page is pinned, and no change has made it
+  pub fresh : is_fresh f.content ≡ true → (0 < f.pins) × (is_dirty f ≡ false)
+  -- only a dirty page has a flush
+  pub clean : is_dirty f ≡ false → f.flush ≡ Idle
+  pub use_is : f.last_use ≤ uses
+  pub oldest_is : unwrap_or f.oldest 0 < NO_NUMBER
+  pub later_is : unwrap_or (later_in f.flush) 0 < NO_NUMBER
+
+-- what holds of every pool
 pub record IsPool (v : Frames) : Type 0 where
-  pub to : (key at : ℕ) → get v.names key ≡ Some at → (at < length v.frames) × (key_at v.frames at ≡ Some key)
-  pub from : (key at : ℕ) → key_at v.frames at ≡ Some key → get v.names key ≡ Some at
-  pub few : length v.names ≡ named v.frames
-
--- the numbers of a frame are keys
-abbrev pub IsNumbered : Frame → Type 0
-IsNumbered f = (f.last_use < NO_KEY) × (unwrap_or f.oldest 0 < NO_KEY)
-
--- what a pool keeps beside: room for a name a frame, and the keys of both tournaments
-pub record IsKept (v : Frames) (room : ℕ) (going dirty : List ℕ) : Type 0 where
-  pub pool : IsPool v
   pub count : length v.frames < 2 ^ 32
-  pub room_is : room ≡ length v.frames
-  pub going_is : going ≡ map use_key v.frames
-  pub numbers : (at : ℕ) → IsNumbered (frame_at v.frames at)
-  pub dirty_is : dirty ≡ map oldest_key v.frames
+  pub uses : v.uses < NO_NUMBER
+  pub frame : (at : ℕ) → IsFrame v.uses (frame_at v.frames at)
+  -- no page has two frames
+  pub once : (page : PageName) (at : ℕ) → name_of (frame_at v.frames at) ≡ Some page → holder v.frames page ≡ Some at
+
+-- a pool, and what it keeps beside its frames
+pub record IsKept (v : Frames) (orders : Orders) : Type 0 where
+  pub pool : IsPool v
+  pub orders_is : orders ≡ orders_of v.frames
+
+-- the frame with this number has become another one
+abbrev pub with_frame : ℕ → (Frame → Frame) → Frames → Frames
+with_frame at change v = record v { frames = slice_set v.frames at (change (frame_at v.frames at)) }
 
 -- a frame was used
 abbrev pub used : ℕ → Frames → Frames
-used at v = record v { frames = slice_set v.frames at (touched (next_use v.uses) (frame_at v.frames at)); uses = next_use v.uses }
+used at v = record (with_frame at (touched (next_use v.uses)) v) { uses = next_use v.uses }
 
 -- each frame is pinned or dirty
 abbrev pub AreKept : List Frame → Type 0
@@ -49,7 +65,7 @@ pub record IsVictim (frames : List Frame) (at : ℕ) : Type 0 where
 
 -- no page is dirty
 abbrev pub AreClean : List Frame → Type 0
-AreClean frames = (at : ℕ) → at < length frames → (frame_at frames at).oldest ≡ None
+AreClean frames = (at : ℕ) → at < length frames → is_dirty (frame_at frames at) ≡ false
 
 -- a page is dirty since this LSN, and none since an earlier one
 pub record IsOldest (frames : List Frame) (lsn : ℕ) : Type 0 where
@@ -58,10 +74,20 @@ pub record IsOldest (frames : List Frame) (lsn : ℕ) : Type 0 where
   pub dirty : (frame_at frames at).oldest ≡ Some lsn
   pub least : (other : ℕ) → other < length frames → lsn ≤ unwrap_or (frame_at frames other).oldest lsn
 
+-- no dirty page waits for a flush
+abbrev pub AreNotWaiting : List Frame → Type 0
+AreNotWaiting frames = (at : ℕ) → at < length frames → is_waiting (frame_at frames at) ≡ false
+
+-- the frame's page waits for a flush, and no other that does is dirty for longer, or as long with a name before its own
+pub record IsNextToFlush (frames : List Frame) (at : ℕ) : Type 0 where
+  pub within : at < length frames
+  pub waits : is_waiting (frame_at frames at) ≡ true
+  pub first : (other : ℕ) → other < length frames → is_waiting (frame_at frames other) ≡ true → is_before (age_rank (frame_at frames other)) (age_rank (frame_at frames at)) ≡ false
+
 -- the frame has the page, whatever its bytes are, and that was a use
-pub record Fills (name : PageName) (at : ℕ) (old new : Frames) : Type 0 where
+pub record Fills (page : PageName) (at : ℕ) (old new : Frames) : Type 0 where
   pub bytes : List ℕ
-  pub frames : new.frames ≡ slice_set old.frames at (filled name bytes (next_use old.uses) (frame_at old.frames at))
+  pub frames : new.frames ≡ slice_set old.frames at (filled page bytes (next_use old.uses) (frame_at old.frames at))
   pub uses : new.uses ≡ next_use old.uses
 
 -- the frame has no page
@@ -72,10 +98,45 @@ pub record Empties (at : ℕ) (old new : Frames) : Type 0 where
 
 -- a page that has no frame gets the one that makes place, if there is one; after a fault that has no page
 abbrev pub Misses : PageName → Frames → Frames → Result ℕ FetchRefusal → Type 0
-Misses name old new (Ok at) = IsVictim old.frames at × Fills name at old new
-Misses name old new (Err (PoolFull frames)) = (frames ≡ length old.frames) × AreKept old.frames × (new ≡ old)
-Misses name old new (Err DiskFault) = (at : ℕ) × (IsVictim old.frames at × Empties at old new)
+Misses page old new (Ok at) = IsVictim old.frames at × Fills page at old new
+Misses page old new (Err (PoolFull frames)) = (frames ≡ length old.frames) × AreKept old.frames × (new ≡ old)
+Misses page old new (Err DiskFault) = (at : ℕ) × (IsVictim old.frames at × Empties at old new)
 
 -- a page that has a frame is used there
 abbrev pub Fetches : PageName → Frames → Frames → Result ℕ FetchRefusal → Type 0
-Fetches name old new result = MatchOption (get old.names (key_of name)) (Misses name old new result) (λ at. (result ≡ Ok at) × (new ≡ used at old))
+Fetches page old new result = MatchOption (holder old.frames page) (Misses page old new result) (λ at. (result ≡ Ok at) × (new ≡ used at old))
+
+-- a frame was taken for a new page
+abbrev pub with_fresh : PageName → ℕ → Frames → Frames
+with_fresh page at v = record (with_frame at (freshened page (next_use v.uses)) v) { uses = next_use v.uses }
+
+-- a new page that has no frame gets the one that makes place, if there is one
+abbrev pub TakesFrame : PageName → Frames → Frames → Result ℕ FetchRefusal → Type 0
+TakesFrame page old new (Ok at) = IsVictim old.frames at × (new ≡ with_fresh page at old)
+TakesFrame page old new (Err refusal) = (refusal ≡ PoolFull (length old.frames)) × AreKept old.frames × (new ≡ old)
+
+-- a page that has a frame is used and pinned there
+abbrev pub Freshens : PageName → Frames → Frames → Result ℕ FetchRefusal → Type 0
+Freshens page old new result = MatchOption (holder old.frames page) (TakesFrame page old new result) (λ at. (result ≡ Ok at) × (new ≡ used at (with_frame at pinned old)))
+
+-- the frame with this number holds the page, and no other does
+pub record IsHolder (page : PageName) (frames : List Frame) (at : ℕ) : Type 0 where
+  pub within : at < length frames
+  pub name : name_of (frame_at frames at) ≡ Some page
+  pub holder : holder frames page ≡ Some at
+
+-- the frame is as before but for the number of its last use
+abbrev pub IsSamePage : Frame → Frame → Type 0
+IsSamePage old new = new ≡ touched new.last_use old
+
+-- each pinned or dirty frame is as before but for the number of its last use
+abbrev pub KeepsInUse : List Frame → List Frame → Type 0
+KeepsInUse old new = (at : ℕ) → may_go (frame_at old at) ≡ false → IsSamePage (frame_at old at) (frame_at new at)
+
+-- each frame but this one is as before
+abbrev pub KeepsOthers : ℕ → List Frame → List Frame → Type 0
+KeepsOthers at old new = (other : ℕ) → (other ≡ at → ⊥) → frame_at new other ≡ frame_at old other
+
+-- a pin more has room
+abbrev pub HasPinRoom : Frame → Type 0
+HasPinRoom f = f.pins < 2 ^ 32 - 1

@@ -1,21 +1,41 @@
--- Keys by their places, the least of which is wanted.
-use Rattle.std.specs.Prelude.{ℕ, ◌≡◌, ◌≢◌, ◌<◌, ◌≤◌, ◌+◌, ◌*◌, min, List, length, slice_index}
-use Rattle.clone_pool.specs.declared.tournament.TheConstants.{NO_KEY}
+-- Ranks by their places, the first of which is wanted.
+use Rattle.std.specs.Prelude.{ℕ, ◌≡◌, ◌≢◌, ◌<◌, ◌≤◌, ◌+◌, ◌*◌, ◌==◌, Bool, false, nat_lt, if◌then◌else◌, List, length, get_or}
+use Rattle.clone_pool.specs.declared.frame.PageName.{PageName}
+use Rattle.clone_pool.specs.declared.tournament.Rank.{Rank}
+use Rattle.clone_pool.specs.declared.tournament.TheConstants.{NO_NUMBER}
 
--- the place takes part, and no place has a lesser key
-pub record IsLeast (keys : List ℕ) (place : ℕ) : Type 0 where
-  pub within : place < length keys
-  pub part : slice_index keys place ≢ NO_KEY
-  pub least : (other : ℕ) → other < length keys → slice_index keys place ≤ slice_index keys other
+abbrev pub name_is_before : PageName → PageName → Bool
+name_is_before a b = if a.space == b.space then nat_lt a.number b.number else nat_lt a.space b.space
 
--- no place takes part: each has the greatest key
-abbrev pub HasNoKey : List ℕ → Type 0
-HasNoKey keys = (place : ℕ) → place < length keys → NO_KEY ≤ slice_index keys place
+-- the lesser number goes first, and of two with one number the lesser space, and then the lesser page
+abbrev pub is_before : Rank → Rank → Bool
+is_before a b = if a.number == b.number then name_is_before a.name b.name else nat_lt a.number b.number
 
--- each node between but one has the lesser key of the two below it
-abbrev pub AreMatchedBut : ℕ → ℕ → List ℕ → Type 0
-AreMatchedBut but count nodes = (node : ℕ) → 0 < node → node < count → node ≢ but → slice_index nodes node ≡ min (slice_index nodes (2 * node)) (slice_index nodes (2 * node + 1))
+-- the rank of a place that takes no part
+abbrev pub no_rank : Rank
+no_rank = record { number = NO_NUMBER; name = record { space = 0; number = 0 } }
 
-pub record IsTournament (count : ℕ) (nodes : List ℕ) : Type 0 where
+abbrev pub rank_at : List Rank → ℕ → Rank
+rank_at ranks at = get_or ranks at no_rank
+
+-- the winner of a match
+abbrev pub first_of : Rank → Rank → Rank
+first_of a b = if is_before b a then b else a
+
+-- the place takes part, and no other goes before it
+pub record IsFirst (ranks : List Rank) (place : ℕ) : Type 0 where
+  pub within : place < length ranks
+  pub part : (rank_at ranks place).number < NO_NUMBER
+  pub first : (other : ℕ) → other < length ranks → is_before (rank_at ranks other) (rank_at ranks place) ≡ false
+
+-- no place takes part
+abbrev pub HasNoRank : List Rank → Type 0
+HasNoRank ranks = (place : ℕ) → place < length ranks → NO_NUMBER ≤ (rank_at ranks place).number
+
+-- each node between but one has the winner of the two below it
+abbrev pub AreMatchedBut : ℕ → ℕ → List Rank → Type 0
+AreMatchedBut but count nodes = (node : ℕ) → 0 < node → node < count → node ≢ but → rank_at nodes node ≡ first_of (rank_at nodes (2 * node)) (rank_at nodes (2 * node + 1))
+
+pub record IsTournament (count : ℕ) (nodes : List Rank) : Type 0 where
   pub long : length nodes ≡ 2 * count
   pub matched : AreMatchedBut 0 count nodes

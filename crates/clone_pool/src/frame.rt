@@ -1,3 +1,8 @@
+ghost use Rattle.std.specs.Prelude.{◌≡◌, ◌<◌, ◌-◌, ◌^◌};
+ghost use Rattle.clone_pool.specs.Index.{is_same};
+ghost use Rattle.clone_pool.specs.Frames.{no_frame, name_of, is_dirty, may_go, is_waiting, is_begun, is_fresh, made, noted, later_in, touched, pinned, unpinned, freshened, changed, begun, landed, failed, discarded};
+
+use clone_mtr::Record;
 use clone_page::Page;
 
 /// Which page it is: its space, and its number there.
@@ -5,6 +10,17 @@ use clone_page::Page;
 pub struct PageName {
     pub space: u32,
     pub number: u32,
+}
+
+/// What a frame holds.
+#[derive(Clone, Copy, Debug, PartialEq, Eq)]
+pub enum Content {
+    /// No page.
+    Unused,
+    /// A new page past the end of its file, which no change has made yet.
+    Fresh(PageName),
+    /// A page.
+    Held(PageName),
 }
 
 /// How far the write of a page to the disk is.
@@ -21,11 +37,11 @@ pub enum Flush {
 /// A page in memory, or no page.
 #[derive(Drop)]
 pub struct Frame {
-    /// The page that it holds.
-    pub name: Option<PageName>,
+    /// What it holds.
+    pub content: Content,
     /// The page as it is now.
     pub page: Page,
-    /// The LSN at which the oldest change begins that isn't on the disk.
+    /// The LSN at which the oldest change begins that isn't on the disk. A page that has one is dirty.
     pub oldest: Option<u64>,
     /// The write to the disk. Only a dirty page has one.
     pub flush: Flush,
@@ -33,4 +49,178 @@ pub struct Frame {
     pub pins: u32,
     /// The number of the last use, or 0 without a page.
     pub last_use: u64,
+}
+
+impl PageName {
+    /// Whether this is the name of the same page.
+    pub(crate) fn is(self, other: PageName) -> bool
+        ensures { result ≡ is_same self other }
+    {
+        self.space == other.space && self.number == other.number
+    }
+}
+
+impl Frame {
+    pub(crate) fn unused() -> Frame
+        ensures { result ≡ no_frame }
+    {
+        Frame {
+            content: Content::Unused,
+            page: Page::zero(),
+            oldest: None,
+            flush: Flush::Idle,
+            pins: 0,
+            last_use: 0,
+        }
+    }
+
+    /// The page that it holds, if it holds one.
+    pub fn name(&self) -> Option<PageName>
+        ensures { result ≡ name_of self.now }
+    {
+        match self.content {
+            Content::Unused => None,
+            Content::Fresh(name) | Content::Held(name) => Some(name),
+        }
+    }
+
+    /// Whether its page has a change that isn't on the disk.
+    pub fn is_dirty(&self) -> bool
+        ensures { result ≡ is_dirty self.now }
+    {
+        self.oldest.is_some()
+    }
+
+    // Whether it may make place for another page.
+    pub(crate) fn may_go(&self) -> bool
+        ensures { result ≡ may_go self.now }
+    {
+        self.pins == 0 && !self.is_dirty()
+    }
+
+    // Whether its page is dirty, and no flush of it is under way.
+    pub(crate) fn is_waiting(&self) -> bool
+        ensures { result ≡ is_waiting self.now }
+    {
+        self.is_dirty() && !is_begun(self.flush)
+    }
+
+    pub(crate) fn touch(&mut self, number: u64)
+        ensures { self.new ≡ touched number self.old }
+    {
+        self.last_use = number;
+    }
+
+    pub(crate) fn pin(&mut self)
+        requires { self.old.pins < 2 ^ 32 - 1 }
+        ensures { self.new ≡ pinned self.old }
+    {
+        self.pins += 1;
+    }
+
+    pub(crate) fn unpin(&mut self)
+        requires { 0 < self.old.pins }
+        ensures { self.new ≡ unpinned self.old }
+    {
+        self.pins -= 1;
+        if self.pins == 0 && is_fresh(self.content) {
+            self.content = Content::Unused;
+            self.last_use = 0;
+        }
+    }
+
+    pub(crate) fn change(&mut self, entry: &Record, start: u64, end: u64)
+        ensures { self.new ≡ changed entry.now start end self.old }
+    {
+        clone_mtr::apply(entry, &mut self.page, end);
+        self.content = made(self.content);
+        self.oldest = Some(self.oldest.unwrap_or(start));
+        self.flush = noted(self.flush, start);
+    }
+
+    pub(crate) fn freshen(&mut self, name: PageName, number: u64)
+        ensures { self.new ≡ freshened name number self.old }
+    {
+        self.content = Content::Fresh(name);
+        self.page = Page::zero();
+        self.pins = 1;
+        self.last_use = number;
+    }
+
+    pub(crate) fn discard(&mut self)
+        ensures { self.new ≡ discarded self.old }
+    {
+        self.content = Content::Unused;
+        self.oldest = None;
+        self.flush = Flush::Idle;
+        self.last_use = 0;
+    }
+
+    pub(crate) fn begin_flush(&mut self)
+        ensures { self.new ≡ begun self.old }
+    {
+        self.flush = Flush::Begun { later: None };
+    }
+
+    pub(crate) fn fail_flush(&mut self)
+        ensures { self.new ≡ failed self.old }
+    {
+        self.flush = Flush::Failed;
+    }
+
+    pub(crate) fn land_flush(&mut self)
+        ensures { self.new ≡ landed self.old }
+    {
+        self.oldest = later_in(self.flush);
+        self.flush = Flush::Idle;
+    }
+}
+
+fn is_begun(flush: Flush) -> bool
+    ensures { result ≡ is_begun flush }
+{
+    match flush {
+        Flush::Begun { .. } => true,
+        Flush::Idle | Flush::Failed => false,
+    }
+}
+
+fn is_fresh(content: Content) -> bool
+    ensures { result ≡ is_fresh content }
+{
+    match content {
+        Content::Fresh(_) => true,
+        Content::Unused | Content::Held(_) => false,
+    }
+}
+
+// A change makes a new page.
+fn made(content: Content) -> Content
+    ensures { result ≡ made content }
+{
+    match content {
+        Content::Fresh(name) => Content::Held(name),
+        other => other,
+    }
+}
+
+// The first change after a flush began.
+fn noted(flush: Flush, start: u64) -> Flush
+    ensures { result ≡ noted start flush }
+{
+    match flush {
+        Flush::Begun { later } => Flush::Begun {
+            later: Some(later.unwrap_or(start)),
+        },
+        other => other,
+    }
+}
+
+fn later_in(flush: Flush) -> Option<u64>
+    ensures { result ≡ later_in flush }
+{
+    match flush {
+        Flush::Begun { later } => later,
+        Flush::Idle | Flush::Failed => None,
+    }
 }

@@ -3,10 +3,11 @@
 
 mod frame;
 mod index;
+mod orders;
 mod pool;
 mod tournament;
 
-pub use frame::{Flush, Frame, PageName};
+pub use frame::{Content, Flush, Frame, PageName};
 pub use pool::{FetchRefusal, Pool};
 
 #[cfg(test)]

@@ -1,12 +1,12 @@
-ghost use Rattle.std.specs.Prelude.{◌≡◌, ◌<◌, ◌+◌, ◌-◌, ◌^◌, ℕ, [], None, Some, IfOk, IfNone, IfSome, IfErr, OnOk, OnErr, IsSome, length, option_map, replicate, slice_set};
+ghost use Rattle.std.specs.Prelude.{◌≡◌, ◌<◌, ◌-◌, ◌^◌, ℕ, None, true, false, IfOk, IfErr, IfNone, IfSome, OnOk, OnErr, length, replicate, slice_set};
+ghost use Rattle.std.specs.Option.{ForSome};
 ghost use Rattle.clone_outside.specs.Causes.{Rose};
 ghost use Rattle.clone_outside.specs.Disk.{ForTold, GivesQuiet};
-ghost use Rattle.clone_pool.specs.Pairs.{get};
-ghost use Rattle.clone_pool.specs.Frames.{no_frame, frame_at, key_of, one, forgotten, use_key, oldest_key, emptied, filled, pinned, unpinned, changed, noted};
+ghost use Rattle.clone_pool.specs.Frames.{no_frame, frame_at, name_of, holder, HoldsPage, IsInFlight, is_dirty, is_waiting, page_changed, emptied, filled, pinned, unpinned, changed, begun, landed, failed, discarded, next_use};
 
-use crate::index::Index;
-use crate::tournament::{NO_KEY, Tournament};
-use crate::{Flush, Frame, PageName};
+use crate::orders::Orders;
+use crate::tournament::NO_NUMBER;
+use crate::{Content, Frame, PageName};
 use clone_mtr::Record;
 use clone_outside::PageDisk;
 use clone_page::Page;
@@ -24,7 +24,7 @@ pub enum FetchRefusal {
 }
 
 // The number of a use behind which uses are no longer counted.
-const LAST_USE: u64 = NO_KEY - 1;
+const LAST_USE: u64 = NO_NUMBER - 1;
 
 /// Pages in frames. After it is made no call takes memory, and each takes no more steps than the number
 /// of frames has binary digits.
@@ -32,10 +32,7 @@ const LAST_USE: u64 = NO_KEY - 1;
 pub struct Pool {
     frames: Vec<Frame>,
     uses: u64,
-    names: Index,
-    // the last uses of the frames that may go, and the oldest changes of the dirty ones
-    going: Tournament,
-    dirty: Tournament,
+    orders: Orders,
 }
 
 impl Model for Pool {
@@ -43,28 +40,26 @@ impl Model for Pool {
 
     ghost Value = { Frames };
 
-    ghost view = { λ p. record { frames = p.frames.items; uses = p.uses; names = p.names.pairs } };
+    ghost view = { λ p. record { frames = p.frames.items; uses = p.uses } };
 
-    ghost invariant = { λ p. IsKept (record { frames = p.frames.items; uses = p.uses; names = p.names.pairs }) p.names.room p.going p.dirty };
+    ghost invariant = { λ p. IsKept (record { frames = p.frames.items; uses = p.uses }) p.orders };
 }
 
 impl Pool {
-    ghost use Rattle.clone_pool.specs.Pool.{Frames, IsPool, Fetches, Fills, Empties, IsVictim, AreKept, AreClean, IsOldest, used};
+    ghost use Rattle.clone_pool.specs.Pool.{Frames, IsPool, Fetches, Freshens, Fills, Empties, IsVictim, AreKept, AreClean, IsOldest, AreNotWaiting, IsNextToFlush, IsHolder, KeepsInUse, KeepsOthers, HasPinRoom, used, with_frame, with_fresh};
 
     /// So many frames without pages. This makes all that the pool keeps.
     pub fn new(alloc: Global, count: u32) -> Result<Pool, AllocError>
-        ensures { IfOk result (λ pool. pool ≡ record { frames = replicate count no_frame; uses = 0; names = [] }) }
+        ensures { IfOk result (λ pool. pool ≡ record { frames = replicate count no_frame; uses = 0 }) }
     {
         let mut frames = Vec::with_capacity(alloc, count as usize)?;
         for _ in 0..count {
-            frames.push(unused())?;
+            frames.push(Frame::unused())?;
         }
         Ok(Pool {
             frames,
             uses: 0,
-            names: Index::new(alloc, count as usize)?,
-            going: Tournament::new(alloc, count, 0)?,
-            dirty: Tournament::new(alloc, count, NO_KEY)?,
+            orders: Orders::new(alloc, count)?,
         })
     }
 
@@ -81,16 +76,20 @@ impl Pool {
         page: u32,
     ) -> Result<u32, FetchRefusal>
         ensures answer { Fetches (record { space = space; number = page }) self.old self.new result }
+        ensures held { IfOk result (IsHolder (record { space = space; number = page }) self.new.frames) }
+        ensures others { IfOk result (λ at. KeepsOthers at self.old.frames self.new.frames) }
+        ensures kept { KeepsInUse self.old.frames self.new.frames }
         ensures fault { result ≡ Err FetchRefusal.DiskFault → Rose (D.failures disk.old) (D.failures disk.new) }
         ensures disk { D.told disk.new ≡ D.told disk.old }
-        ensures read { IfOk result (λ at. get self.old.names (key_of (record { space = space; number = page })) ≡ None → ForTold (D.told disk.old) (λ m. GivesQuiet m space page (frame_at self.new.frames at).page)) }
+        ensures read { IfOk result (λ at. holder self.old.frames (record { space = space; number = page }) ≡ None → ForTold (D.told disk.old) (λ m. GivesQuiet m space page (frame_at self.new.frames at).page)) }
     {
         let name = PageName {
             space,
             number: page,
         };
-        if let Some(at) = self.names.find(key_of(name)) {
-            self.touch(at as usize);
+        if let Some(at) = self.find(name) {
+            self.touch(at);
+            self.laws();
             return Ok(at);
         }
         let Some(at) = self.victim() else {
@@ -98,51 +97,142 @@ impl Pool {
             return Err(FetchRefusal::PoolFull { frames });
         };
         self.load(disk, at, name)?;
+        self.laws();
         Ok(at as u32)
+    }
+
+    /// Takes a frame for a new page, which lies past the end of its file, and answers the frame's
+    /// number. The page is one of zero bytes, and pinned. It counts as a use of the frame.
+    ///
+    /// The frame is found as `fetch` finds one, and the disk isn't asked. The error is `PoolFull`
+    /// exactly where there is none, and nothing has changed then. A page that has a frame is pinned
+    /// there as it is.
+    ///
+    /// Until a change makes it, the page goes with its last pin.
+    pub fn fresh(&mut self, space: u32, page: u32) -> Result<u32, FetchRefusal>
+        requires room { ForSome (holder self.old.frames (record { space = space; number = page })) (λ at. HasPinRoom (frame_at self.old.frames at)) }
+        ensures answer { Freshens (record { space = space; number = page }) self.old self.new result }
+        ensures held { IfOk result (IsHolder (record { space = space; number = page }) self.new.frames) }
+        ensures others { IfOk result (λ at. KeepsOthers at self.old.frames self.new.frames) }
+    {
+        let name = PageName {
+            space,
+            number: page,
+        };
+        if let Some(at) = self.find(name) {
+            self.pin(at);
+            self.touch(at);
+            self.laws();
+            return Ok(at);
+        }
+        let Some(at) = self.victim() else {
+            let frames = self.frames.len() as u32;
+            return Err(FetchRefusal::PoolFull { frames });
+        };
+        self.take(at, name);
+        self.laws();
+        Ok(at as u32)
+    }
+
+    /// The number of the frame that holds a page, if one does. It counts as no use.
+    pub fn find(&self, name: PageName) -> Option<u32>
+        ensures holder { result ≡ holder self.now.frames name }
+        ensures held { IfSome result (IsHolder name self.now.frames) }
+    {
+        match self.orders.names.find(name) {
+            Some(at) => Some(at as u32),
+            None => None,
+        }
     }
 
     /// The page in a frame.
     pub fn frame(&self, at: u32) -> &Page
-        requires { at < length self.now.frames }
+        requires { HoldsPage (frame_at self.now.frames at) }
         ensures { result.now ≡ (frame_at self.now.frames at).page }
     {
-        &self.frames[at as usize].page
+        &self.frames[self.place(at)].page
     }
 
     /// Keeps the page in its frame until it is unpinned as often.
     pub fn pin(&mut self, at: u32)
-        requires at { at < length self.old.frames }
-        requires room { (frame_at self.old.frames at).pins < 2 ^ 32 - 1 }
-        ensures { self.new ≡ record self.old { frames = slice_set self.old.frames at (pinned (frame_at self.old.frames at)) } }
+        requires holds { HoldsPage (frame_at self.old.frames at) }
+        requires room { HasPinRoom (frame_at self.old.frames at) }
+        ensures { self.new ≡ with_frame at pinned self.old }
     {
-        let at = at as usize;
-        let frame = &mut self.frames[at];
-        frame.pins += 1;
-        refresh(&self.frames, &mut self.going, &mut self.dirty, at);
+        let at = self.place(at);
+        self.frames[at].pin();
+        self.orders.refresh(&self.frames, at);
     }
 
-    /// Takes a pin away.
+    /// Takes a pin away. A new page that no change made goes with its last pin.
     pub fn unpin(&mut self, at: u32)
-        requires at { at < length self.old.frames }
+        requires holds { HoldsPage (frame_at self.old.frames at) }
         requires pinned { 0 < (frame_at self.old.frames at).pins }
-        ensures { self.new ≡ record self.old { frames = slice_set self.old.frames at (unpinned (frame_at self.old.frames at)) } }
+        ensures { self.new ≡ with_frame at unpinned self.old }
     {
-        let at = at as usize;
-        let frame = &mut self.frames[at];
-        frame.pins -= 1;
-        refresh(&self.frames, &mut self.going, &mut self.dirty, at);
+        let at = self.place(at);
+        self.frames[at].unpin();
+        self.orders.refresh(&self.frames, at);
     }
 
     /// Does to the page in a frame what a record says of it. The record is of the mini-transaction from
     /// `start` to `end`. The page is dirty then, from `start` on if it wasn't dirty before.
     pub fn change(&mut self, at: u32, entry: &Record, start: u64, end: u64)
-        requires at { at < length self.old.frames }
+        requires holds { HoldsPage (frame_at self.old.frames at) }
+        requires page { page_changed entry.now ≡ name_of (frame_at self.old.frames at) }
         requires order { start < end }
-        ensures { self.new ≡ record self.old { frames = slice_set self.old.frames at (changed entry.now start end (frame_at self.old.frames at)) } }
+        ensures { self.new ≡ with_frame at (changed entry.now start end) self.old }
     {
-        let at = at as usize;
-        change_frame(&mut self.frames[at], entry, start, end);
-        refresh(&self.frames, &mut self.going, &mut self.dirty, at);
+        let at = self.place(at);
+        self.frames[at].change(entry, start, end);
+        self.orders.refresh(&self.frames, at);
+    }
+
+    /// A flush of a dirty page begins: what is changed from now on isn't in it.
+    pub fn begin_flush(&mut self, at: u32)
+        requires holds { HoldsPage (frame_at self.old.frames at) }
+        requires waits { is_waiting (frame_at self.old.frames at) ≡ true }
+        ensures { self.new ≡ with_frame at begun self.old }
+    {
+        let at = self.place(at);
+        self.frames[at].begin_flush();
+        self.orders.refresh(&self.frames, at);
+    }
+
+    /// A flush ends, with the page on the disk as it was when the flush began. The page is dirty from
+    /// the first change after that, or clean where there was none.
+    pub fn land_flush(&mut self, at: u32)
+        requires holds { HoldsPage (frame_at self.old.frames at) }
+        requires flight { IsInFlight (frame_at self.old.frames at) }
+        ensures { self.new ≡ with_frame at landed self.old }
+    {
+        let at = self.place(at);
+        self.frames[at].land_flush();
+        self.orders.refresh(&self.frames, at);
+    }
+
+    /// A flush ends in a failure. The page is dirty as before.
+    pub fn fail_flush(&mut self, at: u32)
+        requires holds { HoldsPage (frame_at self.old.frames at) }
+        requires flight { IsInFlight (frame_at self.old.frames at) }
+        ensures { self.new ≡ with_frame at failed self.old }
+    {
+        let at = self.place(at);
+        self.frames[at].fail_flush();
+        self.orders.refresh(&self.frames, at);
+    }
+
+    /// The frame of the dirty page to be flushed next, or none where no dirty page waits for that. Of
+    /// those whose flush isn't under way it is the one with the least oldest change, and of several
+    /// with the same the first by space and page.
+    pub fn next_to_flush(&self) -> Option<u32>
+        ensures none { IfNone result (AreNotWaiting self.now.frames) }
+        ensures some { IfSome result (IsNextToFlush self.now.frames) }
+    {
+        match self.orders.waiting.first() {
+            Some(at) => Some(at as u32),
+            None => None,
+        }
     }
 
     /// The LSN at which the oldest change begins that isn't on the disk, or none where no page is dirty.
@@ -150,10 +240,21 @@ impl Pool {
         ensures none { IfNone result (AreClean self.now.frames) }
         ensures some { IfSome result (IsOldest self.now.frames) }
     {
-        match self.dirty.least() {
+        match self.orders.dirty.first() {
             Some(at) => self.frames[at].oldest,
             None => None,
         }
+    }
+
+    /// Gives up the page in a frame, which isn't pinned, with all that was changed of it.
+    pub fn discard(&mut self, at: u32)
+        requires holds { HoldsPage (frame_at self.old.frames at) }
+        requires free { (frame_at self.old.frames at).pins ≡ 0 }
+        ensures { self.new ≡ with_frame at discarded self.old }
+    {
+        let at = self.place(at);
+        self.frames[at].discard();
+        self.orders.refresh(&self.frames, at);
     }
 
     /// What holds of every pool.
@@ -163,26 +264,47 @@ impl Pool {
         let _ = &self.uses;
     }
 
+    // The place of a frame that holds a page.
+    fn place(&self, at: u32) -> usize
+        requires { HoldsPage (frame_at self.now.frames at) }
+        ensures same { result ≡ at }
+        ensures within { result < length self.now.frames }
+    {
+        let _ = &self.uses;
+        at as usize
+    }
+
     // A frame that may go, and was used no later than any other of these.
     fn victim(&self) -> Option<usize>
         ensures none { IfNone result (AreKept self.now.frames) }
         ensures some { IfSome result (IsVictim self.now.frames) }
     {
-        match self.going.least() {
+        match self.orders.going.first() {
             Some(at) => Some(at),
             None => None,
         }
     }
 
     // A frame was used.
-    fn touch(&mut self, at: usize)
-        requires { at < length self.old.frames }
+    fn touch(&mut self, at: u32)
+        requires { HoldsPage (frame_at self.old.frames at) }
         ensures { self.new ≡ used at self.old }
     {
-        self.uses = self.uses.saturating_add(1).min(LAST_USE);
-        let frame = &mut self.frames[at];
-        frame.last_use = self.uses;
-        refresh(&self.frames, &mut self.going, &mut self.dirty, at);
+        let at = self.place(at);
+        self.uses = next_use(self.uses);
+        self.frames[at].touch(self.uses);
+        self.orders.refresh(&self.frames, at);
+    }
+
+    // Takes a frame for a new page, in the place of the one that it has.
+    fn take(&mut self, at: usize, name: PageName)
+        requires at { IsVictim self.old.frames at }
+        requires new { holder self.old.frames name ≡ None }
+        ensures { self.new ≡ with_fresh name at self.old }
+    {
+        self.uses = next_use(self.uses);
+        self.frames[at].freshen(name, self.uses);
+        self.orders.refresh(&self.frames, at);
     }
 
     // Reads a page into a frame, in the place of the one that it has.
@@ -193,26 +315,25 @@ impl Pool {
         name: PageName,
     ) -> Result<(), FetchRefusal>
         requires at { IsVictim self.old.frames at }
-        requires new { get self.old.names (key_of name) ≡ None }
+        requires new { holder self.old.frames name ≡ None }
         ensures ok { OnOk result (Fills name at self.old self.new) }
         ensures err { IfErr result (λ e. (e ≡ FetchRefusal.DiskFault) × Empties at self.old self.new) }
         ensures fault { OnErr result (Rose (D.failures disk.old) (D.failures disk.new)) }
         ensures disk { D.told disk.new ≡ D.told disk.old }
         ensures read { OnOk result (ForTold (D.told disk.old) (λ m. GivesQuiet m name.space name.number (frame_at self.new.frames at).page)) }
     {
-        let number = self.uses.saturating_add(1).min(LAST_USE);
-        forget(&mut self.names, self.frames[at].name);
+        let number = next_use(self.uses);
         let read = read_into(disk, &mut self.frames[at], name, number);
-        refresh(&self.frames, &mut self.going, &mut self.dirty, at);
+        self.orders.refresh(&self.frames, at);
         match read {
             Ok(()) => {}
             Err(refusal) => return Err(refusal),
         }
         self.uses = number;
-        self.names.put(key_of(name), at as u32);
         Ok(())
     }
 }
+
 // Reads a page into a frame that is then in its use of this number.
 fn read_into<D: PageDisk>(
     disk: &mut D,
@@ -226,79 +347,20 @@ fn read_into<D: PageDisk>(
     ensures disk { D.told disk.new ≡ D.told disk.old }
     ensures read { OnOk result (ForTold (D.told disk.old) (λ m. GivesQuiet m name.space name.number frame.new.page)) }
 {
-    frame.name = None;
+    frame.content = Content::Unused;
     frame.last_use = 0;
     match disk.read_page(name.space, name.number, frame.page.bytes_mut()) {
         Ok(()) => {}
         Err(_) => return Err(FetchRefusal::DiskFault),
     }
-    frame.name = Some(name);
+    frame.content = Content::Held(name);
     frame.last_use = number;
     Ok(())
 }
 
-fn change_frame(frame: &mut Frame, entry: &Record, start: u64, end: u64)
-    ensures { frame.new ≡ changed entry.now start end frame.old }
+// The number of the next use.
+fn next_use(uses: u64) -> u64
+    ensures { result ≡ next_use uses }
 {
-    clone_mtr::apply(entry, &mut frame.page, end);
-    frame.oldest = Some(frame.oldest.unwrap_or(start));
-    frame.flush = noted(frame.flush, start);
-}
-
-// The first change after a flush began.
-fn noted(flush: Flush, start: u64) -> Flush
-    ensures { result ≡ noted start flush }
-{
-    match flush {
-        Flush::Begun { later } => Flush::Begun {
-            later: Some(later.unwrap_or(start)),
-        },
-        other => other,
-    }
-}
-
-// A page's name as one number.
-fn key_of(name: PageName) -> u64
-    ensures { result ≡ key_of name }
-{
-    u64::from(name.space) * (1 << 32) + u64::from(name.number)
-}
-
-// Takes a name out, if there is one.
-fn forget(names: &mut Index, name: Option<PageName>)
-    requires { IfSome name (λ n. IsSome (get names.old.pairs (key_of n))) }
-    ensures gets { (q : ℕ) → get names.new.pairs q ≡ forgotten (option_map key_of name) q (get names.old.pairs q) }
-    ensures room { names.new.room ≡ names.old.room }
-    ensures count { length names.new.pairs + one (option_map key_of name) ≡ length names.old.pairs }
-{
-    if let Some(name) = name {
-        names.remove(key_of(name));
-    }
-}
-
-// Puts a frame's keys into the tournaments.
-fn refresh(frames: &[Frame], going: &mut Tournament, dirty: &mut Tournament, at: usize)
-    requires at { at < length frames.now }
-    requires going { length going.old ≡ length frames.now }
-    requires dirty { length dirty.old ≡ length frames.now }
-    ensures going { going.new ≡ slice_set going.old at (use_key (frame_at frames.now at)) }
-    ensures dirty { dirty.new ≡ slice_set dirty.old at (oldest_key (frame_at frames.now at)) }
-{
-    let frame = &frames[at];
-    let may_go = frame.pins == 0 && frame.oldest.is_none();
-    going.set(at, if may_go { frame.last_use } else { NO_KEY });
-    dirty.set(at, frame.oldest.unwrap_or(NO_KEY));
-}
-
-fn unused() -> Frame
-    ensures { result ≡ no_frame }
-{
-    Frame {
-        name: None,
-        page: Page::zero(),
-        oldest: None,
-        flush: Flush::Idle,
-        pins: 0,
-        last_use: 0,
-    }
+    uses.saturating_add(1).min(LAST_USE)
 }

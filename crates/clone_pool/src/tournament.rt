@@ -1,29 +1,38 @@
-//! Keys in a tournament, which has the least of them at its top.
+//! Ranks in a tournament, which has the first of them at its top.
 //!
-//! With n keys there are 2n nodes, of which node 0 is unused. Node n + i has the key of place i, and each
-//! node between has the lesser key of nodes 2j and 2j + 1. So the top, node 1, has the least key of all,
-//! and a key that changes is carried up by at most as many matches as 2n has binary digits.
-ghost use Rattle.std.specs.Prelude.{◌≡◌, ◌<◌, ◌≤◌, ℕ, length, replicate, slice_set, slice_index, drop, ◌*◌, IfOk, IfNone, IfSome};
-ghost use Rattle.clone_pool.specs.Tournament.{IsLeast, HasNoKey, AreMatchedBut};
+//! With n places there are 2n nodes, of which node 0 is unused. Node n + i has the rank of place i, and
+//! each node between has the winner of nodes 2j and 2j + 1. So the top, node 1, has the first rank of all,
+//! and a rank that changes is carried up by at most as many matches as 2n has binary digits.
+ghost use Rattle.std.specs.Prelude.{◌≡◌, ◌<◌, ◌≤◌, ℕ, length, replicate, slice_set, drop, ◌*◌, IfOk, IfNone, IfSome};
+ghost use Rattle.clone_pool.specs.Tournament.{IsFirst, HasNoRank, AreMatchedBut, rank_at, is_before, name_is_before, first_of};
 
+use crate::PageName;
 use std::alloc::{AllocError, Global};
 use std::marker::Model;
 
-/// The key of a place that takes no part.
-pub const NO_KEY: u64 = 0xFFFF_FFFF_FFFF_FFFF;
+/// The number of a rank that takes no part.
+pub const NO_NUMBER: u64 = 0xFFFF_FFFF_FFFF_FFFF;
 
-/// So many keys by their places.
+/// What a tournament compares: a number, and a page for those that have the same number.
+#[derive(Clone, Copy, Debug)]
+pub struct Rank {
+    pub number: u64,
+    pub name: PageName,
+}
+
+/// Ranks by their places.
 #[derive(Drop)]
 pub struct Tournament {
-    nodes: Vec<u64>,
+    nodes: Vec<Rank>,
     count: usize,
 }
 
 impl Model for Tournament {
     ghost use Rattle.std.specs.Prelude.{List, ℕ, drop};
     ghost use Rattle.clone_pool.specs.Tournament.{IsTournament};
+    ghost use Rattle.clone_pool.specs.declared.tournament.Rank.{Rank};
 
-    ghost Value = { List ℕ };
+    ghost Value = { List Rank };
 
     ghost view = { λ t. drop t.count t.nodes.items };
 
@@ -31,36 +40,37 @@ impl Model for Tournament {
 }
 
 impl Tournament {
-    /// So many places, each with this key. No later call takes memory.
-    pub fn new(alloc: Global, count: u32, key: u64) -> Result<Tournament, AllocError>
-        ensures { IfOk result (λ t. t ≡ replicate count key) }
+    /// So many places, each with this rank. No later call takes memory.
+    pub fn new(alloc: Global, count: u32, rank: Rank) -> Result<Tournament, AllocError>
+        ensures { IfOk result (λ t. t ≡ replicate count rank) }
     {
         let count = count as usize;
-        Ok(Tournament {
-            nodes: Vec::from_elem(alloc, key, 2 * count)?,
-            count,
-        })
+        let mut nodes = Vec::with_capacity(alloc, 2 * count)?;
+        for _ in 0..2 * count {
+            nodes.push(rank)?;
+        }
+        Ok(Tournament { nodes, count })
     }
 
-    /// Gives a place this key.
-    pub fn set(&mut self, place: usize, key: u64)
+    /// Gives a place this rank.
+    pub fn set(&mut self, place: usize, rank: Rank)
         requires { place < length self.old }
-        ensures { self.new ≡ slice_set self.old place key }
+        ensures { self.new ≡ slice_set self.old place rank }
     {
-        self.nodes[self.count + place] = key;
+        self.nodes[self.count + place] = rank;
         rematch(&mut self.nodes, self.count, (self.count + place) / 2);
     }
 
-    /// A place with the least key, or none exactly where no place takes part.
-    pub fn least(&self) -> Option<usize>
-        ensures none { IfNone result (HasNoKey self.now) }
-        ensures some { IfSome result (IsLeast self.now) }
+    /// A place that goes before the others, or none exactly where no place takes part.
+    pub fn first(&self) -> Option<usize>
+        ensures none { IfNone result (HasNoRank self.now) }
+        ensures some { IfSome result (IsFirst self.now) }
     {
         if self.count == 0 {
             return None;
         }
         let top = self.nodes[1];
-        if top == NO_KEY {
+        if top.number == NO_NUMBER {
             return None;
         }
         Some(leaf_below(&self.nodes, self.count) - self.count)
@@ -68,7 +78,7 @@ impl Tournament {
 }
 
 // Plays the matches from a node to the top again.
-fn rematch(nodes: &mut Vec<u64>, count: usize, from: usize)
+fn rematch(nodes: &mut Vec<Rank>, count: usize, from: usize)
     requires long { length nodes.old.items ≡ 2 * count }
     requires from { from < count }
     requires others { AreMatchedBut from count nodes.old.items }
@@ -78,28 +88,56 @@ fn rematch(nodes: &mut Vec<u64>, count: usize, from: usize)
 {
     let mut node = from;
     while 0 < node {
-        nodes[node] = nodes[2 * node].min(nodes[2 * node + 1]);
+        nodes[node] = first_of(nodes[2 * node], nodes[2 * node + 1]);
         node /= 2;
     }
 }
 
-// A leaf with the key of the top.
-fn leaf_below(nodes: &[u64], count: usize) -> usize
+// A leaf with the rank of the top.
+fn leaf_below(nodes: &[Rank], count: usize) -> usize
     requires long { length nodes.now ≡ 2 * count }
     requires some { 0 < count }
     requires matched { AreMatchedBut 0 count nodes.now }
     ensures low { count ≤ result }
     ensures high { result < 2 * count }
-    ensures key { slice_index nodes.now result ≡ slice_index nodes.now 1 }
+    ensures key { rank_at nodes.now result ≡ rank_at nodes.now 1 }
 {
     let mut node = 1;
     while node < count {
         let left = 2 * node;
-        node = if nodes[left] == nodes[node] {
-            left
-        } else {
+        node = if is_before(nodes[left + 1], nodes[left]) {
             left + 1
+        } else {
+            left
         };
     }
     node
+}
+
+// The winner of a match.
+fn first_of(a: Rank, b: Rank) -> Rank
+    ensures { result ≡ first_of a b }
+{
+    if is_before(b, a) { b } else { a }
+}
+
+// The lesser number goes first, and of two with one number the lesser space, and then the lesser page.
+fn is_before(a: Rank, b: Rank) -> bool
+    ensures { result ≡ is_before a b }
+{
+    if a.number == b.number {
+        name_is_before(a.name, b.name)
+    } else {
+        a.number < b.number
+    }
+}
+
+fn name_is_before(a: PageName, b: PageName) -> bool
+    ensures { result ≡ name_is_before a b }
+{
+    if a.space == b.space {
+        a.number < b.number
+    } else {
+        a.space < b.space
+    }
 }

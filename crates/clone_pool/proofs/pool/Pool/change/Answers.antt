@@ -1,16 +1,20 @@
-use Rattle.std.proofs.Common.{◌<◌, ◌∙◌, length, ap, subst, sym, arith}
+use Rattle.std.proofs.Common.{◌≡◌, ◌<◌, ◌∙◌, length, ap, subst, sym, arith}
 use Rattle.std.proofs.lemmas.List.{get_or_read}
-use Rattle.clone_pool.specs.Frames.{no_frame, tag}
-use Rattle.clone_pool.specs.Pool.{Frames, IsNumbered}
-use Rattle.clone_pool.proofs.PoolLemmas.{dated, refreshed_same}
+use Rattle.clone_pool.specs.Frames.{no_frame, frame_at, name_of, HoldsPage}
+use Rattle.clone_pool.specs.Pool.{Frames, IsFrame}
+use Rattle.clone_pool.proofs.FrameLemmas.{changed_frame, changed_name}
+use Rattle.clone_pool.proofs.PoolLemmas.{edited}
 use Rattle.clone_pool.proofs.pool.Pool.change.Goals as goal
 
 pub invariant_of-self : goal.invariant_of-self
 invariant_of-self c =
     let i = c.self.inside in
-    let v : Frames = record { frames = i.frames.items; uses = i.uses; names = i.names.pairs } in
-    let low = subst (λ (v : Frames). c.args.at < length v.frames) (sym c.self.view_is) c.requires.at in
-    let was = get_or_read i.frames.items c.args.at c.index_mut.result.now low c.index_mut.ensures.value no_frame in
-    let n = subst IsNumbered (sym was) (c.self.invariant.numbers c.args.at) in
-    let changed_numbers = subst IsNumbered (sym c.change_frame.ensures) (n.0, dated c.index_mut.result.now.oldest c.args.start n.1 (omega arith)) in
-    refreshed_same v c.args.at _ _ _ _ _ _ _ _ c.self.invariant low changed_numbers (ap tag c.change_frame.ensures ∙ ap tag was) c.deref.ensures.value c.refresh.ensures.going c.refresh.ensures.dirty
+    let v : Frames = record { frames = i.frames.items; uses = i.uses } in
+    let at = c.place-at.result in
+    let g = c.index_mut.result.now in
+    let low = subst (λ (v : Frames). at < length v.frames) (sym c.self.view_is) c.place-at.ensures.within in
+    let was = get_or_read i.frames.items at g low c.index_mut.ensures.value no_frame in
+    let here = sym (was ∙ ap (frame_at i.frames.items) c.place-at.ensures.same ∙ ap (λ (v : Frames). frame_at v.frames c.args.at) c.self.view_is) in
+    let fine = subst (IsFrame i.uses) (sym was) (c.self.invariant.pool.frame at) in
+    let edit = subst (IsFrame i.uses) (sym c.change.ensures) (changed_frame i.uses g fine c.args.entry.now c.args.start c.args.end (omega arith) (subst HoldsPage here c.requires.holds)) in
+    edited v i.orders c.refresh.new.self c.self.invariant at i.uses c.change.new.self _ low (omega arith) c.self.invariant.pool.uses edit (ap name_of c.change.ensures ∙ changed_name c.args.entry.now c.args.start c.args.end g ∙ ap name_of was) c.deref.ensures.value c.refresh.ensures

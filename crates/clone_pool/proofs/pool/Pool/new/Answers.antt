@@ -1,7 +1,7 @@
-use Rattle.std.proofs.Common.{◌≡◌, ◌∙◌, ℕ, List, replicate, ap, subst, sym, arith}
+use Rattle.std.proofs.Common.{◌≡◌, ◌∙◌, List, replicate, ap, subst, sym, arith}
 use Rattle.clone_pool.specs.declared.frame.Frame.{Frame}
+use Rattle.clone_pool.specs.declared.orders.Orders.{Orders}
 use Rattle.clone_pool.specs.Frames.{no_frame}
-use Rattle.clone_pool.specs.Pairs.{Row}
 use Rattle.clone_pool.specs.Pool.{Frames, IsKept}
 use Rattle.clone_pool.proofs.PoolLemmas.{made}
 use Rattle.clone_pool.proofs.pool.Pool.new.Goals as goal
@@ -10,5 +10,5 @@ pub invariant_of-result : goal.invariant_of-result
 invariant_of-result c =
     let whole : c.loop.counter ≡ c.args.count = omega arith in
     let frames : c.loop.frames.items ≡ replicate c.args.count no_frame = c.loop.invariant ∙ ap (λ n. replicate n no_frame) whole in
-    let P : List Frame × Row × List ℕ × List ℕ → Type 0 = λ t. let v : Frames = record { frames = t.0; uses = 0; names = t.1.pairs } in IsKept v t.1.room t.2 t.3 in
-    subst P (λ i. (sym frames i, sym c.in_ok-new.ensures i, sym c.in_ok-new-2.ensures i, sym c.in_ok-new-3.ensures i)) (made c.args.count (omega arith))
+    let P : List Frame × Orders → Type 0 = λ t. IsKept (record { frames = t.0; uses = 0 }) t.1 in
+    subst P (λ i. (sym frames i, sym c.in_ok-new.ensures i)) (made c.args.count (omega arith))

@@ -1,15 +1,20 @@
-use Rattle.std.proofs.Common.{◌<◌, length, ap, subst, sym}
+use Rattle.std.proofs.Common.{◌≡◌, ◌<◌, ◌∙◌, length, ap, subst, sym, arith}
 use Rattle.std.proofs.lemmas.List.{get_or_read}
-use Rattle.clone_pool.specs.Frames.{no_frame, tag}
-use Rattle.clone_pool.specs.Pool.{Frames, IsNumbered}
-use Rattle.clone_pool.proofs.PoolLemmas.{refreshed_same}
+use Rattle.clone_pool.specs.Frames.{no_frame, frame_at, name_of, HoldsPage}
+use Rattle.clone_pool.specs.Pool.{Frames, IsFrame}
+use Rattle.clone_pool.proofs.FrameLemmas.{pinned_frame}
+use Rattle.clone_pool.proofs.PoolLemmas.{edited}
 use Rattle.clone_pool.proofs.pool.Pool.pin.Goals as goal
 
 pub invariant_of-self : goal.invariant_of-self
 invariant_of-self c =
     let i = c.self.inside in
-    let v : Frames = record { frames = i.frames.items; uses = i.uses; names = i.names.pairs } in
-    let low = subst (λ (v : Frames). c.args.at < length v.frames) (sym c.self.view_is) c.requires.at in
-    let was = get_or_read i.frames.items c.args.at c.index_mut-frame.result.now low c.index_mut-frame.ensures.value no_frame in
-    let n = subst IsNumbered (sym was) (c.self.invariant.numbers c.args.at) in
-    refreshed_same v c.args.at _ _ _ _ _ _ _ _ c.self.invariant low n (ap tag was) c.deref.ensures.value c.refresh.ensures.going c.refresh.ensures.dirty
+    let v : Frames = record { frames = i.frames.items; uses = i.uses } in
+    let at = c.place-at.result in
+    let g = c.index_mut.result.now in
+    let low = subst (λ (v : Frames). at < length v.frames) (sym c.self.view_is) c.place-at.ensures.within in
+    let was = get_or_read i.frames.items at g low c.index_mut.ensures.value no_frame in
+    let here = sym (was ∙ ap (frame_at i.frames.items) c.place-at.ensures.same ∙ ap (λ (v : Frames). frame_at v.frames c.args.at) c.self.view_is) in
+    let fine = subst (IsFrame i.uses) (sym was) (c.self.invariant.pool.frame at) in
+    let edit = subst (IsFrame i.uses) (sym c.pin.ensures) (pinned_frame i.uses g fine (subst HoldsPage here c.requires.holds)) in
+    edited v i.orders c.refresh.new.self c.self.invariant at i.uses c.pin.new.self _ low (omega arith) c.self.invariant.pool.uses edit (ap name_of c.pin.ensures ∙ ap name_of was) c.deref.ensures.value c.refresh.ensures

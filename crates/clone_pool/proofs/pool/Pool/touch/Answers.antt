@@ -1,15 +1,22 @@
-use Rattle.std.proofs.Common.{◌<◌, length, ap, subst, sym, arith}
+use Rattle.std.proofs.Common.{◌≡◌, ◌<◌, ◌∙◌, length, ap, subst, sym, arith}
 use Rattle.std.proofs.lemmas.List.{get_or_read}
-use Rattle.clone_pool.specs.Frames.{no_frame, tag}
-use Rattle.clone_pool.specs.Pool.{Frames, IsNumbered}
-use Rattle.clone_pool.proofs.PoolLemmas.{refreshed_same}
+use Rattle.clone_pool.specs.Frames.{no_frame, frame_at, name_of, HoldsPage}
+use Rattle.clone_pool.specs.Pool.{Frames, IsFrame}
+use Rattle.clone_pool.proofs.FrameLemmas.{touched_frame}
+use Rattle.clone_pool.proofs.PoolLemmas.{edited}
 use Rattle.clone_pool.proofs.pool.Pool.touch.Goals as goal
 
 pub invariant_of-self : goal.invariant_of-self
 invariant_of-self c =
     let i = c.self.inside in
-    let v : Frames = record { frames = i.frames.items; uses = i.uses; names = i.names.pairs } in
-    let low = subst (λ (v : Frames). c.args.at < length v.frames) (sym c.self.view_is) c.requires in
-    let was = get_or_read i.frames.items c.args.at c.index_mut-frame.result.now low c.index_mut-frame.ensures.value no_frame in
-    let n = subst IsNumbered (sym was) (c.self.invariant.numbers c.args.at) in
-    refreshed_same v c.args.at _ _ _ _ _ _ _ _ c.self.invariant low (omega arith, n.1) (ap tag was) c.deref.ensures.value c.refresh.ensures.going c.refresh.ensures.dirty
+    let v : Frames = record { frames = i.frames.items; uses = i.uses } in
+    let at = c.place-at.result in
+    let g = c.index_mut.result.now in
+    let number = c.next_use-self-inside.result in
+    let low = subst (λ (v : Frames). at < length v.frames) (sym c.self.view_is) c.place-at.ensures.within in
+    let was = get_or_read i.frames.items at g low c.index_mut.ensures.value no_frame in
+    let here = sym (was ∙ ap (frame_at i.frames.items) c.place-at.ensures.same ∙ ap (λ (v : Frames). frame_at v.frames c.args.at) c.self.view_is) in
+    let fine = subst (IsFrame i.uses) (sym was) (c.self.invariant.pool.frame at) in
+    let few = c.self.invariant.pool.uses in
+    let edit = subst (IsFrame number) (sym c.touch.ensures) (touched_frame i.uses g fine number (omega (arith, c.next_use-self-inside.ensures)) (subst HoldsPage here c.requires)) in
+    edited v i.orders c.refresh.new.self c.self.invariant at number c.touch.new.self _ low (omega (arith, c.next_use-self-inside.ensures, few)) (omega (arith, c.next_use-self-inside.ensures)) edit (ap name_of c.touch.ensures ∙ ap name_of was) c.deref.ensures.value c.refresh.ensures

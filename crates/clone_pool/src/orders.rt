@@ -1,0 +1,92 @@
+ghost use Rattle.std.specs.Prelude.{◌≡◌, ◌<◌, length, replicate, IfOk};
+ghost use Rattle.clone_pool.specs.Frames.{no_frame, frame_at};
+ghost use Rattle.clone_pool.specs.Orders.{AreLong, orders_of, refreshed, no_name, use_rank, age_rank, waiting_rank};
+ghost use Rattle.clone_pool.specs.Tournament.{no_rank};
+
+use crate::index::Index;
+use crate::tournament::{NO_NUMBER, Rank, Tournament};
+use crate::{Frame, PageName};
+use std::alloc::{AllocError, Global};
+use std::marker::Model;
+
+const NO_NAME: PageName = PageName {
+    space: 0,
+    number: 0,
+};
+
+const NO_RANK: Rank = Rank {
+    number: NO_NUMBER,
+    name: NO_NAME,
+};
+
+/// What is kept of the frames beside them: their pages, the last uses of those that may go, and the
+/// oldest changes of the dirty ones, of all and of those whose flush isn't under way.
+#[derive(Drop)]
+pub struct Orders {
+    pub names: Index,
+    pub going: Tournament,
+    pub dirty: Tournament,
+    pub waiting: Tournament,
+}
+
+impl Orders {
+    /// Those of so many frames without pages. No later call takes memory.
+    pub fn new(alloc: Global, count: u32) -> Result<Orders, AllocError>
+        ensures { IfOk result (λ orders. orders ≡ orders_of (replicate count no_frame)) }
+    {
+        let free = Rank {
+            number: 0,
+            name: NO_NAME,
+        };
+        Ok(Orders {
+            names: Index::new(alloc, count)?,
+            going: Tournament::new(alloc, count, free)?,
+            dirty: Tournament::new(alloc, count, NO_RANK)?,
+            waiting: Tournament::new(alloc, count, NO_RANK)?,
+        })
+    }
+
+    /// Takes over what a frame is now.
+    pub fn refresh(&mut self, frames: &[Frame], at: usize)
+        requires at { at < length frames.now }
+        requires long { AreLong (length frames.now) self.old }
+        ensures { self.new ≡ refreshed at (frame_at frames.now at) self.old }
+    {
+        let frame = &frames[at];
+        self.names.set(at, frame.name());
+        self.going.set(at, use_rank(frame));
+        self.dirty.set(at, age_rank(frame));
+        self.waiting.set(at, waiting_rank(frame));
+    }
+}
+
+fn use_rank(frame: &Frame) -> Rank
+    ensures { result ≡ use_rank frame.now }
+{
+    if !frame.may_go() {
+        return NO_RANK;
+    }
+    Rank {
+        number: frame.last_use,
+        name: NO_NAME,
+    }
+}
+
+fn age_rank(frame: &Frame) -> Rank
+    ensures { result ≡ age_rank frame.now }
+{
+    Rank {
+        number: frame.oldest.unwrap_or(NO_NUMBER),
+        name: frame.name().unwrap_or(NO_NAME),
+    }
+}
+
+fn waiting_rank(frame: &Frame) -> Rank
+    ensures { result ≡ waiting_rank frame.now }
+{
+    if frame.is_waiting() {
+        age_rank(frame)
+    } else {
+        NO_RANK
+    }
+}
