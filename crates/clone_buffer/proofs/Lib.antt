@@ -1,0 +1,5 @@
+pub mod PageLemmas
+pub mod FrameLemmas
+pub mod FetchLemmas
+pub mod KeepLemmas
+pub mod WriteLemmas

@@ -1,0 +1,158 @@
+ghost use Rattle.std.specs.Prelude.{◌≡◌, ◌<◌, ◌≤◌, ◌+◌, ◌-◌, ◌^◌, ◌↔◌, ℕ, [], None, Some, IfOk, IfNone, IfSome, OnErr, IsSome, IsTrue, length, take, drop, replicate};
+ghost use Rattle.clone_outside.specs.Causes.{Rose};
+ghost use Rattle.clone_outside.specs.Disk.{blank};
+ghost use Rattle.clone_ring.specs.Window.{empty, end_of, free_in, raised};
+ghost use Rattle.clone_image.specs.Image.{page_of};
+ghost use Rattle.clone_pool.specs.Frames.{no_frame, frame_at, holder, HoldsPage, pinned, unpinned};
+ghost use Rattle.clone_pool.specs.Pool.{Fetches, IsHolder, KeepsOthers, KeepsInUse, AreClean, IsOldest, with_frame};
+
+use clone_outside::PageDisk;
+use clone_page::Page;
+use clone_pool::{FetchRefusal, PageName, Pool};
+use clone_ring::{LogFull, Ring};
+use clone_shadow::{Note, Shadow};
+use std::alloc::{AllocError, Global};
+use std::marker::Model;
+
+/// The pages of a donor in frames, and the redo log from its floor on. After it is made no call takes memory.
+///
+/// Contracts speak of the whole log and of the pages that it makes. `right` says that each page that was read so
+/// far was the one that the log made by then: as long as it holds, each frame has the page of the log. Over a disk
+/// that tells what it holds, and agrees with the log, it stays true: that is `Stands`.
+#[derive(Drop)]
+pub struct Buffer {
+    pool: Pool,
+    ring: Ring,
+    shadow: Shadow,
+}
+
+impl Model for Buffer {
+    ghost use Rattle.clone_buffer.specs.Buffered.{Buffered, IsBuffer};
+
+    ghost Value = { Buffered };
+
+    ghost view = { λ b. record { log = b.shadow.state.log; right = b.shadow.state.right; ring = b.ring; pool = b.pool } };
+
+    ghost invariant = { λ b. IsBuffer (record { log = b.shadow.state.log; right = b.shadow.state.right; ring = b.ring; pool = b.pool }) };
+}
+
+impl Buffer {
+    ghost use Rattle.clone_buffer.specs.Buffered.{image_of, IsBuffer};
+    ghost use Rattle.clone_buffer.specs.OnePage.{Flushes};
+    ghost use Rattle.clone_buffer.specs.Keeping.{Stands};
+
+    /// So many frames without pages, and an empty log in a ring of so many bytes.
+    pub fn new(alloc: Global, frames: u32, ring: u64) -> Result<Buffer, AllocError>
+        ensures log { IfOk result (λ b. b.log ≡ []) }
+        ensures right { IfOk result (λ b. IsTrue b.right) }
+        ensures ring { IfOk result (λ b. b.ring ≡ empty ring) }
+        ensures pool { IfOk result (λ b. b.pool ≡ record { frames = replicate frames no_frame; uses = 0 }) }
+    {
+        Ok(Buffer {
+            pool: Pool::new(alloc, frames)?,
+            ring: Ring::new(alloc, ring)?,
+            shadow: Shadow::new(),
+        })
+    }
+
+    /// Brings a page into a frame, and answers the frame's number. It counts as a use of the frame.
+    ///
+    /// The error is `PoolFull` exactly where the page has no frame and each frame is pinned or dirty, and nothing
+    /// has changed then; or `DiskFault`, and the frame that was to make place has no page then.
+    pub fn fetch<D: PageDisk>(
+        &mut self,
+        disk: &mut D,
+        space: u32,
+        number: u32,
+    ) -> Result<u32, FetchRefusal>
+        requires there { IsTrue self.old.right → IsSome (page_of (image_of self.old) space number) }
+        ensures answer { Fetches (record { space = space; number = number }) self.old.pool self.new.pool result }
+        ensures held { IfOk result (IsHolder (record { space = space; number = number }) self.new.pool.frames) }
+        ensures others { IfOk result (λ at. KeepsOthers at self.old.pool.frames self.new.pool.frames) }
+        ensures kept { KeepsInUse self.old.pool.frames self.new.pool.frames }
+        ensures log { self.new.log ≡ self.old.log }
+        ensures ring { self.new.ring ≡ self.old.ring }
+        ensures right { IfOk result (λ at. IsTrue self.new.right ↔ (IsTrue self.old.right × (page_of (image_of self.old) space number ≡ Some (frame_at self.new.pool.frames at).page))) }
+        ensures refused { OnErr result (self.new.right ≡ self.old.right) }
+        ensures fault { result ≡ Err FetchRefusal.DiskFault → Rose (D.failures disk.old) (D.failures disk.new) }
+        ensures disk { D.told disk.new ≡ D.told disk.old }
+        ensures stands { (flushes : Flushes) → Stands self.old flushes (D.told disk.old) → Stands self.new flushes (D.told disk.new) }
+    {
+        self.pool.laws();
+        let fetched = self.pool.fetch(disk, space, number);
+        self.pool.laws();
+        let at = fetched?;
+        self.shadow = self.shadow.then(&Note::Read(space, number, self.pool.frame(at)));
+        Ok(at)
+    }
+
+    /// The number of the frame that holds a page, if one does.
+    pub fn find(&self, space: u32, number: u32) -> Option<u32>
+        ensures holder { result ≡ holder self.now.pool.frames (record { space = space; number = number }) }
+        ensures held { IfSome result (IsHolder (record { space = space; number = number }) self.now.pool.frames) }
+    {
+        self.pool.find(PageName { space, number })
+    }
+
+    /// The page in a frame.
+    pub fn frame(&self, at: u32) -> &Page
+        requires { HoldsPage (frame_at self.now.pool.frames at) }
+        ensures { result.now ≡ (frame_at self.now.pool.frames at).page }
+    {
+        self.pool.frame(at)
+    }
+
+    /// How many bytes the log may grow by before its floor rises.
+    pub fn free(&self) -> u64
+        ensures { result ≡ free_in self.now.ring }
+    {
+        self.ring.free()
+    }
+
+    /// The LSN behind the log's last byte.
+    pub fn end(&self) -> u64
+        ensures { result ≡ end_of self.now.ring }
+    {
+        self.ring.end()
+    }
+
+    /// The LSN of the first byte of the log that is kept.
+    pub fn floor(&self) -> u64
+        ensures { result ≡ self.now.ring.floor }
+    {
+        self.ring.floor()
+    }
+
+    /// Fills the slice with the bytes of the log from an LSN on.
+    pub fn read_log(&self, from: u64, into: &mut [u8])
+        requires above { self.now.ring.floor ≤ from }
+        requires within { from + length into.old ≤ end_of self.now.ring }
+        ensures { into.new ≡ take (length into.old) (drop (from - self.now.ring.floor) self.now.ring.bytes) }
+    {
+        self.ring.read(from, into);
+    }
+
+    /// Lets the bytes of the log below an LSN go.
+    pub fn raise_floor(&mut self, lsn: u64)
+        requires above { self.old.ring.floor ≤ lsn }
+        requires within { lsn ≤ end_of self.old.ring }
+        ensures floor { self.new ≡ record self.old { ring = raised lsn self.old.ring } }
+    {
+        self.ring.raise_floor(lsn);
+    }
+
+    /// The LSN at which the oldest change begins that isn't on the disk, or none where no page is dirty.
+    pub fn oldest(&self) -> Option<u64>
+        ensures none { IfNone result (AreClean self.now.pool.frames) }
+        ensures some { IfSome result (IsOldest self.now.pool.frames) }
+    {
+        self.pool.oldest()
+    }
+
+    /// What holds of every buffer.
+    pub fn laws(&self)
+        ensures { IsBuffer self.now }
+    {
+        let _ = &self.pool;
+    }
+}
