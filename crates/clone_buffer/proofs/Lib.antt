@@ -3,3 +3,4 @@ pub mod FrameLemmas
 pub mod FetchLemmas
 pub mod KeepLemmas
 pub mod WriteLemmas
+pub mod WrittenLemmas

@@ -1,11 +1,15 @@
 ghost use Rattle.std.specs.Prelude.{◌≡◌, ◌<◌, ◌≤◌, ◌+◌, ◌-◌, ◌^◌, ◌↔◌, ℕ, [], None, Some, IfOk, IfNone, IfSome, OnErr, IsSome, IsTrue, length, take, drop, replicate};
 ghost use Rattle.clone_outside.specs.Causes.{Rose};
-ghost use Rattle.clone_outside.specs.Disk.{blank};
+ghost use Rattle.clone_buffer.specs.Writing.{after_records, changed_at, named_frame};
+ghost use Rattle.std.specs.List.{AllByRecursion};
+ghost use Rattle.clone_mtr.specs.Records.{IsRecord};
+ghost use Rattle.clone_mtr.specs.Spelling.{spelling, Spells, longest};
 ghost use Rattle.clone_ring.specs.Window.{empty, end_of, free_in, raised};
-ghost use Rattle.clone_image.specs.Image.{page_of};
-ghost use Rattle.clone_pool.specs.Frames.{no_frame, frame_at, holder, HoldsPage, pinned, unpinned};
+ghost use Rattle.clone_image.specs.Image.{page_of, EditsPages};
+ghost use Rattle.clone_pool.specs.Frames.{no_frame, frame_at, holder, HoldsPage, page_changed, pinned, unpinned};
 ghost use Rattle.clone_pool.specs.Pool.{Fetches, IsHolder, KeepsOthers, KeepsInUse, AreClean, IsOldest, with_frame};
 
+use clone_mtr::{LONGEST_MTR, Record, encode_into};
 use clone_outside::PageDisk;
 use clone_page::Page;
 use clone_pool::{FetchRefusal, PageName, Pool};
@@ -37,6 +41,9 @@ impl Model for Buffer {
 }
 
 impl Buffer {
+    ghost use Rattle.std.specs.declared.option.Option.{Option};
+    ghost use Rattle.clone_outside.specs.Disk.{DiskImage};
+    ghost use Rattle.clone_buffer.specs.Writing.{HasFrame, IsOnPage, Writes};
     ghost use Rattle.clone_buffer.specs.Buffered.{image_of, IsBuffer};
     ghost use Rattle.clone_buffer.specs.OnePage.{Flushes};
     ghost use Rattle.clone_buffer.specs.Keeping.{Stands};
@@ -102,6 +109,29 @@ impl Buffer {
         self.pool.frame(at)
     }
 
+    /// Writes a mini-transaction to the log, does to the pages in their frames what its records say, and answers the
+    /// log's end. Each page that a record names has a frame, and is there.
+    ///
+    /// It is refused exactly where its spelling has more bytes than are free, and nothing has changed then.
+    pub fn write(&mut self, records: &[Record]) -> Result<u64, LogFull>
+        requires some { 1 ≤ length records.now }
+        requires short { length (spelling records.now) ≤ longest }
+        requires edits { AllByRecursion EditsPages records.now }
+        requires framed { AllByRecursion (HasFrame self.old.pool.frames) records.now }
+        requires there { IsTrue self.old.right → AllByRecursion (IsOnPage (image_of self.old)) records.now }
+        ensures written { Writes records.now self.old self.new result }
+        ensures stands { (flushes : Flushes) (told : Option DiskImage) → Stands self.old flushes told → Stands self.new flushes told }
+    {
+        self.pool.laws();
+        let mut spelled = [0; LONGEST_MTR];
+        let length = spell(records, &mut spelled);
+        let start = self.ring.end();
+        let end = self.ring.append(&spelled[..length])?;
+        change_frames(&mut self.pool, records, start, end);
+        self.shadow = self.shadow.then(&Note::Wrote(records));
+        Ok(end)
+    }
+
     /// How many bytes the log may grow by before its floor rises.
     pub fn free(&self) -> u64
         ensures { result ≡ free_in self.now.ring }
@@ -154,5 +184,64 @@ impl Buffer {
         ensures { IsBuffer self.now }
     {
         let _ = &self.pool;
+    }
+}
+
+// Each record changes the frame of the page that it names.
+fn change_frames(pool: &mut Pool, records: &[Record], start: u64, end: u64)
+    requires { start < end }
+    ensures { pool.new ≡ after_records records.now start end pool.old }
+{
+    for entry in records {
+        change_frame(pool, entry, start, end);
+    }
+}
+
+// A record changes the frame of the page that it names, if that has one.
+fn change_frame(pool: &mut Pool, entry: &Record, start: u64, end: u64)
+    requires { start < end }
+    ensures { pool.new ≡ changed_at (named_frame pool.old.frames entry.now) entry.now start end pool.old }
+{
+    let Some(name) = page_changed(entry) else {
+        return;
+    };
+    if let Some(at) = pool.find(name) {
+        pool.change(at, entry, start, end);
+    }
+}
+
+// The page that a record changes.
+fn page_changed(entry: &Record) -> Option<PageName>
+    ensures { result ≡ page_changed entry.now }
+{
+    match entry {
+        Record::Init { space, page, .. } | Record::Write { space, page, .. } => Some(PageName {
+            space: *space,
+            number: *page,
+        }),
+        Record::Extend { .. } | Record::Create { .. } | Record::Drop { .. } => None,
+    }
+}
+
+// Puts the spelling of a mini-transaction at the front of the bytes, and answers its length.
+fn spell(records: &[Record], into: &mut [u8; LONGEST_MTR]) -> usize
+    requires some { 1 ≤ length records.now }
+    requires short { length (spelling records.now) ≤ longest }
+    ensures within { result ≤ longest }
+    ensures spelled { Spells (take result into.new) records.now }
+{
+    all_known(records);
+    match encode_into(records, into) {
+        Ok(length) => length,
+        Err(_) => unreachable!(),
+    }
+}
+
+// Each record is in its ranges.
+fn all_known(records: &[Record])
+    ensures { AllByRecursion IsRecord records.now }
+{
+    for entry in records {
+        entry.known();
     }
 }

@@ -1,0 +1,175 @@
+-- A buffer once a mini-transaction was written.
+use Rattle.std.proofs.Common.{◌≡◌, ◌≢◌, ◌<◌, ◌≤◌, ◌+◌, ◌-◌, ◌^◌, ◌⊎◌, inl, inr, ℕ, Bool, true, false, List, [], ◌∷◌, ◌++◌, length, drop, refl, sym, ap, subst, ◌∙◌, arith, Option, Some, None, Ok, Err, Result, IsSome, IfSome, IsTrue, if◌then◌else◌, unwrap_or}
+use Rattle.std.proofs.lemmas.Bool.{false≢true, true≢false}
+use Rattle.std.proofs.lemmas.List.{length-append, length-drop, drop-append-le}
+use Rattle.std.specs.List.{AllByRecursion}
+use Rattle.std.specs.FinMap as finite
+use Rattle.clone_outside.specs.Disk.{DiskImage, ForTold}
+use Rattle.clone_mtr.specs.declared.record.Record.{Record}
+use Rattle.clone_mtr.specs.Spelling.{spelling, log_of}
+use Rattle.clone_image.specs.Image.{Image, page_of, EditsPages}
+use Rattle.clone_image.specs.Image as image_is
+use Rattle.clone_image.specs.Replay.{first_lsn, end_of, replayed, IsSpelled}
+use Rattle.clone_image.specs.Redone.{stands, redone}
+use Rattle.clone_image.proofs.Logs.{log_of-push, after_log-push, All-push}
+use Rattle.clone_law.specs.Since.{ends, Suits}
+use Rattle.clone_law.proofs.AppendLemmas.{suits_there, suits_unnamed, others_pass}
+use Rattle.clone_ring.specs.Window.{free_in}
+use Rattle.clone_ring.specs.Window as ring
+use Rattle.clone_ring.specs.declared.log_full.LogFull.{LogFull}
+use Rattle.clone_pool.specs.declared.frame.Frame.{Frame}
+use Rattle.clone_pool.specs.declared.frame.Content.{Content}
+use Rattle.clone_pool.specs.declared.frame.Content.TheVariants.{Unused, Fresh, Held}
+use Rattle.clone_pool.specs.declared.frame.PageName.{PageName}
+use Rattle.clone_pool.specs.Index.{is_name_of}
+use Rattle.clone_pool.specs.Frames.{frame_at, name_in, name_of, is_fresh, holder, page_changed, noted}
+use Rattle.clone_pool.specs.Pool.{Frames, IsPool}
+use Rattle.clone_pool.proofs.NameLemmas.{named}
+use Rattle.clone_buffer.specs.Buffered.{Buffered, IsBuffer, Shown, Shows}
+use Rattle.clone_buffer.specs.OnePage.{Flushes, frame_in, frame_of}
+use Rattle.clone_buffer.specs.Keeping.{IsKeptPage, IsKept, Stands}
+use Rattle.clone_buffer.specs.Writing.{after_records, HasFrame, IsOnPage, written, Writes}
+use Rattle.clone_buffer.proofs.PageLemmas.{passed_page, changed_page}
+use Rattle.clone_buffer.proofs.FrameLemmas.{holder_name, frame_in-old}
+use Rattle.clone_buffer.proofs.KeepLemmas.{stands_there, shown_there}
+use Rattle.clone_buffer.proofs.WriteLemmas.{holder-after, frame-after, changed_by, any_names, unnamed_stays, named_oldest, named_flush, stays_held, shows_records, passes_all, resets_none}
+
+-- the pages that a log makes with one mini-transaction more
+pub replayed-push : (log : List (List Record)) (records : List Record) (end : ℕ) → end ≡ ends log + length (spelling records) → replayed (log ++ records ∷ []) ≡ image_is.after_records end (replayed log) records
+replayed-push log records end is = after_log-push first_lsn finite.empty log records end is
+
+-- the log's end
+ends-push : (log : List (List Record)) (records : List Record) → ends (log ++ records ∷ []) ≡ ends log + length (spelling records)
+ends-push log records = omega (arith, ap length (log_of-push log records), length-append (log_of log) (spelling records))
+
+-- the invariant of a buffer
+pub IsBuffer-written : (v : Buffered) (records : List Record) → IsPool v.pool → IsBuffer v → IsSpelled records → length (spelling records) ≤ free_in v.ring → AllByRecursion EditsPages records → (IsTrue v.right → AllByRecursion (IsOnPage (replayed v.log)) records) → IsBuffer (written records v)
+IsBuffer-written v records p b spelled room edits there = record {
+  bytes = ap (λ xs. xs ++ spelling records) b.bytes ∙ sym (drop-append-le (v.ring.floor - first_lsn) (log_of v.log) (spelling records) within) ∙ ap (drop (v.ring.floor - first_lsn)) (sym (log_of-push v.log records));
+  end = omega (arith, b.end, ends-push v.log records, length-append v.ring.bytes (spelling records));
+  below = omega (arith, b.end, room, ends-push v.log records);
+  spelled = All-push v.log records b.spelled spelled;
+  shows = λ t. subst (λ (i : Image). Shows i (after_records records start end v.pool).frames) (sym (replayed-push v.log records end (ap (λ n. n + length (spelling records)) b.end))) (shows_records records (replayed v.log) v.pool start end edits p.once (there t) (b.shows t));
+}
+  where
+    start : ℕ
+    start = ring.end_of v.ring
+
+    end : ℕ
+    end = ring.end_of v.ring + length (spelling records)
+
+    within : v.ring.floor - first_lsn ≤ length (log_of v.log)
+    within = omega (arith, b.end, ap length b.bytes, length-drop (v.ring.floor - first_lsn) (log_of v.log))
+
+-- what holds of the page of each record holds of a page that one of them names
+of_named : (P : PageName → Type 0) (page : PageName) (rs : List Record) → any_names page rs ≡ true → AllByRecursion (λ r. IfSome (page_changed r) P) rs → P page
+of_named P page [] hits each = absurd (false≢true hits)
+of_named P page (r ∷ rs) hits each = by (page_changed r) (is_name_of page (page_changed r)) refl hits each.0 (λ rest. of_named P page rs rest each.1)
+  where
+    by : (o : Option PageName) (t : Bool) → is_name_of page o ≡ t → (if t then true else any_names page rs) ≡ true → IfSome o P → (any_names page rs ≡ true → P page) → P page
+    by None true is hits one rest = absurd (false≢true is)
+    by (Some name) true is hits one rest = let same : name ≡ page = some_same name page (named page (Some name) is) in subst P same one
+      where
+        some_same : (a b : PageName) → Some a ≡ Some b → a ≡ b
+        some_same a b e = cc
+    by o false is hits one rest = rest hits
+
+-- a page that its frame shows
+shown_held : (image : Image) (content : Content) (bytes : List ℕ) (page : PageName) → Shown image content bytes → name_in content ≡ Some page → is_fresh content ≡ false → page_of image page.space page.number ≡ Some bytes
+shown_held image Unused bytes page shown is old = let none : None ≡ Some page = is in absurd (cc)
+shown_held image (Fresh name) bytes page shown is old = absurd (true≢false old)
+shown_held image (Held name) bytes page shown is old = let same : name ≡ page = cc in subst (λ (n : PageName). page_of image n.space n.number ≡ Some bytes) same shown
+
+not_fresh : (image : Image) (content : Content) (bytes : List ℕ) (page : PageName) → Shown image content bytes → name_in content ≡ Some page → IsSome (page_of image page.space page.number) → is_fresh content ≡ false
+not_fresh image Unused bytes page shown is there = refl
+not_fresh image (Fresh name) bytes page shown is there =
+    let same : name ≡ page = cc in
+    let none : page_of image page.space page.number ≡ None = subst (λ (n : PageName). page_of image n.space n.number ≡ None) same shown in absurd (false≢true (subst IsSome none there))
+not_fresh image (Held name) bytes page shown is there = refl
+
+some_of : (o : Option ℕ) → IsSome o → (at : ℕ) × (o ≡ Some at)
+some_of None there = absurd (false≢true there)
+some_of (Some at) there = (at, refl)
+
+module _ (v : Buffered) (flushes : Flushes) (m : DiskImage) (records : List Record) (p : IsPool v.pool) (b : IsBuffer v) (spelled : IsSpelled records) (room : length (spelling records) ≤ free_in v.ring)
+    (edits : AllByRecursion EditsPages records) (frames : AllByRecursion (HasFrame v.pool.frames) records) (there : IsTrue v.right → AllByRecursion (IsOnPage (replayed v.log)) records) (k : IsKept v flushes m) where
+  abbrev start : ℕ
+  start = ring.end_of v.ring
+
+  abbrev end : ℕ
+  end = ring.end_of v.ring + length (spelling records)
+
+  abbrev new : Frames
+  new = after_records records start end v.pool
+
+  abbrev longer : List (List Record)
+  longer = v.log ++ records ∷ []
+
+  after : IsBuffer (written records v)
+  after = IsBuffer-written v records p b spelled room edits there
+
+  small : ends v.log + length (spelling records) < 2 ^ 64
+  small = omega (arith, after.below, ends-push v.log records)
+
+  -- a page that no record names
+  passed : (space number : ℕ) → any_names (record { space = space; number = number }) records ≡ false → IsKeptPage longer flushes m space number (frame_of new.frames space number)
+  passed space number miss =
+      let page : PageName = record { space = space; number = number } in
+      let by = passes_all (end_of (ends v.log) records) space number records edits miss in
+      subst (IsKeptPage longer flushes m space number) (sym (ap (frame_in new.frames) (holder-after records start end v.pool page) ∙ same_frame page miss (holder v.pool.frames page) refl))
+      (passed_page v.log flushes m space number records (frame_of v.pool.frames space number) (suits_unnamed space number v.log records small by.unnamed) (others_pass space number v.log records by.passing) (k.page space number))
+    where
+      same_frame : (page : PageName) → any_names page records ≡ false → (o : Option ℕ) → holder v.pool.frames page ≡ o → frame_in new.frames o ≡ frame_in v.pool.frames o
+      same_frame page miss None is = refl
+      same_frame page miss (Some at) is = ap (λ (f : Frame). if is_fresh f.content then None else Some f) (frame-after records start end v.pool page at is ∙ unnamed_stays page records start end (frame_at v.pool.frames at) miss)
+
+  -- a page that a record names
+  renewed : (space number : ℕ) → any_names (record { space = space; number = number }) records ≡ true → IsKeptPage longer flushes m space number (frame_of new.frames space number)
+  renewed space number hits =
+      let page : PageName = record { space = space; number = number } in
+      let held = some_of (holder v.pool.frames page) (of_named (λ n. IsSome (holder v.pool.frames n)) page records hits frames) in
+      let on : IsSome (page_of (replayed v.log) space number) = of_named (λ n. IsSome (page_of (replayed v.log) n.space n.number)) page records hits (there k.right) in
+      let at : ℕ = held.0 in
+      let f : Frame = frame_at v.pool.frames at in
+      let g : Frame = changed_by page records start end f in
+      let name : name_of f ≡ Some page = (holder_name v.pool.frames page at held.1).1 in
+      let old : is_fresh f.content ≡ false = not_fresh (replayed v.log) f.content f.page page (b.shows k.right at) name on in
+      let stay = stays_held page records start end f old in
+      let becomes : frame_at new.frames at ≡ g = frame-after records start end v.pool page at held.1 in
+      let was : page_of (replayed v.log) space number ≡ Some f.page = shown_there (replayed v.log) f.content f.page page (b.shows k.right at) name on in
+      let shows : Shown (replayed longer) g.content g.page = subst (λ (h : Frame). Shown (replayed longer) h.content h.page) becomes (after.shows k.right at) in
+      let is : page_of (replayed longer) space number ≡ Some g.page = shown_held (replayed longer) g.content g.page page shows (stay.1 ∙ name) stay.0 in
+      let stood : redone space number v.log ≡ stands f.page = stands_there v.log space number f.page (omega (arith, small)) was in
+      let suits : Suits space number v.log records = suits_there space number v.log records f.page small stood (resets_none (end_of (ends v.log) records) space number records edits) in
+      let from : start ≡ ends v.log = b.end in
+      let had : frame_of v.pool.frames space number ≡ Some f = ap (frame_in v.pool.frames) held.1 ∙ frame_in-old v.pool.frames at old in
+      let has : frame_of new.frames space number ≡ Some g = ap (frame_in new.frames) (holder-after records start end v.pool page ∙ held.1) ∙ ap (λ (h : Frame). if is_fresh h.content then None else Some h) becomes ∙ ap (λ (t : Bool). if t then None else Some g) stay.0 in
+      subst (IsKeptPage longer flushes m space number) (sym has)
+      (changed_page v.log flushes m space number records f g suits stood (stands_there longer space number g.page (omega (arith, after.below)) is)
+       (named_oldest page records start end f hits ∙ ap (λ (s : ℕ). Some (unwrap_or f.oldest s)) from) (named_flush page records start end f hits ∙ ap (λ (s : ℕ). noted s f.flush) from)
+       (subst (IsKeptPage v.log flushes m space number) had (k.page space number)))
+
+  pub kept_written : IsKept (written records v) flushes m
+  kept_written = record { right = k.right; page = λ space number. by space number (any_names (record { space = space; number = number }) records) refl }
+    where
+      by : (space number : ℕ) (t : Bool) → any_names (record { space = space; number = number }) records ≡ t → IsKeptPage longer flushes m space number (frame_of new.frames space number)
+      by space number false is = passed space number is
+      by space number true is = renewed space number is
+
+-- a buffer over a disk stands after a write
+pub stands_written : (v w : Buffered) (flushes : Flushes) (told : Option DiskImage) (records : List Record) → IsPool v.pool → IsBuffer v → IsSpelled records → length (spelling records) ≤ free_in v.ring → AllByRecursion EditsPages records → AllByRecursion (HasFrame v.pool.frames) records
+    → (IsTrue v.right → AllByRecursion (IsOnPage (replayed v.log)) records) → w ≡ written records v → Stands v flushes told → Stands w flushes told
+stands_written v w flushes told records p b spelled room edits frames there is st = subst (λ (u : Buffered). Stands u flushes told) (sym is) (by told st)
+  where
+    by : (t : Option DiskImage) → Stands v flushes t → Stands (written records v) flushes t
+    by None st = tt
+    by (Some m) k = kept_written v flushes m records p b spelled room edits frames there k
+
+-- the parts of a buffer once a mini-transaction was written
+pub written_is : (v w : Buffered) (records : List Record) (text : List ℕ) (start end : ℕ) → text ≡ spelling records → w.log ≡ v.log ++ records ∷ [] → w.right ≡ v.right → w.ring ≡ ring.appended text v.ring → start ≡ ring.end_of v.ring → end ≡ ring.end_of w.ring
+    → w.pool ≡ after_records records start end v.pool → w ≡ written records v
+written_is v w records text start end spelled log right window from to pool =
+    let kept : w.ring ≡ ring.appended (spelling records) v.ring = window ∙ ap (λ xs. ring.appended xs v.ring) spelled in
+    let behind : end ≡ ring.end_of v.ring + length (spelling records) = to ∙ ap ring.end_of kept ∙ omega (arith, length-append v.ring.bytes (spelling records)) in
+    let frames : w.pool ≡ after_records records (ring.end_of v.ring) (ring.end_of v.ring + length (spelling records)) v.pool = pool ∙ (λ i. after_records records (from i) (behind i) v.pool) in
+    λ i. record { log = log i; right = right i; ring = kept i; pool = frames i }
