@@ -4,3 +4,5 @@ pub mod FetchLemmas
 pub mod KeepLemmas
 pub mod WriteLemmas
 pub mod WrittenLemmas
+pub mod LawLemmas
+pub mod MoveLemmas

@@ -5,6 +5,7 @@ use Rattle.std.specs.FinMap as finite
 use Rattle.clone_outside.specs.Disk.{DiskImage, page_of}
 use Rattle.clone_outside.specs.declared.disk.Held.{Held}
 use Rattle.clone_mtr.specs.declared.record.Record.{Record}
+use Rattle.clone_image.specs.Replay.{first_lsn}
 use Rattle.clone_image.specs.Redone.{Standing, no_space, past_end, stands, redone}
 use Rattle.clone_law.specs.Machine.{Engine, Flight}
 use Rattle.clone_pool.specs.declared.frame.Frame.{Frame}
@@ -18,6 +19,10 @@ pub record Flushes : Type 0 where
   pub checkpoint : ℕ
   pub image : ℕ → ℕ → Option (List ℕ)
 
+-- no checkpoint since the log began, and no flush
+abbrev pub unflushed : Flushes
+unflushed = record { checkpoint = first_lsn; image = λ space number. None }
+
 -- how a page stands on the disk
 abbrev pub standing_at : Option Held → Standing
 standing_at None = past_end
@@ -26,6 +31,10 @@ standing_at (Some page) = stands page.bytes
 abbrev pub standing_in : Option (List Held) → ℕ → Standing
 standing_in None number = no_space
 standing_in (Some pages) number = standing_at (slice_get pages number)
+
+-- how the page of this number of this space stands there
+abbrev pub disk_standing : DiskImage → ℕ → ℕ → Standing
+disk_standing m space number = standing_in (finite.get m.spaces space) number
 
 abbrev pub is_open : Option Held → Bool
 is_open None = false
@@ -66,7 +75,7 @@ abbrev pub engine_with : List (List Record) → Flushes → DiskImage → ℕ �
 engine_with log flushes m space number frame = record {
   log = log;
   checkpoint = flushes.checkpoint;
-  disk = standing_in (finite.get m.spaces space) number;
+  disk = disk_standing m space number;
   writing = is_open (page_of m space number) && has_space (redone space number log);
   frame = bytes_in frame;
   oldest = oldest_in frame;

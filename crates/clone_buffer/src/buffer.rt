@@ -3,11 +3,12 @@ ghost use Rattle.clone_outside.specs.Causes.{Rose};
 ghost use Rattle.clone_buffer.specs.Writing.{after_records, changed_at, named_frame};
 ghost use Rattle.std.specs.List.{AllByRecursion};
 ghost use Rattle.clone_mtr.specs.Records.{IsRecord};
-ghost use Rattle.clone_mtr.specs.Spelling.{spelling, Spells, longest};
+ghost use Rattle.clone_mtr.specs.Spelling.{spelling, Spells, longest, log_of};
 ghost use Rattle.clone_ring.specs.Window.{empty, end_of, free_in, raised};
 ghost use Rattle.clone_image.specs.Image.{page_of, EditsPages};
+ghost use Rattle.clone_image.specs.Replay.{Replays};
 ghost use Rattle.clone_pool.specs.Frames.{no_frame, frame_at, holder, HoldsPage, page_changed, pinned, unpinned};
-ghost use Rattle.clone_pool.specs.Pool.{Fetches, IsHolder, KeepsOthers, KeepsInUse, AreClean, IsOldest, with_frame};
+ghost use Rattle.clone_pool.specs.Pool.{IsPool, Fetches, IsHolder, KeepsOthers, KeepsInUse, AreClean, IsOldest, HasPinRoom, with_frame};
 
 use clone_mtr::{LONGEST_MTR, Record, encode_into};
 use clone_outside::PageDisk;
@@ -42,11 +43,11 @@ impl Model for Buffer {
 
 impl Buffer {
     ghost use Rattle.std.specs.declared.option.Option.{Option};
-    ghost use Rattle.clone_outside.specs.Disk.{DiskImage};
+    ghost use Rattle.clone_outside.specs.Disk.{DiskImage, blank};
     ghost use Rattle.clone_buffer.specs.Writing.{HasFrame, IsOnPage, Writes};
     ghost use Rattle.clone_buffer.specs.Buffered.{image_of, IsBuffer};
-    ghost use Rattle.clone_buffer.specs.OnePage.{Flushes};
-    ghost use Rattle.clone_buffer.specs.Keeping.{Stands};
+    ghost use Rattle.clone_buffer.specs.OnePage.{Flushes, unflushed};
+    ghost use Rattle.clone_buffer.specs.Keeping.{IsKept, Stands, DiskIsFrames};
 
     /// So many frames without pages, and an empty log in a ring of so many bytes.
     pub fn new(alloc: Global, frames: u32, ring: u64) -> Result<Buffer, AllocError>
@@ -54,6 +55,7 @@ impl Buffer {
         ensures right { IfOk result (λ b. IsTrue b.right) }
         ensures ring { IfOk result (λ b. b.ring ≡ empty ring) }
         ensures pool { IfOk result (λ b. b.pool ≡ record { frames = replicate frames no_frame; uses = 0 }) }
+        ensures stands { IfOk result (λ b. Stands b unflushed (Some blank)) }
     {
         Ok(Buffer {
             pool: Pool::new(alloc, frames)?,
@@ -107,6 +109,30 @@ impl Buffer {
         ensures { result.now ≡ (frame_at self.now.pool.frames at).page }
     {
         self.pool.frame(at)
+    }
+
+    /// Keeps the page in its frame until it is unpinned as often.
+    pub fn pin(&mut self, at: u32)
+        requires holds { HoldsPage (frame_at self.old.pool.frames at) }
+        requires room { HasPinRoom (frame_at self.old.pool.frames at) }
+        ensures pinned { self.new ≡ record self.old { pool = with_frame at pinned self.old.pool } }
+        ensures stands { (flushes : Flushes) (told : Option DiskImage) → Stands self.old flushes told → Stands self.new flushes told }
+    {
+        self.pool.laws();
+        self.pool.pin(at);
+        self.pool.laws();
+    }
+
+    /// Takes a pin away. A new page that no change made goes with its last pin.
+    pub fn unpin(&mut self, at: u32)
+        requires holds { HoldsPage (frame_at self.old.pool.frames at) }
+        requires pinned { 0 < (frame_at self.old.pool.frames at).pins }
+        ensures unpinned { self.new ≡ record self.old { pool = with_frame at unpinned self.old.pool } }
+        ensures stands { (flushes : Flushes) (told : Option DiskImage) → Stands self.old flushes told → Stands self.new flushes told }
+    {
+        self.pool.laws();
+        self.pool.unpin(at);
+        self.pool.laws();
     }
 
     /// Writes a mini-transaction to the log, does to the pages in their frames what its records say, and answers the
@@ -179,9 +205,18 @@ impl Buffer {
         self.pool.oldest()
     }
 
-    /// What holds of every buffer.
+    /// What holds of every buffer. The pages are what the log leaves of none.
     pub fn laws(&self)
-        ensures { IsBuffer self.now }
+        ensures buffer { IsBuffer self.now }
+        ensures pool { IsPool self.now.pool }
+        ensures replays { Replays (log_of self.now.log) (image_of self.now) }
+    {
+        self.pool.laws();
+    }
+
+    /// Where the buffer stands over a disk, the disk's page with its redo is the frame.
+    pub fn disk_laws(&self)
+        ensures { (flushes : Flushes) (m : DiskImage) → IsKept self.now flushes m → DiskIsFrames self.now m }
     {
         let _ = &self.pool;
     }
