@@ -43,7 +43,7 @@ pub shown_there : (image : Image) (content : Content) (bytes : List ℕ) (page :
 shown_there image Unused bytes page shown is there = absurd (cc)
 shown_there image (Fresh name) bytes page shown is there =
     let same : name ≡ page = cc in
-    let none : page_of image page.space page.number ≡ None = subst (λ (n : PageName). page_of image n.space n.number ≡ None) same shown in
+    let none : page_of image page.space page.number ≡ None = subst (λ (n : PageName). page_of image n.space n.number ≡ None) same shown.0 in
     absurd (false≢true (subst IsSome none there))
 shown_there image (Held name) bytes page shown is there =
     let same : name ≡ page = cc in

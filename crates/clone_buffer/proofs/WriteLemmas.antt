@@ -8,6 +8,9 @@ use Rattle.clone_mtr.specs.declared.record.Record.{Record}
 use Rattle.clone_mtr.specs.declared.record.Record.TheVariants as record_is
 use Rattle.clone_image.specs.Image.{Image, page_of, with_edit, edited, after_record, EditsPages}
 use Rattle.clone_image.specs.Image as image_is
+use Rattle.clone_page.specs.Header.{zero_page}
+use Rattle.clone_undo.specs.Changes as undo
+use Rattle.clone_image.proofs.Pages.{records_pages}
 use Rattle.clone_image.proofs.Images.{page_of-edited_same, page_of-edited_other}
 use Rattle.clone_law.specs.Touches.{touches, names, resets, passes_by, edits, passes}
 use Rattle.clone_pool.specs.declared.frame.Frame.{Frame}
@@ -68,8 +71,9 @@ name_at-step (Some at) r start end v b = by (cases_lt at (length v.frames)) (cas
     by (inl low) (inr other) = ap name_of (get_or-set_other v.frames at b g no_frame other)
     by (inr past) either = ap (λ (fs : List Frame). name_of (frame_at fs b)) (set_past v.frames at g past)
 
-once-step : (r : Record) (start end : ℕ) (v : Frames) → Once v.frames → Once (step r start end v).frames
-once-step r start end v once page at is = holder-step r start end v page ∙ once page at (sym (name_at-step (named_frame v.frames r) r start end v at) ∙ is)
+name_at-after : (rs : List Record) (start end : ℕ) (v : Frames) (b : ℕ) → name_of (frame_at (after_records rs start end v).frames b) ≡ name_of (frame_at v.frames b)
+name_at-after [] start end v b = refl
+name_at-after (r ∷ rs) start end v b = name_at-after rs start end (step r start end v) b ∙ name_at-step (named_frame v.frames r) r start end v b
 
 some_name : (a b : PageName) → Some a ≡ Some b → a ≡ b
 some_name a b is = cc
@@ -204,99 +208,122 @@ edit_of (record_is.Extend space pages) only = absurd only
 edit_of (record_is.Create space pages) only = absurd only
 edit_of (record_is.Drop space) only = absurd only
 
-some_is : (o : Option (List ℕ)) → IsSome o → (bytes : List ℕ) × (o ≡ Some bytes)
-some_is None there = absurd (false≢true there)
-some_is (Some bytes) there = (bytes, refl)
+-- what a record makes of a page and of the frame that shows it
+page-step : (image : Image) (r : Record) (start end : ℕ) (page : PageName) (f : Frame) → EditsPages r → page_of image page.space page.number ≡ Some f.page → page_of (after_record end image r) page.space page.number ≡ Some (if is_name_of page (page_changed r) then changed r start end f else f).page
+page-step image r start end page f only is =
+    let e = edit_of r only in
+    ap (λ (i : Image). page_of i page.space page.number) (e.edit_is end image) ∙ by e.page (is_name_of page (Some e.page)) refl ∙ ap (λ (o : Option PageName). Some (if is_name_of page o then changed r start end f else f).page) (sym e.named_is)
+  where
+    after : PageName → Image
+    after name = with_edit image name.space (edited name.number (effect end r))
 
-none_some : (o : Option (List ℕ)) (bytes : List ℕ) → o ≡ None → o ≡ Some bytes → ⊥
-none_some o bytes x y = cc
+    by : (name : PageName) (t : Bool) → is_name_of page (Some name) ≡ t → page_of (after name) page.space page.number ≡ Some (if is_name_of page (Some name) then changed r start end f else f).page
+    by name true hits =
+        let same : name ≡ page = some_name name page (named page (Some name) hits) in
+        ap (λ (n : PageName). page_of (after n) page.space page.number) same ∙ page_of-edited_same image page.space page.number (effect end r) f.page is ∙ ap (λ (b : Bool). Some (if b then changed r start end f else f).page) (sym hits)
+    by name false miss =
+        page_of-edited_other image name.space name.number page.space page.number (effect end r) (λ e g. apart e g) ∙ is ∙ ap (λ (b : Bool). Some (if b then changed r start end f else f).page) (sym miss)
+      where
+        apart : page.space ≡ name.space → page.number ≡ name.number → ⊥
+        apart e g = true≢false (sym (is_own_name page) ∙ (λ i. is_name_of page (Some (record { space = e i; number = g i }))) ∙ miss)
+
+-- what records make of it
+pub page-after : (rs : List Record) (image : Image) (start end : ℕ) (page : PageName) (f : Frame) → AllByRecursion EditsPages rs → page_of image page.space page.number ≡ Some f.page → page_of (image_is.after_records end image rs) page.space page.number ≡ Some (changed_by page rs start end f).page
+page-after [] image start end page f only is = is
+page-after (r ∷ rs) image start end page f only is =
+    page-after rs (after_record end image r) start end page (if is_name_of page (page_changed r) then changed r start end f else f) only.1 (page-step image r start end page f only.0 is)
+
+-- A frame is ready for records that start from an image: it shows its page there, and a new page that is there is named by one of them.
+abbrev pub Ready : Image → List Record → Content → List ℕ → Type 0
+Ready image rs Unused bytes = Unit {0}
+Ready image rs (Fresh name) bytes = ((page_of image name.space name.number ≡ Some bytes) × (any_names name rs ≡ true)) ⊎ ((page_of image name.space name.number ≡ None) × ((any_names name rs ≡ false) × (bytes ≡ zero_page)))
+Ready image rs (Held name) bytes = page_of image name.space name.number ≡ Some bytes
 
 no_name : (page : PageName) → None ≡ Some page → ⊥
 no_name page is = cc
 
--- a frame of another page shows what it showed
-shown_other : (image : Image) (page : PageName) (edit : List ℕ → List ℕ) (content : Content) (bytes : List ℕ) → (name_in content ≡ Some page → ⊥) → Shown image content bytes → Shown (with_edit image page.space (edited page.number edit)) content bytes
-shown_other image page edit Unused bytes other shown = tt
-shown_other image page edit (Fresh name) bytes other shown = page_of-edited_other image page.space page.number name.space name.number edit (λ e f. other (λ i. Some (record { space = e i; number = f i }))) ∙ shown
-shown_other image page edit (Held name) bytes other shown = page_of-edited_other image page.space page.number name.space name.number edit (λ e f. other (λ i. Some (record { space = e i; number = f i }))) ∙ shown
+-- a frame without a page shows none
+shown_unused : (image : Image) (content : Content) (bytes : List ℕ) → name_in content ≡ None → Shown image content bytes
+shown_unused image Unused bytes is = tt
+shown_unused image (Fresh name) bytes is = absurd (no_name name (sym is))
+shown_unused image (Held name) bytes is = absurd (no_name name (sym is))
 
--- the frame of the page shows what the record made of it
-shown_made : (image after : Image) (page : PageName) (content : Content) (bytes new : List ℕ) → name_in content ≡ Some page → page_of image page.space page.number ≡ Some bytes → page_of after page.space page.number ≡ Some new → Shown image content bytes → Shown after (made content) new
-shown_made image after page Unused bytes new is there made_is shown = absurd (no_name page is)
-shown_made image after page (Fresh name) bytes new is there made_is shown = let same : name ≡ page = some_name name page is in absurd (none_some (page_of image page.space page.number) bytes (subst (λ (n : PageName). page_of image n.space n.number ≡ None) same shown) there)
-shown_made image after page (Held name) bytes new is there made_is shown = let same : name ≡ page = some_name name page is in subst (λ (n : PageName). page_of after n.space n.number ≡ Some new) (sym same) made_is
+-- a frame that is held shows its page
+shown_named : (image : Image) (content : Content) (bytes : List ℕ) (page : PageName) → name_in content ≡ Some page → is_fresh content ≡ false → page_of image page.space page.number ≡ Some bytes → Shown image content bytes
+shown_named image Unused bytes page is old shows = tt
+shown_named image (Fresh name) bytes page is old shows = absurd (true≢false old)
+shown_named image (Held name) bytes page is old shows = let same : name ≡ page = some_name name page is in subst (λ (n : PageName). page_of image n.space n.number ≡ Some bytes) (sym same) shows
 
--- the bytes that a frame shows, of a page that is there
-shown_bytes : (image : Image) (content : Content) (bytes : List ℕ) (page : PageName) → Shown image content bytes → name_in content ≡ Some page → IsSome (page_of image page.space page.number) → page_of image page.space page.number ≡ Some bytes
-shown_bytes image Unused bytes page shown is there = absurd (no_name page is)
-shown_bytes image (Fresh name) bytes page shown is there =
-    let same : name ≡ page = some_name name page is in
-    let none : page_of image page.space page.number ≡ None = subst (λ (n : PageName). page_of image n.space n.number ≡ None) same shown in absurd (false≢true (subst IsSome none there))
-shown_bytes image (Held name) bytes page shown is there = let same : name ≡ page = some_name name page is in subst (λ (n : PageName). page_of image n.space n.number ≡ Some bytes) same shown
+made_held : (content : Content) → is_fresh (made content) ≡ false
+made_held Unused = refl
+made_held (Fresh name) = refl
+made_held (Held name) = refl
 
--- a page stays where a record changes pages alone
-there_step : (image : Image) (r : Record) (end : ℕ) (page : PageName) → EditsPages r → IsSome (page_of image page.space page.number) → IsSome (page_of (after_record end image r) page.space page.number)
-there_step image r end page only there =
-    let e = edit_of r only in
-    subst (λ (i : Image). IsSome (page_of i page.space page.number)) (sym (e.edit_is end image)) (by e.page (effect end r) (is_named page (Some e.page)))
+-- a frame that a record names isn't new any more
+named_held : (page : PageName) (rs : List Record) (start end : ℕ) (f : Frame) → any_names page rs ≡ true → (is_fresh (changed_by page rs start end f).content ≡ false) × (name_of (changed_by page rs start end f) ≡ name_of f)
+named_held page [] start end f hits = absurd (false≢true hits)
+named_held page (r ∷ rs) start end f hits = by (named_held page rs start end f) (is_name_of page (page_changed r)) hits
   where
-    by : (name : PageName) (edit : List ℕ → List ℕ) → (Some name ≡ Some page) ⊎ (Some name ≡ Some page → ⊥) → IsSome (page_of (with_edit image name.space (edited name.number edit)) page.space page.number)
-    by name edit (inl is) =
-        let same : name ≡ page = some_name name page is in
-        let bytes = some_is (page_of image page.space page.number) there in
-        subst (λ (n : PageName). IsSome (page_of (with_edit image n.space (edited n.number edit)) page.space page.number)) (sym same) (subst IsSome (sym (page_of-edited_same image page.space page.number edit bytes.0 bytes.1)) refl)
-    by name edit (inr other) = subst IsSome (sym (page_of-edited_other image name.space name.number page.space page.number edit (λ e f. other (λ i. Some (record { space = sym e i; number = sym f i }))))) there
+    by : (any_names page rs ≡ true → (is_fresh (changed_by page rs start end f).content ≡ false) × (name_of (changed_by page rs start end f) ≡ name_of f)) → (t : Bool) → (if t then true else any_names page rs) ≡ true
+        → (is_fresh (changed_by page rs start end (if t then changed r start end f else f)).content ≡ false) × (name_of (changed_by page rs start end (if t then changed r start end f else f)) ≡ name_of f)
+    by rest true hits = let kept = stays_held page rs start end (changed r start end f) (made_held f.content) in (kept.0, kept.1 ∙ name_in-made f.content)
+    by rest false hits = rest hits
 
-on_page_step : (image : Image) (r s : Record) (end : ℕ) → EditsPages r → IsOnPage image s → IsOnPage (after_record end image r) s
-on_page_step image r s end only on = by (page_changed s) on
+-- records that name a page that isn't there leave it so
+absent-after : (rs : List Record) (image : Image) (end : ℕ) (page : PageName) → AllByRecursion EditsPages rs → page_of image page.space page.number ≡ None → page_of (image_is.after_records end image rs) page.space page.number ≡ None
+absent-after rs image end page only none = records_pages end image rs page.space page.number only ∙ ap (option_map (λ _. undo.after end rs (image_is.all_pages image) page.space page.number)) none
+
+module _ (rs : List Record) (image : Image) (v : Frames) (start end : ℕ) (only : AllByRecursion EditsPages rs) (once : Once v.frames) where
+  abbrev last : Image
+  last = image_is.after_records end image rs
+
+  abbrev frame_then : ℕ → Frame
+  frame_then b = frame_at (after_records rs start end v).frames b
+
+  name-then : (b : ℕ) → name_of (frame_then b) ≡ name_of (frame_at v.frames b)
+  name-then b = name_at-after rs start end v b
+
+  -- a frame with a page
+  shown_then : (b : ℕ) (f : Frame) → frame_at v.frames b ≡ f → (content : Content) → f.content ≡ content → Ready image rs content f.page → Shown last (frame_then b).content (frame_then b).page
+  shown_then b f is Unused holds ready = shown_unused last (frame_then b).content (frame_then b).page (name-then b ∙ ap name_of is ∙ ap name_in holds)
+  shown_then b f is (Held name) holds ready =
+      let named_so : name_of (frame_at v.frames b) ≡ Some name = ap name_of is ∙ ap name_in holds in
+      let then_is : frame_then b ≡ changed_by name rs start end f = frame-after rs start end v name b (once name b named_so) ∙ ap (changed_by name rs start end) is in
+      let kept = stays_held name rs start end f (ap is_fresh holds) in
+      subst (λ (g : Frame). Shown last g.content g.page) (sym then_is) (shown_named last (changed_by name rs start end f).content _ name (kept.1 ∙ ap name_in holds) kept.0 (page-after rs image start end name f only ready))
+  shown_then b f is (Fresh name) holds (inl ready) =
+      let named_so : name_of (frame_at v.frames b) ≡ Some name = ap name_of is ∙ ap name_in holds in
+      let then_is : frame_then b ≡ changed_by name rs start end f = frame-after rs start end v name b (once name b named_so) ∙ ap (changed_by name rs start end) is in
+      let kept = named_held name rs start end f ready.1 in
+      subst (λ (g : Frame). Shown last g.content g.page) (sym then_is) (shown_named last (changed_by name rs start end f).content _ name (kept.1 ∙ ap name_in holds) kept.0 (page-after rs image start end name f only ready.0))
+  shown_then b f is (Fresh name) holds (inr ready) =
+      let named_so : name_of (frame_at v.frames b) ≡ Some name = ap name_of is ∙ ap name_in holds in
+      let then_is : frame_then b ≡ f = frame-after rs start end v name b (once name b named_so) ∙ ap (changed_by name rs start end) is ∙ unnamed_stays name rs start end f ready.1.0 in
+      subst (λ (g : Frame). Shown last g.content g.page) (sym then_is) (subst (λ (c : Content). Shown last c f.page) (sym holds) (absent-after rs image end name only ready.0, ready.1.1))
+
+  -- the frames show the pages that the records leave
+  pub shows_records : ((at : ℕ) → Ready image rs (frame_at v.frames at).content (frame_at v.frames at).page) → Shows last (after_records rs start end v).frames
+  shows_records ready b = shown_then b (frame_at v.frames b) refl (frame_at v.frames b).content refl (ready b)
+
+-- what holds of the page of each record holds of a page that one of them names
+pub of_named : (P : PageName → Type 0) (page : PageName) (rs : List Record) → any_names page rs ≡ true → AllByRecursion (λ r. IfSome (page_changed r) P) rs → P page
+of_named P page [] hits each = absurd (false≢true hits)
+of_named P page (r ∷ rs) hits each = by (page_changed r) (is_name_of page (page_changed r)) refl hits each.0 (λ rest. of_named P page rs rest each.1)
   where
-    by : (o : Option PageName) → IfSome o (λ page. IsSome (page_of image page.space page.number)) → IfSome o (λ page. IsSome (page_of (after_record end image r) page.space page.number))
-    by None on = tt
-    by (Some page) on = there_step image r end page only on
+    by : (o : Option PageName) (t : Bool) → is_name_of page o ≡ t → (if t then true else any_names page rs) ≡ true → IfSome o P → (any_names page rs ≡ true → P page) → P page
+    by None true is hits one rest = absurd (false≢true is)
+    by (Some name) true is hits one rest = let same : name ≡ page = some_name name page (named page (Some name) is) in subst P same one
+    by o false is hits one rest = rest hits
 
-on_pages_step : (image : Image) (r : Record) (rs : List Record) (end : ℕ) → EditsPages r → AllByRecursion (IsOnPage image) rs → AllByRecursion (IsOnPage (after_record end image r)) rs
-on_pages_step image r [] end only each = tt
-on_pages_step image r (s ∷ rs) end only each = (on_page_step image r s end only each.0, on_pages_step image r rs end only each.1)
-
-shows_step : (image : Image) (v : Frames) (r : Record) (start end : ℕ) → EditsPages r → Once v.frames → IsOnPage image r → Shows image v.frames → Shows (after_record end image r) (step r start end v).frames
-shows_step image v r start end only once on shows b =
-    let e = edit_of r only in
-    subst (λ (i : Image). P i (frame_at (step r start end v).frames b)) (sym (e.edit_is end image))
-    (subst (λ (o : Option PageName). P (after e.page) (frame_at (changed_at (option_and_then (λ p. holder v.frames p) o) r start end v).frames b)) (sym e.named_is)
-     (by e.page (subst (λ (o : Option PageName). IfSome o (λ page. IsSome (page_of image page.space page.number))) e.named_is on) (holder v.frames e.page) refl))
+-- where each record is on a page that is there, frames that show their pages are ready
+pub ready_there : (image : Image) (rs : List Record) (content : Content) (bytes : List ℕ) → AllByRecursion (IsOnPage image) rs → Shown image content bytes → Ready image rs content bytes
+ready_there image rs Unused bytes on shown = tt
+ready_there image rs (Held name) bytes on shown = shown
+ready_there image rs (Fresh name) bytes on shown = inr (shown.0, (by (any_names name rs) refl, shown.1))
   where
-    P : Image → Frame → Type 0
-    P i f = Shown i f.content f.page
-
-    after : PageName → Image
-    after page = with_edit image page.space (edited page.number (effect end r))
-
-    f : Frame
-    f = frame_at v.frames b
-
-    stays : (page : PageName) → (holder v.frames page ≡ Some b → ⊥) → P (after page) f
-    stays page other = shown_other image page (effect end r) f.content f.page (λ is. other (once page b is)) (shows b)
-
-    by : (page : PageName) → IsSome (page_of image page.space page.number) → (o : Option ℕ) → holder v.frames page ≡ o → P (after page) (frame_at (changed_at o r start end v).frames b)
-    by page there None is = stays page (λ held. let both : None ≡ Some b = sym is ∙ held in absurd (cc))
-    by page there (Some a) is = at (cases_eq b a)
-      where
-        g : Frame
-        g = changed r start end (frame_at v.frames a)
-
-        at : (b ≡ a) ⊎ (b ≢ a) → P (after page) (frame_at (set v.frames a g) b)
-        at (inl same) =
-            let name = holder_name v.frames page a is in
-            let bytes = shown_bytes image (frame_at v.frames a).content (frame_at v.frames a).page page (shows a) name.1 there in
-            subst (λ (k : ℕ). P (after page) (frame_at (set v.frames a g) k)) (sym same) (subst (P (after page)) (sym (get_or-set_same v.frames a g no_frame name.0))
-             (shown_made image (after page) page (frame_at v.frames a).content (frame_at v.frames a).page (effect end r (frame_at v.frames a).page) name.1 bytes (page_of-edited_same image page.space page.number (effect end r) (frame_at v.frames a).page bytes) (shows a)))
-        at (inr other) = subst (P (after page)) (sym (get_or-set_other v.frames a b g no_frame other)) (stays page (λ held. other (some_place (holder v.frames page) b a held is)))
-
--- the frames show the pages that the records leave
-pub shows_records : (rs : List Record) (image : Image) (v : Frames) (start end : ℕ) → AllByRecursion EditsPages rs → Once v.frames → AllByRecursion (IsOnPage image) rs → Shows image v.frames → Shows (image_is.after_records end image rs) (after_records rs start end v).frames
-shows_records [] image v start end only once on shows = shows
-shows_records (r ∷ rs) image v start end only once on shows =
-    shows_records rs (after_record end image r) (step r start end v) start end only.1 (once-step r start end v once) (on_pages_step image r rs end only.0 on.1) (shows_step image v r start end only.0 once on.0 shows)
+    by : (t : Bool) → any_names name rs ≡ t → any_names name rs ≡ false
+    by false is = is
+    by true is = absurd (false≢true (subst IsSome shown.0 (of_named (λ n. IsSome (page_of image n.space n.number)) name rs is on)))
 
 -- What the log's law sees of the records.
 

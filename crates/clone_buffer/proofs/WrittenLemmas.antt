@@ -32,7 +32,7 @@ use Rattle.clone_buffer.specs.Writing.{after_records, HasFrame, IsOnPage, writte
 use Rattle.clone_buffer.proofs.PageLemmas.{passed_page, changed_page}
 use Rattle.clone_buffer.proofs.FrameLemmas.{holder_name, frame_in-old}
 use Rattle.clone_buffer.proofs.KeepLemmas.{stands_there, shown_there}
-use Rattle.clone_buffer.proofs.WriteLemmas.{holder-after, frame-after, changed_by, any_names, unnamed_stays, named_oldest, named_flush, stays_held, shows_records, passes_all, resets_none}
+use Rattle.clone_buffer.proofs.WriteLemmas.{holder-after, frame-after, changed_by, any_names, unnamed_stays, named_oldest, named_flush, stays_held, shows_records, of_named, ready_there, passes_all, resets_none}
 
 -- the pages that a log makes with one mini-transaction more
 pub replayed-push : (log : List (List Record)) (records : List Record) (end : ℕ) → end ≡ ends log + length (spelling records) → replayed (log ++ records ∷ []) ≡ image_is.after_records end (replayed log) records
@@ -42,37 +42,24 @@ replayed-push log records end is = after_log-push first_lsn finite.empty log rec
 ends-push : (log : List (List Record)) (records : List Record) → ends (log ++ records ∷ []) ≡ ends log + length (spelling records)
 ends-push log records = omega (arith, ap length (log_of-push log records), length-append (log_of log) (spelling records))
 
--- the invariant of a buffer
-pub IsBuffer-written : (v : Buffered) (records : List Record) → IsPool v.pool → IsBuffer v → IsSpelled records → length (spelling records) ≤ free_in v.ring → AllByRecursion EditsPages records → (IsTrue v.right → AllByRecursion (IsOnPage (replayed v.log)) records) → IsBuffer (written records v)
-IsBuffer-written v records p b spelled room edits there = record {
+-- the invariant of a buffer, where the frames show their pages
+pub IsBuffer-written : (v : Buffered) (records : List Record) → IsBuffer v → IsSpelled records → length (spelling records) ≤ free_in v.ring → (IsTrue v.right → Shows (replayed (v.log ++ records ∷ [])) (written records v).pool.frames) → IsBuffer (written records v)
+IsBuffer-written v records b spelled room shows = record {
   bytes = ap (λ xs. xs ++ spelling records) b.bytes ∙ sym (drop-append-le (v.ring.floor - first_lsn) (log_of v.log) (spelling records) within) ∙ ap (drop (v.ring.floor - first_lsn)) (sym (log_of-push v.log records));
   end = omega (arith, b.end, ends-push v.log records, length-append v.ring.bytes (spelling records));
   below = omega (arith, b.end, room, ends-push v.log records);
   spelled = All-push v.log records b.spelled spelled;
-  shows = λ t. subst (λ (i : Image). Shows i (after_records records start end v.pool).frames) (sym (replayed-push v.log records end (ap (λ n. n + length (spelling records)) b.end))) (shows_records records (replayed v.log) v.pool start end edits p.once (there t) (b.shows t));
+  shows = shows;
 }
   where
-    start : ℕ
-    start = ring.end_of v.ring
-
-    end : ℕ
-    end = ring.end_of v.ring + length (spelling records)
-
     within : v.ring.floor - first_lsn ≤ length (log_of v.log)
     within = omega (arith, b.end, ap length b.bytes, length-drop (v.ring.floor - first_lsn) (log_of v.log))
 
--- what holds of the page of each record holds of a page that one of them names
-of_named : (P : PageName → Type 0) (page : PageName) (rs : List Record) → any_names page rs ≡ true → AllByRecursion (λ r. IfSome (page_changed r) P) rs → P page
-of_named P page [] hits each = absurd (false≢true hits)
-of_named P page (r ∷ rs) hits each = by (page_changed r) (is_name_of page (page_changed r)) refl hits each.0 (λ rest. of_named P page rs rest each.1)
-  where
-    by : (o : Option PageName) (t : Bool) → is_name_of page o ≡ t → (if t then true else any_names page rs) ≡ true → IfSome o P → (any_names page rs ≡ true → P page) → P page
-    by None true is hits one rest = absurd (false≢true is)
-    by (Some name) true is hits one rest = let same : name ≡ page = some_same name page (named page (Some name) is) in subst P same one
-      where
-        some_same : (a b : PageName) → Some a ≡ Some b → a ≡ b
-        some_same a b e = cc
-    by o false is hits one rest = rest hits
+-- they do where each record is on a page that is there
+pub shows_written : (v : Buffered) (records : List Record) → IsPool v.pool → end_of (ends v.log) records ≡ ring.end_of v.ring + length (spelling records) → AllByRecursion EditsPages records → AllByRecursion (IsOnPage (replayed v.log)) records → Shows (replayed v.log) v.pool.frames → Shows (replayed (v.log ++ records ∷ [])) (written records v).pool.frames
+shows_written v records p end edits on shows =
+    subst (λ (i : Image). Shows i (written records v).pool.frames) (sym (replayed-push v.log records _ (sym end)))
+    (shows_records records (replayed v.log) v.pool (ring.end_of v.ring) (ring.end_of v.ring + length (spelling records)) edits p.once (λ at. ready_there (replayed v.log) records (frame_at v.pool.frames at).content (frame_at v.pool.frames at).page on (shows at)))
 
 -- a page that its frame shows
 shown_held : (image : Image) (content : Content) (bytes : List ℕ) (page : PageName) → Shown image content bytes → name_in content ≡ Some page → is_fresh content ≡ false → page_of image page.space page.number ≡ Some bytes
@@ -84,7 +71,7 @@ not_fresh : (image : Image) (content : Content) (bytes : List ℕ) (page : PageN
 not_fresh image Unused bytes page shown is there = refl
 not_fresh image (Fresh name) bytes page shown is there =
     let same : name ≡ page = cc in
-    let none : page_of image page.space page.number ≡ None = subst (λ (n : PageName). page_of image n.space n.number ≡ None) same shown in absurd (false≢true (subst IsSome none there))
+    let none : page_of image page.space page.number ≡ None = subst (λ (n : PageName). page_of image n.space n.number ≡ None) same shown.0 in absurd (false≢true (subst IsSome none there))
 not_fresh image (Held name) bytes page shown is there = refl
 
 some_of : (o : Option ℕ) → IsSome o → (at : ℕ) × (o ≡ Some at)
@@ -106,7 +93,7 @@ module _ (v : Buffered) (flushes : Flushes) (m : DiskImage) (records : List Reco
   longer = v.log ++ records ∷ []
 
   after : IsBuffer (written records v)
-  after = IsBuffer-written v records p b spelled room edits there
+  after = IsBuffer-written v records b spelled room (λ t. shows_written v records p (sym (ap (λ n. n + length (spelling records)) b.end)) edits (there t) (b.shows t))
 
   small : ends v.log + length (spelling records) < 2 ^ 64
   small = omega (arith, after.below, ends-push v.log records)

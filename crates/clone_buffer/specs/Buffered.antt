@@ -2,6 +2,7 @@
 use Rattle.std.specs.Prelude.{ℕ, ◌≡◌, ◌<◌, ◌-◌, Bool, List, None, Some, drop, IsTrue}
 use Rattle.std.specs.List.{AllByRecursion}
 use Rattle.clone_outside.specs.declared.mark.TheConstants.{LSN_LIMIT}
+use Rattle.clone_page.specs.Header.{zero_page}
 use Rattle.clone_mtr.specs.declared.record.Record.{Record}
 use Rattle.clone_mtr.specs.Spelling.{log_of}
 use Rattle.clone_image.specs.Image.{Image, page_of}
@@ -25,10 +26,10 @@ pub record Buffered : Type 0 where
 abbrev pub image_of : Buffered → Image
 image_of v = replayed v.log
 
--- A page that is held is the one of the image. A new one isn't there yet.
+-- A page that is held is the one of the image. A new one isn't there yet, and has zero bytes.
 abbrev pub Shown : Image → Content → List ℕ → Type 0
 Shown image Unused bytes = Unit {0}
-Shown image (Fresh name) bytes = page_of image name.space name.number ≡ None
+Shown image (Fresh name) bytes = (page_of image name.space name.number ≡ None) × (bytes ≡ zero_page)
 Shown image (Held name) bytes = page_of image name.space name.number ≡ Some bytes
 
 -- each frame shows its page

@@ -1,4 +1,4 @@
-use Rattle.std.proofs.Common.{◌≡◌, ◌≤◌, ◌++◌, List, length, take, ap, sym, subst, ◌∙◌, arith, IsTrue}
+use Rattle.std.proofs.Common.{◌≡◌, ◌≤◌, ◌+◌, ◌++◌, List, length, take, ap, sym, subst, ◌∙◌, arith, IsTrue}
 use Rattle.std.specs.List.{AllByRecursion}
 use Rattle.std.proofs.lemmas.List.{length-append}
 use Rattle.clone_mtr.specs.Spelling.{spelling}
@@ -10,7 +10,7 @@ use Rattle.clone_shadow.specs.State.{State}
 use Rattle.clone_buffer.specs.Buffered.{Buffered, IsBuffer}
 use Rattle.clone_buffer.specs.Writing.{HasFrame, IsOnPage, written}
 use Rattle.clone_buffer.specs.Keeping.{Stands}
-use Rattle.clone_buffer.proofs.WrittenLemmas.{IsBuffer-written, stands_written, written_is}
+use Rattle.clone_buffer.proofs.WrittenLemmas.{IsBuffer-written, shows_written, stands_written, written_is}
 use Rattle.clone_buffer.proofs.buffer.Buffer.write.Goals as goal
 
 pub change_frames-requires : goal.change_frames-requires
@@ -26,7 +26,8 @@ invariant_of-self-2 c =
     let is : w ≡ written c.args.records.now v = written_is v w c.args.records.now (take c.spell-length.result c.spell-length.new.into) c.end-start.result c.in_ok-end.end text (ap (λ (s : State). s.log) c.then-self-inside.ensures) (ap (λ (s : State). s.right) c.then-self-inside.ensures) c.in_ok-end.ensures.1 c.end-start.ensures.value c.in_ok-end.ensures.2 c.change_frames.ensures in
     let room : length (spelling c.args.records.now) ≤ free_in i.ring = omega (arith, ap length text, c.in_ok-end.ensures.0) in
     let there = subst (λ (s : Buffered). IsTrue s.right → AllByRecursion (IsOnPage (replayed s.log)) c.args.records.now) (sym c.self.view_is) c.requires.there in
-    subst IsBuffer (sym is) (IsBuffer-written v c.args.records.now c.laws.ensures c.self.invariant (spelled_by (take c.spell-length.result c.spell-length.new.into) c.args.records.now c.spell-length.ensures.spelled) room c.requires.edits there)
+    subst IsBuffer (sym is) (IsBuffer-written v c.args.records.now c.self.invariant (spelled_by (take c.spell-length.result c.spell-length.new.into) c.args.records.now c.spell-length.ensures.spelled) room
+     (λ t. shows_written v c.args.records.now c.laws.ensures (sym (ap (λ n. n + length (spelling c.args.records.now)) c.self.invariant.end)) c.requires.edits (there t) (c.self.invariant.shows t)))
 
 pub returns-clause-stands : goal.returns-clause-stands
 returns-clause-stands c =
