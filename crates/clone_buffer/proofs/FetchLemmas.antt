@@ -60,7 +60,7 @@ no_name : (page : PageName) → None ≡ Some page → ⊥
 no_name page is = cc
 
 -- the page that makes place
-given_up : (old new : Frames) (at : ℕ) (page target : PageName) (result : Result ℕ FetchRefusal) → IsPool old → IsPool new → KeepsOthers at old.frames new.frames → may_go (frame_at old.frames at) ≡ true → (name_of (frame_at new.frames at) ≡ Some page → ⊥)
+pub given_up : (old new : Frames) (at : ℕ) (page target : PageName) (result : Result ℕ FetchRefusal) → IsPool old → IsPool new → KeepsOthers at old.frames new.frames → may_go (frame_at old.frames at) ≡ true → (name_of (frame_at new.frames at) ≡ Some page → ⊥)
     → Moves page target (holder old.frames target) new.frames result (frame_in old.frames (holder old.frames page)) (frame_in new.frames (holder new.frames page))
 given_up old new at page target result p q others go has = by (is_named page (name_of (frame_at old.frames at)))
   where

@@ -105,6 +105,13 @@ fetched_page v flushes m new result target at f small there shows ok read k = by
         let bare : IsKeptPage v.log flushes m target.space target.number None = subst (λ (o : Option ℕ). IsKeptPage v.log flushes m target.space target.number (frame_in v.pool.frames o)) none (k.page target.space target.number) in
         page.1 ∙ ap Some (sym (read_bytes v.log flushes m target.space target.number page.0 (frame_at new.frames at).page bare (stands_there v.log target.space target.number page.0 small page.1) (read none)))
 
+-- a page that didn't get a frame is kept
+pub kept_moved : (log : List (List Record)) (flushes : Flushes) (m : DiskImage) (space number : ℕ) (page target : PageName) (held : Option ℕ) (frames : List Frame) (e : FetchRefusal) (old new : Option Frame) → Moves page target held frames (Err e) old new → IsKeptPage log flushes m space number old → IsKeptPage log flushes m space number new
+kept_moved log flushes m space number page target held frames e old new (inl same) k = subst (IsKeptPage log flushes m space number) (sym same) k
+kept_moved log flushes m space number page target held frames e old new (inr (inl u)) k = subst (IsKeptPage log flushes m space number) (sym u.1) (used_page log flushes m space number old u.0 k)
+kept_moved log flushes m space number page target held frames e old new (inr (inr (inl l))) k = subst (IsKeptPage log flushes m space number) (sym l.gone) (lost_page log flushes m space number l.frame l.clean l.idle (subst (IsKeptPage log flushes m space number) l.had k))
+kept_moved log flushes m space number page target held frames e old new (inr (inr (inr g))) k = let no_answer : Err e ≡ Ok g.at = g.answer in absurd (cc)
+
 -- what a fetch leaves is kept
 pub kept_fetched : (v : Buffered) (flushes : Flushes) (m : DiskImage) (new : Frames) (right : Bool) (result : Result ℕ FetchRefusal) (target : PageName) → IsPool v.pool → IsPool new → Fetches target v.pool new result → ends v.log < 2 ^ 64 → IsTrue right
     → ((at : ℕ) → result ≡ Ok at → page_of (replayed v.log) target.space target.number ≡ Some (frame_at new.frames at).page) → ((at : ℕ) → result ≡ Ok at → holder v.pool.frames target ≡ None → GivesQuiet m target.space target.number (frame_at new.frames at).page)

@@ -6,3 +6,4 @@ pub mod WriteLemmas
 pub mod WrittenLemmas
 pub mod LawLemmas
 pub mod MoveLemmas
+pub mod FreshLemmas

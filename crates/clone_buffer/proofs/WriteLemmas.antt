@@ -24,7 +24,7 @@ use Rattle.clone_pool.specs.Frames.{no_frame, frame_at, name_in, name_of, is_fre
 use Rattle.clone_pool.specs.Pool.{Frames, with_frame}
 use Rattle.clone_pool.proofs.NameLemmas.{named, is_own_name}
 use Rattle.clone_buffer.specs.Buffered.{Shown, Shows}
-use Rattle.clone_buffer.specs.Writing.{named_frame, changed_at, after_records, IsOnPage}
+use Rattle.clone_buffer.specs.Writing.{named_frame, changed_at, after_records, IsOnPage, any_names}
 use Rattle.clone_buffer.proofs.FrameLemmas.{holder_name, is_named}
 
 -- no page has two frames
@@ -120,11 +120,6 @@ frame-step r start end v page b held = by (page_changed r)
 pub frame-after : (rs : List Record) (start end : ℕ) (v : Frames) (page : PageName) (b : ℕ) → holder v.frames page ≡ Some b → frame_at (after_records rs start end v).frames b ≡ changed_by page rs start end (frame_at v.frames b)
 frame-after [] start end v page b held = refl
 frame-after (r ∷ rs) start end v page b held = frame-after rs start end (step r start end v) page b (holder-step r start end v page ∙ held) ∙ ap (changed_by page rs start end) (frame-step r start end v page b held)
-
--- a record names the page
-abbrev pub any_names : PageName → List Record → Bool
-any_names page [] = false
-any_names page (r ∷ rs) = if is_name_of page (page_changed r) then true else any_names page rs
 
 -- a frame that no record names stays
 pub unnamed_stays : (page : PageName) (rs : List Record) (start end : ℕ) (f : Frame) → any_names page rs ≡ false → changed_by page rs start end f ≡ f

@@ -1,16 +1,19 @@
 -- A buffer once a mini-transaction was written.
-use Rattle.std.proofs.Common.{◌≡◌, ◌≢◌, ◌<◌, ◌≤◌, ◌+◌, ◌-◌, ◌^◌, ◌⊎◌, inl, inr, ℕ, Bool, true, false, List, [], ◌∷◌, ◌++◌, length, drop, refl, sym, ap, subst, ◌∙◌, arith, Option, Some, None, Ok, Err, Result, IsSome, IfSome, IsTrue, if◌then◌else◌, unwrap_or}
-use Rattle.std.proofs.lemmas.Bool.{false≢true, true≢false}
+use Rattle.std.proofs.Common.{◌≡◌, ◌≢◌, ◌<◌, ◌≤◌, ◌+◌, ◌-◌, ◌^◌, ◌⊎◌, inl, inr, ℕ, Bool, true, false, List, [], ◌∷◌, ◌++◌, length, drop, refl, sym, ap, subst, ◌∙◌, arith, Option, Some, None, Ok, Err, Result, IsSome, IfSome, IsTrue, if◌then◌else◌, unwrap_or, replicate}
+use Rattle.std.proofs.lemmas.Bool.{cases_eq, cases_lt, false≢true, true≢false}
 use Rattle.std.proofs.lemmas.List.{length-append, length-drop, drop-append-le}
 use Rattle.std.specs.List.{AllByRecursion}
 use Rattle.std.specs.FinMap as finite
 use Rattle.clone_outside.specs.Disk.{DiskImage, ForTold}
+use Rattle.clone_page.specs.Header.{zero_page}
 use Rattle.clone_mtr.specs.declared.record.Record.{Record}
+use Rattle.clone_mtr.specs.declared.record.Record.TheVariants as record_is
 use Rattle.clone_mtr.specs.Spelling.{spelling, log_of}
 use Rattle.clone_image.specs.Image.{Image, page_of, EditsPages}
 use Rattle.clone_image.specs.Image as image_is
 use Rattle.clone_image.specs.Replay.{first_lsn, end_of, replayed, IsSpelled}
 use Rattle.clone_image.specs.Redone.{stands, redone}
+use Rattle.clone_image.proofs.Images.{page_of-made, page_of-past, page_of-elsewhere}
 use Rattle.clone_image.proofs.Logs.{log_of-push, after_log-push, All-push}
 use Rattle.clone_law.specs.Since.{ends, Suits}
 use Rattle.clone_law.proofs.AppendLemmas.{suits_there, suits_unnamed, others_pass}
@@ -28,11 +31,11 @@ use Rattle.clone_pool.proofs.NameLemmas.{named}
 use Rattle.clone_buffer.specs.Buffered.{Buffered, IsBuffer, Shown, Shows}
 use Rattle.clone_buffer.specs.OnePage.{Flushes, frame_in, frame_of}
 use Rattle.clone_buffer.specs.Keeping.{IsKeptPage, IsKept, Stands}
-use Rattle.clone_buffer.specs.Writing.{after_records, HasFrame, IsOnPage, written, Writes}
+use Rattle.clone_buffer.specs.Writing.{after_records, HasFrame, IsOnPage, any_names, written, Writes, Creates, MakesSpace}
 use Rattle.clone_buffer.proofs.PageLemmas.{passed_page, changed_page}
 use Rattle.clone_buffer.proofs.FrameLemmas.{holder_name, frame_in-old}
 use Rattle.clone_buffer.proofs.KeepLemmas.{stands_there, shown_there}
-use Rattle.clone_buffer.proofs.WriteLemmas.{holder-after, frame-after, changed_by, any_names, unnamed_stays, named_oldest, named_flush, stays_held, shows_records, of_named, ready_there, passes_all, resets_none}
+use Rattle.clone_buffer.proofs.WriteLemmas.{holder-after, frame-after, changed_by, unnamed_stays, named_oldest, named_flush, stays_held, shows_records, of_named, Ready, ready_there, passes_all, resets_none}
 
 -- the pages that a log makes with one mini-transaction more
 pub replayed-push : (log : List (List Record)) (records : List Record) (end : ℕ) → end ≡ ends log + length (spelling records) → replayed (log ++ records ∷ []) ≡ image_is.after_records end (replayed log) records
@@ -160,3 +163,45 @@ written_is v w records text start end spelled log right window from to pool =
     let behind : end ≡ ring.end_of v.ring + length (spelling records) = to ∙ ap ring.end_of kept ∙ omega (arith, length-append v.ring.bytes (spelling records)) in
     let frames : w.pool ≡ after_records records (ring.end_of v.ring) (ring.end_of v.ring + length (spelling records)) v.pool = pool ∙ (λ i. after_records records (from i) (behind i) v.pool) in
     λ i. record { log = log i; right = right i; ring = kept i; pool = frames i }
+
+-- A mini-transaction that makes a space.
+
+-- a frame is ready for the records behind
+ready_made : (v : Buffered) (space pages : ℕ) (rest : List Record) (at : ℕ) (content : Content) (bytes : List ℕ) → MakesSpace v space pages rest → IsTrue v.right → (frame_at v.pool.frames at).content ≡ content → Shown (replayed v.log) content bytes
+    → Ready (finite.insert (replayed v.log) space (replicate pages zero_page)) rest content bytes
+ready_made v space pages rest at Unused bytes makes right is shown = tt
+ready_made v space pages rest at (Held name) bytes makes right is shown = page_of-elsewhere (replayed v.log) space pages name.space name.number (makes.unheld at name is) ∙ shown
+ready_made v space pages rest at (Fresh name) bytes makes right is shown = by (cases_eq name.space space) (cases_lt name.number pages)
+  where
+    made : Image
+    made = finite.insert (replayed v.log) space (replicate pages zero_page)
+
+    absent : page_of made name.space name.number ≡ None → Ready made rest (Fresh name) bytes
+    absent none = inr (none, (unnamed (any_names name rest) refl, shown.1))
+      where
+        unnamed : (t : Bool) → any_names name rest ≡ t → any_names name rest ≡ false
+        unnamed false miss = miss
+        unnamed true hits = absurd (false≢true (subst IsSome none (of_named (λ n. IsSome (page_of made n.space n.number)) name rest hits (makes.there right))))
+
+    by : (name.space ≡ space) ⊎ (name.space ≢ space) → (name.number < pages) ⊎ (pages ≤ name.number) → Ready made rest (Fresh name) bytes
+    by (inl same) (inl low) = inl (ap (λ s. page_of made s name.number) same ∙ page_of-made (replayed v.log) space pages name.number low ∙ ap Some (sym shown.1), makes.named at name is same low)
+    by (inl same) (inr past) = absent (ap (λ s. page_of made s name.number) same ∙ page_of-past (replayed v.log) space pages name.number past)
+    by (inr other) either = absent (page_of-elsewhere (replayed v.log) space pages name.space name.number other ∙ shown.0)
+
+pub shows_created : (v : Buffered) (records : List Record) → IsPool v.pool → end_of (ends v.log) records ≡ ring.end_of v.ring + length (spelling records) → Creates v records → IsTrue v.right → Shows (replayed v.log) v.pool.frames → Shows (replayed (v.log ++ records ∷ [])) (written records v).pool.frames
+shows_created v [] p behind makes right shows = absurd makes
+shows_created v (record_is.Init space number kind ∷ rest) p behind makes right shows = absurd makes
+shows_created v (record_is.Write space number patch ∷ rest) p behind makes right shows = absurd makes
+shows_created v (record_is.Extend space pages ∷ rest) p behind makes right shows = absurd makes
+shows_created v (record_is.Drop space ∷ rest) p behind makes right shows = absurd makes
+shows_created v (record_is.Create space pages ∷ rest) p behind makes right shows =
+    let records : List Record = record_is.Create space pages ∷ rest in
+    subst (λ (i : Image). Shows i (written records v).pool.frames) (sym (replayed-push v.log records _ (sym behind)))
+    (shows_records rest (finite.insert (replayed v.log) space (replicate pages zero_page)) v.pool (ring.end_of v.ring) (ring.end_of v.ring + length (spelling records)) makes.edits p.once
+     (λ at. ready_made v space pages rest at (frame_at v.pool.frames at).content (frame_at v.pool.frames at).page makes right refl (shows at)))
+
+-- whatever a write answers
+pub stands_result : (v w : Buffered) (flushes : Flushes) (told : Option DiskImage) (records : List Record) (result : Result ℕ LogFull) → IsPool v.pool → IsBuffer v → IsSpelled records → AllByRecursion EditsPages records → AllByRecursion (HasFrame v.pool.frames) records
+    → (IsTrue v.right → AllByRecursion (IsOnPage (replayed v.log)) records) → Writes records v w result → Stands v flushes told → Stands w flushes told
+stands_result v w flushes told records (Ok lsn) p b spelled edits frames there writes st = stands_written v w flushes told records p b spelled writes.0 edits frames there writes.1 st
+stands_result v w flushes told records (Err full) p b spelled edits frames there writes st = subst (λ (u : Buffered). Stands u flushes told) (sym writes.2) st

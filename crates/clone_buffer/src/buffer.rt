@@ -1,4 +1,5 @@
 ghost use Rattle.std.specs.Prelude.{◌≡◌, ◌<◌, ◌≤◌, ◌+◌, ◌-◌, ◌^◌, ◌↔◌, ℕ, [], None, Some, IfOk, IfNone, IfSome, OnErr, IsSome, IsTrue, length, take, drop, replicate};
+ghost use Rattle.std.specs.Option.{ForSome};
 ghost use Rattle.clone_outside.specs.Causes.{Rose};
 ghost use Rattle.clone_buffer.specs.Writing.{after_records, changed_at, named_frame};
 ghost use Rattle.std.specs.List.{AllByRecursion};
@@ -6,9 +7,9 @@ ghost use Rattle.clone_mtr.specs.Records.{IsRecord};
 ghost use Rattle.clone_mtr.specs.Spelling.{spelling, Spells, longest, log_of};
 ghost use Rattle.clone_ring.specs.Window.{empty, end_of, free_in, raised};
 ghost use Rattle.clone_image.specs.Image.{page_of, EditsPages};
-ghost use Rattle.clone_image.specs.Replay.{Replays};
+ghost use Rattle.clone_image.specs.Replay.{Replays, IsSpelled};
 ghost use Rattle.clone_pool.specs.Frames.{no_frame, frame_at, holder, HoldsPage, page_changed, pinned, unpinned};
-ghost use Rattle.clone_pool.specs.Pool.{IsPool, Fetches, IsHolder, KeepsOthers, KeepsInUse, AreClean, IsOldest, HasPinRoom, with_frame};
+ghost use Rattle.clone_pool.specs.Pool.{IsPool, Fetches, Freshens, IsHolder, KeepsOthers, KeepsInUse, AreClean, IsOldest, HasPinRoom, with_frame};
 
 use clone_mtr::{LONGEST_MTR, Record, encode_into};
 use clone_outside::PageDisk;
@@ -44,8 +45,8 @@ impl Model for Buffer {
 impl Buffer {
     ghost use Rattle.std.specs.declared.option.Option.{Option};
     ghost use Rattle.clone_outside.specs.Disk.{DiskImage, blank};
-    ghost use Rattle.clone_buffer.specs.Writing.{HasFrame, IsOnPage, Writes};
-    ghost use Rattle.clone_buffer.specs.Buffered.{image_of, IsBuffer};
+    ghost use Rattle.clone_buffer.specs.Writing.{HasFrame, IsOnPage, Creates, Writes, written};
+    ghost use Rattle.clone_buffer.specs.Buffered.{image_of, IsBuffer, Shows};
     ghost use Rattle.clone_buffer.specs.OnePage.{Flushes, unflushed};
     ghost use Rattle.clone_buffer.specs.Keeping.{IsKept, Stands, DiskIsFrames};
 
@@ -93,6 +94,25 @@ impl Buffer {
         let at = fetched?;
         self.shadow = self.shadow.then(&Note::Read(space, number, self.pool.frame(at)));
         Ok(at)
+    }
+
+    /// Takes a frame for a new page of zero bytes, which isn't there yet, and answers the frame's number. The page is
+    /// pinned, and it counts as a use of the frame. A new page that has a frame is pinned there once more.
+    ///
+    /// The error is `PoolFull` exactly where the page has no frame and each frame is pinned or dirty, and nothing
+    /// has changed then. Until a mini-transaction makes the page, it goes with its last pin.
+    pub fn fresh(&mut self, space: u32, number: u32) -> Result<u32, FetchRefusal>
+        requires room { ForSome (holder self.old.pool.frames (record { space = space; number = number })) (λ at. HasPinRoom (frame_at self.old.pool.frames at)) }
+        requires absent { IsTrue self.old.right → page_of (image_of self.old) space number ≡ None }
+        ensures answer { Freshens (record { space = space; number = number }) self.old.pool self.new.pool result }
+        ensures held { IfOk result (IsHolder (record { space = space; number = number }) self.new.pool.frames) }
+        ensures same { self.new ≡ record self.old { pool = self.new.pool } }
+        ensures stands { (flushes : Flushes) (told : Option DiskImage) → Stands self.old flushes told → Stands self.new flushes told }
+    {
+        self.pool.laws();
+        let taken = self.pool.fresh(space, number);
+        self.pool.laws();
+        taken
     }
 
     /// The number of the frame that holds a page, if one does.
@@ -149,6 +169,31 @@ impl Buffer {
         ensures stands { (flushes : Flushes) (told : Option DiskImage) → Stands self.old flushes told → Stands self.new flushes told }
     {
         self.pool.laws();
+        self.append(records)
+    }
+
+    /// Writes a mini-transaction whose first record makes a space, and whose other records change pages that are
+    /// there then: pages that were there before, or new pages of the space, each in a frame that `fresh` gave.
+    ///
+    /// It is refused exactly where its spelling has more bytes than are free, and nothing has changed then.
+    pub fn write_space(&mut self, records: &[Record]) -> Result<u64, LogFull>
+        requires some { 1 ≤ length records.now }
+        requires short { length (spelling records.now) ≤ longest }
+        requires creates { Creates self.old records.now }
+        ensures written { Writes records.now self.old self.new result }
+    {
+        self.pool.laws();
+        self.append(records)
+    }
+
+    // Writes a mini-transaction that leaves frames which show their pages.
+    fn append(&mut self, records: &[Record]) -> Result<u64, LogFull>
+        requires some { 1 ≤ length records.now }
+        requires short { length (spelling records.now) ≤ longest }
+        requires shows { IsTrue self.old.right → Shows (image_of (written records.now self.old)) (written records.now self.old).pool.frames }
+        ensures written { Writes records.now self.old self.new result }
+        ensures spelled { IsSpelled records.now }
+    {
         let mut spelled = [0; LONGEST_MTR];
         let length = spell(records, &mut spelled);
         let start = self.ring.end();

@@ -1,43 +1,19 @@
-use Rattle.std.proofs.Common.{◌≡◌, ◌≤◌, ◌+◌, ◌++◌, List, length, take, ap, sym, subst, ◌∙◌, arith, IsTrue}
-use Rattle.std.specs.List.{AllByRecursion}
-use Rattle.std.proofs.lemmas.List.{length-append}
+use Rattle.std.proofs.Common.{◌+◌, ℕ, length, ap, sym, subst}
 use Rattle.clone_mtr.specs.Spelling.{spelling}
-use Rattle.clone_image.specs.Replay.{replayed, IsSpelled}
-use Rattle.clone_image.proofs.Logs.{spelled_by}
-use Rattle.clone_mtr.proofs.Spellings.{spelling_some}
-use Rattle.clone_ring.specs.Window.{Window, free_in, end_of}
-use Rattle.clone_shadow.specs.State.{State}
+use Rattle.clone_pool.specs.Pool.{IsPool}
 use Rattle.clone_buffer.specs.Buffered.{Buffered, IsBuffer}
-use Rattle.clone_buffer.specs.Writing.{HasFrame, IsOnPage, written}
-use Rattle.clone_buffer.specs.Keeping.{Stands}
-use Rattle.clone_buffer.proofs.WrittenLemmas.{IsBuffer-written, shows_written, stands_written, written_is}
+use Rattle.clone_buffer.proofs.WrittenLemmas.{shows_written, stands_result}
 use Rattle.clone_buffer.proofs.buffer.Buffer.write.Goals as goal
 
-pub change_frames-requires : goal.change_frames-requires
-change_frames-requires c =
-    omega (arith, c.end-start.ensures.value, c.in_ok-end.ensures.2, ap (λ (w : Window). end_of w) c.in_ok-end.ensures.1, length-append c.self.inside.ring.bytes (take c.spell-length.result c.spell-length.new.into), ap length c.spell-length.ensures.spelled.text, spelling_some c.args.records.now)
-
-pub invariant_of-self-2 : goal.invariant_of-self-2
-invariant_of-self-2 c =
-    let i = c.self.inside in
-    let v : Buffered = record { log = i.shadow.state.log; right = i.shadow.state.right; ring = i.ring; pool = i.pool } in
-    let w : Buffered = record { log = c.then-self-inside.result.state.log; right = c.then-self-inside.result.state.right; ring = c.append.new.self; pool = c.change_frames.new.pool } in
-    let text = c.spell-length.ensures.spelled.text in
-    let is : w ≡ written c.args.records.now v = written_is v w c.args.records.now (take c.spell-length.result c.spell-length.new.into) c.end-start.result c.in_ok-end.end text (ap (λ (s : State). s.log) c.then-self-inside.ensures) (ap (λ (s : State). s.right) c.then-self-inside.ensures) c.in_ok-end.ensures.1 c.end-start.ensures.value c.in_ok-end.ensures.2 c.change_frames.ensures in
-    let room : length (spelling c.args.records.now) ≤ free_in i.ring = omega (arith, ap length text, c.in_ok-end.ensures.0) in
-    let there = subst (λ (s : Buffered). IsTrue s.right → AllByRecursion (IsOnPage (replayed s.log)) c.args.records.now) (sym c.self.view_is) c.requires.there in
-    subst IsBuffer (sym is) (IsBuffer-written v c.args.records.now c.self.invariant (spelled_by (take c.spell-length.result c.spell-length.new.into) c.args.records.now c.spell-length.ensures.spelled) room
-     (λ t. shows_written v c.args.records.now c.laws.ensures (sym (ap (λ n. n + length (spelling c.args.records.now)) c.self.invariant.end)) c.requires.edits (there t) (c.self.invariant.shows t)))
+pub append-requires-clause-shows : goal.append-requires-clause-shows
+append-requires-clause-shows c =
+    let records = c.args.records.now in
+    let pool = subst (λ (s : Buffered). IsPool s.pool) c.self.view_is c.laws.ensures in
+    let buffer = subst IsBuffer c.self.view_is c.self.invariant in
+    λ t. shows_written c.args.self.now records pool (sym (ap (λ (n : ℕ). n + length (spelling records)) buffer.end)) c.requires.edits (c.requires.there t) (buffer.shows t)
 
 pub returns-clause-stands : goal.returns-clause-stands
 returns-clause-stands c =
-    let i = c.self.inside in
-    let v : Buffered = record { log = i.shadow.state.log; right = i.shadow.state.right; ring = i.ring; pool = i.pool } in
-    let w : Buffered = record { log = c.then-self-inside.result.state.log; right = c.then-self-inside.result.state.right; ring = c.append.new.self; pool = c.change_frames.new.pool } in
-    let text = c.spell-length.ensures.spelled.text in
-    let is : w ≡ written c.args.records.now v = written_is v w c.args.records.now (take c.spell-length.result c.spell-length.new.into) c.end-start.result c.in_ok-end.end text (ap (λ (s : State). s.log) c.then-self-inside.ensures) (ap (λ (s : State). s.right) c.then-self-inside.ensures) c.in_ok-end.ensures.1 c.end-start.ensures.value c.in_ok-end.ensures.2 c.change_frames.ensures in
-    let room : length (spelling c.args.records.now) ≤ free_in i.ring = omega (arith, ap length text, c.in_ok-end.ensures.0) in
-    let there = subst (λ (s : Buffered). IsTrue s.right → AllByRecursion (IsOnPage (replayed s.log)) c.args.records.now) (sym c.self.view_is) c.requires.there in
-    let framed = subst (λ (s : Buffered). AllByRecursion (HasFrame s.pool.frames) c.args.records.now) (sym c.self.view_is) c.requires.framed in
-    λ flushes told st. stands_written v w flushes told c.args.records.now c.laws.ensures c.self.invariant (spelled_by (take c.spell-length.result c.spell-length.new.into) c.args.records.now c.spell-length.ensures.spelled) room c.requires.edits framed there is
-    (subst (λ (s : Buffered). Stands s flushes told) (sym c.self.view_is) st)
+    let pool = subst (λ (s : Buffered). IsPool s.pool) c.self.view_is c.laws.ensures in
+    let buffer = subst IsBuffer c.self.view_is c.self.invariant in
+    λ flushes told st. stands_result c.args.self.now c.append.new.self flushes told c.args.records.now c.append.result pool buffer c.append.ensures.spelled c.requires.edits c.requires.framed c.requires.there c.append.ensures.written st
