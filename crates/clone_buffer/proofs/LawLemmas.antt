@@ -1,0 +1,86 @@
+-- A new buffer over a blank disk is kept, and where a buffer is kept, the disk's page with its redo is the frame.
+use Rattle.std.proofs.Common.{◌≡◌, ◌<◌, ◌&&◌, ◌++◌, ℕ, Bool, true, false, List, [], length, replicate, refl, sym, ap, subst, ◌∙◌, arith, Option, Some, None, option_and_then, slice_get, IsSome, IsTrue}
+use Rattle.std.proofs.lemmas.Bool.{false≢true}
+use Rattle.std.proofs.lemmas.List.{get_or-replicate, length-replicate}
+use Rattle.std.specs.FinMap.{get-empty}
+use Rattle.std.specs.FinMap as finite
+use Rattle.std.specs.Ordering.{nat_cmp}
+use Rattle.clone_outside.specs.Disk.{DiskImage, blank, page_of}
+use Rattle.clone_outside.specs.declared.disk.Held as held
+use Rattle.clone_mtr.specs.declared.record.Record.{Record}
+use Rattle.clone_image.specs.Redone.{Standing, no_space, past_end, stands, redone, redone_from}
+use Rattle.clone_law.specs.Since.{ends}
+use Rattle.clone_law.specs.Machine.{Engine, HasSpace}
+use Rattle.clone_law.specs.Rule.{EngineRule}
+use Rattle.clone_law.proofs.EventLemmas.{nothing_kept, clean_is_disk, dirty_is_redone}
+use Rattle.clone_pool.specs.declared.frame.Frame.{Frame}
+use Rattle.clone_pool.specs.declared.frame.PageName.{PageName}
+use Rattle.clone_pool.specs.Frames.{no_frame, frame_at, name_of, holder}
+use Rattle.clone_pool.specs.Pool.{Frames}
+use Rattle.clone_buffer.specs.Buffered.{Buffered}
+use Rattle.clone_buffer.specs.OnePage.{Flushes, unflushed, frame_in, frame_of, is_open, has_space, standing_in, engine_with}
+use Rattle.clone_buffer.specs.Keeping.{IsKeptPage, IsKept, DiskIsFrames}
+use Rattle.clone_buffer.proofs.FrameLemmas.{holder_name}
+
+no_name : (page : PageName) → None ≡ Some page → ⊥
+no_name page is = cc
+
+-- frames without pages hold none
+holder-unused : (n : ℕ) (page : PageName) → holder (replicate n no_frame) page ≡ None
+holder-unused n page = by (holder (replicate n no_frame) page) refl
+  where
+    by : (o : Option ℕ) → holder (replicate n no_frame) page ≡ o → o ≡ None
+    by None is = refl
+    by (Some at) is =
+        let found = holder_name (replicate n no_frame) page at is in
+        absurd (no_name page (sym (ap name_of (get_or-replicate n at no_frame no_frame (omega (arith, found.0, length-replicate n no_frame)))) ∙ found.1))
+
+-- a page of a blank disk, before the log begins
+blank_page : (space number : ℕ) → IsKeptPage [] unflushed blank space number None
+blank_page space number =
+    let none : finite.get blank.spaces space ≡ None = get-empty nat_cmp space in
+    let open_in : Option (List held.Held) → Bool = λ o. is_open (option_and_then (λ pages. slice_get pages number) o) && false in
+    let e : Option (List held.Held) → Engine = λ o. record (engine_with [] unflushed blank space number None) { disk = standing_in o number; writing = open_in o } in
+    record {
+      rule = subst (λ (o : Option (List held.Held)). EngineRule space number (e o)) (sym none) (nothing_kept space number).engine;
+      dirty = λ t. absurd (false≢true (sym (ap open_in none) ∙ t));
+      flights = (λ t. t, λ t. t);
+    }
+
+pub new_stands : (v : Buffered) (n : ℕ) → v.log ≡ [] → IsTrue v.right → v.pool ≡ record { frames = replicate n no_frame; uses = 0 } → IsKept v unflushed blank
+new_stands v n log right pool = record {
+  right = right;
+  page = λ space number. subst (λ (l : List (List Record)). IsKeptPage l unflushed blank space number (frame_of v.pool.frames space number)) (sym log)
+      (subst (λ (o : Option Frame). IsKeptPage [] unflushed blank space number o) (sym (ap (λ (w : Frames). frame_of w.frames space number) pool ∙ ap (frame_in (replicate n no_frame)) (holder-unused n (record { space = space; number = number })))) (blank_page space number));
+}
+
+closed_page : (writing there : Bool) → writing ≡ false → (writing && there) ≡ false
+closed_page true there is = absurd (false≢true (sym is))
+closed_page false there is = refl
+
+-- disk page with its redo is the frame
+module _ (v : Buffered) (flushes : Flushes) (m : DiskImage) (k : IsKept v flushes m) where
+  with_frame : (space number : ℕ) (frame : Frame) → frame_of v.pool.frames space number ≡ Some frame → IsKeptPage v.log flushes m space number (Some frame)
+  with_frame space number frame is = subst (IsKeptPage v.log flushes m space number) is (k.page space number)
+
+  opened : (space number : ℕ) → is_open (page_of m space number) ≡ true → HasSpace (redone space number v.log) → (frame : Frame) × ((frame_of v.pool.frames space number ≡ Some frame) × IsSome frame.oldest)
+  opened space number is has = by (frame_of v.pool.frames space number) refl (k.page space number)
+    where
+      spaced : (s : Standing) → HasSpace s → has_space s ≡ true
+      spaced no_space has = absurd has
+      spaced past_end has = refl
+      spaced (stands page) has = refl
+
+      writing : (is_open (page_of m space number) && has_space (redone space number v.log)) ≡ true
+      writing = ap (λ (b : Bool). b && has_space (redone space number v.log)) is ∙ spaced (redone space number v.log) has
+
+      by : (o : Option Frame) → frame_of v.pool.frames space number ≡ o → IsKeptPage v.log flushes m space number o → (frame : Frame) × ((frame_of v.pool.frames space number ≡ Some frame) × IsSome frame.oldest)
+      by None is page = absurd (false≢true (page.dirty writing))
+      by (Some frame) is page = (frame, (is, page.dirty writing))
+
+  pub disk_is_frames : DiskIsFrames v m
+  disk_is_frames = record {
+    clean = λ space number frame is closed old. clean_is_disk space number (engine_with v.log flushes m space number (Some frame)) frame.page (with_frame space number frame is).rule (closed_page _ (has_space (redone space number v.log)) closed) refl old;
+    dirty = λ space number frame oldest is closed old. dirty_is_redone space number (engine_with v.log flushes m space number (Some frame)) frame.page oldest (with_frame space number frame is).rule (closed_page _ (has_space (redone space number v.log)) closed) refl old;
+    open_framed = opened;
+  }

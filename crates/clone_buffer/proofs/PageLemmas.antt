@@ -1,0 +1,150 @@
+-- One page that is kept stays so, whatever a call does to it.
+use Rattle.std.proofs.Common.{◌≡◌, ◌↔◌, ◌<◌, ◌+◌, ◌^◌, ◌&&◌, ◌++◌, ℕ, Bool, true, false, List, [], ◌∷◌, length, slice_get, refl, sym, ap, subst, ◌∙◌, arith, Option, Some, None, option_map, option_and_then, unwrap_or, IsSome, IfSome, IsTrue}
+use Rattle.std.proofs.lemmas.Bool.{false≢true, true≢false}
+use Rattle.std.specs.FinMap as finite
+use Rattle.clone_outside.specs.Disk.{DiskImage, page_of, GivesQuiet}
+use Rattle.clone_outside.specs.declared.disk.Held.{Held}
+use Rattle.clone_mtr.specs.declared.record.Record.{Record}
+use Rattle.clone_image.specs.Redone.{Standing, no_space, past_end, stands, redone}
+use Rattle.clone_law.specs.Since.{ends, Suits}
+use Rattle.clone_law.specs.Touches.{Lax}
+use Rattle.clone_law.specs.Rule.{EngineRule}
+use Rattle.clone_law.specs.Machine.{Engine, World, Idle, Flight, Passed, Changed, Fetched, Evicted, HasSpace, Stands, first_of, dirtied}
+use Rattle.clone_law.proofs.EventLemmas.{engine_kept}
+use Rattle.clone_pool.specs.declared.frame.Frame.{Frame}
+use Rattle.clone_pool.specs.declared.frame.Flush.{Flush}
+use Rattle.clone_pool.specs.declared.frame.Flush.TheVariants as flush
+use Rattle.clone_pool.specs.Frames.{touched, noted, is_begun}
+use Rattle.clone_buffer.specs.OnePage.{Flushes, standing_at, standing_in, is_open, has_space, flight_of, engine_with}
+use Rattle.clone_buffer.specs.Keeping.{IsKeptPage}
+
+-- the page without a clone
+abbrev world : Engine → World
+world e = record { engine = e; copy = Idle }
+
+not_open : (b : Bool) → (b ≡ true → ⊥) → b ≡ false
+not_open true never = absurd (never refl)
+not_open false never = refl
+
+lax_stands : (u : Standing) (page : List ℕ) → Lax u (stands page) → u ≡ stands page
+lax_stands no_space page lax = lax
+lax_stands past_end page lax = lax
+lax_stands (stands b) page lax = lax
+
+shut : (b : Bool) → (b && true) ≡ false → b ≡ false
+shut true is = absurd (true≢false is)
+shut false is = refl
+
+stands_same : (a b : List ℕ) → stands a ≡ stands b → a ≡ b
+stands_same a b is = cc
+
+first_is : (at : ℕ) (o : Option ℕ) → first_of at o ≡ Some (unwrap_or o at)
+first_is at None = refl
+first_is at (Some o) = refl
+
+flown_on : (at : ℕ) (f : Flush) (image : Option (List ℕ)) → dirtied at (flight_of f image) ≡ flight_of (noted at f) image
+flown_on at flush.Idle image = refl
+flown_on at (flush.Begun later) None = refl
+flown_on at (flush.Begun None) (Some bytes) = refl
+flown_on at (flush.Begun (Some later)) (Some bytes) = refl
+flown_on at flush.Failed image = refl
+
+begun_on : (at : ℕ) (f : Flush) (P : Bool → Type 0) → P (is_begun f) → P (is_begun (noted at f))
+begun_on at flush.Idle P p = p
+begun_on at (flush.Begun later) P p = p
+begun_on at flush.Failed P p = p
+
+-- the disk's bytes, where the page is quiet
+quiet_bytes : (o : Option (List Held)) (number : ℕ) (page bytes : List ℕ) → standing_in o number ≡ stands page → is_open (option_and_then (λ pages. slice_get pages number) o) ≡ false
+    → IfSome (option_and_then (λ pages. slice_get pages number) o) (λ held. held.writing ≡ false → bytes ≡ held.bytes) → bytes ≡ page
+quiet_bytes None number page bytes is closed gives = absurd (cc)
+quiet_bytes (Some pages) number page bytes is closed gives = at (slice_get pages number) refl is closed gives
+  where
+    at : (o : Option Held) → slice_get pages number ≡ o → standing_in (Some pages) number ≡ stands page → is_open (slice_get pages number) ≡ false → IfSome (slice_get pages number) (λ held. held.writing ≡ false → bytes ≡ held.bytes) → bytes ≡ page
+    at None none is closed gives = let no = sym (ap (λ (o : Option Held). standing_at o) none) ∙ is in absurd (cc)
+    at (Some held) some is closed gives =
+        let same : stands held.bytes ≡ stands page = sym (ap (λ (o : Option Held). standing_at o) some) ∙ is in
+        let said = subst (λ (o : Option Held). IfSome o (λ h. h.writing ≡ false → bytes ≡ h.bytes)) some gives in
+        let shut : held.writing ≡ false = sym (ap is_open some) ∙ closed in
+        said shut ∙ stands_same held.bytes page same
+
+module _ (log : List (List Record)) (flushes : Flushes) (m : DiskImage) (space number : ℕ) where
+  -- the frame was used
+  pub used_page : (frame : Option Frame) (n : ℕ) → IsKeptPage log flushes m space number frame → IsKeptPage log flushes m space number (option_map (touched n) frame)
+  used_page None n k = k
+  used_page (Some f) n k = record { rule = k.rule; dirty = k.dirty; flights = k.flights }
+
+  -- a clean page lost its frame
+  lost : (f : Frame) → IsKeptPage log flushes m space number (Some (record f { oldest = None; flush = flush.Idle })) → IsKeptPage log flushes m space number None
+  lost f k =
+      let e : Engine = engine_with log flushes m space number (Some (record f { oldest = None; flush = flush.Idle })) in
+      let closed : e.writing ≡ false = not_open e.writing (λ t. absurd (false≢true (k.dirty t))) in
+      record {
+        rule = engine_kept space number (world e) Evicted k.rule (closed, refl, refl);
+        dirty = λ t. absurd (true≢false (sym t ∙ closed));
+        flights = k.flights;
+      }
+
+  pub lost_page : (f : Frame) → f.oldest ≡ None → f.flush ≡ flush.Idle → IsKeptPage log flushes m space number (Some f) → IsKeptPage log flushes m space number None
+  lost_page f clean idle k =
+      let same : f ≡ record f { oldest = None; flush = flush.Idle } = λ i. record f { oldest = clean i; flush = idle i } in
+      lost f (subst (λ (g : Frame). IsKeptPage log flushes m space number (Some g)) same k)
+
+  on_disk : (page : List ℕ) → IsKeptPage log flushes m space number None → redone space number log ≡ stands page → (standing_in (finite.get m.spaces space) number ≡ stands page) × (is_open (page_of m space number) ≡ false)
+  on_disk page k is =
+      let closed = k.rule.bare.0 in
+      let has : HasSpace (redone space number log) = subst HasSpace (sym is) tt in
+      let opened : (is_open (page_of m space number) && true) ≡ false = sym (ap (λ (s : Standing). is_open (page_of m space number) && has_space s) is) ∙ closed in
+      (lax_stands _ page (subst (λ (s : Standing). Lax (standing_in (finite.get m.spaces space) number) s) is (k.rule.quiet closed has)), shut (is_open (page_of m space number)) opened)
+
+  -- what a read of a page gives that has no frame
+  pub read_bytes : (page bytes : List ℕ) → IsKeptPage log flushes m space number None → redone space number log ≡ stands page → GivesQuiet m space number bytes → bytes ≡ page
+  read_bytes page bytes k is gives =
+      let disk = on_disk page k is in
+      quiet_bytes (finite.get m.spaces space) number page bytes disk.0 disk.1 gives
+
+  -- a page was read into a frame
+  read_into : (f : Frame) → IsKeptPage log flushes m space number None → redone space number log ≡ stands f.page → GivesQuiet m space number f.page → IsKeptPage log flushes m space number (Some (record f { oldest = None; flush = flush.Idle }))
+  read_into f k is gives =
+      let disk = on_disk f.page k is in
+      let closed = k.rule.bare.0 in
+      record {
+        rule = engine_kept space number (world (engine_with log flushes m space number None)) (Fetched f.page) k.rule (refl, disk.0, subst Stands (sym is) tt);
+        dirty = λ t. absurd (true≢false (sym t ∙ closed));
+        flights = k.flights;
+      }
+
+  pub read_page : (f : Frame) → f.oldest ≡ None → f.flush ≡ flush.Idle → redone space number log ≡ stands f.page → GivesQuiet m space number f.page → IsKeptPage log flushes m space number None → IsKeptPage log flushes m space number (Some f)
+  read_page f clean idle is gives k =
+      let same : f ≡ record f { oldest = None; flush = flush.Idle } = λ i. record f { oldest = clean i; flush = idle i } in
+      subst (λ (g : Frame). IsKeptPage log flushes m space number (Some g)) (sym same) (read_into f k is gives)
+
+  -- a mini-transaction left the page
+  pub passed_page : (records : List Record) (frame : Option Frame) → Suits space number log records → redone space number (log ++ records ∷ []) ≡ redone space number log → IsKeptPage log flushes m space number frame → IsKeptPage (log ++ records ∷ []) flushes m space number frame
+  passed_page records frame suits same k =
+      let e : Engine = engine_with log flushes m space number frame in
+      let writes : Standing → Bool = λ s. is_open (page_of m space number) && has_space s in
+      let new : record e { log = log ++ records ∷ [] } ≡ engine_with (log ++ records ∷ []) flushes m space number frame = λ i. record e { log = log ++ records ∷ []; writing = writes (sym same i) } in
+      record {
+        rule = subst (EngineRule space number) new (engine_kept space number (world e) (Passed records) k.rule (suits, same));
+        dirty = λ t. k.dirty (sym (ap writes same) ∙ t);
+        flights = k.flights;
+      }
+
+  -- a mini-transaction changed the page in its frame
+  pub changed_page : (records : List Record) (f g : Frame) → Suits space number log records → redone space number log ≡ stands f.page → redone space number (log ++ records ∷ []) ≡ stands g.page
+      → g.oldest ≡ Some (unwrap_or f.oldest (ends log)) → g.flush ≡ noted (ends log) f.flush → IsKeptPage log flushes m space number (Some f) → IsKeptPage (log ++ records ∷ []) flushes m space number (Some g)
+  changed_page records f g suits is becomes oldest flush_is k =
+      let e : Engine = engine_with log flushes m space number (Some f) in
+      let writes : Standing → Bool = λ s. is_open (page_of m space number) && has_space s in
+      let writing : e.writing ≡ (engine_with (log ++ records ∷ []) flushes m space number (Some g)).writing = ap writes is ∙ sym (ap writes becomes) in
+      let image : Option (List ℕ) = flushes.image space number in
+      let dirty : first_of (ends log) f.oldest ≡ g.oldest = first_is (ends log) f.oldest ∙ sym oldest in
+      let flown : dirtied (ends log) (flight_of f.flush image) ≡ flight_of g.flush image = flown_on (ends log) f.flush image ∙ sym (ap (λ (x : Flush). flight_of x image) flush_is) in
+      let new : record e { log = log ++ records ∷ []; frame = Some g.page; oldest = first_of (ends log) f.oldest; flight = dirtied (ends log) (flight_of f.flush image) } ≡ engine_with (log ++ records ∷ []) flushes m space number (Some g) =
+              λ i. record e { log = log ++ records ∷ []; writing = writing i; frame = Some g.page; oldest = dirty i; flight = flown i } in
+      record {
+        rule = subst (EngineRule space number) new (engine_kept space number (world e) (Changed records g.page) k.rule (suits, becomes, subst HasSpace (sym is) tt));
+        dirty = λ t. subst IsSome (sym oldest) refl;
+        flights = subst (λ (x : Flush). IsTrue (is_begun x) ↔ IsSome image) (sym flush_is) (begun_on (ends log) f.flush (λ x. IsTrue x ↔ IsSome image) k.flights);
+      }

@@ -1,0 +1,378 @@
+-- What the records of a mini-transaction do to the frames, and to the pages that they show.
+use Rattle.std.proofs.Common.{◌≡◌, ◌≢◌, ◌<◌, ◌≤◌, ◌+◌, ◌⊎◌, inl, inr, ◌&&◌, ◌==◌, ℕ, zero, suc, Bool, true, false, List, [], ◌∷◌, ◌++◌, length, get_or, set, map, refl, sym, ap, subst, ◌∙◌, arith, Option, Some, None, option_map, option_and_then, unwrap_or, IsSome, IfSome, if◌then◌else◌}
+use Rattle.std.proofs.lemmas.Bool.{cases_eq, cases_lt, false≢true, true≢false, and_parts, eqb-true}
+use Rattle.std.proofs.lemmas.List.{get_or-set_same, get_or-set_other, get_or-map, map-set, length-map, set_past, set-get_or}
+use Rattle.std.specs.List.{AllByRecursion}
+use Rattle.clone_mtr.specs.Effects.{effect}
+use Rattle.clone_mtr.specs.declared.record.Record.{Record}
+use Rattle.clone_mtr.specs.declared.record.Record.TheVariants as record_is
+use Rattle.clone_image.specs.Image.{Image, page_of, with_edit, edited, after_record, EditsPages}
+use Rattle.clone_image.specs.Image as image_is
+use Rattle.clone_page.specs.Header.{zero_page}
+use Rattle.clone_undo.specs.Changes as undo
+use Rattle.clone_image.proofs.Pages.{records_pages}
+use Rattle.clone_image.proofs.Images.{page_of-edited_same, page_of-edited_other}
+use Rattle.clone_law.specs.Touches.{touches, names, resets, passes_by, edits, passes}
+use Rattle.clone_pool.specs.declared.frame.Frame.{Frame}
+use Rattle.clone_pool.specs.declared.frame.Content.{Content}
+use Rattle.clone_pool.specs.declared.frame.Content.TheVariants.{Unused, Fresh, Held}
+use Rattle.clone_pool.specs.declared.frame.Flush.{Flush}
+use Rattle.clone_pool.specs.declared.frame.Flush.TheVariants as flush
+use Rattle.clone_pool.specs.declared.frame.PageName.{PageName}
+use Rattle.clone_pool.specs.Index.{is_name_of, place_of}
+use Rattle.clone_pool.specs.Frames.{no_frame, frame_at, name_in, name_of, is_fresh, holder, page_changed, changed, made, noted}
+use Rattle.clone_pool.specs.Pool.{Frames, with_frame}
+use Rattle.clone_pool.proofs.NameLemmas.{named, is_own_name}
+use Rattle.clone_buffer.specs.Buffered.{Shown, Shows}
+use Rattle.clone_buffer.specs.Writing.{named_frame, changed_at, after_records, IsOnPage, any_names}
+use Rattle.clone_buffer.proofs.FrameLemmas.{holder_name, is_named}
+
+-- no page has two frames
+abbrev pub Once : List Frame → Type 0
+Once frames = (page : PageName) (at : ℕ) → name_of (frame_at frames at) ≡ Some page → holder frames page ≡ Some at
+
+-- the frames after one record
+abbrev pub step : Record → ℕ → ℕ → Frames → Frames
+step r start end v = changed_at (named_frame v.frames r) r start end v
+
+name_in-made : (content : Content) → name_in (made content) ≡ name_in content
+name_in-made Unused = refl
+name_in-made (Fresh name) = refl
+name_in-made (Held name) = refl
+
+-- the names stay
+names_at : (o : Option ℕ) (r : Record) (start end : ℕ) (v : Frames) → map name_of (changed_at o r start end v).frames ≡ map name_of v.frames
+names_at None r start end v = refl
+names_at (Some at) r start end v = by (cases_lt at (length v.frames))
+  where
+    f : Frame
+    f = frame_at v.frames at
+
+    by : (at < length v.frames) ⊎ (length v.frames ≤ at) → map name_of (set v.frames at (changed r start end f)) ≡ map name_of v.frames
+    by (inl low) = map-set name_of v.frames at (changed r start end f) ∙ ap (set (map name_of v.frames) at) (name_in-made f.content ∙ sym (get_or-map name_of v.frames at no_frame None low)) ∙ set-get_or (map name_of v.frames) at None
+    by (inr past) = ap (map name_of) (set_past v.frames at (changed r start end f) past)
+
+pub holder-step : (r : Record) (start end : ℕ) (v : Frames) (page : PageName) → holder (step r start end v).frames page ≡ holder v.frames page
+holder-step r start end v page = ap (place_of page) (names_at (named_frame v.frames r) r start end v)
+
+pub holder-after : (rs : List Record) (start end : ℕ) (v : Frames) (page : PageName) → holder (after_records rs start end v).frames page ≡ holder v.frames page
+holder-after [] start end v page = refl
+holder-after (r ∷ rs) start end v page = holder-after rs start end (step r start end v) page ∙ holder-step r start end v page
+
+name_at-step : (o : Option ℕ) (r : Record) (start end : ℕ) (v : Frames) (b : ℕ) → name_of (frame_at (changed_at o r start end v).frames b) ≡ name_of (frame_at v.frames b)
+name_at-step None r start end v b = refl
+name_at-step (Some at) r start end v b = by (cases_lt at (length v.frames)) (cases_eq b at)
+  where
+    g : Frame
+    g = changed r start end (frame_at v.frames at)
+
+    by : (at < length v.frames) ⊎ (length v.frames ≤ at) → (b ≡ at) ⊎ (b ≢ at) → name_of (frame_at (set v.frames at g) b) ≡ name_of (frame_at v.frames b)
+    by (inl low) (inl same) = subst (λ (k : ℕ). name_of (frame_at (set v.frames at g) k) ≡ name_of (frame_at v.frames k)) (sym same) (ap name_of (get_or-set_same v.frames at g no_frame low) ∙ name_in-made (frame_at v.frames at).content)
+    by (inl low) (inr other) = ap name_of (get_or-set_other v.frames at b g no_frame other)
+    by (inr past) either = ap (λ (fs : List Frame). name_of (frame_at fs b)) (set_past v.frames at g past)
+
+name_at-after : (rs : List Record) (start end : ℕ) (v : Frames) (b : ℕ) → name_of (frame_at (after_records rs start end v).frames b) ≡ name_of (frame_at v.frames b)
+name_at-after [] start end v b = refl
+name_at-after (r ∷ rs) start end v b = name_at-after rs start end (step r start end v) b ∙ name_at-step (named_frame v.frames r) r start end v b
+
+some_name : (a b : PageName) → Some a ≡ Some b → a ≡ b
+some_name a b is = cc
+
+some_place : (o : Option ℕ) (a b : ℕ) → o ≡ Some a → o ≡ Some b → a ≡ b
+some_place o a b x y = cc
+
+-- What becomes of one frame.
+
+-- the records that name the page change it
+abbrev pub changed_by : PageName → List Record → ℕ → ℕ → Frame → Frame
+changed_by page [] start end f = f
+changed_by page (r ∷ rs) start end f = changed_by page rs start end (if is_name_of page (page_changed r) then changed r start end f else f)
+
+frame-step : (r : Record) (start end : ℕ) (v : Frames) (page : PageName) (b : ℕ) → holder v.frames page ≡ Some b → frame_at (step r start end v).frames b ≡ (if is_name_of page (page_changed r) then changed r start end (frame_at v.frames b) else frame_at v.frames b)
+frame-step r start end v page b held = by (page_changed r)
+  where
+    f : Frame
+    f = frame_at v.frames b
+
+    after : Option PageName → Frame
+    after o = frame_at (changed_at (option_and_then (λ p. holder v.frames p) o) r start end v).frames b
+
+    apart : (name : PageName) (o : Option ℕ) → holder v.frames name ≡ o → is_name_of page (Some name) ≡ false → frame_at (changed_at o r start end v).frames b ≡ f
+    apart name None is miss = refl
+    apart name (Some a) is miss =
+        let other : b ≡ a → ⊥ = λ same.
+                let x = (holder_name v.frames name a is).1 in
+                let y = (holder_name v.frames page b held).1 in
+                let z : Some name ≡ Some page = sym x ∙ sym (ap (λ (k : ℕ). name_of (frame_at v.frames k)) same) ∙ y in
+                true≢false (sym (is_own_name page) ∙ sym (ap (is_name_of page) z) ∙ miss) in
+        get_or-set_other v.frames a b (changed r start end (frame_at v.frames a)) no_frame other
+
+    named_so : (name : PageName) (t : Bool) → is_name_of page (Some name) ≡ t → after (Some name) ≡ (if t then changed r start end f else f)
+    named_so name true is =
+        let same : name ≡ page = some_name name page (named page (Some name) is) in
+        ap (λ (o : Option ℕ). frame_at (changed_at o r start end v).frames b) (ap (holder v.frames) same ∙ held) ∙ get_or-set_same v.frames b (changed r start end f) no_frame (holder_name v.frames page b held).0
+    named_so name false is = apart name (holder v.frames name) refl is
+
+    by : (o : Option PageName) → after o ≡ (if is_name_of page o then changed r start end f else f)
+    by None = refl
+    by (Some name) = named_so name (is_name_of page (Some name)) refl
+
+pub frame-after : (rs : List Record) (start end : ℕ) (v : Frames) (page : PageName) (b : ℕ) → holder v.frames page ≡ Some b → frame_at (after_records rs start end v).frames b ≡ changed_by page rs start end (frame_at v.frames b)
+frame-after [] start end v page b held = refl
+frame-after (r ∷ rs) start end v page b held = frame-after rs start end (step r start end v) page b (holder-step r start end v page ∙ held) ∙ ap (changed_by page rs start end) (frame-step r start end v page b held)
+
+-- a frame that no record names stays
+pub unnamed_stays : (page : PageName) (rs : List Record) (start end : ℕ) (f : Frame) → any_names page rs ≡ false → changed_by page rs start end f ≡ f
+unnamed_stays page [] start end f miss = refl
+unnamed_stays page (r ∷ rs) start end f miss = by (unnamed_stays page rs start end f) (is_name_of page (page_changed r)) miss
+  where
+    by : (any_names page rs ≡ false → changed_by page rs start end f ≡ f) → (t : Bool) → (if t then true else any_names page rs) ≡ false → changed_by page rs start end (if t then changed r start end f else f) ≡ f
+    by rest true miss = absurd (true≢false miss)
+    by rest false miss = rest miss
+
+abbrev oldest_then : Bool → ℕ → Frame → Option ℕ
+oldest_then true start f = Some (unwrap_or f.oldest start)
+oldest_then false start f = f.oldest
+
+abbrev flush_then : Bool → ℕ → Frame → Flush
+flush_then true start f = noted start f.flush
+flush_then false start f = f.flush
+
+noted_twice : (start : ℕ) (f : Flush) → noted start (noted start f) ≡ noted start f
+noted_twice start flush.Idle = refl
+noted_twice start (flush.Begun later) = refl
+noted_twice start flush.Failed = refl
+
+oldest_twice : (t : Bool) (r : Record) (start end : ℕ) (f : Frame) → oldest_then t start (changed r start end f) ≡ Some (unwrap_or f.oldest start)
+oldest_twice true r start end f = refl
+oldest_twice false r start end f = refl
+
+flush_twice : (t : Bool) (r : Record) (start end : ℕ) (f : Frame) → flush_then t start (changed r start end f) ≡ noted start f.flush
+flush_twice true r start end f = noted_twice start f.flush
+flush_twice false r start end f = refl
+
+oldest_is : (page : PageName) (rs : List Record) (start end : ℕ) (f : Frame) → (changed_by page rs start end f).oldest ≡ oldest_then (any_names page rs) start f
+oldest_is page [] start end f = refl
+oldest_is page (r ∷ rs) start end f = by (λ g. oldest_is page rs start end g) (is_name_of page (page_changed r))
+  where
+    by : ((g : Frame) → (changed_by page rs start end g).oldest ≡ oldest_then (any_names page rs) start g) → (t : Bool) → (changed_by page rs start end (if t then changed r start end f else f)).oldest ≡ oldest_then (if t then true else any_names page rs) start f
+    by rest true = rest (changed r start end f) ∙ oldest_twice (any_names page rs) r start end f
+    by rest false = rest f
+
+flush_is : (page : PageName) (rs : List Record) (start end : ℕ) (f : Frame) → (changed_by page rs start end f).flush ≡ flush_then (any_names page rs) start f
+flush_is page [] start end f = refl
+flush_is page (r ∷ rs) start end f = by (λ g. flush_is page rs start end g) (is_name_of page (page_changed r))
+  where
+    by : ((g : Frame) → (changed_by page rs start end g).flush ≡ flush_then (any_names page rs) start g) → (t : Bool) → (changed_by page rs start end (if t then changed r start end f else f)).flush ≡ flush_then (if t then true else any_names page rs) start f
+    by rest true = rest (changed r start end f) ∙ flush_twice (any_names page rs) r start end f
+    by rest false = rest f
+
+-- a frame that a record names is dirty since the mini-transaction, if it wasn't before
+pub named_oldest : (page : PageName) (rs : List Record) (start end : ℕ) (f : Frame) → any_names page rs ≡ true → (changed_by page rs start end f).oldest ≡ Some (unwrap_or f.oldest start)
+named_oldest page rs start end f hits = oldest_is page rs start end f ∙ ap (λ (t : Bool). oldest_then t start f) hits
+
+pub named_flush : (page : PageName) (rs : List Record) (start end : ℕ) (f : Frame) → any_names page rs ≡ true → (changed_by page rs start end f).flush ≡ noted start f.flush
+named_flush page rs start end f hits = flush_is page rs start end f ∙ ap (λ (t : Bool). flush_then t start f) hits
+
+made_old : (content : Content) → is_fresh content ≡ false → is_fresh (made content) ≡ false
+made_old Unused old = refl
+made_old (Fresh name) old = absurd (true≢false old)
+made_old (Held name) old = refl
+
+-- what a frame holds stays
+pub stays_held : (page : PageName) (rs : List Record) (start end : ℕ) (f : Frame) → is_fresh f.content ≡ false → (is_fresh (changed_by page rs start end f).content ≡ false) × (name_of (changed_by page rs start end f) ≡ name_of f)
+stays_held page [] start end f old = (old, refl)
+stays_held page (r ∷ rs) start end f old = by (λ g. stays_held page rs start end g) (is_name_of page (page_changed r))
+  where
+    by : ((g : Frame) → is_fresh g.content ≡ false → (is_fresh (changed_by page rs start end g).content ≡ false) × (name_of (changed_by page rs start end g) ≡ name_of g)) → (t : Bool) → (is_fresh (changed_by page rs start end (if t then changed r start end f else f)).content ≡ false) × (name_of (changed_by page rs start end (if t then changed r start end f else f)) ≡ name_of f)
+    by rest true = let kept = rest (changed r start end f) (made_old f.content old) in (kept.0, kept.1 ∙ name_in-made f.content)
+    by rest false = rest f old
+
+-- What the frames show.
+
+-- a record that changes a page edits it
+record IsEdit (r : Record) : Type 0 where
+  page : PageName
+  named_is : page_changed r ≡ Some page
+  edit_is : (end : ℕ) (image : Image) → after_record end image r ≡ with_edit image page.space (edited page.number (effect end r))
+
+edit_of : (r : Record) → EditsPages r → IsEdit r
+edit_of (record_is.Init space number kind) only = record { page = record { space = space; number = number }; named_is = refl; edit_is = λ end image. refl }
+edit_of (record_is.Write space number patch) only = record { page = record { space = space; number = number }; named_is = refl; edit_is = λ end image. refl }
+edit_of (record_is.Extend space pages) only = absurd only
+edit_of (record_is.Create space pages) only = absurd only
+edit_of (record_is.Drop space) only = absurd only
+
+-- what a record makes of a page and of the frame that shows it
+page-step : (image : Image) (r : Record) (start end : ℕ) (page : PageName) (f : Frame) → EditsPages r → page_of image page.space page.number ≡ Some f.page → page_of (after_record end image r) page.space page.number ≡ Some (if is_name_of page (page_changed r) then changed r start end f else f).page
+page-step image r start end page f only is =
+    let e = edit_of r only in
+    ap (λ (i : Image). page_of i page.space page.number) (e.edit_is end image) ∙ by e.page (is_name_of page (Some e.page)) refl ∙ ap (λ (o : Option PageName). Some (if is_name_of page o then changed r start end f else f).page) (sym e.named_is)
+  where
+    after : PageName → Image
+    after name = with_edit image name.space (edited name.number (effect end r))
+
+    by : (name : PageName) (t : Bool) → is_name_of page (Some name) ≡ t → page_of (after name) page.space page.number ≡ Some (if is_name_of page (Some name) then changed r start end f else f).page
+    by name true hits =
+        let same : name ≡ page = some_name name page (named page (Some name) hits) in
+        ap (λ (n : PageName). page_of (after n) page.space page.number) same ∙ page_of-edited_same image page.space page.number (effect end r) f.page is ∙ ap (λ (b : Bool). Some (if b then changed r start end f else f).page) (sym hits)
+    by name false miss =
+        page_of-edited_other image name.space name.number page.space page.number (effect end r) (λ e g. apart e g) ∙ is ∙ ap (λ (b : Bool). Some (if b then changed r start end f else f).page) (sym miss)
+      where
+        apart : page.space ≡ name.space → page.number ≡ name.number → ⊥
+        apart e g = true≢false (sym (is_own_name page) ∙ (λ i. is_name_of page (Some (record { space = e i; number = g i }))) ∙ miss)
+
+-- what records make of it
+pub page-after : (rs : List Record) (image : Image) (start end : ℕ) (page : PageName) (f : Frame) → AllByRecursion EditsPages rs → page_of image page.space page.number ≡ Some f.page → page_of (image_is.after_records end image rs) page.space page.number ≡ Some (changed_by page rs start end f).page
+page-after [] image start end page f only is = is
+page-after (r ∷ rs) image start end page f only is =
+    page-after rs (after_record end image r) start end page (if is_name_of page (page_changed r) then changed r start end f else f) only.1 (page-step image r start end page f only.0 is)
+
+-- A frame is ready for records that start from an image: it shows its page there, and a new page that is there is named by one of them.
+abbrev pub Ready : Image → List Record → Content → List ℕ → Type 0
+Ready image rs Unused bytes = Unit {0}
+Ready image rs (Fresh name) bytes = ((page_of image name.space name.number ≡ Some bytes) × (any_names name rs ≡ true)) ⊎ ((page_of image name.space name.number ≡ None) × ((any_names name rs ≡ false) × (bytes ≡ zero_page)))
+Ready image rs (Held name) bytes = page_of image name.space name.number ≡ Some bytes
+
+no_name : (page : PageName) → None ≡ Some page → ⊥
+no_name page is = cc
+
+-- a frame without a page shows none
+shown_unused : (image : Image) (content : Content) (bytes : List ℕ) → name_in content ≡ None → Shown image content bytes
+shown_unused image Unused bytes is = tt
+shown_unused image (Fresh name) bytes is = absurd (no_name name (sym is))
+shown_unused image (Held name) bytes is = absurd (no_name name (sym is))
+
+-- a frame that is held shows its page
+shown_named : (image : Image) (content : Content) (bytes : List ℕ) (page : PageName) → name_in content ≡ Some page → is_fresh content ≡ false → page_of image page.space page.number ≡ Some bytes → Shown image content bytes
+shown_named image Unused bytes page is old shows = tt
+shown_named image (Fresh name) bytes page is old shows = absurd (true≢false old)
+shown_named image (Held name) bytes page is old shows = let same : name ≡ page = some_name name page is in subst (λ (n : PageName). page_of image n.space n.number ≡ Some bytes) (sym same) shows
+
+made_held : (content : Content) → is_fresh (made content) ≡ false
+made_held Unused = refl
+made_held (Fresh name) = refl
+made_held (Held name) = refl
+
+-- a frame that a record names isn't new any more
+named_held : (page : PageName) (rs : List Record) (start end : ℕ) (f : Frame) → any_names page rs ≡ true → (is_fresh (changed_by page rs start end f).content ≡ false) × (name_of (changed_by page rs start end f) ≡ name_of f)
+named_held page [] start end f hits = absurd (false≢true hits)
+named_held page (r ∷ rs) start end f hits = by (named_held page rs start end f) (is_name_of page (page_changed r)) hits
+  where
+    by : (any_names page rs ≡ true → (is_fresh (changed_by page rs start end f).content ≡ false) × (name_of (changed_by page rs start end f) ≡ name_of f)) → (t : Bool) → (if t then true else any_names page rs) ≡ true
+        → (is_fresh (changed_by page rs start end (if t then changed r start end f else f)).content ≡ false) × (name_of (changed_by page rs start end (if t then changed r start end f else f)) ≡ name_of f)
+    by rest true hits = let kept = stays_held page rs start end (changed r start end f) (made_held f.content) in (kept.0, kept.1 ∙ name_in-made f.content)
+    by rest false hits = rest hits
+
+-- records that name a page that isn't there leave it so
+absent-after : (rs : List Record) (image : Image) (end : ℕ) (page : PageName) → AllByRecursion EditsPages rs → page_of image page.space page.number ≡ None → page_of (image_is.after_records end image rs) page.space page.number ≡ None
+absent-after rs image end page only none = records_pages end image rs page.space page.number only ∙ ap (option_map (λ _. undo.after end rs (image_is.all_pages image) page.space page.number)) none
+
+module _ (rs : List Record) (image : Image) (v : Frames) (start end : ℕ) (only : AllByRecursion EditsPages rs) (once : Once v.frames) where
+  abbrev last : Image
+  last = image_is.after_records end image rs
+
+  abbrev frame_then : ℕ → Frame
+  frame_then b = frame_at (after_records rs start end v).frames b
+
+  name-then : (b : ℕ) → name_of (frame_then b) ≡ name_of (frame_at v.frames b)
+  name-then b = name_at-after rs start end v b
+
+  -- a frame with a page
+  shown_then : (b : ℕ) (f : Frame) → frame_at v.frames b ≡ f → (content : Content) → f.content ≡ content → Ready image rs content f.page → Shown last (frame_then b).content (frame_then b).page
+  shown_then b f is Unused holds ready = shown_unused last (frame_then b).content (frame_then b).page (name-then b ∙ ap name_of is ∙ ap name_in holds)
+  shown_then b f is (Held name) holds ready =
+      let named_so : name_of (frame_at v.frames b) ≡ Some name = ap name_of is ∙ ap name_in holds in
+      let then_is : frame_then b ≡ changed_by name rs start end f = frame-after rs start end v name b (once name b named_so) ∙ ap (changed_by name rs start end) is in
+      let kept = stays_held name rs start end f (ap is_fresh holds) in
+      subst (λ (g : Frame). Shown last g.content g.page) (sym then_is) (shown_named last (changed_by name rs start end f).content _ name (kept.1 ∙ ap name_in holds) kept.0 (page-after rs image start end name f only ready))
+  shown_then b f is (Fresh name) holds (inl ready) =
+      let named_so : name_of (frame_at v.frames b) ≡ Some name = ap name_of is ∙ ap name_in holds in
+      let then_is : frame_then b ≡ changed_by name rs start end f = frame-after rs start end v name b (once name b named_so) ∙ ap (changed_by name rs start end) is in
+      let kept = named_held name rs start end f ready.1 in
+      subst (λ (g : Frame). Shown last g.content g.page) (sym then_is) (shown_named last (changed_by name rs start end f).content _ name (kept.1 ∙ ap name_in holds) kept.0 (page-after rs image start end name f only ready.0))
+  shown_then b f is (Fresh name) holds (inr ready) =
+      let named_so : name_of (frame_at v.frames b) ≡ Some name = ap name_of is ∙ ap name_in holds in
+      let then_is : frame_then b ≡ f = frame-after rs start end v name b (once name b named_so) ∙ ap (changed_by name rs start end) is ∙ unnamed_stays name rs start end f ready.1.0 in
+      subst (λ (g : Frame). Shown last g.content g.page) (sym then_is) (subst (λ (c : Content). Shown last c f.page) (sym holds) (absent-after rs image end name only ready.0, ready.1.1))
+
+  -- the frames show the pages that the records leave
+  pub shows_records : ((at : ℕ) → Ready image rs (frame_at v.frames at).content (frame_at v.frames at).page) → Shows last (after_records rs start end v).frames
+  shows_records ready b = shown_then b (frame_at v.frames b) refl (frame_at v.frames b).content refl (ready b)
+
+-- what holds of the page of each record holds of a page that one of them names
+pub of_named : (P : PageName → Type 0) (page : PageName) (rs : List Record) → any_names page rs ≡ true → AllByRecursion (λ r. IfSome (page_changed r) P) rs → P page
+of_named P page [] hits each = absurd (false≢true hits)
+of_named P page (r ∷ rs) hits each = by (page_changed r) (is_name_of page (page_changed r)) refl hits each.0 (λ rest. of_named P page rs rest each.1)
+  where
+    by : (o : Option PageName) (t : Bool) → is_name_of page o ≡ t → (if t then true else any_names page rs) ≡ true → IfSome o P → (any_names page rs ≡ true → P page) → P page
+    by None true is hits one rest = absurd (false≢true is)
+    by (Some name) true is hits one rest = let same : name ≡ page = some_name name page (named page (Some name) is) in subst P same one
+    by o false is hits one rest = rest hits
+
+-- where each record is on a page that is there, frames that show their pages are ready
+pub ready_there : (image : Image) (rs : List Record) (content : Content) (bytes : List ℕ) → AllByRecursion (IsOnPage image) rs → Shown image content bytes → Ready image rs content bytes
+ready_there image rs Unused bytes on shown = tt
+ready_there image rs (Held name) bytes on shown = shown
+ready_there image rs (Fresh name) bytes on shown = inr (shown.0, (by (any_names name rs) refl, shown.1))
+  where
+    by : (t : Bool) → any_names name rs ≡ t → any_names name rs ≡ false
+    by false is = is
+    by true is = absurd (false≢true (subst IsSome shown.0 (of_named (λ n. IsSome (page_of image n.space n.number)) name rs is on)))
+
+-- What the log's law sees of the records.
+
+not_named : (s n space number : ℕ) → is_name_of (record { space = space; number = number }) (Some (record { space = s; number = n })) ≡ false → ((s == space) && (n == number)) ≡ false
+not_named s n space number miss = by ((s == space) && (n == number)) refl
+  where
+    by : (t : Bool) → ((s == space) && (n == number)) ≡ t → t ≡ false
+    by false is = refl
+    by true is =
+        let parts = and_parts (s == space) (n == number) is in
+        let e : s ≡ space = eqb-true s space parts.0 in
+        let f : n ≡ number = eqb-true n number parts.1 in
+        absurd (true≢false (sym (is_own_name (record { space = space; number = number })) ∙ (λ i. is_name_of (record { space = space; number = number }) (Some (record { space = sym e i; number = sym f i }))) ∙ miss))
+
+-- records that change pages and don't name this one
+pub record PassesBy (end space number : ℕ) (rs : List Record) : Type 0 where
+  pub unnamed : names (touches end space number rs) ≡ false
+  pub passing : passes_by (touches end space number rs) ≡ true
+
+pass_one : (end space number : ℕ) (rs : List Record) (t : Bool) (edit : List ℕ → List ℕ) → t ≡ false → PassesBy end space number rs → (names ((if t then edits edit else passes) ∷ touches end space number rs) ≡ false) × (passes_by ((if t then edits edit else passes) ∷ touches end space number rs) ≡ true)
+pass_one end space number rs true edit is rest = absurd (true≢false is)
+pass_one end space number rs false edit is rest = (rest.unnamed, rest.passing)
+
+pub passes_all : (end space number : ℕ) (rs : List Record) → AllByRecursion EditsPages rs → any_names (record { space = space; number = number }) rs ≡ false → PassesBy end space number rs
+passes_all end space number [] only miss = record { unnamed = refl; passing = refl }
+passes_all end space number (r ∷ rs) only miss = by r only.0 (passes_all end space number rs only.1 (rest_misses (is_name_of page (page_changed r)) miss)) (first_misses (is_name_of page (page_changed r)) miss)
+  where
+    page : PageName
+    page = record { space = space; number = number }
+
+    first_misses : (t : Bool) → (if t then true else any_names page rs) ≡ false → t ≡ false
+    first_misses true is = absurd (true≢false is)
+    first_misses false is = refl
+
+    rest_misses : (t : Bool) → (if t then true else any_names page rs) ≡ false → any_names page rs ≡ false
+    rest_misses true is = absurd (true≢false is)
+    rest_misses false is = is
+
+    by : (r : Record) → EditsPages r → PassesBy end space number rs → is_name_of page (page_changed r) ≡ false → PassesBy end space number (r ∷ rs)
+    by (record_is.Init s n kind) only rest is = let both = pass_one end space number rs ((s == space) && (n == number)) (effect end (record_is.Init s n kind)) (not_named s n space number is) rest in record { unnamed = both.0; passing = both.1 }
+    by (record_is.Write s n patch) only rest is = let both = pass_one end space number rs ((s == space) && (n == number)) (effect end (record_is.Write s n patch)) (not_named s n space number is) rest in record { unnamed = both.0; passing = both.1 }
+    by (record_is.Extend s pages) only rest is = absurd only
+    by (record_is.Create s pages) only rest is = absurd only
+    by (record_is.Drop s) only rest is = absurd only
+
+resets_one : (end space number : ℕ) (rs : List Record) (t : Bool) (edit : List ℕ → List ℕ) → resets (touches end space number rs) ≡ false → resets ((if t then edits edit else passes) ∷ touches end space number rs) ≡ false
+resets_one end space number rs true edit rest = rest
+resets_one end space number rs false edit rest = rest
+
+-- records that change pages make and drop no space
+pub resets_none : (end space number : ℕ) (rs : List Record) → AllByRecursion EditsPages rs → resets (touches end space number rs) ≡ false
+resets_none end space number [] only = refl
+resets_none end space number (record_is.Init s n kind ∷ rs) only = resets_one end space number rs ((s == space) && (n == number)) (effect end (record_is.Init s n kind)) (resets_none end space number rs only.1)
+resets_none end space number (record_is.Write s n patch ∷ rs) only = resets_one end space number rs ((s == space) && (n == number)) (effect end (record_is.Write s n patch)) (resets_none end space number rs only.1)
+resets_none end space number (record_is.Extend s pages ∷ rs) only = absurd only.0
+resets_none end space number (record_is.Create s pages ∷ rs) only = absurd only.0
+resets_none end space number (record_is.Drop s ∷ rs) only = absurd only.0

@@ -1,0 +1,207 @@
+-- A buffer once a mini-transaction was written.
+use Rattle.std.proofs.Common.{◌≡◌, ◌≢◌, ◌<◌, ◌≤◌, ◌+◌, ◌-◌, ◌^◌, ◌⊎◌, inl, inr, ℕ, Bool, true, false, List, [], ◌∷◌, ◌++◌, length, drop, refl, sym, ap, subst, ◌∙◌, arith, Option, Some, None, Ok, Err, Result, IsSome, IfSome, IsTrue, if◌then◌else◌, unwrap_or, replicate}
+use Rattle.std.proofs.lemmas.Bool.{cases_eq, cases_lt, false≢true, true≢false}
+use Rattle.std.proofs.lemmas.List.{length-append, length-drop, drop-append-le}
+use Rattle.std.specs.List.{AllByRecursion}
+use Rattle.std.specs.FinMap as finite
+use Rattle.clone_outside.specs.Disk.{DiskImage, ForTold}
+use Rattle.clone_page.specs.Header.{zero_page}
+use Rattle.clone_mtr.specs.declared.record.Record.{Record}
+use Rattle.clone_mtr.specs.declared.record.Record.TheVariants as record_is
+use Rattle.clone_mtr.specs.Spelling.{spelling, log_of}
+use Rattle.clone_image.specs.Image.{Image, page_of, EditsPages}
+use Rattle.clone_image.specs.Image as image_is
+use Rattle.clone_image.specs.Replay.{first_lsn, end_of, replayed, IsSpelled}
+use Rattle.clone_image.specs.Redone.{stands, redone}
+use Rattle.clone_image.proofs.Images.{page_of-made, page_of-past, page_of-elsewhere}
+use Rattle.clone_image.proofs.Logs.{log_of-push, after_log-push, All-push}
+use Rattle.clone_law.specs.Since.{ends, Suits}
+use Rattle.clone_law.proofs.AppendLemmas.{suits_there, suits_unnamed, others_pass}
+use Rattle.clone_ring.specs.Window.{free_in}
+use Rattle.clone_ring.specs.Window as ring
+use Rattle.clone_ring.specs.declared.log_full.LogFull.{LogFull}
+use Rattle.clone_pool.specs.declared.frame.Frame.{Frame}
+use Rattle.clone_pool.specs.declared.frame.Content.{Content}
+use Rattle.clone_pool.specs.declared.frame.Content.TheVariants.{Unused, Fresh, Held}
+use Rattle.clone_pool.specs.declared.frame.PageName.{PageName}
+use Rattle.clone_pool.specs.Index.{is_name_of}
+use Rattle.clone_pool.specs.Frames.{frame_at, name_in, name_of, is_fresh, holder, page_changed, noted}
+use Rattle.clone_pool.specs.Pool.{Frames, IsPool}
+use Rattle.clone_pool.proofs.NameLemmas.{named}
+use Rattle.clone_buffer.specs.Buffered.{Buffered, IsBuffer, Shown, Shows}
+use Rattle.clone_buffer.specs.OnePage.{Flushes, frame_in, frame_of}
+use Rattle.clone_buffer.specs.Keeping.{IsKeptPage, IsKept, Stands}
+use Rattle.clone_buffer.specs.Writing.{after_records, HasFrame, IsOnPage, any_names, written, Writes, Creates, MakesSpace}
+use Rattle.clone_buffer.proofs.PageLemmas.{passed_page, changed_page}
+use Rattle.clone_buffer.proofs.FrameLemmas.{holder_name, frame_in-old}
+use Rattle.clone_buffer.proofs.KeepLemmas.{stands_there, shown_there}
+use Rattle.clone_buffer.proofs.WriteLemmas.{holder-after, frame-after, changed_by, unnamed_stays, named_oldest, named_flush, stays_held, shows_records, of_named, Ready, ready_there, passes_all, resets_none}
+
+-- the pages that a log makes with one mini-transaction more
+pub replayed-push : (log : List (List Record)) (records : List Record) (end : ℕ) → end ≡ ends log + length (spelling records) → replayed (log ++ records ∷ []) ≡ image_is.after_records end (replayed log) records
+replayed-push log records end is = after_log-push first_lsn finite.empty log records end is
+
+-- the log's end
+ends-push : (log : List (List Record)) (records : List Record) → ends (log ++ records ∷ []) ≡ ends log + length (spelling records)
+ends-push log records = omega (arith, ap length (log_of-push log records), length-append (log_of log) (spelling records))
+
+-- the invariant of a buffer, where the frames show their pages
+pub IsBuffer-written : (v : Buffered) (records : List Record) → IsBuffer v → IsSpelled records → length (spelling records) ≤ free_in v.ring → (IsTrue v.right → Shows (replayed (v.log ++ records ∷ [])) (written records v).pool.frames) → IsBuffer (written records v)
+IsBuffer-written v records b spelled room shows = record {
+  bytes = ap (λ xs. xs ++ spelling records) b.bytes ∙ sym (drop-append-le (v.ring.floor - first_lsn) (log_of v.log) (spelling records) within) ∙ ap (drop (v.ring.floor - first_lsn)) (sym (log_of-push v.log records));
+  end = omega (arith, b.end, ends-push v.log records, length-append v.ring.bytes (spelling records));
+  below = omega (arith, b.end, room, ends-push v.log records);
+  spelled = All-push v.log records b.spelled spelled;
+  shows = shows;
+}
+  where
+    within : v.ring.floor - first_lsn ≤ length (log_of v.log)
+    within = omega (arith, b.end, ap length b.bytes, length-drop (v.ring.floor - first_lsn) (log_of v.log))
+
+-- they do where each record is on a page that is there
+pub shows_written : (v : Buffered) (records : List Record) → IsPool v.pool → end_of (ends v.log) records ≡ ring.end_of v.ring + length (spelling records) → AllByRecursion EditsPages records → AllByRecursion (IsOnPage (replayed v.log)) records → Shows (replayed v.log) v.pool.frames → Shows (replayed (v.log ++ records ∷ [])) (written records v).pool.frames
+shows_written v records p end edits on shows =
+    subst (λ (i : Image). Shows i (written records v).pool.frames) (sym (replayed-push v.log records _ (sym end)))
+    (shows_records records (replayed v.log) v.pool (ring.end_of v.ring) (ring.end_of v.ring + length (spelling records)) edits p.once (λ at. ready_there (replayed v.log) records (frame_at v.pool.frames at).content (frame_at v.pool.frames at).page on (shows at)))
+
+-- a page that its frame shows
+shown_held : (image : Image) (content : Content) (bytes : List ℕ) (page : PageName) → Shown image content bytes → name_in content ≡ Some page → is_fresh content ≡ false → page_of image page.space page.number ≡ Some bytes
+shown_held image Unused bytes page shown is old = let none : None ≡ Some page = is in absurd (cc)
+shown_held image (Fresh name) bytes page shown is old = absurd (true≢false old)
+shown_held image (Held name) bytes page shown is old = let same : name ≡ page = cc in subst (λ (n : PageName). page_of image n.space n.number ≡ Some bytes) same shown
+
+not_fresh : (image : Image) (content : Content) (bytes : List ℕ) (page : PageName) → Shown image content bytes → name_in content ≡ Some page → IsSome (page_of image page.space page.number) → is_fresh content ≡ false
+not_fresh image Unused bytes page shown is there = refl
+not_fresh image (Fresh name) bytes page shown is there =
+    let same : name ≡ page = cc in
+    let none : page_of image page.space page.number ≡ None = subst (λ (n : PageName). page_of image n.space n.number ≡ None) same shown.0 in absurd (false≢true (subst IsSome none there))
+not_fresh image (Held name) bytes page shown is there = refl
+
+some_of : (o : Option ℕ) → IsSome o → (at : ℕ) × (o ≡ Some at)
+some_of None there = absurd (false≢true there)
+some_of (Some at) there = (at, refl)
+
+module _ (v : Buffered) (flushes : Flushes) (m : DiskImage) (records : List Record) (p : IsPool v.pool) (b : IsBuffer v) (spelled : IsSpelled records) (room : length (spelling records) ≤ free_in v.ring)
+    (edits : AllByRecursion EditsPages records) (frames : AllByRecursion (HasFrame v.pool.frames) records) (there : IsTrue v.right → AllByRecursion (IsOnPage (replayed v.log)) records) (k : IsKept v flushes m) where
+  abbrev start : ℕ
+  start = ring.end_of v.ring
+
+  abbrev end : ℕ
+  end = ring.end_of v.ring + length (spelling records)
+
+  abbrev new : Frames
+  new = after_records records start end v.pool
+
+  abbrev longer : List (List Record)
+  longer = v.log ++ records ∷ []
+
+  after : IsBuffer (written records v)
+  after = IsBuffer-written v records b spelled room (λ t. shows_written v records p (sym (ap (λ n. n + length (spelling records)) b.end)) edits (there t) (b.shows t))
+
+  small : ends v.log + length (spelling records) < 2 ^ 64
+  small = omega (arith, after.below, ends-push v.log records)
+
+  -- a page that no record names
+  passed : (space number : ℕ) → any_names (record { space = space; number = number }) records ≡ false → IsKeptPage longer flushes m space number (frame_of new.frames space number)
+  passed space number miss =
+      let page : PageName = record { space = space; number = number } in
+      let by = passes_all (end_of (ends v.log) records) space number records edits miss in
+      subst (IsKeptPage longer flushes m space number) (sym (ap (frame_in new.frames) (holder-after records start end v.pool page) ∙ same_frame page miss (holder v.pool.frames page) refl))
+      (passed_page v.log flushes m space number records (frame_of v.pool.frames space number) (suits_unnamed space number v.log records small by.unnamed) (others_pass space number v.log records by.passing) (k.page space number))
+    where
+      same_frame : (page : PageName) → any_names page records ≡ false → (o : Option ℕ) → holder v.pool.frames page ≡ o → frame_in new.frames o ≡ frame_in v.pool.frames o
+      same_frame page miss None is = refl
+      same_frame page miss (Some at) is = ap (λ (f : Frame). if is_fresh f.content then None else Some f) (frame-after records start end v.pool page at is ∙ unnamed_stays page records start end (frame_at v.pool.frames at) miss)
+
+  -- a page that a record names
+  renewed : (space number : ℕ) → any_names (record { space = space; number = number }) records ≡ true → IsKeptPage longer flushes m space number (frame_of new.frames space number)
+  renewed space number hits =
+      let page : PageName = record { space = space; number = number } in
+      let held = some_of (holder v.pool.frames page) (of_named (λ n. IsSome (holder v.pool.frames n)) page records hits frames) in
+      let on : IsSome (page_of (replayed v.log) space number) = of_named (λ n. IsSome (page_of (replayed v.log) n.space n.number)) page records hits (there k.right) in
+      let at : ℕ = held.0 in
+      let f : Frame = frame_at v.pool.frames at in
+      let g : Frame = changed_by page records start end f in
+      let name : name_of f ≡ Some page = (holder_name v.pool.frames page at held.1).1 in
+      let old : is_fresh f.content ≡ false = not_fresh (replayed v.log) f.content f.page page (b.shows k.right at) name on in
+      let stay = stays_held page records start end f old in
+      let becomes : frame_at new.frames at ≡ g = frame-after records start end v.pool page at held.1 in
+      let was : page_of (replayed v.log) space number ≡ Some f.page = shown_there (replayed v.log) f.content f.page page (b.shows k.right at) name on in
+      let shows : Shown (replayed longer) g.content g.page = subst (λ (h : Frame). Shown (replayed longer) h.content h.page) becomes (after.shows k.right at) in
+      let is : page_of (replayed longer) space number ≡ Some g.page = shown_held (replayed longer) g.content g.page page shows (stay.1 ∙ name) stay.0 in
+      let stood : redone space number v.log ≡ stands f.page = stands_there v.log space number f.page (omega (arith, small)) was in
+      let suits : Suits space number v.log records = suits_there space number v.log records f.page small stood (resets_none (end_of (ends v.log) records) space number records edits) in
+      let from : start ≡ ends v.log = b.end in
+      let had : frame_of v.pool.frames space number ≡ Some f = ap (frame_in v.pool.frames) held.1 ∙ frame_in-old v.pool.frames at old in
+      let has : frame_of new.frames space number ≡ Some g = ap (frame_in new.frames) (holder-after records start end v.pool page ∙ held.1) ∙ ap (λ (h : Frame). if is_fresh h.content then None else Some h) becomes ∙ ap (λ (t : Bool). if t then None else Some g) stay.0 in
+      subst (IsKeptPage longer flushes m space number) (sym has)
+      (changed_page v.log flushes m space number records f g suits stood (stands_there longer space number g.page (omega (arith, after.below)) is)
+       (named_oldest page records start end f hits ∙ ap (λ (s : ℕ). Some (unwrap_or f.oldest s)) from) (named_flush page records start end f hits ∙ ap (λ (s : ℕ). noted s f.flush) from)
+       (subst (IsKeptPage v.log flushes m space number) had (k.page space number)))
+
+  pub kept_written : IsKept (written records v) flushes m
+  kept_written = record { right = k.right; page = λ space number. by space number (any_names (record { space = space; number = number }) records) refl }
+    where
+      by : (space number : ℕ) (t : Bool) → any_names (record { space = space; number = number }) records ≡ t → IsKeptPage longer flushes m space number (frame_of new.frames space number)
+      by space number false is = passed space number is
+      by space number true is = renewed space number is
+
+-- a buffer over a disk stands after a write
+pub stands_written : (v w : Buffered) (flushes : Flushes) (told : Option DiskImage) (records : List Record) → IsPool v.pool → IsBuffer v → IsSpelled records → length (spelling records) ≤ free_in v.ring → AllByRecursion EditsPages records → AllByRecursion (HasFrame v.pool.frames) records
+    → (IsTrue v.right → AllByRecursion (IsOnPage (replayed v.log)) records) → w ≡ written records v → Stands v flushes told → Stands w flushes told
+stands_written v w flushes told records p b spelled room edits frames there is st = subst (λ (u : Buffered). Stands u flushes told) (sym is) (by told st)
+  where
+    by : (t : Option DiskImage) → Stands v flushes t → Stands (written records v) flushes t
+    by None st = tt
+    by (Some m) k = kept_written v flushes m records p b spelled room edits frames there k
+
+-- the parts of a buffer once a mini-transaction was written
+pub written_is : (v w : Buffered) (records : List Record) (text : List ℕ) (start end : ℕ) → text ≡ spelling records → w.log ≡ v.log ++ records ∷ [] → w.right ≡ v.right → w.ring ≡ ring.appended text v.ring → start ≡ ring.end_of v.ring → end ≡ ring.end_of w.ring
+    → w.pool ≡ after_records records start end v.pool → w ≡ written records v
+written_is v w records text start end spelled log right window from to pool =
+    let kept : w.ring ≡ ring.appended (spelling records) v.ring = window ∙ ap (λ xs. ring.appended xs v.ring) spelled in
+    let behind : end ≡ ring.end_of v.ring + length (spelling records) = to ∙ ap ring.end_of kept ∙ omega (arith, length-append v.ring.bytes (spelling records)) in
+    let frames : w.pool ≡ after_records records (ring.end_of v.ring) (ring.end_of v.ring + length (spelling records)) v.pool = pool ∙ (λ i. after_records records (from i) (behind i) v.pool) in
+    λ i. record { log = log i; right = right i; ring = kept i; pool = frames i }
+
+-- A mini-transaction that makes a space.
+
+-- a frame is ready for the records behind
+ready_made : (v : Buffered) (space pages : ℕ) (rest : List Record) (at : ℕ) (content : Content) (bytes : List ℕ) → MakesSpace v space pages rest → IsTrue v.right → (frame_at v.pool.frames at).content ≡ content → Shown (replayed v.log) content bytes
+    → Ready (finite.insert (replayed v.log) space (replicate pages zero_page)) rest content bytes
+ready_made v space pages rest at Unused bytes makes right is shown = tt
+ready_made v space pages rest at (Held name) bytes makes right is shown = page_of-elsewhere (replayed v.log) space pages name.space name.number (makes.unheld at name is) ∙ shown
+ready_made v space pages rest at (Fresh name) bytes makes right is shown = by (cases_eq name.space space) (cases_lt name.number pages)
+  where
+    made : Image
+    made = finite.insert (replayed v.log) space (replicate pages zero_page)
+
+    absent : page_of made name.space name.number ≡ None → Ready made rest (Fresh name) bytes
+    absent none = inr (none, (unnamed (any_names name rest) refl, shown.1))
+      where
+        unnamed : (t : Bool) → any_names name rest ≡ t → any_names name rest ≡ false
+        unnamed false miss = miss
+        unnamed true hits = absurd (false≢true (subst IsSome none (of_named (λ n. IsSome (page_of made n.space n.number)) name rest hits (makes.there right))))
+
+    by : (name.space ≡ space) ⊎ (name.space ≢ space) → (name.number < pages) ⊎ (pages ≤ name.number) → Ready made rest (Fresh name) bytes
+    by (inl same) (inl low) = inl (ap (λ s. page_of made s name.number) same ∙ page_of-made (replayed v.log) space pages name.number low ∙ ap Some (sym shown.1), makes.named at name is same low)
+    by (inl same) (inr past) = absent (ap (λ s. page_of made s name.number) same ∙ page_of-past (replayed v.log) space pages name.number past)
+    by (inr other) either = absent (page_of-elsewhere (replayed v.log) space pages name.space name.number other ∙ shown.0)
+
+pub shows_created : (v : Buffered) (records : List Record) → IsPool v.pool → end_of (ends v.log) records ≡ ring.end_of v.ring + length (spelling records) → Creates v records → IsTrue v.right → Shows (replayed v.log) v.pool.frames → Shows (replayed (v.log ++ records ∷ [])) (written records v).pool.frames
+shows_created v [] p behind makes right shows = absurd makes
+shows_created v (record_is.Init space number kind ∷ rest) p behind makes right shows = absurd makes
+shows_created v (record_is.Write space number patch ∷ rest) p behind makes right shows = absurd makes
+shows_created v (record_is.Extend space pages ∷ rest) p behind makes right shows = absurd makes
+shows_created v (record_is.Drop space ∷ rest) p behind makes right shows = absurd makes
+shows_created v (record_is.Create space pages ∷ rest) p behind makes right shows =
+    let records : List Record = record_is.Create space pages ∷ rest in
+    subst (λ (i : Image). Shows i (written records v).pool.frames) (sym (replayed-push v.log records _ (sym behind)))
+    (shows_records rest (finite.insert (replayed v.log) space (replicate pages zero_page)) v.pool (ring.end_of v.ring) (ring.end_of v.ring + length (spelling records)) makes.edits p.once
+     (λ at. ready_made v space pages rest at (frame_at v.pool.frames at).content (frame_at v.pool.frames at).page makes right refl (shows at)))
+
+-- whatever a write answers
+pub stands_result : (v w : Buffered) (flushes : Flushes) (told : Option DiskImage) (records : List Record) (result : Result ℕ LogFull) → IsPool v.pool → IsBuffer v → IsSpelled records → AllByRecursion EditsPages records → AllByRecursion (HasFrame v.pool.frames) records
+    → (IsTrue v.right → AllByRecursion (IsOnPage (replayed v.log)) records) → Writes records v w result → Stands v flushes told → Stands w flushes told
+stands_result v w flushes told records (Ok lsn) p b spelled edits frames there writes st = stands_written v w flushes told records p b spelled writes.0 edits frames there writes.1 st
+stands_result v w flushes told records (Err full) p b spelled edits frames there writes st = subst (λ (u : Buffered). Stands u flushes told) (sym writes.2) st

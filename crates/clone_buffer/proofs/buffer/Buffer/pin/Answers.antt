@@ -1,0 +1,16 @@
+use Rattle.std.proofs.Common.{ap, subst, sym}
+use Rattle.clone_pool.specs.Frames.{frame_at, HoldsPage}
+use Rattle.clone_pool.specs.Pool.{Frames, IsPool}
+use Rattle.clone_pool.proofs.PoolLemmas.{within}
+use Rattle.clone_buffer.specs.Buffered.{Buffered}
+use Rattle.clone_buffer.specs.Keeping.{Stands}
+use Rattle.clone_buffer.proofs.MoveLemmas.{stands_pinned}
+use Rattle.clone_buffer.proofs.buffer.Buffer.pin.Goals as goal
+
+pub returns-clause-stands : goal.returns-clause-stands
+returns-clause-stands c =
+    let i = c.self.inside in
+    let v : Buffered = record { log = i.shadow.state.log; right = i.shadow.state.right; ring = i.ring; pool = i.pool } in
+    let holds = subst (λ (s : Buffered). HoldsPage (frame_at s.pool.frames c.args.at)) (sym c.self.view_is) c.requires.holds in
+    λ flushes told st. stands_pinned v (record v { pool = c.pin.new.self }) flushes told c.args.at c.laws.ensures (subst IsPool c.pin.ensures c.laws-2.ensures) (within i.pool.frames c.args.at holds)
+    (ap (λ (w : Frames). record v { pool = w }) c.pin.ensures) (subst (λ (s : Buffered). Stands s flushes told) (sym c.self.view_is) st)

@@ -1,0 +1,13 @@
+use Rattle.std.proofs.Common.{◌+◌, ℕ, length, ap, sym, subst}
+use Rattle.clone_mtr.specs.Spelling.{spelling}
+use Rattle.clone_pool.specs.Pool.{IsPool}
+use Rattle.clone_buffer.specs.Buffered.{Buffered, IsBuffer}
+use Rattle.clone_buffer.proofs.WrittenLemmas.{shows_created}
+use Rattle.clone_buffer.proofs.buffer.Buffer.write_space.Goals as goal
+
+pub append-requires-clause-shows : goal.append-requires-clause-shows
+append-requires-clause-shows c =
+    let records = c.args.records.now in
+    let pool = subst (λ (s : Buffered). IsPool s.pool) c.self.view_is c.laws.ensures in
+    let buffer = subst IsBuffer c.self.view_is c.self.invariant in
+    λ t. shows_created c.args.self.now records pool (sym (ap (λ (n : ℕ). n + length (spelling records)) buffer.end)) c.requires.creates t (buffer.shows t)

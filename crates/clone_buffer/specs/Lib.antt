@@ -1,0 +1,4 @@
+pub mod Buffered
+pub mod OnePage
+pub mod Keeping
+pub mod Writing

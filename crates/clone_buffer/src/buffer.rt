@@ -1,0 +1,327 @@
+ghost use Rattle.std.specs.Prelude.{◌≡◌, ◌<◌, ◌≤◌, ◌+◌, ◌-◌, ◌^◌, ◌↔◌, ℕ, [], None, Some, IfOk, IfNone, IfSome, OnErr, IsSome, IsTrue, length, take, drop, replicate};
+ghost use Rattle.std.specs.Option.{ForSome};
+ghost use Rattle.clone_outside.specs.Causes.{Rose};
+ghost use Rattle.clone_buffer.specs.Writing.{after_records, changed_at, named_frame};
+ghost use Rattle.std.specs.List.{AllByRecursion};
+ghost use Rattle.clone_mtr.specs.Records.{IsRecord};
+ghost use Rattle.clone_mtr.specs.Spelling.{spelling, Spells, longest, log_of};
+ghost use Rattle.clone_ring.specs.Window.{empty, end_of, free_in, raised};
+ghost use Rattle.clone_image.specs.Image.{page_of, EditsPages};
+ghost use Rattle.clone_image.specs.Replay.{Replays, IsSpelled};
+ghost use Rattle.clone_pool.specs.Frames.{no_frame, frame_at, holder, HoldsPage, page_changed, pinned, unpinned};
+ghost use Rattle.clone_pool.specs.Pool.{IsPool, Fetches, Freshens, IsHolder, KeepsOthers, KeepsInUse, AreClean, IsOldest, HasPinRoom, with_frame};
+
+use clone_mtr::{LONGEST_MTR, Record, encode_into};
+use clone_outside::PageDisk;
+use clone_page::Page;
+use clone_pool::{FetchRefusal, PageName, Pool};
+use clone_ring::{LogFull, Ring};
+use clone_shadow::{Note, Shadow};
+use std::alloc::{AllocError, Global};
+use std::marker::Model;
+
+/// The pages of a donor in frames, and the redo log from its floor on. After it is made no call takes memory.
+///
+/// Contracts speak of the whole log and of the pages that it makes. `right` says that each page that was read so
+/// far was the one that the log made by then: as long as it holds, each frame has the page of the log. Over a disk
+/// that tells what it holds, and agrees with the log, it stays true: that is `Stands`.
+#[derive(Drop)]
+pub struct Buffer {
+    pool: Pool,
+    ring: Ring,
+    shadow: Shadow,
+}
+
+impl Model for Buffer {
+    ghost use Rattle.clone_buffer.specs.Buffered.{Buffered, IsBuffer};
+
+    ghost Value = { Buffered };
+
+    ghost view = { λ b. record { log = b.shadow.state.log; right = b.shadow.state.right; ring = b.ring; pool = b.pool } };
+
+    ghost invariant = { λ b. IsBuffer (record { log = b.shadow.state.log; right = b.shadow.state.right; ring = b.ring; pool = b.pool }) };
+}
+
+impl Buffer {
+    ghost use Rattle.std.specs.declared.option.Option.{Option};
+    ghost use Rattle.clone_outside.specs.Disk.{DiskImage, blank};
+    ghost use Rattle.clone_buffer.specs.Writing.{HasFrame, IsOnPage, Creates, Writes, written};
+    ghost use Rattle.clone_buffer.specs.Buffered.{image_of, IsBuffer, Shows};
+    ghost use Rattle.clone_buffer.specs.OnePage.{Flushes, unflushed};
+    ghost use Rattle.clone_buffer.specs.Keeping.{IsKept, Stands, DiskIsFrames};
+
+    /// So many frames without pages, and an empty log in a ring of so many bytes.
+    pub fn new(alloc: Global, frames: u32, ring: u64) -> Result<Buffer, AllocError>
+        ensures log { IfOk result (λ b. b.log ≡ []) }
+        ensures right { IfOk result (λ b. IsTrue b.right) }
+        ensures ring { IfOk result (λ b. b.ring ≡ empty ring) }
+        ensures pool { IfOk result (λ b. b.pool ≡ record { frames = replicate frames no_frame; uses = 0 }) }
+        ensures stands { IfOk result (λ b. Stands b unflushed (Some blank)) }
+    {
+        Ok(Buffer {
+            pool: Pool::new(alloc, frames)?,
+            ring: Ring::new(alloc, ring)?,
+            shadow: Shadow::new(),
+        })
+    }
+
+    /// Brings a page into a frame, and answers the frame's number. It counts as a use of the frame.
+    ///
+    /// The error is `PoolFull` exactly where the page has no frame and each frame is pinned or dirty, and nothing
+    /// has changed then; or `DiskFault`, and the frame that was to make place has no page then.
+    pub fn fetch<D: PageDisk>(
+        &mut self,
+        disk: &mut D,
+        space: u32,
+        number: u32,
+    ) -> Result<u32, FetchRefusal>
+        requires there { IsTrue self.old.right → IsSome (page_of (image_of self.old) space number) }
+        ensures answer { Fetches (record { space = space; number = number }) self.old.pool self.new.pool result }
+        ensures held { IfOk result (IsHolder (record { space = space; number = number }) self.new.pool.frames) }
+        ensures others { IfOk result (λ at. KeepsOthers at self.old.pool.frames self.new.pool.frames) }
+        ensures kept { KeepsInUse self.old.pool.frames self.new.pool.frames }
+        ensures log { self.new.log ≡ self.old.log }
+        ensures ring { self.new.ring ≡ self.old.ring }
+        ensures right { IfOk result (λ at. IsTrue self.new.right ↔ (IsTrue self.old.right × (page_of (image_of self.old) space number ≡ Some (frame_at self.new.pool.frames at).page))) }
+        ensures refused { OnErr result (self.new.right ≡ self.old.right) }
+        ensures fault { result ≡ Err FetchRefusal.DiskFault → Rose (D.failures disk.old) (D.failures disk.new) }
+        ensures disk { D.told disk.new ≡ D.told disk.old }
+        ensures stands { (flushes : Flushes) → Stands self.old flushes (D.told disk.old) → Stands self.new flushes (D.told disk.new) }
+    {
+        self.pool.laws();
+        let fetched = self.pool.fetch(disk, space, number);
+        self.pool.laws();
+        let at = fetched?;
+        self.shadow = self.shadow.then(&Note::Read(space, number, self.pool.frame(at)));
+        Ok(at)
+    }
+
+    /// Takes a frame for a new page of zero bytes, which isn't there yet, and answers the frame's number. The page is
+    /// pinned, and it counts as a use of the frame. A new page that has a frame is pinned there once more.
+    ///
+    /// The error is `PoolFull` exactly where the page has no frame and each frame is pinned or dirty, and nothing
+    /// has changed then. Until a mini-transaction makes the page, it goes with its last pin.
+    pub fn fresh(&mut self, space: u32, number: u32) -> Result<u32, FetchRefusal>
+        requires room { ForSome (holder self.old.pool.frames (record { space = space; number = number })) (λ at. HasPinRoom (frame_at self.old.pool.frames at)) }
+        requires absent { IsTrue self.old.right → page_of (image_of self.old) space number ≡ None }
+        ensures answer { Freshens (record { space = space; number = number }) self.old.pool self.new.pool result }
+        ensures held { IfOk result (IsHolder (record { space = space; number = number }) self.new.pool.frames) }
+        ensures same { self.new ≡ record self.old { pool = self.new.pool } }
+        ensures stands { (flushes : Flushes) (told : Option DiskImage) → Stands self.old flushes told → Stands self.new flushes told }
+    {
+        self.pool.laws();
+        let taken = self.pool.fresh(space, number);
+        self.pool.laws();
+        taken
+    }
+
+    /// The number of the frame that holds a page, if one does.
+    pub fn find(&self, space: u32, number: u32) -> Option<u32>
+        ensures holder { result ≡ holder self.now.pool.frames (record { space = space; number = number }) }
+        ensures held { IfSome result (IsHolder (record { space = space; number = number }) self.now.pool.frames) }
+    {
+        self.pool.find(PageName { space, number })
+    }
+
+    /// The page in a frame.
+    pub fn frame(&self, at: u32) -> &Page
+        requires { HoldsPage (frame_at self.now.pool.frames at) }
+        ensures { result.now ≡ (frame_at self.now.pool.frames at).page }
+    {
+        self.pool.frame(at)
+    }
+
+    /// Keeps the page in its frame until it is unpinned as often.
+    pub fn pin(&mut self, at: u32)
+        requires holds { HoldsPage (frame_at self.old.pool.frames at) }
+        requires room { HasPinRoom (frame_at self.old.pool.frames at) }
+        ensures pinned { self.new ≡ record self.old { pool = with_frame at pinned self.old.pool } }
+        ensures stands { (flushes : Flushes) (told : Option DiskImage) → Stands self.old flushes told → Stands self.new flushes told }
+    {
+        self.pool.laws();
+        self.pool.pin(at);
+        self.pool.laws();
+    }
+
+    /// Takes a pin away. A new page that no change made goes with its last pin.
+    pub fn unpin(&mut self, at: u32)
+        requires holds { HoldsPage (frame_at self.old.pool.frames at) }
+        requires pinned { 0 < (frame_at self.old.pool.frames at).pins }
+        ensures unpinned { self.new ≡ record self.old { pool = with_frame at unpinned self.old.pool } }
+        ensures stands { (flushes : Flushes) (told : Option DiskImage) → Stands self.old flushes told → Stands self.new flushes told }
+    {
+        self.pool.laws();
+        self.pool.unpin(at);
+        self.pool.laws();
+    }
+
+    /// Writes a mini-transaction to the log, does to the pages in their frames what its records say, and answers the
+    /// log's end. Each page that a record names has a frame, and is there.
+    ///
+    /// It is refused exactly where its spelling has more bytes than are free, and nothing has changed then.
+    pub fn write(&mut self, records: &[Record]) -> Result<u64, LogFull>
+        requires some { 1 ≤ length records.now }
+        requires short { length (spelling records.now) ≤ longest }
+        requires edits { AllByRecursion EditsPages records.now }
+        requires framed { AllByRecursion (HasFrame self.old.pool.frames) records.now }
+        requires there { IsTrue self.old.right → AllByRecursion (IsOnPage (image_of self.old)) records.now }
+        ensures written { Writes records.now self.old self.new result }
+        ensures stands { (flushes : Flushes) (told : Option DiskImage) → Stands self.old flushes told → Stands self.new flushes told }
+    {
+        self.pool.laws();
+        self.append(records)
+    }
+
+    /// Writes a mini-transaction whose first record makes a space, and whose other records change pages that are
+    /// there then: pages that were there before, or new pages of the space, each in a frame that `fresh` gave.
+    ///
+    /// It is refused exactly where its spelling has more bytes than are free, and nothing has changed then.
+    pub fn write_space(&mut self, records: &[Record]) -> Result<u64, LogFull>
+        requires some { 1 ≤ length records.now }
+        requires short { length (spelling records.now) ≤ longest }
+        requires creates { Creates self.old records.now }
+        ensures written { Writes records.now self.old self.new result }
+    {
+        self.pool.laws();
+        self.append(records)
+    }
+
+    // Writes a mini-transaction that leaves frames which show their pages.
+    fn append(&mut self, records: &[Record]) -> Result<u64, LogFull>
+        requires some { 1 ≤ length records.now }
+        requires short { length (spelling records.now) ≤ longest }
+        requires shows { IsTrue self.old.right → Shows (image_of (written records.now self.old)) (written records.now self.old).pool.frames }
+        ensures written { Writes records.now self.old self.new result }
+        ensures spelled { IsSpelled records.now }
+    {
+        let mut spelled = [0; LONGEST_MTR];
+        let length = spell(records, &mut spelled);
+        let start = self.ring.end();
+        let end = self.ring.append(&spelled[..length])?;
+        change_frames(&mut self.pool, records, start, end);
+        self.shadow = self.shadow.then(&Note::Wrote(records));
+        Ok(end)
+    }
+
+    /// How many bytes the log may grow by before its floor rises.
+    pub fn free(&self) -> u64
+        ensures { result ≡ free_in self.now.ring }
+    {
+        self.ring.free()
+    }
+
+    /// The LSN behind the log's last byte.
+    pub fn end(&self) -> u64
+        ensures { result ≡ end_of self.now.ring }
+    {
+        self.ring.end()
+    }
+
+    /// The LSN of the first byte of the log that is kept.
+    pub fn floor(&self) -> u64
+        ensures { result ≡ self.now.ring.floor }
+    {
+        self.ring.floor()
+    }
+
+    /// Fills the slice with the bytes of the log from an LSN on.
+    pub fn read_log(&self, from: u64, into: &mut [u8])
+        requires above { self.now.ring.floor ≤ from }
+        requires within { from + length into.old ≤ end_of self.now.ring }
+        ensures { into.new ≡ take (length into.old) (drop (from - self.now.ring.floor) self.now.ring.bytes) }
+    {
+        self.ring.read(from, into);
+    }
+
+    /// Lets the bytes of the log below an LSN go.
+    pub fn raise_floor(&mut self, lsn: u64)
+        requires above { self.old.ring.floor ≤ lsn }
+        requires within { lsn ≤ end_of self.old.ring }
+        ensures floor { self.new ≡ record self.old { ring = raised lsn self.old.ring } }
+    {
+        self.ring.raise_floor(lsn);
+    }
+
+    /// The LSN at which the oldest change begins that isn't on the disk, or none where no page is dirty.
+    pub fn oldest(&self) -> Option<u64>
+        ensures none { IfNone result (AreClean self.now.pool.frames) }
+        ensures some { IfSome result (IsOldest self.now.pool.frames) }
+    {
+        self.pool.oldest()
+    }
+
+    /// What holds of every buffer. The pages are what the log leaves of none.
+    pub fn laws(&self)
+        ensures buffer { IsBuffer self.now }
+        ensures pool { IsPool self.now.pool }
+        ensures replays { Replays (log_of self.now.log) (image_of self.now) }
+    {
+        self.pool.laws();
+    }
+
+    /// Where the buffer stands over a disk, the disk's page with its redo is the frame.
+    pub fn disk_laws(&self)
+        ensures { (flushes : Flushes) (m : DiskImage) → IsKept self.now flushes m → DiskIsFrames self.now m }
+    {
+        let _ = &self.pool;
+    }
+}
+
+// Each record changes the frame of the page that it names.
+fn change_frames(pool: &mut Pool, records: &[Record], start: u64, end: u64)
+    requires { start < end }
+    ensures { pool.new ≡ after_records records.now start end pool.old }
+{
+    for entry in records {
+        change_frame(pool, entry, start, end);
+    }
+}
+
+// A record changes the frame of the page that it names, if that has one.
+fn change_frame(pool: &mut Pool, entry: &Record, start: u64, end: u64)
+    requires { start < end }
+    ensures { pool.new ≡ changed_at (named_frame pool.old.frames entry.now) entry.now start end pool.old }
+{
+    let Some(name) = page_changed(entry) else {
+        return;
+    };
+    if let Some(at) = pool.find(name) {
+        pool.change(at, entry, start, end);
+    }
+}
+
+// The page that a record changes.
+fn page_changed(entry: &Record) -> Option<PageName>
+    ensures { result ≡ page_changed entry.now }
+{
+    match entry {
+        Record::Init { space, page, .. } | Record::Write { space, page, .. } => Some(PageName {
+            space: *space,
+            number: *page,
+        }),
+        Record::Extend { .. } | Record::Create { .. } | Record::Drop { .. } => None,
+    }
+}
+
+// Puts the spelling of a mini-transaction at the front of the bytes, and answers its length.
+fn spell(records: &[Record], into: &mut [u8; LONGEST_MTR]) -> usize
+    requires some { 1 ≤ length records.now }
+    requires short { length (spelling records.now) ≤ longest }
+    ensures within { result ≤ longest }
+    ensures spelled { Spells (take result into.new) records.now }
+{
+    all_known(records);
+    match encode_into(records, into) {
+        Ok(length) => length,
+        Err(_) => unreachable!(),
+    }
+}
+
+// Each record is in its ranges.
+fn all_known(records: &[Record])
+    ensures { AllByRecursion IsRecord records.now }
+{
+    for entry in records {
+        entry.known();
+    }
+}

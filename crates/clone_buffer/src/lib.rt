@@ -1,0 +1,6 @@
+//! The pages of a donor in the frames of a pool, and the redo log that made them.
+#![tactic(auto)]
+
+mod buffer;
+
+pub use buffer::Buffer;

@@ -1,0 +1,17 @@
+use crate::{Note, Shadow, sent};
+use clone_mtr::Record;
+use clone_page::Page;
+use std::mem::size_of;
+use std::test::Fail;
+
+#[test]
+fn a_shadow_has_no_bytes(rt: HostRuntime) -> Result<(), Fail> {
+    let records = [Record::Drop { space: 1 }];
+    let page = Page::zero();
+    let mut shadow = sent(Shadow::new());
+    for note in [Note::Wrote(&records), Note::Read(0, 0, &page)] {
+        shadow = shadow.then(&note);
+    }
+    assert_eq!(rt; size_of::<Shadow>(), 0);
+    Ok(())
+}
