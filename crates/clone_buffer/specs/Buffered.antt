@@ -1,7 +1,7 @@
 -- What contracts see of a buffer: the redo log, and the frames that show what it makes.
 use Rattle.std.specs.Prelude.{ℕ, ◌≡◌, ◌<◌, ◌-◌, Bool, List, None, Some, drop, IsTrue}
 use Rattle.std.specs.List.{AllByRecursion}
-use Rattle.clone_outside.specs.declared.mark.TheConstants.{LSN_LIMIT}
+use Rattle.clone_base.specs.declared.limits.TheConstants.{LSN_LIMIT}
 use Rattle.clone_page.specs.Header.{zero_page}
 use Rattle.clone_mtr.specs.declared.record.Record.{Record}
 use Rattle.clone_mtr.specs.Spelling.{log_of}

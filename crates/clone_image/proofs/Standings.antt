@@ -111,7 +111,7 @@ in_edited true n number edit None = same (n == number)
     same false = refl
 in_edited true n number edit (Some pages) = at_edited n number edit pages
 
-edited_is : (image : Image) (s n space number : ℕ) (edit : List ℕ → List ℕ) → standing_of (with_edit image s (edited n edit)) space number ≡ cond ((s == space) && (n == number)) (edited_standing edit (standing_of image space number)) (standing_of image space number)
+pub edited_is : (image : Image) (s n space number : ℕ) (edit : List ℕ → List ℕ) → standing_of (with_edit image s (edited n edit)) space number ≡ cond ((s == space) && (n == number)) (edited_standing edit (standing_of image space number)) (standing_of image space number)
 edited_is image s n space number edit = ap (λ o. standing_in o number) (get_edit image s space (edited n edit)) ∙ in_edited (s == space) n number edit (finite.get image space)
 
 -- zero pages

@@ -1,0 +1,23 @@
+use Rattle.std.proofs.Common.{subst}
+use Rattle.std.proofs.lemmas.Result.{on_ok_weaker}
+use Rattle.clone_overlay.specs.Covers.{Overlay, covers_of}
+use Rattle.clone_overlay.specs.Shown.{ShowsSame, ForShown, IsMisplaced}
+use Rattle.clone_overlay.proofs.Fetching.{fetched_ready, fetched_shows, gives_misplaced}
+use Rattle.clone_overlay.proofs.overlay.Overlay.fetch.Goals as goal
+
+pub returns-clause-ready : goal.returns-clause-ready
+returns-clause-ready g c =
+    on_ok_weaker c.fetch_in.result (fetched_ready (g.D.PageDisk.told c.args.disk.now) c.args.space c.args.number (covers_of c.self.inside.sheets.entries) (covers_of c.fetch_in.new.sheets.entries)) c.fetch_in.ensures.ok
+
+pub returns-clause-shows : goal.returns-clause-shows
+returns-clause-shows g c =
+    let told = g.D.PageDisk.told c.args.disk.now in
+    let new : Overlay = covers_of c.fetch_in.new.sheets.entries in
+    on_ok_weaker c.fetch_in.result
+    (λ f. subst (λ (o : Overlay). ShowsSame told o new) c.self.view_is (fetched_shows told c.args.space c.args.number (covers_of c.self.inside.sheets.entries) new f)) c.fetch_in.ensures.ok
+
+pub returns-clause-header : goal.returns-clause-header
+returns-clause-header g c = λ e.
+    let told = g.D.PageDisk.told c.args.disk.now in
+    subst (λ (o : Overlay). ForShown told o (IsMisplaced c.args.space c.args.number)) c.self.view_is
+    (gives_misplaced told c.args.space c.args.number (covers_of c.self.inside.sheets.entries) (c.fetch_in.ensures.header e))

@@ -1,0 +1,11 @@
+//! Pages that are changed over those of a page disk, before any of them is written.
+#![tactic(auto)]
+
+mod overlay;
+mod sheet;
+
+pub use overlay::{FetchRefusal, Overlay, REDO_SPACE, Sheets};
+pub use sheet::{Leaves, Sheet};
+
+#[cfg(test)]
+mod tests;
