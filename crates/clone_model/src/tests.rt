@@ -111,39 +111,47 @@ fn a_binlog_read_back(rt: HostRuntime) -> Result<(), ReadRefusal> {
 }
 
 #[test]
-fn lines_without_a_row(rt: HostRuntime) -> Result<(), Fail> {
-    let table = TableNumber::new(1).ok_or("in range")?;
-    let buckets = BucketCount::new(16).ok_or("in range")?;
-    check_line(&rt, &Line::Create { table, buckets }, "create 1 16")?;
-    check_line(&rt, &Line::Begin { writer: 3 }, "begin 3")?;
-    check_line(&rt, &Line::Undo { trx: 0 }, "undo 0")?;
-    check_line(&rt, &Line::Commit { trx: u32::MAX }, "commit 4294967295")?;
-    check_line(&rt, &Line::Clone, "clone")?;
-    check_line(&rt, &Line::Rows, "rows")
-}
-
-#[test]
-fn lines_with_a_row(rt: HostRuntime) -> Result<(), Fail> {
+fn texts_of_lines(rt: HostRuntime) -> Result<(), Fail> {
     let (trx, key) = (2, u64::MAX);
+    let buckets = BucketCount::new(16).ok_or("in range")?;
+    let first = TableNumber::new(1).ok_or("in range")?;
     let table = TableNumber::new(1_000_000).ok_or("in range")?;
+    let empty = script_value(rt.alloc(), b"")?;
+    let value = script_value(rt.alloc(), b"hi")?;
     let put = Line::Put {
         trx,
         table,
         key,
-        value: script_value(rt.alloc(), b"")?,
+        value: empty,
     };
-    check_line(&rt, &put, "put 2 1000000 18446744073709551615 -")?;
-    let delete = Line::Delete { trx, table, key };
-    check_line(&rt, &delete, "del 2 1000000 18446744073709551615")?;
-    let get = Line::Get { trx, table, key };
-    check_line(&rt, &get, "get 2 1000000 18446744073709551615")?;
     let set = Line::Set {
         writer: 0,
         table,
         key: 7,
-        value: script_value(rt.alloc(), b"hi")?,
+        value,
     };
-    check_line(&rt, &set, "set 0 1000000 7 6869")
+    let create = Line::Create {
+        table: first,
+        buckets,
+    };
+    let delete = Line::Delete { trx, table, key };
+    let get = Line::Get { trx, table, key };
+    let lines = [
+        (create, "create 1 16"),
+        (Line::Begin { writer: 3 }, "begin 3"),
+        (put, "put 2 1000000 18446744073709551615 -"),
+        (delete, "del 2 1000000 18446744073709551615"),
+        (get, "get 2 1000000 18446744073709551615"),
+        (Line::Undo { trx: 0 }, "undo 0"),
+        (Line::Commit { trx: u32::MAX }, "commit 4294967295"),
+        (set, "set 0 1000000 7 6869"),
+        (Line::Clone, "clone"),
+        (Line::Rows, "rows"),
+    ];
+    for (line, text) in &lines {
+        assert_eq!(rt; line_text(rt.alloc(), line)?.as_str(), *text);
+    }
+    Ok(())
 }
 
 #[test]
@@ -184,19 +192,23 @@ fn values_read_for_a_script(rt: HostRuntime) -> Result<(), Fail> {
 fn what_a_history_leaves(rt: HostRuntime) -> Result<(), Fail> {
     let alloc = rt.alloc();
     let mut binlog = Binlog::new(alloc);
-    binlog.push(commit(alloc, 0, 0, set(7, b"a")?)?)?;
-    binlog.push(commit(alloc, 0, 1, set(8, b"b")?)?)?;
-    binlog.push(commit(alloc, 1, 0, set(7, b"c")?)?)?;
-    binlog.push(commit(alloc, 0, 2, removal(8))?)?;
+    let changes = [
+        (0, 0, 7, Some(b"a")),
+        (0, 1, 8, Some(b"b")),
+        (1, 0, 7, Some(b"c")),
+        (0, 2, 8, None),
+    ];
+    for (writer, index, key, value) in changes {
+        let change = match value {
+            Some(bytes) => set(key, bytes)?,
+            None => removal(key),
+        };
+        binlog.push(commit(alloc, writer, index, change)?)?;
+    }
     let tables = fold(alloc, binlog.as_slice())?;
     let text = rows_text(alloc, &tables.rows(alloc)?)?;
     assert_eq!(rt; text.as_str(), "1 7 63\n");
     assert!(rt; tables.get(1, 8).is_none());
-    Ok(())
-}
-
-fn check_line(rt: &(impl Abort + AllocGlobal), line: &Line, expected: &str) -> Result<(), Fail> {
-    assert_eq!(rt; line_text(rt.alloc(), line)?.as_str(), expected);
     Ok(())
 }
 
