@@ -1,12 +1,13 @@
 -- What the orders of a pool say of its frames.
-use Rattle.std.proofs.Common.{◌≡◌, ◌<◌, ◌≤◌, ℕ, Bool, true, false, cond, not, List, length, map, refl, ap, subst, ◌∙◌, arith, Option, Some, None, IfSome, is_some, unwrap_or}
+use Rattle.std.proofs.Common.{◌≡◌, ◌<◌, ◌≤◌, ◌==◌, ℕ, Bool, true, false, cond, not, List, length, map, refl, ap, subst, ◌∙◌, arith, Option, Some, None, IfSome, is_some, sym, unwrap_or}
 use Rattle.std.proofs.lemmas.Bool.{and_parts, false≢true}
 use Rattle.std.proofs.lemmas.List.{length-map, get_or-map}
 use Rattle.clone_pool.specs.declared.frame.Frame.{Frame}
+use Rattle.clone_pool.specs.declared.frame.PageName.{PageName}
 use Rattle.clone_pool.specs.declared.orders.Orders.{Orders}
 use Rattle.clone_pool.specs.declared.tournament.Rank.{Rank}
 use Rattle.clone_pool.specs.declared.tournament.TheConstants.{NO_NUMBER}
-use Rattle.clone_pool.specs.Frames.{no_frame, frame_at, may_go, is_dirty, is_waiting, is_begun}
+use Rattle.clone_pool.specs.Frames.{name_of, HoldsPage, no_frame, frame_at, may_go, is_dirty, is_waiting, is_begun}
 use Rattle.clone_pool.specs.Orders.{use_rank, age_rank, waiting_rank, no_name}
 use Rattle.clone_pool.specs.Pool.{Frames, IsKept, IsVictim, AreKept, AreClean, IsOldest, AreNotWaiting, IsNextToFlush}
 use Rattle.clone_pool.specs.Tournament.{IsFirst, HasNoRank, rank_at, no_rank, is_before}
@@ -106,6 +107,19 @@ module _ (v : Frames) (orders : Orders) (k : IsKept v orders) where
   -- a page that waits has a date
   waits_dated : (at : ℕ) → is_waiting (f_at at) ≡ true → (age_rank (f_at at)).number < NO_NUMBER
   waits_dated at waits = dated (f_at at).oldest (and_parts (is_dirty (f_at at)) (not (is_begun (f_at at).flush)) waits).0 (k.pool.frame at).oldest_is
+
+  -- and a frame that waits holds a page
+  pub waits_holds : (at : ℕ) → is_waiting (f_at at) ≡ true → HoldsPage (f_at at)
+  waits_holds at waits = by (name_of (f_at at)) refl
+    where
+      dirty : is_dirty (f_at at) ≡ true
+      dirty = (and_parts (is_dirty (f_at at)) (not (is_begun (f_at at).flush)) waits).0
+
+      by : (o : Option PageName) → name_of (f_at at) ≡ o → is_some o ≡ true
+      by (Some name) e = refl
+      by None e =
+          let clean : not (is_dirty (f_at at)) ≡ true = (and_parts ((f_at at).pins == 0) (not (is_dirty (f_at at))) ((k.pool.frame at).unused e).0).1 in
+          absurd (false≢true (sym (ap not dirty) ∙ clean))
 
   pub none_waiting : HasNoRank orders.waiting → AreNotWaiting v.frames
   none_waiting none at low =

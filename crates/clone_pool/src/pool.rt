@@ -113,6 +113,7 @@ impl Pool {
         requires room { ForSome (holder self.old.frames (record { space = space; number = page })) (λ at. HasPinRoom (frame_at self.old.frames at)) }
         ensures answer { Freshens (record { space = space; number = page }) self.old self.new result }
         ensures held { IfOk result (IsHolder (record { space = space; number = page }) self.new.frames) }
+        ensures pinned { IfOk result (λ at. 0 < (frame_at self.new.frames at).pins) }
         ensures others { IfOk result (λ at. KeepsOthers at self.old.frames self.new.frames) }
     {
         let name = PageName {
@@ -228,6 +229,7 @@ impl Pool {
     pub fn next_to_flush(&self) -> Option<u32>
         ensures none { IfNone result (AreNotWaiting self.now.frames) }
         ensures some { IfSome result (IsNextToFlush self.now.frames) }
+        ensures held { IfSome result (λ at. HoldsPage (frame_at self.now.frames at)) }
     {
         match self.orders.waiting.first() {
             Some(at) => Some(at as u32),

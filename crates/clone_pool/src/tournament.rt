@@ -3,7 +3,7 @@
 //! With n places there are 2n nodes, of which node 0 is unused. Node n + i has the rank of place i, and
 //! each node between has the winner of nodes 2j and 2j + 1. So the top, node 1, has the first rank of all,
 //! and a rank that changes is carried up by at most as many matches as 2n has binary digits.
-ghost use Rattle.std.specs.Prelude.{◌≡◌, ◌<◌, ◌≤◌, ℕ, length, replicate, slice_set, drop, ◌*◌, IfOk, IfNone, IfSome};
+ghost use Rattle.std.specs.Prelude.{true, ◌≡◌, ◌<◌, ◌≤◌, ℕ, length, replicate, slice_set, drop, ◌*◌, IfOk, IfNone, IfSome};
 ghost use Rattle.clone_pool.specs.Tournament.{IsFirst, HasNoRank, AreMatchedBut, rank_at, is_before, name_is_before, first_of};
 
 use crate::PageName;
@@ -57,6 +57,9 @@ impl Tournament {
         requires { place < length self.old }
         ensures { self.new ≡ slice_set self.old place rank }
     {
+        if is_same(self.nodes[self.count + place], rank) {
+            return;
+        }
         self.nodes[self.count + place] = rank;
         rematch(&mut self.nodes, self.count, (self.count + place) / 2);
     }
@@ -77,7 +80,7 @@ impl Tournament {
     }
 }
 
-// Plays the matches from a node to the top again.
+// Plays the matches from a node towards the top again, until one ends as before.
 fn rematch(nodes: &mut Vec<Rank>, count: usize, from: usize)
     requires long { length nodes.old.items ≡ 2 * count }
     requires from { from < count }
@@ -88,7 +91,11 @@ fn rematch(nodes: &mut Vec<Rank>, count: usize, from: usize)
 {
     let mut node = from;
     while 0 < node {
-        nodes[node] = first_of(nodes[2 * node], nodes[2 * node + 1]);
+        let first = first_of(nodes[2 * node], nodes[2 * node + 1]);
+        if is_same(nodes[node], first) {
+            return;
+        }
+        nodes[node] = first;
         node /= 2;
     }
 }
@@ -119,6 +126,12 @@ fn first_of(a: Rank, b: Rank) -> Rank
     ensures { result ≡ first_of a b }
 {
     if is_before(b, a) { b } else { a }
+}
+
+fn is_same(a: Rank, b: Rank) -> bool
+    ensures { result ≡ true → a ≡ b }
+{
+    a.number == b.number && b.name.is(a.name)
 }
 
 // The lesser number goes first, and of two with one number the lesser space, and then the lesser page.
