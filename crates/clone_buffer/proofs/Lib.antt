@@ -7,3 +7,4 @@ pub mod WrittenLemmas
 pub mod LawLemmas
 pub mod MoveLemmas
 pub mod FreshLemmas
+pub mod SpaceLemmas

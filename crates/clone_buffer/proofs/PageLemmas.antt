@@ -19,7 +19,7 @@ use Rattle.clone_buffer.specs.OnePage.{Flushes, standing_at, standing_in, is_ope
 use Rattle.clone_buffer.specs.Keeping.{IsKeptPage}
 
 -- the page without a clone
-abbrev world : Engine → World
+abbrev pub world : Engine → World
 world e = record { engine = e; copy = Idle }
 
 not_open : (b : Bool) → (b ≡ true → ⊥) → b ≡ false

@@ -255,7 +255,7 @@ made_held (Fresh name) = refl
 made_held (Held name) = refl
 
 -- a frame that a record names isn't new any more
-named_held : (page : PageName) (rs : List Record) (start end : ℕ) (f : Frame) → any_names page rs ≡ true → (is_fresh (changed_by page rs start end f).content ≡ false) × (name_of (changed_by page rs start end f) ≡ name_of f)
+pub named_held : (page : PageName) (rs : List Record) (start end : ℕ) (f : Frame) → any_names page rs ≡ true → (is_fresh (changed_by page rs start end f).content ≡ false) × (name_of (changed_by page rs start end f) ≡ name_of f)
 named_held page [] start end f hits = absurd (false≢true hits)
 named_held page (r ∷ rs) start end f hits = by (named_held page rs start end f) (is_name_of page (page_changed r)) hits
   where

@@ -15,7 +15,8 @@ use Rattle.clone_image.specs.Replay.{first_lsn, end_of, replayed, IsSpelled}
 use Rattle.clone_image.specs.Redone.{stands, redone}
 use Rattle.clone_image.proofs.Images.{page_of-made, page_of-past, page_of-elsewhere}
 use Rattle.clone_image.proofs.Logs.{log_of-push, after_log-push, All-push}
-use Rattle.clone_law.specs.Since.{ends, Suits}
+use Rattle.clone_law.specs.Since.{ends}
+use Rattle.clone_law.specs.Touches.{touches, resets}
 use Rattle.clone_law.proofs.AppendLemmas.{suits_there, suits_unnamed, others_pass}
 use Rattle.clone_ring.specs.Window.{free_in}
 use Rattle.clone_ring.specs.Window as ring
@@ -35,7 +36,7 @@ use Rattle.clone_buffer.specs.Writing.{after_records, HasFrame, IsOnPage, any_na
 use Rattle.clone_buffer.proofs.PageLemmas.{passed_page, changed_page}
 use Rattle.clone_buffer.proofs.FrameLemmas.{holder_name, frame_in-old}
 use Rattle.clone_buffer.proofs.KeepLemmas.{stands_there, shown_there}
-use Rattle.clone_buffer.proofs.WriteLemmas.{holder-after, frame-after, changed_by, unnamed_stays, named_oldest, named_flush, stays_held, shows_records, of_named, Ready, ready_there, passes_all, resets_none}
+use Rattle.clone_buffer.proofs.WriteLemmas.{holder-after, frame-after, changed_by, unnamed_stays, named_oldest, named_flush, stays_held, shows_records, of_named, Ready, ready_there, PassesBy, passes_all, resets_none}
 
 -- the pages that a log makes with one mini-transaction more
 pub replayed-push : (log : List (List Record)) (records : List Record) (end : ℕ) → end ≡ ends log + length (spelling records) → replayed (log ++ records ∷ []) ≡ image_is.after_records end (replayed log) records
@@ -77,12 +78,11 @@ not_fresh image (Fresh name) bytes page shown is there =
     let none : page_of image page.space page.number ≡ None = subst (λ (n : PageName). page_of image n.space n.number ≡ None) same shown.0 in absurd (false≢true (subst IsSome none there))
 not_fresh image (Held name) bytes page shown is there = refl
 
-some_of : (o : Option ℕ) → IsSome o → (at : ℕ) × (o ≡ Some at)
+pub some_of : (o : Option ℕ) → IsSome o → (at : ℕ) × (o ≡ Some at)
 some_of None there = absurd (false≢true there)
 some_of (Some at) there = (at, refl)
 
-module _ (v : Buffered) (flushes : Flushes) (m : DiskImage) (records : List Record) (p : IsPool v.pool) (b : IsBuffer v) (spelled : IsSpelled records) (room : length (spelling records) ≤ free_in v.ring)
-    (edits : AllByRecursion EditsPages records) (frames : AllByRecursion (HasFrame v.pool.frames) records) (there : IsTrue v.right → AllByRecursion (IsOnPage (replayed v.log)) records) (k : IsKept v flushes m) where
+module _ (v : Buffered) (flushes : Flushes) (m : DiskImage) (records : List Record) (p : IsPool v.pool) (b : IsBuffer v) (after : IsBuffer (written records v)) (k : IsKept v flushes m) where
   abbrev start : ℕ
   start = ring.end_of v.ring
 
@@ -95,56 +95,67 @@ module _ (v : Buffered) (flushes : Flushes) (m : DiskImage) (records : List Reco
   abbrev longer : List (List Record)
   longer = v.log ++ records ∷ []
 
-  after : IsBuffer (written records v)
-  after = IsBuffer-written v records b spelled room (λ t. shows_written v records p (sym (ap (λ n. n + length (spelling records)) b.end)) edits (there t) (b.shows t))
-
-  small : ends v.log + length (spelling records) < 2 ^ 64
+  pub small : ends v.log + length (spelling records) < 2 ^ 64
   small = omega (arith, after.below, ends-push v.log records)
 
-  -- a page that no record names
-  passed : (space number : ℕ) → any_names (record { space = space; number = number }) records ≡ false → IsKeptPage longer flushes m space number (frame_of new.frames space number)
-  passed space number miss =
-      let page : PageName = record { space = space; number = number } in
-      let by = passes_all (end_of (ends v.log) records) space number records edits miss in
-      subst (IsKeptPage longer flushes m space number) (sym (ap (frame_in new.frames) (holder-after records start end v.pool page) ∙ same_frame page miss (holder v.pool.frames page) refl))
-      (passed_page v.log flushes m space number records (frame_of v.pool.frames space number) (suits_unnamed space number v.log records small by.unnamed) (others_pass space number v.log records by.passing) (k.page space number))
+  -- a frame that no record names is as before
+  pub frame_of-passed : (space number : ℕ) → any_names (record { space = space; number = number }) records ≡ false → frame_of new.frames space number ≡ frame_of v.pool.frames space number
+  frame_of-passed space number miss =
+      ap (frame_in new.frames) (holder-after records start end v.pool (record { space = space; number = number })) ∙ same (holder v.pool.frames (record { space = space; number = number })) refl
     where
-      same_frame : (page : PageName) → any_names page records ≡ false → (o : Option ℕ) → holder v.pool.frames page ≡ o → frame_in new.frames o ≡ frame_in v.pool.frames o
-      same_frame page miss None is = refl
-      same_frame page miss (Some at) is = ap (λ (f : Frame). if is_fresh f.content then None else Some f) (frame-after records start end v.pool page at is ∙ unnamed_stays page records start end (frame_at v.pool.frames at) miss)
+      same : (o : Option ℕ) → holder v.pool.frames (record { space = space; number = number }) ≡ o → frame_in new.frames o ≡ frame_in v.pool.frames o
+      same None is = refl
+      same (Some at) is = ap (λ (f : Frame). if is_fresh f.content then None else Some f) (frame-after records start end v.pool (record { space = space; number = number }) at is ∙ unnamed_stays (record { space = space; number = number }) records start end (frame_at v.pool.frames at) miss)
 
-  -- a page that a record names
-  renewed : (space number : ℕ) → any_names (record { space = space; number = number }) records ≡ true → IsKeptPage longer flushes m space number (frame_of new.frames space number)
-  renewed space number hits =
+  -- a page that no record names
+  pub passed : (space number : ℕ) → any_names (record { space = space; number = number }) records ≡ false → PassesBy (end_of (ends v.log) records) space number records → IsKeptPage longer flushes m space number (frame_of new.frames space number)
+  passed space number miss by =
+      subst (IsKeptPage longer flushes m space number) (sym (frame_of-passed space number miss))
+      (passed_page v.log flushes m space number records (frame_of v.pool.frames space number) (suits_unnamed space number v.log records small by.unnamed) (others_pass space number v.log records by.passing) (k.page space number))
+
+  -- the frame of a page that a record names, and the page
+  pub renewed_frame : (space number at : ℕ) → holder v.pool.frames (record { space = space; number = number }) ≡ Some at
+      → (is_fresh (changed_by (record { space = space; number = number }) records start end (frame_at v.pool.frames at)).content ≡ false) × (name_of (changed_by (record { space = space; number = number }) records start end (frame_at v.pool.frames at)) ≡ name_of (frame_at v.pool.frames at))
+      → (frame_of new.frames space number ≡ Some (changed_by (record { space = space; number = number }) records start end (frame_at v.pool.frames at))) × (redone space number longer ≡ stands (changed_by (record { space = space; number = number }) records start end (frame_at v.pool.frames at)).page)
+  renewed_frame space number at held stay =
       let page : PageName = record { space = space; number = number } in
-      let held = some_of (holder v.pool.frames page) (of_named (λ n. IsSome (holder v.pool.frames n)) page records hits frames) in
-      let on : IsSome (page_of (replayed v.log) space number) = of_named (λ n. IsSome (page_of (replayed v.log) n.space n.number)) page records hits (there k.right) in
+      let g : Frame = changed_by page records start end (frame_at v.pool.frames at) in
+      let becomes : frame_at new.frames at ≡ g = frame-after records start end v.pool page at held in
+      let shows : Shown (replayed longer) g.content g.page = subst (λ (h : Frame). Shown (replayed longer) h.content h.page) becomes (after.shows k.right at) in
+      let is : page_of (replayed longer) space number ≡ Some g.page = shown_held (replayed longer) g.content g.page page shows (stay.1 ∙ (holder_name v.pool.frames page at held).1) stay.0 in
+      (
+        ap (frame_in new.frames) (holder-after records start end v.pool page ∙ held) ∙ ap (λ (h : Frame). if is_fresh h.content then None else Some h) becomes ∙ ap (λ (t : Bool). if t then None else Some g) stay.0,
+        stands_there longer space number g.page (omega (arith, after.below)) is
+      )
+
+  -- a page that a record names and that is there
+  pub renewed : (space number : ℕ) → any_names (record { space = space; number = number }) records ≡ true → resets (touches (end_of (ends v.log) records) space number records) ≡ false → IsSome (holder v.pool.frames (record { space = space; number = number })) → IsSome (page_of (replayed v.log) space number)
+      → IsKeptPage longer flushes m space number (frame_of new.frames space number)
+  renewed space number hits calm framed on =
+      let page : PageName = record { space = space; number = number } in
+      let held = some_of (holder v.pool.frames page) framed in
       let at : ℕ = held.0 in
       let f : Frame = frame_at v.pool.frames at in
       let g : Frame = changed_by page records start end f in
       let name : name_of f ≡ Some page = (holder_name v.pool.frames page at held.1).1 in
       let old : is_fresh f.content ≡ false = not_fresh (replayed v.log) f.content f.page page (b.shows k.right at) name on in
-      let stay = stays_held page records start end f old in
-      let becomes : frame_at new.frames at ≡ g = frame-after records start end v.pool page at held.1 in
+      let new_frame = renewed_frame space number at held.1 (stays_held page records start end f old) in
       let was : page_of (replayed v.log) space number ≡ Some f.page = shown_there (replayed v.log) f.content f.page page (b.shows k.right at) name on in
-      let shows : Shown (replayed longer) g.content g.page = subst (λ (h : Frame). Shown (replayed longer) h.content h.page) becomes (after.shows k.right at) in
-      let is : page_of (replayed longer) space number ≡ Some g.page = shown_held (replayed longer) g.content g.page page shows (stay.1 ∙ name) stay.0 in
       let stood : redone space number v.log ≡ stands f.page = stands_there v.log space number f.page (omega (arith, small)) was in
-      let suits : Suits space number v.log records = suits_there space number v.log records f.page small stood (resets_none (end_of (ends v.log) records) space number records edits) in
-      let from : start ≡ ends v.log = b.end in
       let had : frame_of v.pool.frames space number ≡ Some f = ap (frame_in v.pool.frames) held.1 ∙ frame_in-old v.pool.frames at old in
-      let has : frame_of new.frames space number ≡ Some g = ap (frame_in new.frames) (holder-after records start end v.pool page ∙ held.1) ∙ ap (λ (h : Frame). if is_fresh h.content then None else Some h) becomes ∙ ap (λ (t : Bool). if t then None else Some g) stay.0 in
-      subst (IsKeptPage longer flushes m space number) (sym has)
-      (changed_page v.log flushes m space number records f g suits stood (stands_there longer space number g.page (omega (arith, after.below)) is)
-       (named_oldest page records start end f hits ∙ ap (λ (s : ℕ). Some (unwrap_or f.oldest s)) from) (named_flush page records start end f hits ∙ ap (λ (s : ℕ). noted s f.flush) from)
+      subst (IsKeptPage longer flushes m space number) (sym new_frame.0)
+      (changed_page v.log flushes m space number records f g (suits_there space number v.log records f.page small stood calm) stood new_frame.1
+       (named_oldest page records start end f hits ∙ ap (λ (s : ℕ). Some (unwrap_or f.oldest s)) b.end) (named_flush page records start end f hits ∙ ap (λ (s : ℕ). noted s f.flush) b.end)
        (subst (IsKeptPage v.log flushes m space number) had (k.page space number)))
 
-  pub kept_written : IsKept (written records v) flushes m
-  kept_written = record { right = k.right; page = λ space number. by space number (any_names (record { space = space; number = number }) records) refl }
+  -- records that change pages that are there
+  pub kept_written : AllByRecursion EditsPages records → AllByRecursion (HasFrame v.pool.frames) records → AllByRecursion (IsOnPage (replayed v.log)) records → IsKept (written records v) flushes m
+  kept_written edits framed there = record { right = k.right; page = λ space number. by space number (any_names (record { space = space; number = number }) records) refl }
     where
       by : (space number : ℕ) (t : Bool) → any_names (record { space = space; number = number }) records ≡ t → IsKeptPage longer flushes m space number (frame_of new.frames space number)
-      by space number false is = passed space number is
-      by space number true is = renewed space number is
+      by space number false is = passed space number is (passes_all (end_of (ends v.log) records) space number records edits is)
+      by space number true is =
+          renewed space number is (resets_none (end_of (ends v.log) records) space number records edits) (of_named (λ n. IsSome (holder v.pool.frames n)) (record { space = space; number = number }) records is framed) (of_named (λ n. IsSome (page_of (replayed v.log) n.space n.number)) (record { space = space; number = number }) records is there)
 
 -- a buffer over a disk stands after a write
 pub stands_written : (v w : Buffered) (flushes : Flushes) (told : Option DiskImage) (records : List Record) → IsPool v.pool → IsBuffer v → IsSpelled records → length (spelling records) ≤ free_in v.ring → AllByRecursion EditsPages records → AllByRecursion (HasFrame v.pool.frames) records
@@ -153,7 +164,9 @@ stands_written v w flushes told records p b spelled room edits frames there is s
   where
     by : (t : Option DiskImage) → Stands v flushes t → Stands (written records v) flushes t
     by None st = tt
-    by (Some m) k = kept_written v flushes m records p b spelled room edits frames there k
+    by (Some m) k =
+        let after = IsBuffer-written v records b spelled room (λ t. shows_written v records p (sym (ap (λ n. n + length (spelling records)) b.end)) edits (there t) (b.shows t)) in
+        kept_written v flushes m records p b after k edits frames (there k.right)
 
 -- the parts of a buffer once a mini-transaction was written
 pub written_is : (v w : Buffered) (records : List Record) (text : List ℕ) (start end : ℕ) → text ≡ spelling records → w.log ≡ v.log ++ records ∷ [] → w.right ≡ v.right → w.ring ≡ ring.appended text v.ring → start ≡ ring.end_of v.ring → end ≡ ring.end_of w.ring

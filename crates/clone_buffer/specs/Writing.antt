@@ -5,6 +5,8 @@ use Rattle.std.specs.List.{AllByRecursion}
 use Rattle.clone_mtr.specs.declared.record.Record.{Record}
 use Rattle.clone_mtr.specs.Spelling.{spelling}
 use Rattle.std.specs.FinMap as finite
+use Rattle.clone_outside.specs.Disk as disk
+use Rattle.clone_outside.specs.Disk.{DiskImage}
 use Rattle.clone_page.specs.Header.{zero_page}
 use Rattle.clone_mtr.specs.declared.record.Record.TheVariants.{Init, Write, Extend, Create, Drop}
 use Rattle.clone_image.specs.Image.{Image, page_of, EditsPages}
@@ -45,11 +47,13 @@ abbrev pub any_names : PageName → List Record → Bool
 any_names page [] = false
 any_names page (r ∷ rs) = if is_name_of page (page_changed r) then true else any_names page rs
 
--- The space that a mini-transaction makes has so many pages, and its other records change pages that are there then. No frame holds a page of the space, and each new page of it that has a frame is named.
+-- The space that a mini-transaction makes isn't there yet. Its other records change pages that are there then, each in its frame. No frame holds a page of the space, and each new page of it that has a frame is named.
 pub record MakesSpace (v : Buffered) (space pages : ℕ) (rest : List Record) : Type 0 where
+  pub absent : IsTrue v.right → finite.get (image_of v) space ≡ None
   pub edits : AllByRecursion EditsPages rest
   pub there : IsTrue v.right → AllByRecursion (IsOnPage (finite.insert (image_of v) space (replicate pages zero_page))) rest
   pub unheld : (at : ℕ) (name : PageName) → (frame_at v.pool.frames at).content ≡ Held name → name.space ≢ space
+  pub framed : AllByRecursion (HasFrame v.pool.frames) rest
   pub named : (at : ℕ) (name : PageName) → (frame_at v.pool.frames at).content ≡ Fresh name → name.space ≡ space → name.number < pages → any_names name rest ≡ true
 
 -- the first record makes a space
@@ -60,6 +64,15 @@ Creates v (Write space number patch ∷ rest) = ⊥
 Creates v (Extend space pages ∷ rest) = ⊥
 Creates v (Create space pages ∷ rest) = MakesSpace v space pages rest
 Creates v (Drop space ∷ rest) = ⊥
+
+-- the disk has the space that the records make, with quiet pages of zero bytes
+abbrev pub HasMade : List Record → DiskImage → Type 0
+HasMade [] m = ⊥
+HasMade (Init space number kind ∷ rest) m = ⊥
+HasMade (Write space number patch ∷ rest) m = ⊥
+HasMade (Extend space pages ∷ rest) m = ⊥
+HasMade (Create space pages ∷ rest) m = finite.get m.spaces space ≡ Some (replicate pages disk.zero_page)
+HasMade (Drop space ∷ rest) m = ⊥
 
 -- The mini-transaction stands behind the log, in the ring too, and its records have changed the frames of the pages that they name.
 abbrev pub written : List Record → Buffered → Buffered

@@ -44,8 +44,8 @@ impl Model for Buffer {
 
 impl Buffer {
     ghost use Rattle.std.specs.declared.option.Option.{Option};
-    ghost use Rattle.clone_outside.specs.Disk.{DiskImage, blank};
-    ghost use Rattle.clone_buffer.specs.Writing.{HasFrame, IsOnPage, Creates, Writes, written};
+    ghost use Rattle.clone_outside.specs.Disk.{DiskImage, ForTold, blank};
+    ghost use Rattle.clone_buffer.specs.Writing.{HasFrame, IsOnPage, Creates, HasMade, Writes, written};
     ghost use Rattle.clone_buffer.specs.Buffered.{image_of, IsBuffer, Shows};
     ghost use Rattle.clone_buffer.specs.OnePage.{Flushes, unflushed};
     ghost use Rattle.clone_buffer.specs.Keeping.{IsKept, Stands, DiskIsFrames};
@@ -181,6 +181,7 @@ impl Buffer {
         requires short { length (spelling records.now) ≤ longest }
         requires creates { Creates self.old records.now }
         ensures written { Writes records.now self.old self.new result }
+        ensures stands { (flushes : Flushes) (told : Option DiskImage) → Stands self.old flushes told → ForTold told (HasMade records.now) → Stands self.new flushes told }
     {
         self.pool.laws();
         self.append(records)

@@ -3,6 +3,7 @@ use Rattle.clone_mtr.specs.Spelling.{spelling}
 use Rattle.clone_pool.specs.Pool.{IsPool}
 use Rattle.clone_buffer.specs.Buffered.{Buffered, IsBuffer}
 use Rattle.clone_buffer.proofs.WrittenLemmas.{shows_created}
+use Rattle.clone_buffer.proofs.SpaceLemmas.{stands_created}
 use Rattle.clone_buffer.proofs.buffer.Buffer.write_space.Goals as goal
 
 pub append-requires-clause-shows : goal.append-requires-clause-shows
@@ -11,3 +12,9 @@ append-requires-clause-shows c =
     let pool = subst (λ (s : Buffered). IsPool s.pool) c.self.view_is c.laws.ensures in
     let buffer = subst IsBuffer c.self.view_is c.self.invariant in
     λ t. shows_created c.args.self.now records pool (sym (ap (λ (n : ℕ). n + length (spelling records)) buffer.end)) c.requires.creates t (buffer.shows t)
+
+pub returns-clause-stands : goal.returns-clause-stands
+returns-clause-stands c =
+    let pool = subst (λ (s : Buffered). IsPool s.pool) c.self.view_is c.laws.ensures in
+    let buffer = subst IsBuffer c.self.view_is c.self.invariant in
+    λ flushes told st on. stands_created c.args.self.now c.append.new.self flushes told c.args.records.now c.append.result pool buffer c.append.ensures.spelled c.requires.creates c.append.ensures.written on st

@@ -1,0 +1,252 @@
+-- A mini-transaction that makes a space which stands on the disk already, with pages of zero bytes alone.
+use Rattle.std.proofs.Common.{◌≡◌, ◌↔◌, ◌≢◌, ◌<◌, ◌≤◌, ◌+◌, ◌^◌, ◌&&◌, ◌==◌, ◌⊎◌, inl, inr, ◌++◌, ℕ, Bool, true, false, List, [], ◌∷◌, length, replicate, slice_get, nat_lt, refl, sym, ap, subst, ◌∙◌, arith, Option, Some, None, Ok, Err, Result, is_some, option_and_then, unwrap_or, IsSome, IsTrue, if◌then◌else◌}
+use Rattle.std.proofs.lemmas.Bool.{cases_eq, cases_lt, false≢true, true≢false, lt-ltb, ltb-true, ltb-false, eq-eqb, eqb-true}
+use Rattle.std.proofs.lemmas.List.{get_or-replicate, length-replicate}
+use Rattle.std.proofs.lemmas.Option.{slice_get-get_or, slice_get_past}
+use Rattle.std.specs.List.{AllByRecursion}
+use Rattle.std.specs.FinMap as finite
+use Rattle.clone_outside.specs.Disk as disk
+use Rattle.clone_outside.specs.Disk.{DiskImage, ForTold, page_of}
+use Rattle.clone_outside.specs.declared.disk.Held as held
+use Rattle.clone_page.specs.Header.{zero_page}
+use Rattle.clone_mtr.specs.declared.record.Record.{Record}
+use Rattle.clone_image.specs.Redone.{Standing, no_space, past_end, stands, made, redone}
+use Rattle.clone_law.specs.Since.{ends, Suits}
+use Rattle.clone_law.specs.Rule.{EngineRule}
+use Rattle.clone_law.specs.Machine.{Engine, Created, Opened}
+use Rattle.clone_law.proofs.EventLemmas.{engine_kept}
+use Rattle.clone_pool.specs.declared.frame.Frame.{Frame}
+use Rattle.clone_pool.specs.declared.frame.Flush.{Flush}
+use Rattle.clone_pool.specs.declared.frame.Flush.TheVariants as flush
+use Rattle.clone_pool.specs.Frames.{frame_at, name_in, name_of, is_fresh, is_begun, holder, noted}
+use Rattle.clone_buffer.specs.OnePage.{Flushes, frame_in, frame_of, standing_at, standing_in, flight_of, disk_standing, is_open, has_space, engine_with}
+use Rattle.clone_buffer.specs.Keeping.{IsKeptPage, IsKept, Stands}
+use Rattle.clone_buffer.proofs.PageLemmas.{world}
+
+use Rattle.clone_mtr.specs.declared.record.Record.TheVariants.{Init, Write, Extend, Create, Drop}
+use Rattle.clone_mtr.specs.Spelling.{spelling}
+use Rattle.clone_image.specs.Image.{page_of as image_page}
+use Rattle.clone_image.specs.Replay.{end_of, replayed, IsSpelled}
+use Rattle.clone_image.specs.Redone.{standing_in as image_standing}
+use Rattle.clone_image.proofs.Redoing.{replayed_is_redone}
+use Rattle.clone_image.proofs.Images.{page_of-past, page_of-elsewhere}
+use Rattle.clone_law.specs.Touches.{Touch, passes, edits, becomes, reaches, touches, names, resets, passes_by, applied, Sound, Ordered}
+use Rattle.clone_law.proofs.AppendLemmas.{appended, suits_unnamed}
+use Rattle.clone_ring.specs.Window as ring
+use Rattle.clone_ring.specs.declared.log_full.LogFull.{LogFull}
+use Rattle.clone_pool.specs.declared.frame.Content.{Content}
+use Rattle.clone_pool.specs.declared.frame.Content.TheVariants.{Unused, Fresh, Held}
+use Rattle.clone_pool.specs.declared.frame.PageName.{PageName}
+use Rattle.clone_pool.specs.Pool.{IsPool}
+use Rattle.clone_buffer.specs.Buffered.{Buffered, IsBuffer}
+use Rattle.clone_buffer.specs.Writing.{any_names, written, Writes, MakesSpace, Creates, HasMade}
+use Rattle.clone_buffer.proofs.FrameLemmas.{holder_name}
+use Rattle.clone_buffer.proofs.WriteLemmas.{named_held, named_oldest, named_flush, of_named, PassesBy, passes_all, resets_none}
+use Rattle.clone_buffer.proofs.WrittenLemmas.{small, passed, renewed, renewed_frame, frame_of-passed, some_of, shows_created, IsBuffer-written}
+
+-- a page of such a space
+zero_at : (number pages : ℕ) → number < pages → slice_get (replicate pages disk.zero_page) number ≡ Some disk.zero_page
+zero_at number pages low = slice_get-get_or (replicate pages disk.zero_page) number disk.zero_page (omega (arith, low, length-replicate pages disk.zero_page)) ∙ ap Some (get_or-replicate pages number disk.zero_page disk.zero_page low)
+
+module _ (log : List (List Record)) (flushes : Flushes) (m : DiskImage) (space number pages : ℕ) (records : List Record) (quiet : finite.get m.spaces space ≡ Some (replicate pages disk.zero_page)) where
+  abbrev longer : List (List Record)
+  longer = log ++ records ∷ []
+
+  abbrev there : Option held.Held
+  there = slice_get (replicate pages disk.zero_page) number
+
+  -- the page as it stands on the disk
+  found : (b : Bool) → nat_lt number pages ≡ b → (standing_in (Some (replicate pages disk.zero_page)) number ≡ (if b then stands zero_page else past_end)) × (is_open there ≡ false)
+  found true is = let zero = zero_at number pages (ltb-true number pages is) in (ap standing_at zero, ap is_open zero)
+  found false is = let none = slice_get_past (replicate pages disk.zero_page) number (omega (arith, ltb-false number pages is, length-replicate pages disk.zero_page)) in (ap standing_at none, ap is_open none)
+
+  standing : disk_standing m space number ≡ made number pages
+  standing = ap (λ (o : Option (List held.Held)). standing_in o number) quiet ∙ (found (nat_lt number pages) refl).0
+
+  closed : (s : Standing) → false ≡ (is_open (page_of m space number) && has_space s)
+  closed s = sym (ap (λ (b : Bool). b && has_space s) (ap (λ (o : Option (List held.Held)). is_open (option_and_then (λ ps. slice_get ps number) o)) quiet ∙ (found (nat_lt number pages) refl).1))
+
+  -- a page without a frame
+  pub created_page : Suits space number log records → redone space number longer ≡ made number pages → IsKeptPage log flushes m space number None → IsKeptPage longer flushes m space number None
+  created_page suits is k =
+      let e : Engine = engine_with log flushes m space number None in
+      let on_disk : redone space number longer ≡ disk_standing m space number = is ∙ sym standing in
+      let shut = closed (redone space number longer) in
+      let new : record e { log = longer; disk = redone space number longer; writing = false } ≡ engine_with longer flushes m space number None = λ i. record e { log = longer; disk = on_disk i; writing = shut i } in
+      record {
+        rule = subst (EngineRule space number) new (engine_kept space number (world e) (Created records) k.rule suits);
+        dirty = λ t. absurd (false≢true (shut ∙ t));
+        flights = k.flights;
+      }
+
+  -- a page whose frame the mini-transaction changes
+  pub opened_page : (g : Frame) → number < pages → Suits space number log records → redone space number longer ≡ stands g.page → redone space number log ≡ no_space → g.oldest ≡ Some (ends log) → g.flush ≡ flush.Idle → IsKeptPage log flushes m space number None → IsKeptPage longer flushes m space number (Some g)
+  opened_page g low suits is absent oldest idle k =
+      let e : Engine = engine_with log flushes m space number None in
+      let on_disk : stands zero_page ≡ disk_standing m space number = sym (standing ∙ ap (λ (b : Bool). if b then stands zero_page else past_end) (lt-ltb number pages low)) in
+      let shut = closed (redone space number longer) in
+      let grounded : None ≡ flight_of g.flush (flushes.image space number) = sym (ap (λ (x : Flush). flight_of x (flushes.image space number)) idle) in
+      let new : record e { log = longer; disk = stands zero_page; writing = false; frame = Some g.page; oldest = Some (ends log); flight = None } ≡ engine_with longer flushes m space number (Some g) =
+              λ i. record e { log = longer; disk = on_disk i; writing = shut i; frame = Some g.page; oldest = sym oldest i; flight = grounded i } in
+      record {
+        rule = subst (EngineRule space number) new (engine_kept space number (world e) (Opened records g.page) k.rule (suits, is, absent, tt));
+        dirty = λ t. absurd (false≢true (shut ∙ t));
+        flights = subst (λ (x : Flush). IsTrue (is_begun x) ↔ IsSome (flushes.image space number)) (sym idle) k.flights;
+      }
+
+-- What the log's law sees of a mini-transaction that makes a space.
+
+other_space : (space s : ℕ) → s ≢ space → (space == s) ≡ false
+other_space space s other = by (space == s) refl
+  where
+    by : (t : Bool) → (space == s) ≡ t → t ≡ false
+    by false is = refl
+    by true is = absurd (other (sym (eqb-true space s is)))
+
+made_by : (t : Bool) (x : Standing) (ts : List Touch) → t ≡ false → names ts ≡ false → passes_by ts ≡ true → (names ((if t then becomes x else passes) ∷ ts) ≡ false) × (passes_by ((if t then becomes x else passes) ∷ ts) ≡ true)
+made_by true x ts is unnamed passing = absurd (true≢false is)
+made_by false x ts is unnamed passing = (unnamed, passing)
+
+calm_by : (t : Bool) (x : Standing) (ts : List Touch) → t ≡ false → resets ts ≡ false → resets ((if t then becomes x else passes) ∷ ts) ≡ false
+calm_by true x ts is calm = absurd (true≢false is)
+calm_by false x ts is calm = calm
+
+applied_passing : (v : Standing) (ts : List Touch) → passes_by ts ≡ true → applied v ts ≡ v
+applied_passing v [] passing = refl
+applied_passing v (passes ∷ ts) passing = applied_passing v ts passing
+applied_passing v (edits f ∷ ts) passing = absurd (false≢true passing)
+applied_passing v (becomes s ∷ ts) passing = absurd (false≢true passing)
+applied_passing v (reaches s ∷ ts) passing = absurd (false≢true passing)
+
+edits_sound : (b : List ℕ) (ts : List Touch) → resets ts ≡ false → Sound (stands b) ts × Ordered ts
+edits_sound b [] calm = (tt, tt)
+edits_sound b (passes ∷ ts) calm = edits_sound b ts calm
+edits_sound b (edits f ∷ ts) calm = ((edits_sound b ts calm).0, calm)
+edits_sound b (becomes s ∷ ts) calm = absurd (true≢false calm)
+edits_sound b (reaches s ∷ ts) calm = edits_sound b ts calm
+
+-- in the space that is made
+same_unnamed : (t : Bool) (x : Standing) (ts : List Touch) → t ≡ true → names ts ≡ false → names ((if t then becomes x else passes) ∷ ts) ≡ false
+same_unnamed true x ts is unnamed = unnamed
+same_unnamed false x ts is unnamed = unnamed
+
+same_applied : (t : Bool) (v x : Standing) (ts : List Touch) → t ≡ true → applied v ((if t then becomes x else passes) ∷ ts) ≡ applied x ts
+same_applied true v x ts is = refl
+same_applied false v x ts is = absurd (false≢true is)
+
+same_sound : (t : Bool) (v x : Standing) (ts : List Touch) → t ≡ true → Sound x ts × Ordered ts → Sound v ((if t then becomes x else passes) ∷ ts) × Ordered ((if t then becomes x else passes) ∷ ts)
+same_sound true v x ts is both = both
+same_sound false v x ts is both = absurd (false≢true is)
+
+no_space_there : (log : List (List Record)) (space number : ℕ) → ends log < 2 ^ 64 → finite.get (replayed log) space ≡ None → redone space number log ≡ no_space
+no_space_there log space number small none = sym (replayed_is_redone log space number small) ∙ ap (λ (o : Option (List (List ℕ))). image_standing o number) none
+
+no_name : (page : PageName) → None ≡ Some page → ⊥
+no_name page is = cc
+
+clean_fresh : (o : Option ℕ) → is_some o ≡ false → o ≡ None
+clean_fresh None is = refl
+clean_fresh (Some x) is = absurd (true≢false is)
+
+module _ (v : Buffered) (flushes : Flushes) (m : DiskImage) (space pages : ℕ) (rest : List Record) (p : IsPool v.pool) (b : IsBuffer v) (after : IsBuffer (written (Create space pages ∷ rest) v)) (makes : MakesSpace v space pages rest)
+    (quiet : finite.get m.spaces space ≡ Some (replicate pages disk.zero_page)) (k : IsKept v flushes m) where
+  abbrev records : List Record
+  records = Create space pages ∷ rest
+
+  abbrev end : ℕ
+  end = end_of (ends v.log) records
+
+  abbrev new : List Frame
+  new = (written records v).pool.frames
+
+  abbrev Kept : ℕ → ℕ → Type 0
+  Kept s n = IsKeptPage (v.log ++ records ∷ []) flushes m s n (frame_of new s n)
+
+  less : ends v.log + length (spelling records) < 2 ^ 64
+  less = small v flushes m records p b after k
+
+  -- a page of another space
+  other_page : (s n : ℕ) → s ≢ space → (t : Bool) → any_names (record { space = s; number = n }) rest ≡ t → Kept s n
+  other_page s n other false miss =
+      let by = passes_all end s n rest makes.edits miss in
+      let both = made_by (space == s) (made n pages) (touches end s n rest) (other_space space s other) by.unnamed by.passing in
+      passed v flushes m records p b after k s n miss (record { unnamed = both.0; passing = both.1 })
+  other_page s n other true hits =
+      renewed v flushes m records p b after k s n hits (calm_by (space == s) (made n pages) (touches end s n rest) (other_space space s other) (resets_none end s n rest makes.edits)) (of_named (λ q. IsSome (holder v.pool.frames q)) (record { space = s; number = n }) rest hits makes.framed)
+      (subst IsSome (page_of-elsewhere (replayed v.log) space pages s n other) (of_named (λ q. IsSome (image_page (finite.insert (replayed v.log) space (replicate pages zero_page)) q.space q.number)) (record { space = s; number = n }) rest hits (makes.there k.right)))
+
+  -- no frame has a page of the space but a new one
+  fresh_frame : (n at : ℕ) → holder v.pool.frames (record { space = space; number = n }) ≡ Some at → is_fresh (frame_at v.pool.frames at).content ≡ true
+  fresh_frame n at held = by (frame_at v.pool.frames at).content refl (holder_name v.pool.frames (record { space = space; number = n }) at held).1
+    where
+      by : (content : Content) → (frame_at v.pool.frames at).content ≡ content → name_of (frame_at v.pool.frames at) ≡ Some (record { space = space; number = n }) → is_fresh (frame_at v.pool.frames at).content ≡ true
+      by Unused is name = absurd (no_name (record { space = space; number = n }) (sym (ap name_in is) ∙ name))
+      by (Fresh q) is name = ap is_fresh is
+      by (Held q) is name =
+          let both : Some q ≡ Some (record { space = space; number = n }) = sym (ap name_in is) ∙ name in
+          let same : q ≡ record { space = space; number = n } = cc in
+          absurd (makes.unheld at q is (ap (λ (w : PageName). w.space) same))
+
+  unframed : (n : ℕ) → frame_of v.pool.frames space n ≡ None
+  unframed n = by (holder v.pool.frames (record { space = space; number = n })) refl
+    where
+      by : (o : Option ℕ) → holder v.pool.frames (record { space = space; number = n }) ≡ o → frame_of v.pool.frames space n ≡ None
+      by None is = ap (frame_in v.pool.frames) is
+      by (Some at) is = ap (frame_in v.pool.frames) is ∙ ap (λ (t : Bool). if t then None else Some (frame_at v.pool.frames at)) (fresh_frame n at is)
+
+  bare : (n : ℕ) → IsKeptPage v.log flushes m space n None
+  bare n = subst (IsKeptPage v.log flushes m space n) (unframed n) (k.page space n)
+
+  own : (space == space) ≡ true
+  own = eq-eqb space space refl
+
+  -- a page of the space
+  new_page : (n : ℕ) (t : Bool) → any_names (record { space = space; number = n }) rest ≡ t → Kept space n
+  new_page n false miss =
+      let by = passes_all end space n rest makes.edits miss in
+      let suits = suits_unnamed space n v.log records less (same_unnamed (space == space) (made n pages) (touches end space n rest) own by.unnamed) in
+      let is : redone space n (v.log ++ records ∷ []) ≡ made n pages = appended space n v.log records (bare n).rule.fits suits ∙ same_applied (space == space) (redone space n v.log) (made n pages) (touches end space n rest) own ∙ applied_passing (made n pages) (touches end space n rest) by.passing in
+      subst (IsKeptPage (v.log ++ records ∷ []) flushes m space n) (sym (frame_of-passed v flushes m records p b after k space n miss ∙ unframed n)) (created_page v.log flushes m space n pages records quiet suits is (bare n))
+  new_page n true hits =
+      let page : PageName = record { space = space; number = n } in
+      let held = some_of (holder v.pool.frames page) (of_named (λ q. IsSome (holder v.pool.frames q)) page rest hits makes.framed) in
+      let f : Frame = frame_at v.pool.frames held.0 in
+      let is_new : is_fresh f.content ≡ true = fresh_frame n held.0 held.1 in
+      let idle = (p.frame held.0).fresh is_new in
+      let low : n < pages = within (cases_lt n pages) (of_named (λ q. IsSome (image_page (finite.insert (replayed v.log) space (replicate pages zero_page)) q.space q.number)) page rest hits (makes.there k.right)) in
+      let both = renewed_frame v flushes m records p b after k space n held.0 held.1 (named_held page records (ring.end_of v.ring) (ring.end_of v.ring + length (spelling records)) f hits) in
+      let first : made n pages ≡ stands zero_page = ap (λ (t : Bool). if t then stands zero_page else past_end) (lt-ltb n pages low) in
+      let sound = same_sound (space == space) (redone space n v.log) (made n pages) (touches end space n rest) own (subst (λ (s : Standing). Sound s (touches end space n rest) × Ordered (touches end space n rest)) (sym first) (edits_sound zero_page (touches end space n rest) (resets_none end space n rest makes.edits))) in
+      let suits : Suits space n v.log records = record { small = less; sound = sound.0; ordered = sound.1 } in
+      subst (IsKeptPage (v.log ++ records ∷ []) flushes m space n) (sym both.0)
+      (opened_page v.log flushes m space n pages records quiet _ low suits both.1 (no_space_there v.log space n (omega (arith, less)) (makes.absent k.right))
+       (named_oldest page records (ring.end_of v.ring) (ring.end_of v.ring + length (spelling records)) f hits ∙ ap (λ (o : Option ℕ). Some (unwrap_or o (ring.end_of v.ring))) (clean_fresh f.oldest idle.1) ∙ ap Some b.end)
+       (named_flush page records (ring.end_of v.ring) (ring.end_of v.ring + length (spelling records)) f hits ∙ ap (noted (ring.end_of v.ring)) ((p.frame held.0).clean idle.1)) (bare n))
+    where
+      within : (n < pages) ⊎ (pages ≤ n) → IsSome (image_page (finite.insert (replayed v.log) space (replicate pages zero_page)) space n) → n < pages
+      within (inl low) there = low
+      within (inr past) there = absurd (false≢true (subst IsSome (page_of-past (replayed v.log) space pages n past) there))
+
+  -- each page is kept
+  pub kept_created : IsKept (written records v) flushes m
+  kept_created = record { right = k.right; page = λ s n. by s n (cases_eq s space) }
+    where
+      by : (s n : ℕ) → (s ≡ space) ⊎ (s ≢ space) → Kept s n
+      by s n (inl same) = subst (λ (x : ℕ). Kept x n) (sym same) (new_page n (any_names (record { space = space; number = n }) rest) refl)
+      by s n (inr other) = other_page s n other (any_names (record { space = s; number = n }) rest) refl
+
+-- a buffer over a disk stands after a mini-transaction that makes a space
+pub stands_created : (v w : Buffered) (flushes : Flushes) (told : Option DiskImage) (records : List Record) (result : Result ℕ LogFull) → IsPool v.pool → IsBuffer v → IsSpelled records → Creates v records → Writes records v w result → ForTold told (HasMade records) → Stands v flushes told → Stands w flushes told
+stands_created v w flushes told rs (Err full) p b spelled makes writes on st = subst (λ (u : Buffered). Stands u flushes told) (sym writes.2) st
+stands_created v w flushes told [] (Ok lsn) p b spelled makes writes on st = absurd makes
+stands_created v w flushes told (Init space number kind ∷ rest) (Ok lsn) p b spelled makes writes on st = absurd makes
+stands_created v w flushes told (Write space number patch ∷ rest) (Ok lsn) p b spelled makes writes on st = absurd makes
+stands_created v w flushes told (Extend space count ∷ rest) (Ok lsn) p b spelled makes writes on st = absurd makes
+stands_created v w flushes told (Drop space ∷ rest) (Ok lsn) p b spelled makes writes on st = absurd makes
+stands_created v w flushes told (Create space count ∷ rest) (Ok lsn) p b spelled makes writes on st = subst (λ (u : Buffered). Stands u flushes told) (sym writes.1) (by told on st)
+  where
+    by : (t : Option DiskImage) → ForTold t (HasMade (Create space count ∷ rest)) → Stands v flushes t → Stands (written (Create space count ∷ rest) v) flushes t
+    by None on st = tt
+    by (Some m) on k =
+        let after = IsBuffer-written v (Create space count ∷ rest) b spelled writes.0 (λ t. shows_created v (Create space count ∷ rest) p (sym (ap (λ n. n + length (spelling (Create space count ∷ rest))) b.end)) makes t (b.shows t)) in
+        kept_created v flushes m space count rest p b after makes on k
