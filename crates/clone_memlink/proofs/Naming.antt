@@ -8,7 +8,7 @@ use Rattle.std.specs.Cmp.{nat_cmp_total}
 use Rattle.std.specs.Ordering.{nat_cmp}
 use Rattle.std.specs.BTreeMap.{BTreeMap, get, Updates}
 use Rattle.std.proofs.lemmas.Map.Lookups.{exact_unsigned}
-use Rattle.clone_outside.proofs.Maps.{get_listed, inserted}
+use Rattle.clone_base.proofs.OrderedMaps.{get_listed, inserted}
 use Rattle.clone_turn.specs.Seats.{CellModel}
 use Rattle.clone_memlink.specs.declared.connection.Connection.{Connection}
 use Rattle.clone_memlink.specs.declared.cut.Cut.{Cut}

@@ -9,7 +9,7 @@ use Rattle.std.specs.Ordering.{nat_cmp, eq_by_cmp}
 use Rattle.std.specs.BTreeMap.{BTreeMap, get, Updates}
 use Rattle.std.proofs.lemmas.Bool.Decides.{eqb_tells}
 use Rattle.std.proofs.lemmas.Map.Lookups.{exact_unsigned}
-use Rattle.clone_outside.proofs.Maps.{get_listed, inserted, removed}
+use Rattle.clone_base.proofs.OrderedMaps.{get_listed, inserted, removed}
 use Rattle.clone_overlay.specs.Covers.{Cover, Overlay, leaves_of, covers_of, edited_there, leaf_edited, changed_there, with_cover}
 
 turned : (a b : ℕ) → (a == b) ≡ (b == a)
