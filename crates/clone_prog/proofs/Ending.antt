@@ -1,5 +1,5 @@
 -- What a run is, by how it ended.
-use Rattle.std.proofs.Common.{◌≡◌, ◌≤◌, ℕ, List, [], length, refl, sym, ap, subst, None, ◌⊎◌, inl, inr}
+use Rattle.std.proofs.Common.{◌≡◌, ◌≤◌, ℕ, List, [], length, refl, sym, subst, ◌⊎◌, inl, inr}
 use Rattle.clone_outside.specs.Causes.{Rose}
 use Rattle.clone_outside.specs.Bytes.{IsSpent, prepended}
 use Rattle.clone_outside.specs.declared.Refusal.{Refusal}
@@ -15,7 +15,7 @@ use Rattle.clone_prog.specs.Status.{status_of}
 use Rattle.clone_script.specs.Script.{IsScript, longest_script}
 use Rattle.clone_prog.specs.Carrying.{Finished, Stopped, before_lines, in_lines, in_binlog}
 use Rattle.clone_prog.specs.Saying.{Says}
-use Rattle.clone_prog.specs.Main.{Ends, IsCommand, GaveAll, Carried, Defined, Front, Outcome, Said, some_lines, all_lines}
+use Rattle.clone_prog.specs.Main.{Ends, IsCommand, GaveAll, Defined, Front, Outcome, Said, some_lines, all_lines}
 
 -- a run that ends with one line
 pub said : (words : List (List ℕ)) (old new : Ends) (asked got : Status) (text : Text) → Says asked got old.out.told new.out.told old.out.faults new.out.faults (ended text)
