@@ -1,15 +1,15 @@
 -- What a fetch does to the frame of each page.
-use Rattle.std.proofs.Common.{◌≡◌, ◌≢◌, ◌<◌, ◌⊎◌, inl, inr, ◌&&◌, ◌==◌, not, ℕ, Bool, true, false, List, length, get_or, set, refl, sym, ap, subst, ◌∙◌, arith, Option, Some, None, Ok, Err, Result, option_map, is_some, MatchOption, if◌then◌else◌}
-use Rattle.std.proofs.lemmas.Bool.{cases_eq, false≢true, true≢false}
+use Rattle.std.proofs.Common.{◌≡◌, ◌<◌, ◌⊎◌, inl, inr, ◌&&◌, not, ℕ, Bool, true, false, List, length, set, refl, sym, ap, ◌∙◌, Option, Some, None, Ok, Err, Result, option_map, is_some, MatchOption, if◌then◌else◌}
+use Rattle.std.proofs.lemmas.Bool.{false≢true}
 use Rattle.std.proofs.lemmas.List.{get_or-set_same, get_or-set_other}
 use Rattle.clone_pool.specs.declared.frame.Frame.{Frame}
 use Rattle.clone_pool.specs.declared.frame.Flush.TheVariants as flush
 use Rattle.clone_pool.specs.declared.frame.PageName.{PageName}
 use Rattle.clone_pool.specs.declared.pool.FetchRefusal.{FetchRefusal}
 use Rattle.clone_pool.specs.declared.pool.FetchRefusal.TheVariants.{PoolFull, DiskFault}
-use Rattle.clone_pool.specs.Frames.{no_frame, frame_at, name_of, is_fresh, holder, touched, is_dirty, may_go, filled, emptied, next_use}
-use Rattle.clone_pool.specs.Pool.{Frames, IsPool, IsVictim, Fills, Empties, Fetches, Misses, KeepsOthers, used}
-use Rattle.clone_buffer.specs.OnePage.{frame_in, frame_of}
+use Rattle.clone_pool.specs.Frames.{no_frame, frame_at, name_of, is_fresh, holder, touched, may_go, filled, emptied, next_use}
+use Rattle.clone_pool.specs.Pool.{Frames, IsPool, IsVictim, Fills, Fetches, Misses, KeepsOthers, used}
+use Rattle.clone_buffer.specs.OnePage.{frame_in}
 use Rattle.clone_buffer.proofs.FrameLemmas.{holder_name, is_named, stays, goes, frame_in-old}
 
 -- the page has lost a clean frame
@@ -94,9 +94,11 @@ hit old new at page target result p q low is = by (is_named page (name_of (frame
     this = here old.frames new.frames at (touched k f) low frames
 
     by : (name_of f ≡ Some page) ⊎ (name_of f ≡ Some page → ⊥) → Moves page target (holder old.frames target) new.frames result (frame_in old.frames (holder old.frames page)) (frame_in new.frames (holder new.frames page))
-    by (inl had) = inr (inl (k,
+    by (inl had) = inr (inl (
+      k,
       ap (frame_in new.frames) (q.once page at (ap name_of this ∙ had)) ∙ ap (λ (g : Frame). if is_fresh g.content then None else Some g) this ∙ touched_in (is_fresh f.content) f k
-      ∙ sym (ap (λ o. option_map (touched k) (frame_in old.frames o)) (p.once page at had))))
+          ∙ sym (ap (λ o. option_map (touched k) (frame_in old.frames o)) (p.once page at had)),
+    ))
     by (inr other) = inl (stays old new at p q (keeps_others old.frames new.frames at (touched k f) frames) page other (λ has. other (sym (ap name_of this) ∙ has)))
 
 filled_page : (old new : Frames) (at : ℕ) (page target : PageName) → IsPool old → IsPool new → holder old.frames target ≡ None → IsVictim old.frames at → Fills target at old new → Moves page target (holder old.frames target) new.frames (Ok at) (frame_in old.frames (holder old.frames page)) (frame_in new.frames (holder new.frames page))

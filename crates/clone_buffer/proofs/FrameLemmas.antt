@@ -1,14 +1,14 @@
 -- The frame of each page, once one frame has changed.
-use Rattle.std.proofs.Common.{◌≡◌, ◌≢◌, ◌<◌, ◌⊎◌, inl, inr, ℕ, Bool, true, false, List, length, get_or, set, map, refl, sym, ap, subst, ◌∙◌, arith, Option, Some, None, option_map, if◌then◌else◌}
-use Rattle.std.proofs.lemmas.Bool.{cases_eq, false≢true, true≢false}
+use Rattle.std.proofs.Common.{◌≡◌, ◌<◌, ◌⊎◌, inl, inr, ℕ, Bool, true, false, List, length, map, refl, sym, ap, subst, ◌∙◌, arith, Option, Some, None, if◌then◌else◌}
+use Rattle.std.proofs.lemmas.Bool.{true≢false}
 use Rattle.std.proofs.lemmas.List.{get_or-map, length-map}
 use Rattle.clone_pool.specs.declared.frame.Frame.{Frame}
 use Rattle.clone_pool.specs.declared.frame.PageName.{PageName}
 use Rattle.clone_pool.specs.Index.{is_name_of}
-use Rattle.clone_pool.specs.Frames.{no_frame, frame_at, name_of, is_fresh, holder, touched}
+use Rattle.clone_pool.specs.Frames.{no_frame, frame_at, name_of, is_fresh, holder}
 use Rattle.clone_pool.specs.Pool.{Frames, IsPool, KeepsOthers}
 use Rattle.clone_pool.proofs.NameLemmas.{found_name, named, is_own_name}
-use Rattle.clone_buffer.specs.OnePage.{frame_in, frame_of}
+use Rattle.clone_buffer.specs.OnePage.{frame_in}
 
 -- the frame that is found has the page
 pub holder_name : (frames : List Frame) (page : PageName) (at : ℕ) → holder frames page ≡ Some at → (at < length frames) × (name_of (frame_at frames at) ≡ Some page)

@@ -1,8 +1,6 @@
 -- A frame was taken for a new page.
-use Rattle.std.proofs.Common.{◌≡◌, ◌≢◌, ◌<◌, ◌⊎◌, inl, inr, ℕ, Bool, true, false, List, length, refl, sym, ap, subst, ◌∙◌, Option, Some, None, Ok, Err, Result, IsTrue, MatchOption, if◌then◌else◌}
-use Rattle.std.proofs.lemmas.Bool.{false≢true, true≢false}
+use Rattle.std.proofs.Common.{◌≡◌, ◌<◌, ◌⊎◌, inl, inr, ℕ, Bool, true, List, length, refl, sym, ap, subst, ◌∙◌, Option, Some, None, Ok, Err, Result, IsTrue, MatchOption, if◌then◌else◌}
 use Rattle.std.proofs.lemmas.List.{get_or-set_same, get_or-set_other, length-set}
-use Rattle.clone_page.specs.Header.{zero_page}
 use Rattle.clone_outside.specs.Disk.{DiskImage}
 use Rattle.clone_image.specs.Image.{Image, page_of}
 use Rattle.clone_image.specs.Replay.{replayed}
@@ -11,12 +9,12 @@ use Rattle.clone_pool.specs.declared.frame.Content.{Content}
 use Rattle.clone_pool.specs.declared.frame.Content.TheVariants.{Unused, Fresh, Held}
 use Rattle.clone_pool.specs.declared.frame.PageName.{PageName}
 use Rattle.clone_pool.specs.declared.pool.FetchRefusal.{FetchRefusal}
-use Rattle.clone_pool.specs.declared.pool.FetchRefusal.TheVariants.{PoolFull, DiskFault}
-use Rattle.clone_pool.specs.Frames.{no_frame, frame_at, name_in, name_of, is_fresh, holder, touched, pinned, freshened, next_use, may_go}
-use Rattle.clone_pool.specs.Pool.{Frames, IsPool, IsVictim, Freshens, TakesFrame, KeepsOthers, IsHolder, used, with_frame, with_fresh}
+use Rattle.clone_pool.specs.declared.pool.FetchRefusal.TheVariants.{DiskFault}
+use Rattle.clone_pool.specs.Frames.{no_frame, frame_at, name_in, name_of, is_fresh, holder, touched, pinned, freshened, next_use}
+use Rattle.clone_pool.specs.Pool.{Frames, IsPool, IsVictim, Freshens, TakesFrame, KeepsOthers, used, with_frame, with_fresh}
 use Rattle.clone_buffer.specs.Buffered.{Buffered, Shown, Shows}
 use Rattle.clone_buffer.specs.OnePage.{Flushes, frame_in, frame_of}
-use Rattle.clone_buffer.specs.Keeping.{IsKeptPage, IsKept, Stands}
+use Rattle.clone_buffer.specs.Keeping.{Stands}
 use Rattle.clone_buffer.proofs.FrameLemmas.{holder_name, is_named, stays}
 use Rattle.clone_buffer.proofs.FetchLemmas.{Moves, given_up}
 use Rattle.clone_buffer.proofs.KeepLemmas.{shows_but, kept_moved}
@@ -104,7 +102,7 @@ module _ (image : Image) (old new : Frames) (result : Result ℕ FetchRefusal) (
         by : (Some target ≡ Some page) ⊎ (Some target ≡ Some page → ⊥) → Stay
         by (inl same) =
             inl (ap (frame_in new.frames) (q.once page at (ap name_of this ∙ name.1 ∙ same)) ∙ fresh_in new.frames at (ap (λ (g : Frame). is_fresh g.content) this ∙ new_page)
-                 ∙ sym (ap (frame_in old.frames) (p.once page at (name.1 ∙ same)) ∙ fresh_in old.frames at new_page))
+            ∙ sym (ap (frame_in old.frames) (p.once page at (name.1 ∙ same)) ∙ fresh_in old.frames at new_page))
         by (inr other) = inl (stays old new at p q others page (λ had. other (sym name.1 ∙ had)) (λ has. other (sym name.1 ∙ sym (ap name_of this) ∙ has)))
 
     pub fresh_moves : Freshens target old new result → Stay

@@ -1,15 +1,14 @@
 -- A buffer stays kept, and its frames show their pages, whatever a fetch does.
-use Rattle.std.proofs.Common.{◌≡◌, ◌≢◌, ◌<◌, ◌+◌, ◌^◌, ◌⊎◌, inl, inr, ◌&&◌, ◌↔◌, ℕ, Bool, true, false, List, length, get_or, set, slice_get, refl, sym, ap, subst, ◌∙◌, arith, Option, Some, None, Ok, Err, Result, option_map, option_and_then, IsSome, IsTrue, MatchOption}
+use Rattle.std.proofs.Common.{◌≡◌, ◌≢◌, ◌<◌, ◌^◌, ◌⊎◌, inl, inr, ◌&&◌, ◌↔◌, ℕ, Bool, List, length, set, slice_get, refl, sym, ap, subst, ◌∙◌, Option, Some, None, Ok, Err, Result, option_and_then, IsSome, IsTrue, MatchOption}
 use Rattle.std.proofs.lemmas.Bool.{cases_eq, false≢true, and_parts, and_from}
 use Rattle.std.proofs.lemmas.List.{get_or-set_same, get_or-set_other}
 use Rattle.std.proofs.lemmas.Slice.Eq.{bytes_eq-Decides}
 use Rattle.std.specs.FinMap as finite
 use Rattle.clone_outside.specs.Disk.{DiskImage, ForTold, GivesQuiet}
 use Rattle.clone_mtr.specs.declared.record.Record.{Record}
-use Rattle.clone_mtr.specs.Spelling.{log_of}
 use Rattle.clone_image.specs.Image.{Image, page_of}
-use Rattle.clone_image.specs.Replay.{first_lsn, replayed}
-use Rattle.clone_image.specs.Redone.{Standing, stands, standing_at, standing_in, standing_of, redone}
+use Rattle.clone_image.specs.Replay.{replayed}
+use Rattle.clone_image.specs.Redone.{stands, standing_at, standing_in, standing_of, redone}
 use Rattle.clone_image.proofs.Redoing.{replayed_is_redone}
 use Rattle.clone_law.specs.Since.{ends}
 use Rattle.clone_pool.specs.declared.frame.Frame.{Frame}
@@ -18,7 +17,7 @@ use Rattle.clone_pool.specs.declared.frame.Content.TheVariants.{Unused, Fresh, H
 use Rattle.clone_pool.specs.declared.frame.PageName.{PageName}
 use Rattle.clone_pool.specs.declared.pool.FetchRefusal.{FetchRefusal}
 use Rattle.clone_pool.specs.declared.pool.FetchRefusal.TheVariants.{PoolFull, DiskFault}
-use Rattle.clone_pool.specs.Frames.{no_frame, frame_at, name_in, name_of, holder, touched, filled, emptied, next_use}
+use Rattle.clone_pool.specs.Frames.{no_frame, frame_at, name_in, holder, touched, filled, emptied, next_use}
 use Rattle.clone_pool.specs.Pool.{Frames, IsPool, Fetches, Misses, used}
 use Rattle.clone_shadow.specs.State.{State, is_page}
 use Rattle.clone_buffer.specs.Buffered.{Buffered, Shown, Shows}
@@ -26,7 +25,7 @@ use Rattle.clone_buffer.specs.OnePage.{Flushes, frame_in, frame_of}
 use Rattle.clone_buffer.specs.Keeping.{IsKeptPage, IsKept, Stands}
 use Rattle.clone_buffer.proofs.PageLemmas.{used_page, lost_page, read_bytes, read_page}
 use Rattle.clone_buffer.proofs.FrameLemmas.{holder_name}
-use Rattle.clone_buffer.proofs.FetchLemmas.{Moves, Loses, Gets, fetched}
+use Rattle.clone_buffer.proofs.FetchLemmas.{Moves, Gets, fetched}
 
 -- a page that the image has stands by the log
 pub stands_there : (log : List (List Record)) (space number : ℕ) (page : List ℕ) → ends log < 2 ^ 64 → page_of (replayed log) space number ≡ Some page → redone space number log ≡ stands page
@@ -163,7 +162,7 @@ shows_after o a old new result space number at bytes f ok same is shows t =
     let both = (right_exactly o a bytes (frame_at new.frames at).page space number same is).0 t in
     subst (λ (s : State). Shows (replayed s.log) new.frames) (sym is)
     (shows_fetched (replayed o.log) old new result (record { space = space; number = number }) f
-     (λ b answer. subst (λ (k : ℕ). page_of (replayed o.log) space number ≡ Some (frame_at new.frames k).page) (one_place at b result ok answer) both.1) (shows both.0))
+    (λ b answer. subst (λ (k : ℕ). page_of (replayed o.log) space number ≡ Some (frame_at new.frames k).page) (one_place at b result ok answer) both.1) (shows both.0))
 
 module _ (v : Buffered) (flushes : Flushes) (told now : Option DiskImage) (new : Frames) (result : Result ℕ FetchRefusal) (space number : ℕ) where
   abbrev target : PageName

@@ -1,19 +1,17 @@
 -- A frame has changed and holds its page, or lost a new one.
-use Rattle.std.proofs.Common.{◌≡◌, ◌≢◌, ◌<◌, ◌⊎◌, inl, inr, ◌&&◌, ◌==◌, ◌-◌, ℕ, Bool, true, false, List, length, set, refl, sym, ap, subst, ◌∙◌, Option, Some, None, if◌then◌else◌}
-use Rattle.std.proofs.lemmas.Bool.{false≢true, true≢false}
+use Rattle.std.proofs.Common.{◌≡◌, ◌<◌, ◌⊎◌, inl, inr, ◌&&◌, ◌==◌, ◌-◌, ℕ, Bool, true, false, List, length, refl, sym, ap, subst, ◌∙◌, Option, Some, None, if◌then◌else◌}
 use Rattle.std.proofs.lemmas.List.{get_or-set_same, get_or-set_other}
 use Rattle.clone_outside.specs.Disk.{DiskImage}
 use Rattle.clone_mtr.specs.declared.record.Record.{Record}
 use Rattle.clone_image.specs.Image.{Image}
 use Rattle.clone_pool.specs.declared.frame.Frame.{Frame}
-use Rattle.clone_pool.specs.declared.frame.Content.{Content}
-use Rattle.clone_pool.specs.declared.frame.Content.TheVariants.{Unused, Fresh, Held}
+use Rattle.clone_pool.specs.declared.frame.Content.TheVariants.{Unused}
 use Rattle.clone_pool.specs.declared.frame.PageName.{PageName}
-use Rattle.clone_pool.specs.Frames.{no_frame, frame_at, name_in, name_of, is_fresh, holder, pinned, unpinned}
+use Rattle.clone_pool.specs.Frames.{no_frame, frame_at, name_of, is_fresh, holder, pinned, unpinned}
 use Rattle.clone_pool.specs.Pool.{Frames, IsPool, KeepsOthers, with_frame}
 use Rattle.clone_buffer.specs.Buffered.{Buffered, Shown, Shows}
 use Rattle.clone_buffer.specs.OnePage.{Flushes, frame_in, frame_of}
-use Rattle.clone_buffer.specs.Keeping.{IsKeptPage, IsKept, Stands}
+use Rattle.clone_buffer.specs.Keeping.{IsKeptPage, Stands}
 use Rattle.clone_buffer.proofs.FrameLemmas.{is_named, stays, goes}
 use Rattle.clone_buffer.proofs.KeepLemmas.{shows_but}
 

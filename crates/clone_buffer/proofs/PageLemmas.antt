@@ -1,5 +1,5 @@
 -- One page that is kept stays so, whatever a call does to it.
-use Rattle.std.proofs.Common.{◌≡◌, ◌↔◌, ◌<◌, ◌+◌, ◌^◌, ◌&&◌, ◌++◌, ℕ, Bool, true, false, List, [], ◌∷◌, length, slice_get, refl, sym, ap, subst, ◌∙◌, arith, Option, Some, None, option_map, option_and_then, unwrap_or, IsSome, IfSome, IsTrue}
+use Rattle.std.proofs.Common.{◌≡◌, ◌↔◌, ◌&&◌, ◌++◌, ℕ, Bool, true, false, List, [], ◌∷◌, slice_get, refl, sym, ap, subst, ◌∙◌, Option, Some, None, option_map, option_and_then, unwrap_or, IsSome, IfSome, IsTrue}
 use Rattle.std.proofs.lemmas.Bool.{false≢true, true≢false}
 use Rattle.std.specs.FinMap as finite
 use Rattle.clone_outside.specs.Disk.{DiskImage, page_of, GivesQuiet}
@@ -9,7 +9,7 @@ use Rattle.clone_image.specs.Redone.{Standing, no_space, past_end, stands, redon
 use Rattle.clone_law.specs.Since.{ends, Suits}
 use Rattle.clone_law.specs.Touches.{Lax}
 use Rattle.clone_law.specs.Rule.{EngineRule}
-use Rattle.clone_law.specs.Machine.{Engine, World, Idle, Flight, Passed, Changed, Fetched, Evicted, HasSpace, Stands, first_of, dirtied}
+use Rattle.clone_law.specs.Machine.{Engine, World, Idle, Passed, Changed, Fetched, Evicted, HasSpace, Stands, first_of, dirtied}
 use Rattle.clone_law.proofs.EventLemmas.{engine_kept}
 use Rattle.clone_pool.specs.declared.frame.Frame.{Frame}
 use Rattle.clone_pool.specs.declared.frame.Flush.{Flush}
@@ -142,7 +142,7 @@ module _ (log : List (List Record)) (flushes : Flushes) (m : DiskImage) (space n
       let dirty : first_of (ends log) f.oldest ≡ g.oldest = first_is (ends log) f.oldest ∙ sym oldest in
       let flown : dirtied (ends log) (flight_of f.flush image) ≡ flight_of g.flush image = flown_on (ends log) f.flush image ∙ sym (ap (λ (x : Flush). flight_of x image) flush_is) in
       let new : record e { log = log ++ records ∷ []; frame = Some g.page; oldest = first_of (ends log) f.oldest; flight = dirtied (ends log) (flight_of f.flush image) } ≡ engine_with (log ++ records ∷ []) flushes m space number (Some g) =
-              λ i. record e { log = log ++ records ∷ []; writing = writing i; frame = Some g.page; oldest = dirty i; flight = flown i } in
+      λ i. record e { log = log ++ records ∷ []; writing = writing i; frame = Some g.page; oldest = dirty i; flight = flown i } in
       record {
         rule = subst (EngineRule space number) new (engine_kept space number (world e) (Changed records g.page) k.rule (suits, becomes, subst HasSpace (sym is) tt));
         dirty = λ t. subst IsSome (sym oldest) refl;

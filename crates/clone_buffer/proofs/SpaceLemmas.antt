@@ -3,7 +3,6 @@ use Rattle.std.proofs.Common.{◌≡◌, ◌↔◌, ◌≢◌, ◌<◌, ◌≤�
 use Rattle.std.proofs.lemmas.Bool.{cases_eq, cases_lt, false≢true, true≢false, lt-ltb, ltb-true, ltb-false, eq-eqb, eqb-true}
 use Rattle.std.proofs.lemmas.List.{get_or-replicate, length-replicate}
 use Rattle.std.proofs.lemmas.Option.{slice_get-get_or, slice_get_past}
-use Rattle.std.specs.List.{AllByRecursion}
 use Rattle.std.specs.FinMap as finite
 use Rattle.clone_outside.specs.Disk as disk
 use Rattle.clone_outside.specs.Disk.{DiskImage, ForTold, page_of}
@@ -22,7 +21,6 @@ use Rattle.clone_pool.specs.Frames.{frame_at, name_in, name_of, is_fresh, is_beg
 use Rattle.clone_buffer.specs.OnePage.{Flushes, frame_in, frame_of, standing_at, standing_in, flight_of, disk_standing, is_open, has_space, engine_with}
 use Rattle.clone_buffer.specs.Keeping.{IsKeptPage, IsKept, Stands}
 use Rattle.clone_buffer.proofs.PageLemmas.{world}
-
 use Rattle.clone_mtr.specs.declared.record.Record.TheVariants.{Init, Write, Extend, Create, Drop}
 use Rattle.clone_mtr.specs.Spelling.{spelling}
 use Rattle.clone_image.specs.Image.{page_of as image_page}
@@ -41,7 +39,7 @@ use Rattle.clone_pool.specs.Pool.{IsPool}
 use Rattle.clone_buffer.specs.Buffered.{Buffered, IsBuffer}
 use Rattle.clone_buffer.specs.Writing.{any_names, written, Writes, MakesSpace, Creates, HasMade}
 use Rattle.clone_buffer.proofs.FrameLemmas.{holder_name}
-use Rattle.clone_buffer.proofs.WriteLemmas.{named_held, named_oldest, named_flush, of_named, PassesBy, passes_all, resets_none}
+use Rattle.clone_buffer.proofs.WriteLemmas.{named_held, named_oldest, named_flush, of_named, passes_all, resets_none}
 use Rattle.clone_buffer.proofs.WrittenLemmas.{small, passed, renewed, renewed_frame, frame_of-passed, some_of, shows_created, IsBuffer-written}
 
 -- a page of such a space
@@ -87,7 +85,7 @@ module _ (log : List (List Record)) (flushes : Flushes) (m : DiskImage) (space n
       let shut = closed (redone space number longer) in
       let grounded : None ≡ flight_of g.flush (flushes.image space number) = sym (ap (λ (x : Flush). flight_of x (flushes.image space number)) idle) in
       let new : record e { log = longer; disk = stands zero_page; writing = false; frame = Some g.page; oldest = Some (ends log); flight = None } ≡ engine_with longer flushes m space number (Some g) =
-              λ i. record e { log = longer; disk = on_disk i; writing = shut i; frame = Some g.page; oldest = sym oldest i; flight = grounded i } in
+      λ i. record e { log = longer; disk = on_disk i; writing = shut i; frame = Some g.page; oldest = sym oldest i; flight = grounded i } in
       record {
         rule = subst (EngineRule space number) new (engine_kept space number (world e) (Opened records g.page) k.rule (suits, is, absent, tt));
         dirty = λ t. absurd (false≢true (shut ∙ t));
@@ -220,8 +218,8 @@ module _ (v : Buffered) (flushes : Flushes) (m : DiskImage) (space pages : ℕ) 
       let suits : Suits space n v.log records = record { small = less; sound = sound.0; ordered = sound.1 } in
       subst (IsKeptPage (v.log ++ records ∷ []) flushes m space n) (sym both.0)
       (opened_page v.log flushes m space n pages records quiet _ low suits both.1 (no_space_there v.log space n (omega (arith, less)) (makes.absent k.right))
-       (named_oldest page records (ring.end_of v.ring) (ring.end_of v.ring + length (spelling records)) f hits ∙ ap (λ (o : Option ℕ). Some (unwrap_or o (ring.end_of v.ring))) (clean_fresh f.oldest idle.1) ∙ ap Some b.end)
-       (named_flush page records (ring.end_of v.ring) (ring.end_of v.ring + length (spelling records)) f hits ∙ ap (noted (ring.end_of v.ring)) ((p.frame held.0).clean idle.1)) (bare n))
+      (named_oldest page records (ring.end_of v.ring) (ring.end_of v.ring + length (spelling records)) f hits ∙ ap (λ (o : Option ℕ). Some (unwrap_or o (ring.end_of v.ring))) (clean_fresh f.oldest idle.1) ∙ ap Some b.end)
+      (named_flush page records (ring.end_of v.ring) (ring.end_of v.ring + length (spelling records)) f hits ∙ ap (noted (ring.end_of v.ring)) ((p.frame held.0).clean idle.1)) (bare n))
     where
       within : (n < pages) ⊎ (pages ≤ n) → IsSome (image_page (finite.insert (replayed v.log) space (replicate pages zero_page)) space n) → n < pages
       within (inl low) there = low

@@ -1,7 +1,7 @@
 -- What the records of a mini-transaction do to the frames, and to the pages that they show.
-use Rattle.std.proofs.Common.{◌≡◌, ◌≢◌, ◌<◌, ◌≤◌, ◌+◌, ◌⊎◌, inl, inr, ◌&&◌, ◌==◌, ℕ, zero, suc, Bool, true, false, List, [], ◌∷◌, ◌++◌, length, get_or, set, map, refl, sym, ap, subst, ◌∙◌, arith, Option, Some, None, option_map, option_and_then, unwrap_or, IsSome, IfSome, if◌then◌else◌}
+use Rattle.std.proofs.Common.{◌≡◌, ◌≢◌, ◌<◌, ◌≤◌, ◌⊎◌, inl, inr, ◌&&◌, ◌==◌, ℕ, Bool, true, false, List, [], ◌∷◌, length, set, map, refl, sym, ap, subst, ◌∙◌, Option, Some, None, option_map, option_and_then, unwrap_or, IsSome, IfSome, if◌then◌else◌}
 use Rattle.std.proofs.lemmas.Bool.{cases_eq, cases_lt, false≢true, true≢false, and_parts, eqb-true}
-use Rattle.std.proofs.lemmas.List.{get_or-set_same, get_or-set_other, get_or-map, map-set, length-map, set_past, set-get_or}
+use Rattle.std.proofs.lemmas.List.{get_or-set_same, get_or-set_other, get_or-map, map-set, set_past, set-get_or}
 use Rattle.std.specs.List.{AllByRecursion}
 use Rattle.clone_mtr.specs.Effects.{effect}
 use Rattle.clone_mtr.specs.declared.record.Record.{Record}
@@ -21,11 +21,11 @@ use Rattle.clone_pool.specs.declared.frame.Flush.TheVariants as flush
 use Rattle.clone_pool.specs.declared.frame.PageName.{PageName}
 use Rattle.clone_pool.specs.Index.{is_name_of, place_of}
 use Rattle.clone_pool.specs.Frames.{no_frame, frame_at, name_in, name_of, is_fresh, holder, page_changed, changed, made, noted}
-use Rattle.clone_pool.specs.Pool.{Frames, with_frame}
+use Rattle.clone_pool.specs.Pool.{Frames}
 use Rattle.clone_pool.proofs.NameLemmas.{named, is_own_name}
 use Rattle.clone_buffer.specs.Buffered.{Shown, Shows}
 use Rattle.clone_buffer.specs.Writing.{named_frame, changed_at, after_records, IsOnPage, any_names}
-use Rattle.clone_buffer.proofs.FrameLemmas.{holder_name, is_named}
+use Rattle.clone_buffer.proofs.FrameLemmas.{holder_name}
 
 -- no page has two frames
 abbrev pub Once : List Frame → Type 0
@@ -101,10 +101,10 @@ frame-step r start end v page b held = by (page_changed r)
     apart name None is miss = refl
     apart name (Some a) is miss =
         let other : b ≡ a → ⊥ = λ same.
-                let x = (holder_name v.frames name a is).1 in
-                let y = (holder_name v.frames page b held).1 in
-                let z : Some name ≡ Some page = sym x ∙ sym (ap (λ (k : ℕ). name_of (frame_at v.frames k)) same) ∙ y in
-                true≢false (sym (is_own_name page) ∙ sym (ap (is_name_of page) z) ∙ miss) in
+        let x = (holder_name v.frames name a is).1 in
+        let y = (holder_name v.frames page b held).1 in
+        let z : Some name ≡ Some page = sym x ∙ sym (ap (λ (k : ℕ). name_of (frame_at v.frames k)) same) ∙ y in
+        true≢false (sym (is_own_name page) ∙ sym (ap (is_name_of page) z) ∙ miss) in
         get_or-set_other v.frames a b (changed r start end (frame_at v.frames a)) no_frame other
 
     named_so : (name : PageName) (t : Bool) → is_name_of page (Some name) ≡ t → after (Some name) ≡ (if t then changed r start end f else f)

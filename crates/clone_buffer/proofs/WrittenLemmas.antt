@@ -1,10 +1,10 @@
 -- A buffer once a mini-transaction was written.
-use Rattle.std.proofs.Common.{◌≡◌, ◌≢◌, ◌<◌, ◌≤◌, ◌+◌, ◌-◌, ◌^◌, ◌⊎◌, inl, inr, ℕ, Bool, true, false, List, [], ◌∷◌, ◌++◌, length, drop, refl, sym, ap, subst, ◌∙◌, arith, Option, Some, None, Ok, Err, Result, IsSome, IfSome, IsTrue, if◌then◌else◌, unwrap_or, replicate}
+use Rattle.std.proofs.Common.{◌≡◌, ◌≢◌, ◌<◌, ◌≤◌, ◌+◌, ◌-◌, ◌^◌, ◌⊎◌, inl, inr, ℕ, Bool, true, false, List, [], ◌∷◌, ◌++◌, length, drop, refl, sym, ap, subst, ◌∙◌, arith, Option, Some, None, Ok, Err, Result, IsSome, IsTrue, if◌then◌else◌, unwrap_or, replicate}
 use Rattle.std.proofs.lemmas.Bool.{cases_eq, cases_lt, false≢true, true≢false}
 use Rattle.std.proofs.lemmas.List.{length-append, length-drop, drop-append-le}
 use Rattle.std.specs.List.{AllByRecursion}
 use Rattle.std.specs.FinMap as finite
-use Rattle.clone_outside.specs.Disk.{DiskImage, ForTold}
+use Rattle.clone_outside.specs.Disk.{DiskImage}
 use Rattle.clone_page.specs.Header.{zero_page}
 use Rattle.clone_mtr.specs.declared.record.Record.{Record}
 use Rattle.clone_mtr.specs.declared.record.Record.TheVariants as record_is
@@ -25,10 +25,8 @@ use Rattle.clone_pool.specs.declared.frame.Frame.{Frame}
 use Rattle.clone_pool.specs.declared.frame.Content.{Content}
 use Rattle.clone_pool.specs.declared.frame.Content.TheVariants.{Unused, Fresh, Held}
 use Rattle.clone_pool.specs.declared.frame.PageName.{PageName}
-use Rattle.clone_pool.specs.Index.{is_name_of}
-use Rattle.clone_pool.specs.Frames.{frame_at, name_in, name_of, is_fresh, holder, page_changed, noted}
+use Rattle.clone_pool.specs.Frames.{frame_at, name_in, name_of, is_fresh, holder, noted}
 use Rattle.clone_pool.specs.Pool.{Frames, IsPool}
-use Rattle.clone_pool.proofs.NameLemmas.{named}
 use Rattle.clone_buffer.specs.Buffered.{Buffered, IsBuffer, Shown, Shows}
 use Rattle.clone_buffer.specs.OnePage.{Flushes, frame_in, frame_of}
 use Rattle.clone_buffer.specs.Keeping.{IsKeptPage, IsKept, Stands}
@@ -122,10 +120,9 @@ module _ (v : Buffered) (flushes : Flushes) (m : DiskImage) (records : List Reco
       let g : Frame = changed_by page records start end (frame_at v.pool.frames at) in
       let becomes : frame_at new.frames at ≡ g = frame-after records start end v.pool page at held in
       let shows : Shown (replayed longer) g.content g.page = subst (λ (h : Frame). Shown (replayed longer) h.content h.page) becomes (after.shows k.right at) in
-      let is : page_of (replayed longer) space number ≡ Some g.page = shown_held (replayed longer) g.content g.page page shows (stay.1 ∙ (holder_name v.pool.frames page at held).1) stay.0 in
-      (
+      let is : page_of (replayed longer) space number ≡ Some g.page = shown_held (replayed longer) g.content g.page page shows (stay.1 ∙ (holder_name v.pool.frames page at held).1) stay.0 in (
         ap (frame_in new.frames) (holder-after records start end v.pool page ∙ held) ∙ ap (λ (h : Frame). if is_fresh h.content then None else Some h) becomes ∙ ap (λ (t : Bool). if t then None else Some g) stay.0,
-        stands_there longer space number g.page (omega (arith, after.below)) is
+        stands_there longer space number g.page (omega (arith, after.below)) is,
       )
 
   -- a page that a record names and that is there
@@ -145,8 +142,8 @@ module _ (v : Buffered) (flushes : Flushes) (m : DiskImage) (records : List Reco
       let had : frame_of v.pool.frames space number ≡ Some f = ap (frame_in v.pool.frames) held.1 ∙ frame_in-old v.pool.frames at old in
       subst (IsKeptPage longer flushes m space number) (sym new_frame.0)
       (changed_page v.log flushes m space number records f g (suits_there space number v.log records f.page small stood calm) stood new_frame.1
-       (named_oldest page records start end f hits ∙ ap (λ (s : ℕ). Some (unwrap_or f.oldest s)) b.end) (named_flush page records start end f hits ∙ ap (λ (s : ℕ). noted s f.flush) b.end)
-       (subst (IsKeptPage v.log flushes m space number) had (k.page space number)))
+      (named_oldest page records start end f hits ∙ ap (λ (s : ℕ). Some (unwrap_or f.oldest s)) b.end) (named_flush page records start end f hits ∙ ap (λ (s : ℕ). noted s f.flush) b.end)
+      (subst (IsKeptPage v.log flushes m space number) had (k.page space number)))
 
   -- records that change pages that are there
   pub kept_written : AllByRecursion EditsPages records → AllByRecursion (HasFrame v.pool.frames) records → AllByRecursion (IsOnPage (replayed v.log)) records → IsKept (written records v) flushes m
@@ -211,7 +208,7 @@ shows_created v (record_is.Create space pages ∷ rest) p behind makes right sho
     let records : List Record = record_is.Create space pages ∷ rest in
     subst (λ (i : Image). Shows i (written records v).pool.frames) (sym (replayed-push v.log records _ (sym behind)))
     (shows_records rest (finite.insert (replayed v.log) space (replicate pages zero_page)) v.pool (ring.end_of v.ring) (ring.end_of v.ring + length (spelling records)) makes.edits p.once
-     (λ at. ready_made v space pages rest at (frame_at v.pool.frames at).content (frame_at v.pool.frames at).page makes right refl (shows at)))
+    (λ at. ready_made v space pages rest at (frame_at v.pool.frames at).content (frame_at v.pool.frames at).page makes right refl (shows at)))
 
 -- whatever a write answers
 pub stands_result : (v w : Buffered) (flushes : Flushes) (told : Option DiskImage) (records : List Record) (result : Result ℕ LogFull) → IsPool v.pool → IsBuffer v → IsSpelled records → AllByRecursion EditsPages records → AllByRecursion (HasFrame v.pool.frames) records

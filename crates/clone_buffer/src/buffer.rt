@@ -92,7 +92,9 @@ impl Buffer {
         let fetched = self.pool.fetch(disk, space, number);
         self.pool.laws();
         let at = fetched?;
-        self.shadow = self.shadow.then(&Note::Read(space, number, self.pool.frame(at)));
+        self.shadow = self
+            .shadow
+            .then(&Note::Read(space, number, self.pool.frame(at)));
         Ok(at)
     }
 

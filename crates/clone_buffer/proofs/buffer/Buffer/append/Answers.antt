@@ -1,4 +1,4 @@
-use Rattle.std.proofs.Common.{◌≡◌, ◌≤◌, ◌+◌, ◌++◌, List, length, take, ap, sym, subst, ◌∙◌, arith, IsTrue}
+use Rattle.std.proofs.Common.{◌≡◌, ◌≤◌, length, take, ap, sym, subst, arith, IsTrue}
 use Rattle.std.proofs.lemmas.List.{length-append}
 use Rattle.clone_mtr.specs.Spelling.{spelling}
 use Rattle.clone_mtr.proofs.Spellings.{spelling_some}
