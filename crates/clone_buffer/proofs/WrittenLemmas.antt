@@ -14,7 +14,8 @@ use Rattle.clone_image.specs.Image as image_is
 use Rattle.clone_image.specs.Replay.{first_lsn, end_of, replayed, IsSpelled}
 use Rattle.clone_image.specs.Redone.{stands, redone}
 use Rattle.clone_image.proofs.Images.{page_of-made, page_of-past, page_of-elsewhere}
-use Rattle.clone_image.proofs.Logs.{log_of-push, after_log-push, All-push}
+use Rattle.clone_base.proofs.Lists.{All-push}
+use Rattle.clone_image.proofs.Logs.{log_of-push, after_log-push}
 use Rattle.clone_law.specs.Since.{ends}
 use Rattle.clone_law.specs.Touches.{touches, resets}
 use Rattle.clone_law.proofs.AppendLemmas.{suits_there, suits_unnamed, others_pass}
