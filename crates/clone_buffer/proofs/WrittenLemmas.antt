@@ -51,7 +51,7 @@ IsBuffer-written v records b spelled room shows = record {
   bytes = ap (λ xs. xs ++ spelling records) b.bytes ∙ sym (drop-append-le (v.ring.floor - first_lsn) (log_of v.log) (spelling records) within) ∙ ap (drop (v.ring.floor - first_lsn)) (sym (log_of-push v.log records));
   end = omega (arith, b.end, ends-push v.log records, length-append v.ring.bytes (spelling records));
   below = omega (arith, b.end, room, ends-push v.log records);
-  spelled = All-push v.log records b.spelled spelled;
+  spelled = All-push IsSpelled v.log records b.spelled spelled;
   shows = shows;
 }
   where
