@@ -12,7 +12,7 @@ use crate::connection::{Connection, LinkMachine};
 use crate::cut::{Cut, PLANNED_CUT};
 use crate::mem_end::MemEnd;
 use crate::way::Way;
-use clone_outside::{Link, Net, NoMemory, Refusal};
+use clone_outside::{Link, Net, Refusal};
 use clone_turn::TurnCell;
 use std::alloc::{AllocError, Global};
 use std::collections::BTreeMap;
@@ -68,7 +68,7 @@ impl<R> MemNet<R> {
         connection: u32,
         to_donor: u64,
         to_requester: u64,
-    ) -> Result<(), NoMemory>
+    ) -> Result<(), AllocError>
         ensures planned { OnOk result (cuts_of self.new.cuts ≡ finite.insert (cuts_of self.old.cuts) connection
             (record { to_donor = to_donor; to_requester = to_requester })) }
         ensures refused { OnErr result (cuts_of self.new.cuts ≡ cuts_of self.old.cuts) }
