@@ -12,7 +12,6 @@ use Rattle.std.below.std_heap.proofs.GlobalAllocator.TheSendSync.{the_frees}
 use Rattle.clone_turn.specs.contracts.cell.Seat as Seat
 use Rattle.clone_turn.specs.contracts.cell.TurnCell as Cell
 use Rattle.clone_turn.proofs.Sending.{seat_send, cell_send, cell_sync}
-use Rattle.clone_memlink.specs.contracts.bell.Bell as Bell
 use Rattle.clone_memlink.proofs.bell.Bell.TheSendSync.{the_field_send as bell_send, the_field_sync as bell_sync}
 use Rattle.clone_memlink.proofs.connection.Connection.TheSendSync.{the_send as connection_send}
 use Rattle.clone_outside.proofs.link.Side.TheSendSync.{the_field_send as side_send}

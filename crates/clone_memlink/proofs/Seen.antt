@@ -1,25 +1,24 @@
 -- What an end has seen more, and what it sent and received there by its own calls.
-use Rattle.std.proofs.Common.{ℕ, ◌≡◌, ◌≤◌, ◌-◌, min, List, [], ◌∷◌, ◌++◌, length, take, drop, refl, sym, ap, ◌∙◌, subst, true, Bool, Some, None, append_assoc, arith}
+use Rattle.std.proofs.Common.{ℕ, ◌≡◌, ◌≤◌, ◌-◌, min, List, [], ◌∷◌, ◌++◌, length, take, refl, sym, ap, ◌∙◌, subst, true, Bool, Some, None, append_assoc, arith}
 use Rattle.std.proofs.lemmas.List.{append-nil, length-take, take-take}
 use Rattle.std.specs.declared.option.Option.{Option}
-use Rattle.std.specs.Prelude.{Result, Ok, Err}
+use Rattle.std.specs.Prelude.{Ok, Err}
 use Rattle.clone_outside.specs.declared.link.Side.{Side}
 use Rattle.clone_outside.specs.declared.link.Side.TheVariants.{Donor, Requester}
-use Rattle.clone_outside.specs.declared.link.LinkRefusal.{LinkRefusal}
 use Rattle.clone_outside.specs.declared.link.LinkRefusal.TheVariants as refused
 use Rattle.clone_turn.specs.Runs.{IsLegalRun, end_of, entries, others, calls}
-use Rattle.clone_turn.specs.Seats.{CellModel, SeatModel, IsOf, MakesCall}
-use Rattle.clone_turn.proofs.Entries.{entries-append, end_of-append, run_later}
+use Rattle.clone_turn.specs.Seats.{CellModel, SeatModel, MakesCall}
+use Rattle.clone_turn.proofs.Entries.{entries-append, run_later}
 use Rattle.clone_turn.proofs.OwnCalls.{calls-append, calls-others, calls_more}
 use Rattle.clone_memlink.specs.declared.connection.Connection.{Connection}
 use Rattle.clone_memlink.specs.declared.connection.LinkCall.{LinkCall}
 use Rattle.clone_memlink.specs.declared.connection.LinkCall.TheVariants.{Send}
 use Rattle.clone_memlink.specs.declared.connection.LinkAnswer.{LinkAnswer}
 use Rattle.clone_memlink.specs.declared.connection.LinkAnswer.TheVariants.{Sent, Lost, NoMemory}
-use Rattle.clone_memlink.specs.Ways.{WayModel, room_for, up_to_cut}
-use Rattle.clone_memlink.specs.Connections.{Steps, Sends, way_to, other}
+use Rattle.clone_memlink.specs.Ways.{room_for, up_to_cut}
+use Rattle.clone_memlink.specs.Connections.{Steps, way_to, other}
 use Rattle.clone_memlink.specs.Ends.{LinkEntry, side_of, sent_of, received_of, where_same, sent_in, received_in}
-use Rattle.clone_memlink.specs.Held.{EndModel, IsHalf, MadeBy, Sees, EndsWith, IsToldBy, SendsBytes, SendsFront, sent_by, received_by}
+use Rattle.clone_memlink.specs.Held.{EndModel, IsHalf, MadeBy, Sees, EndsWith, SendsFront}
 
 abbrev pub LinkSeat : Type 0
 LinkSeat = SeatModel Connection LinkCall LinkAnswer

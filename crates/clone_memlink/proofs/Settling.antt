@@ -1,10 +1,10 @@
 -- Both ends of a connection joined: the run is made of the calls of both.
-use Rattle.std.proofs.Common.{ℕ, ◌≡◌, ◌+◌, ◌*◌, ◌-◌, ◌^◌, ◌<◌, max, List, [], ◌∷◌, ◌++◌, refl, sym, ap, ◌∙◌, subst, true, false, Bool, arith}
+use Rattle.std.proofs.Common.{ℕ, ◌≡◌, List, [], ◌∷◌, ◌++◌, refl, sym, ap, ◌∙◌, subst, true, false, Bool, arith}
 use Rattle.std.proofs.lemmas.List.{append-nil}
 use Rattle.clone_outside.specs.declared.link.Side.{Side}
 use Rattle.clone_outside.specs.declared.link.Side.TheVariants.{Donor, Requester}
 use mathlib.Core.List.{IsPrefix}
-use Rattle.clone_turn.specs.Runs.{Agree, IsLegalRun, end_of, entries, calls, meld}
+use Rattle.clone_turn.specs.Runs.{Agree, IsLegalRun, entries, calls, meld}
 use Rattle.clone_turn.specs.Seats.{CellModel, ClosesAt, HasWhole, joined_seat}
 use Rattle.clone_memlink.specs.declared.connection.Connection.{Connection}
 use Rattle.clone_memlink.specs.Connections.{Steps, other}

@@ -1,6 +1,5 @@
 -- What contracts see of an end in memory, and what its calls did in the run of its connection.
-use Rattle.std.specs.Prelude.{ℕ, ◌≡◌, Bool, true, List, [], ◌∷◌, ◌++◌, take, Result, Ok, Err, Some, None}
-use Rattle.std.specs.declared.option.Option.{Option}
+use Rattle.std.specs.Prelude.{ℕ, ◌≡◌, Bool, true, List, [], ◌∷◌, ◌++◌, take, Result, Ok, Err}
 use Rattle.clone_outside.specs.declared.link.Side.{Side}
 use Rattle.clone_outside.specs.declared.link.Received.{Received}
 use Rattle.clone_outside.specs.declared.link.Received.TheVariants as got

@@ -1,4 +1,4 @@
-use Rattle.std.proofs.Common.{rules, ◌≡◌, ℕ, [], subst}
+use Rattle.std.proofs.Common.{rules, ◌≡◌, ℕ, subst}
 use Rattle.std.specs.Prelude.{Result, Ok}
 use Rattle.clone_outside.specs.declared.link.LinkRefusal.{LinkRefusal}
 use Rattle.clone_memlink.specs.Held.{SendsFront}

@@ -1,8 +1,8 @@
-use Rattle.std.proofs.Common.{rules, ◌≡◌, ◌≤◌, ◌+◌, ◌-◌, ℕ, [], take, drop, length, ap, ◌∙◌, arith, refl}
+use Rattle.std.proofs.Common.{rules, ◌≡◌, ◌≤◌, ◌+◌, ◌-◌, ℕ, [], take, drop, length, ap}
 use Rattle.std.specs.Prelude.{Result, Ok, Err, Some}
 use Rattle.clone_outside.specs.declared.link.LinkRefusal.{LinkRefusal}
-use Rattle.clone_memlink.specs.Held.{EndModel, SendsBytes}
-use Rattle.clone_memlink.proofs.Sending.{mine, sent_more_then, stopped, sent_all, sent_is, received_is}
+use Rattle.clone_memlink.specs.Held.{SendsBytes}
+use Rattle.clone_memlink.proofs.Sending.{sent_more_then, stopped, sent_all, sent_is, received_is}
 use Rattle.clone_memlink.proofs.mem_end.MemEndLink.send.Goals as goal
 
 pub returns-in_err-done-clause-calls : goal.returns-in_err-done-clause-calls

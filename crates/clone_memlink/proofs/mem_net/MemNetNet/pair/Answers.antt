@@ -1,6 +1,4 @@
-use Rattle.std.proofs.Common.{rules, ◌≡◌, ap, sym}
-use Rattle.clone_turn.specs.Seats.{CellModel}
-use Rattle.clone_memlink.specs.declared.connection.Connection.{Connection}
+use Rattle.std.proofs.Common.{ap, sym}
 use Rattle.clone_memlink.specs.Nets.{NetModel}
 use Rattle.clone_memlink.proofs.Naming.{made_last, made_before}
 use Rattle.clone_memlink.proofs.mem_net.MemNetNet.pair.Goals as goal
