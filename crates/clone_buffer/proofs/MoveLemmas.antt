@@ -4,6 +4,7 @@ use Rattle.std.proofs.lemmas.List.{get_or-set_same, get_or-set_other}
 use Rattle.clone_outside.specs.Disk.{DiskImage}
 use Rattle.clone_mtr.specs.declared.record.Record.{Record}
 use Rattle.clone_image.specs.Image.{Image}
+use Rattle.clone_ring.specs.Window.{Window}
 use Rattle.clone_pool.specs.declared.frame.Frame.{Frame}
 use Rattle.clone_pool.specs.declared.frame.Content.TheVariants.{Unused}
 use Rattle.clone_pool.specs.declared.frame.PageName.{PageName}
@@ -123,3 +124,11 @@ shows_unpinned image old at low shows = shows_but image old.frames (with_frame a
     by : (b : Bool) → Shown image (if b then record f { content = Unused; pins = 0; last_use = 0 } else record f { pins = f.pins - 1 }).content (if b then record f { content = Unused; pins = 0; last_use = 0 } else record f { pins = f.pins - 1 }).page
     by true = tt
     by false = shows at
+
+-- The log's floor rose.
+pub stands_raised : (v w : Buffered) (flushes : Flushes) (told : Option DiskImage) (window : Window) → w ≡ record v { ring = window } → Stands v flushes told → Stands w flushes told
+stands_raised v w flushes told window is st = subst (λ (u : Buffered). Stands u flushes told) (sym is) (by told st)
+  where
+    by : (t : Option DiskImage) → Stands v flushes t → Stands (record v { ring = window }) flushes t
+    by None st = tt
+    by (Some m) k = record { right = k.right; page = k.page }
