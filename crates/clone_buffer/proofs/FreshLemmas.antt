@@ -17,7 +17,7 @@ use Rattle.clone_buffer.specs.OnePage.{Flushes, frame_in, frame_of}
 use Rattle.clone_buffer.specs.Keeping.{Stands}
 use Rattle.clone_buffer.proofs.FrameLemmas.{holder_name, is_named, stays}
 use Rattle.clone_buffer.proofs.FetchLemmas.{Moves, given_up}
-use Rattle.clone_buffer.proofs.KeepLemmas.{shows_but, kept_moved}
+use Rattle.clone_buffer.proofs.KeepLemmas.{kept_moved}
 
 -- a page that isn't there has no frame, or a new one
 fresh_of : (image : Image) (content : Content) (bytes : List ℕ) (page : PageName) → Shown image content bytes → name_in content ≡ Some page → page_of image page.space page.number ≡ None → is_fresh content ≡ true
@@ -32,24 +32,6 @@ same_name : (a b : PageName) → Some a ≡ Some b → a ≡ b
 same_name a b is = cc
 
 module _ (image : Image) (old new : Frames) (result : Result ℕ FetchRefusal) (target : PageName) (absent : page_of image target.space target.number ≡ None) (shows : Shows image old.frames) where
-  -- the frames show their pages
-  pub shows_fresh : Freshens target old new result → Shows image new.frames
-  shows_fresh f = by (holder old.frames target) refl f
-    where
-      taken : (r : Result ℕ FetchRefusal) → TakesFrame target old new r → Shows image new.frames
-      taken (Ok at) t = subst (λ (v : Frames). Shows image v.frames) (sym t.1) (shows_but image old.frames (with_fresh target at old).frames at (freshened target (next_use old.uses) (frame_at old.frames at)) t.0.within shows refl (absent, refl))
-      taken (Err refusal) t = subst (λ (v : Frames). Shows image v.frames) (sym t.2) shows
-
-      by : (found : Option ℕ) → holder old.frames target ≡ found → MatchOption found (TakesFrame target old new result) (λ at. (result ≡ Ok at) × (new ≡ used at (with_frame at pinned old))) → Shows image new.frames
-      by None none f = taken result f
-      by (Some at) is f =
-          let low = (holder_name old.frames target at is).0 in
-          let mid : Frames = with_frame at pinned old in
-          let here : frame_at mid.frames at ≡ pinned (frame_at old.frames at) = get_or-set_same old.frames at (pinned (frame_at old.frames at)) no_frame low in
-          let shown : Shows image mid.frames = shows_but image old.frames mid.frames at (pinned (frame_at old.frames at)) low shows refl (shows at) in
-          subst (λ (v : Frames). Shows image v.frames) (sym f.1)
-          (shows_but image mid.frames (used at mid).frames at (touched (next_use old.uses) (frame_at mid.frames at)) (subst (λ (n : ℕ). at < n) (sym (length-set old.frames at (pinned (frame_at old.frames at)))) low) shown refl (shown at))
-
   module _ (p : IsPool old) (q : IsPool new) (page : PageName) where
     abbrev Stay : Type 0
     Stay = Moves page target (holder old.frames target) new.frames (Err DiskFault) (frame_in old.frames (holder old.frames page)) (frame_in new.frames (holder new.frames page))

@@ -155,15 +155,6 @@ right_exactly o a bytes shown space number same is =
 one_place : (x y : ℕ) (r : Result ℕ FetchRefusal) → r ≡ Ok x → r ≡ Ok y → x ≡ y
 one_place x y r a b = cc
 
--- the frames show their pages after a fetch
-pub shows_after : (o a : State) (old new : Frames) (result : Result ℕ FetchRefusal) (space number at : ℕ) (bytes : List ℕ) → Fetches (record { space = space; number = number }) old new result → result ≡ Ok at → bytes ≡ (frame_at new.frames at).page
-    → a ≡ record o { right = o.right && is_page bytes (page_of (replayed o.log) space number) } → (IsTrue o.right → Shows (replayed o.log) old.frames) → IsTrue a.right → Shows (replayed a.log) new.frames
-shows_after o a old new result space number at bytes f ok same is shows t =
-    let both = (right_exactly o a bytes (frame_at new.frames at).page space number same is).0 t in
-    subst (λ (s : State). Shows (replayed s.log) new.frames) (sym is)
-    (shows_fetched (replayed o.log) old new result (record { space = space; number = number }) f
-    (λ b answer. subst (λ (k : ℕ). page_of (replayed o.log) space number ≡ Some (frame_at new.frames k).page) (one_place at b result ok answer) both.1) (shows both.0))
-
 module _ (v : Buffered) (flushes : Flushes) (told now : Option DiskImage) (new : Frames) (result : Result ℕ FetchRefusal) (space number : ℕ) where
   abbrev target : PageName
   target = record { space = space; number = number }
@@ -194,10 +185,3 @@ module _ (v : Buffered) (flushes : Flushes) (told now : Option DiskImage) (new :
         where
           no_answer : (b : ℕ) → result ≡ Ok b → ⊥
           no_answer b answer = let both : Err e ≡ Ok b = sym err ∙ answer in absurd (cc)
-
--- a refused fetch leaves frames that show their pages
-pub shows_refused : (image : Image) (old new : Frames) (result : Result ℕ FetchRefusal) (target : PageName) (e : FetchRefusal) → Fetches target old new result → result ≡ Err e → Shows image old.frames → Shows image new.frames
-shows_refused image old new result target e f err shows = shows_fetched image old new result target f (λ b answer. absurd (no_answer b answer)) shows
-  where
-    no_answer : (b : ℕ) → result ≡ Ok b → ⊥
-    no_answer b answer = let both : Err e ≡ Ok b = sym err ∙ answer in absurd (cc)

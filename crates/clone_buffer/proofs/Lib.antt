@@ -8,3 +8,4 @@ pub mod LawLemmas
 pub mod MoveLemmas
 pub mod FreshLemmas
 pub mod SpaceLemmas
+pub mod FlushLemmas

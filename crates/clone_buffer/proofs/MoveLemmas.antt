@@ -3,17 +3,16 @@ use Rattle.std.proofs.Common.{◌≡◌, ◌<◌, ◌⊎◌, inl, inr, ◌&&◌,
 use Rattle.std.proofs.lemmas.List.{get_or-set_same, get_or-set_other}
 use Rattle.clone_outside.specs.Disk.{DiskImage}
 use Rattle.clone_mtr.specs.declared.record.Record.{Record}
-use Rattle.clone_image.specs.Image.{Image}
+use Rattle.clone_ring.specs.Window.{Window}
 use Rattle.clone_pool.specs.declared.frame.Frame.{Frame}
 use Rattle.clone_pool.specs.declared.frame.Content.TheVariants.{Unused}
 use Rattle.clone_pool.specs.declared.frame.PageName.{PageName}
 use Rattle.clone_pool.specs.Frames.{no_frame, frame_at, name_of, is_fresh, holder, pinned, unpinned}
 use Rattle.clone_pool.specs.Pool.{Frames, IsPool, KeepsOthers, with_frame}
-use Rattle.clone_buffer.specs.Buffered.{Buffered, Shown, Shows}
+use Rattle.clone_buffer.specs.Buffered.{Buffered}
 use Rattle.clone_buffer.specs.OnePage.{Flushes, frame_in, frame_of}
 use Rattle.clone_buffer.specs.Keeping.{IsKeptPage, Stands}
 use Rattle.clone_buffer.proofs.FrameLemmas.{is_named, stays, goes}
-use Rattle.clone_buffer.proofs.KeepLemmas.{shows_but}
 
 -- what a frame gives of the page that it has
 abbrev pub counted : Frame → Option Frame
@@ -72,9 +71,6 @@ stands_pinned v w flushes told at p q low is st = subst (λ (u : Buffered). Stan
       page = λ space number. moved_frame v.pool at pinned p q low (IsKeptPage v.log flushes m space number) (record { space = space; number = number }) refl (pinned_page v.log flushes m space number (is_fresh (frame_at v.pool.frames at).content) (frame_at v.pool.frames at)) (k.page space number);
     }
 
-pub shows_pinned : (image : Image) (old : Frames) (at : ℕ) → at < length old.frames → Shows image old.frames → Shows image (with_frame at pinned old).frames
-shows_pinned image old at low shows = shows_but image old.frames (with_frame at pinned old).frames at (pinned (frame_at old.frames at)) low shows refl (shows at)
-
 -- A pin less.
 
 -- the frame once a pin is taken away: with its page, or without a new one
@@ -114,12 +110,10 @@ stands_unpinned v w flushes told at p q low is st = subst (λ (u : Buffered). St
       page = λ space number. one m space number (is_fresh f.content && (f.pins == 1)) refl (unpinned_is (is_fresh f.content && (f.pins == 1)) refl) (k.page space number);
     }
 
-pub shows_unpinned : (image : Image) (old : Frames) (at : ℕ) → at < length old.frames → Shows image old.frames → Shows image (with_frame at unpinned old).frames
-shows_unpinned image old at low shows = shows_but image old.frames (with_frame at unpinned old).frames at (unpinned f) low shows refl (by (is_fresh f.content && (f.pins == 1)))
+-- The log's floor rose.
+pub stands_raised : (v w : Buffered) (flushes : Flushes) (told : Option DiskImage) (window : Window) → w ≡ record v { ring = window } → Stands v flushes told → Stands w flushes told
+stands_raised v w flushes told window is st = subst (λ (u : Buffered). Stands u flushes told) (sym is) (by told st)
   where
-    f : Frame
-    f = frame_at old.frames at
-
-    by : (b : Bool) → Shown image (if b then record f { content = Unused; pins = 0; last_use = 0 } else record f { pins = f.pins - 1 }).content (if b then record f { content = Unused; pins = 0; last_use = 0 } else record f { pins = f.pins - 1 }).page
-    by true = tt
-    by false = shows at
+    by : (t : Option DiskImage) → Stands v flushes t → Stands (record v { ring = window }) flushes t
+    by None st = tt
+    by (Some m) k = record { right = k.right; page = k.page }

@@ -2,3 +2,4 @@ pub mod Buffered
 pub mod OnePage
 pub mod Keeping
 pub mod Writing
+pub mod Flushing

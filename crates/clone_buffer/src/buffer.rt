@@ -3,12 +3,15 @@ ghost use Rattle.std.specs.Option.{ForSome};
 ghost use Rattle.clone_outside.specs.Causes.{Rose};
 ghost use Rattle.clone_buffer.specs.Writing.{after_records, changed_at, named_frame};
 ghost use Rattle.std.specs.List.{AllByRecursion};
+ghost use Rattle.clone_buffer.specs.Flushing.{BeginKeeps, OpenKeeps, LandKeeps, RestLands, FailKeeps, CheckpointKeeps};
 ghost use Rattle.clone_mtr.specs.Records.{IsRecord};
 ghost use Rattle.clone_mtr.specs.Spelling.{spelling, Spells, longest, log_of};
 ghost use Rattle.clone_ring.specs.Window.{empty, end_of, free_in, raised};
 ghost use Rattle.clone_image.specs.Image.{page_of, EditsPages};
 ghost use Rattle.clone_image.specs.Replay.{Replays, IsSpelled};
 ghost use Rattle.clone_pool.specs.Frames.{no_frame, frame_at, holder, HoldsPage, page_changed, pinned, unpinned};
+ghost use Rattle.clone_pool.specs.declared.frame.Content.TheVariants.{Held};
+ghost use Rattle.clone_pool.specs.declared.frame.PageName.{PageName};
 ghost use Rattle.clone_pool.specs.Pool.{IsPool, Fetches, Freshens, IsHolder, KeepsOthers, KeepsInUse, AreClean, IsOldest, HasPinRoom, with_frame};
 
 use clone_mtr::{LONGEST_MTR, Record, encode_into};
@@ -128,7 +131,8 @@ impl Buffer {
     /// The page in a frame.
     pub fn frame(&self, at: u32) -> &Page
         requires { HoldsPage (frame_at self.now.pool.frames at) }
-        ensures { result.now ≡ (frame_at self.now.pool.frames at).page }
+        ensures bytes { result.now ≡ (frame_at self.now.pool.frames at).page }
+        ensures shown { (name : PageName) → (frame_at self.now.pool.frames at).content ≡ Held name → IsTrue self.now.right → page_of (image_of self.now) name.space name.number ≡ Some result.now }
     {
         self.pool.frame(at)
     }
@@ -241,6 +245,7 @@ impl Buffer {
         requires above { self.old.ring.floor ≤ lsn }
         requires within { lsn ≤ end_of self.old.ring }
         ensures floor { self.new ≡ record self.old { ring = raised lsn self.old.ring } }
+        ensures stands { (flushes : Flushes) (told : Option DiskImage) → Stands self.old flushes told → Stands self.new flushes told }
     {
         self.ring.raise_floor(lsn);
     }
@@ -269,6 +274,16 @@ impl Buffer {
         let _ = &self.pool;
     }
 }
+
+/// What a flush of a page does, step by step, and a checkpoint: a buffer that is kept over a disk stays so.
+pub fn flush_laws()
+    ensures begins { BeginKeeps }
+    ensures opens { OpenKeeps }
+    ensures lands { LandKeeps }
+    ensures rest { RestLands }
+    ensures fails { FailKeeps }
+    ensures checkpoint { CheckpointKeeps }
+{}
 
 // Each record changes the frame of the page that it names.
 fn change_frames(pool: &mut Pool, records: &[Record], start: u64, end: u64)

@@ -3,4 +3,4 @@
 
 mod buffer;
 
-pub use buffer::Buffer;
+pub use buffer::{Buffer, flush_laws};

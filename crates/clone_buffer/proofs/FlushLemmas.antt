@@ -1,0 +1,383 @@
+-- A flush of a page, step by step, leaves each page kept.
+use Rattle.std.proofs.Common.{◌≡◌, ◌≢◌, ◌<◌, ◌≤◌, ◌⊎◌, inl, inr, ◌&&◌, ◌↔◌, ◌++◌, ℕ, Bool, true, false, List, length, drop, slice_get, set, refl, sym, ap, subst, ◌∙◌, arith, Option, Some, None, option_and_then, unwrap_or, is_some, IsSome, IsTrue, if◌then◌else◌, get_or, not, ◌==◌}
+use Rattle.std.proofs.lemmas.Bool.{cases_eq, false≢true, true≢false, and_parts}
+use Rattle.std.proofs.lemmas.List.{get_or-set_same, get_or-set_other, take-append-drop, length-append}
+use Rattle.std.proofs.lemmas.Option.{slice_get_within, get_or_from_slice_get}
+use Rattle.std.specs.FinMap as finite
+use Rattle.clone_base.proofs.MapEntries.{slice_get-set_same, slice_get-set_other}
+use Rattle.clone_outside.specs.Disk as disk
+use Rattle.clone_outside.specs.Disk.{DiskImage, Spaces}
+use Rattle.clone_outside.specs.declared.disk.Held.{Held}
+use Rattle.clone_outside.specs.declared.disk.TheConstants.{HALF_PAGE}
+use Rattle.clone_mtr.specs.declared.record.Record.{Record}
+use Rattle.clone_mtr.specs.Spelling.{log_of}
+use Rattle.clone_image.specs.Redone.{stands, redone}
+use Rattle.clone_image.proofs.Images.{get-put_same, get-put_other}
+use Rattle.clone_image.proofs.Logs.{log_of-append}
+use Rattle.clone_law.specs.Since.{ends, IsAt}
+use Rattle.clone_law.specs.Rule.{EngineRule}
+use Rattle.clone_law.specs.Machine as machine
+use Rattle.clone_law.specs.Machine.{Engine, Flight, Begun, Half, Landed, Checkpointed, AtMost}
+use Rattle.clone_law.proofs.EventLemmas.{engine_kept}
+use Rattle.clone_law.proofs.ExampleLemmas.{at_end}
+use Rattle.clone_pool.specs.declared.frame.Frame.{Frame}
+use Rattle.clone_pool.specs.declared.frame.Flush.{Flush}
+use Rattle.clone_pool.specs.declared.frame.Flush.TheVariants as flush
+use Rattle.clone_pool.specs.declared.frame.PageName.{PageName}
+use Rattle.clone_pool.specs.Index.{is_name_of}
+use Rattle.clone_pool.specs.Frames.{no_frame, frame_at, name_in, name_of, holder, is_fresh, is_dirty, is_begun, begun, landed, failed}
+use Rattle.clone_pool.specs.Pool.{Frames, IsPool, IsFrame, KeepsOthers, with_frame}
+use Rattle.clone_pool.proofs.NameLemmas.{named, is_own_name}
+use Rattle.clone_pool.proofs.PoolLemmas.{within}
+use Rattle.clone_buffer.specs.Buffered.{Buffered}
+use Rattle.clone_buffer.specs.OnePage.{Flushes, standing_at, standing_in, disk_standing, is_open, has_space, frame_in, frame_of, oldest_in, flush_in, flight_of, engine_with}
+use Rattle.clone_buffer.specs.Keeping.{IsKeptPage, IsKept}
+use Rattle.clone_buffer.specs.Flushing.{with_image, with_change, Changes, BeginKeeps, OpenKeeps, LandKeeps, RestLands, FailKeeps, CheckpointKeeps}
+use Rattle.clone_buffer.proofs.FrameLemmas.{holder_name, is_named, stays, frame_in-old}
+use Rattle.clone_buffer.proofs.PageLemmas.{world}
+
+-- What holds of one page and of each other one holds of all.
+each : (page : PageName) (P : ℕ → ℕ → Type 0) → P page.space page.number → ((s n : ℕ) → (page ≡ record { space = s; number = n } → ⊥) → P s n) → (s n : ℕ) → P s n
+each page P this others s n = by (is_named (record { space = s; number = n }) (Some page))
+  where
+    by : (Some page ≡ Some (record { space = s; number = n })) ⊎ (Some page ≡ Some (record { space = s; number = n }) → ⊥) → P s n
+    by (inl is) =
+        let same : page ≡ record { space = s; number = n } = cc in
+        subst (λ (w : PageName). P w.space w.number) same this
+    by (inr other) = others s n (λ same. other (ap Some same))
+
+-- the images of a page and of another one
+image_this : (page : PageName) (image : Option (List ℕ)) (flushes : Flushes) → (with_image page image flushes).image page.space page.number ≡ image
+image_this page image flushes = ap (λ (b : Bool). if b then image else flushes.image page.space page.number) (is_own_name page)
+
+image_other : (page : PageName) (image : Option (List ℕ)) (flushes : Flushes) (s n : ℕ) → (page ≡ record { space = s; number = n } → ⊥) → (with_image page image flushes).image s n ≡ flushes.image s n
+image_other page image flushes s n apart = by (is_name_of page (Some q)) refl
+  where
+    q : PageName
+    q = record { space = s; number = n }
+
+    by : (b : Bool) → is_name_of page (Some q) ≡ b → (if is_name_of page (Some q) then image else flushes.image s n) ≡ flushes.image s n
+    by true is =
+        let both : Some q ≡ Some page = named page (Some q) is in
+        let same : page ≡ q = cc in
+        absurd (apart same)
+    by false is = ap (λ (b : Bool). if b then image else flushes.image s n) is
+
+-- A page of the disk is edited.
+module _ (m : DiskImage) (page : PageName) (edit : Held → Held) where
+  abbrev after : DiskImage
+  after = disk.with_page m page.space page.number edit
+
+  abbrev spaces : Option (List Held) → Spaces
+  spaces o = disk.changed m.spaces page.space (disk.edited page.number edit) o
+
+  this_page : (held : Held) → disk.page_of m page.space page.number ≡ Some held → (disk.page_of after page.space page.number ≡ Some (edit held)) × (disk_standing after page.space page.number ≡ stands (edit held).bytes)
+  this_page held is = by (finite.get m.spaces page.space) refl is
+    where
+      by : (o : Option (List Held)) → finite.get m.spaces page.space ≡ o → option_and_then (λ pages. slice_get pages page.number) o ≡ Some held → (disk.page_of after page.space page.number ≡ Some (edit held)) × (disk_standing after page.space page.number ≡ stands (edit held).bytes)
+      by None got is = absurd (cc)
+      by (Some pages) got is =
+          let value : get_or pages page.number disk.zero_page ≡ held = get_or_from_slice_get pages page.number held disk.zero_page is in
+          let there : finite.get after.spaces page.space ≡ Some (set pages page.number (edit held)) =
+          ap (λ (o : Option (List Held)). finite.get (spaces o) page.space) got ∙ get-put_same m.spaces page.space (disk.edited page.number edit pages) ∙ ap (λ (h : Held). Some (set pages page.number (edit h))) value in
+          let found : slice_get (set pages page.number (edit held)) page.number ≡ Some (edit held) = slice_get-set_same pages page.number (edit held) (slice_get_within pages page.number held is) in
+          (ap (λ (o : Option (List Held)). option_and_then (λ ps. slice_get ps page.number) o) there ∙ found, ap (λ (o : Option (List Held)). standing_in o page.number) there ∙ ap standing_at found)
+
+  abbrev IsSameOnDisk : ℕ → ℕ → Type 0
+  IsSameOnDisk s n = (disk.page_of after s n ≡ disk.page_of m s n) × (disk_standing after s n ≡ disk_standing m s n)
+
+  beside_it : (n : ℕ) → n ≢ page.number → IsSameOnDisk page.space n
+  beside_it n apart = by (finite.get m.spaces page.space) refl
+    where
+      by : (o : Option (List Held)) → finite.get m.spaces page.space ≡ o → IsSameOnDisk page.space n
+      by None got = let same : after.spaces ≡ m.spaces = ap spaces got in (ap (λ (x : Spaces). disk.page_in x page.space n) same, ap (λ (x : Spaces). standing_in (finite.get x page.space) n) same)
+      by (Some pages) got =
+          let new : List Held = disk.edited page.number edit pages in
+          let there : finite.get after.spaces page.space ≡ Some new = ap (λ (o : Option (List Held)). finite.get (spaces o) page.space) got ∙ get-put_same m.spaces page.space new in
+          let same : slice_get new n ≡ slice_get pages n = slice_get-set_other pages page.number n (edit (get_or pages page.number disk.zero_page)) apart in (
+            ap (λ (o : Option (List Held)). option_and_then (λ ps. slice_get ps n) o) there ∙ same ∙ sym (ap (λ (o : Option (List Held)). option_and_then (λ ps. slice_get ps n) o) got),
+            ap (λ (o : Option (List Held)). standing_in o n) there ∙ ap standing_at same ∙ sym (ap (λ (o : Option (List Held)). standing_in o n) got),
+          )
+
+  elsewhere : (s n : ℕ) → s ≢ page.space → IsSameOnDisk s n
+  elsewhere s n apart = by (finite.get m.spaces page.space) refl
+    where
+      by : (o : Option (List Held)) → finite.get m.spaces page.space ≡ o → IsSameOnDisk s n
+      by None got = let same : after.spaces ≡ m.spaces = ap spaces got in (ap (λ (x : Spaces). disk.page_in x s n) same, ap (λ (x : Spaces). standing_in (finite.get x s) n) same)
+      by (Some pages) got =
+          let same : finite.get after.spaces s ≡ finite.get m.spaces s = ap (λ (o : Option (List Held)). finite.get (spaces o) s) got ∙ get-put_other m.spaces page.space s (disk.edited page.number edit pages) apart in
+          (ap (λ (o : Option (List Held)). option_and_then (λ ps. slice_get ps n) o) same, ap (λ (o : Option (List Held)). standing_in o n) same)
+
+  other_page : (s n : ℕ) → (page ≡ record { space = s; number = n } → ⊥) → IsSameOnDisk s n
+  other_page s n apart = by (cases_eq s page.space) (cases_eq n page.number)
+    where
+      by : (s ≡ page.space) ⊎ (s ≢ page.space) → (n ≡ page.number) ⊎ (n ≢ page.number) → IsSameOnDisk s n
+      by (inr other) b = elsewhere s n other
+      by (inl same) (inr other) = subst (λ (x : ℕ). IsSameOnDisk x n) (sym same) (beside_it n other)
+      by (inl same) (inl too) = let this : page ≡ record { space = s; number = n } = λ i. record { space = sym same i; number = sym too i } in absurd (apart this)
+
+-- a page whose frame, image and place on the disk are as before stays kept
+beside : (log : List (List Record)) (flushes flushes' : Flushes) (m m' : DiskImage) (s n : ℕ) (frame : Option Frame) → flushes'.checkpoint ≡ flushes.checkpoint → flushes'.image s n ≡ flushes.image s n
+    → (disk.page_of m' s n ≡ disk.page_of m s n) × (disk_standing m' s n ≡ disk_standing m s n) → IsKeptPage log flushes m s n frame → IsKeptPage log flushes' m' s n frame
+beside log flushes flushes' m m' s n frame point image disks k =
+    let e : Engine = engine_with log flushes m s n frame in
+    let writes : Option Held → Bool = λ o. is_open o && has_space (redone s n log) in
+    let new : e ≡ engine_with log flushes' m' s n frame = λ i. record e { checkpoint = sym point i; disk = sym disks.1 i; writing = writes (sym disks.0 i); flight = flight_of (flush_in frame) (sym image i) } in
+    record {
+      rule = subst (EngineRule s n) new k.rule;
+      dirty = λ t. k.dirty (sym (ap writes disks.0) ∙ t);
+      flights = subst (λ (x : Option (List ℕ)). IsTrue (is_begun (flush_in frame)) ↔ IsSome x) (sym image) k.flights;
+    }
+
+-- a frame that is dirty has a page that isn't new
+old_frame : (uses : ℕ) (f : Frame) → IsFrame uses f → is_dirty f ≡ true → is_fresh f.content ≡ false
+old_frame uses f fine dirty = by (is_fresh f.content) refl
+  where
+    by : (b : Bool) → is_fresh f.content ≡ b → b ≡ false
+    by true is = absurd (true≢false (sym dirty ∙ (fine.fresh is).1))
+    by false is = refl
+
+-- a frame whose flush has begun is dirty
+flight_dirty : (uses : ℕ) (f : Frame) → IsFrame uses f → is_begun f.flush ≡ true → is_dirty f ≡ true
+flight_dirty uses f fine flies = by (is_dirty f) refl
+  where
+    by : (b : Bool) → is_dirty f ≡ b → b ≡ true
+    by true is = refl
+    by false is = absurd (false≢true (sym (ap is_begun (fine.clean is)) ∙ flies))
+
+begun_later : (x : Flush) → is_begun x ≡ true → (later : Option ℕ) × (x ≡ flush.Begun later)
+begun_later flush.Idle is = absurd (false≢true is)
+begun_later (flush.Begun later) is = (later, refl)
+begun_later flush.Failed is = absurd (false≢true is)
+
+flown : (x : Flush) (image : Option (List ℕ)) → is_begun x ≡ true → IsSome image → (i : Flight) × (flight_of x image ≡ Some i)
+flown flush.Idle image is there = absurd (false≢true is)
+flown (flush.Begun later) None is there = absurd (false≢true there)
+flown (flush.Begun later) (Some bytes) is there = (record { image = bytes; later = later }, refl)
+flown flush.Failed image is there = absurd (false≢true is)
+
+-- the page of the disk, if it is there
+held_there : (o : Option Held) → IsSome o → (held : Held) × (o ≡ Some held)
+held_there None there = absurd (false≢true there)
+held_there (Some held) there = (held, refl)
+
+-- One page, as its flush goes on.
+module _ (log : List (List Record)) (flushes : Flushes) (m : DiskImage) (page : PageName) where
+  abbrev Kept : Flushes → DiskImage → Frame → Type 0
+  Kept flushes' m' f = IsKeptPage log flushes' m' page.space page.number (Some f)
+
+  abbrev engine : Frame → Engine
+  engine f = engine_with log flushes m page.space page.number (Some f)
+
+  begin_page : (f : Frame) → Kept flushes m f → Kept (with_image page (Some f.page) flushes) m (begun f)
+  begin_page f k =
+      let image = image_this page (Some f.page) flushes in
+      record {
+        rule = subst (EngineRule page.space page.number) (λ i. record (engine f) { flight = flight_of (flush.Begun None) (sym image i) }) (engine_kept page.space page.number (world (engine f)) (Begun f.page) k.rule refl);
+        dirty = k.dirty;
+        flights = (λ t. subst IsSome (sym image) refl, λ t. refl);
+      }
+
+  open_page : (f : Frame) (held : Held) (edit : Held → Held) → is_dirty f ≡ true → is_begun f.flush ≡ true → disk.page_of m page.space page.number ≡ Some held → ((held : Held) → (edit held).writing ≡ true) → Kept flushes m f → Kept flushes (disk.with_page m page.space page.number edit) f
+  open_page f held edit dirty flies there opens k =
+      let now = this_page m page edit held there in
+      let spaced : has_space (redone page.space page.number log) ≡ true = ap has_space k.rule.framed in
+      let writing : true ≡ (is_open (disk.page_of (disk.with_page m page.space page.number edit) page.space page.number) && has_space (redone page.space page.number log)) = sym (ap (λ (b : Bool). b && has_space (redone page.space page.number log)) (ap is_open now.0 ∙ opens held) ∙ spaced) in
+      record {
+        rule = subst (EngineRule page.space page.number) (λ i. record (engine f) { disk = sym now.1 i; writing = writing i })
+            (engine_kept page.space page.number (world (engine f)) (Half (stands (edit held).bytes)) k.rule (flown f.flush (flushes.image page.space page.number) flies (k.flights.0 flies)));
+        dirty = λ t. dirty;
+        flights = k.flights;
+      }
+
+  land_page : (f : Frame) (later : Option ℕ) (image : List ℕ) (held : Held) (edit : Held → Held) → flushes.image page.space page.number ≡ Some image → disk.page_of m page.space page.number ≡ Some held → edit held ≡ record { bytes = image; writing = false }
+      → Kept flushes m (record f { flush = flush.Begun later }) → Kept (with_image page None flushes) (disk.with_page m page.space page.number edit) (landed (record f { flush = flush.Begun later }))
+  land_page f later image held edit image_is there becomes k =
+      let m' : DiskImage = disk.with_page m page.space page.number edit in
+      let g : Frame = record f { flush = flush.Begun later } in
+      let now = this_page m page edit held there in
+      let none = image_this page None flushes in
+      let bytes : stands image ≡ disk_standing m' page.space page.number = sym (now.1 ∙ ap (λ (h : Held). stands h.bytes) becomes) in
+      let closed : (is_open (disk.page_of m' page.space page.number) && has_space (redone page.space page.number log)) ≡ false = ap (λ (b : Bool). b && has_space (redone page.space page.number log)) (ap is_open now.0 ∙ ap (λ (h : Held). h.writing) becomes) in
+      let flies : machine.landed (engine g) (engine g).flight ≡ record (engine g) { disk = stands image; writing = false; oldest = later; flight = None } = ap (λ (o : Option (List ℕ)). machine.landed (engine g) (flight_of (flush.Begun later) o)) image_is in
+      record {
+        rule = subst (EngineRule page.space page.number) (λ i. record (engine g) { disk = bytes i; writing = sym closed i; oldest = later; flight = None }) (subst (EngineRule page.space page.number) flies (engine_kept page.space page.number (world (engine g)) Landed k.rule tt));
+        dirty = λ t. absurd (true≢false (sym t ∙ closed));
+        flights = subst (λ (x : Option (List ℕ)). IsTrue false ↔ IsSome x) (sym none) (λ t. t, λ t. t);
+      }
+
+  fail_page : (f : Frame) → Kept flushes m f → Kept (with_image page None flushes) m (failed f)
+  fail_page f k = record {
+    rule = record { fits = k.rule.fits; framed = k.rule.framed; quiet = k.rule.quiet; flying = tt; order = tt; bare = tt; low = k.rule.low; aligned = k.rule.aligned };
+    dirty = k.dirty;
+    flights = subst (λ (x : Option (List ℕ)). IsTrue false ↔ IsSome x) (sym (image_this page None flushes)) (λ t. t, λ t. t);
+  }
+
+-- The page of one frame.
+module _ (v : Buffered) (page : PageName) (at : ℕ) where
+  abbrev f : Frame
+  f = frame_at v.pool.frames at
+
+  dirty_frame : IsPool v.pool → is_begun f.flush ≡ true → is_dirty f ≡ true
+  dirty_frame p flies = flight_dirty v.pool.uses f (p.frame at) flies
+
+  framed : IsPool v.pool → name_of f ≡ Some page → is_dirty f ≡ true → frame_of v.pool.frames page.space page.number ≡ Some f
+  framed p name dirty = ap (frame_in v.pool.frames) (p.once page at name) ∙ frame_in-old v.pool.frames at (old_frame v.pool.uses f (p.frame at) dirty)
+
+  -- its frame has changed, and what flushes and the disk have of it
+  changed_frame : (change : Frame → Frame) (flushes flushes' : Flushes) (m m' : DiskImage) → Changes v page at change → is_dirty f ≡ true → (change f).content ≡ f.content → flushes'.checkpoint ≡ flushes.checkpoint
+      → ((s n : ℕ) → (page ≡ record { space = s; number = n } → ⊥) → (flushes'.image s n ≡ flushes.image s n) × ((disk.page_of m' s n ≡ disk.page_of m s n) × (disk_standing m' s n ≡ disk_standing m s n)))
+      → (IsKeptPage v.log flushes m page.space page.number (Some f) → IsKeptPage v.log flushes' m' page.space page.number (Some (change f))) → IsKept v flushes m → IsKept (with_change at change v) flushes' m'
+  changed_frame change flushes flushes' m m' c dirty content point others this k = record {
+    right = k.right;
+    page = each page (λ s n. IsKeptPage v.log flushes' m' s n (frame_of new.frames s n)) here elsewhere;
+  }
+    where
+      new : Frames
+      new = with_frame at change v.pool
+
+      low : at < length v.pool.frames
+      low = within v.pool.frames at (subst IsSome (sym c.name) refl)
+
+      set_is : frame_at new.frames at ≡ change f
+      set_is = get_or-set_same v.pool.frames at (change f) no_frame low
+
+      content_is : (frame_at new.frames at).content ≡ f.content
+      content_is = ap (λ (g : Frame). g.content) set_is ∙ content
+
+      apart : KeepsOthers at v.pool.frames new.frames
+      apart other is = get_or-set_other v.pool.frames at other (change f) no_frame is
+
+      name_is : name_of (frame_at new.frames at) ≡ name_of f
+      name_is = ap name_in content_is
+
+      now : frame_of new.frames page.space page.number ≡ Some (change f)
+      now = ap (frame_in new.frames) (c.new.once page at (name_is ∙ c.name)) ∙ frame_in-old new.frames at (ap is_fresh content_is ∙ old_frame v.pool.uses f (c.old.frame at) dirty) ∙ ap Some set_is
+
+      here : IsKeptPage v.log flushes' m' page.space page.number (frame_of new.frames page.space page.number)
+      here = subst (IsKeptPage v.log flushes' m' page.space page.number) (sym now) (this (subst (IsKeptPage v.log flushes m page.space page.number) (framed c.old c.name dirty) (k.page page.space page.number)))
+
+      elsewhere : (s n : ℕ) → (page ≡ record { space = s; number = n } → ⊥) → IsKeptPage v.log flushes' m' s n (frame_of new.frames s n)
+      elsewhere s n other =
+          let had : name_of f ≡ Some (record { space = s; number = n }) → ⊥ = λ is. other_name (sym c.name ∙ is) in
+          subst (IsKeptPage v.log flushes' m' s n) (sym (stays v.pool new at c.old c.new apart (record { space = s; number = n }) had (λ is. had (sym name_is ∙ is))))
+          (beside v.log flushes flushes' m m' s n (frame_of v.pool.frames s n) point (others s n other).0 (others s n other).1 (k.page s n))
+        where
+          other_name : Some page ≡ Some (record { space = s; number = n }) → ⊥
+          other_name both = let same : page ≡ record { space = s; number = n } = cc in other same
+
+pub begin_keeps : BeginKeeps
+begin_keeps v flushes m page at c waits k =
+    changed_frame v page at begun flushes (with_image page (Some (frame_at v.pool.frames at).page) flushes) m m c (and_parts _ _ waits).0 refl refl (λ s n apart. (image_other page _ flushes s n apart, (refl, refl))) (begin_page v.log flushes m page (frame_at v.pool.frames at)) k
+
+pub open_keeps : OpenKeeps
+open_keeps v flushes m page at edit p name flies there opens k = record {
+  right = k.right;
+  page = each page (λ s n. IsKeptPage v.log flushes m' s n (frame_of v.pool.frames s n)) here (λ s n apart. beside v.log flushes flushes m m' s n (frame_of v.pool.frames s n) refl refl (other_page m page edit s n apart) (k.page s n));
+}
+  where
+    m' : DiskImage
+    m' = disk.with_page m page.space page.number edit
+
+    dirty : is_dirty (frame_at v.pool.frames at) ≡ true
+    dirty = dirty_frame v page at p flies
+
+    here : IsKeptPage v.log flushes m' page.space page.number (frame_of v.pool.frames page.space page.number)
+    here =
+        let is = framed v page at p name dirty in
+        let held = held_there (disk.page_of m page.space page.number) there in
+        subst (IsKeptPage v.log flushes m' page.space page.number) (sym is) (open_page v.log flushes m page (frame_at v.pool.frames at) held.0 edit dirty flies held.1 opens (subst (IsKeptPage v.log flushes m page.space page.number) is (k.page page.space page.number)))
+
+pub land_keeps : LandKeeps
+land_keeps v flushes m page at image held edit c flies image_is there becomes k =
+    let f : Frame = frame_at v.pool.frames at in
+    let later = begun_later f.flush flies in
+    let same : f ≡ record f { flush = flush.Begun later.0 } = λ i. record f { flush = later.1 i } in
+    let m' : DiskImage = disk.with_page m page.space page.number edit in
+    let P : Frame → Type 0 = λ g. IsKeptPage v.log flushes m page.space page.number (Some g) → IsKeptPage v.log (with_image page None flushes) m' page.space page.number (Some (landed g)) in
+    changed_frame v page at landed flushes (with_image page None flushes) m m' c (dirty_frame v page at c.old flies) refl refl (λ s n apart. (image_other page None flushes s n apart, other_page m page edit s n apart))
+    (subst P (sym same) (land_page v.log flushes m page f later.0 image held edit image_is there becomes)) k
+
+pub rest_lands : RestLands
+rest_lands image held same = ap (λ (front : List ℕ). record { bytes = front ++ drop HALF_PAGE image; writing = false }) same ∙ ap (λ (bytes : List ℕ). record { bytes = bytes; writing = false }) (take-append-drop HALF_PAGE image)
+
+pub fail_keeps : FailKeeps
+fail_keeps v flushes m page at c flies k =
+    changed_frame v page at failed flushes (with_image page None flushes) m m c (dirty_frame v page at c.old flies) refl refl (λ s n apart. (image_other page None flushes s n apart, (refl, refl))) (fail_page v.log flushes m page (frame_at v.pool.frames at)) k
+
+-- A checkpoint.
+
+-- a log ends no earlier than where a mini-transaction ends
+at_most : (lsn : ℕ) (log : List (List Record)) → IsAt lsn log → lsn ≤ ends log
+at_most lsn log is = omega (arith, is.place, ap (λ (l : List (List Record)). length (log_of l)) is.split, ap length (log_of-append is.before is.behind), length-append (log_of is.before) (log_of is.behind))
+
+-- the frame of a page is one of the frames
+from_frame : (frames : List Frame) (s n : ℕ) (f : Frame) → frame_of frames s n ≡ Some f → (at : ℕ) × ((at < length frames) × (frame_at frames at ≡ f))
+from_frame frames s n f is = by (holder frames (record { space = s; number = n })) refl is
+  where
+    by : (o : Option ℕ) → holder frames (record { space = s; number = n }) ≡ o → frame_in frames o ≡ Some f → (at : ℕ) × ((at < length frames) × (frame_at frames at ≡ f))
+    by None got none = absurd (cc)
+    by (Some at) got found = (at, ((holder_name frames (record { space = s; number = n }) at got).0, counted (is_fresh (frame_at frames at).content) found))
+      where
+        counted : (b : Bool) → (if b then None else Some (frame_at frames at)) ≡ Some f → frame_at frames at ≡ f
+        counted true none = absurd (cc)
+        counted false some = cc
+
+-- what no page is dirty from before
+module _ (v : Buffered) (flushes : Flushes) (m : DiskImage) (lsn : ℕ) (k : IsKept v flushes m) where
+  abbrev AreLater : Type 0
+  AreLater = (other : ℕ) → other < length v.pool.frames → lsn ≤ unwrap_or (frame_at v.pool.frames other).oldest lsn
+
+  raised : IsAt lsn v.log → AreLater → IsKept v (record flushes { checkpoint = lsn }) m
+  raised at later = record { right = k.right; page = one }
+    where
+      low : (s n : ℕ) (frame : Option Frame) → frame_of v.pool.frames s n ≡ frame → IsKeptPage v.log flushes m s n frame → AtMost lsn (oldest_in frame) v.log
+      low s n None is had = at_most lsn v.log at
+      low s n (Some g) is had = by g.oldest refl had.rule.low
+        where
+          by : (o : Option ℕ) → g.oldest ≡ o → AtMost flushes.checkpoint o v.log → AtMost lsn o v.log
+          by None clean most = at_most lsn v.log at
+          by (Some o) dirty most =
+              let from = from_frame v.pool.frames s n g is in
+              (subst (λ (x : Option ℕ). lsn ≤ unwrap_or x lsn) (ap (λ (h : Frame). h.oldest) from.1.1 ∙ dirty) (later from.0 from.1.0), most.1)
+
+      one : (s n : ℕ) → IsKeptPage v.log (record flushes { checkpoint = lsn }) m s n (frame_of v.pool.frames s n)
+      one s n =
+          let had = k.page s n in
+          let frame : Option Frame = frame_of v.pool.frames s n in
+          record {
+            rule = engine_kept s n (world (engine_with v.log flushes m s n frame)) (Checkpointed lsn) had.rule (low s n frame refl had, at);
+            dirty = had.dirty;
+            flights = had.flights;
+          }
+
+  -- a frame that is dirty has been so since a mini-transaction began
+  at_oldest : IsPool v.pool → (at : ℕ) → (frame_at v.pool.frames at).oldest ≡ Some lsn → IsAt lsn v.log
+  at_oldest p at is = by (name_of f) refl
+    where
+      f : Frame
+      f = frame_at v.pool.frames at
+
+      dirty : is_dirty f ≡ true
+      dirty = ap is_some is
+
+      by : (o : Option PageName) → name_of f ≡ o → IsAt lsn v.log
+      by None none = absurd (true≢false (sym ((p.frame at).unused none).0 ∙ ap (λ (b : Bool). (f.pins == 0) && not b) dirty ∙ never (f.pins == 0)))
+        where
+          never : (b : Bool) → (b && false) ≡ false
+          never true = refl
+          never false = refl
+      by (Some page) name =
+          let had : IsKeptPage v.log flushes m page.space page.number (Some f) = subst (IsKeptPage v.log flushes m page.space page.number) (framed v page at p name dirty) (k.page page.space page.number) in
+          (subst (λ (o : Option ℕ). AtMost flushes.checkpoint o v.log) is had.rule.low).1
+
+pub checkpoint_keeps : CheckpointKeeps
+checkpoint_keeps v flushes m lsn p (inl oldest) k = raised v flushes m lsn k (at_oldest v flushes m lsn k p oldest.at oldest.dirty) oldest.least
+checkpoint_keeps v flushes m lsn p (inr ended) k = raised v flushes m lsn k (subst (λ (x : ℕ). IsAt x v.log) (sym ended.1) (at_end v.log)) later
+  where
+    none : (o : Option ℕ) → is_some o ≡ false → lsn ≤ unwrap_or o lsn
+    none None is = omega (arith)
+    none (Some x) is = absurd (true≢false is)
+
+    later : (other : ℕ) → other < length v.pool.frames → lsn ≤ unwrap_or (frame_at v.pool.frames other).oldest lsn
+    later other within = none (frame_at v.pool.frames other).oldest (ended.0 other within)
