@@ -65,7 +65,3 @@ pub Replays-written : (old new : List ℕ) (image after : Image) (m : List Recor
 Replays-written old new image after m end r one text made is =
     let P : List ℕ × Image → Type 0 = λ p. Replays p.0 p.1 in
     subst P (λ i. (sym text i, sym made i)) (Replays-push old image m end r one is)
-
-pub Replays-result : {E : Type 0} (r : Result Image E) (bytes log : List ℕ) (image : Image) → bytes ≡ log → Replays log image → IfOk r (λ i. Replays bytes i) → IfOk r (λ i. i ≡ image)
-Replays-result (Ok i) bytes log image same is got = Replays-once log i image (subst (λ (xs : List ℕ). Replays xs i) same got) is
-Replays-result (Err e) bytes log image same is got = tt

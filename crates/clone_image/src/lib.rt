@@ -9,4 +9,4 @@ mod tests;
 
 pub use image::Image;
 pub use laws::{page_laws, redone_laws, replay_laws};
-pub use rows::{rows_of, shown_is_the_map};
+pub use rows::{add_page, rows_of, shown_is_the_map};

@@ -14,10 +14,6 @@ use Rattle.clone_memlink.specs.Ends.{LinkEntry, sent_in, received_in}
 use Rattle.clone_memlink.specs.Held.{EndModel, Sees, EndsWith, IsToldBy, SendsBytes, SendsFront, sent_by, received_by}
 use Rattle.clone_memlink.proofs.Seen.{LinkSeat, sent_in-append, received_in-append, run_append}
 
--- no call yet
-pub sends_nothing : (v : EndModel) → SendsBytes {T = Unit {0}} v (Ok tt) [] v
-sends_nothing v = ([], (ap (λ xs. record v.seat { seen = xs }) (sym (append-nil v.seat.seen)), tt), tt, refl, refl)
-
 ends_later : (answer : LinkAnswer) (xs ys : List (LinkEntry × Bool)) → EndsWith answer ys → EndsWith answer (xs ++ ys)
 ends_later answer xs ys ends = (xs ++ ends.0, ends.1, ap (λ zs. xs ++ zs) ends.2 ∙ sym (append_assoc xs ends.0 ((ends.1, true) ∷ [])), ends.3)
 

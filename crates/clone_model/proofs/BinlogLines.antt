@@ -82,19 +82,6 @@ pub record HasChanges (text : List ℕ) (changes : List Change) (number : ℕ) (
   pub same : text ≡ changes_text changes ++ rest
   pub within : number + length rest ≤ length text
 
-ended_is_longer : (line behind rest : List ℕ) → rest ≡ ended line ++ behind → length behind + 1 ≤ length rest
-ended_is_longer line behind rest e = omega (arith, ap length e, length-append (ended line) behind, length-append line (10 ∷ []))
-
-pub HasChanges-more : (text rest behind : List ℕ) (changes : List Change) (change : Change) (number : ℕ) → HasChanges text changes number rest → IsChange change
-    → rest ≡ ended (change_text change) ++ behind → HasChanges text (changes ++ change ∷ []) (number + 1) behind
-HasChanges-more text rest behind changes change number h is e =
-    record {
-      are = recursion-append IsChange changes (change ∷ []) h.are (is, tt);
-      count = omega (arith, length-append changes (change ∷ []), h.count);
-      same = h.same ∙ ap (λ r. changes_text changes ++ r) e ∙ sym (append_assoc (changes_text changes) (ended (change_text change)) behind) ∙ ap (λ t. t ++ behind) (flat_map_more (λ c. ended (change_text c)) [] changes change);
-      within = omega (arith, h.within, ended_is_longer (change_text change) behind rest e);
-    }
-
 -- no change is read where one is missing
 pub StopsAt-changes : (text rest : List ℕ) (changes : List Change) (number count before : ℕ) → HasChanges text changes number rest → number < count
     → ((change : Change) (behind : List ℕ) → IsChange change → rest ≡ ended (change_text change) ++ behind → ⊥) → StopsAt count text before (before + number + 1)
@@ -111,24 +98,6 @@ StopsAt-changes text rest changes number count before h lt none =
         | inr next ↦ none next.1.change behind next.1.is_change (e ∙ ap (λ l. ended l ++ behind) next.1.same)
       ];
       no_end = λ e zero. omega arith;
-    }
-
--- no commit begins here
-pub StopsAt-first : (text : List ℕ) (before : ℕ) → 0 < length text
-    → ((writer index count : ℕ) (behind : List ℕ) → writer < 2 ^ 32 → index < 2 ^ 64 → count < 2 ^ 64 → text ≡ ended (first_line writer index count) ++ behind → ⊥) → StopsAt 0 text before (before + 1)
-StopsAt-first text before some none =
-    record {
-      front = [];
-      rest = text;
-      after = 0;
-      split = refl;
-      count = omega arith;
-      good = refl;
-      no_line = λ line behind more e follows. elim follows as (λ _. ⊥) [
-        | inl first ↦ none first.1.writer first.1.index more behind first.1.writer_fits first.1.index_fits first.1.count_fits (e ∙ ap (λ l. ended l ++ behind) first.1.same)
-        | inr next ↦ omega (arith, next.0)
-      ];
-      no_end = λ e zero. omega (arith, ap length e);
     }
 
 -- the commits before the rest

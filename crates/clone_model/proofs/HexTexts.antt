@@ -59,11 +59,6 @@ next_byte text bytes len rest v h some small e =
       | b ∷ o ↦ λ same bytes. (b, hex o, bytes.0, same)
     ]) others.2 others.3
 
--- where no digits are left, the text shows the bytes that were decoded
-pub Decoded-all : (text bytes : List ℕ) (len : ℕ) (rest : List ℕ) → Decoded text bytes len rest → length rest ≡ 0 → text ≡ hex (take len bytes)
-Decoded-all text bytes len rest h none =
-    h.same ∙ ap (λ r. hex (take len bytes) ++ r) (nil_from_length rest none) ∙ append-nil (hex (take len bytes))
-
 -- no other value has this text
 pub only_decoded : (text bytes : List ℕ) (len : ℕ) (rest v : List ℕ) → Decoded text bytes len rest → length rest ≡ 0 → AreBytes v → text ≡ hex v → v ≡ take len bytes
 only_decoded text bytes len rest v h none small e =

@@ -54,6 +54,3 @@ fold-committed binlog drops c all = ap fold (history-committed binlog drops c al
 committed_only : (rows : Rows) (commits : List Commit) → after_entries rows (map Committed commits) ≡ after_commits rows commits
 committed_only rows [] = refl
 committed_only rows (c ∷ commits) = committed_only (after_commit rows c) commits
-
-pub fold-no_drops : (binlog : List Commit) → fold (history_of binlog []) ≡ after_commits finite.empty binlog
-fold-no_drops binlog = committed_only finite.empty binlog

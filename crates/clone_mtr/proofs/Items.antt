@@ -29,9 +29,6 @@ allows_tells offset long e = grind (arith, nat_tests)
 pub allows_again : (offset long : ℕ) → IsAllowed offset long → allows offset long ≡ true
 allows_again offset long allowed = grind (arith, nat_tests)
 
-offset_below : (offset long : ℕ) → IsAllowed offset long → offset < 2 ^ 16
-offset_below offset long allowed = elim allowed.1 [ inl neighbours ↦ omega arith | inr body ↦ omega arith ]
-
 -- ---- kinds of pages
 
 one_kind : (n k : ℕ) (here kind : PageKind) (others : Result PageKind DecodeRefusal) → kind_number here ≡ k → (others ≡ Ok kind → n ≡ kind_number kind)
@@ -49,12 +46,6 @@ kind_takes at n kind e =
     let third = cond (n == 3) (Ok Bucket) last in
     one_kind n 1 System kind (cond (n == 2) (Ok Undo) third) refl
     (one_kind n 2 Undo kind third refl (one_kind n 3 Bucket kind last refl (one_kind n 4 Overflow kind none refl (λ f. absurd (cc))))) e
-
-kind_again : (at : ℕ) (kind : PageKind) → kind_numbered at (kind_number kind) ≡ Ok kind
-kind_again at System = refl
-kind_again at Undo = refl
-kind_again at Bucket = refl
-kind_again at Overflow = refl
 
 -- ---- patches
 
@@ -320,12 +311,6 @@ same_refusal h = cc
 
 pub found_is : (x y : Record × List ℕ) → answer (Some x) ≡ answer (Some y) → x ≡ y
 found_is x y e = cc
-
-kind_below : (kind : PageKind) → kind_number kind < 2 ^ 16
-kind_below System = omega arith
-kind_below Undo = omega arith
-kind_below Bucket = omega arith
-kind_below Overflow = omega arith
 
 pub item_takes : (at : ℕ) (bytes : List ℕ) (x : Record × List ℕ) → IsBytes bytes → item_at at bytes ≡ Ok (Some x) → Takes bytes (record_spelling x.0) x.1 × IsRecord x.0 × (at + length (record_spelling x.0) ≤ 1023)
 unfolding item_at

@@ -53,9 +53,6 @@ Takes-cons a b x c p = record { parts = ap (λ t. a ∷ t) p.parts; rest_fits = 
 abbrev pub IsWide : ℕ → ℕ → Type 0
 IsWide n limit = limit ≡ 256 ^ n
 
-pub wide2 : IsWide 2 (2 ^ 16)
-wide2 = refl
-
 pub wide4 : IsWide 4 (2 ^ 32)
 wide4 = refl
 

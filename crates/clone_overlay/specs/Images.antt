@@ -5,7 +5,7 @@ use Rattle.clone_outside.specs.Disk as disk
 use Rattle.clone_outside.specs.Disk.{DiskImage}
 use Rattle.clone_outside.specs.declared.disk.Held.{Held}
 use Rattle.clone_image.specs.Image.{Image}
-use Rattle.clone_overlay.specs.declared.overlay.TheConstants.{REDO_SPACE}
+use Rattle.clone_base.specs.declared.limits.TheConstants.{REDO_SPACE}
 
 -- spaces from this number on are no tables
 abbrev pub redo_space : ℕ

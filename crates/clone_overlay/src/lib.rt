@@ -4,7 +4,7 @@
 mod overlay;
 mod sheet;
 
-pub use overlay::{FetchRefusal, Overlay, REDO_SPACE, Sheets};
+pub use overlay::{FetchRefusal, Overlay, Sheets};
 pub use sheet::{Leaves, Sheet};
 
 #[cfg(test)]

@@ -13,15 +13,13 @@ ghost use Rattle.clone_overlay.specs.Shown.{Shows, ShowsSame, ForShown, IsReady,
 ghost use Rattle.clone_overlay.specs.Answers.{FetchedIn, HasMisplaced};
 
 use crate::Sheet;
+use clone_base::REDO_SPACE;
 use clone_mtr::Record;
 use clone_outside::{PageDisk, Refusal};
 use clone_page::Page;
 use std::alloc::{AllocError, Global};
 use std::collections::BTreeMap;
 use std::marker::Model;
-
-/// The space of a recipient's disk that holds the redo bytes. It and the spaces behind it are no tables.
-pub const REDO_SPACE: u32 = 0xFFFF_FF00;
 
 /// Why a page wasn't fetched.
 #[derive(Clone, Copy, Debug, PartialEq, Eq)]

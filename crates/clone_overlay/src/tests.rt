@@ -1,4 +1,5 @@
-use crate::{FetchRefusal, Overlay, REDO_SPACE};
+use crate::{FetchRefusal, Overlay};
+use clone_base::REDO_SPACE;
 use clone_memdisk::MemDisk;
 use clone_mtr::{Patch, Record};
 use clone_outside::PageDisk;

@@ -244,9 +244,6 @@ space_of-initialised space number kind lsn small = in_header 34 4 space number k
 pub lsn_of-initialised : (space number : ℕ) (kind : PageKind) (lsn : ℕ) → lsn < 2 ^ 64 → lsn_of (initialised space number kind lsn) ≡ lsn
 lsn_of-initialised space number kind lsn small = in_header 16 8 space number kind lsn (omega arith) ∙ big_number-reads_back 8 lsn (drop 24 (header space number kind lsn)) small
 
-pub next_of-initialised : (space number : ℕ) (kind : PageKind) (lsn : ℕ) → next_of (initialised space number kind lsn) ≡ 0xFFFFFFFF
-next_of-initialised space number kind lsn = in_header 12 4 space number kind lsn (omega arith)
-
 -- Pages that stand in their place.
 
 -- a field of the trailer
@@ -345,12 +342,6 @@ length-present_slot key value short =
     let rest = length-append (big_bytes 8 key) (value ++ replicate (64 - length value) 0) in
     omega arith
 
-pub state_of-present_slot : (key : ℕ) (value : List ℕ) → state_of (present_slot key value) ≡ 1
-state_of-present_slot key value = refl
-
-pub length_of-present_slot : (key : ℕ) (value : List ℕ) → length_of (present_slot key value) ≡ length value
-length_of-present_slot key value = refl
-
 pub key_of-present_slot : (key : ℕ) (value : List ℕ) → key < 2 ^ 64 → key_of (present_slot key value) ≡ key
 key_of-present_slot key value small = big_number-reads_back 8 key (value ++ replicate (64 - length value) 0) small
 
@@ -364,9 +355,6 @@ row_of-present_slot key value small short =
 
 pub row_of-unused : row_of (replicate 80 0) ≡ None
 row_of-unused = refl
-
-pub state_of-unused : state_of (replicate 80 0) ≡ 0
-state_of-unused = refl
 
 untaken : (state : ℕ) (fits : Bool) (row : Option (ℕ × List ℕ)) → state ≢ 1 → cond ((state == 1) && fits) row None ≡ None
 untaken state fits row other =

@@ -59,15 +59,6 @@ module _ (v : Frames) (p : IsPool v) (at : ℕ) (low : at < length v.frames) (us
   pub new_page : ((page : PageName) → name_of f ≡ Some page → holder v.frames page ≡ None) → IsPool (record { frames = set v.frames at f; uses = uses })
   new_page new = pool_of (subst AreOnce (sym (map-set name_of v.frames at f)) (once_set (map name_of v.frames) at (name_of f) (omega (arith, length-map v.frames name_of)) (names_once v p) new))
 
--- the orders of so many frames
-pub orders_long : (frames : List Frame) (orders : Orders) (n : ℕ) → orders ≡ orders_of frames → n ≡ length frames → AreLong n orders
-orders_long frames orders n is long = subst (AreLong n) (sym is) (record {
-  names = length-map frames name_of ∙ sym long;
-  going = length-map frames use_rank ∙ sym long;
-  dirty = length-map frames age_rank ∙ sym long;
-  waiting = length-map frames waiting_rank ∙ sym long;
-})
-
 -- they are refreshed with a frame
 pub orders_set : (frames : List Frame) (orders orders' : Orders) (at : ℕ) (f : Frame) (read : List Frame) → at < length frames → orders ≡ orders_of frames → read ≡ set frames at f → orders' ≡ refreshed at (frame_at read at) orders → orders' ≡ orders_of (set frames at f)
 orders_set frames orders orders' at f read low was is new =

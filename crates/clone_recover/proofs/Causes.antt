@@ -20,11 +20,6 @@ log_cause (Damaged Redo) redo rest image lsn some h none = no_log redo rest imag
 log_cause (Damaged (Undo slot)) redo rest image lsn some h none = none
 log_cause NoMemory redo rest image lsn some h none = tt
 
-pub replay_cause : (e : RecoverRefusal) (redo : List ℕ) → IsNoLogUnlessMemory redo e → IsCause redo e
-replay_cause (Damaged Redo) redo cause = cause
-replay_cause (Damaged (Undo slot)) redo cause = absurd cause
-replay_cause NoMemory redo cause = tt
-
 -- damage by one fact is damage by another that gives it
 pub other_damage : (d : Damage) (slot : ℕ) (Fact Other : Type 0) → (Other → Fact) → IsDamage slot Fact d → IsDamage slot Other d
 other_damage Redo slot Fact Other gives damage = damage

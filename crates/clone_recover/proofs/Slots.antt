@@ -107,10 +107,3 @@ taken_back_by image after s count page new h undone number laid =
     laid ∙ ap (λ (n : ℕ). with_edit after 0 (edited n (put_at header_place (replicate 16 0)))) number
     ∙ ap (λ (i : Image). freed i s) (undone ∙ ap (all_undone image) (sym h.records))
     ∙ sym (ap (taken_back image s) h.is)
-
--- the records of a slot that is in use, as its pages tell them
-pub slot_ranges : (image : Image) (s count : ℕ) → HasChanges count s image → AllByRecursion IsEntry (entries s (system_pages image) count) → IsSlotInRange (undo_slot_of image s)
-slot_ranges image s count h each = subst IsSlotInRange (sym h.is) (subst (AllByRecursion IsEntry) (sym h.records) each)
-
-pub ranges_of_slot : (image : Image) (s count : ℕ) → HasChanges count s image → IsSlotInRange (undo_slot_of image s) → AllByRecursion IsEntry (entries s (system_pages image) count)
-ranges_of_slot image s count h each = let all : IsSlotInRange (Some h.slot) = subst IsSlotInRange h.is each in subst (AllByRecursion IsEntry) h.records all

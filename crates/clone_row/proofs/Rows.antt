@@ -57,11 +57,6 @@ slot_of-absent bytes is = chosen-absent (state_of bytes) (key_of bytes) (row_of 
 pub slot_of-held : (bytes : List ℕ) → state_of bytes ≢ 0 → state_of bytes ≢ 2 → slot_of bytes ≡ held (row_of bytes)
 slot_of-held bytes used other = chosen-held (state_of bytes) (key_of bytes) (row_of bytes) used other
 
--- what a slot that holds a row, or is damaged, isn't
-held_is_used : (row : Option (ℕ × List ℕ)) → held row ≢ unused
-held_is_used (Some row) = λ same. cc
-held_is_used None = λ same. cc
-
 row_in-held : (row : Option (ℕ × List ℕ)) → row_in (held row) ≡ row
 row_in-held (Some row) = refl
 row_in-held None = refl

@@ -13,10 +13,6 @@ regroup : {X : Type 0} (front : List X) (x : X) (read : Result (List X × List �
 regroup {X = X} front x (Ok y) = ap (λ (xs : List X). Ok (xs, y.1)) (simp append_assoc)
 regroup front x (Err f) = refl
 
-pub with_none : {X : Type 0} (read : Result (List X × List ℕ) Fault) → with_front [] read ≡ read
-with_none (Ok x) = refl
-with_none (Err e) = refl
-
 pub goes_on : {X : Type 0} (item : List ℕ → Result (X × List ℕ) Fault) (front : List X) (count i : ℕ) (bytes : List ℕ) (x : X) (after : List ℕ) (total : Result (List X × List ℕ) Fault) → i < count → item bytes ≡ Ok (x, after)
     → with_front front (list_at item (count - i) bytes) ≡ total → with_front (front ++ x ∷ []) (list_at item (count - (i + 1)) after) ≡ total
 goes_on item front count i bytes x after total lt h so_far =
