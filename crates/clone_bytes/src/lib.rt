@@ -9,6 +9,3 @@ mod writer;
 pub use laws::a_number_is_its_bytes;
 pub use reader::{Reader, Short};
 pub use writer::Writer;
-
-#[cfg(test)]
-mod tests;

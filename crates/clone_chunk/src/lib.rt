@@ -11,6 +11,3 @@ pub use chunk::Chunk;
 pub use laws::claimed_once;
 pub use map::ChunkMap;
 pub use stage::Stage;
-
-#[cfg(test)]
-mod tests;

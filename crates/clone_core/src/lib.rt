@@ -6,8 +6,6 @@ mod calls;
 mod joining;
 mod laws;
 mod lines;
-#[cfg(test)]
-mod tests;
 mod texts;
 mod world;
 

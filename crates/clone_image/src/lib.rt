@@ -4,8 +4,6 @@
 mod image;
 mod laws;
 mod rows;
-#[cfg(test)]
-mod tests;
 
 pub use image::Image;
 pub use laws::{page_laws, redone_laws, replay_laws};

@@ -9,8 +9,6 @@ mod list;
 mod reading;
 mod script_value;
 mod tables;
-#[cfg(test)]
-mod tests;
 mod text;
 mod value;
 

@@ -20,6 +20,3 @@ pub use reading::decode;
 pub use record::{Mtr, Record};
 pub use refusal::{DecodeRefusal, EncodeRefusal, TooLong};
 pub use writing::{LONGEST_MTR, encode};
-
-#[cfg(test)]
-mod tests;

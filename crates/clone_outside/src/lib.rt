@@ -8,8 +8,6 @@ mod mark;
 mod mem_sink;
 mod mem_source;
 mod stream;
-#[cfg(test)]
-mod tests;
 
 pub use disk::{DiskOrder, HALF_PAGE, Held, MARK_SIZE, PageDisk};
 pub use fault_plan::FaultPlan;

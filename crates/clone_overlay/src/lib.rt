@@ -6,6 +6,3 @@ mod sheet;
 
 pub use overlay::{FetchRefusal, Overlay, Sheets};
 pub use sheet::{Leaves, Sheet};
-
-#[cfg(test)]
-mod tests;

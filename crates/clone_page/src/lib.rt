@@ -16,6 +16,3 @@ pub use layout::{
     SLOT_LENGTH_AT, SLOT_VALUE_AT, SLOTS_AT, SPACE_AT, TRAILER_AT,
 };
 pub use page::{Page, is_allowed};
-
-#[cfg(test)]
-mod tests;

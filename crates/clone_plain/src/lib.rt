@@ -4,8 +4,6 @@
 
 mod laws;
 mod refusal;
-#[cfg(test)]
-mod tests;
 
 pub use clone_base::{CHANGE_LIMIT, TABLE_LIMIT, TRANSACTION_LIMIT, VALUE_LIMIT};
 pub use laws::{run_laws, runs_join};

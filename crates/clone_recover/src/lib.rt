@@ -11,6 +11,3 @@ mod rollback;
 pub use laws::recover_laws;
 pub use recovery::{open_rows, recover};
 pub use refusal::{Damage, RecoverRefusal};
-
-#[cfg(test)]
-mod tests;

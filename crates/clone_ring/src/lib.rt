@@ -6,6 +6,3 @@ mod ring;
 
 pub use log_full::LogFull;
 pub use ring::Ring;
-
-#[cfg(test)]
-mod tests;

@@ -7,6 +7,3 @@ mod slots;
 
 pub use laws::{header_write_laws, made_laws, row_laws, slot_write_laws};
 pub use slots::{find, free_slot, present, slot_image, slot_offset};
-
-#[cfg(test)]
-mod tests;

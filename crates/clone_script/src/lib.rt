@@ -11,7 +11,5 @@ mod fields;
 mod line;
 mod read;
 mod split;
-#[cfg(test)]
-mod tests;
 
 pub use read::{LONGEST_SCRIPT, ReadRefusal, read_script};

@@ -20,6 +20,3 @@ fn moved<T: Send>(value: T) -> T
 {
     value
 }
-
-#[cfg(test)]
-mod tests;

@@ -8,8 +8,6 @@ mod locks;
 mod place;
 mod records;
 mod tables;
-#[cfg(test)]
-mod tests;
 mod writing;
 
 pub use engine::Engine;

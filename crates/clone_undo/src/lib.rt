@@ -24,6 +24,3 @@ pub use record::{UndoRecord, is_place};
 pub use writing::{
     begin_records, change_records, end_record, first_change_records, take_back_records,
 };
-
-#[cfg(test)]
-mod tests;

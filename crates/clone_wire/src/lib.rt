@@ -35,6 +35,3 @@ pub use redo::RedoBytes;
 pub use refusal::Refusal;
 pub use spaces::{SpaceSize, Spaces};
 pub use stage::{CopyStage, PageStage, StagePlan};
-
-#[cfg(test)]
-mod tests;

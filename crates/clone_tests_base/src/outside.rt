@@ -1,4 +1,4 @@
-use crate::{CloneEnd, Mark, MemSink, MemSource, Refusal, Sink, Source, write_all};
+use clone_outside::{CloneEnd, Mark, MemSink, MemSource, Refusal, Sink, Source, write_all};
 use std::test::Fail;
 
 #[test]

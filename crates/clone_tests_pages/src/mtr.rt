@@ -1,6 +1,6 @@
 ghost use Rattle.std.specs.Prelude.{◌≤◌, ◌<◌, length};
 
-use super::*;
+use clone_mtr::*;
 use clone_page::PageKind;
 use std::alloc::{AllocError, Global};
 use std::test::*;

@@ -1,4 +1,4 @@
-use crate::recovered_image;
+use clone_core::recovered_image;
 use clone_model::{BucketCount, TableNumber, Value};
 use clone_recover::open_rows;
 use clone_trx::Engine;

@@ -1,4 +1,4 @@
-use crate::{FetchRefusal, Overlay};
+use clone_overlay::{FetchRefusal, Overlay};
 use clone_base::REDO_SPACE;
 use clone_memdisk::MemDisk;
 use clone_mtr::{Patch, Record};

@@ -1,4 +1,4 @@
-use super::*;
+use clone_recover::*;
 use std::alloc::{AllocError, Global};
 use std::test::*;
 

@@ -1,4 +1,4 @@
-use crate::{
+use clone_model::{
     Binlog, BucketCount, Change, Changes, Commit, Line, ReadRefusal, ScriptValue, TableNumber,
     Tables, Value, binlog_text, fold, line_text, read_binlog, rows_text, script_value_of,
 };

@@ -1,4 +1,4 @@
-use super::*;
+use clone_page::*;
 use std::test::*;
 
 // The system page after the opening, which ends at 8,213.

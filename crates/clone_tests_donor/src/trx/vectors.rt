@@ -1,4 +1,4 @@
-use crate::tests::{Call, Tried};
+use crate::trx::{Call, Tried};
 use std::alloc::{AllocError, Global};
 use std::process::Abort;
 use std::test::Fail;

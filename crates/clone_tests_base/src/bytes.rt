@@ -1,4 +1,4 @@
-use super::*;
+use clone_bytes::*;
 use std::alloc::AllocError;
 use std::test::*;
 

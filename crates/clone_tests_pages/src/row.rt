@@ -1,4 +1,4 @@
-use super::*;
+use clone_row::*;
 use clone_model::Value;
 use clone_mtr::{Patch, Record, apply};
 use clone_page::Page;

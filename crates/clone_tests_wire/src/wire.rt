@@ -1,4 +1,4 @@
-use super::*;
+use clone_wire::*;
 use clone_page::Page;
 use std::alloc::{AllocError, Global};
 use std::test::*;

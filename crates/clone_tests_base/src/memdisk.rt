@@ -1,4 +1,4 @@
-use crate::MemDisk;
+use clone_memdisk::MemDisk;
 use clone_outside::{DiskOrder, PageDisk, Refusal};
 use std::test::Fail;
 

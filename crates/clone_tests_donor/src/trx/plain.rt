@@ -1,6 +1,6 @@
 mod table;
 
-use crate::tests::plain::table::Table;
+use crate::trx::plain::table::Table;
 use clone_model::{Binlog, Change, Changes, Commit, Tables, Value, fold};
 use clone_plain::{
     CHANGE_LIMIT, Cause, EngineRefusal, TABLE_LIMIT, TRANSACTION_LIMIT, Undone, VALUE_LIMIT,

@@ -1,4 +1,4 @@
-use crate::Engine;
+use clone_trx::Engine;
 use clone_model::{BucketCount, TableNumber, Value, push_value};
 use clone_plain::{Cause, EngineRefusal, Undone};
 use std::alloc::{AllocError, Global};

@@ -1,4 +1,4 @@
-use crate::{Note, Shadow, sent};
+use clone_shadow::{Note, Shadow, sent};
 use clone_mtr::Record;
 use clone_page::Page;
 use std::mem::size_of;

@@ -1,4 +1,4 @@
-use super::*;
+use clone_chunk::*;
 use std::test::*;
 
 #[test]

@@ -1,4 +1,4 @@
-use super::*;
+use clone_undo::*;
 use clone_mtr::{Record, encode_into};
 use std::test::*;
 

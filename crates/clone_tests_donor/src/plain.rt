@@ -1,4 +1,4 @@
-use crate::Cause;
+use clone_plain::Cause;
 use std::test::Fail;
 
 /// Each refusal with its text.

@@ -1,4 +1,4 @@
-use crate::{Image, rows_of};
+use clone_image::{Image, rows_of};
 use clone_mtr::{Patch, Record};
 use clone_page::PageKind;
 use std::alloc::{AllocError, Global};

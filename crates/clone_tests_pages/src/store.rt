@@ -1,4 +1,4 @@
-use crate::Store;
+use clone_store::Store;
 use clone_mtr::{Patch, Record};
 use clone_page::PageKind;
 use std::test::*;

@@ -1,4 +1,4 @@
-use crate::{ReadRefusal, read_script};
+use clone_script::{ReadRefusal, read_script};
 use clone_model::{Line, line_text};
 use std::process::Abort;
 use std::test::*;

@@ -1,4 +1,4 @@
-use crate::{LogFull, Ring};
+use clone_ring::{LogFull, Ring};
 use std::test::Fail;
 
 #[test]

@@ -1,7 +1,7 @@
 ghost use Rattle.std.specs.Prelude.{◌<◌};
 
-use crate::tests::plain::Plain;
-use crate::tests::{Tried, answered};
+use crate::trx::plain::Plain;
+use crate::trx::{Tried, answered};
 use clone_model::{Binlog, fold};
 use clone_plain::Cause;
 use rand_core::utils::NextWord;

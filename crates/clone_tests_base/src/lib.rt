@@ -1,0 +1,19 @@
+//! The tests of the crates at the bottom: values and texts, chunks, pages, and what lies outside. They stand apart, since a crate with tests is proved twice.
+#![tactic(auto)]
+
+#[cfg(test)]
+mod bytes;
+#[cfg(test)]
+mod chunk;
+#[cfg(test)]
+mod memdisk;
+#[cfg(test)]
+mod model;
+#[cfg(test)]
+mod outside;
+#[cfg(test)]
+mod page;
+#[cfg(test)]
+mod ring;
+#[cfg(test)]
+mod script;
