@@ -206,6 +206,11 @@ print(f"change of 80 bytes: {change:.1f} ns")
 megabytes = 400_000 * 2 * 1024 / 1e6
 for way, without in (("ring", "no_ring"), ("row", "no_row")):
     print(f"{way:>7} {megabytes / beyond(seconds(without), way):>8.0f} MB/second")
-memory = run("pool", "4096")[1] - run("pool", "0")[1]
-print(f"4,096 frames: {memory - 16 * 1024} KiB beside 16 MiB")
+full, none = (min(run("pool", frames)[1] for _ in range(5)) for frames in ("4096", "0"))
+beside = full - none - 16 * 1024
+print(f"4,096 frames: {beside} KiB beside 16 MiB")
+print(f"    measured as the most resident memory (ru_maxrss of wait4) of a run that makes such a pool, {full} KiB,")
+print(f"    less that of a run that makes one without frames, {none} KiB: the least of five runs each")
+if beside > 1024:
+    sys.exit("more than 1 MiB beside the pages")
 PYTHON

@@ -1,142 +1,157 @@
--- What a fetch does to the frame of each page.
-use Rattle.std.proofs.Common.{◌≡◌, ◌<◌, ◌⊎◌, inl, inr, ◌&&◌, not, ℕ, Bool, true, false, List, length, set, refl, sym, ap, ◌∙◌, Option, Some, None, Ok, Err, Result, option_map, is_some, MatchOption, if◌then◌else◌}
-use Rattle.std.proofs.lemmas.Bool.{false≢true}
-use Rattle.std.proofs.lemmas.List.{get_or-set_same, get_or-set_other}
+-- A buffer stays kept, whatever a fetch does.
+use Rattle.std.proofs.Common.{◌≡◌, ◌<◌, ◌^◌, ◌&&◌, ℕ, Bool, true, false, List, not, set, refl, sym, ap, subst, ◌∙◌, Option, Some, None, Ok, Err, Result, IsSome, IsTrue, is_some, MatchOption}
+use Rattle.std.proofs.lemmas.Bool.{false≢true, and_from}
+use Rattle.std.proofs.lemmas.List.{get_or-set_same}
+use Rattle.std.proofs.lemmas.Slice.Eq.{bytes_eq-Decides}
+use Rattle.clone_outside.specs.Disk.{DiskImage, ForTold, GivesQuiet}
+use Rattle.clone_image.specs.Image.{Image, page_of}
+use Rattle.clone_image.specs.Replay.{replayed}
+use Rattle.clone_law.specs.Since.{ends}
 use Rattle.clone_pool.specs.declared.frame.Frame.{Frame}
 use Rattle.clone_pool.specs.declared.frame.Flush.TheVariants as flush
 use Rattle.clone_pool.specs.declared.frame.PageName.{PageName}
 use Rattle.clone_pool.specs.declared.pool.FetchRefusal.{FetchRefusal}
 use Rattle.clone_pool.specs.declared.pool.FetchRefusal.TheVariants.{PoolFull, DiskFault}
-use Rattle.clone_pool.specs.Frames.{no_frame, frame_at, name_of, is_fresh, holder, touched, may_go, filled, emptied, next_use}
-use Rattle.clone_pool.specs.Pool.{Frames, IsPool, IsVictim, Fills, Fetches, Misses, KeepsOthers, used}
-use Rattle.clone_buffer.specs.OnePage.{frame_in}
-use Rattle.clone_buffer.proofs.FrameLemmas.{holder_name, is_named, stays, goes, frame_in-old}
-
--- the page has lost a clean frame
-pub record Loses (old new : Option Frame) : Type 0 where
-  pub frame : Frame
-  pub had : old ≡ Some frame
-  pub clean : frame.oldest ≡ None
-  pub idle : frame.flush ≡ flush.Idle
-  pub gone : new ≡ None
-
--- the page that was fetched has got a frame
-pub record Gets (page target : PageName) (held : Option ℕ) (frames : List Frame) (result : Result ℕ FetchRefusal) (old new : Option Frame) : Type 0 where
-  pub at : ℕ
-  pub answer : result ≡ Ok at
-  pub this : target ≡ page
-  pub miss : held ≡ None
-  pub none : old ≡ None
-  pub has : new ≡ Some (frame_at frames at)
-  pub clean : (frame_at frames at).oldest ≡ None
-  pub idle : (frame_at frames at).flush ≡ flush.Idle
-
--- what a fetch does to the frame of one page
-abbrev pub Moves : PageName → PageName → Option ℕ → List Frame → Result ℕ FetchRefusal → Option Frame → Option Frame → Type 0
-Moves page target held frames result old new = (new ≡ old) ⊎ (((use_number : ℕ) × (new ≡ option_map (touched use_number) old)) ⊎ (Loses old new ⊎ Gets page target held frames result old new))
+use Rattle.clone_pool.specs.Frames.{no_frame, frame_at, name_of, holder, touched, may_go, filled, emptied, next_use}
+use Rattle.clone_pool.specs.Pool.{Frames, IsPool, IsVictim, Fills, Fetches, Misses, used}
+use Rattle.clone_shadow.specs.State.{State, is_page}
+use Rattle.clone_buffer.specs.Buffered.{Buffered, Shows}
+use Rattle.clone_buffer.specs.OnePage.{Flushes, frame_in, frame_of}
+use Rattle.clone_buffer.specs.Keeping.{IsKeptPage, IsKept, Stands}
+use Rattle.clone_buffer.proofs.PageLemmas.{like_page, lost_page, read_bytes, read_page}
+use Rattle.clone_buffer.proofs.FrameLemmas.{holder_name, some_name, no_name, none_some, counted, Becomes, set_becomes, moved, held_on}
+use Rattle.clone_buffer.proofs.ShownLemmas.{stands_there, shown_there}
 
 clean_goes : (a : Bool) (o : Option ℕ) → (a && not (is_some o)) ≡ true → o ≡ None
 clean_goes true None go = refl
 clean_goes true (Some x) go = absurd (false≢true go)
 clean_goes false o go = absurd (false≢true go)
 
-idle_goes : (v : Frames) (at : ℕ) → IsPool v → may_go (frame_at v.frames at) ≡ true → (frame_at v.frames at).flush ≡ flush.Idle
-idle_goes v at p go = (p.frame at).clean (ap is_some (clean_goes _ _ go))
+-- what makes place has no change and no flush
+pub victim_clean : (v : Frames) (at : ℕ) → may_go (frame_at v.frames at) ≡ true → (frame_at v.frames at).oldest ≡ None
+victim_clean v at go = clean_goes _ _ go
 
-touched_in : (b : Bool) (f : Frame) (k : ℕ) → (if b then None else Some (touched k f)) ≡ option_map (touched k) (if b then None else Some f)
-touched_in true f k = refl
-touched_in false f k = refl
+pub victim_idle : (v : Frames) (at : ℕ) → IsPool v → may_go (frame_at v.frames at) ≡ true → (frame_at v.frames at).flush ≡ flush.Idle
+victim_idle v at p go = (p.frame at).clean (ap is_some (victim_clean v at go))
 
-keeps_others : (old new : List Frame) (at : ℕ) (f : Frame) → new ≡ set old at f → KeepsOthers at old new
-keeps_others old new at f is other apart = ap (λ fs. frame_at fs other) is ∙ get_or-set_other old at other f no_frame apart
+one_answer : (x y : ℕ) (r : Result ℕ FetchRefusal) → r ≡ Ok x → r ≡ Ok y → x ≡ y
+one_answer x y r a b = cc
 
-here : (old new : List Frame) (at : ℕ) (f : Frame) → at < length old → new ≡ set old at f → frame_at new at ≡ f
-here old new at f low is = ap (λ fs. frame_at fs at) is ∙ get_or-set_same old at f no_frame low
+some_page : (o : Option (List ℕ)) → IsSome o → (page : List ℕ) × (o ≡ Some page)
+some_page None there = absurd (false≢true there)
+some_page (Some page) there = (page, refl)
 
-some_name : (a b : PageName) → Some a ≡ Some b → a ≡ b
-some_name a b is = cc
+module _ (v : Buffered) (flushes : Flushes) (m : DiskImage) (new : Frames) (target : PageName) (p : IsPool v.pool) (q : IsPool new) (k : IsKept v flushes m) where
+  abbrev was : ℕ → Frame
+  was at = frame_at v.pool.frames at
 
-no_name : (page : PageName) → None ≡ Some page → ⊥
-no_name page is = cc
+  abbrev Kept : ℕ → ℕ → Option Frame → Type 0
+  Kept s n frame = IsKeptPage v.log flushes m s n frame
 
--- the page that makes place
-pub given_up : (old new : Frames) (at : ℕ) (page target : PageName) (result : Result ℕ FetchRefusal) → IsPool old → IsPool new → KeepsOthers at old.frames new.frames → may_go (frame_at old.frames at) ≡ true → (name_of (frame_at new.frames at) ≡ Some page → ⊥)
-    → Moves page target (holder old.frames target) new.frames result (frame_in old.frames (holder old.frames page)) (frame_in new.frames (holder new.frames page))
-given_up old new at page target result p q others go has = by (is_named page (name_of (frame_at old.frames at)))
-  where
-    kept : (b : Bool) → is_fresh (frame_at old.frames at).content ≡ b → holder old.frames page ≡ Some at → holder new.frames page ≡ None → Moves page target (holder old.frames target) new.frames result (frame_in old.frames (holder old.frames page)) (frame_in new.frames (holder new.frames page))
-    kept true is held none = inl (ap (frame_in new.frames) none ∙ sym (ap (frame_in old.frames) held ∙ ap (λ (b : Bool). if b then None else Some (frame_at old.frames at)) is))
-    kept false is held none = inr (inr (inl record {
-      frame = frame_at old.frames at;
-      had = ap (frame_in old.frames) held ∙ frame_in-old old.frames at is;
-      clean = clean_goes _ _ go;
-      idle = idle_goes old at p go;
-      gone = ap (frame_in new.frames) none;
-    }))
+  -- each page is kept in its frame
+  abbrev AllKept : Type 0
+  AllKept = (s n : ℕ) → Kept s n (frame_of new.frames s n)
 
-    by : (name_of (frame_at old.frames at) ≡ Some page) ⊎ (name_of (frame_at old.frames at) ≡ Some page → ⊥) → Moves page target (holder old.frames target) new.frames result (frame_in old.frames (holder old.frames page)) (frame_in new.frames (holder new.frames page))
-    by (inl had) = kept (is_fresh (frame_at old.frames at).content) refl (p.once page at had) (goes old new at p q others page had has)
-    by (inr other) = inl (stays old new at p q others page other has)
+  hit : (at : ℕ) → holder v.pool.frames target ≡ Some at → new ≡ used at v.pool → AllKept
+  hit at held is s n =
+      let f : Frame = touched (next_use v.pool.uses) (was at) in
+      let to = set_becomes v.pool.frames new.frames at f (holder_name v.pool.frames target at held).0 (ap (λ (w : Frames). w.frames) is) in
+      held_on v.pool new at p q f to (Kept s n) (Kept s n) (record { space = s; number = n }) refl (λ _ had. like_page v.log flushes m s n (was at) (was at).pins (next_use v.pool.uses) had) (λ _ o had. had) (k.page s n)
 
-hit : (old new : Frames) (at : ℕ) (page target : PageName) (result : Result ℕ FetchRefusal) → IsPool old → IsPool new → at < length old.frames → new ≡ used at old → Moves page target (holder old.frames target) new.frames result (frame_in old.frames (holder old.frames page)) (frame_in new.frames (holder new.frames page))
-hit old new at page target result p q low is = by (is_named page (name_of (frame_at old.frames at)))
-  where
-    f : Frame
-    f = frame_at old.frames at
+  -- the page that makes place, if it has one
+  pub makes_place : (at : ℕ) → may_go (was at) ≡ true → (s n : ℕ) → Kept s n (counted (was at)) → Kept s n None
+  makes_place at go s n had = lost_page v.log flushes m s n (was at) (victim_clean v.pool at go) (victim_idle v.pool at p go) had
 
-    k : ℕ
-    k = next_use old.uses
+  filled_page : (at : ℕ) → holder v.pool.frames target ≡ None → IsVictim v.pool.frames at → Fills target at v.pool new → ends v.log < 2 ^ 64
+      → page_of (replayed v.log) target.space target.number ≡ Some (frame_at new.frames at).page → GivesQuiet m target.space target.number (frame_at new.frames at).page → AllKept
+  filled_page at none victim fills small page quiet s n =
+      moved v.pool new at p q f to (Kept s n) (Kept s n) (record { space = s; number = n })
+      (λ had has _. absurd (none_some (holder v.pool.frames target) at none (p.once target at (had ∙ sym has))))
+      (λ _ _ had. makes_place at victim.free s n had) (λ _ has bare. here (some_name target (record { space = s; number = n }) has) bare) (λ _ o had. had) (k.page s n)
+    where
+      f : Frame
+      f = filled target fills.bytes (next_use v.pool.uses) (was at)
 
-    frames : new.frames ≡ set old.frames at (touched k f)
-    frames = ap (λ (v : Frames). v.frames) is
+      to : Becomes v.pool.frames new.frames at f
+      to = set_becomes v.pool.frames new.frames at f victim.within fills.frames
 
-    this : frame_at new.frames at ≡ touched k f
-    this = here old.frames new.frames at (touched k f) low frames
+      bytes : (frame_at new.frames at).page ≡ fills.bytes
+      bytes = ap (λ (g : Frame). g.page) to.this
 
-    by : (name_of f ≡ Some page) ⊎ (name_of f ≡ Some page → ⊥) → Moves page target (holder old.frames target) new.frames result (frame_in old.frames (holder old.frames page)) (frame_in new.frames (holder new.frames page))
-    by (inl had) = inr (inl (
-      k,
-      ap (frame_in new.frames) (q.once page at (ap name_of this ∙ had)) ∙ ap (λ (g : Frame). if is_fresh g.content then None else Some g) this ∙ touched_in (is_fresh f.content) f k
-          ∙ sym (ap (λ o. option_map (touched k) (frame_in old.frames o)) (p.once page at had)),
-    ))
-    by (inr other) = inl (stays old new at p q (keeps_others old.frames new.frames at (touched k f) frames) page other (λ has. other (sym (ap name_of this) ∙ has)))
+      here : target ≡ record { space = s; number = n } → Kept s n None → Kept s n (Some f)
+      here same = subst (λ (w : PageName). Kept w.space w.number None → Kept w.space w.number (Some f)) same
+          (read_page v.log flushes m target.space target.number f (victim_clean v.pool at victim.free) (victim_idle v.pool at p victim.free)
+          (stands_there v.log target.space target.number fills.bytes small (page ∙ ap Some bytes)) (subst (GivesQuiet m target.space target.number) bytes quiet))
 
-filled_page : (old new : Frames) (at : ℕ) (page target : PageName) → IsPool old → IsPool new → holder old.frames target ≡ None → IsVictim old.frames at → Fills target at old new → Moves page target (holder old.frames target) new.frames (Ok at) (frame_in old.frames (holder old.frames page)) (frame_in new.frames (holder new.frames page))
-filled_page old new at page target p q none victim fills = by (is_named page (Some target))
-  where
-    f : Frame
-    f = filled target fills.bytes (next_use old.uses) (frame_at old.frames at)
+  emptied_page : (at : ℕ) (bytes : List ℕ) → IsVictim v.pool.frames at → new.frames ≡ set v.pool.frames at (emptied bytes (was at)) → AllKept
+  emptied_page at bytes victim is s n =
+      moved v.pool new at p q (emptied bytes (was at)) (set_becomes v.pool.frames new.frames at (emptied bytes (was at)) victim.within is) (Kept s n) (Kept s n) (record { space = s; number = n })
+      (λ _ has _. absurd (no_name _ has)) (λ _ _ had. makes_place at victim.free s n had) (λ _ has _. absurd (no_name _ has)) (λ _ o had. had) (k.page s n)
 
-    this : frame_at new.frames at ≡ f
-    this = here old.frames new.frames at f victim.within fills.frames
+  -- what a fetch leaves is kept
+  pub kept_fetched : (result : Result ℕ FetchRefusal) → Fetches target v.pool new result → ends v.log < 2 ^ 64
+      → ((at : ℕ) → result ≡ Ok at → page_of (replayed v.log) target.space target.number ≡ Some (frame_at new.frames at).page)
+      → ((at : ℕ) → result ≡ Ok at → holder v.pool.frames target ≡ None → GivesQuiet m target.space target.number (frame_at new.frames at).page) → AllKept
+  kept_fetched result f small page read = by (holder v.pool.frames target) refl f
+    where
+      missed : (r : Result ℕ FetchRefusal) → result ≡ r → holder v.pool.frames target ≡ None → Misses target v.pool new r → AllKept
+      missed (Ok at) is none f = filled_page at none f.0 f.1 small (page at is) (read at is none)
+      missed (Err (PoolFull frames)) is none f = λ s n. subst (λ (w : Frames). Kept s n (frame_of w.frames s n)) (sym f.2) (k.page s n)
+      missed (Err DiskFault) is none f = emptied_page f.0 f.1.1.bytes f.1.0 f.1.1.frames
 
-    by : (Some target ≡ Some page) ⊎ (Some target ≡ Some page → ⊥) → Moves page target (holder old.frames target) new.frames (Ok at) (frame_in old.frames (holder old.frames page)) (frame_in new.frames (holder new.frames page))
-    by (inl same) = inr (inr (inr record {
-      at = at;
-      answer = refl;
-      this = some_name target page same;
-      miss = none;
-      none = ap (frame_in old.frames) (sym (ap (holder old.frames) (some_name target page same)) ∙ none);
-      has = ap (frame_in new.frames) (q.once page at (ap name_of this ∙ same)) ∙ frame_in-old new.frames at (ap (λ (g : Frame). is_fresh g.content) this);
-      clean = ap (λ (g : Frame). g.oldest) this ∙ clean_goes _ _ victim.free;
-      idle = ap (λ (g : Frame). g.flush) this ∙ idle_goes old at p victim.free;
-    }))
-    by (inr other) = given_up old new at page target (Ok at) p q (keeps_others old.frames new.frames at f fills.frames) victim.free (λ has. other (sym (ap name_of this) ∙ has))
+      by : (found : Option ℕ) → holder v.pool.frames target ≡ found → MatchOption found (Misses target v.pool new result) (λ at. (result ≡ Ok at) × (new ≡ used at v.pool)) → AllKept
+      by None none f = missed result refl none f
+      by (Some at) is f = hit at is f.1
 
-missed : (old new : Frames) (result : Result ℕ FetchRefusal) (page target : PageName) → IsPool old → IsPool new → holder old.frames target ≡ None → Misses target old new result → Moves page target (holder old.frames target) new.frames result (frame_in old.frames (holder old.frames page)) (frame_in new.frames (holder new.frames page))
-missed old new (Ok at) page target p q none f = filled_page old new at page target p q none f.0 f.1
-missed old new (Err (PoolFull frames)) page target p q none f = inl (ap (λ (v : Frames). frame_in v.frames (holder v.frames page)) f.2)
-missed old new (Err DiskFault) page target p q none f =
-    let at : ℕ = f.0 in
-    let empties = f.1.1 in
-    let g : Frame = emptied empties.bytes (frame_at old.frames at) in
-    let this : frame_at new.frames at ≡ g = here old.frames new.frames at g f.1.0.within empties.frames in
-    given_up old new at page target (Err DiskFault) p q (keeps_others old.frames new.frames at g empties.frames) f.1.0.free (λ has. no_name page (sym (ap name_of this) ∙ has))
+  -- where the disk tells what it holds, what was fetched is the page that the log makes
+  pub fetched_page : (result : Result ℕ FetchRefusal) (at : ℕ) → Fetches target v.pool new result → ends v.log < 2 ^ 64 → IsSome (page_of (replayed v.log) target.space target.number) → Shows (replayed v.log) v.pool.frames
+      → result ≡ Ok at → (holder v.pool.frames target ≡ None → GivesQuiet m target.space target.number (frame_at new.frames at).page) → page_of (replayed v.log) target.space target.number ≡ Some (frame_at new.frames at).page
+  fetched_page result at f small there shows ok read = by (holder v.pool.frames target) refl f
+    where
+      image : Image
+      image = replayed v.log
 
--- each page, once one was fetched
-pub fetched : (old new : Frames) (result : Result ℕ FetchRefusal) (page target : PageName) → IsPool old → IsPool new → Fetches target old new result → Moves page target (holder old.frames target) new.frames result (frame_in old.frames (holder old.frames page)) (frame_in new.frames (holder new.frames page))
-fetched old new result page target p q f = by (holder old.frames target) refl f
-  where
-    by : (found : Option ℕ) → holder old.frames target ≡ found → MatchOption found (Misses target old new result) (λ at. (result ≡ Ok at) × (new ≡ used at old)) → Moves page target (holder old.frames target) new.frames result (frame_in old.frames (holder old.frames page)) (frame_in new.frames (holder new.frames page))
-    by None none f = missed old new result page target p q none f
-    by (Some at) is f = hit old new at page target result p q (holder_name old.frames target at is).0 f.1
+      by : (found : Option ℕ) → holder v.pool.frames target ≡ found → MatchOption found (Misses target v.pool new result) (λ at. (result ≡ Ok at) × (new ≡ used at v.pool)) → page_of image target.space target.number ≡ Some (frame_at new.frames at).page
+      by (Some b) is f =
+          let name = holder_name v.pool.frames target b is in
+          let page : (frame_at new.frames b).page ≡ (was b).page = ap (λ (w : Frames). (frame_at w.frames b).page) f.1 ∙ ap (λ (g : Frame). g.page) (get_or-set_same v.pool.frames b (touched (next_use v.pool.uses) (was b)) no_frame name.0) in
+          shown_there image (was b).page target (was b).content (shows b) name.1 there ∙ ap Some (sym page) ∙ ap (λ (k : ℕ). Some (frame_at new.frames k).page) (one_answer b at result f.0 ok)
+      by None none f =
+          let page = some_page (page_of image target.space target.number) there in
+          let bare : Kept target.space target.number None = subst (λ (o : Option ℕ). Kept target.space target.number (frame_in v.pool.frames o)) none (k.page target.space target.number) in
+          page.1 ∙ ap Some (sym (read_bytes v.log flushes m target.space target.number page.0 (frame_at new.frames at).page bare (stands_there v.log target.space target.number page.0 small page.1) (read none)))
+
+-- what was read keeps the flag where it is the page
+is_read : (bytes : List ℕ) (found : Option (List ℕ)) → found ≡ Some bytes → IsTrue (is_page bytes found)
+is_read bytes found is = subst (λ (f : Option (List ℕ)). IsTrue (is_page bytes f)) (sym is) ((bytes_eq-Decides bytes bytes).1 refl)
+
+module _ (v : Buffered) (flushes : Flushes) (told now : Option DiskImage) (new : Frames) (result : Result ℕ FetchRefusal) (space number : ℕ) where
+  abbrev goal : PageName
+  goal = record { space = space; number = number }
+
+  -- a buffer over a disk stands after a fetch
+  pub stands_fetched : (at : ℕ) (bytes : List ℕ) (a : State) → IsPool v.pool → IsPool new → Fetches goal v.pool new result → ends v.log < 2 ^ 64 → (IsTrue v.right → IsSome (page_of (replayed v.log) space number)) → (IsTrue v.right → Shows (replayed v.log) v.pool.frames) → result ≡ Ok at → now ≡ told
+      → (holder v.pool.frames goal ≡ None → ForTold told (λ m. GivesQuiet m space number (frame_at new.frames at).page)) → bytes ≡ (frame_at new.frames at).page
+      → a ≡ record { log = v.log; right = v.right && is_page bytes (page_of (replayed v.log) space number) } → Stands v flushes told → Stands (record { log = a.log; right = a.right; ring = v.ring; pool = new }) flushes now
+  stands_fetched at bytes a p q f small there shows ok same read is_bytes is st = subst (Stands _ flushes) (sym same) (by told read st)
+    where
+      by : (t : Option DiskImage) → (holder v.pool.frames goal ≡ None → ForTold t (λ m. GivesQuiet m space number (frame_at new.frames at).page)) → Stands v flushes t → Stands (record { log = a.log; right = a.right; ring = v.ring; pool = new }) flushes t
+      by None read st = tt
+      by (Some m) read k =
+          let page : page_of (replayed v.log) space number ≡ Some (frame_at new.frames at).page = fetched_page v flushes m new goal p q k result at f small (there k.right) (shows k.right) ok read in
+          let right : IsTrue (v.right && is_page bytes (page_of (replayed v.log) space number)) = and_from v.right _ k.right (is_read bytes _ (page ∙ ap Some (sym is_bytes))) in
+          let P : ℕ → Type 0 = λ b. page_of (replayed v.log) space number ≡ Some (frame_at new.frames b).page in
+          let Q : ℕ → Type 0 = λ b. GivesQuiet m space number (frame_at new.frames b).page in
+          subst (λ (t : State). IsKept (record { log = t.log; right = t.right; ring = v.ring; pool = new }) flushes m) (sym is)
+          (record { right = right; page = kept_fetched v flushes m new goal p q k result f small (λ b answer. subst P (one_answer at b result ok answer) page) (λ b answer miss. subst Q (one_answer at b result ok answer) (read miss)) })
+
+  -- and where it is refused
+  pub stands_refused : (e : FetchRefusal) → IsPool v.pool → IsPool new → Fetches goal v.pool new result → ends v.log < 2 ^ 64 → result ≡ Err e → now ≡ told → Stands v flushes told → Stands (record { log = v.log; right = v.right; ring = v.ring; pool = new }) flushes now
+  stands_refused e p q f small err same st = subst (Stands _ flushes) (sym same) (by told st)
+    where
+      no_answer : (b : ℕ) → result ≡ Ok b → ⊥
+      no_answer b answer = let both : Err e ≡ Ok b = sym err ∙ answer in absurd (cc)
+
+      by : (t : Option DiskImage) → Stands v flushes t → Stands (record { log = v.log; right = v.right; ring = v.ring; pool = new }) flushes t
+      by None st = tt
+      by (Some m) k = record { right = k.right; page = kept_fetched v flushes m new goal p q k result f small (λ b answer. absurd (no_answer b answer)) (λ b answer miss. absurd (no_answer b answer)) }

@@ -33,7 +33,7 @@ use Rattle.clone_buffer.specs.Buffered.{Buffered}
 use Rattle.clone_buffer.specs.OnePage.{Flushes, standing_at, standing_in, disk_standing, is_open, has_space, frame_in, frame_of, oldest_in, flush_in, flight_of, engine_with}
 use Rattle.clone_buffer.specs.Keeping.{IsKeptPage, IsKept}
 use Rattle.clone_buffer.specs.Flushing.{with_image, with_change, Changes, BeginKeeps, OpenKeeps, LandKeeps, RestLands, FailKeeps, CheckpointKeeps}
-use Rattle.clone_buffer.proofs.FrameLemmas.{holder_name, is_named, stays, frame_in-old}
+use Rattle.clone_buffer.proofs.FrameLemmas.{holder_name, is_named, some_name, counted, frame_in-old, set_becomes, held_on}
 use Rattle.clone_buffer.proofs.PageLemmas.{world}
 
 -- What holds of one page and of each other one holds of all.
@@ -230,41 +230,21 @@ module _ (v : Buffered) (page : PageName) (at : ℕ) where
       → (IsKeptPage v.log flushes m page.space page.number (Some f) → IsKeptPage v.log flushes' m' page.space page.number (Some (change f))) → IsKept v flushes m → IsKept (with_change at change v) flushes' m'
   changed_frame change flushes flushes' m m' c dirty content point others this k = record {
     right = k.right;
-    page = each page (λ s n. IsKeptPage v.log flushes' m' s n (frame_of new.frames s n)) here elsewhere;
+    page = λ s n. held_on v.pool new at c.old c.new (change f) (set_becomes v.pool.frames new.frames at (change f) (within v.pool.frames at (subst IsSome (sym c.name) refl)) refl)
+        (IsKeptPage v.log flushes m s n) (IsKeptPage v.log flushes' m' s n) (record { space = s; number = n }) (ap name_in content)
+        (λ had. here s n (some_name page (record { space = s; number = n }) (sym c.name ∙ had)))
+        (λ other o had. let far = others s n (λ same. other (c.name ∙ ap Some same)) in beside v.log flushes flushes' m m' s n o point far.0 far.1 had) (k.page s n);
   }
     where
       new : Frames
       new = with_frame at change v.pool
 
-      low : at < length v.pool.frames
-      low = within v.pool.frames at (subst IsSome (sym c.name) refl)
+      counted_is : (g : Frame) → g.content ≡ f.content → counted g ≡ Some g
+      counted_is g same = ap (λ (b : Bool). if b then None else Some g) (ap is_fresh same ∙ old_frame v.pool.uses f (c.old.frame at) dirty)
 
-      set_is : frame_at new.frames at ≡ change f
-      set_is = get_or-set_same v.pool.frames at (change f) no_frame low
-
-      content_is : (frame_at new.frames at).content ≡ f.content
-      content_is = ap (λ (g : Frame). g.content) set_is ∙ content
-
-      apart : KeepsOthers at v.pool.frames new.frames
-      apart other is = get_or-set_other v.pool.frames at other (change f) no_frame is
-
-      name_is : name_of (frame_at new.frames at) ≡ name_of f
-      name_is = ap name_in content_is
-
-      now : frame_of new.frames page.space page.number ≡ Some (change f)
-      now = ap (frame_in new.frames) (c.new.once page at (name_is ∙ c.name)) ∙ frame_in-old new.frames at (ap is_fresh content_is ∙ old_frame v.pool.uses f (c.old.frame at) dirty) ∙ ap Some set_is
-
-      here : IsKeptPage v.log flushes' m' page.space page.number (frame_of new.frames page.space page.number)
-      here = subst (IsKeptPage v.log flushes' m' page.space page.number) (sym now) (this (subst (IsKeptPage v.log flushes m page.space page.number) (framed c.old c.name dirty) (k.page page.space page.number)))
-
-      elsewhere : (s n : ℕ) → (page ≡ record { space = s; number = n } → ⊥) → IsKeptPage v.log flushes' m' s n (frame_of new.frames s n)
-      elsewhere s n other =
-          let had : name_of f ≡ Some (record { space = s; number = n }) → ⊥ = λ is. other_name (sym c.name ∙ is) in
-          subst (IsKeptPage v.log flushes' m' s n) (sym (stays v.pool new at c.old c.new apart (record { space = s; number = n }) had (λ is. had (sym name_is ∙ is))))
-          (beside v.log flushes flushes' m m' s n (frame_of v.pool.frames s n) point (others s n other).0 (others s n other).1 (k.page s n))
-        where
-          other_name : Some page ≡ Some (record { space = s; number = n }) → ⊥
-          other_name both = let same : page ≡ record { space = s; number = n } = cc in other same
+      here : (s n : ℕ) → page ≡ record { space = s; number = n } → IsKeptPage v.log flushes m s n (counted f) → IsKeptPage v.log flushes' m' s n (counted (change f))
+      here s n same = subst (λ (w : PageName). IsKeptPage v.log flushes m w.space w.number (counted f) → IsKeptPage v.log flushes' m' w.space w.number (counted (change f))) same
+          (λ had. subst (IsKeptPage v.log flushes' m' page.space page.number) (sym (counted_is (change f) content)) (this (subst (IsKeptPage v.log flushes m page.space page.number) (counted_is f refl) had)))
 
 pub begin_keeps : BeginKeeps
 begin_keeps v flushes m page at c waits k =
@@ -317,11 +297,11 @@ from_frame frames s n f is = by (holder frames (record { space = s; number = n }
   where
     by : (o : Option ℕ) → holder frames (record { space = s; number = n }) ≡ o → frame_in frames o ≡ Some f → (at : ℕ) × ((at < length frames) × (frame_at frames at ≡ f))
     by None got none = absurd (cc)
-    by (Some at) got found = (at, ((holder_name frames (record { space = s; number = n }) at got).0, counted (is_fresh (frame_at frames at).content) found))
+    by (Some at) got found = (at, ((holder_name frames (record { space = s; number = n }) at got).0, one (is_fresh (frame_at frames at).content) found))
       where
-        counted : (b : Bool) → (if b then None else Some (frame_at frames at)) ≡ Some f → frame_at frames at ≡ f
-        counted true none = absurd (cc)
-        counted false some = cc
+        one : (b : Bool) → (if b then None else Some (frame_at frames at)) ≡ Some f → frame_at frames at ≡ f
+        one true none = absurd (cc)
+        one false some = cc
 
 -- what no page is dirty from before
 module _ (v : Buffered) (flushes : Flushes) (m : DiskImage) (lsn : ℕ) (k : IsKept v flushes m) where

@@ -19,10 +19,7 @@ use Rattle.clone_pool.specs.Pool.{Frames}
 use Rattle.clone_buffer.specs.Buffered.{Buffered}
 use Rattle.clone_buffer.specs.OnePage.{Flushes, unflushed, frame_in, frame_of, is_open, has_space, standing_in, engine_with}
 use Rattle.clone_buffer.specs.Keeping.{IsKeptPage, IsKept, DiskIsFrames}
-use Rattle.clone_buffer.proofs.FrameLemmas.{holder_name}
-
-no_name : (page : PageName) → None ≡ Some page → ⊥
-no_name page is = cc
+use Rattle.clone_buffer.proofs.FrameLemmas.{holder_name, no_name}
 
 -- frames without pages hold none
 holder-unused : (n : ℕ) (page : PageName) → holder (replicate n no_frame) page ≡ None

@@ -1,11 +1,10 @@
-pub mod PageLemmas
 pub mod FrameLemmas
+pub mod ShownLemmas
+pub mod PageLemmas
 pub mod FetchLemmas
-pub mod KeepLemmas
+pub mod MoveLemmas
 pub mod WriteLemmas
 pub mod WrittenLemmas
-pub mod LawLemmas
-pub mod MoveLemmas
-pub mod FreshLemmas
 pub mod SpaceLemmas
 pub mod FlushLemmas
+pub mod LawLemmas

@@ -1,119 +1,123 @@
--- A frame has changed and holds its page, or lost a new one.
-use Rattle.std.proofs.Common.{◌≡◌, ◌<◌, ◌⊎◌, inl, inr, ◌&&◌, ◌==◌, ◌-◌, ℕ, Bool, true, false, List, length, refl, sym, ap, subst, ◌∙◌, Option, Some, None, if◌then◌else◌}
-use Rattle.std.proofs.lemmas.List.{get_or-set_same, get_or-set_other}
+-- A buffer stands, whatever is done to a frame that leaves its page as it is.
+use Rattle.std.proofs.Common.{◌≡◌, ◌<◌, ◌&&◌, ◌==◌, ◌-◌, ℕ, Bool, true, false, List, length, set, refl, sym, ap, subst, ◌∙◌, Option, Some, None, Ok, Err, Result, MatchOption, if◌then◌else◌}
+use Rattle.std.proofs.lemmas.List.{get_or-set_same, get_or-set_other, length-set}
 use Rattle.clone_outside.specs.Disk.{DiskImage}
-use Rattle.clone_mtr.specs.declared.record.Record.{Record}
 use Rattle.clone_ring.specs.Window.{Window}
 use Rattle.clone_pool.specs.declared.frame.Frame.{Frame}
 use Rattle.clone_pool.specs.declared.frame.Content.TheVariants.{Unused}
 use Rattle.clone_pool.specs.declared.frame.PageName.{PageName}
-use Rattle.clone_pool.specs.Frames.{no_frame, frame_at, name_of, is_fresh, holder, pinned, unpinned}
-use Rattle.clone_pool.specs.Pool.{Frames, IsPool, KeepsOthers, with_frame}
+use Rattle.clone_pool.specs.declared.pool.FetchRefusal.{FetchRefusal}
+use Rattle.clone_pool.specs.Frames.{no_frame, frame_at, name_of, is_fresh, holder, touched, pinned, unpinned, freshened, next_use}
+use Rattle.clone_pool.specs.Pool.{Frames, IsPool, IsVictim, Freshens, TakesFrame, used, with_frame, with_fresh}
 use Rattle.clone_buffer.specs.Buffered.{Buffered}
-use Rattle.clone_buffer.specs.OnePage.{Flushes, frame_in, frame_of}
-use Rattle.clone_buffer.specs.Keeping.{IsKeptPage, Stands}
-use Rattle.clone_buffer.proofs.FrameLemmas.{is_named, stays, goes}
+use Rattle.clone_buffer.specs.OnePage.{Flushes, frame_of}
+use Rattle.clone_buffer.specs.Keeping.{IsKeptPage, IsKept, Stands}
+use Rattle.clone_buffer.proofs.PageLemmas.{like_page}
+use Rattle.clone_buffer.proofs.FrameLemmas.{holder_name, no_name, counted, Becomes, set_becomes, moved, held_on}
+use Rattle.clone_buffer.proofs.FetchLemmas.{makes_place}
 
--- what a frame gives of the page that it has
-abbrev pub counted : Frame → Option Frame
-counted f = if is_fresh f.content then None else Some f
-
-module _ (old : Frames) (at : ℕ) (change : Frame → Frame) (p : IsPool old) (q : IsPool (with_frame at change old)) (low : at < length old.frames) where
-  abbrev new : Frames
-  new = with_frame at change old
-
-  abbrev f : Frame
-  f = frame_at old.frames at
-
-  others : KeepsOthers at old.frames new.frames
-  others other apart = get_or-set_other old.frames at other (change f) no_frame apart
-
-  this : frame_at new.frames at ≡ change f
-  this = get_or-set_same old.frames at (change f) no_frame low
-
-  -- what holds of the frame of a page holds of it once its frame has changed
-  pub moved_frame : (P : Option Frame → Type 0) (page : PageName) → name_of (change f) ≡ name_of f → (P (counted f) → P (counted (change f))) → P (frame_in old.frames (holder old.frames page)) → P (frame_in new.frames (holder new.frames page))
-  moved_frame P page same moves had = by (is_named page (name_of f))
-    where
-      by : (name_of f ≡ Some page) ⊎ (name_of f ≡ Some page → ⊥) → P (frame_in new.frames (holder new.frames page))
-      by (inl is) =
-          let was : frame_in old.frames (holder old.frames page) ≡ counted f = ap (frame_in old.frames) (p.once page at is) in
-          let now : frame_in new.frames (holder new.frames page) ≡ counted (change f) = ap (frame_in new.frames) (q.once page at (ap name_of this ∙ same ∙ is)) ∙ ap counted this in
-          subst P (sym now) (moves (subst P was had))
-      by (inr other) = subst P (sym (stays old new at p q others page other (λ is. other (sym (same) ∙ sym (ap name_of this) ∙ is)))) had
-
-  -- and once it has lost a new page
-  pub lost_frame : (P : Option Frame → Type 0) (page : PageName) → is_fresh f.content ≡ true → name_of (change f) ≡ None → P (frame_in old.frames (holder old.frames page)) → P (frame_in new.frames (holder new.frames page))
-  lost_frame P page fresh none had = by (is_named page (name_of f))
-    where
-      never : name_of (frame_at new.frames at) ≡ Some page → ⊥
-      never is = let both : None ≡ Some page = sym none ∙ sym (ap name_of this) ∙ is in absurd (cc)
-
-      by : (name_of f ≡ Some page) ⊎ (name_of f ≡ Some page → ⊥) → P (frame_in new.frames (holder new.frames page))
-      by (inl is) =
-          let was : frame_in old.frames (holder old.frames page) ≡ None = ap (frame_in old.frames) (p.once page at is) ∙ ap (λ (b : Bool). if b then None else Some f) fresh in
-          subst P (sym (ap (frame_in new.frames) (goes old new at p q others page is never))) (subst P was had)
-      by (inr other) = subst P (sym (stays old new at p q others page other never)) had
-
--- A pin more.
-
-pinned_page : (log : List (List Record)) (flushes : Flushes) (m : DiskImage) (space number : ℕ) (b : Bool) (f : Frame) → IsKeptPage log flushes m space number (if b then None else Some f) → IsKeptPage log flushes m space number (if b then None else Some (pinned f))
-pinned_page log flushes m space number true f k = k
-pinned_page log flushes m space number false f k = record { rule = k.rule; dirty = k.dirty; flights = k.flights }
-
-pub stands_pinned : (v w : Buffered) (flushes : Flushes) (told : Option DiskImage) (at : ℕ) → IsPool v.pool → IsPool (with_frame at pinned v.pool) → at < length v.pool.frames → w ≡ record v { pool = with_frame at pinned v.pool } → Stands v flushes told → Stands w flushes told
-stands_pinned v w flushes told at p q low is st = subst (λ (u : Buffered). Stands u flushes told) (sym is) (by told st)
-  where
-    by : (t : Option DiskImage) → Stands v flushes t → Stands (record v { pool = with_frame at pinned v.pool }) flushes t
-    by None st = tt
-    by (Some m) k = record {
-      right = k.right;
-      page = λ space number. moved_frame v.pool at pinned p q low (IsKeptPage v.log flushes m space number) (record { space = space; number = number }) refl (pinned_page v.log flushes m space number (is_fresh (frame_at v.pool.frames at).content) (frame_at v.pool.frames at)) (k.page space number);
-    }
-
--- A pin less.
-
--- the frame once a pin is taken away: with its page, or without a new one
-abbrev less : Bool → Frame → Frame
-less true f = record f { content = Unused; pins = 0; last_use = 0 }
-less false f = record f { pins = f.pins - 1 }
-
-first_true : (a b : Bool) → (a && b) ≡ true → a ≡ true
-first_true true b is = refl
-first_true false b is = is
-
-kept_less : (log : List (List Record)) (flushes : Flushes) (m : DiskImage) (space number : ℕ) (b : Bool) (f : Frame) → IsKeptPage log flushes m space number (if b then None else Some f) → IsKeptPage log flushes m space number (if b then None else Some (less false f))
-kept_less log flushes m space number true f k = k
-kept_less log flushes m space number false f k = record { rule = k.rule; dirty = k.dirty; flights = k.flights }
-
-pub stands_unpinned : (v w : Buffered) (flushes : Flushes) (told : Option DiskImage) (at : ℕ) → IsPool v.pool → IsPool (with_frame at unpinned v.pool) → at < length v.pool.frames → w ≡ record v { pool = with_frame at unpinned v.pool } → Stands v flushes told → Stands w flushes told
-stands_unpinned v w flushes told at p q low is st = subst (λ (u : Buffered). Stands u flushes told) (sym is) (by told st)
-  where
-    f : Frame
-    f = frame_at v.pool.frames at
-
-    one : (m : DiskImage) (space number : ℕ) (b : Bool) → (is_fresh f.content && (f.pins == 1)) ≡ b → unpinned f ≡ less b f → IsKeptPage v.log flushes m space number (frame_of v.pool.frames space number) → IsKeptPage v.log flushes m space number (frame_of (with_frame at unpinned v.pool).frames space number)
-    one m space number true last is k =
-        lost_frame v.pool at unpinned p q low (IsKeptPage v.log flushes m space number) (record { space = space; number = number }) (first_true _ _ last) (ap name_of is) k
-    one m space number false last is k =
-        moved_frame v.pool at unpinned p q low (IsKeptPage v.log flushes m space number) (record { space = space; number = number }) (ap name_of is)
-        (λ kept. subst (λ (g : Frame). IsKeptPage v.log flushes m space number (counted g)) (sym is) (kept_less v.log flushes m space number (is_fresh f.content) f kept)) k
-
-    unpinned_is : (b : Bool) → (is_fresh f.content && (f.pins == 1)) ≡ b → unpinned f ≡ less b f
-    unpinned_is true last = ap (λ (b : Bool). if b then record f { content = Unused; pins = 0; last_use = 0 } else record f { pins = f.pins - 1 }) last
-    unpinned_is false last = ap (λ (b : Bool). if b then record f { content = Unused; pins = 0; last_use = 0 } else record f { pins = f.pins - 1 }) last
-
-    by : (t : Option DiskImage) → Stands v flushes t → Stands (record v { pool = with_frame at unpinned v.pool }) flushes t
-    by None st = tt
-    by (Some m) k = record {
-      right = k.right;
-      page = λ space number. one m space number (is_fresh f.content && (f.pins == 1)) refl (unpinned_is (is_fresh f.content && (f.pins == 1)) refl) (k.page space number);
-    }
+-- Where each image that a disk may tell keeps one buffer, if it keeps the other, it stands over the disk.
+pub stands_by : (v w : Buffered) (flushes : Flushes) (told : Option DiskImage) → ((m : DiskImage) → IsKept v flushes m → IsKept w flushes m) → Stands v flushes told → Stands w flushes told
+stands_by v w flushes None kept st = tt
+stands_by v w flushes (Some m) kept st = kept m st
 
 -- The log's floor rose.
-pub stands_raised : (v w : Buffered) (flushes : Flushes) (told : Option DiskImage) (window : Window) → w ≡ record v { ring = window } → Stands v flushes told → Stands w flushes told
-stands_raised v w flushes told window is st = subst (λ (u : Buffered). Stands u flushes told) (sym is) (by told st)
-  where
-    by : (t : Option DiskImage) → Stands v flushes t → Stands (record v { ring = window }) flushes t
-    by None st = tt
-    by (Some m) k = record { right = k.right; page = k.page }
+pub stands_raised : (v : Buffered) (flushes : Flushes) (told : Option DiskImage) (window : Window) → Stands v flushes told → Stands (record v { ring = window }) flushes told
+stands_raised v flushes told window st = stands_by v (record v { ring = window }) flushes told (λ m k. record { right = k.right; page = k.page }) st
+
+module _ (v : Buffered) (flushes : Flushes) (told : Option DiskImage) (at : ℕ) (p : IsPool v.pool) (low : at < length v.pool.frames) where
+  abbrev f : Frame
+  f = frame_at v.pool.frames at
+
+  to : (change : Frame → Frame) → Becomes v.pool.frames (with_frame at change v.pool).frames at (change f)
+  to change = set_becomes v.pool.frames (with_frame at change v.pool).frames at (change f) low refl
+
+  -- A pin more.
+  pub stands_pinned : IsPool (with_frame at pinned v.pool) → Stands v flushes told → Stands (record v { pool = with_frame at pinned v.pool }) flushes told
+  stands_pinned q st = stands_by v (record v { pool = with_frame at pinned v.pool }) flushes told (λ m k. record {
+    right = k.right;
+    page = λ s n. held_on v.pool (with_frame at pinned v.pool) at p q (pinned f) (to pinned) (IsKeptPage v.log flushes m s n) (IsKeptPage v.log flushes m s n) (record { space = s; number = n }) refl
+        (λ _ had. like_page v.log flushes m s n f (pinned f).pins f.last_use had) (λ _ o had. had) (k.page s n);
+  }) st
+
+  -- A pin less: a frame with its page, or without a new one.
+
+  first_true : (a b : Bool) → (a && b) ≡ true → a ≡ true
+  first_true true b is = refl
+  first_true false b is = is
+
+  abbrev less : Bool → Frame
+  less last = if last then record f { content = Unused; pins = 0; last_use = 0 } else record f { pins = f.pins - 1 }
+
+  pub stands_unpinned : IsPool (with_frame at unpinned v.pool) → Stands v flushes told → Stands (record v { pool = with_frame at unpinned v.pool }) flushes told
+  stands_unpinned q st = stands_by v (record v { pool = with_frame at unpinned v.pool }) flushes told (λ m k. record {
+    right = k.right;
+    page = λ s n. by m s n (is_fresh f.content && (f.pins == 1)) refl (k.page s n);
+  }) st
+    where
+      by : (m : DiskImage) (s n : ℕ) (last : Bool) → (is_fresh f.content && (f.pins == 1)) ≡ last → IsKeptPage v.log flushes m s n (frame_of v.pool.frames s n) → IsKeptPage v.log flushes m s n (frame_of (with_frame at unpinned v.pool).frames s n)
+      by m s n true is had =
+          let g : unpinned f ≡ less true = ap less is in
+          let new : counted f ≡ None = ap (λ (b : Bool). if b then None else Some f) (first_true _ _ is) in
+          let Kept : Option Frame → Type 0 = IsKeptPage v.log flushes m s n in
+          moved v.pool (with_frame at unpinned v.pool) at p q (less true) (subst (Becomes v.pool.frames (with_frame at unpinned v.pool).frames at) g (to unpinned)) Kept Kept (record { space = s; number = n })
+          (λ _ has _. absurd (no_name _ has)) (λ _ _ had. subst Kept new had) (λ _ has _. absurd (no_name _ has)) (λ _ o had. had) had
+      by m s n false is had =
+          let g : unpinned f ≡ less false = ap less is in
+          let Kept : Option Frame → Type 0 = IsKeptPage v.log flushes m s n in
+          held_on v.pool (with_frame at unpinned v.pool) at p q (less false) (subst (Becomes v.pool.frames (with_frame at unpinned v.pool).frames at) g (to unpinned)) Kept Kept (record { space = s; number = n }) refl
+          (λ _ had. like_page v.log flushes m s n f (f.pins - 1) f.last_use had) (λ _ o had. had) had
+
+-- A frame was taken for a new page.
+module _ (v : Buffered) (new : Frames) (flushes : Flushes) (target : PageName) (p : IsPool v.pool) (q : IsPool new) where
+  abbrev was : ℕ → Frame
+  was at = frame_at v.pool.frames at
+
+  -- each page is kept in its frame
+  abbrev AllKept : DiskImage → Type 0
+  AllKept m = (s n : ℕ) → IsKeptPage v.log flushes m s n (frame_of new.frames s n)
+
+  taken : (at : ℕ) → IsVictim v.pool.frames at → new ≡ with_fresh target at v.pool → (m : DiskImage) → IsKept v flushes m → AllKept m
+  taken at victim is m k s n =
+      let f : Frame = freshened target (next_use v.pool.uses) (was at) in
+      let to = set_becomes v.pool.frames new.frames at f victim.within (ap (λ (w : Frames). w.frames) is) in
+      let gone = makes_place v flushes m new target p q k at victim.free s n in
+      moved v.pool new at p q f to (IsKeptPage v.log flushes m s n) (IsKeptPage v.log flushes m s n) (record { space = s; number = n }) (λ _ _ had. gone had) (λ _ _ had. gone had) (λ _ _ had. had) (λ _ o had. had) (k.page s n)
+
+  hit : (at : ℕ) → holder v.pool.frames target ≡ Some at → new ≡ used at (with_frame at pinned v.pool) → (m : DiskImage) → IsKept v flushes m → AllKept m
+  hit at held is m k s n =
+      held_on v.pool new at p q f to (IsKeptPage v.log flushes m s n) (IsKeptPage v.log flushes m s n) (record { space = s; number = n }) refl
+      (λ _ had. like_page v.log flushes m s n (was at) (pinned (was at)).pins (next_use v.pool.uses) had) (λ _ o had. had) (k.page s n)
+    where
+      mid : List Frame
+      mid = (with_frame at pinned v.pool).frames
+
+      low : at < length v.pool.frames
+      low = (holder_name v.pool.frames target at held).0
+
+      f : Frame
+      f = touched (next_use v.pool.uses) (pinned (was at))
+
+      pin : Becomes v.pool.frames mid at (pinned (was at))
+      pin = set_becomes v.pool.frames mid at (pinned (was at)) low refl
+
+      touch : Becomes mid new.frames at (touched (next_use v.pool.uses) (frame_at mid at))
+      touch = set_becomes mid new.frames at (touched (next_use v.pool.uses) (frame_at mid at)) (subst (λ (n : ℕ). at < n) (sym (length-set v.pool.frames at (pinned (was at)))) low) (ap (λ (w : Frames). w.frames) is)
+
+      to : Becomes v.pool.frames new.frames at f
+      to = record { this = touch.this ∙ ap (touched (next_use v.pool.uses)) pin.this; others = λ other apart. touch.others other apart ∙ pin.others other apart }
+
+  -- a buffer over a disk stands with a new page
+  pub stands_fresh : (told : Option DiskImage) (result : Result ℕ FetchRefusal) → Freshens target v.pool new result → Stands v flushes told → Stands (record v { pool = new }) flushes told
+  stands_fresh told result f st = stands_by v (record v { pool = new }) flushes told (λ m k. record { right = k.right; page = kept m k }) st
+    where
+      kept_taken : (r : Result ℕ FetchRefusal) → TakesFrame target v.pool new r → (m : DiskImage) → IsKept v flushes m → AllKept m
+      kept_taken (Ok at) t m k = taken at t.0 t.1 m k
+      kept_taken (Err refusal) t m k = λ s n. subst (λ (w : Frames). IsKeptPage v.log flushes m s n (frame_of w.frames s n)) (sym t.2) (k.page s n)
+
+      by : (found : Option ℕ) → holder v.pool.frames target ≡ found → MatchOption found (TakesFrame target v.pool new result) (λ at. (result ≡ Ok at) × (new ≡ used at (with_frame at pinned v.pool))) → (m : DiskImage) → IsKept v flushes m → AllKept m
+      by None none f m k = kept_taken result f m k
+      by (Some at) is f m k = hit at is f.1 m k
+
+      kept : (m : DiskImage) → IsKept v flushes m → AllKept m
+      kept m k = by (holder v.pool.frames target) refl f m k

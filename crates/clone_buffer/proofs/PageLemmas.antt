@@ -1,5 +1,5 @@
 -- One page that is kept stays so, whatever a call does to it.
-use Rattle.std.proofs.Common.{◌≡◌, ◌↔◌, ◌&&◌, ◌++◌, ℕ, Bool, true, false, List, [], ◌∷◌, slice_get, refl, sym, ap, subst, ◌∙◌, Option, Some, None, option_map, option_and_then, unwrap_or, IsSome, IfSome, IsTrue}
+use Rattle.std.proofs.Common.{◌≡◌, ◌↔◌, ◌&&◌, ◌++◌, ℕ, Bool, true, false, List, [], ◌∷◌, slice_get, refl, sym, ap, subst, ◌∙◌, Option, Some, None, option_map, option_and_then, unwrap_or, IsSome, IfSome, IsTrue, if◌then◌else◌}
 use Rattle.std.proofs.lemmas.Bool.{false≢true, true≢false}
 use Rattle.std.specs.FinMap as finite
 use Rattle.clone_outside.specs.Disk.{DiskImage, page_of, GivesQuiet}
@@ -14,9 +14,10 @@ use Rattle.clone_law.proofs.EventLemmas.{engine_kept}
 use Rattle.clone_pool.specs.declared.frame.Frame.{Frame}
 use Rattle.clone_pool.specs.declared.frame.Flush.{Flush}
 use Rattle.clone_pool.specs.declared.frame.Flush.TheVariants as flush
-use Rattle.clone_pool.specs.Frames.{touched, noted, is_begun}
+use Rattle.clone_pool.specs.Frames.{is_fresh, noted, is_begun}
 use Rattle.clone_buffer.specs.OnePage.{Flushes, standing_at, standing_in, is_open, has_space, flight_of, engine_with}
 use Rattle.clone_buffer.specs.Keeping.{IsKeptPage}
+use Rattle.clone_buffer.proofs.FrameLemmas.{counted}
 
 -- the page without a clone
 abbrev pub world : Engine → World
@@ -69,10 +70,13 @@ quiet_bytes (Some pages) number page bytes is closed gives = at (slice_get pages
         said shut ∙ stands_same held.bytes page same
 
 module _ (log : List (List Record)) (flushes : Flushes) (m : DiskImage) (space number : ℕ) where
-  -- the frame was used
-  pub used_page : (frame : Option Frame) (n : ℕ) → IsKeptPage log flushes m space number frame → IsKeptPage log flushes m space number (option_map (touched n) frame)
-  used_page None n k = k
-  used_page (Some f) n k = record { rule = k.rule; dirty = k.dirty; flights = k.flights }
+  -- whatever a frame's pins and its last use are
+  pub like_page : (f : Frame) (pins last_use : ℕ) → IsKeptPage log flushes m space number (counted f) → IsKeptPage log flushes m space number (counted (record f { pins = pins; last_use = last_use }))
+  like_page f pins last_use k = by (is_fresh f.content) k
+    where
+      by : (b : Bool) → IsKeptPage log flushes m space number (if b then None else Some f) → IsKeptPage log flushes m space number (if b then None else Some (record f { pins = pins; last_use = last_use }))
+      by true k = k
+      by false k = record { rule = k.rule; dirty = k.dirty; flights = k.flights }
 
   -- a clean page lost its frame
   lost : (f : Frame) → IsKeptPage log flushes m space number (Some (record f { oldest = None; flush = flush.Idle })) → IsKeptPage log flushes m space number None
@@ -85,10 +89,14 @@ module _ (log : List (List Record)) (flushes : Flushes) (m : DiskImage) (space n
         flights = k.flights;
       }
 
-  pub lost_page : (f : Frame) → f.oldest ≡ None → f.flush ≡ flush.Idle → IsKeptPage log flushes m space number (Some f) → IsKeptPage log flushes m space number None
-  lost_page f clean idle k =
-      let same : f ≡ record f { oldest = None; flush = flush.Idle } = λ i. record f { oldest = clean i; flush = idle i } in
-      lost f (subst (λ (g : Frame). IsKeptPage log flushes m space number (Some g)) same k)
+  pub lost_page : (f : Frame) → f.oldest ≡ None → f.flush ≡ flush.Idle → IsKeptPage log flushes m space number (counted f) → IsKeptPage log flushes m space number None
+  lost_page f clean idle k = by (is_fresh f.content) k
+    where
+      by : (b : Bool) → IsKeptPage log flushes m space number (if b then None else Some f) → IsKeptPage log flushes m space number None
+      by true k = k
+      by false k =
+          let same : f ≡ record f { oldest = None; flush = flush.Idle } = λ i. record f { oldest = clean i; flush = idle i } in
+          lost f (subst (λ (g : Frame). IsKeptPage log flushes m space number (Some g)) same k)
 
   on_disk : (page : List ℕ) → IsKeptPage log flushes m space number None → redone space number log ≡ stands page → (standing_in (finite.get m.spaces space) number ≡ stands page) × (is_open (page_of m space number) ≡ false)
   on_disk page k is =

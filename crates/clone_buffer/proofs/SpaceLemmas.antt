@@ -30,6 +30,7 @@ use Rattle.clone_image.proofs.Redoing.{replayed_is_redone}
 use Rattle.clone_image.proofs.Images.{page_of-past, page_of-elsewhere}
 use Rattle.clone_law.specs.Touches.{Touch, passes, edits, becomes, reaches, touches, names, resets, passes_by, applied, Sound, Ordered}
 use Rattle.clone_law.proofs.AppendLemmas.{appended, suits_unnamed}
+use Rattle.clone_ring.specs.Window.{free_in}
 use Rattle.clone_ring.specs.Window as ring
 use Rattle.clone_ring.specs.declared.log_full.LogFull.{LogFull}
 use Rattle.clone_pool.specs.declared.frame.Content.{Content}
@@ -38,9 +39,9 @@ use Rattle.clone_pool.specs.declared.frame.PageName.{PageName}
 use Rattle.clone_pool.specs.Pool.{IsPool}
 use Rattle.clone_buffer.specs.Buffered.{Buffered, IsBuffer}
 use Rattle.clone_buffer.specs.Writing.{any_names, written, Writes, MakesSpace, Creates, HasMade}
-use Rattle.clone_buffer.proofs.FrameLemmas.{holder_name}
-use Rattle.clone_buffer.proofs.WriteLemmas.{named_held, named_oldest, named_flush, of_named, passes_all, resets_none}
-use Rattle.clone_buffer.proofs.WrittenLemmas.{small, passed, renewed, renewed_frame, frame_of-passed, some_of, shows_created, IsBuffer-written}
+use Rattle.clone_buffer.proofs.FrameLemmas.{holder_name, some_name, no_name}
+use Rattle.clone_buffer.proofs.WriteLemmas.{named_held, changed_is, of_named, passes_all, resets_none}
+use Rattle.clone_buffer.proofs.WrittenLemmas.{small, passed, renewed, renewed_frame, frame_of-passed, some_of, shows_created, stands_result, IsBuffer-written}
 
 -- a page of such a space
 zero_at : (number pages : ℕ) → number < pages → slice_get (replicate pages disk.zero_page) number ≡ Some disk.zero_page
@@ -139,9 +140,6 @@ same_sound false v x ts is both = absurd (false≢true is)
 no_space_there : (log : List (List Record)) (space number : ℕ) → ends log < 2 ^ 64 → finite.get (replayed log) space ≡ None → redone space number log ≡ no_space
 no_space_there log space number small none = sym (replayed_is_redone log space number small) ∙ ap (λ (o : Option (List (List ℕ))). image_standing o number) none
 
-no_name : (page : PageName) → None ≡ Some page → ⊥
-no_name page is = cc
-
 clean_fresh : (o : Option ℕ) → is_some o ≡ false → o ≡ None
 clean_fresh None is = refl
 clean_fresh (Some x) is = absurd (true≢false is)
@@ -180,10 +178,7 @@ module _ (v : Buffered) (flushes : Flushes) (m : DiskImage) (space pages : ℕ) 
       by : (content : Content) → (frame_at v.pool.frames at).content ≡ content → name_of (frame_at v.pool.frames at) ≡ Some (record { space = space; number = n }) → is_fresh (frame_at v.pool.frames at).content ≡ true
       by Unused is name = absurd (no_name (record { space = space; number = n }) (sym (ap name_in is) ∙ name))
       by (Fresh q) is name = ap is_fresh is
-      by (Held q) is name =
-          let both : Some q ≡ Some (record { space = space; number = n }) = sym (ap name_in is) ∙ name in
-          let same : q ≡ record { space = space; number = n } = cc in
-          absurd (makes.unheld at q is (ap (λ (w : PageName). w.space) same))
+      by (Held q) is name = absurd (makes.unheld at q is (ap (λ (w : PageName). w.space) (some_name q (record { space = space; number = n }) (sym (ap name_in is) ∙ name))))
 
   unframed : (n : ℕ) → frame_of v.pool.frames space n ≡ None
   unframed n = by (holder v.pool.frames (record { space = space; number = n })) refl
@@ -213,13 +208,14 @@ module _ (v : Buffered) (flushes : Flushes) (m : DiskImage) (space pages : ℕ) 
       let idle = (p.frame held.0).fresh is_new in
       let low : n < pages = within (cases_lt n pages) (of_named (λ q. IsSome (image_page (finite.insert (replayed v.log) space (replicate pages zero_page)) q.space q.number)) page rest hits (makes.there k.right)) in
       let both = renewed_frame v flushes m records p b after k space n held.0 held.1 (named_held page records (ring.end_of v.ring) (ring.end_of v.ring + length (spelling records)) f hits) in
+      let dirty = (changed_is page records (ring.end_of v.ring) (ring.end_of v.ring + length (spelling records)) f).1 hits in
       let first : made n pages ≡ stands zero_page = ap (λ (t : Bool). if t then stands zero_page else past_end) (lt-ltb n pages low) in
       let sound = same_sound (space == space) (redone space n v.log) (made n pages) (touches end space n rest) own (subst (λ (s : Standing). Sound s (touches end space n rest) × Ordered (touches end space n rest)) (sym first) (edits_sound zero_page (touches end space n rest) (resets_none end space n rest makes.edits))) in
       let suits : Suits space n v.log records = record { small = less; sound = sound.0; ordered = sound.1 } in
       subst (IsKeptPage (v.log ++ records ∷ []) flushes m space n) (sym both.0)
       (opened_page v.log flushes m space n pages records quiet _ low suits both.1 (no_space_there v.log space n (omega (arith, less)) (makes.absent k.right))
-      (named_oldest page records (ring.end_of v.ring) (ring.end_of v.ring + length (spelling records)) f hits ∙ ap (λ (o : Option ℕ). Some (unwrap_or o (ring.end_of v.ring))) (clean_fresh f.oldest idle.1) ∙ ap Some b.end)
-      (named_flush page records (ring.end_of v.ring) (ring.end_of v.ring + length (spelling records)) f hits ∙ ap (noted (ring.end_of v.ring)) ((p.frame held.0).clean idle.1)) (bare n))
+      (ap (λ (g : Frame). g.oldest) dirty ∙ ap (λ (o : Option ℕ). Some (unwrap_or o (ring.end_of v.ring))) (clean_fresh f.oldest idle.1) ∙ ap Some b.end)
+      (ap (λ (g : Frame). g.flush) dirty ∙ ap (noted (ring.end_of v.ring)) ((p.frame held.0).clean idle.1)) (bare n))
     where
       within : (n < pages) ⊎ (pages ≤ n) → IsSome (image_page (finite.insert (replayed v.log) space (replicate pages zero_page)) space n) → n < pages
       within (inl low) there = low
@@ -235,16 +231,11 @@ module _ (v : Buffered) (flushes : Flushes) (m : DiskImage) (space pages : ℕ) 
 
 -- a buffer over a disk stands after a mini-transaction that makes a space
 pub stands_created : (v w : Buffered) (flushes : Flushes) (told : Option DiskImage) (records : List Record) (result : Result ℕ LogFull) → IsPool v.pool → IsBuffer v → IsSpelled records → Creates v records → Writes records v w result → ForTold told (HasMade records) → Stands v flushes told → Stands w flushes told
-stands_created v w flushes told rs (Err full) p b spelled makes writes on st = subst (λ (u : Buffered). Stands u flushes told) (sym writes.2) st
-stands_created v w flushes told [] (Ok lsn) p b spelled makes writes on st = absurd makes
-stands_created v w flushes told (Init space number kind ∷ rest) (Ok lsn) p b spelled makes writes on st = absurd makes
-stands_created v w flushes told (Write space number patch ∷ rest) (Ok lsn) p b spelled makes writes on st = absurd makes
-stands_created v w flushes told (Extend space count ∷ rest) (Ok lsn) p b spelled makes writes on st = absurd makes
-stands_created v w flushes told (Drop space ∷ rest) (Ok lsn) p b spelled makes writes on st = absurd makes
-stands_created v w flushes told (Create space count ∷ rest) (Ok lsn) p b spelled makes writes on st = subst (λ (u : Buffered). Stands u flushes told) (sym writes.1) (by told on st)
+stands_created v w flushes told (Create space count ∷ rest) result p b spelled makes writes on st = stands_result v w flushes told (Create space count ∷ rest) result writes (λ room. by room told on) st
   where
-    by : (t : Option DiskImage) → ForTold t (HasMade (Create space count ∷ rest)) → Stands v flushes t → Stands (written (Create space count ∷ rest) v) flushes t
-    by None on st = tt
-    by (Some m) on k =
-        let after = IsBuffer-written v (Create space count ∷ rest) b spelled writes.0 (λ t. shows_created v (Create space count ∷ rest) p (sym (ap (λ n. n + length (spelling (Create space count ∷ rest))) b.end)) makes t (b.shows t)) in
+    by : length (spelling (Create space count ∷ rest)) ≤ free_in v.ring → (t : Option DiskImage) → ForTold t (HasMade (Create space count ∷ rest)) → Stands v flushes t → Stands (written (Create space count ∷ rest) v) flushes t
+    by room None on st = tt
+    by room (Some m) on k =
+        let after = IsBuffer-written v (Create space count ∷ rest) b spelled room (λ t. shows_created v (Create space count ∷ rest) p (sym (ap (λ n. n + length (spelling (Create space count ∷ rest))) b.end)) makes t (b.shows t)) in
         kept_created v flushes m space count rest p b after makes on k
+stands_created v w flushes told other result p b spelled makes writes on st = absurd makes

@@ -1,7 +1,8 @@
 -- What the records of a mini-transaction do to the frames, and to the pages that they show.
-use Rattle.std.proofs.Common.{◌≡◌, ◌≢◌, ◌<◌, ◌≤◌, ◌⊎◌, inl, inr, ◌&&◌, ◌==◌, ℕ, Bool, true, false, List, [], ◌∷◌, length, set, map, refl, sym, ap, subst, ◌∙◌, Option, Some, None, option_map, option_and_then, unwrap_or, IsSome, IfSome, if◌then◌else◌}
+use Rattle.std.proofs.Common.{◌≡◌, ◌≢◌, ◌<◌, ◌≤◌, ◌⊎◌, inl, inr, ◌&&◌, ◌==◌, ℕ, Bool, true, false, List, [], ◌∷◌, length, set, map, refl, sym, ap, subst, ◌∙◌, Option, Some, None, option_map, option_and_then, unwrap_or, IsSome, IfSome, if◌then◌else◌, get_or}
 use Rattle.std.proofs.lemmas.Bool.{cases_eq, cases_lt, false≢true, true≢false, and_parts, eqb-true}
-use Rattle.std.proofs.lemmas.List.{get_or-set_same, get_or-set_other, get_or-map, map-set, set_past, set-get_or}
+use Rattle.std.proofs.lemmas.List.{get_or-set_same, get_or-set_other, map-set, set_past, set-get_or}
+use Rattle.std.proofs.Math.ListN.{get_or-map}
 use Rattle.std.specs.List.{AllByRecursion}
 use Rattle.clone_mtr.specs.Effects.{effect}
 use Rattle.clone_mtr.specs.declared.record.Record.{Record}
@@ -25,7 +26,8 @@ use Rattle.clone_pool.specs.Pool.{Frames}
 use Rattle.clone_pool.proofs.NameLemmas.{named, is_own_name}
 use Rattle.clone_buffer.specs.Buffered.{Shown, Shows}
 use Rattle.clone_buffer.specs.Writing.{named_frame, changed_at, after_records, IsOnPage, any_names}
-use Rattle.clone_buffer.proofs.FrameLemmas.{holder_name}
+use Rattle.clone_buffer.proofs.FrameLemmas.{holder_name, some_name}
+use Rattle.clone_buffer.proofs.ShownLemmas.{shown_unused, shown_named}
 
 -- no page has two frames
 abbrev pub Once : List Frame → Type 0
@@ -49,37 +51,21 @@ names_at (Some at) r start end v = by (cases_lt at (length v.frames))
     f = frame_at v.frames at
 
     by : (at < length v.frames) ⊎ (length v.frames ≤ at) → map name_of (set v.frames at (changed r start end f)) ≡ map name_of v.frames
-    by (inl low) = map-set name_of v.frames at (changed r start end f) ∙ ap (set (map name_of v.frames) at) (name_in-made f.content ∙ sym (get_or-map name_of v.frames at no_frame None low)) ∙ set-get_or (map name_of v.frames) at None
+    by (inl low) = map-set name_of v.frames at (changed r start end f) ∙ ap (set (map name_of v.frames) at) (name_in-made f.content ∙ sym (get_or-map name_of v.frames at no_frame)) ∙ set-get_or (map name_of v.frames) at None
     by (inr past) = ap (map name_of) (set_past v.frames at (changed r start end f) past)
 
 pub holder-step : (r : Record) (start end : ℕ) (v : Frames) (page : PageName) → holder (step r start end v).frames page ≡ holder v.frames page
 holder-step r start end v page = ap (place_of page) (names_at (named_frame v.frames r) r start end v)
 
+names-after : (rs : List Record) (start end : ℕ) (v : Frames) → map name_of (after_records rs start end v).frames ≡ map name_of v.frames
+names-after [] start end v = refl
+names-after (r ∷ rs) start end v = names-after rs start end (step r start end v) ∙ names_at (named_frame v.frames r) r start end v
+
 pub holder-after : (rs : List Record) (start end : ℕ) (v : Frames) (page : PageName) → holder (after_records rs start end v).frames page ≡ holder v.frames page
-holder-after [] start end v page = refl
-holder-after (r ∷ rs) start end v page = holder-after rs start end (step r start end v) page ∙ holder-step r start end v page
-
-name_at-step : (o : Option ℕ) (r : Record) (start end : ℕ) (v : Frames) (b : ℕ) → name_of (frame_at (changed_at o r start end v).frames b) ≡ name_of (frame_at v.frames b)
-name_at-step None r start end v b = refl
-name_at-step (Some at) r start end v b = by (cases_lt at (length v.frames)) (cases_eq b at)
-  where
-    g : Frame
-    g = changed r start end (frame_at v.frames at)
-
-    by : (at < length v.frames) ⊎ (length v.frames ≤ at) → (b ≡ at) ⊎ (b ≢ at) → name_of (frame_at (set v.frames at g) b) ≡ name_of (frame_at v.frames b)
-    by (inl low) (inl same) = subst (λ (k : ℕ). name_of (frame_at (set v.frames at g) k) ≡ name_of (frame_at v.frames k)) (sym same) (ap name_of (get_or-set_same v.frames at g no_frame low) ∙ name_in-made (frame_at v.frames at).content)
-    by (inl low) (inr other) = ap name_of (get_or-set_other v.frames at b g no_frame other)
-    by (inr past) either = ap (λ (fs : List Frame). name_of (frame_at fs b)) (set_past v.frames at g past)
+holder-after rs start end v page = ap (place_of page) (names-after rs start end v)
 
 name_at-after : (rs : List Record) (start end : ℕ) (v : Frames) (b : ℕ) → name_of (frame_at (after_records rs start end v).frames b) ≡ name_of (frame_at v.frames b)
-name_at-after [] start end v b = refl
-name_at-after (r ∷ rs) start end v b = name_at-after rs start end (step r start end v) b ∙ name_at-step (named_frame v.frames r) r start end v b
-
-some_name : (a b : PageName) → Some a ≡ Some b → a ≡ b
-some_name a b is = cc
-
-some_place : (o : Option ℕ) (a b : ℕ) → o ≡ Some a → o ≡ Some b → a ≡ b
-some_place o a b x y = cc
+name_at-after rs start end v b = sym (get_or-map name_of (after_records rs start end v).frames b no_frame) ∙ ap (λ names. get_or names b None) (names-after rs start end v) ∙ get_or-map name_of v.frames b no_frame
 
 -- What becomes of one frame.
 
@@ -121,72 +107,64 @@ pub frame-after : (rs : List Record) (start end : ℕ) (v : Frames) (page : Page
 frame-after [] start end v page b held = refl
 frame-after (r ∷ rs) start end v page b held = frame-after rs start end (step r start end v) page b (holder-step r start end v page ∙ held) ∙ ap (changed_by page rs start end) (frame-step r start end v page b held)
 
--- a frame that no record names stays
-pub unnamed_stays : (page : PageName) (rs : List Record) (start end : ℕ) (f : Frame) → any_names page rs ≡ false → changed_by page rs start end f ≡ f
-unnamed_stays page [] start end f miss = refl
-unnamed_stays page (r ∷ rs) start end f miss = by (unnamed_stays page rs start end f) (is_name_of page (page_changed r)) miss
-  where
-    by : (any_names page rs ≡ false → changed_by page rs start end f ≡ f) → (t : Bool) → (if t then true else any_names page rs) ≡ false → changed_by page rs start end (if t then changed r start end f else f) ≡ f
-    by rest true miss = absurd (true≢false miss)
-    by rest false miss = rest miss
+-- a frame that a mini-transaction has changed, which begins there, and what its page is then
+abbrev pub dirtied : ℕ → List ℕ → Frame → Frame
+dirtied start bytes f = record f { content = made f.content; page = bytes; oldest = Some (unwrap_or f.oldest start); flush = noted start f.flush }
 
-abbrev oldest_then : Bool → ℕ → Frame → Option ℕ
-oldest_then true start f = Some (unwrap_or f.oldest start)
-oldest_then false start f = f.oldest
-
-abbrev flush_then : Bool → ℕ → Frame → Flush
-flush_then true start f = noted start f.flush
-flush_then false start f = f.flush
+made_twice : (content : Content) → made (made content) ≡ made content
+made_twice Unused = refl
+made_twice (Fresh name) = refl
+made_twice (Held name) = refl
 
 noted_twice : (start : ℕ) (f : Flush) → noted start (noted start f) ≡ noted start f
 noted_twice start flush.Idle = refl
 noted_twice start (flush.Begun later) = refl
 noted_twice start flush.Failed = refl
 
-oldest_twice : (t : Bool) (r : Record) (start end : ℕ) (f : Frame) → oldest_then t start (changed r start end f) ≡ Some (unwrap_or f.oldest start)
-oldest_twice true r start end f = refl
-oldest_twice false r start end f = refl
+dirtied_twice : (start : ℕ) (a b : List ℕ) (f : Frame) → dirtied start b (dirtied start a f) ≡ dirtied start b f
+dirtied_twice start a b f = λ i. record (dirtied start b f) { content = made_twice f.content i; flush = noted_twice start f.flush i }
 
-flush_twice : (t : Bool) (r : Record) (start end : ℕ) (f : Frame) → flush_then t start (changed r start end f) ≡ noted start f.flush
-flush_twice true r start end f = noted_twice start f.flush
-flush_twice false r start end f = refl
+made_held : (content : Content) → is_fresh (made content) ≡ false
+made_held Unused = refl
+made_held (Fresh name) = refl
+made_held (Held name) = refl
 
-oldest_is : (page : PageName) (rs : List Record) (start end : ℕ) (f : Frame) → (changed_by page rs start end f).oldest ≡ oldest_then (any_names page rs) start f
-oldest_is page [] start end f = refl
-oldest_is page (r ∷ rs) start end f = by (λ g. oldest_is page rs start end g) (is_name_of page (page_changed r))
+-- a frame stays that no record names, and one that a record names is dirty since the mini-transaction, if it wasn't before
+pub changed_is : (page : PageName) (rs : List Record) (start end : ℕ) (f : Frame)
+    → (any_names page rs ≡ false → changed_by page rs start end f ≡ f) × (any_names page rs ≡ true → changed_by page rs start end f ≡ dirtied start (changed_by page rs start end f).page f)
+changed_is page [] start end f = (λ _. refl, λ hits. absurd (false≢true hits))
+changed_is page (r ∷ rs) start end f = by (is_name_of page (page_changed r)) (λ g. changed_is page rs start end g) (any_names page rs) refl
   where
-    by : ((g : Frame) → (changed_by page rs start end g).oldest ≡ oldest_then (any_names page rs) start g) → (t : Bool) → (changed_by page rs start end (if t then changed r start end f else f)).oldest ≡ oldest_then (if t then true else any_names page rs) start f
-    by rest true = rest (changed r start end f) ∙ oldest_twice (any_names page rs) r start end f
-    by rest false = rest f
+    after : Frame → Frame
+    after g = changed_by page rs start end g
 
-flush_is : (page : PageName) (rs : List Record) (start end : ℕ) (f : Frame) → (changed_by page rs start end f).flush ≡ flush_then (any_names page rs) start f
-flush_is page [] start end f = refl
-flush_is page (r ∷ rs) start end f = by (λ g. flush_is page rs start end g) (is_name_of page (page_changed r))
-  where
-    by : ((g : Frame) → (changed_by page rs start end g).flush ≡ flush_then (any_names page rs) start g) → (t : Bool) → (changed_by page rs start end (if t then changed r start end f else f)).flush ≡ flush_then (if t then true else any_names page rs) start f
-    by rest true = rest (changed r start end f) ∙ flush_twice (any_names page rs) r start end f
-    by rest false = rest f
+    Rest : Type 0
+    Rest = (g : Frame) → (any_names page rs ≡ false → after g ≡ g) × (any_names page rs ≡ true → after g ≡ dirtied start (after g).page g)
 
--- a frame that a record names is dirty since the mini-transaction, if it wasn't before
-pub named_oldest : (page : PageName) (rs : List Record) (start end : ℕ) (f : Frame) → any_names page rs ≡ true → (changed_by page rs start end f).oldest ≡ Some (unwrap_or f.oldest start)
-named_oldest page rs start end f hits = oldest_is page rs start end f ∙ ap (λ (t : Bool). oldest_then t start f) hits
+    by : (t : Bool) → Rest → (u : Bool) → any_names page rs ≡ u → ((if t then true else any_names page rs) ≡ false → after (if t then changed r start end f else f) ≡ f)
+        × ((if t then true else any_names page rs) ≡ true → after (if t then changed r start end f else f) ≡ dirtied start (after (if t then changed r start end f else f)).page f)
+    by false rest u is = rest f
+    by true rest false is =
+        let g : Frame = changed r start end f in
+        let same : after g ≡ g = (rest g).0 is in
+        (λ miss. absurd (true≢false miss), λ hits. same ∙ ap (λ bytes. dirtied start bytes f) (sym (ap (λ (h : Frame). h.page) same)))
+    by true rest true is =
+        let g : Frame = changed r start end f in
+        (λ miss. absurd (true≢false miss), λ hits. (rest g).1 is ∙ dirtied_twice start (effect end r f.page) (after g).page f)
 
-pub named_flush : (page : PageName) (rs : List Record) (start end : ℕ) (f : Frame) → any_names page rs ≡ true → (changed_by page rs start end f).flush ≡ noted start f.flush
-named_flush page rs start end f hits = flush_is page rs start end f ∙ ap (λ (t : Bool). flush_then t start f) hits
+-- a frame that a record names isn't new any more, and has its page
+pub named_held : (page : PageName) (rs : List Record) (start end : ℕ) (f : Frame) → any_names page rs ≡ true → (is_fresh (changed_by page rs start end f).content ≡ false) × (name_of (changed_by page rs start end f) ≡ name_of f)
+named_held page rs start end f hits =
+    let content : (changed_by page rs start end f).content ≡ made f.content = ap (λ (g : Frame). g.content) ((changed_is page rs start end f).1 hits) in
+    (ap is_fresh content ∙ made_held f.content, ap name_in content ∙ name_in-made f.content)
 
-made_old : (content : Content) → is_fresh content ≡ false → is_fresh (made content) ≡ false
-made_old Unused old = refl
-made_old (Fresh name) old = absurd (true≢false old)
-made_old (Held name) old = refl
-
--- what a frame holds stays
+-- so is one that wasn't new
 pub stays_held : (page : PageName) (rs : List Record) (start end : ℕ) (f : Frame) → is_fresh f.content ≡ false → (is_fresh (changed_by page rs start end f).content ≡ false) × (name_of (changed_by page rs start end f) ≡ name_of f)
-stays_held page [] start end f old = (old, refl)
-stays_held page (r ∷ rs) start end f old = by (λ g. stays_held page rs start end g) (is_name_of page (page_changed r))
+stays_held page rs start end f old = by (any_names page rs) refl
   where
-    by : ((g : Frame) → is_fresh g.content ≡ false → (is_fresh (changed_by page rs start end g).content ≡ false) × (name_of (changed_by page rs start end g) ≡ name_of g)) → (t : Bool) → (is_fresh (changed_by page rs start end (if t then changed r start end f else f)).content ≡ false) × (name_of (changed_by page rs start end (if t then changed r start end f else f)) ≡ name_of f)
-    by rest true = let kept = rest (changed r start end f) (made_old f.content old) in (kept.0, kept.1 ∙ name_in-made f.content)
-    by rest false = rest f old
+    by : (t : Bool) → any_names page rs ≡ t → (is_fresh (changed_by page rs start end f).content ≡ false) × (name_of (changed_by page rs start end f) ≡ name_of f)
+    by true hits = named_held page rs start end f hits
+    by false miss = let same = (changed_is page rs start end f).0 miss in (ap (λ (g : Frame). is_fresh g.content) same ∙ old, ap name_of same)
 
 -- What the frames show.
 
@@ -199,9 +177,7 @@ record IsEdit (r : Record) : Type 0 where
 edit_of : (r : Record) → EditsPages r → IsEdit r
 edit_of (record_is.Init space number kind) only = record { page = record { space = space; number = number }; named_is = refl; edit_is = λ end image. refl }
 edit_of (record_is.Write space number patch) only = record { page = record { space = space; number = number }; named_is = refl; edit_is = λ end image. refl }
-edit_of (record_is.Extend space pages) only = absurd only
-edit_of (record_is.Create space pages) only = absurd only
-edit_of (record_is.Drop space) only = absurd only
+edit_of other only = absurd only
 
 -- what a record makes of a page and of the frame that shows it
 page-step : (image : Image) (r : Record) (start end : ℕ) (page : PageName) (f : Frame) → EditsPages r → page_of image page.space page.number ≡ Some f.page → page_of (after_record end image r) page.space page.number ≡ Some (if is_name_of page (page_changed r) then changed r start end f else f).page
@@ -234,36 +210,6 @@ Ready image rs Unused bytes = Unit {0}
 Ready image rs (Fresh name) bytes = ((page_of image name.space name.number ≡ Some bytes) × (any_names name rs ≡ true)) ⊎ ((page_of image name.space name.number ≡ None) × ((any_names name rs ≡ false) × (bytes ≡ zero_page)))
 Ready image rs (Held name) bytes = page_of image name.space name.number ≡ Some bytes
 
-no_name : (page : PageName) → None ≡ Some page → ⊥
-no_name page is = cc
-
--- a frame without a page shows none
-shown_unused : (image : Image) (content : Content) (bytes : List ℕ) → name_in content ≡ None → Shown image content bytes
-shown_unused image Unused bytes is = tt
-shown_unused image (Fresh name) bytes is = absurd (no_name name (sym is))
-shown_unused image (Held name) bytes is = absurd (no_name name (sym is))
-
--- a frame that is held shows its page
-shown_named : (image : Image) (content : Content) (bytes : List ℕ) (page : PageName) → name_in content ≡ Some page → is_fresh content ≡ false → page_of image page.space page.number ≡ Some bytes → Shown image content bytes
-shown_named image Unused bytes page is old shows = tt
-shown_named image (Fresh name) bytes page is old shows = absurd (true≢false old)
-shown_named image (Held name) bytes page is old shows = let same : name ≡ page = some_name name page is in subst (λ (n : PageName). page_of image n.space n.number ≡ Some bytes) (sym same) shows
-
-made_held : (content : Content) → is_fresh (made content) ≡ false
-made_held Unused = refl
-made_held (Fresh name) = refl
-made_held (Held name) = refl
-
--- a frame that a record names isn't new any more
-pub named_held : (page : PageName) (rs : List Record) (start end : ℕ) (f : Frame) → any_names page rs ≡ true → (is_fresh (changed_by page rs start end f).content ≡ false) × (name_of (changed_by page rs start end f) ≡ name_of f)
-named_held page [] start end f hits = absurd (false≢true hits)
-named_held page (r ∷ rs) start end f hits = by (named_held page rs start end f) (is_name_of page (page_changed r)) hits
-  where
-    by : (any_names page rs ≡ true → (is_fresh (changed_by page rs start end f).content ≡ false) × (name_of (changed_by page rs start end f) ≡ name_of f)) → (t : Bool) → (if t then true else any_names page rs) ≡ true
-        → (is_fresh (changed_by page rs start end (if t then changed r start end f else f)).content ≡ false) × (name_of (changed_by page rs start end (if t then changed r start end f else f)) ≡ name_of f)
-    by rest true hits = let kept = stays_held page rs start end (changed r start end f) (made_held f.content) in (kept.0, kept.1 ∙ name_in-made f.content)
-    by rest false hits = rest hits
-
 -- records that name a page that isn't there leave it so
 absent-after : (rs : List Record) (image : Image) (end : ℕ) (page : PageName) → AllByRecursion EditsPages rs → page_of image page.space page.number ≡ None → page_of (image_is.after_records end image rs) page.space page.number ≡ None
 absent-after rs image end page only none = records_pages end image rs page.space page.number only ∙ ap (option_map (λ _. undo.after end rs (image_is.all_pages image) page.space page.number)) none
@@ -285,15 +231,15 @@ module _ (rs : List Record) (image : Image) (v : Frames) (start end : ℕ) (only
       let named_so : name_of (frame_at v.frames b) ≡ Some name = ap name_of is ∙ ap name_in holds in
       let then_is : frame_then b ≡ changed_by name rs start end f = frame-after rs start end v name b (once name b named_so) ∙ ap (changed_by name rs start end) is in
       let kept = stays_held name rs start end f (ap is_fresh holds) in
-      subst (λ (g : Frame). Shown last g.content g.page) (sym then_is) (shown_named last (changed_by name rs start end f).content _ name (kept.1 ∙ ap name_in holds) kept.0 (page-after rs image start end name f only ready))
+      subst (λ (g : Frame). Shown last g.content g.page) (sym then_is) (shown_named last _ name (changed_by name rs start end f).content (kept.1 ∙ ap name_in holds) kept.0 (page-after rs image start end name f only ready))
   shown_then b f is (Fresh name) holds (inl ready) =
       let named_so : name_of (frame_at v.frames b) ≡ Some name = ap name_of is ∙ ap name_in holds in
       let then_is : frame_then b ≡ changed_by name rs start end f = frame-after rs start end v name b (once name b named_so) ∙ ap (changed_by name rs start end) is in
       let kept = named_held name rs start end f ready.1 in
-      subst (λ (g : Frame). Shown last g.content g.page) (sym then_is) (shown_named last (changed_by name rs start end f).content _ name (kept.1 ∙ ap name_in holds) kept.0 (page-after rs image start end name f only ready.0))
+      subst (λ (g : Frame). Shown last g.content g.page) (sym then_is) (shown_named last _ name (changed_by name rs start end f).content (kept.1 ∙ ap name_in holds) kept.0 (page-after rs image start end name f only ready.0))
   shown_then b f is (Fresh name) holds (inr ready) =
       let named_so : name_of (frame_at v.frames b) ≡ Some name = ap name_of is ∙ ap name_in holds in
-      let then_is : frame_then b ≡ f = frame-after rs start end v name b (once name b named_so) ∙ ap (changed_by name rs start end) is ∙ unnamed_stays name rs start end f ready.1.0 in
+      let then_is : frame_then b ≡ f = frame-after rs start end v name b (once name b named_so) ∙ ap (changed_by name rs start end) is ∙ (changed_is name rs start end f).0 ready.1.0 in
       subst (λ (g : Frame). Shown last g.content g.page) (sym then_is) (subst (λ (c : Content). Shown last c f.page) (sym holds) (absent-after rs image end name only ready.0, ready.1.1))
 
   -- the frames show the pages that the records leave
@@ -360,9 +306,7 @@ passes_all end space number (r ∷ rs) only miss = by r only.0 (passes_all end s
     by : (r : Record) → EditsPages r → PassesBy end space number rs → is_name_of page (page_changed r) ≡ false → PassesBy end space number (r ∷ rs)
     by (record_is.Init s n kind) only rest is = let both = pass_one end space number rs ((s == space) && (n == number)) (effect end (record_is.Init s n kind)) (not_named s n space number is) rest in record { unnamed = both.0; passing = both.1 }
     by (record_is.Write s n patch) only rest is = let both = pass_one end space number rs ((s == space) && (n == number)) (effect end (record_is.Write s n patch)) (not_named s n space number is) rest in record { unnamed = both.0; passing = both.1 }
-    by (record_is.Extend s pages) only rest is = absurd only
-    by (record_is.Create s pages) only rest is = absurd only
-    by (record_is.Drop s) only rest is = absurd only
+    by other only rest is = absurd only
 
 resets_one : (end space number : ℕ) (rs : List Record) (t : Bool) (edit : List ℕ → List ℕ) → resets (touches end space number rs) ≡ false → resets ((if t then edits edit else passes) ∷ touches end space number rs) ≡ false
 resets_one end space number rs true edit rest = rest
@@ -373,6 +317,4 @@ pub resets_none : (end space number : ℕ) (rs : List Record) → AllByRecursion
 resets_none end space number [] only = refl
 resets_none end space number (record_is.Init s n kind ∷ rs) only = resets_one end space number rs ((s == space) && (n == number)) (effect end (record_is.Init s n kind)) (resets_none end space number rs only.1)
 resets_none end space number (record_is.Write s n patch ∷ rs) only = resets_one end space number rs ((s == space) && (n == number)) (effect end (record_is.Write s n patch)) (resets_none end space number rs only.1)
-resets_none end space number (record_is.Extend s pages ∷ rs) only = absurd only.0
-resets_none end space number (record_is.Create s pages ∷ rs) only = absurd only.0
-resets_none end space number (record_is.Drop s ∷ rs) only = absurd only.0
+resets_none end space number (other ∷ rs) only = absurd only.0

@@ -34,8 +34,9 @@ use Rattle.clone_buffer.specs.Keeping.{IsKeptPage, IsKept, Stands}
 use Rattle.clone_buffer.specs.Writing.{after_records, HasFrame, IsOnPage, any_names, written, Writes, Creates, MakesSpace}
 use Rattle.clone_buffer.proofs.PageLemmas.{passed_page, changed_page}
 use Rattle.clone_buffer.proofs.FrameLemmas.{holder_name, frame_in-old}
-use Rattle.clone_buffer.proofs.KeepLemmas.{stands_there, shown_there}
-use Rattle.clone_buffer.proofs.WriteLemmas.{holder-after, frame-after, changed_by, unnamed_stays, named_oldest, named_flush, stays_held, shows_records, of_named, Ready, ready_there, PassesBy, passes_all, resets_none}
+use Rattle.clone_buffer.proofs.ShownLemmas.{stands_there, shown_held, not_fresh}
+use Rattle.clone_buffer.proofs.MoveLemmas.{stands_by}
+use Rattle.clone_buffer.proofs.WriteLemmas.{holder-after, frame-after, changed_by, changed_is, stays_held, shows_records, of_named, Ready, ready_there, PassesBy, passes_all, resets_none}
 
 -- the pages that a log makes with one mini-transaction more
 pub replayed-push : (log : List (List Record)) (records : List Record) (end : ℕ) → end ≡ ends log + length (spelling records) → replayed (log ++ records ∷ []) ≡ image_is.after_records end (replayed log) records
@@ -64,19 +65,6 @@ shows_written v records p end edits on shows =
     subst (λ (i : Image). Shows i (written records v).pool.frames) (sym (replayed-push v.log records _ (sym end)))
     (shows_records records (replayed v.log) v.pool (ring.end_of v.ring) (ring.end_of v.ring + length (spelling records)) edits p.once (λ at. ready_there (replayed v.log) records (frame_at v.pool.frames at).content (frame_at v.pool.frames at).page on (shows at)))
 
--- a page that its frame shows
-shown_held : (image : Image) (content : Content) (bytes : List ℕ) (page : PageName) → Shown image content bytes → name_in content ≡ Some page → is_fresh content ≡ false → page_of image page.space page.number ≡ Some bytes
-shown_held image Unused bytes page shown is old = let none : None ≡ Some page = is in absurd (cc)
-shown_held image (Fresh name) bytes page shown is old = absurd (true≢false old)
-shown_held image (Held name) bytes page shown is old = let same : name ≡ page = cc in subst (λ (n : PageName). page_of image n.space n.number ≡ Some bytes) same shown
-
-not_fresh : (image : Image) (content : Content) (bytes : List ℕ) (page : PageName) → Shown image content bytes → name_in content ≡ Some page → IsSome (page_of image page.space page.number) → is_fresh content ≡ false
-not_fresh image Unused bytes page shown is there = refl
-not_fresh image (Fresh name) bytes page shown is there =
-    let same : name ≡ page = cc in
-    let none : page_of image page.space page.number ≡ None = subst (λ (n : PageName). page_of image n.space n.number ≡ None) same shown.0 in absurd (false≢true (subst IsSome none there))
-not_fresh image (Held name) bytes page shown is there = refl
-
 pub some_of : (o : Option ℕ) → IsSome o → (at : ℕ) × (o ≡ Some at)
 some_of None there = absurd (false≢true there)
 some_of (Some at) there = (at, refl)
@@ -104,7 +92,7 @@ module _ (v : Buffered) (flushes : Flushes) (m : DiskImage) (records : List Reco
     where
       same : (o : Option ℕ) → holder v.pool.frames (record { space = space; number = number }) ≡ o → frame_in new.frames o ≡ frame_in v.pool.frames o
       same None is = refl
-      same (Some at) is = ap (λ (f : Frame). if is_fresh f.content then None else Some f) (frame-after records start end v.pool (record { space = space; number = number }) at is ∙ unnamed_stays (record { space = space; number = number }) records start end (frame_at v.pool.frames at) miss)
+      same (Some at) is = ap (λ (f : Frame). if is_fresh f.content then None else Some f) (frame-after records start end v.pool (record { space = space; number = number }) at is ∙ (changed_is (record { space = space; number = number }) records start end (frame_at v.pool.frames at)).0 miss)
 
   -- a page that no record names
   pub passed : (space number : ℕ) → any_names (record { space = space; number = number }) records ≡ false → PassesBy (end_of (ends v.log) records) space number records → IsKeptPage longer flushes m space number (frame_of new.frames space number)
@@ -121,7 +109,7 @@ module _ (v : Buffered) (flushes : Flushes) (m : DiskImage) (records : List Reco
       let g : Frame = changed_by page records start end (frame_at v.pool.frames at) in
       let becomes : frame_at new.frames at ≡ g = frame-after records start end v.pool page at held in
       let shows : Shown (replayed longer) g.content g.page = subst (λ (h : Frame). Shown (replayed longer) h.content h.page) becomes (after.shows k.right at) in
-      let is : page_of (replayed longer) space number ≡ Some g.page = shown_held (replayed longer) g.content g.page page shows (stay.1 ∙ (holder_name v.pool.frames page at held).1) stay.0 in (
+      let is : page_of (replayed longer) space number ≡ Some g.page = shown_held (replayed longer) g.page page g.content shows (stay.1 ∙ (holder_name v.pool.frames page at held).1) stay.0 in (
         ap (frame_in new.frames) (holder-after records start end v.pool page ∙ held) ∙ ap (λ (h : Frame). if is_fresh h.content then None else Some h) becomes ∙ ap (λ (t : Bool). if t then None else Some g) stay.0,
         stands_there longer space number g.page (omega (arith, after.below)) is,
       )
@@ -136,14 +124,15 @@ module _ (v : Buffered) (flushes : Flushes) (m : DiskImage) (records : List Reco
       let f : Frame = frame_at v.pool.frames at in
       let g : Frame = changed_by page records start end f in
       let name : name_of f ≡ Some page = (holder_name v.pool.frames page at held.1).1 in
-      let old : is_fresh f.content ≡ false = not_fresh (replayed v.log) f.content f.page page (b.shows k.right at) name on in
+      let is = (changed_is page records start end f).1 hits in
+      let old : is_fresh f.content ≡ false = not_fresh (replayed v.log) f.page page f.content (b.shows k.right at) name on in
       let new_frame = renewed_frame space number at held.1 (stays_held page records start end f old) in
-      let was : page_of (replayed v.log) space number ≡ Some f.page = shown_there (replayed v.log) f.content f.page page (b.shows k.right at) name on in
+      let was : page_of (replayed v.log) space number ≡ Some f.page = shown_held (replayed v.log) f.page page f.content (b.shows k.right at) name old in
       let stood : redone space number v.log ≡ stands f.page = stands_there v.log space number f.page (omega (arith, small)) was in
       let had : frame_of v.pool.frames space number ≡ Some f = ap (frame_in v.pool.frames) held.1 ∙ frame_in-old v.pool.frames at old in
       subst (IsKeptPage longer flushes m space number) (sym new_frame.0)
       (changed_page v.log flushes m space number records f g (suits_there space number v.log records f.page small stood calm) stood new_frame.1
-      (named_oldest page records start end f hits ∙ ap (λ (s : ℕ). Some (unwrap_or f.oldest s)) b.end) (named_flush page records start end f hits ∙ ap (λ (s : ℕ). noted s f.flush) b.end)
+      (ap (λ (g : Frame). g.oldest) is ∙ ap (λ (s : ℕ). Some (unwrap_or f.oldest s)) b.end) (ap (λ (g : Frame). g.flush) is ∙ ap (λ (s : ℕ). noted s f.flush) b.end)
       (subst (IsKeptPage v.log flushes m space number) had (k.page space number)))
 
   -- records that change pages that are there
@@ -154,17 +143,6 @@ module _ (v : Buffered) (flushes : Flushes) (m : DiskImage) (records : List Reco
       by space number false is = passed space number is (passes_all (end_of (ends v.log) records) space number records edits is)
       by space number true is =
           renewed space number is (resets_none (end_of (ends v.log) records) space number records edits) (of_named (λ n. IsSome (holder v.pool.frames n)) (record { space = space; number = number }) records is framed) (of_named (λ n. IsSome (page_of (replayed v.log) n.space n.number)) (record { space = space; number = number }) records is there)
-
--- a buffer over a disk stands after a write
-pub stands_written : (v w : Buffered) (flushes : Flushes) (told : Option DiskImage) (records : List Record) → IsPool v.pool → IsBuffer v → IsSpelled records → length (spelling records) ≤ free_in v.ring → AllByRecursion EditsPages records → AllByRecursion (HasFrame v.pool.frames) records
-    → (IsTrue v.right → AllByRecursion (IsOnPage (replayed v.log)) records) → w ≡ written records v → Stands v flushes told → Stands w flushes told
-stands_written v w flushes told records p b spelled room edits frames there is st = subst (λ (u : Buffered). Stands u flushes told) (sym is) (by told st)
-  where
-    by : (t : Option DiskImage) → Stands v flushes t → Stands (written records v) flushes t
-    by None st = tt
-    by (Some m) k =
-        let after = IsBuffer-written v records b spelled room (λ t. shows_written v records p (sym (ap (λ n. n + length (spelling records)) b.end)) edits (there t) (b.shows t)) in
-        kept_written v flushes m records p b after k edits frames (there k.right)
 
 -- the parts of a buffer once a mini-transaction was written
 pub written_is : (v w : Buffered) (records : List Record) (text : List ℕ) (start end : ℕ) → text ≡ spelling records → w.log ≡ v.log ++ records ∷ [] → w.right ≡ v.right → w.ring ≡ ring.appended text v.ring → start ≡ ring.end_of v.ring → end ≡ ring.end_of w.ring
@@ -200,19 +178,24 @@ ready_made v space pages rest at (Fresh name) bytes makes right is shown = by (c
     by (inr other) either = absent (page_of-elsewhere (replayed v.log) space pages name.space name.number other ∙ shown.0)
 
 pub shows_created : (v : Buffered) (records : List Record) → IsPool v.pool → end_of (ends v.log) records ≡ ring.end_of v.ring + length (spelling records) → Creates v records → IsTrue v.right → Shows (replayed v.log) v.pool.frames → Shows (replayed (v.log ++ records ∷ [])) (written records v).pool.frames
-shows_created v [] p behind makes right shows = absurd makes
-shows_created v (record_is.Init space number kind ∷ rest) p behind makes right shows = absurd makes
-shows_created v (record_is.Write space number patch ∷ rest) p behind makes right shows = absurd makes
-shows_created v (record_is.Extend space pages ∷ rest) p behind makes right shows = absurd makes
-shows_created v (record_is.Drop space ∷ rest) p behind makes right shows = absurd makes
 shows_created v (record_is.Create space pages ∷ rest) p behind makes right shows =
     let records : List Record = record_is.Create space pages ∷ rest in
     subst (λ (i : Image). Shows i (written records v).pool.frames) (sym (replayed-push v.log records _ (sym behind)))
     (shows_records rest (finite.insert (replayed v.log) space (replicate pages zero_page)) v.pool (ring.end_of v.ring) (ring.end_of v.ring + length (spelling records)) makes.edits p.once
     (λ at. ready_made v space pages rest at (frame_at v.pool.frames at).content (frame_at v.pool.frames at).page makes right refl (shows at)))
+shows_created v other p behind makes right shows = absurd makes
 
--- whatever a write answers
-pub stands_result : (v w : Buffered) (flushes : Flushes) (told : Option DiskImage) (records : List Record) (result : Result ℕ LogFull) → IsPool v.pool → IsBuffer v → IsSpelled records → AllByRecursion EditsPages records → AllByRecursion (HasFrame v.pool.frames) records
+-- a buffer over a disk stands, whatever a write answers, if what is written then is kept
+pub stands_result : (v w : Buffered) (flushes : Flushes) (told : Option DiskImage) (records : List Record) (result : Result ℕ LogFull) → Writes records v w result
+    → (length (spelling records) ≤ free_in v.ring → Stands v flushes told → Stands (written records v) flushes told) → Stands v flushes told → Stands w flushes told
+stands_result v w flushes told records (Ok lsn) writes kept st = subst (λ (u : Buffered). Stands u flushes told) (sym writes.1) (kept writes.0 st)
+stands_result v w flushes told records (Err full) writes kept st = subst (λ (u : Buffered). Stands u flushes told) (sym writes.2) st
+
+pub stands_written : (v w : Buffered) (flushes : Flushes) (told : Option DiskImage) (records : List Record) (result : Result ℕ LogFull) → IsPool v.pool → IsBuffer v → IsSpelled records → AllByRecursion EditsPages records → AllByRecursion (HasFrame v.pool.frames) records
     → (IsTrue v.right → AllByRecursion (IsOnPage (replayed v.log)) records) → Writes records v w result → Stands v flushes told → Stands w flushes told
-stands_result v w flushes told records (Ok lsn) p b spelled edits frames there writes st = stands_written v w flushes told records p b spelled writes.0 edits frames there writes.1 st
-stands_result v w flushes told records (Err full) p b spelled edits frames there writes st = subst (λ (u : Buffered). Stands u flushes told) (sym writes.2) st
+stands_written v w flushes told records result p b spelled edits frames there writes st = stands_result v w flushes told records result writes (λ room. stands_by v (written records v) flushes told (kept room)) st
+  where
+    kept : length (spelling records) ≤ free_in v.ring → (m : DiskImage) → IsKept v flushes m → IsKept (written records v) flushes m
+    kept room m k =
+        let after = IsBuffer-written v records b spelled room (λ t. shows_written v records p (sym (ap (λ n. n + length (spelling records)) b.end)) edits (there t) (b.shows t)) in
+        kept_written v flushes m records p b after k edits frames (there k.right)

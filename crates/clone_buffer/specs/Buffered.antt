@@ -15,7 +15,8 @@ use Rattle.clone_pool.specs.declared.frame.Content.TheVariants.{Unused, Fresh, H
 use Rattle.clone_pool.specs.Frames.{frame_at}
 use Rattle.clone_pool.specs.Pool.{Frames}
 
--- The mini-transactions written so far, and whether each page that was read so far was the one that the log made; the bytes of the log from the floor on; and the pages in frames.
+-- The mini-transactions written so far, and whether each page that was read so far was the one that
+-- the log made; the bytes of the log from the floor on; and the pages in frames.
 pub record Buffered : Type 0 where
   pub log : List (List Record)
   pub right : Bool

@@ -17,7 +17,12 @@ use Rattle.clone_buffer.specs.Keeping.{IsKept}
 
 -- the image of the page that is on its way to the disk, or none any more
 abbrev pub with_image : PageName → Option (List ℕ) → Flushes → Flushes
-with_image page image flushes = record flushes { image = λ space number. if is_name_of page (Some (record { space = space; number = number })) then image else flushes.image space number }
+with_image page image flushes = record flushes {
+  image = λ space number.
+      if is_name_of page (Some (record { space = space; number = number }))
+      then image
+      else flushes.image space number;
+}
 
 -- the frame with this number has become another one
 abbrev pub with_change : ℕ → (Frame → Frame) → Buffered → Buffered
@@ -32,33 +37,46 @@ pub record Changes (v : Buffered) (page : PageName) (at : ℕ) (change : Frame �
 -- a flush of a page begins: its image is what the frame has then
 abbrev pub BeginKeeps : Type 0
 BeginKeeps =
-    (v : Buffered) (flushes : Flushes) (m : DiskImage) (page : PageName) (at : ℕ) → Changes v page at begun → is_waiting (frame_at v.pool.frames at) ≡ true
-    → IsKept v flushes m → IsKept (with_change at begun v) (with_image page (Some (frame_at v.pool.frames at).page) flushes) m
+    (v : Buffered) (flushes : Flushes) (m : DiskImage) (page : PageName) (at : ℕ)
+    → Changes v page at begun → is_waiting (frame_at v.pool.frames at) ≡ true
+    → IsKept v flushes m
+    → IsKept (with_change at begun v)
+    (with_image page (Some (frame_at v.pool.frames at).page) flushes) m
 
 -- while a flush of a page is under way, its write may be opened, over any bytes
 abbrev pub OpenKeeps : Type 0
 OpenKeeps =
-    (v : Buffered) (flushes : Flushes) (m : DiskImage) (page : PageName) (at : ℕ) (edit : Held → Held)
-    → IsPool v.pool → name_of (frame_at v.pool.frames at) ≡ Some page → IsInFlight (frame_at v.pool.frames at)
+    (v : Buffered) (flushes : Flushes) (m : DiskImage) (page : PageName) (at : ℕ)
+    (edit : Held → Held)
+    → IsPool v.pool → name_of (frame_at v.pool.frames at) ≡ Some page
+    → IsInFlight (frame_at v.pool.frames at)
     → IsSome (disk.page_of m page.space page.number) → ((held : Held) → (edit held).writing ≡ true)
     → IsKept v flushes m → IsKept v flushes (disk.with_page m page.space page.number edit)
 
 -- the write that closes makes the disk's page the image, and the flush lands
 abbrev pub LandKeeps : Type 0
 LandKeeps =
-    (v : Buffered) (flushes : Flushes) (m : DiskImage) (page : PageName) (at : ℕ) (image : List ℕ) (held : Held) (edit : Held → Held)
-    → Changes v page at landed → IsInFlight (frame_at v.pool.frames at) → flushes.image page.space page.number ≡ Some image
-    → disk.page_of m page.space page.number ≡ Some held → edit held ≡ record { bytes = image; writing = false }
-    → IsKept v flushes m → IsKept (with_change at landed v) (with_image page None flushes) (disk.with_page m page.space page.number edit)
+    (v : Buffered) (flushes : Flushes) (m : DiskImage) (page : PageName) (at : ℕ) (image : List ℕ)
+    (held : Held) (edit : Held → Held)
+    → Changes v page at landed → IsInFlight (frame_at v.pool.frames at)
+    → flushes.image page.space page.number ≡ Some image
+    → disk.page_of m page.space page.number ≡ Some held
+    → edit held ≡ record { bytes = image; writing = false }
+    → IsKept v flushes m
+    → IsKept (with_change at landed v) (with_image page None flushes)
+    (disk.with_page m page.space page.number edit)
 
 -- the rest of an image makes the disk's page the image, where its first half is there
 abbrev pub RestLands : Type 0
-RestLands = (image : List ℕ) (held : Held) → take HALF_PAGE held.bytes ≡ take HALF_PAGE image → disk.rest_written image held ≡ record { bytes = image; writing = false }
+RestLands =
+    (image : List ℕ) (held : Held) → take HALF_PAGE held.bytes ≡ take HALF_PAGE image
+    → disk.rest_written image held ≡ record { bytes = image; writing = false }
 
 -- a flush fails, whatever the disk has of the page
 abbrev pub FailKeeps : Type 0
 FailKeeps =
-    (v : Buffered) (flushes : Flushes) (m : DiskImage) (page : PageName) (at : ℕ) → Changes v page at failed → IsInFlight (frame_at v.pool.frames at)
+    (v : Buffered) (flushes : Flushes) (m : DiskImage) (page : PageName) (at : ℕ)
+    → Changes v page at failed → IsInFlight (frame_at v.pool.frames at)
     → IsKept v flushes m → IsKept (with_change at failed v) (with_image page None flushes) m
 
 -- the oldest change that isn't on the disk begins there, or there is none and the log ends there

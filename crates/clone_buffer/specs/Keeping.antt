@@ -13,18 +13,21 @@ use Rattle.clone_buffer.specs.Buffered.{Buffered}
 use Rattle.clone_buffer.specs.OnePage.{Flushes, engine_with, frame_of, flush_in, disk_standing, is_open}
 
 -- What the log, the disk, its frame and its flush have of one page.
-pub record IsKeptPage (log : List (List Record)) (flushes : Flushes) (m : DiskImage) (space number : ℕ) (frame : Option Frame) : Type 0 where
+pub record IsKeptPage (log : List (List Record)) (flushes : Flushes) (m : DiskImage)
+    (space number : ℕ) (frame : Option Frame) : Type 0 where
   -- they keep the rule of one page
   pub rule : EngineRule space number (engine_with log flushes m space number frame)
   -- where its space is there, it is dirty while its write is open
-  pub dirty : (engine_with log flushes m space number frame).writing ≡ true → IsSome (engine_with log flushes m space number frame).oldest
+  pub dirty : (engine_with log flushes m space number frame).writing ≡ true
+      → IsSome (engine_with log flushes m space number frame).oldest
   -- its flush has begun exactly where there is an image of it
   pub flights : IsTrue (is_begun (flush_in frame)) ↔ IsSome (flushes.image space number)
 
 -- What was read was right, and each page is kept.
 pub record IsKept (v : Buffered) (flushes : Flushes) (m : DiskImage) : Type 0 where
   pub right : IsTrue v.right
-  pub page : (space number : ℕ) → IsKeptPage v.log flushes m space number (frame_of v.pool.frames space number)
+  pub page : (space number : ℕ)
+      → IsKeptPage v.log flushes m space number (frame_of v.pool.frames space number)
 
 abbrev pub Stands : Buffered → Flushes → Option DiskImage → Type 0
 Stands v flushes told = ForTold told (IsKept v flushes)
@@ -32,9 +35,16 @@ Stands v flushes told = ForTold told (IsKept v flushes)
 -- DISK PAGE WITH ITS REDO IS THE FRAME
 pub record DiskIsFrames (v : Buffered) (m : DiskImage) : Type 0 where
   -- a clean frame has the disk's page, where no write of it is open
-  pub clean : (space number : ℕ) (frame : Frame) → frame_of v.pool.frames space number ≡ Some frame → is_open (page_of m space number) ≡ false → frame.oldest ≡ None → disk_standing m space number ≡ stands frame.page
+  pub clean : (space number : ℕ) (frame : Frame) → frame_of v.pool.frames space number ≡ Some frame
+      → is_open (page_of m space number) ≡ false → frame.oldest ≡ None
+      → disk_standing m space number ≡ stands frame.page
   -- a dirty one has what the log from its oldest modification on makes of the disk's page
-  pub dirty : (space number : ℕ) (frame : Frame) (oldest : ℕ) → frame_of v.pool.frames space number ≡ Some frame → is_open (page_of m space number) ≡ false → frame.oldest ≡ Some oldest
-      → (front rest : List (List Record)) → v.log ≡ front ++ rest → ends front ≡ oldest → redone_from oldest space number (disk_standing m space number) rest ≡ stands frame.page
+  pub dirty : (space number : ℕ) (frame : Frame) (oldest : ℕ)
+      → frame_of v.pool.frames space number ≡ Some frame → is_open (page_of m space number) ≡ false
+      → frame.oldest ≡ Some oldest
+      → (front rest : List (List Record)) → v.log ≡ front ++ rest → ends front ≡ oldest
+      → redone_from oldest space number (disk_standing m space number) rest ≡ stands frame.page
   -- an open page of a space that is there has a frame, and is dirty there
-  pub open_framed : (space number : ℕ) → is_open (page_of m space number) ≡ true → HasSpace (redone space number v.log) → (frame : Frame) × ((frame_of v.pool.frames space number ≡ Some frame) × IsSome frame.oldest)
+  pub open_framed : (space number : ℕ) → is_open (page_of m space number) ≡ true
+      → HasSpace (redone space number v.log)
+      → (frame : Frame) × ((frame_of v.pool.frames space number ≡ Some frame) × IsSome frame.oldest)

@@ -14,7 +14,8 @@ use Rattle.clone_pool.specs.declared.frame.Flush.TheVariants.{Idle, Begun, Faile
 use Rattle.clone_pool.specs.Frames.{frame_at, holder, is_fresh}
 use Rattle.clone_buffer.specs.Buffered.{Buffered}
 
--- what flushes keep beside a buffer: the last checkpoint, and the image of each page that is on its way to the disk
+-- what flushes keep beside a buffer: the last checkpoint, and the image of each page that is on its
+-- way to the disk
 pub record Flushes : Type 0 where
   pub checkpoint : ℕ
   pub image : ℕ → ℕ → Option (List ℕ)
@@ -48,10 +49,12 @@ has_space (stands page) = true
 -- A frame that has the page. A new page that no change has made doesn't count.
 abbrev pub frame_in : List Frame → Option ℕ → Option Frame
 frame_in frames None = None
-frame_in frames (Some at) = if is_fresh (frame_at frames at).content then None else Some (frame_at frames at)
+frame_in frames (Some at) =
+    if is_fresh (frame_at frames at).content then None else Some (frame_at frames at)
 
 abbrev pub frame_of : List Frame → ℕ → ℕ → Option Frame
-frame_of frames space number = frame_in frames (holder frames (record { space = space; number = number }))
+frame_of frames space number =
+    frame_in frames (holder frames (record { space = space; number = number }))
 
 abbrev pub bytes_in : Option Frame → Option (List ℕ)
 bytes_in frame = option_map (λ f. f.page) frame
@@ -83,4 +86,5 @@ engine_with log flushes m space number frame = record {
 }
 
 abbrev pub engine_of : Buffered → Flushes → DiskImage → ℕ → ℕ → Engine
-engine_of v flushes m space number = engine_with v.log flushes m space number (frame_of v.pool.frames space number)
+engine_of v flushes m space number =
+    engine_with v.log flushes m space number (frame_of v.pool.frames space number)

@@ -32,7 +32,8 @@ changed_at (Some at) r start end v = with_frame at (λ f. changed r start end f)
 -- records in their order
 abbrev pub after_records : List Record → ℕ → ℕ → Frames → Frames
 after_records [] start end v = v
-after_records (r ∷ rs) start end v = after_records rs start end (changed_at (named_frame v.frames r) r start end v)
+after_records (r ∷ rs) start end v =
+    after_records rs start end (changed_at (named_frame v.frames r) r start end v)
 
 -- the page that the record names has a frame
 abbrev pub HasFrame : List Frame → Record → Type 0
@@ -47,14 +48,20 @@ abbrev pub any_names : PageName → List Record → Bool
 any_names page [] = false
 any_names page (r ∷ rs) = if is_name_of page (page_changed r) then true else any_names page rs
 
--- The space that a mini-transaction makes isn't there yet. Its other records change pages that are there then, each in its frame. No frame holds a page of the space, and each new page of it that has a frame is named.
+-- The space that a mini-transaction makes isn't there yet. Its other records change pages that are
+-- there then, each in its frame. No frame holds a page of the space, and each new page of it that
+-- has a frame is named.
 pub record MakesSpace (v : Buffered) (space pages : ℕ) (rest : List Record) : Type 0 where
   pub absent : IsTrue v.right → finite.get (image_of v) space ≡ None
   pub edits : AllByRecursion EditsPages rest
-  pub there : IsTrue v.right → AllByRecursion (IsOnPage (finite.insert (image_of v) space (replicate pages zero_page))) rest
-  pub unheld : (at : ℕ) (name : PageName) → (frame_at v.pool.frames at).content ≡ Held name → name.space ≢ space
+  pub there : IsTrue v.right
+      → AllByRecursion
+      (IsOnPage (finite.insert (image_of v) space (replicate pages zero_page))) rest
+  pub unheld : (at : ℕ) (name : PageName) → (frame_at v.pool.frames at).content ≡ Held name
+      → name.space ≢ space
   pub framed : AllByRecursion (HasFrame v.pool.frames) rest
-  pub named : (at : ℕ) (name : PageName) → (frame_at v.pool.frames at).content ≡ Fresh name → name.space ≡ space → name.number < pages → any_names name rest ≡ true
+  pub named : (at : ℕ) (name : PageName) → (frame_at v.pool.frames at).content ≡ Fresh name
+      → name.space ≡ space → name.number < pages → any_names name rest ≡ true
 
 -- the first record makes a space
 abbrev pub Creates : Buffered → List Record → Type 0
@@ -71,10 +78,12 @@ HasMade [] m = ⊥
 HasMade (Init space number kind ∷ rest) m = ⊥
 HasMade (Write space number patch ∷ rest) m = ⊥
 HasMade (Extend space pages ∷ rest) m = ⊥
-HasMade (Create space pages ∷ rest) m = finite.get m.spaces space ≡ Some (replicate pages disk.zero_page)
+HasMade (Create space pages ∷ rest) m =
+    finite.get m.spaces space ≡ Some (replicate pages disk.zero_page)
 HasMade (Drop space ∷ rest) m = ⊥
 
--- The mini-transaction stands behind the log, in the ring too, and its records have changed the frames of the pages that they name.
+-- The mini-transaction stands behind the log, in the ring too, and its records have changed the
+-- frames of the pages that they name.
 abbrev pub written : List Record → Buffered → Buffered
 written records v = record {
   log = v.log ++ records ∷ [];
@@ -85,5 +94,9 @@ written records v = record {
 
 -- A mini-transaction was written, or there was no room in the ring, and nothing has changed.
 abbrev pub Writes : List Record → Buffered → Buffered → Result ℕ LogFull → Type 0
-Writes records old new (Ok end) = (length (spelling records) ≤ free_in old.ring) × (new ≡ written records old) × (end ≡ end_of new.ring)
-Writes records old new (Err full) = (free_in old.ring < length (spelling records)) × (full ≡ record { need = length (spelling records); free = free_in old.ring }) × (new ≡ old)
+Writes records old new (Ok end) =
+    (length (spelling records) ≤ free_in old.ring) × (new ≡ written records old)
+    × (end ≡ end_of new.ring)
+Writes records old new (Err full) =
+    (free_in old.ring < length (spelling records))
+    × (full ≡ record { need = length (spelling records); free = free_in old.ring }) × (new ≡ old)

@@ -23,11 +23,13 @@ use clone_shadow::{Note, Shadow};
 use std::alloc::{AllocError, Global};
 use std::marker::Model;
 
-/// The pages of a donor in frames, and the redo log from its floor on. After it is made no call takes memory.
+/// The pages of a donor in frames, and the redo log from its floor on. After it is made no call
+/// takes memory.
 ///
-/// Contracts speak of the whole log and of the pages that it makes. `right` says that each page that was read so
-/// far was the one that the log made by then: as long as it holds, each frame has the page of the log. Over a disk
-/// that tells what it holds, and agrees with the log, it stays true: that is `Stands`.
+/// Contracts speak of the whole log and of the pages that it makes. `right` says that each page
+/// that was read so far was the one that the log made by then: as long as it holds, each frame has
+/// the page of the log. Over a disk that tells what it holds, and agrees with the log, it stays
+/// true: that is `Stands`.
 #[derive(Drop)]
 pub struct Buffer {
     pool: Pool,
@@ -40,9 +42,19 @@ impl Model for Buffer {
 
     ghost Value = { Buffered };
 
-    ghost view = { λ b. record { log = b.shadow.state.log; right = b.shadow.state.right; ring = b.ring; pool = b.pool } };
+    ghost view = { λ b. record {
+      log = b.shadow.state.log;
+      right = b.shadow.state.right;
+      ring = b.ring;
+      pool = b.pool;
+    } };
 
-    ghost invariant = { λ b. IsBuffer (record { log = b.shadow.state.log; right = b.shadow.state.right; ring = b.ring; pool = b.pool }) };
+    ghost invariant = { λ b. IsBuffer (record {
+      log = b.shadow.state.log;
+      right = b.shadow.state.right;
+      ring = b.ring;
+      pool = b.pool;
+    }) };
 }
 
 impl Buffer {
@@ -58,7 +70,8 @@ impl Buffer {
         ensures log { IfOk result (λ b. b.log ≡ []) }
         ensures right { IfOk result (λ b. IsTrue b.right) }
         ensures ring { IfOk result (λ b. b.ring ≡ empty ring) }
-        ensures pool { IfOk result (λ b. b.pool ≡ record { frames = replicate frames no_frame; uses = 0 }) }
+        ensures pool { IfOk result
+            (λ b. b.pool ≡ record { frames = replicate frames no_frame; uses = 0 }) }
         ensures stands { IfOk result (λ b. Stands b unflushed (Some blank)) }
     {
         Ok(Buffer {
@@ -70,8 +83,9 @@ impl Buffer {
 
     /// Brings a page into a frame, and answers the frame's number. It counts as a use of the frame.
     ///
-    /// The error is `PoolFull` exactly where the page has no frame and each frame is pinned or dirty, and nothing
-    /// has changed then; or `DiskFault`, and the frame that was to make place has no page then.
+    /// The error is `PoolFull` exactly where the page has no frame and each frame is pinned or
+    /// dirty, and nothing has changed then; or `DiskFault`, and the frame that was to make place
+    /// has no page then.
     pub fn fetch<D: PageDisk>(
         &mut self,
         disk: &mut D,
@@ -79,17 +93,25 @@ impl Buffer {
         number: u32,
     ) -> Result<u32, FetchRefusal>
         requires there { IsTrue self.old.right → IsSome (page_of (image_of self.old) space number) }
-        ensures answer { Fetches (record { space = space; number = number }) self.old.pool self.new.pool result }
-        ensures held { IfOk result (IsHolder (record { space = space; number = number }) self.new.pool.frames) }
-        ensures others { IfOk result (λ at. KeepsOthers at self.old.pool.frames self.new.pool.frames) }
+        ensures answer { Fetches
+            (record { space = space; number = number }) self.old.pool self.new.pool result }
+        ensures held { IfOk result
+            (IsHolder (record { space = space; number = number }) self.new.pool.frames) }
+        ensures others { IfOk result
+            (λ at. KeepsOthers at self.old.pool.frames self.new.pool.frames) }
         ensures kept { KeepsInUse self.old.pool.frames self.new.pool.frames }
         ensures log { self.new.log ≡ self.old.log }
         ensures ring { self.new.ring ≡ self.old.ring }
-        ensures right { IfOk result (λ at. IsTrue self.new.right ↔ (IsTrue self.old.right × (page_of (image_of self.old) space number ≡ Some (frame_at self.new.pool.frames at).page))) }
+        ensures right { IfOk result
+            (λ at. IsTrue self.new.right ↔ (IsTrue self.old.right
+            × (page_of (image_of self.old) space number
+            ≡ Some (frame_at self.new.pool.frames at).page))) }
         ensures refused { OnErr result (self.new.right ≡ self.old.right) }
-        ensures fault { result ≡ Err FetchRefusal.DiskFault → Rose (D.failures disk.old) (D.failures disk.new) }
+        ensures fault { result ≡ Err FetchRefusal.DiskFault
+            → Rose (D.failures disk.old) (D.failures disk.new) }
         ensures disk { D.told disk.new ≡ D.told disk.old }
-        ensures stands { (flushes : Flushes) → Stands self.old flushes (D.told disk.old) → Stands self.new flushes (D.told disk.new) }
+        ensures stands { (flushes : Flushes) → Stands self.old flushes (D.told disk.old)
+            → Stands self.new flushes (D.told disk.new) }
     {
         self.pool.laws();
         let fetched = self.pool.fetch(disk, space, number);
@@ -101,18 +123,25 @@ impl Buffer {
         Ok(at)
     }
 
-    /// Takes a frame for a new page of zero bytes, which isn't there yet, and answers the frame's number. The page is
-    /// pinned, and it counts as a use of the frame. A new page that has a frame is pinned there once more.
+    /// Takes a frame for a new page of zero bytes, which isn't there yet, and answers the frame's
+    /// number. The page is pinned, and it counts as a use of the frame. A new page that has a frame
+    /// is pinned there once more.
     ///
-    /// The error is `PoolFull` exactly where the page has no frame and each frame is pinned or dirty, and nothing
-    /// has changed then. Until a mini-transaction makes the page, it goes with its last pin.
+    /// The error is `PoolFull` exactly where the page has no frame and each frame is pinned or
+    /// dirty, and nothing has changed then. Until a mini-transaction makes the page, it goes with
+    /// its last pin.
     pub fn fresh(&mut self, space: u32, number: u32) -> Result<u32, FetchRefusal>
-        requires room { ForSome (holder self.old.pool.frames (record { space = space; number = number })) (λ at. HasPinRoom (frame_at self.old.pool.frames at)) }
+        requires room { ForSome
+            (holder self.old.pool.frames (record { space = space; number = number }))
+            (λ at. HasPinRoom (frame_at self.old.pool.frames at)) }
         requires absent { IsTrue self.old.right → page_of (image_of self.old) space number ≡ None }
-        ensures answer { Freshens (record { space = space; number = number }) self.old.pool self.new.pool result }
-        ensures held { IfOk result (IsHolder (record { space = space; number = number }) self.new.pool.frames) }
+        ensures answer { Freshens
+            (record { space = space; number = number }) self.old.pool self.new.pool result }
+        ensures held { IfOk result
+            (IsHolder (record { space = space; number = number }) self.new.pool.frames) }
         ensures same { self.new ≡ record self.old { pool = self.new.pool } }
-        ensures stands { (flushes : Flushes) (told : Option DiskImage) → Stands self.old flushes told → Stands self.new flushes told }
+        ensures stands { (flushes : Flushes) (told : Option DiskImage)
+            → Stands self.old flushes told → Stands self.new flushes told }
     {
         self.pool.laws();
         let taken = self.pool.fresh(space, number);
@@ -122,8 +151,10 @@ impl Buffer {
 
     /// The number of the frame that holds a page, if one does.
     pub fn find(&self, space: u32, number: u32) -> Option<u32>
-        ensures holder { result ≡ holder self.now.pool.frames (record { space = space; number = number }) }
-        ensures held { IfSome result (IsHolder (record { space = space; number = number }) self.now.pool.frames) }
+        ensures holder { result
+            ≡ holder self.now.pool.frames (record { space = space; number = number }) }
+        ensures held { IfSome result
+            (IsHolder (record { space = space; number = number }) self.now.pool.frames) }
     {
         self.pool.find(PageName { space, number })
     }
@@ -132,7 +163,9 @@ impl Buffer {
     pub fn frame(&self, at: u32) -> &Page
         requires { HoldsPage (frame_at self.now.pool.frames at) }
         ensures bytes { result.now ≡ (frame_at self.now.pool.frames at).page }
-        ensures shown { (name : PageName) → (frame_at self.now.pool.frames at).content ≡ Held name → IsTrue self.now.right → page_of (image_of self.now) name.space name.number ≡ Some result.now }
+        ensures shown { (name : PageName) → (frame_at self.now.pool.frames at).content ≡ Held name
+            → IsTrue self.now.right
+            → page_of (image_of self.now) name.space name.number ≡ Some result.now }
     {
         self.pool.frame(at)
     }
@@ -142,7 +175,8 @@ impl Buffer {
         requires holds { HoldsPage (frame_at self.old.pool.frames at) }
         requires room { HasPinRoom (frame_at self.old.pool.frames at) }
         ensures pinned { self.new ≡ record self.old { pool = with_frame at pinned self.old.pool } }
-        ensures stands { (flushes : Flushes) (told : Option DiskImage) → Stands self.old flushes told → Stands self.new flushes told }
+        ensures stands { (flushes : Flushes) (told : Option DiskImage)
+            → Stands self.old flushes told → Stands self.new flushes told }
     {
         self.pool.laws();
         self.pool.pin(at);
@@ -153,41 +187,50 @@ impl Buffer {
     pub fn unpin(&mut self, at: u32)
         requires holds { HoldsPage (frame_at self.old.pool.frames at) }
         requires pinned { 0 < (frame_at self.old.pool.frames at).pins }
-        ensures unpinned { self.new ≡ record self.old { pool = with_frame at unpinned self.old.pool } }
-        ensures stands { (flushes : Flushes) (told : Option DiskImage) → Stands self.old flushes told → Stands self.new flushes told }
+        ensures unpinned { self.new
+            ≡ record self.old { pool = with_frame at unpinned self.old.pool } }
+        ensures stands { (flushes : Flushes) (told : Option DiskImage)
+            → Stands self.old flushes told → Stands self.new flushes told }
     {
         self.pool.laws();
         self.pool.unpin(at);
         self.pool.laws();
     }
 
-    /// Writes a mini-transaction to the log, does to the pages in their frames what its records say, and answers the
-    /// log's end. Each page that a record names has a frame, and is there.
+    /// Writes a mini-transaction to the log, does to the pages in their frames what its records
+    /// say, and answers the log's end. Each page that a record names has a frame, and is there.
     ///
-    /// It is refused exactly where its spelling has more bytes than are free, and nothing has changed then.
+    /// It is refused exactly where its spelling has more bytes than are free, and nothing has
+    /// changed then.
     pub fn write(&mut self, records: &[Record]) -> Result<u64, LogFull>
         requires some { 1 ≤ length records.now }
         requires short { length (spelling records.now) ≤ longest }
         requires edits { AllByRecursion EditsPages records.now }
         requires framed { AllByRecursion (HasFrame self.old.pool.frames) records.now }
-        requires there { IsTrue self.old.right → AllByRecursion (IsOnPage (image_of self.old)) records.now }
+        requires there { IsTrue self.old.right
+            → AllByRecursion (IsOnPage (image_of self.old)) records.now }
         ensures written { Writes records.now self.old self.new result }
-        ensures stands { (flushes : Flushes) (told : Option DiskImage) → Stands self.old flushes told → Stands self.new flushes told }
+        ensures stands { (flushes : Flushes) (told : Option DiskImage)
+            → Stands self.old flushes told → Stands self.new flushes told }
     {
         self.pool.laws();
         self.append(records)
     }
 
-    /// Writes a mini-transaction whose first record makes a space, and whose other records change pages that are
-    /// there then: pages that were there before, or new pages of the space, each in a frame that `fresh` gave.
+    /// Writes a mini-transaction whose first record makes a space, and whose other records change
+    /// pages that are there then: pages that were there before, or new pages of the space, each in
+    /// a frame that `fresh` gave.
     ///
-    /// It is refused exactly where its spelling has more bytes than are free, and nothing has changed then.
+    /// It is refused exactly where its spelling has more bytes than are free, and nothing has
+    /// changed then.
     pub fn write_space(&mut self, records: &[Record]) -> Result<u64, LogFull>
         requires some { 1 ≤ length records.now }
         requires short { length (spelling records.now) ≤ longest }
         requires creates { Creates self.old records.now }
         ensures written { Writes records.now self.old self.new result }
-        ensures stands { (flushes : Flushes) (told : Option DiskImage) → Stands self.old flushes told → ForTold told (HasMade records.now) → Stands self.new flushes told }
+        ensures stands { (flushes : Flushes) (told : Option DiskImage)
+            → Stands self.old flushes told → ForTold told (HasMade records.now)
+            → Stands self.new flushes told }
     {
         self.pool.laws();
         self.append(records)
@@ -197,7 +240,9 @@ impl Buffer {
     fn append(&mut self, records: &[Record]) -> Result<u64, LogFull>
         requires some { 1 ≤ length records.now }
         requires short { length (spelling records.now) ≤ longest }
-        requires shows { IsTrue self.old.right → Shows (image_of (written records.now self.old)) (written records.now self.old).pool.frames }
+        requires shows { IsTrue self.old.right
+            → Shows (image_of (written records.now self.old))
+            (written records.now self.old).pool.frames }
         ensures written { Writes records.now self.old self.new result }
         ensures spelled { IsSpelled records.now }
     {
@@ -235,7 +280,8 @@ impl Buffer {
     pub fn read_log(&self, from: u64, into: &mut [u8])
         requires above { self.now.ring.floor ≤ from }
         requires within { from + length into.old ≤ end_of self.now.ring }
-        ensures { into.new ≡ take (length into.old) (drop (from - self.now.ring.floor) self.now.ring.bytes) }
+        ensures { into.new
+            ≡ take (length into.old) (drop (from - self.now.ring.floor) self.now.ring.bytes) }
     {
         self.ring.read(from, into);
     }
@@ -245,12 +291,14 @@ impl Buffer {
         requires above { self.old.ring.floor ≤ lsn }
         requires within { lsn ≤ end_of self.old.ring }
         ensures floor { self.new ≡ record self.old { ring = raised lsn self.old.ring } }
-        ensures stands { (flushes : Flushes) (told : Option DiskImage) → Stands self.old flushes told → Stands self.new flushes told }
+        ensures stands { (flushes : Flushes) (told : Option DiskImage)
+            → Stands self.old flushes told → Stands self.new flushes told }
     {
         self.ring.raise_floor(lsn);
     }
 
-    /// The LSN at which the oldest change begins that isn't on the disk, or none where no page is dirty.
+    /// The LSN at which the oldest change begins that isn't on the disk, or none where no page is
+    /// dirty.
     pub fn oldest(&self) -> Option<u64>
         ensures none { IfNone result (AreClean self.now.pool.frames) }
         ensures some { IfSome result (IsOldest self.now.pool.frames) }
@@ -269,13 +317,15 @@ impl Buffer {
 
     /// Where the buffer stands over a disk, the disk's page with its redo is the frame.
     pub fn disk_laws(&self)
-        ensures { (flushes : Flushes) (m : DiskImage) → IsKept self.now flushes m → DiskIsFrames self.now m }
+        ensures { (flushes : Flushes) (m : DiskImage) → IsKept self.now flushes m
+            → DiskIsFrames self.now m }
     {
         let _ = &self.pool;
     }
 }
 
-/// What a flush of a page does, step by step, and a checkpoint: a buffer that is kept over a disk stays so.
+/// What a flush of a page does, step by step, and a checkpoint: a buffer that is kept over a disk
+/// stays so.
 pub fn flush_laws()
     ensures begins { BeginKeeps }
     ensures opens { OpenKeeps }
@@ -298,7 +348,8 @@ fn change_frames(pool: &mut Pool, records: &[Record], start: u64, end: u64)
 // A record changes the frame of the page that it names, if that has one.
 fn change_frame(pool: &mut Pool, entry: &Record, start: u64, end: u64)
     requires { start < end }
-    ensures { pool.new ≡ changed_at (named_frame pool.old.frames entry.now) entry.now start end pool.old }
+    ensures { pool.new
+        ≡ changed_at (named_frame pool.old.frames entry.now) entry.now start end pool.old }
 {
     let Some(name) = page_changed(entry) else {
         return;

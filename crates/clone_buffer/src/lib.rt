@@ -4,3 +4,6 @@
 mod buffer;
 
 pub use buffer::{Buffer, flush_laws};
+
+#[cfg(test)]
+mod tests;

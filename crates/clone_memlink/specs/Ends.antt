@@ -59,18 +59,25 @@ where_same Requester Requester bytes = bytes
 -- all that the end of this side sent in a run
 abbrev pub sent_in : Side → List LinkEntry → List ℕ
 sent_in side [] = []
-sent_in side (e ∷ es) = where_same side (side_of e.call) (sent_of e.call e.answer) ++ sent_in side es
+sent_in side (e ∷ es) =
+    where_same side (side_of e.call) (sent_of e.call e.answer) ++ sent_in side es
 
 -- all that it received
 abbrev pub received_in : Side → List LinkEntry → List ℕ
 received_in side [] = []
-received_in side (e ∷ es) = where_same side (side_of e.call) (received_of e.call e.answer) ++ received_in side es
+received_in side (e ∷ es) =
+    where_same side (side_of e.call) (received_of e.call e.answer) ++ received_in side es
 
--- what was on the way to an end, and then what the other end sent in the run, is what the end received and what is then on the way
+-- what was on the way to an end, and then what the other end sent in the run, is what the end
+-- received and what is then on the way
 abbrev pub CarriesAll : Connection → List LinkEntry → Type 0
 CarriesAll first run =
-    (side : Side) → (way_to side first).waiting ++ sent_in (other side) run ≡ received_in side run ++ (way_to side (end_of first run)).waiting
+    (side : Side)
+    → (way_to side first).waiting ++ sent_in (other side) run
+        ≡ received_in side run ++ (way_to side (end_of first run)).waiting
 
 -- from a connection with nothing on the way: what each end received begins what the other sent
 abbrev pub IsHonest : Connection → List LinkEntry → Type 0
-IsHonest first run = (side : Side) → (way_to side first).waiting ≡ [] → IsPrefix (received_in side run) (sent_in (other side) run)
+IsHonest first run =
+    (side : Side) → (way_to side first).waiting ≡ []
+    → IsPrefix (received_in side run) (sent_in (other side) run)

@@ -15,7 +15,8 @@ use Rattle.clone_memlink.specs.declared.connection.LinkAnswer.TheVariants.{Bytes
 use Rattle.clone_memlink.specs.Connections.{Steps}
 use Rattle.clone_memlink.specs.Ends.{LinkEntry, side_of, sent_in, received_in}
 
--- the connection, by its cell and its first state; what the end has seen of its run, with the calls that are its own; and how often it found a loss
+-- the connection, by its cell and its first state; what the end has seen of its run, with the calls
+-- that are its own; and how often it found a loss
 pub record EndModel : Type 0 where
   pub name : CellModel Connection
   pub side : Side
@@ -35,8 +36,10 @@ abbrev pub MadeBy : Side → List LinkEntry → Type 0
 MadeBy side [] = Unit {0}
 MadeBy side (e ∷ es) = (side_of e.call ≡ side) × MadeBy side es
 
--- one half of the right to call a connection that began with nothing on the way: each call that was made by it is of this side
-pub record IsHalf (cell : CellModel Connection) (side : Side) (seat : SeatModel Connection LinkCall LinkAnswer) : Type 0 where
+-- one half of the right to call a connection that began with nothing on the way: each call that was
+-- made by it is of this side
+pub record IsHalf (cell : CellModel Connection) (side : Side)
+    (seat : SeatModel Connection LinkCall LinkAnswer) : Type 0 where
   pub of : IsOf cell seat
   pub empty : (cell.first.to_donor.waiting ≡ []) × (cell.first.to_requester.waiting ≡ [])
   pub half : (seat.part ≡ 1) × (seat.halvings ≡ 1)
@@ -50,7 +53,9 @@ Sees v more w =
 
 -- the last entry is the end's own, with this answer
 abbrev pub EndsWith : LinkAnswer → List (LinkEntry × Bool) → Type 0
-EndsWith answer more = (before : List (LinkEntry × Bool)) × (e : LinkEntry) × (more ≡ before ++ (e, true) ∷ []) × (e.answer ≡ answer)
+EndsWith answer more =
+    (before : List (LinkEntry × Bool)) × (e : LinkEntry) × (more ≡ before ++ (e, true) ∷ [])
+    × (e.answer ≡ answer)
 
 -- a refusal is what the end's last call was answered
 abbrev pub IsToldBy : {T : Type 0} → Result T LinkRefusal → List (LinkEntry × Bool) → Type 0

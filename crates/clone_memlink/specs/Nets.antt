@@ -7,9 +7,11 @@ use Rattle.clone_outside.specs.declared.link.Side.{Side}
 use Rattle.clone_turn.specs.Seats.{CellModel}
 use Rattle.clone_memlink.specs.declared.connection.Connection.{Connection}
 use Rattle.clone_memlink.specs.declared.cut.Cut.{Cut}
+use Rattle.clone_memlink.specs.declared.cut.TheConstants.{PLANNED_CUT}
 use Rattle.clone_memlink.specs.Held.{EndModel}
 
--- the connections that it made, in order; how many of them were not settled; how many of the first are to be cut, and which others; and the count of faults
+-- the connections that it made, in order; how many of them were not settled; how many of the first
+-- are to be cut, and which others; and the count of faults
 pub record NetModel : Type 0 where
   pub made : List (CellModel Connection)
   pub unsettled : ℕ
@@ -38,9 +40,9 @@ lesser None y = y
 lesser (Some x) None = Some x
 lesser (Some x) (Some y) = Some (min x y)
 
--- one of the first so many is cut after 100,000 bytes
+-- after how many bytes to the requester one of the first so many is cut
 abbrev pub planned_here : ℕ → ℕ → Option ℕ
-planned_here number planned = if nat_lt number planned then Some 100000 else None
+planned_here number planned = if nat_lt number planned then Some PLANNED_CUT else None
 
 -- after how many bytes to the donor the connection of this number is cut
 abbrev pub cut_to_donor : NetModel → ℕ → Option ℕ
@@ -49,7 +51,8 @@ cut_to_donor n number = option_map (λ (c : Cut). c.to_donor) (finite.get (cuts_
 -- and after how many to the requester
 abbrev pub cut_to_requester : NetModel → ℕ → Option ℕ
 cut_to_requester n number =
-    lesser (option_map (λ (c : Cut). c.to_requester) (finite.get (cuts_of n.cuts) number)) (planned_here number n.planned)
+    lesser (option_map (λ (c : Cut). c.to_requester) (finite.get (cuts_of n.cuts) number))
+    (planned_here number n.planned)
 
 -- nothing is on the way, and no end is closed
 abbrev pub unused : Option ℕ → Option ℕ → Connection
@@ -59,6 +62,10 @@ unused to_donor to_requester = record {
   donor_closed = false;
   requester_closed = false;
 }
+
+-- the connection of this number, as it begins
+abbrev pub begun_as : NetModel → ℕ → Connection
+begun_as n number = unused (cut_to_donor n number) (cut_to_requester n number)
 
 -- an open end that made no call, of a connection that began so
 pub record IsNewEnd (first : Connection) (side : Side) (v : EndModel) : Type 0 where

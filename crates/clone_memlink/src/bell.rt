@@ -1,7 +1,8 @@
 use std::sync::Wait;
 use std::sync::atomic::{AtomicU64, Ordering};
 
-/// What a thread sleeps on until another one rings. Who rings calls the system only where somebody listens.
+/// What a thread sleeps on until another one rings. Who rings calls the system only where somebody
+/// listens.
 #[derive(Drop)]
 pub(crate) struct Bell {
     rung: AtomicU64,

@@ -142,9 +142,11 @@ impl Machine for LinkMachine {
     ghost still_fits = { λ d s c a t fits follows. tt };
 }
 
-/// A law of connections: what each end received begins what the other sent, in every legal run from a
-/// connection with nothing on the way.
+/// A law of connections: what each end received begins what the other sent, in every legal run from
+/// a connection with nothing on the way.
 pub fn received_begins_sent()
-    ensures carries { (first : Connection) (run : List LinkEntry) → IsLegalRun Steps first run → CarriesAll first run }
-    ensures honest { (first : Connection) (run : List LinkEntry) → IsLegalRun Steps first run → IsHonest first run }
+    ensures carries { (first : Connection) (run : List LinkEntry) → IsLegalRun Steps first run
+        → CarriesAll first run }
+    ensures honest { (first : Connection) (run : List LinkEntry) → IsLegalRun Steps first run
+        → IsHonest first run }
 {}

@@ -1,5 +1,5 @@
-//! Connections in memory: what one end sends, the other receives, in order and no more. Threads that hold the
-//! two ends call the connection in turns.
+//! Connections in memory: what one end sends, the other receives, in order and no more. Threads
+//! that hold the two ends call the connection in turns.
 #![tactic(auto)]
 
 mod bell;

@@ -47,7 +47,13 @@ impl<R> Model for MemEnd<R> {
 
     ghost Value = { EndModel };
 
-    ghost view = { λ e. record { name = (arc_value e.line).cell; side = e.side; seat = e.seat; is_open = e.is_open; faults = e.faults } };
+    ghost view = { λ e. record {
+      name = (arc_value e.line).cell;
+      side = e.side;
+      seat = e.seat;
+      is_open = e.is_open;
+      faults = e.faults;
+    } };
 
     ghost invariant = { λ e. IsHalf (arc_value e.line).cell e.side e.seat };
 }
@@ -163,7 +169,8 @@ impl<R: Wait + Copy> MemEnd<R> {
     fn try_send(&mut self, from: &[u8]) -> Result<usize, LinkRefusal>
         ensures sent { SendsFront self.old from.now result self.new }
         ensures count { IfOk result (λ n. n ≤ length from.now) }
-        ensures same { self.new ≡ record self.old { seat = self.new.seat; faults = faults_sent result self.old.faults } }
+        ensures same { self.new ≡ record self.old {
+            seat = self.new.seat; faults = faults_sent result self.old.faults } }
         ensures rises { self.old.faults ≤ self.new.faults }
     {
         let piece = Piece::new(&from[..from.len().min(PIECE)]);
@@ -187,7 +194,8 @@ impl<R: Wait + Copy> MemEnd<R> {
     fn send_some(&mut self, from: &[u8]) -> Result<usize, LinkRefusal>
         ensures sent { SendsFront self.old from.now result self.new }
         ensures count { IfOk result (λ n. (0 < n) × (n ≤ length from.now)) }
-        ensures same { self.new ≡ record self.old { seat = self.new.seat; faults = faults_sent result self.old.faults } }
+        ensures same { self.new ≡ record self.old {
+            seat = self.new.seat; faults = faults_sent result self.old.faults } }
         ensures rises { self.old.faults ≤ self.new.faults }
     {
         let sent = self.try_send(from);
@@ -204,7 +212,8 @@ impl<R: Wait + Copy> MemEnd<R> {
     fn send_when_room(&mut self, from: &[u8]) -> Result<usize, LinkRefusal>
         ensures sent { SendsFront self.old from.now result self.new }
         ensures count { IfOk result (λ n. (0 < n) × (n ≤ length from.now)) }
-        ensures same { self.new ≡ record self.old { seat = self.new.seat; faults = faults_sent result self.old.faults } }
+        ensures same { self.new ≡ record self.old {
+            seat = self.new.seat; faults = faults_sent result self.old.faults } }
         ensures rises { self.old.faults ≤ self.new.faults }
     {
         let rt = self.rt;
@@ -242,12 +251,14 @@ impl<R: Wait + Copy> Link for MemEnd<R> {
         self.faults
     }
 
-    /// Sends the bytes. It waits while there is no room, the connection isn't cut and the other end isn't closed.
+    /// Sends the bytes. It waits while there is no room, the connection isn't cut and the other end
+    /// isn't closed.
     ///
     /// A refusal is what the last of its calls was answered in the run.
     fn send(&mut self, from: &[u8]) -> Result<(), LinkRefusal>
         requires { self.old.is_open ≡ true }
-        ensures all { OnOk result (Some (sent_by self.new) ≡ appended (Some (sent_by self.old)) from.now) }
+        ensures all { OnOk result
+            (Some (sent_by self.new) ≡ appended (Some (sent_by self.old)) from.now) }
         ensures some { TakesSome (Some (sent_by self.old)) (Some (sent_by self.new)) from.now }
         ensures received { Some (received_by self.new) ≡ Some (received_by self.old) }
         ensures name { ◌≡◌ self.new.name self.old.name }
@@ -268,7 +279,8 @@ impl<R: Wait + Copy> Link for MemEnd<R> {
     /// Receives the next bytes. It is answered what its one call was answered in the run.
     fn receive(&mut self, into: &mut [u8]) -> Result<Received, LinkRefusal>
         requires { self.old.is_open ≡ true }
-        ensures bytes { Receives (Some (received_by self.old)) (Some (received_by self.new)) result into.new }
+        ensures bytes { Receives (Some (received_by self.old))
+            (Some (received_by self.new)) result into.new }
         ensures some { GivesSome result into.new }
         ensures sent { Some (sent_by self.new) ≡ Some (sent_by self.old) }
         ensures name { ◌≡◌ self.new.name self.old.name }

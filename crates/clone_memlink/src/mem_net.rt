@@ -6,7 +6,7 @@ ghost use Rattle.clone_outside.specs.declared.link.Side.TheVariants.{Donor, Requ
 ghost use Rattle.clone_turn.specs.Seats.{CellModel};
 ghost use Rattle.clone_memlink.specs.declared.connection.Connection.{Connection};
 ghost use Rattle.clone_memlink.specs.Held.{sent_by, received_by};
-ghost use Rattle.clone_memlink.specs.Nets.{fresh_net, IsMade, cuts_of, lesser, planned_here, cut_to_donor, cut_to_requester, unused, IsNewEnd};
+ghost use Rattle.clone_memlink.specs.Nets.{fresh_net, IsMade, cuts_of, lesser, planned_here, cut_to_donor, cut_to_requester, begun_as, IsNewEnd};
 
 use crate::connection::{Connection, LinkMachine};
 use crate::cut::{Cut, PLANNED_CUT};
@@ -20,7 +20,8 @@ use std::marker::Model;
 use std::snapshot::Snapshot;
 use std::sync::Wait;
 
-/// What makes connections in memory. It remembers them in contracts alone, by snapshots of no bytes.
+/// What makes connections in memory. It remembers them in contracts alone, by snapshots of no
+/// bytes.
 #[derive(Drop)]
 pub struct MemNet<R> {
     rt: R,
@@ -38,7 +39,13 @@ impl<R> Model for MemNet<R> {
 
     ghost Value = { NetModel };
 
-    ghost view = { λ n. record { made = map (λ s. s.value) n.made.items; unsettled = length n.made.items - n.settled; planned = n.planned; cuts = n.cuts.entries; faults = n.faults } };
+    ghost view = { λ n. record {
+      made = map (λ s. s.value) n.made.items;
+      unsettled = length n.made.items - n.settled;
+      planned = n.planned;
+      cuts = n.cuts.entries;
+      faults = n.faults;
+    } };
 
     ghost invariant = { λ n. n.settled ≤ length n.made.items };
 }
@@ -59,8 +66,8 @@ impl<R> MemNet<R> {
         }
     }
 
-    /// Lets a connection that is made later be cut once so many bytes were delivered to either end. The
-    /// connections are numbered from 0, and a later call for the same one replaces this.
+    /// Lets a connection that is made later be cut once so many bytes were delivered to either end.
+    /// The connections are numbered from 0, and a later call for the same one replaces this.
     ///
     /// The error comes where there was no memory, and the plan is then as before.
     pub fn cut_at(
@@ -69,7 +76,8 @@ impl<R> MemNet<R> {
         to_donor: u64,
         to_requester: u64,
     ) -> Result<(), AllocError>
-        ensures planned { OnOk result (cuts_of self.new.cuts ≡ finite.insert (cuts_of self.old.cuts) connection
+        ensures planned { OnOk result
+            (cuts_of self.new.cuts ≡ finite.insert (cuts_of self.old.cuts) connection
             (record { to_donor = to_donor; to_requester = to_requester })) }
         ensures refused { OnErr result (cuts_of self.new.cuts ≡ cuts_of self.old.cuts) }
         ensures same { self.new ≡ record self.old { cuts = self.new.cuts } }
@@ -113,8 +121,7 @@ impl<R> MemNet<R> {
 
     // The next connection, with nothing on the way.
     fn next_connection(&self) -> Result<Connection, AllocError>
-        ensures { IfOk result (λ s. s ≡ unused (cut_to_donor self.now (length self.now.made))
-            (cut_to_requester self.now (length self.now.made))) }
+        ensures { IfOk result (λ s. s ≡ begun_as self.now (length self.now.made)) }
     {
         Ok(Connection {
             to_donor: Way::new(self.alloc, self.cut_to_donor())?,
@@ -152,7 +159,8 @@ fn planned_cut(cuts: &BTreeMap<usize, Cut>, number: usize) -> Option<Cut>
 }
 
 fn plan_cut(cuts: &mut BTreeMap<usize, Cut>, number: usize, cut: Cut) -> Result<(), AllocError>
-    ensures ok { OnOk result (cuts_of cuts.new.entries ≡ finite.insert (cuts_of cuts.old.entries) number cut) }
+    ensures ok { OnOk result
+        (cuts_of cuts.new.entries ≡ finite.insert (cuts_of cuts.old.entries) number cut) }
     ensures err { OnErr result (cuts_of cuts.new.entries ≡ cuts_of cuts.old.entries) }
 {
     cuts.insert(number, cut)?;
@@ -182,16 +190,19 @@ impl<R: Wait + Copy + Drop> Net for MemNet<R> {
         ensures made { IfOk result (λ r. IsMade self.new.made r.0.name) }
         ensures sides { IfOk result (λ r. (r.0.side ≡ Donor) × (r.1.side ≡ Requester)) }
         ensures open { IfOk result (λ r. (r.0.is_open ≡ true) × (r.1.is_open ≡ true)) }
-        ensures sent { IfOk result (λ r. IsUnused (Some (sent_by r.0)) × IsUnused (Some (sent_by r.1))) }
-        ensures received { IfOk result (λ r. IsUnused (Some (received_by r.0)) × IsUnused (Some (received_by r.1))) }
-        ensures keeps { (n : CellModel Connection) → IsMade self.old.made n → IsMade self.new.made n }
+        ensures sent { IfOk result
+            (λ r. IsUnused (Some (sent_by r.0)) × IsUnused (Some (sent_by r.1))) }
+        ensures received { IfOk result
+            (λ r. IsUnused (Some (received_by r.0)) × IsUnused (Some (received_by r.1))) }
+        ensures keeps { (n : CellModel Connection) → IsMade self.old.made n
+            → IsMade self.new.made n }
         ensures more { OnOk result (self.new.unsettled ≡ self.old.unsettled + 1) }
         ensures refused { OnErr result (self.new.unsettled ≡ self.old.unsettled) }
         ensures planned { self.new.planned ≡ self.old.planned }
         ensures cause { HasCause self.old.faults self.new.faults result }
         ensures ends { IfOk result (λ r.
-            IsNewEnd (unused (cut_to_donor self.old (length self.old.made)) (cut_to_requester self.old (length self.old.made))) Donor r.0
-            × IsNewEnd (unused (cut_to_donor self.old (length self.old.made)) (cut_to_requester self.old (length self.old.made))) Requester r.1) }
+            IsNewEnd (begun_as self.old (length self.old.made)) Donor r.0
+            × IsNewEnd (begun_as self.old (length self.old.made)) Requester r.1) }
         ensures number { OnOk result (length self.new.made ≡ length self.old.made + 1) }
         ensures calm { self.new.faults ≡ self.old.faults }
         ensures cuts { self.new.cuts ≡ self.old.cuts }
@@ -209,14 +220,19 @@ impl<R: Wait + Copy + Drop> Net for MemNet<R> {
         requires name { ◌≡◌ donor_end.name requester_end.name }
         requires donor { donor_end.side ≡ Donor }
         requires requester { requester_end.side ≡ Requester }
-        ensures to_donor { ReceivedOf (Some (received_by donor_end)) (Some (sent_by requester_end)) }
-        ensures to_requester { ReceivedOf (Some (received_by requester_end)) (Some (sent_by donor_end)) }
-        ensures keeps { (n : CellModel Connection) → IsMade self.old.made n → IsMade self.new.made n }
+        ensures to_donor { ReceivedOf (Some (received_by donor_end))
+            (Some (sent_by requester_end)) }
+        ensures to_requester { ReceivedOf (Some (received_by requester_end))
+            (Some (sent_by donor_end)) }
+        ensures keeps { (n : CellModel Connection) → IsMade self.old.made n
+            → IsMade self.new.made n }
         ensures fewer { self.new.unsettled ≡ self.old.unsettled - 1 }
         ensures planned { self.new.planned ≡ self.old.planned }
         ensures count { self.old.faults ≤ self.new.faults }
-        ensures faults { self.new.faults ≡ min (self.old.faults + donor_end.faults + requester_end.faults) (2 ^ 64 - 1) }
-        ensures same { self.new ≡ record self.old { unsettled = self.new.unsettled; faults = self.new.faults } }
+        ensures faults { self.new.faults
+            ≡ min (self.old.faults + donor_end.faults + requester_end.faults) (2 ^ 64 - 1) }
+        ensures same { self.new
+            ≡ record self.old { unsettled = self.new.unsettled; faults = self.new.faults } }
     {
         let found = donor_end.faults().saturating_add(requester_end.faults());
         self.faults = self.faults.saturating_add(found);
@@ -226,7 +242,8 @@ impl<R: Wait + Copy + Drop> Net for MemNet<R> {
 
     fn plan_cuts(&mut self, connections: u32)
         ensures planned { self.new.planned ≡ connections }
-        ensures keeps { (n : CellModel Connection) → IsMade self.old.made n → IsMade self.new.made n }
+        ensures keeps { (n : CellModel Connection) → IsMade self.old.made n
+            → IsMade self.new.made n }
         ensures unsettled { self.new.unsettled ≡ self.old.unsettled }
         ensures count { self.new.faults ≡ self.old.faults }
         ensures same { self.new ≡ record self.old { planned = connections } }

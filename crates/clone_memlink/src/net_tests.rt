@@ -25,7 +25,9 @@ fn piece(from: usize) -> [u8; STEP] {
 // Receives what is on the way. Answers whether the connection is lost.
 fn drain<R: Wait + Copy>(end: &mut MemEnd<R>, received: &mut Vec<u8>) -> Result<bool, AllocError>
     requires { end.old.is_open ≡ true }
-    ensures { IfOk result (λ _. (end.new.name ≡ end.old.name) × (end.new.side ≡ end.old.side) × (end.new.is_open ≡ true)) }
+    ensures { IfOk result
+        (λ _. (end.new.name ≡ end.old.name) × (end.new.side ≡ end.old.side)
+        × (end.new.is_open ≡ true)) }
 {
     let mut into = [0; 4_096];
     for _ in 0..100 {
@@ -41,7 +43,9 @@ fn drain<R: Wait + Copy>(end: &mut MemEnd<R>, received: &mut Vec<u8>) -> Result<
 // Sends 300,000 bytes, and receives what comes meanwhile.
 fn send_all<R: Wait + Copy>(end: &mut MemEnd<R>, received: &mut Vec<u8>) -> Result<(), AllocError>
     requires { end.old.is_open ≡ true }
-    ensures { IfOk result (λ _. (end.new.name ≡ end.old.name) × (end.new.side ≡ end.old.side) × (end.new.is_open ≡ true)) }
+    ensures { IfOk result
+        (λ _. (end.new.name ≡ end.old.name) × (end.new.side ≡ end.old.side)
+        × (end.new.is_open ≡ true)) }
 {
     for turn in 0..ALL / STEP {
         if end.send(&piece(turn * STEP)).is_err() {
@@ -72,8 +76,8 @@ fn talk<R: Wait + Copy + Drop>(
     Ok((end, received))
 }
 
-// Both ends of a connection talk, each in a thread, and are settled. The answer is what the donor and the
-// requester received.
+// Both ends of a connection talk, each in a thread, and are settled. The answer is what the donor
+// and the requester received.
 fn talk_by_two<R: Threads + Wait + Sync + Send + Copy + Drop>(
     rt: &R,
     alloc: Global,

@@ -14,12 +14,13 @@ pub struct Piece {
 
 impl Model for Piece {
     ghost use Rattle.std.specs.Prelude.{List, ℕ, ◌≤◌, take};
+    ghost use Rattle.clone_memlink.specs.declared.piece.TheConstants.{PIECE};
 
     ghost Value = { List ℕ };
 
     ghost view = { λ p. take p.len p.bytes };
 
-    ghost invariant = { λ p. p.len ≤ 4096 };
+    ghost invariant = { λ p. p.len ≤ PIECE };
 }
 
 impl Piece {

@@ -1,6 +1,6 @@
-//! The bytes on the way to one end lie in a buffer with room for twice as many as may be on the way. Those in
-//! front of `at` were received; they are dropped once they are as many as may be on the way, so that a byte is
-//! moved once at most.
+//! The bytes on the way to one end lie in a buffer with room for twice as many as may be on the
+//! way. Those in front of `at` were received; they are dropped once they are as many as may be on
+//! the way, so that a byte is moved once at most.
 ghost use Rattle.std.specs.Prelude.{◌≡◌, ◌++◌, ◌≤◌, ◌↔◌, [], take, drop, length, min, IfOk, OnErr, IsTrue};
 ghost use Rattle.clone_memlink.specs.Ways.{IsCut, room_for, with_bytes};
 
@@ -11,8 +11,8 @@ use std::marker::Model;
 /// The most bytes that are on the way to one end.
 pub const ROOM: usize = 65_536;
 
-/// What is on the way to one end: the bytes that were delivered and not yet received, and how many more are
-/// delivered before the connection is cut.
+/// What is on the way to one end: the bytes that were delivered and not yet received, and how many
+/// more are delivered before the connection is cut.
 #[derive(Drop)]
 pub struct Way {
     bytes: Vec<u8>,
@@ -22,13 +22,15 @@ pub struct Way {
 
 impl Model for Way {
     ghost use Rattle.std.specs.Prelude.{◌≤◌, drop, length};
+    ghost use Rattle.clone_memlink.specs.declared.way.TheConstants.{ROOM};
     ghost use Rattle.clone_memlink.specs.Ways.{WayModel};
 
     ghost Value = { WayModel };
 
     ghost view = { λ w. record { waiting = drop w.at w.bytes.items; left = w.left } };
 
-    ghost invariant = { λ w. (w.at ≤ length w.bytes.items) × (length (drop w.at w.bytes.items) ≤ 65536) };
+    ghost invariant = { λ w. (w.at ≤ length w.bytes.items)
+        × (length (drop w.at w.bytes.items) ≤ ROOM) };
 }
 
 impl Way {

@@ -27,7 +27,10 @@ covers_of entries = finite.from_entries entries
 
 abbrev pub cover_code : Coded Cover
 cover_code =
-    code_by (ℕ × (ℕ × Leaves)) (coded× coded_ℕ (coded× coded_ℕ (finite.code coded_ℕ (coded_list coded_ℕ)))) (λ c. (c.kept, (c.count, c.leaves))) (λ p. record { kept = p.0; count = p.1.0; leaves = p.1.1 }) (λ _. refl)
+    code_by (ℕ × (ℕ × Leaves))
+    (coded× coded_ℕ (coded× coded_ℕ (finite.code coded_ℕ (coded_list coded_ℕ))))
+    (λ c. (c.kept, (c.count, c.leaves))) (λ p. record { kept = p.0; count = p.1.0; leaves = p.1.1 })
+    (λ _. refl)
 
 -- the page is held too
 abbrev pub holding : ℕ → List ℕ → Cover → Cover

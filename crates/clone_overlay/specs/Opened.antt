@@ -17,7 +17,8 @@ added overlay space (Some count) = finite.insert overlay space (whole count)
 
 -- a space of the disk, if it is no redo
 abbrev pub with_space : DiskImage → Overlay → ℕ → Overlay
-with_space m overlay space = if nat_lt space redo_space then added overlay space (page_count m space) else overlay
+with_space m overlay space =
+    if nat_lt space redo_space then added overlay space (page_count m space) else overlay
 
 abbrev pub with_spaces : DiskImage → Overlay → List ℕ → Overlay
 with_spaces m overlay [] = overlay

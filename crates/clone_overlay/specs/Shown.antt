@@ -13,12 +13,15 @@ use Rattle.clone_overlay.specs.Images.{image_of, pages_in, IsQuiet}
 
 -- the page of this number: as it is held, or as the base has it, or unused
 abbrev pub leaf_over : List (List ℕ) → Cover → ℕ → List ℕ
-leaf_over base cover number = unwrap_or (finite.get cover.leaves number) (if nat_lt number cover.kept then get_or base number [] else zero_page)
+leaf_over base cover number =
+    unwrap_or (finite.get cover.leaves number)
+    (if nat_lt number cover.kept then get_or base number [] else zero_page)
 
 -- how a page stands over the pages of a base
 abbrev pub standing_over : List (List ℕ) → Option Cover → ℕ → Standing
 standing_over base None number = no_space
-standing_over base (Some cover) number = if nat_lt number cover.count then stands (leaf_over base cover number) else past_end
+standing_over base (Some cover) number =
+    if nat_lt number cover.count then stands (leaf_over base cover number) else past_end
 
 -- all pages of the base count or none, and no page past the end does or is held
 pub record Fits (base : List (List ℕ)) (cover : Cover) : Type 0 where
@@ -28,12 +31,16 @@ pub record Fits (base : List (List ℕ)) (cover : Cover) : Type 0 where
 
 -- over the base each page stands as in the image
 pub record Shows (base image : Image) (overlay : Overlay) : Type 0 where
-  pub standings : (space number : ℕ) → standing_of image space number ≡ standing_over (pages_in base space) (finite.get overlay space) number
+  pub standings : (space number : ℕ)
+      → standing_of image space number
+          ≡ standing_over (pages_in base space) (finite.get overlay space) number
   pub fits : (space : ℕ) → IfSome (finite.get overlay space) (Fits (pages_in base space))
 
 -- the page is held, or there is no such page
 abbrev pub IsReady : Overlay → ℕ → ℕ → Type 0
-IsReady overlay space number = IfSome (finite.get overlay space) (λ cover. number < cover.count → IsSome (finite.get cover.leaves number))
+IsReady overlay space number =
+    IfSome (finite.get overlay space)
+    (λ cover. number < cover.count → IsSome (finite.get cover.leaves number))
 
 -- the page that a record changes is ready
 abbrev pub IsReadyFor : Overlay → Record → Type 0
@@ -45,11 +52,14 @@ IsReadyFor overlay (Drop space) = Unit {0}
 
 -- a fact of the image that is shown over a quiet disk
 abbrev pub ForShown : Option DiskImage → Overlay → (Image → Type 0) → Type 0
-ForShown told overlay P = ForTold told (λ m. IsQuiet m → (image : Image) → Shows (image_of m) image overlay → P image)
+ForShown told overlay P =
+    ForTold told (λ m. IsQuiet m → (image : Image) → Shows (image_of m) image overlay → P image)
 
 -- over a quiet disk both show the same
 abbrev pub ShowsSame : Option DiskImage → Overlay → Overlay → Type 0
-ShowsSame told old new = ForTold told (λ m. IsQuiet m → (image : Image) → Shows (image_of m) image old → Shows (image_of m) image new)
+ShowsSame told old new =
+    ForTold told
+    (λ m. IsQuiet m → (image : Image) → Shows (image_of m) image old → Shows (image_of m) image new)
 
 -- the bytes may stand at this place
 abbrev pub IsPage : ℕ → ℕ → List ℕ → Type 0

@@ -15,7 +15,14 @@ use Rattle.clone_pool.specs.Index.{place_of}
 
 -- a frame without a page
 abbrev pub no_frame : Frame
-no_frame = record { content = Unused; page = zero_page; oldest = None; flush = Idle; pins = 0; last_use = 0 }
+no_frame = record {
+  content = Unused;
+  page = zero_page;
+  oldest = None;
+  flush = Idle;
+  pins = 0;
+  last_use = 0;
+}
 
 abbrev pub frame_at : List Frame → ℕ → Frame
 frame_at frames at = get_or frames at no_frame
@@ -73,7 +80,12 @@ filled name bytes number f = record f { content = Held name; page = bytes; last_
 
 -- the frame is pinned for a new page of zero bytes, which was used
 abbrev pub freshened : PageName → ℕ → Frame → Frame
-freshened name number f = record f { content = Fresh name; page = zero_page; pins = 1; last_use = number }
+freshened name number f = record f {
+  content = Fresh name;
+  page = zero_page;
+  pins = 1;
+  last_use = number;
+}
 
 abbrev pub pinned : Frame → Frame
 pinned f = record f { pins = f.pins + 1 }
@@ -85,7 +97,10 @@ is_fresh (Held name) = false
 
 -- a pin less. A new page that no change made goes with its last pin.
 abbrev pub unpinned : Frame → Frame
-unpinned f = if is_fresh f.content && (f.pins == 1) then record f { content = Unused; pins = 0; last_use = 0 } else record f { pins = f.pins - 1 }
+unpinned f =
+    if is_fresh f.content && (f.pins == 1)
+    then record f { content = Unused; pins = 0; last_use = 0 }
+    else record f { pins = f.pins - 1 }
 
 -- a change makes a new page
 abbrev pub made : Content → Content
@@ -109,7 +124,12 @@ page_changed (record_is.Drop space) = None
 
 -- a record of the mini-transaction from start to end changed the page
 abbrev pub changed : Record → ℕ → ℕ → Frame → Frame
-changed entry start end f = record f { content = made f.content; page = effect end entry f.page; oldest = Some (unwrap_or f.oldest start); flush = noted start f.flush }
+changed entry start end f = record f {
+  content = made f.content;
+  page = effect end entry f.page;
+  oldest = Some (unwrap_or f.oldest start);
+  flush = noted start f.flush;
+}
 
 -- a flush begins, and no change has come after it
 abbrev pub begun : Frame → Frame

@@ -20,7 +20,8 @@ is_name_of page (Some name) = is_same page name
 -- the first place that has the page's name
 abbrev pub place_of : PageName → Names → Option ℕ
 place_of page [] = None
-place_of page (name ∷ rest) = if is_name_of page name then Some 0 else option_map (λ at. suc at) (place_of page rest)
+place_of page (name ∷ rest) =
+    if is_name_of page name then Some 0 else option_map (λ at. suc at) (place_of page rest)
 
 -- the bucket of a page, where there are so many buckets and one more
 unfoldable pub bucket_of : ℕ → PageName → ℕ
@@ -42,12 +43,15 @@ pub record IsIndex (count : ℕ) (names : Names) (cells : List ℕ) : Type 0 whe
   pub few : count < 2 ^ 32
   pub named : length names ≡ count
   pub long : length cells ≡ 2 * count + 1
-  pub first : (bucket : ℕ) → bucket ≤ count → IsNext count names bucket 0 (slice_index cells (count + bucket))
-  pub next : (at bucket : ℕ) → bucket_at count names at ≡ Some bucket → IsNext count names bucket (at + 1) (slice_index cells at)
+  pub first : (bucket : ℕ) → bucket ≤ count
+      → IsNext count names bucket 0 (slice_index cells (count + bucket))
+  pub next : (at bucket : ℕ) → bucket_at count names at ≡ Some bucket
+      → IsNext count names bucket (at + 1) (slice_index cells at)
 
 -- the cell of a bucket, or of a place before this one that is in it
 abbrev pub IsCellOf : ℕ → Names → ℕ → ℕ → ℕ → Type 0
-IsCellOf count names bucket at cell = (cell ≡ count + bucket) ⊎ ((cell < at) × (bucket_at count names cell ≡ Some bucket))
+IsCellOf count names bucket at cell =
+    (cell ≡ count + bucket) ⊎ ((cell < at) × (bucket_at count names cell ≡ Some bucket))
 
 -- it leads to this place or past it
 pub record LeadsTo (count : ℕ) (names : Names) (cells : List ℕ) (bucket at cell : ℕ) : Type 0 where

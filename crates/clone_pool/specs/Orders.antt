@@ -24,11 +24,21 @@ abbrev pub waiting_rank : Frame → Rank
 waiting_rank f = if is_waiting f then age_rank f else no_rank
 
 abbrev pub orders_of : List Frame → Orders
-orders_of frames = record { names = map name_of frames; going = map use_rank frames; dirty = map age_rank frames; waiting = map waiting_rank frames }
+orders_of frames = record {
+  names = map name_of frames;
+  going = map use_rank frames;
+  dirty = map age_rank frames;
+  waiting = map waiting_rank frames;
+}
 
 -- the frame at this place is now this one
 abbrev pub refreshed : ℕ → Frame → Orders → Orders
-refreshed at f orders = record { names = slice_set orders.names at (name_of f); going = slice_set orders.going at (use_rank f); dirty = slice_set orders.dirty at (age_rank f); waiting = slice_set orders.waiting at (waiting_rank f) }
+refreshed at f orders = record {
+  names = slice_set orders.names at (name_of f);
+  going = slice_set orders.going at (use_rank f);
+  dirty = slice_set orders.dirty at (age_rank f);
+  waiting = slice_set orders.waiting at (waiting_rank f);
+}
 
 -- each has so many places
 pub record AreLong (count : ℕ) (orders : Orders) : Type 0 where

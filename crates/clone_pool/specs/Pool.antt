@@ -36,7 +36,8 @@ pub record IsPool (v : Frames) : Type 0 where
   pub uses : v.uses < NO_NUMBER
   pub frame : (at : ℕ) → IsFrame v.uses (frame_at v.frames at)
   -- no page has two frames
-  pub once : (page : PageName) (at : ℕ) → name_of (frame_at v.frames at) ≡ Some page → holder v.frames page ≡ Some at
+  pub once : (page : PageName) (at : ℕ) → name_of (frame_at v.frames at) ≡ Some page
+      → holder v.frames page ≡ Some at
 
 -- a pool, and what it keeps beside its frames
 pub record IsKept (v : Frames) (orders : Orders) : Type 0 where
@@ -59,7 +60,8 @@ AreKept frames = (at : ℕ) → at < length frames → may_go (frame_at frames a
 pub record IsVictim (frames : List Frame) (at : ℕ) : Type 0 where
   pub within : at < length frames
   pub free : may_go (frame_at frames at) ≡ true
-  pub least : (other : ℕ) → other < length frames → may_go (frame_at frames other) ≡ true → (frame_at frames at).last_use ≤ (frame_at frames other).last_use
+  pub least : (other : ℕ) → other < length frames → may_go (frame_at frames other) ≡ true
+      → (frame_at frames at).last_use ≤ (frame_at frames other).last_use
 
 -- no page is dirty
 abbrev pub AreClean : List Frame → Type 0
@@ -70,22 +72,26 @@ pub record IsOldest (frames : List Frame) (lsn : ℕ) : Type 0 where
   pub at : ℕ
   pub within : at < length frames
   pub dirty : (frame_at frames at).oldest ≡ Some lsn
-  pub least : (other : ℕ) → other < length frames → lsn ≤ unwrap_or (frame_at frames other).oldest lsn
+  pub least : (other : ℕ) → other < length frames
+      → lsn ≤ unwrap_or (frame_at frames other).oldest lsn
 
 -- no dirty page waits for a flush
 abbrev pub AreNotWaiting : List Frame → Type 0
 AreNotWaiting frames = (at : ℕ) → at < length frames → is_waiting (frame_at frames at) ≡ false
 
--- the frame's page waits for a flush, and no other that does is dirty for longer, or as long with a name before its own
+-- the frame's page waits for a flush, and no other that does is dirty for longer, or as long with a
+-- name before its own
 pub record IsNextToFlush (frames : List Frame) (at : ℕ) : Type 0 where
   pub within : at < length frames
   pub waits : is_waiting (frame_at frames at) ≡ true
-  pub first : (other : ℕ) → other < length frames → is_waiting (frame_at frames other) ≡ true → is_before (age_rank (frame_at frames other)) (age_rank (frame_at frames at)) ≡ false
+  pub first : (other : ℕ) → other < length frames → is_waiting (frame_at frames other) ≡ true
+      → is_before (age_rank (frame_at frames other)) (age_rank (frame_at frames at)) ≡ false
 
 -- the frame has the page, whatever its bytes are, and that was a use
 pub record Fills (page : PageName) (at : ℕ) (old new : Frames) : Type 0 where
   pub bytes : List ℕ
-  pub frames : new.frames ≡ slice_set old.frames at (filled page bytes (next_use old.uses) (frame_at old.frames at))
+  pub frames : new.frames
+      ≡ slice_set old.frames at (filled page bytes (next_use old.uses) (frame_at old.frames at))
   pub uses : new.uses ≡ next_use old.uses
 
 -- the frame has no page
@@ -94,28 +100,37 @@ pub record Empties (at : ℕ) (old new : Frames) : Type 0 where
   pub frames : new.frames ≡ slice_set old.frames at (emptied bytes (frame_at old.frames at))
   pub uses : new.uses ≡ old.uses
 
--- a page that has no frame gets the one that makes place, if there is one; after a fault that has no page
+-- a page that has no frame gets the one that makes place, if there is one; after a fault that has
+-- no page
 abbrev pub Misses : PageName → Frames → Frames → Result ℕ FetchRefusal → Type 0
 Misses page old new (Ok at) = IsVictim old.frames at × Fills page at old new
-Misses page old new (Err (PoolFull frames)) = (frames ≡ length old.frames) × AreKept old.frames × (new ≡ old)
+Misses page old new (Err (PoolFull frames)) =
+    (frames ≡ length old.frames) × AreKept old.frames × (new ≡ old)
 Misses page old new (Err DiskFault) = (at : ℕ) × (IsVictim old.frames at × Empties at old new)
 
 -- a page that has a frame is used there
 abbrev pub Fetches : PageName → Frames → Frames → Result ℕ FetchRefusal → Type 0
-Fetches page old new result = MatchOption (holder old.frames page) (Misses page old new result) (λ at. (result ≡ Ok at) × (new ≡ used at old))
+Fetches page old new result =
+    MatchOption (holder old.frames page) (Misses page old new result)
+    (λ at. (result ≡ Ok at) × (new ≡ used at old))
 
 -- a frame was taken for a new page
 abbrev pub with_fresh : PageName → ℕ → Frames → Frames
-with_fresh page at v = record (with_frame at (freshened page (next_use v.uses)) v) { uses = next_use v.uses }
+with_fresh page at v = record (with_frame at (freshened page (next_use v.uses)) v) {
+  uses = next_use v.uses;
+}
 
 -- a new page that has no frame gets the one that makes place, if there is one
 abbrev pub TakesFrame : PageName → Frames → Frames → Result ℕ FetchRefusal → Type 0
 TakesFrame page old new (Ok at) = IsVictim old.frames at × (new ≡ with_fresh page at old)
-TakesFrame page old new (Err refusal) = (refusal ≡ PoolFull (length old.frames)) × AreKept old.frames × (new ≡ old)
+TakesFrame page old new (Err refusal) =
+    (refusal ≡ PoolFull (length old.frames)) × AreKept old.frames × (new ≡ old)
 
 -- a page that has a frame is used and pinned there
 abbrev pub Freshens : PageName → Frames → Frames → Result ℕ FetchRefusal → Type 0
-Freshens page old new result = MatchOption (holder old.frames page) (TakesFrame page old new result) (λ at. (result ≡ Ok at) × (new ≡ used at (with_frame at pinned old)))
+Freshens page old new result =
+    MatchOption (holder old.frames page) (TakesFrame page old new result)
+    (λ at. (result ≡ Ok at) × (new ≡ used at (with_frame at pinned old)))
 
 -- the frame with this number holds the page, and no other does
 pub record IsHolder (page : PageName) (frames : List Frame) (at : ℕ) : Type 0 where
@@ -129,7 +144,8 @@ IsSamePage old new = new ≡ touched new.last_use old
 
 -- each pinned or dirty frame is as before but for the number of its last use
 abbrev pub KeepsInUse : List Frame → List Frame → Type 0
-KeepsInUse old new = (at : ℕ) → may_go (frame_at old at) ≡ false → IsSamePage (frame_at old at) (frame_at new at)
+KeepsInUse old new =
+    (at : ℕ) → may_go (frame_at old at) ≡ false → IsSamePage (frame_at old at) (frame_at new at)
 
 -- each frame but this one is as before
 abbrev pub KeepsOthers : ℕ → List Frame → List Frame → Type 0

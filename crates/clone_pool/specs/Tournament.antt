@@ -7,9 +7,11 @@ use Rattle.clone_pool.specs.declared.tournament.TheConstants.{NO_NUMBER}
 abbrev pub name_is_before : PageName → PageName → Bool
 name_is_before a b = if a.space == b.space then nat_lt a.number b.number else nat_lt a.space b.space
 
--- the lesser number goes first, and of two with one number the lesser space, and then the lesser page
+-- the lesser number goes first, and of two with one number the lesser space, and then the lesser
+-- page
 abbrev pub is_before : Rank → Rank → Bool
-is_before a b = if a.number == b.number then name_is_before a.name b.name else nat_lt a.number b.number
+is_before a b =
+    if a.number == b.number then name_is_before a.name b.name else nat_lt a.number b.number
 
 -- the rank of a place that takes no part
 abbrev pub no_rank : Rank
@@ -26,7 +28,8 @@ first_of a b = if is_before b a then b else a
 pub record IsFirst (ranks : List Rank) (place : ℕ) : Type 0 where
   pub within : place < length ranks
   pub part : (rank_at ranks place).number < NO_NUMBER
-  pub first : (other : ℕ) → other < length ranks → is_before (rank_at ranks other) (rank_at ranks place) ≡ false
+  pub first : (other : ℕ) → other < length ranks
+      → is_before (rank_at ranks other) (rank_at ranks place) ≡ false
 
 -- no place takes part
 abbrev pub HasNoRank : List Rank → Type 0
@@ -34,7 +37,9 @@ HasNoRank ranks = (place : ℕ) → place < length ranks → NO_NUMBER ≤ (rank
 
 -- each node between but one has the winner of the two below it
 abbrev pub AreMatchedBut : ℕ → ℕ → List Rank → Type 0
-AreMatchedBut but count nodes = (node : ℕ) → 0 < node → node < count → node ≢ but → rank_at nodes node ≡ first_of (rank_at nodes (2 * node)) (rank_at nodes (2 * node + 1))
+AreMatchedBut but count nodes =
+    (node : ℕ) → 0 < node → node < count → node ≢ but
+    → rank_at nodes node ≡ first_of (rank_at nodes (2 * node)) (rank_at nodes (2 * node + 1))
 
 pub record IsTournament (count : ℕ) (nodes : List Rank) : Type 0 where
   pub long : length nodes ≡ 2 * count

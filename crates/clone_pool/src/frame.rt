@@ -41,7 +41,8 @@ pub struct Frame {
     pub content: Content,
     /// The page as it is now.
     pub page: Page,
-    /// The LSN at which the oldest change begins that isn't on the disk. A page that has one is dirty.
+    /// The LSN at which the oldest change begins that isn't on the disk. A page that has one is
+    /// dirty.
     pub oldest: Option<u64>,
     /// The write to the disk. Only a dirty page has one.
     pub flush: Flush,

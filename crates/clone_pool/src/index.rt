@@ -1,8 +1,8 @@
 //! The places of names, found by a hash.
 //!
-//! Each bucket has a chain of the places whose names fall into it, in ascending order. With n places there
-//! are n + 1 buckets and 2n + 1 cells. Cell i has the place that follows place i in its chain, and cell
-//! n + b the first place of bucket b; n stands for the end of a chain.
+//! Each bucket has a chain of the places whose names fall into it, in ascending order. With n
+//! places there are n + 1 buckets and 2n + 1 cells. Cell i has the place that follows place i in
+//! its chain, and cell n + b the first place of bucket b; n stands for the end of a chain.
 ghost use Rattle.std.specs.Prelude.{◌≡◌, ◌<◌, ◌≤◌, ◌+◌, ◌^◌, true, None, Some, IfOk, length, get_or, replicate, slice_set};
 ghost use Rattle.clone_pool.specs.Index.{place_of, is_name_of, bucket_of, IsIndex, LeadsTo};
 
@@ -103,7 +103,8 @@ impl Index {
 fn cell_before(names: &[Option<PageName>], cells: &[u32], name: PageName, at: usize) -> usize
     requires index { IsIndex (length names.now) names.now cells.now }
     requires at { at < length names.now }
-    ensures leads { LeadsTo (length names.now) names.now cells.now (bucket_of (length names.now) name) at result }
+    ensures leads { LeadsTo (length names.now) names.now cells.now
+        (bucket_of (length names.now) name) at result }
     ensures bucket { bucket_of (length names.now) name ≤ length names.now }
     ensures within { result < length cells.now }
 {

@@ -16,8 +16,8 @@ use std::marker::Model;
 /// Why a page didn't come into a frame.
 #[derive(Clone, Copy, Debug, PartialEq, Eq)]
 pub enum FetchRefusal {
-    /// Each of so many frames is pinned or dirty. A page on its way to the disk, or whose write failed,
-    /// is dirty.
+    /// Each of so many frames is pinned or dirty. A page on its way to the disk, or whose write
+    /// failed, is dirty.
     PoolFull { frames: u32 },
     /// The disk failed, and its count of faults rose.
     DiskFault,
@@ -26,8 +26,8 @@ pub enum FetchRefusal {
 // The number of a use behind which uses are no longer counted.
 const LAST_USE: u64 = NO_NUMBER - 1;
 
-/// Pages in frames. After it is made no call takes memory, and each takes no more steps than the number
-/// of frames has binary digits.
+/// Pages in frames. After it is made no call takes memory, and each takes no more steps than the
+/// number of frames has binary digits.
 #[derive(Drop)]
 pub struct Pool {
     frames: Vec<Frame>,
@@ -50,7 +50,8 @@ impl Pool {
 
     /// So many frames without pages. This makes all that the pool keeps.
     pub fn new(alloc: Global, count: u32) -> Result<Pool, AllocError>
-        ensures { IfOk result (λ pool. pool ≡ record { frames = replicate count no_frame; uses = 0 }) }
+        ensures { IfOk result
+            (λ pool. pool ≡ record { frames = replicate count no_frame; uses = 0 }) }
     {
         let mut frames = Vec::with_capacity(alloc, count as usize)?;
         for _ in 0..count {
@@ -65,23 +66,29 @@ impl Pool {
 
     /// Brings a page into a frame, and answers the frame's number. It counts as a use of the frame.
     ///
-    /// A page without a frame gets one that has no page, or else the one used least recently of those
-    /// that are neither pinned nor dirty, and is read straight into it. The error is `PoolFull` exactly
-    /// where there is none, and nothing has changed then; or `DiskFault`, and the frame that was to make
-    /// place has no page then.
+    /// A page without a frame gets one that has no page, or else the one used least recently of
+    /// those that are neither pinned nor dirty, and is read straight into it. The error is
+    /// `PoolFull` exactly where there is none, and nothing has changed then; or `DiskFault`, and
+    /// the frame that was to make place has no page then.
     pub fn fetch<D: PageDisk>(
         &mut self,
         disk: &mut D,
         space: u32,
         page: u32,
     ) -> Result<u32, FetchRefusal>
-        ensures answer { Fetches (record { space = space; number = page }) self.old self.new result }
-        ensures held { IfOk result (IsHolder (record { space = space; number = page }) self.new.frames) }
+        ensures answer { Fetches
+            (record { space = space; number = page }) self.old self.new result }
+        ensures held { IfOk result
+            (IsHolder (record { space = space; number = page }) self.new.frames) }
         ensures others { IfOk result (λ at. KeepsOthers at self.old.frames self.new.frames) }
         ensures kept { KeepsInUse self.old.frames self.new.frames }
-        ensures fault { result ≡ Err FetchRefusal.DiskFault → Rose (D.failures disk.old) (D.failures disk.new) }
+        ensures fault { result ≡ Err FetchRefusal.DiskFault
+            → Rose (D.failures disk.old) (D.failures disk.new) }
         ensures disk { D.told disk.new ≡ D.told disk.old }
-        ensures read { IfOk result (λ at. holder self.old.frames (record { space = space; number = page }) ≡ None → ForTold (D.told disk.old) (λ m. GivesQuiet m space page (frame_at self.new.frames at).page)) }
+        ensures read { IfOk result
+            (λ at. holder self.old.frames (record { space = space; number = page }) ≡ None
+                → ForTold (D.told disk.old)
+                    (λ m. GivesQuiet m space page (frame_at self.new.frames at).page)) }
     {
         let name = PageName {
             space,
@@ -110,9 +117,12 @@ impl Pool {
     ///
     /// Until a change makes it, the page goes with its last pin.
     pub fn fresh(&mut self, space: u32, page: u32) -> Result<u32, FetchRefusal>
-        requires room { ForSome (holder self.old.frames (record { space = space; number = page })) (λ at. HasPinRoom (frame_at self.old.frames at)) }
-        ensures answer { Freshens (record { space = space; number = page }) self.old self.new result }
-        ensures held { IfOk result (IsHolder (record { space = space; number = page }) self.new.frames) }
+        requires room { ForSome (holder self.old.frames (record { space = space; number = page }))
+            (λ at. HasPinRoom (frame_at self.old.frames at)) }
+        ensures answer { Freshens
+            (record { space = space; number = page }) self.old self.new result }
+        ensures held { IfOk result
+            (IsHolder (record { space = space; number = page }) self.new.frames) }
         ensures pinned { IfOk result (λ at. 0 < (frame_at self.new.frames at).pins) }
         ensures others { IfOk result (λ at. KeepsOthers at self.old.frames self.new.frames) }
     {
@@ -176,8 +186,8 @@ impl Pool {
         self.orders.refresh(&self.frames, at);
     }
 
-    /// Does to the page in a frame what a record says of it. The record is of the mini-transaction from
-    /// `start` to `end`. The page is dirty then, from `start` on if it wasn't dirty before.
+    /// Does to the page in a frame what a record says of it. The record is of the mini-transaction
+    /// from `start` to `end`. The page is dirty then, from `start` on if it wasn't dirty before.
     pub fn change(&mut self, at: u32, entry: &Record, start: u64, end: u64)
         requires holds { HoldsPage (frame_at self.old.frames at) }
         requires page { page_changed entry.now ≡ name_of (frame_at self.old.frames at) }
@@ -200,8 +210,8 @@ impl Pool {
         self.orders.refresh(&self.frames, at);
     }
 
-    /// A flush ends, with the page on the disk as it was when the flush began. The page is dirty from
-    /// the first change after that, or clean where there was none.
+    /// A flush ends, with the page on the disk as it was when the flush began. The page is dirty
+    /// from the first change after that, or clean where there was none.
     pub fn land_flush(&mut self, at: u32)
         requires holds { HoldsPage (frame_at self.old.frames at) }
         requires flight { IsInFlight (frame_at self.old.frames at) }
@@ -223,9 +233,9 @@ impl Pool {
         self.orders.refresh(&self.frames, at);
     }
 
-    /// The frame of the dirty page to be flushed next, or none where no dirty page waits for that. Of
-    /// those whose flush isn't under way it is the one with the least oldest change, and of several
-    /// with the same the first by space and page.
+    /// The frame of the dirty page to be flushed next, or none where no dirty page waits for that.
+    /// Of those whose flush isn't under way it is the one with the least oldest change, and of
+    /// several with the same the first by space and page.
     pub fn next_to_flush(&self) -> Option<u32>
         ensures none { IfNone result (AreNotWaiting self.now.frames) }
         ensures some { IfSome result (IsNextToFlush self.now.frames) }
@@ -237,7 +247,8 @@ impl Pool {
         }
     }
 
-    /// The LSN at which the oldest change begins that isn't on the disk, or none where no page is dirty.
+    /// The LSN at which the oldest change begins that isn't on the disk, or none where no page is
+    /// dirty.
     pub fn oldest(&self) -> Option<u64>
         ensures none { IfNone result (AreClean self.now.frames) }
         ensures some { IfSome result (IsOldest self.now.frames) }
@@ -319,10 +330,13 @@ impl Pool {
         requires at { IsVictim self.old.frames at }
         requires new { holder self.old.frames name ≡ None }
         ensures ok { OnOk result (Fills name at self.old self.new) }
-        ensures err { IfErr result (λ e. (e ≡ FetchRefusal.DiskFault) × Empties at self.old self.new) }
+        ensures err { IfErr result
+            (λ e. (e ≡ FetchRefusal.DiskFault) × Empties at self.old self.new) }
         ensures fault { OnErr result (Rose (D.failures disk.old) (D.failures disk.new)) }
         ensures disk { D.told disk.new ≡ D.told disk.old }
-        ensures read { OnOk result (ForTold (D.told disk.old) (λ m. GivesQuiet m name.space name.number (frame_at self.new.frames at).page)) }
+        ensures read { OnOk result
+            (ForTold (D.told disk.old)
+                (λ m. GivesQuiet m name.space name.number (frame_at self.new.frames at).page)) }
     {
         let number = next_use(self.uses);
         let read = read_into(disk, &mut self.frames[at], name, number);
@@ -344,10 +358,12 @@ fn read_into<D: PageDisk>(
     number: u64,
 ) -> Result<(), FetchRefusal>
     ensures ok { OnOk result (frame.new ≡ filled name frame.new.page number frame.old) }
-    ensures err { IfErr result (λ e. (e ≡ FetchRefusal.DiskFault) × (frame.new ≡ emptied frame.new.page frame.old)) }
+    ensures err { IfErr result
+        (λ e. (e ≡ FetchRefusal.DiskFault) × (frame.new ≡ emptied frame.new.page frame.old)) }
     ensures fault { OnErr result (Rose (D.failures disk.old) (D.failures disk.new)) }
     ensures disk { D.told disk.new ≡ D.told disk.old }
-    ensures read { OnOk result (ForTold (D.told disk.old) (λ m. GivesQuiet m name.space name.number frame.new.page)) }
+    ensures read { OnOk result
+        (ForTold (D.told disk.old) (λ m. GivesQuiet m name.space name.number frame.new.page)) }
 {
     frame.content = Content::Unused;
     frame.last_use = 0;

@@ -1,8 +1,9 @@
 //! Ranks in a tournament, which has the first of them at its top.
 //!
-//! With n places there are 2n nodes, of which node 0 is unused. Node n + i has the rank of place i, and
-//! each node between has the winner of nodes 2j and 2j + 1. So the top, node 1, has the first rank of all,
-//! and a rank that changes is carried up by at most as many matches as 2n has binary digits.
+//! With n places there are 2n nodes, of which node 0 is unused. Node n + i has the rank of place i,
+//! and each node between has the winner of nodes 2j and 2j + 1. So the top, node 1, has the first
+//! rank of all, and a rank that changes is carried up by at most as many matches as 2n has binary
+//! digits.
 ghost use Rattle.std.specs.Prelude.{true, ◌≡◌, ◌<◌, ◌≤◌, ℕ, length, replicate, slice_set, drop, ◌*◌, IfOk, IfNone, IfSome};
 ghost use Rattle.clone_pool.specs.Tournament.{IsFirst, HasNoRank, AreMatchedBut, rank_at, is_before, name_is_before, first_of};
 
@@ -134,7 +135,8 @@ fn is_same(a: Rank, b: Rank) -> bool
     a.number == b.number && b.name.is(a.name)
 }
 
-// The lesser number goes first, and of two with one number the lesser space, and then the lesser page.
+// The lesser number goes first, and of two with one number the lesser space, and then the lesser
+// page.
 fn is_before(a: Rank, b: Rank) -> bool
     ensures { result ≡ is_before a b }
 {

@@ -30,7 +30,9 @@ abbrev pub kind_code : Coded PageKind
 kind_code = code_by (Bool × Bool) (coded× coded_bool coded_bool) kind_bits kind_of_bits kind_back
 
 abbrev pub patch_code : Coded Patched
-patch_code = code_by (ℕ × List ℕ) (coded× coded_ℕ (coded_list coded_ℕ)) (λ p. (p.offset, p.bytes)) (λ p. record { offset = p.0; bytes = p.1 }) (λ _. refl)
+patch_code =
+    code_by (ℕ × List ℕ) (coded× coded_ℕ (coded_list coded_ℕ)) (λ p. (p.offset, p.bytes))
+    (λ p. record { offset = p.0; bytes = p.1 }) (λ _. refl)
 
 -- the parts of a record
 abbrev pub Parts : Type 0
@@ -59,5 +61,8 @@ record_back (Drop space) = refl
 
 abbrev pub record_code : Coded Record
 record_code =
-    code_by Parts (coded⊎ (coded× coded_ℕ (coded× coded_ℕ kind_code)) (coded⊎ (coded× coded_ℕ (coded× coded_ℕ patch_code)) (coded⊎ (coded× coded_ℕ coded_ℕ) (coded⊎ (coded× coded_ℕ coded_ℕ) coded_ℕ))))
+    code_by Parts
+    (coded⊎ (coded× coded_ℕ (coded× coded_ℕ kind_code))
+        (coded⊎ (coded× coded_ℕ (coded× coded_ℕ patch_code))
+            (coded⊎ (coded× coded_ℕ coded_ℕ) (coded⊎ (coded× coded_ℕ coded_ℕ) coded_ℕ))))
     parts_of record_of record_back

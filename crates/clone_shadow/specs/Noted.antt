@@ -7,5 +7,7 @@ use Rattle.clone_shadow.specs.declared.shadow.Note.{Note}
 use Rattle.clone_shadow.specs.declared.shadow.Note.TheVariants as note
 
 abbrev pub noted : State → Note → State
-noted s (note.Read space number page) = record s { right = s.right && is_page page.now (page_of (replayed s.log) space number) }
+noted s (note.Read space number page) = record s {
+  right = s.right && is_page page.now (page_of (replayed s.log) space number);
+}
 noted s (note.Wrote records) = record s { log = s.log ++ records.now ∷ [] }

@@ -5,13 +5,16 @@ use Rattle.std.specs.Coded.{Coded, code_by, coded×, coded_bool, coded_list}
 use Rattle.clone_mtr.specs.declared.record.Record.{Record}
 use Rattle.clone_shadow.specs.Codes.{record_code}
 
--- the mini-transactions written so far, and whether each page that was read so far was the one that the log made
+-- the mini-transactions written so far, and whether each page that was read so far was the one that
+-- the log made
 pub record State : Type 0 where
   pub log : List (List Record)
   pub right : Bool
 
 abbrev pub state_code : Coded State
-state_code = code_by (List (List Record) × Bool) (coded× (coded_list (coded_list record_code)) coded_bool) (λ s. (s.log, s.right)) (λ p. record { log = p.0; right = p.1 }) (λ _. refl)
+state_code =
+    code_by (List (List Record) × Bool) (coded× (coded_list (coded_list record_code)) coded_bool)
+    (λ s. (s.log, s.right)) (λ p. record { log = p.0; right = p.1 }) (λ _. refl)
 
 abbrev pub first : State
 first = record { log = []; right = true }

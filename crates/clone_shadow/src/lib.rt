@@ -1,5 +1,5 @@
-//! What proofs alone read of a donor: its redo log from the beginning, and whether each page that was read is the
-//! one that the log makes. It has no bytes, and does nothing at run time.
+//! What proofs alone read of a donor: its redo log from the beginning, and whether each page that
+//! was read is the one that the log makes. It has no bytes, and does nothing at run time.
 #![tactic(auto)]
 
 ghost use Rattle.std.specs.Prelude.{◌≡◌};

@@ -6,8 +6,9 @@ use clone_mtr::Record;
 use clone_page::Page;
 use std::marker::Model;
 
-/// The redo log from its beginning, as mini-transactions, and whether each page that was read so far was the one
-/// that the log made by then. It has no bytes, and its calls do nothing at run time.
+/// The redo log from its beginning, as mini-transactions, and whether each page that was read so
+/// far was the one that the log made by then. It has no bytes, and its calls do nothing at run
+/// time.
 #[derive(Drop)]
 pub struct Shadow {
     pub ghost state: { State } by { state_code },

@@ -4,7 +4,7 @@ use Rattle.clone_image.specs.Replay.{replayed}
 use Rattle.clone_law.specs.Since.{ends}
 use Rattle.clone_buffer.specs.Buffered.{Buffered}
 use Rattle.clone_buffer.specs.Keeping.{Stands}
-use Rattle.clone_buffer.proofs.KeepLemmas.{stands_fetched, stands_refused}
+use Rattle.clone_buffer.proofs.FetchLemmas.{stands_fetched, stands_refused}
 use Rattle.clone_buffer.proofs.buffer.Buffer.fetch.Goals as goal
 
 pub returns-in_err-at-clause-stands : goal.returns-in_err-at-clause-stands

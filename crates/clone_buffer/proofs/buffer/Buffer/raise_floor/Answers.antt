@@ -1,4 +1,4 @@
-use Rattle.std.proofs.Common.{refl, sym, subst}
+use Rattle.std.proofs.Common.{sym, subst}
 use Rattle.clone_buffer.specs.Buffered.{Buffered}
 use Rattle.clone_buffer.specs.Keeping.{Stands}
 use Rattle.clone_buffer.proofs.MoveLemmas.{stands_raised}
@@ -8,4 +8,4 @@ pub returns-clause-stands : goal.returns-clause-stands
 returns-clause-stands c =
     let i = c.self.inside in
     let v : Buffered = record { log = i.shadow.state.log; right = i.shadow.state.right; ring = i.ring; pool = i.pool } in
-    λ flushes told st. stands_raised v (record v { ring = c.raise_floor.new.self }) flushes told c.raise_floor.new.self refl (subst (λ (s : Buffered). Stands s flushes told) (sym c.self.view_is) st)
+    λ flushes told st. stands_raised v flushes told c.raise_floor.new.self (subst (λ (s : Buffered). Stands s flushes told) (sym c.self.view_is) st)

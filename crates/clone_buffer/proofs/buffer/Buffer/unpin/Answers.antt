@@ -1,4 +1,4 @@
-use Rattle.std.proofs.Common.{ap, subst, sym}
+use Rattle.std.proofs.Common.{subst, sym}
 use Rattle.clone_pool.specs.Frames.{frame_at, HoldsPage}
 use Rattle.clone_pool.specs.Pool.{Frames, IsPool}
 use Rattle.clone_pool.proofs.PoolLemmas.{within}
@@ -12,5 +12,5 @@ returns-clause-stands c =
     let i = c.self.inside in
     let v : Buffered = record { log = i.shadow.state.log; right = i.shadow.state.right; ring = i.ring; pool = i.pool } in
     let holds = subst (λ (s : Buffered). HoldsPage (frame_at s.pool.frames c.args.at)) (sym c.self.view_is) c.requires.holds in
-    λ flushes told st. stands_unpinned v (record v { pool = c.unpin.new.self }) flushes told c.args.at c.laws.ensures (subst IsPool c.unpin.ensures c.laws-2.ensures) (within i.pool.frames c.args.at holds)
-    (ap (λ (w : Frames). record v { pool = w }) c.unpin.ensures) (subst (λ (s : Buffered). Stands s flushes told) (sym c.self.view_is) st)
+    λ flushes told st. subst (λ (w : Frames). Stands (record v { pool = w }) flushes told) (sym c.unpin.ensures)
+    (stands_unpinned v flushes told c.args.at c.laws.ensures (within i.pool.frames c.args.at holds) (subst IsPool c.unpin.ensures c.laws-2.ensures) (subst (λ (s : Buffered). Stands s flushes told) (sym c.self.view_is) st))

@@ -2,7 +2,7 @@ use Rattle.std.proofs.Common.{◌+◌, ℕ, length, ap, sym, subst}
 use Rattle.clone_mtr.specs.Spelling.{spelling}
 use Rattle.clone_pool.specs.Pool.{IsPool}
 use Rattle.clone_buffer.specs.Buffered.{Buffered, IsBuffer}
-use Rattle.clone_buffer.proofs.WrittenLemmas.{shows_written, stands_result}
+use Rattle.clone_buffer.proofs.WrittenLemmas.{shows_written, stands_written}
 use Rattle.clone_buffer.proofs.buffer.Buffer.write.Goals as goal
 
 pub append-requires-clause-shows : goal.append-requires-clause-shows
@@ -16,4 +16,4 @@ pub returns-clause-stands : goal.returns-clause-stands
 returns-clause-stands c =
     let pool = subst (λ (s : Buffered). IsPool s.pool) c.self.view_is c.laws.ensures in
     let buffer = subst IsBuffer c.self.view_is c.self.invariant in
-    λ flushes told st. stands_result c.args.self.now c.append.new.self flushes told c.args.records.now c.append.result pool buffer c.append.ensures.spelled c.requires.edits c.requires.framed c.requires.there c.append.ensures.written st
+    λ flushes told st. stands_written c.args.self.now c.append.new.self flushes told c.args.records.now c.append.result pool buffer c.append.ensures.spelled c.requires.edits c.requires.framed c.requires.there c.append.ensures.written st

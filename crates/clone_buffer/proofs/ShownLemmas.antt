@@ -1,0 +1,55 @@
+-- What a frame shows of the page that it has.
+use Rattle.std.proofs.Common.{◌≡◌, ◌<◌, ◌^◌, ℕ, false, List, slice_get, refl, sym, ap, subst, ◌∙◌, Option, Some, None, option_and_then, IsSome}
+use Rattle.std.proofs.lemmas.Bool.{false≢true, true≢false}
+use Rattle.std.specs.FinMap as finite
+use Rattle.clone_mtr.specs.declared.record.Record.{Record}
+use Rattle.clone_image.specs.Image.{Image, page_of}
+use Rattle.clone_image.specs.Replay.{replayed}
+use Rattle.clone_image.specs.Redone.{stands, standing_at, standing_in, standing_of, redone}
+use Rattle.clone_image.proofs.Redoing.{replayed_is_redone}
+use Rattle.clone_law.specs.Since.{ends}
+use Rattle.clone_pool.specs.declared.frame.Content.{Content}
+use Rattle.clone_pool.specs.declared.frame.Content.TheVariants.{Unused, Fresh, Held}
+use Rattle.clone_pool.specs.declared.frame.PageName.{PageName}
+use Rattle.clone_pool.specs.Frames.{name_in, is_fresh}
+use Rattle.clone_buffer.specs.Buffered.{Shown}
+use Rattle.clone_buffer.proofs.FrameLemmas.{some_name, no_name}
+
+-- a page that the image has stands by the log
+pub stands_there : (log : List (List Record)) (space number : ℕ) (page : List ℕ) → ends log < 2 ^ 64 → page_of (replayed log) space number ≡ Some page → redone space number log ≡ stands page
+stands_there log space number page small is = sym (replayed_is_redone log space number small) ∙ by (finite.get (replayed log) space) refl is
+  where
+    by : (o : Option (List (List ℕ))) → finite.get (replayed log) space ≡ o → page_of (replayed log) space number ≡ Some page → standing_of (replayed log) space number ≡ stands page
+    by None none is = let no = sym (ap (λ (o : Option (List (List ℕ))). option_and_then (λ pages. slice_get pages number) o) none) ∙ is in absurd (cc)
+    by (Some pages) some is =
+        let found : slice_get pages number ≡ Some page = sym (ap (λ (o : Option (List (List ℕ))). option_and_then (λ ps. slice_get ps number) o) some) ∙ is in
+        ap (λ (o : Option (List (List ℕ))). standing_in o number) some ∙ ap standing_at found
+
+-- a frame without a page shows none
+pub shown_unused : (image : Image) (content : Content) (bytes : List ℕ) → name_in content ≡ None → Shown image content bytes
+shown_unused image Unused bytes is = tt
+shown_unused image (Fresh name) bytes is = absurd (no_name name (sym is))
+shown_unused image (Held name) bytes is = absurd (no_name name (sym is))
+
+module _ (image : Image) (bytes : List ℕ) (page : PageName) where
+  -- a frame that has a page which isn't new shows it exactly where it is the image's
+  pub shown_held : (content : Content) → Shown image content bytes → name_in content ≡ Some page → is_fresh content ≡ false → page_of image page.space page.number ≡ Some bytes
+  shown_held Unused shown is old = absurd (no_name page is)
+  shown_held (Fresh name) shown is old = absurd (true≢false old)
+  shown_held (Held name) shown is old = subst (λ (n : PageName). page_of image n.space n.number ≡ Some bytes) (some_name name page is) shown
+
+  pub shown_named : (content : Content) → name_in content ≡ Some page → is_fresh content ≡ false → page_of image page.space page.number ≡ Some bytes → Shown image content bytes
+  shown_named Unused is old shows = tt
+  shown_named (Fresh name) is old shows = absurd (true≢false old)
+  shown_named (Held name) is old shows = subst (λ (n : PageName). page_of image n.space n.number ≡ Some bytes) (sym (some_name name page is)) shows
+
+  -- a page that is there isn't new
+  pub not_fresh : (content : Content) → Shown image content bytes → name_in content ≡ Some page → IsSome (page_of image page.space page.number) → is_fresh content ≡ false
+  not_fresh Unused shown is there = refl
+  not_fresh (Fresh name) shown is there =
+      let none : page_of image page.space page.number ≡ None = subst (λ (n : PageName). page_of image n.space n.number ≡ None) (some_name name page is) shown.0 in
+      absurd (false≢true (subst IsSome none there))
+  not_fresh (Held name) shown is there = refl
+
+  pub shown_there : (content : Content) → Shown image content bytes → name_in content ≡ Some page → IsSome (page_of image page.space page.number) → page_of image page.space page.number ≡ Some bytes
+  shown_there content shown is there = shown_held content shown is (not_fresh content shown is there)
