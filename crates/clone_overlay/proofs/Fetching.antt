@@ -1,17 +1,19 @@
 -- A page that is read and held shows as before.
 use Rattle.std.proofs.Common.{◌≡◌, ◌==◌, ◌<◌, ◌≤◌, ℕ, List, [], length, get_or, refl, sym, ap, subst, ◌∙◌, arith, Bool, true, false, cond, Some, None, IsSome, inl, inr}
-use Rattle.std.specs.Prelude.{nat_lt, unwrap_or, IfSome}
+use Rattle.std.specs.Prelude.{nat_lt, unwrap_or, IfSome, option_and_then, slice_get}
 use Rattle.std.specs.declared.option.Option.{Option}
 use Rattle.std.specs.FinMap as finite
 use Rattle.std.proofs.lemmas.Bool.{cases_lt, lt-ltb, le-ltb}
 use Rattle.std.proofs.lemmas.Bool.Decides.{eqb_tells}
+use Rattle.std.proofs.lemmas.Option.{slice_get-get_or}
 use Rattle.clone_page.specs.Header.{zero_page}
 use Rattle.clone_outside.specs.Disk.{DiskImage}
+use Rattle.clone_image.specs.Image.{Image, page_of}
 use Rattle.clone_image.specs.Redone.{Standing, stands, past_end, standing_of}
 use Rattle.clone_overlay.specs.Answers.{Fetched, stays, reads, fills, FetchedIn, nowhere, within, HasMisplaced}
 use Rattle.clone_overlay.specs.Covers.{Cover, Overlay, holding}
 use Rattle.clone_overlay.specs.Images.{image_of, pages_in, IsQuiet}
-use Rattle.clone_overlay.specs.Shown.{leaf_over, standing_over, Fits, Shows, ShowsSame, ForShown, IsReady, IsMisplaced}
+use Rattle.clone_overlay.specs.Shown.{leaf_over, standing_over, Fits, Shows, ShowsSame, ForBase, IsReady, IsMisplaced}
 use Rattle.clone_overlay.proofs.Bases.{read_on}
 use Rattle.clone_overlay.proofs.Covered.{standing_held, standing_past, standing_kept, standing_other, fits_holding}
 use Rattle.clone_overlay.proofs.Entries.{get_set, get_here}
@@ -92,8 +94,16 @@ fetched_shows (Some m) s n old new (within before after there fetched is) = λ q
     (λ k. shows.standings s k ∙ ap (λ o. standing_over (pages_in base s) o k) there ∙ sym (kept.standings k))
     kept.fits shows)
 
--- what the disk gives is against the format, as the page of the image is
-pub gives_misplaced : (told : Option DiskImage) (s n : ℕ) (overlay : Overlay) → HasMisplaced told s n overlay → ForShown told overlay (IsMisplaced s n)
+-- a page that a space has, in its image
+there_in : (image : Image) (s n : ℕ) → n < length (pages_in image s) → page_of image s n ≡ Some (get_or (pages_in image s) n [])
+there_in image s n lt = at (finite.get image s) lt
+  where
+    at : (o : Option (List (List ℕ))) → n < length (unwrap_or o []) → option_and_then (λ ps. slice_get ps n) o ≡ Some (get_or (unwrap_or o []) n [])
+    at None lt = absurd (omega (arith, lt))
+    at (Some pages) lt = slice_get-get_or pages n [] lt
+
+-- what the disk gives is against the format, as the page of its image is
+pub gives_misplaced : (told : Option DiskImage) (s n : ℕ) (overlay : Overlay) → HasMisplaced told s n overlay → ForBase told overlay (IsMisplaced s n)
 gives_misplaced None s n overlay has = tt
 gives_misplaced (Some m) s n overlay has = λ quiet image shows.
     let base = pages_in (image_of m) s in
@@ -101,7 +111,7 @@ gives_misplaced (Some m) s n overlay has = λ quiet image shows.
     let read = read_on m s n has.gives.gives.page quiet has.gives.gives.given (kept_there base has.cover n has.gives.kept fits) in
     record {
       page = has.gives.gives.page;
-      there = page_stands image s n ∙ ap page_standing (shows.standings s n ∙ ap (λ o. standing_over base o n) has.there ∙ standing_kept base has.cover n has.gives.within has.gives.kept has.gives.free) ∙ ap (λ p. Some p) (sym read);
+      there = there_in (image_of m) s n (kept_there base has.cover n has.gives.kept fits) ∙ ap (λ p. Some p) (sym read);
       against = has.gives.gives.against;
     }
 

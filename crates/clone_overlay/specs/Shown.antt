@@ -50,10 +50,11 @@ IsReadyFor overlay (Extend space count) = Unit {0}
 IsReadyFor overlay (Create space count) = Unit {0}
 IsReadyFor overlay (Drop space) = Unit {0}
 
--- a fact of the image that is shown over a quiet disk
-abbrev pub ForShown : Option DiskImage → Overlay → (Image → Type 0) → Type 0
-ForShown told overlay P =
-    ForTold told (λ m. IsQuiet m → (image : Image) → Shows (image_of m) image overlay → P image)
+-- a fact of a quiet disk's own image, where the overlay shows one over it
+abbrev pub ForBase : Option DiskImage → Overlay → (Image → Type 0) → Type 0
+ForBase told overlay P =
+    ForTold told (λ m. IsQuiet m → (image : Image) → Shows (image_of m) image overlay
+    → P (image_of m))
 
 -- over a quiet disk both show the same
 abbrev pub ShowsSame : Option DiskImage → Overlay → Overlay → Type 0

@@ -9,7 +9,7 @@ ghost use Rattle.clone_image.specs.Image.{Image, page_of, page_count, with_edit,
 ghost use Rattle.clone_overlay.specs.Covers.{covers_of, with_cover, with_leaf, stretched_to, unused};
 ghost use Rattle.clone_overlay.specs.Images.{image_of};
 ghost use Rattle.clone_overlay.specs.Opened.{whole, with_space, with_spaces};
-ghost use Rattle.clone_overlay.specs.Shown.{Shows, ShowsSame, ForShown, IsReady, IsReadyFor, IsMisplaced};
+ghost use Rattle.clone_overlay.specs.Shown.{Shows, ShowsSame, ForBase, IsReady, IsReadyFor, IsMisplaced};
 ghost use Rattle.clone_overlay.specs.Answers.{FetchedIn, HasMisplaced};
 
 use crate::Sheet;
@@ -110,7 +110,7 @@ impl Overlay {
     ) -> Result<(), FetchRefusal>
         ensures ready { OnOk result (IsReady self.new space number) }
         ensures shows { OnOk result (ShowsSame (D.told disk.old) self.old self.new) }
-        ensures header { IsErrOf result FetchRefusal.Header → ForShown (D.told disk.old) self.old (IsMisplaced space number) }
+        ensures header { IsErrOf result FetchRefusal.Header → ForBase (D.told disk.old) self.old (IsMisplaced space number) }
         ensures fault { IsErrOf result FetchRefusal.DiskFault → Rose (D.failures disk.old) (D.failures disk.new) }
         ensures told { D.told disk.new ≡ D.told disk.old }
         ensures orders { D.orders disk.new ≡ D.orders disk.old }

@@ -1,7 +1,7 @@
 use Rattle.std.proofs.Common.{subst}
 use Rattle.std.proofs.lemmas.Result.{on_ok_weaker}
 use Rattle.clone_overlay.specs.Covers.{Overlay, covers_of}
-use Rattle.clone_overlay.specs.Shown.{ShowsSame, ForShown, IsMisplaced}
+use Rattle.clone_overlay.specs.Shown.{ShowsSame, ForBase, IsMisplaced}
 use Rattle.clone_overlay.proofs.Fetching.{fetched_ready, fetched_shows, gives_misplaced}
 use Rattle.clone_overlay.proofs.overlay.Overlay.fetch.Goals as goal
 
@@ -19,5 +19,5 @@ returns-clause-shows g c =
 pub returns-clause-header : goal.returns-clause-header
 returns-clause-header g c = λ e.
     let told = g.D.PageDisk.told c.args.disk.now in
-    subst (λ (o : Overlay). ForShown told o (IsMisplaced c.args.space c.args.number)) c.self.view_is
+    subst (λ (o : Overlay). ForBase told o (IsMisplaced c.args.space c.args.number)) c.self.view_is
     (gives_misplaced told c.args.space c.args.number (covers_of c.self.inside.sheets.entries) (c.fetch_in.ensures.header e))
