@@ -196,197 +196,293 @@ fn takes_scripts_up_to_the_longest(rt: HostRuntime) -> Result<(), Fail> {
     Ok(())
 }
 
-#[test]
-fn refuses_a_key_of_a_full_bucket(rt: HostRuntime) -> Result<(), Fail> {
-    let alloc = rt.alloc();
-    let mut script = String::from_str(alloc, "create 1 1\n")?;
-    let mut out = String::from_str(alloc, "created\n")?;
-    let mut rows = String::new(alloc);
-    let mut binlog = String::new(alloc);
-    for key in 0..50u32 {
-        let position = key + 1;
-        write!(script, "set 0 1 {key} 61\n")?;
-        write!(out, "committed {position}\n")?;
-        write!(rows, "1 {key} 61\n")?;
-        write!(binlog, "commit 0 {key} 1\n1 {key} 61\n")?;
+/// Lines of a script: how many times they come, what they are, and what they add to the output and to the
+/// binlog. In the text of the nth, counted from 0, `N` stands for n, `S` for n + 1, `D` for 2n, `L` for how
+/// many come behind it, and `V` for the longest value.
+type Lines = (u32, &'static str, &'static str, &'static str);
+
+const LONG_SCRIPTS: [&[Lines]; 6] = [
+    // a key of a full bucket is refused
+    &[
+        (1, "create 1 1\n", "created\n", ""),
+        (
+            50,
+            "set 0 1 N 61\n",
+            "committed S\n",
+            "commit 0 N 1\n1 N 61\n",
+        ),
+        (
+            1,
+            "set 0 1 50 61\nclone\nrows\n",
+            "refused E7\ncomplete position 50\n",
+            "",
+        ),
+        (50, "", "1 N 61\n", ""),
+        (1, "", "rows 50\n", ""),
+    ],
+    // The keys of the other bucket, and the key that has its place, go on. The transaction that was
+    // refused has its index.
+    &[
+        (1, "create 1 2\n", "created\n", ""),
+        (
+            50,
+            "set 0 1 D 61\n",
+            "committed S\n",
+            "commit 0 N 1\n1 D 61\n",
+        ),
+        (1, "set 0 1 100 61\n", "refused E7\n", ""),
+        (
+            1,
+            "set 0 1 1 62\n",
+            "committed 51\n",
+            "commit 0 51 1\n1 1 62\n",
+        ),
+        (
+            1,
+            "set 0 1 98 63\n",
+            "committed 52\n",
+            "commit 0 52 1\n1 98 63\n",
+        ),
+    ],
+    // a transaction with as many changes as it may have commits
+    &[
+        (
+            1,
+            "create 1 4\nbegin 0\n",
+            "created\ntrx 0\n",
+            "commit 0 0 160\n",
+        ),
+        (
+            1,
+            "put 0 1 18446744073709551615 -\n",
+            "ok\n",
+            "1 18446744073709551615 -\n",
+        ),
+        (
+            1,
+            "put 0 1 1 V\nput 0 1 1 Vab\n",
+            "ok\nrefused E5\n",
+            "1 1 V\n",
+        ),
+        (158, "put 0 1 2 aa\n", "ok\n", "1 2 aa\n"),
+        (
+            1,
+            "put 0 1 2 bb\nget 0 1 18446744073709551615\n",
+            "refused E6\nvalue -\n",
+            "",
+        ),
+        (
+            1,
+            "commit 0\nclone\nrows\n",
+            "committed 1\ncomplete position 1\n",
+            "",
+        ),
+        (
+            1,
+            "",
+            "1 1 V\n1 2 aa\n1 18446744073709551615 -\nrows 3\n",
+            "",
+        ),
+    ],
+    // and takes them back
+    &[
+        (1, "create 1 4\nbegin 0\n", "created\ntrx 0\n", ""),
+        (1, "put 0 1 18446744073709551615 -\n", "ok\n", ""),
+        (1, "put 0 1 1 V\nput 0 1 1 Vab\n", "ok\nrefused E5\n", ""),
+        (158, "put 0 1 2 aa\n", "ok\n", ""),
+        (
+            1,
+            "put 0 1 2 bb\nget 0 1 18446744073709551615\n",
+            "refused E6\nvalue -\n",
+            "",
+        ),
+        (160, "undo 0\n", "undone L\n", ""),
+        (
+            1,
+            "undo 0\nclone\nrows\n",
+            "ended\ncomplete position 0\nrows 0\n",
+            "",
+        ),
+    ],
+    // one transaction too many
+    &[
+        (1, "create 1 1\n", "created\n", ""),
+        (64, "begin 0\n", "trx N\n", ""),
+        (
+            1,
+            "begin 0\nset 0 1 1 aa\n",
+            "refused E10\nrefused E10\n",
+            "",
+        ),
+        (1, "commit 9\n", "committed 1\n", "commit 0 9 0\n"),
+        (
+            1,
+            "set 0 1 1 aa\n",
+            "committed 2\n",
+            "commit 0 64 1\n1 1 aa\n",
+        ),
+    ],
+    // one table too many
+    &[
+        (62, "create S 1\n", "created\n", ""),
+        (
+            1,
+            "create 63 1\ncreate 62 1\n",
+            "refused E11\nrefused E3\n",
+            "",
+        ),
+        (
+            1,
+            "set 0 62 1 aa\n",
+            "committed 1\n",
+            "commit 0 0 1\n62 1 aa\n",
+        ),
+        (
+            1,
+            "clone\nrows\n",
+            "complete position 1\n62 1 aa\nrows 1\n",
+            "",
+        ),
+    ],
+];
+
+const LONGEST: &str =
+    "abababababababababababababababababababababababababababababababababababababababababababababababababababababababababababababababab";
+
+// Adds the text of the nth.
+fn push_nth(text: &mut String, template: &str, n: u32, times: u32) -> Result<(), AllocError> {
+    for c in template.chars() {
+        push_char(text, c, n, times)?;
     }
-    write!(script, "set 0 1 50 61\nclone\nrows\n")?;
-    write!(out, "refused E7\ncomplete position 50\n{rows}rows 50\n")?;
-    let ended = run(alloc, &["steps"], script.as_bytes())?;
-    ended.expect(&rt, 0, out.as_str(), binlog.as_str());
     Ok(())
 }
 
-// The keys of the other bucket, and the key that has its place, go on. The transaction that was refused
-// has its index.
-#[test]
-fn goes_on_beside_a_full_bucket(rt: HostRuntime) -> Result<(), Fail> {
-    let alloc = rt.alloc();
-    let mut script = String::from_str(alloc, "create 1 2\n")?;
-    let mut out = String::from_str(alloc, "created\n")?;
-    let mut binlog = String::new(alloc);
-    for place in 0..50u32 {
-        let key = place * 2;
-        let position = place + 1;
-        write!(script, "set 0 1 {key} 61\n")?;
-        write!(out, "committed {position}\n")?;
-        write!(binlog, "commit 0 {place} 1\n1 {key} 61\n")?;
+fn push_char(text: &mut String, c: char, n: u32, times: u32) -> Result<(), AllocError> {
+    match c {
+        'N' => push_number(text, n),
+        'S' => push_number(text, n.wrapping_add(1)),
+        'D' => push_number(text, n.wrapping_mul(2)),
+        'L' => push_number(text, times.wrapping_sub(1).wrapping_sub(n)),
+        'V' => text.push_str(LONGEST),
+        _ => text.push(c),
     }
-    write!(script, "set 0 1 100 61\nset 0 1 1 62\nset 0 1 98 63\n")?;
-    write!(out, "refused E7\ncommitted 51\ncommitted 52\n")?;
-    write!(binlog, "commit 0 51 1\n1 1 62\ncommit 0 52 1\n1 98 63\n")?;
-    let ended = run(alloc, &["steps"], script.as_bytes())?;
-    ended.expect(&rt, 0, out.as_str(), binlog.as_str());
-    Ok(())
 }
 
-// The lines of a transaction of writer 0 that makes as many changes as it may, and their answers.
-struct MostChanges {
+fn push_number(text: &mut String, number: u32) -> Result<(), AllocError> {
+    write!(text, "{number}")
+}
+
+/// A script, its output and its binlog.
+#[derive(Drop)]
+struct Texts {
     script: String,
     out: String,
+    binlog: String,
 }
 
-// The binlog's lines of these changes.
-const LONG_CHANGES: &str =
-    "1 18446744073709551615 -\n1 1 abababababababababababababababababababababababababababababababababababababababababababababababababababababababababababababababab\n";
-
-fn most_changes(alloc: Global) -> Result<MostChanges, AllocError> {
-    let mut script = String::from_str(
-        alloc,
-        "create 1 4\nbegin 0\nput 0 1 18446744073709551615 -\n",
-    )?;
-    let mut out = String::from_str(alloc, "created\ntrx 0\nok\n")?;
-    let longest =
-        "abababababababababababababababababababababababababababababababababababababababababababababababababababababababababababababababab";
-    write!(script, "put 0 1 1 {longest}\nput 0 1 1 {longest}ab\n")?;
-    out.push_str("ok\nrefused E5\n")?;
-    for _ in 0..158 {
-        script.push_str("put 0 1 2 aa\n")?;
-        out.push_str("ok\n")?;
+impl Texts {
+    fn push(&mut self, lines: Lines) -> Result<(), AllocError> {
+        let (times, script, out, binlog) = lines;
+        for n in 0..times {
+            push_nth(&mut self.script, script, n, times)?;
+            push_nth(&mut self.out, out, n, times)?;
+            push_nth(&mut self.binlog, binlog, n, times)?;
+        }
+        Ok(())
     }
-    script.push_str("put 0 1 2 bb\nget 0 1 18446744073709551615\n")?;
-    out.push_str("refused E6\nvalue -\n")?;
-    Ok(MostChanges { script, out })
 }
 
-#[test]
-fn commits_the_most_changes(rt: HostRuntime) -> Result<(), Fail> {
-    let alloc = rt.alloc();
-    let MostChanges {
-        mut script,
-        mut out,
-    } = most_changes(alloc)?;
-    script.push_str("commit 0\nclone\nrows\n")?;
-    out.push_str("committed 1\ncomplete position 1\n")?;
-    out.push_str(
-        "1 1 abababababababababababababababababababababababababababababababababababababababababababababababababababababababababababababababab\n1 2 aa\n1 18446744073709551615 -\nrows 3\n",
-    )?;
-    let mut binlog = String::from_str(alloc, "commit 0 0 160\n")?;
-    binlog.push_str(LONG_CHANGES)?;
-    for _ in 0..158 {
-        binlog.push_str("1 2 aa\n")?;
+fn texts_of(alloc: Global, parts: &[Lines]) -> Result<Texts, AllocError> {
+    let mut texts = Texts {
+        script: String::new(alloc),
+        out: String::new(alloc),
+        binlog: String::new(alloc),
+    };
+    for lines in parts {
+        texts.push(*lines)?;
     }
-    run(alloc, &["steps"], script.as_bytes())?.expect(&rt, 0, out.as_str(), binlog.as_str());
+    Ok(texts)
+}
+
+fn carries_out(rt: &impl Abort, alloc: Global, parts: &[Lines]) -> Result<(), AllocError> {
+    let texts = texts_of(alloc, parts)?;
+    let ended = run(alloc, &["steps"], texts.script.as_bytes())?;
+    ended.expect(rt, 0, texts.out.as_str(), texts.binlog.as_str());
     Ok(())
 }
 
 #[test]
-fn takes_back_the_most_changes(rt: HostRuntime) -> Result<(), Fail> {
-    let alloc = rt.alloc();
-    let MostChanges {
-        mut script,
-        mut out,
-    } = most_changes(alloc)?;
-    for left in (0..160u32).rev() {
-        script.push_str("undo 0\n")?;
-        write!(out, "undone {left}\n")?;
+fn carries_out_long_scripts(rt: HostRuntime) -> Result<(), Fail> {
+    for parts in LONG_SCRIPTS {
+        carries_out(&rt, rt.alloc(), parts)?;
     }
-    script.push_str("undo 0\nclone\nrows\n")?;
-    out.push_str("ended\ncomplete position 0\nrows 0\n")?;
-    run(alloc, &["steps"], script.as_bytes())?.expect(&rt, 0, out.as_str(), "");
     Ok(())
 }
 
-#[test]
-fn refuses_one_transaction_too_many(rt: HostRuntime) -> Result<(), Fail> {
-    let alloc = rt.alloc();
-    let mut script = String::from_str(alloc, "create 1 1\n")?;
-    let mut out = String::from_str(alloc, "created\n")?;
-    for trx in 0..64u32 {
-        script.push_str("begin 0\n")?;
-        write!(out, "trx {trx}\n")?;
-    }
-    script.push_str("begin 0\nset 0 1 1 aa\ncommit 9\nset 0 1 1 aa\n")?;
-    out.push_str("refused E10\nrefused E10\ncommitted 1\ncommitted 2\n")?;
-    let binlog = "commit 0 9 0\ncommit 0 64 1\n1 1 aa\n";
-    run(alloc, &["steps"], script.as_bytes())?.expect(&rt, 0, out.as_str(), binlog);
-    Ok(())
+/// What fails in a run.
+#[derive(Clone, Copy)]
+enum Failing {
+    Source,
+    Out,
+    Binlog,
 }
 
-#[test]
-fn refuses_one_table_too_many(rt: HostRuntime) -> Result<(), Fail> {
-    let alloc = rt.alloc();
-    let mut script = String::new(alloc);
-    let mut out = String::new(alloc);
-    for table in 1..=62u32 {
-        write!(script, "create {table} 1\n")?;
-        out.push_str("created\n")?;
+// The run of a word over a script ends with this status and this output once that call fails.
+fn ends_by_a_fault(
+    rt: &impl Abort,
+    alloc: Global,
+    (word, script): (&str, &[u8]),
+    (failing, call): (Failing, u64),
+    (status, taken): (u8, &str),
+) -> Result<(), Fail> {
+    let mut source = source_of(alloc, script)?;
+    let mut out = MemSink::new(alloc);
+    let mut binlog = MemSink::new(alloc);
+    match failing {
+        Failing::Source => source.fail_at(call)?,
+        Failing::Out => out.fail_at(call)?,
+        Failing::Binlog => binlog.fail_at(call)?,
     }
-    script.push_str("create 63 1\ncreate 62 1\nset 0 62 1 aa\nclone\nrows\n")?;
-    out.push_str("refused E11\nrefused E3\ncommitted 1\ncomplete position 1\n62 1 aa\nrows 1\n")?;
-    let binlog = "commit 0 0 1\n62 1 aa\n";
-    run(alloc, &["steps"], script.as_bytes())?.expect(&rt, 0, out.as_str(), binlog);
+    run_over(alloc, &[word], &mut source, out, binlog)?.expect(rt, status, taken, "");
     Ok(())
 }
 
 // A script of 5,000 bytes takes two reads, and a third finds the end.
 #[test]
 fn ends_where_the_source_fails(rt: HostRuntime) -> Result<(), Fail> {
-    let alloc = rt.alloc();
-    let script = vec![in alloc; b'#'; 5_000]?;
+    let script = vec![in rt.alloc(); b'#'; 5_000]?;
     for call in 1..=3 {
-        let mut source = source_of(alloc, &script)?;
-        source.fail_at(call)?;
-        let ended = run_over(
-            alloc,
-            &["steps"],
-            &mut source,
-            MemSink::new(alloc),
-            MemSink::new(alloc),
+        let fault = (Failing::Source, call);
+        ends_by_a_fault(
+            &rt,
+            rt.alloc(),
+            ("steps", &script),
+            fault,
+            (4, "source fault\n"),
         )?;
-        ended.expect(&rt, 4, "source fault\n", "");
     }
     Ok(())
 }
 
-#[test]
-fn ends_where_the_output_fails(rt: HostRuntime) -> Result<(), Fail> {
-    let alloc = rt.alloc();
-    let cases = [
-        ("steps", 1, ""),
-        ("steps", 2, "created\n"),
-        ("steps", 3, "created\ncommitted 1\n"),
-        ("steps", 4, "created\ncommitted 1\ncomplete position 1\n"),
-        ("stop", 1, ""),
-    ];
-    for (word, call, taken) in cases {
-        let mut source = source_of(alloc, PLAINEST.as_bytes())?;
-        let mut out = MemSink::new(alloc);
-        out.fail_at(call)?;
-        let ended = run_over(alloc, &[word], &mut source, out, MemSink::new(alloc))?;
-        ended.expect(&rt, 5, taken, "");
-    }
-    Ok(())
-}
+const SINK_FAULTS: [(&str, (Failing, u64), &str); 6] = [
+    ("steps", (Failing::Out, 1), ""),
+    ("steps", (Failing::Out, 2), "created\n"),
+    ("steps", (Failing::Out, 3), "created\ncommitted 1\n"),
+    (
+        "steps",
+        (Failing::Out, 4),
+        "created\ncommitted 1\ncomplete position 1\n",
+    ),
+    ("stop", (Failing::Out, 1), ""),
+    ("steps", (Failing::Binlog, 1), PLAINEST_OUT),
+];
 
 #[test]
-fn ends_where_the_binlog_fails(rt: HostRuntime) -> Result<(), Fail> {
-    let alloc = rt.alloc();
-    let mut source = source_of(alloc, PLAINEST.as_bytes())?;
-    let mut binlog = MemSink::new(alloc);
-    binlog.fail_at(1)?;
-    let ended = run_over(alloc, &["steps"], &mut source, MemSink::new(alloc), binlog)?;
-    ended.expect(&rt, 5, PLAINEST_OUT, "");
+fn ends_where_a_sink_fails(rt: HostRuntime) -> Result<(), Fail> {
+    for (word, fault, taken) in SINK_FAULTS {
+        let script = PLAINEST.as_bytes();
+        ends_by_a_fault(&rt, rt.alloc(), (word, script), fault, (5, taken))?;
+    }
     Ok(())
 }
 

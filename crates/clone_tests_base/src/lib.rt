@@ -1,4 +1,5 @@
-//! The tests of the crates at the bottom: values and texts, chunks, pages, and what lies outside. They stand apart, since a crate with tests is proved twice.
+//! The tests of the crates at the bottom: values and texts, chunks, pages, and what lies outside.
+//! They stand apart, since a crate with tests is proved twice.
 #![tactic(auto)]
 
 #[cfg(test)]

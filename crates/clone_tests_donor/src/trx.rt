@@ -1,19 +1,18 @@
-use clone_trx::Engine;
 use clone_model::{BucketCount, TableNumber, Value, push_value};
 use clone_plain::{Cause, EngineRefusal, Undone};
+use clone_trx::Engine;
 use std::alloc::{AllocError, Global};
 use std::process::Abort;
 use std::test::Fail;
 
 mod calls;
-mod causes;
 mod plain;
 mod vectors;
 mod walk;
 
 /// A call of an engine.
 #[derive(Clone, Copy)]
-enum Call<'a> {
+pub enum Call<'a> {
     // a table and its buckets
     Create(u32, u32),
     // a writer and the index of its transaction
@@ -28,128 +27,81 @@ enum Call<'a> {
     Commit(u32),
 }
 
+/// What a call answered that wasn't refused.
+#[derive(Debug, PartialEq, Drop)]
+pub enum Answer {
+    Created,
+    // the number of the transaction
+    Begun(u32),
+    Changed,
+    Shown(Option<Value>),
+    TakenBack(Undone),
+    // the number of commits
+    Committed(u64),
+}
+
 /// An engine, each of whose calls answers, or names the cause against it. Want of memory is an error.
 #[derive(Drop)]
-struct Tried {
-    engine: Engine,
-    alloc: Global,
+pub struct Tried {
+    pub engine: Engine,
+    pub alloc: Global,
 }
 
 impl Tried {
-    fn new(alloc: Global) -> Result<Tried, AllocError> {
+    pub fn new(alloc: Global) -> Result<Tried, AllocError> {
         let engine = Engine::new(alloc)?;
         Ok(Tried { engine, alloc })
     }
 
-    fn create(&mut self, table: u32, buckets: u32) -> Result<Result<(), Cause>, Fail> {
-        let table = TableNumber::new(table).ok_or("no number of a table")?;
-        let buckets = BucketCount::new(buckets).ok_or("no number of buckets")?;
-        Ok(answered(self.engine.create(self.alloc, table, buckets))?)
-    }
-
-    fn begin(&mut self, writer: u32, index: u64) -> Result<Result<u32, Cause>, AllocError> {
-        answered(self.engine.begin(self.alloc, writer, index))
-    }
-
-    fn put(
-        &mut self,
-        trx: u32,
-        table: u32,
-        key: u64,
-        value: &[u8],
-    ) -> Result<Result<(), Cause>, AllocError> {
-        answered(self.engine.put(self.alloc, trx, table, key, value))
-    }
-
-    fn delete(&mut self, trx: u32, table: u32, key: u64) -> Result<Result<(), Cause>, AllocError> {
-        answered(self.engine.delete(self.alloc, trx, table, key))
-    }
-
-    fn get(
-        &self,
-        trx: u32,
-        table: u32,
-        key: u64,
-    ) -> Result<Result<Option<Value>, Cause>, AllocError> {
-        answered(self.engine.get(trx, table, key))
-    }
-
-    fn undo_one(&mut self, trx: u32) -> Result<Result<Undone, Cause>, AllocError> {
-        answered(self.engine.undo_one(self.alloc, trx))
-    }
-
-    fn commit(&mut self, trx: u32) -> Result<Result<u64, Cause>, AllocError> {
-        answered(self.engine.commit(self.alloc, trx))
-    }
-
-    // How many bytes the log has.
-    fn redo_len(&self) -> usize {
-        self.engine.redo().len()
-    }
-
-    // The log ends with these bytes, which begin there.
-    fn assert_end(&self, rt: &impl Abort, at: usize, bytes: &[u8]) {
-        assert_eq!(rt; self.engine.redo().get(at..), Some(bytes));
-    }
-
-    // Makes a call, and says its answer as a script does.
-    fn said(&mut self, call: Call) -> Result<String, Fail> {
-        let alloc = self.alloc;
-        Ok(match call {
-            Call::Create(table, buckets) => done(alloc, self.create(table, buckets)?, "created")?,
-            Call::Begin(writer, index) => {
-                let trx = self.begin(writer, index)?.map(|trx| trx as u64);
-                counted(alloc, "trx", trx)?
+    pub fn answer(&mut self, call: Call) -> Result<Result<Answer, Cause>, Fail> {
+        let (alloc, engine) = (self.alloc, &mut self.engine);
+        let answer = match call {
+            Call::Create(table, buckets) => {
+                let table = TableNumber::new(table).ok_or("no number of a table")?;
+                let buckets = BucketCount::new(buckets).ok_or("no number of buckets")?;
+                engine
+                    .create(alloc, table, buckets)
+                    .map(|()| Answer::Created)
             }
-            Call::Put(trx, table, key, value) => {
-                done(alloc, self.put(trx, table, key, value)?, "ok")?
-            }
-            Call::Delete(trx, table, key) => done(alloc, self.delete(trx, table, key)?, "ok")?,
-            Call::Get(trx, table, key) => shown(alloc, self.get(trx, table, key)?)?,
-            Call::Undo(trx) => taken_back(alloc, self.undo_one(trx)?)?,
-            Call::Commit(trx) => counted(alloc, "committed", self.commit(trx)?)?,
-        })
+            Call::Begin(writer, index) => engine.begin(alloc, writer, index).map(Answer::Begun),
+            Call::Put(trx, table, key, value) => engine
+                .put(alloc, trx, table, key, value)
+                .map(|()| Answer::Changed),
+            Call::Delete(trx, table, key) => engine
+                .delete(alloc, trx, table, key)
+                .map(|()| Answer::Changed),
+            Call::Get(trx, table, key) => engine.get(trx, table, key).map(Answer::Shown),
+            Call::Undo(trx) => engine.undo_one(alloc, trx).map(Answer::TakenBack),
+            Call::Commit(trx) => engine.commit(alloc, trx).map(Answer::Committed),
+        };
+        Ok(answered(answer)?)
     }
 
-    // Makes calls, each of which has this answer.
-    fn expect(&mut self, rt: &impl Abort, steps: &[(Call, &str)]) -> Result<(), Fail> {
+    // Makes calls, each of which has this answer, in the words of a script.
+    pub fn expect(&mut self, rt: &impl Abort, steps: &[(Call, &str)]) -> Result<(), Fail> {
         for (call, text) in steps {
-            assert_eq!(rt; self.said(*call)?.as_str(), *text);
+            let answer = self.answer(*call)?;
+            assert_eq!(rt; text_of(self.alloc, answer)?.as_str(), *text);
         }
         Ok(())
     }
 }
 
-fn done(alloc: Global, answer: Result<(), Cause>, text: &str) -> Result<String, AllocError> {
+// The answer as a script says it.
+fn text_of(alloc: Global, answer: Result<Answer, Cause>) -> Result<String, AllocError> {
     match answer {
-        Ok(()) => String::from_str(alloc, text),
-        Err(cause) => format!(in alloc; "{cause}"),
-    }
-}
-
-fn counted(alloc: Global, word: &str, answer: Result<u64, Cause>) -> Result<String, AllocError> {
-    match answer {
-        Ok(number) => format!(in alloc; "{word} {number}"),
-        Err(cause) => format!(in alloc; "{cause}"),
-    }
-}
-
-fn shown(alloc: Global, answer: Result<Option<Value>, Cause>) -> Result<String, AllocError> {
-    match answer {
-        Ok(None) => String::from_str(alloc, "none"),
-        Ok(Some(value)) => {
+        Ok(Answer::Created) => String::from_str(alloc, "created"),
+        Ok(Answer::Begun(trx)) => format!(in alloc; "trx {trx}"),
+        Ok(Answer::Changed) => String::from_str(alloc, "ok"),
+        Ok(Answer::Shown(None)) => String::from_str(alloc, "none"),
+        Ok(Answer::Shown(Some(value))) => {
             let mut text = String::from_str(alloc, "value ")?;
             push_value(&mut text, value.bytes())?;
             Ok(text)
         }
-        Err(cause) => format!(in alloc; "{cause}"),
-    }
-}
-
-fn taken_back(alloc: Global, answer: Result<Undone, Cause>) -> Result<String, AllocError> {
-    match answer {
-        Ok(Undone::Left(left)) => format!(in alloc; "undone {left}"),
-        Ok(Undone::Ended) => String::from_str(alloc, "ended"),
+        Ok(Answer::TakenBack(Undone::Left(left))) => format!(in alloc; "undone {left}"),
+        Ok(Answer::TakenBack(Undone::Ended)) => String::from_str(alloc, "ended"),
+        Ok(Answer::Committed(position)) => format!(in alloc; "committed {position}"),
         Err(cause) => format!(in alloc; "{cause}"),
     }
 }

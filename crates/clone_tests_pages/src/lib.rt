@@ -1,4 +1,5 @@
-//! The tests of what changes pages: mini-transactions, images, stores and recovery. They stand apart, since a crate with tests is proved twice.
+//! The tests of what changes pages: mini-transactions, images, stores and recovery.
+//! They stand apart, since a crate with tests is proved twice.
 #![tactic(auto)]
 
 #[cfg(test)]

@@ -1,4 +1,5 @@
-//! The tests of the frames that a clone is asked for and answered by. They stand apart, since a crate with tests is proved twice.
+//! The tests of the frames that a clone is asked for and answered by.
+//! They stand apart, since a crate with tests is proved twice.
 #![tactic(auto)]
 
 #[cfg(test)]

@@ -1,92 +1,302 @@
-use crate::trx::{Call, Tried};
+use crate::trx::vectors::{NEXT_PAGE, ONE_ROW, TAKING_BACK};
+use crate::trx::{Answer, Call, Tried};
+use std::process::Abort;
 use std::test::Fail;
 
-#[test]
-fn transactions_get_the_least_number(rt: HostRuntime) -> Result<(), Fail> {
-    let mut tried = Tried::new(rt.alloc())?;
-    for trx in 0..64 {
-        assert_eq!(rt; tried.begin(trx, 0)?, Ok(trx));
+/// A call with its answer, in the words of a script.
+pub type Step = (Call<'static>, &'static str);
+
+/// A call that is made often, each time with another number.
+#[derive(Clone, Copy)]
+enum Often {
+    // begins a transaction, whose number is the answer
+    Begins,
+    Creates,
+    // gives one row its value
+    Puts,
+    // gives another row of one bucket its value
+    PutsOthers,
+}
+
+/// What the log has in the end.
+#[derive(Clone, Copy)]
+enum Log {
+    Any,
+    Long(usize),
+    // from there on it has these bytes
+    Ends(usize, &'static [&'static [u8]]),
+}
+
+/// Calls of a new engine: the first, one that comes so many times, and the last.
+#[derive(Clone, Copy)]
+struct Case {
+    first: &'static [Step],
+    often: (u32, Often),
+    last: &'static [Step],
+    log: Log,
+}
+
+const CASES: [Case; 11] = [
+    Case {
+        first: &LOCKS_UNTIL_A_COMMIT,
+        often: (0, Often::Puts),
+        last: &[],
+        log: Log::Any,
+    },
+    Case {
+        first: &LOCKS_UNTIL_AN_END,
+        often: (0, Often::Puts),
+        last: &[],
+        log: Log::Any,
+    },
+    Case {
+        first: &TAKEN_BACK,
+        often: (0, Often::Puts),
+        last: &[],
+        log: Log::Any,
+    },
+    Case {
+        first: &CAUSES,
+        often: (0, Often::Puts),
+        last: &[],
+        log: Log::Any,
+    },
+    Case {
+        first: &[],
+        often: (64, Often::Begins),
+        last: &TRANSACTIONS,
+        log: Log::Any,
+    },
+    Case {
+        first: &[],
+        often: (62, Often::Creates),
+        last: &TABLES,
+        log: Log::Any,
+    },
+    Case {
+        first: &A_TRANSACTION_AND_A_ROW,
+        often: (160, Often::Puts),
+        last: &AFTER_THE_LAST_CHANGE,
+        // three changes begin an undo page, and one the bucket's page
+        log: Log::Long(21 + 39 + 2 * 41 + 4 * 229 + 157 * 218),
+    },
+    Case {
+        first: &TWO_TRANSACTIONS,
+        often: (50, Often::PutsOthers),
+        last: &AFTER_THE_LAST_KEY,
+        log: Log::Any,
+    },
+    Case {
+        first: &WITH_ROW,
+        often: (0, Often::Puts),
+        last: &BEGUN_AGAIN,
+        log: Log::Ends(0, &ONE_ROW),
+    },
+    Case {
+        first: &WITH_ROW,
+        often: (0, Often::Puts),
+        last: &ALL_TAKEN_BACK,
+        log: Log::Ends(330, &TAKING_BACK),
+    },
+    Case {
+        first: &WITH_ROW,
+        often: (39, Often::Puts),
+        last: &[(Call::Put(0, 1, 6, b"hi"), "ok")],
+        // behind 39 puts of 218 bytes
+        log: Log::Ends(330 + 39 * 218, &NEXT_PAGE),
+    },
+];
+
+const LOCKS_UNTIL_A_COMMIT: [Step; 14] = [
+    (Call::Create(1, 4), "created"),
+    (Call::Begin(0, 0), "trx 0"),
+    (Call::Begin(1, 0), "trx 1"),
+    (Call::Put(1, 1, 7, b"hi"), "ok"),
+    (Call::Put(0, 1, 7, b"ho"), "refused E4 1"),
+    (Call::Delete(0, 1, 7), "refused E4 1"),
+    (Call::Get(0, 1, 7), "refused E4 1"),
+    (Call::Put(0, 1, 11, b"ha"), "ok"),
+    (Call::Commit(1), "committed 1"),
+    (Call::Commit(1), "refused E1"),
+    (Call::Get(0, 1, 7), "value 6869"),
+    (Call::Delete(0, 1, 7), "ok"),
+    (Call::Get(0, 1, 7), "none"),
+    (Call::Commit(0), "committed 2"),
+];
+
+const LOCKS_UNTIL_AN_END: [Step; 10] = [
+    (Call::Create(1, 4), "created"),
+    (Call::Begin(0, 0), "trx 0"),
+    (Call::Begin(1, 0), "trx 1"),
+    (Call::Put(1, 1, 7, b"hi"), "ok"),
+    (Call::Undo(1), "undone 0"),
+    // the lock stays until the end
+    (Call::Put(0, 1, 7, b"ho"), "refused E4 1"),
+    (Call::Undo(1), "ended"),
+    (Call::Get(0, 1, 7), "none"),
+    (Call::Put(0, 1, 7, b"ho"), "ok"),
+    (Call::Get(0, 1, 7), "value 686f"),
+];
+
+const TAKEN_BACK: [Step; 12] = [
+    (Call::Create(1, 4), "created"),
+    (Call::Begin(0, 0), "trx 0"),
+    (Call::Put(0, 1, 7, b"hi"), "ok"),
+    (Call::Commit(0), "committed 1"),
+    (Call::Begin(0, 1), "trx 0"),
+    (Call::Delete(0, 1, 7), "ok"),
+    (Call::Put(0, 1, 7, b""), "ok"),
+    (Call::Get(0, 1, 7), "value -"),
+    (Call::Undo(0), "undone 1"),
+    (Call::Get(0, 1, 7), "none"),
+    (Call::Undo(0), "undone 0"),
+    (Call::Get(0, 1, 7), "value 6869"),
+];
+
+// one byte longer than a value may be
+const TOO_LONG: &[u8] = b"aaaaaaaaaaaaaaaaaaaaaaaaaaaaaaaaaaaaaaaaaaaaaaaaaaaaaaaaaaaaaaaaa";
+
+// the causes in their order
+const CAUSES: [Step; 12] = [
+    (Call::Create(1, 1), "created"),
+    (Call::Begin(0, 0), "trx 0"),
+    (Call::Put(2, 9, 7, TOO_LONG), "refused E1"),
+    (Call::Put(0, 9, 7, TOO_LONG), "refused E5"),
+    (Call::Put(0, 9, 7, b"hi"), "refused E2"),
+    // the system space is no table
+    (Call::Put(0, 0, 7, b"hi"), "refused E2"),
+    (Call::Delete(2, 9, 7), "refused E1"),
+    (Call::Delete(0, 0, 7), "refused E2"),
+    (Call::Get(2, 9, 7), "refused E1"),
+    (Call::Get(0, 0, 7), "refused E2"),
+    (Call::Undo(2), "refused E1"),
+    (Call::Commit(2), "refused E1"),
+];
+
+// Transactions get the least number that is free.
+const TRANSACTIONS: [Step; 5] = [
+    (Call::Begin(0, 8), "refused E10"),
+    (Call::Undo(5), "ended"),
+    (Call::Undo(5), "refused E1"),
+    (Call::Begin(0, 8), "trx 5"),
+    (Call::Begin(0, 9), "refused E10"),
+];
+
+const TABLES: [Step; 2] = [
+    (Call::Create(63, 1), "refused E11"),
+    (Call::Create(16000, 2), "refused E3"),
+];
+
+const A_TRANSACTION_AND_A_ROW: [Step; 4] = [
+    (Call::Create(1, 1), "created"),
+    (Call::Begin(0, 0), "trx 0"),
+    (Call::Begin(0, 1), "trx 1"),
+    (Call::Put(1, 1, 8, b"hi"), "ok"),
+];
+
+const AFTER_THE_LAST_CHANGE: [Step; 4] = [
+    (Call::Put(0, 1, 7, b"hi"), "refused E6"),
+    // before the lock of another
+    (Call::Delete(0, 1, 8), "refused E6"),
+    // behind the causes before it
+    (Call::Put(0, 1, 7, TOO_LONG), "refused E5"),
+    (Call::Delete(0, 2, 7), "refused E2"),
+];
+
+const TWO_TRANSACTIONS: [Step; 3] = [
+    (Call::Create(1, 2), "created"),
+    (Call::Begin(0, 0), "trx 0"),
+    (Call::Begin(0, 1), "trx 1"),
+];
+
+const AFTER_THE_LAST_KEY: [Step; 7] = [
+    (Call::Put(0, 1, 101, b"hi"), "refused E7"),
+    (Call::Delete(1, 1, 101), "refused E7"),
+    // the lock of another comes before
+    (Call::Put(1, 1, 99, b"hi"), "refused E4 0"),
+    // a key that has a place, and the other bucket
+    (Call::Put(0, 1, 99, b"ho"), "ok"),
+    (Call::Put(0, 1, 100, b"ho"), "ok"),
+    (Call::Get(0, 1, 99), "value 686f"),
+    (Call::Get(0, 1, 101), "none"),
+];
+
+// The open transaction 0 gave key 7 the value "hi", and the log has 330 bytes.
+const WITH_ROW: [Step; 3] = [
+    (Call::Create(1, 4), "created"),
+    (Call::Begin(0, 0), "trx 0"),
+    (Call::Put(0, 1, 7, b"hi"), "ok"),
+];
+
+const BEGUN_AGAIN: [Step; 2] = [
+    (Call::Commit(0), "committed 1"),
+    (Call::Begin(3, 1), "trx 0"),
+];
+
+const ALL_TAKEN_BACK: [Step; 4] = [
+    (Call::Put(0, 1, 7, b"ho"), "ok"),
+    (Call::Undo(0), "undone 1"),
+    (Call::Undo(0), "undone 0"),
+    (Call::Undo(0), "ended"),
+];
+
+// The nth such call, counted from 0, and its answer.
+fn nth(often: Often, n: u32) -> (Call<'static>, Answer) {
+    match often {
+        Often::Begins => (Call::Begin(n, 0), Answer::Begun(n)),
+        Often::Creates => {
+            let table = n.wrapping_add(1).wrapping_mul(16000);
+            (Call::Create(table, 1), Answer::Created)
+        }
+        Often::Puts => (Call::Put(0, 1, 7, b"hi"), Answer::Changed),
+        Often::PutsOthers => {
+            let key = n.wrapping_mul(2).wrapping_add(1) as u64;
+            (Call::Put(0, 1, key, b"hi"), Answer::Changed)
+        }
     }
-    let steps = [
-        (Call::Begin(0, 8), "refused E10"),
-        (Call::Undo(5), "ended"),
-        (Call::Undo(5), "refused E1"),
-        (Call::Begin(0, 8), "trx 5"),
-        (Call::Begin(0, 9), "refused E10"),
-    ];
-    tried.expect(&rt, &steps)
 }
 
-#[test]
-fn tables_up_to_the_last(rt: HostRuntime) -> Result<(), Fail> {
-    let mut tried = Tried::new(rt.alloc())?;
-    for number in 1..63 {
-        assert_eq!(rt; tried.create(number * 16000, 1)?, Ok(()));
+fn repeat(rt: &impl Abort, tried: &mut Tried, often: (u32, Often)) -> Result<(), Fail> {
+    let (times, often) = often;
+    for n in 0..times {
+        let (call, answer) = nth(often, n);
+        assert_eq!(rt; tried.answer(call)?, Ok(answer));
     }
-    let steps = [
-        (Call::Create(63, 1), "refused E11"),
-        (Call::Create(16000, 2), "refused E3"),
-    ];
-    tried.expect(&rt, &steps)
+    Ok(())
+}
+
+fn expect_log(rt: &impl Abort, tried: &Tried, log: Log) -> Result<(), Fail> {
+    match log {
+        Log::Any => Ok(()),
+        Log::Long(length) => {
+            assert_eq!(rt; tried.engine.redo().len(), length);
+            Ok(())
+        }
+        Log::Ends(at, parts) => expect_end(rt, tried, at, parts),
+    }
+}
+
+fn expect_end(rt: &impl Abort, tried: &Tried, at: usize, parts: &[&[u8]]) -> Result<(), Fail> {
+    let mut bytes = Vec::new(tried.alloc);
+    for part in parts {
+        bytes.extend_from_slice(part)?;
+    }
+    assert_eq!(rt; tried.engine.redo().get(at..), Some(bytes.as_slice()));
+    Ok(())
+}
+
+fn walk_case(rt: &impl Abort, tried: &mut Tried, case: Case) -> Result<(), Fail> {
+    tried.expect(rt, case.first)?;
+    repeat(rt, tried, case.often)?;
+    tried.expect(rt, case.last)?;
+    expect_log(rt, tried, case.log)
 }
 
 #[test]
-fn a_commit_releases_the_locks(rt: HostRuntime) -> Result<(), Fail> {
-    let mut tried = Tried::new(rt.alloc())?;
-    let steps = [
-        (Call::Create(1, 4), "created"),
-        (Call::Begin(0, 0), "trx 0"),
-        (Call::Begin(1, 0), "trx 1"),
-        (Call::Put(1, 1, 7, b"hi".as_slice()), "ok"),
-        (Call::Put(0, 1, 7, b"ho".as_slice()), "refused E4 1"),
-        (Call::Delete(0, 1, 7), "refused E4 1"),
-        (Call::Get(0, 1, 7), "refused E4 1"),
-        (Call::Put(0, 1, 11, b"ha".as_slice()), "ok"),
-        (Call::Commit(1), "committed 1"),
-        (Call::Commit(1), "refused E1"),
-        (Call::Get(0, 1, 7), "value 6869"),
-        (Call::Delete(0, 1, 7), "ok"),
-        (Call::Get(0, 1, 7), "none"),
-        (Call::Commit(0), "committed 2"),
-    ];
-    tried.expect(&rt, &steps)
-}
-
-#[test]
-fn an_end_without_a_commit_releases_the_locks(rt: HostRuntime) -> Result<(), Fail> {
-    let mut tried = Tried::new(rt.alloc())?;
-    let steps = [
-        (Call::Create(1, 4), "created"),
-        (Call::Begin(0, 0), "trx 0"),
-        (Call::Begin(1, 0), "trx 1"),
-        (Call::Put(1, 1, 7, b"hi".as_slice()), "ok"),
-        (Call::Undo(1), "undone 0"),
-        // the lock stays until the end
-        (Call::Put(0, 1, 7, b"ho".as_slice()), "refused E4 1"),
-        (Call::Undo(1), "ended"),
-        (Call::Get(0, 1, 7), "none"),
-        (Call::Put(0, 1, 7, b"ho".as_slice()), "ok"),
-        (Call::Get(0, 1, 7), "value 686f"),
-    ];
-    tried.expect(&rt, &steps)
-}
-
-#[test]
-fn taken_back_to_what_was_there(rt: HostRuntime) -> Result<(), Fail> {
-    let mut tried = Tried::new(rt.alloc())?;
-    let steps = [
-        (Call::Create(1, 4), "created"),
-        (Call::Begin(0, 0), "trx 0"),
-        (Call::Put(0, 1, 7, b"hi".as_slice()), "ok"),
-        (Call::Commit(0), "committed 1"),
-        (Call::Begin(0, 1), "trx 0"),
-        (Call::Delete(0, 1, 7), "ok"),
-        (Call::Put(0, 1, 7, b"".as_slice()), "ok"),
-        (Call::Get(0, 1, 7), "value -"),
-        (Call::Undo(0), "undone 1"),
-        (Call::Get(0, 1, 7), "none"),
-        (Call::Undo(0), "undone 0"),
-        (Call::Get(0, 1, 7), "value 6869"),
-    ];
-    tried.expect(&rt, &steps)
+fn calls_and_their_answers(rt: HostRuntime) -> Result<(), Fail> {
+    for case in CASES {
+        let mut tried = Tried::new(rt.alloc())?;
+        walk_case(&rt, &mut tried, case)?;
+    }
+    Ok(())
 }

@@ -1,6 +1,7 @@
 mod table;
 
 use crate::trx::plain::table::Table;
+use crate::trx::{Answer, Call};
 use clone_model::{Binlog, Change, Changes, Commit, Tables, Value, fold};
 use clone_plain::{
     CHANGE_LIMIT, Cause, EngineRefusal, TABLE_LIMIT, TRANSACTION_LIMIT, Undone, VALUE_LIMIT,
@@ -40,8 +41,27 @@ impl Plain {
         fold(alloc, self.history.as_slice())
     }
 
-    /// Makes a table of so many buckets.
-    pub fn create(&mut self, alloc: Global, table: u32, count: u32) -> Result<(), EngineRefusal> {
+    /// Makes a call.
+    pub fn answer(&mut self, alloc: Global, call: Call) -> Result<Answer, EngineRefusal> {
+        match call {
+            Call::Create(table, count) => {
+                self.create(alloc, table, count).map(|()| Answer::Created)
+            }
+            Call::Begin(writer, index) => self.begin(alloc, writer, index).map(Answer::Begun),
+            Call::Put(trx, table, key, bytes) => self
+                .put(alloc, trx, table, key, bytes)
+                .map(|()| Answer::Changed),
+            Call::Delete(trx, table, key) => self
+                .delete(alloc, trx, table, key)
+                .map(|()| Answer::Changed),
+            Call::Get(trx, table, key) => self.get(alloc, trx, table, key).map(Answer::Shown),
+            Call::Undo(trx) => self.undo_one(trx).map(Answer::TakenBack),
+            Call::Commit(trx) => self.commit(trx).map(Answer::Committed),
+        }
+    }
+
+    // Makes a table of so many buckets.
+    fn create(&mut self, alloc: Global, table: u32, count: u32) -> Result<(), EngineRefusal> {
         if self.tables.contains_key(&table) {
             return Err(Cause::TableExists.into());
         }
@@ -55,8 +75,8 @@ impl Plain {
         }
     }
 
-    /// Begins a transaction, and answers its number.
-    pub fn begin(&mut self, alloc: Global, writer: u32, index: u64) -> Result<u32, EngineRefusal> {
+    // Begins a transaction, and answers its number.
+    fn begin(&mut self, alloc: Global, writer: u32, index: u64) -> Result<u32, EngineRefusal> {
         for trx in 0..TRANSACTION_LIMIT {
             if !self.active.contains_key(&trx) {
                 let changes = Changes::new(alloc);
@@ -74,8 +94,8 @@ impl Plain {
         Err(Cause::TooManyTransactions.into())
     }
 
-    /// Gives a row its value and locks it.
-    pub fn put(
+    // Gives a row its value and locks it.
+    fn put(
         &mut self,
         alloc: Global,
         trx: u32,
@@ -92,8 +112,8 @@ impl Plain {
         Ok(())
     }
 
-    /// Removes a row and locks it.
-    pub fn delete(
+    // Removes a row and locks it.
+    fn delete(
         &mut self,
         alloc: Global,
         trx: u32,
@@ -149,8 +169,8 @@ impl Plain {
         Ok(())
     }
 
-    /// The row's value once all commits and then the transaction's changes are applied to no rows.
-    pub fn get(
+    // The row's value once all commits and then the transaction's changes are applied to no rows.
+    fn get(
         &self,
         alloc: Global,
         trx: u32,
@@ -169,8 +189,8 @@ impl Plain {
         Ok(rows.get(table, key))
     }
 
-    /// Takes the last change of a transaction back, or ends it.
-    pub fn undo_one(&mut self, trx: u32) -> Result<Undone, EngineRefusal> {
+    // Takes the last change of a transaction back, or ends it.
+    fn undo_one(&mut self, trx: u32) -> Result<Undone, EngineRefusal> {
         let Some(commit) = self.active.get(&trx) else {
             return Err(Cause::NoSuchTrx.into());
         };
@@ -185,8 +205,8 @@ impl Plain {
         Ok(Undone::Left(u16::try_from(left).unwrap_or(u16::MAX)))
     }
 
-    /// Commits all changes of a transaction, and answers the new number of commits.
-    pub fn commit(&mut self, trx: u32) -> Result<u64, EngineRefusal> {
+    // Commits all changes of a transaction, and answers the new number of commits.
+    fn commit(&mut self, trx: u32) -> Result<u64, EngineRefusal> {
         let Some(commit) = self.active.remove(&trx) else {
             return Err(Cause::NoSuchTrx.into());
         };

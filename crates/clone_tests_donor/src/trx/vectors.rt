@@ -1,8 +1,3 @@
-use crate::trx::{Call, Tried};
-use std::alloc::{AllocError, Global};
-use std::process::Abort;
-use std::test::Fail;
-
 // The system space of 257 pages, and its first page.
 const OPENING: [u8; 21] = [
     4, 0, 0, 0, 0, 0, 0, 1, 1, // 257 pages in space 0
@@ -111,107 +106,41 @@ const ROW_ON_NEXT: [u8; 57] = [
     0, 0, 0, 0, 0, 0, 0, 6, 104, 105,
 ];
 
-// A put of "hi" at key 7, in an undo page that is in use and a bucket page that isn't.
-fn put_bytes(alloc: Global) -> Result<Vec<u8>, AllocError> {
-    let mut bytes = Vec::from_slice(alloc, &UNDO)?;
-    bytes.extend_from_slice(&[0; 72])?;
-    bytes.extend_from_slice(&ROW)?;
-    bytes.extend_from_slice(&[0; 62])?;
-    bytes.push(6)?;
-    Ok(bytes)
-}
+// The last change is taken back: behind the row's slot the count that is left.
+const LEFT_1: [u8; 16] = [2, 0, 0, 0, 0, 0, 0, 0, 1, 0, 42, 0, 2, 0, 1, 6];
 
-// A put of "ho" at key 7, which has the value "hi".
-fn second_put_bytes(alloc: Global) -> Result<Vec<u8>, AllocError> {
-    let mut bytes = Vec::from_slice(alloc, &UNDO_HI)?;
-    bytes.extend_from_slice(&[0; 70])?;
-    bytes.extend_from_slice(&ROW_HO)?;
-    bytes.extend_from_slice(&[0; 62])?;
-    bytes.push(6)?;
-    Ok(bytes)
-}
+const LEFT_0: [u8; 16] = [2, 0, 0, 0, 0, 0, 0, 0, 1, 0, 42, 0, 2, 0, 0, 6];
 
-// A put of "hi" at key 6 as the change 40, in an undo page and a bucket page that are both new.
-fn put_on_next_bytes(alloc: Global) -> Result<Vec<u8>, AllocError> {
-    let mut bytes = Vec::from_slice(alloc, &UNDO_ON_NEXT)?;
-    bytes.extend_from_slice(&[0; 72])?;
-    bytes.extend_from_slice(&ROW_ON_NEXT)?;
-    bytes.extend_from_slice(&[0; 62])?;
-    bytes.push(6)?;
-    Ok(bytes)
-}
+/// A put of "hi" at key 7 in an undo page that is in use and a bucket page that isn't, its commit, and a
+/// transaction that begins where the pages of the first are in use.
+pub const ONE_ROW: [&[u8]; 10] = [
+    &OPENING,
+    &CREATE,
+    &BEGIN,
+    &UNDO,
+    &[0; 72],
+    &ROW,
+    &[0; 62],
+    &[6],
+    &COMMIT,
+    &BEGIN_AGAIN,
+];
 
-// The last change is taken back: the row's slot and the count that is left.
-fn undo_bytes(alloc: Global, row: &[u8], zeros: usize, left: u8) -> Result<Vec<u8>, AllocError> {
-    let mut bytes = Vec::from_slice(alloc, row)?;
-    for _ in 0..zeros {
-        bytes.push(0)?;
-    }
-    // on page 1 of space 0, from 42 on, 2 bytes
-    bytes.extend_from_slice(&[2, 0, 0, 0, 0, 0, 0, 0, 1, 0, 42, 0, 2, 0, left, 6])?;
-    Ok(bytes)
-}
+/// A put of "ho" at key 7, which has the value "hi", and both puts taken back.
+pub const TAKING_BACK: [&[u8]; 12] = [
+    &UNDO_HI,
+    &[0; 70],
+    &ROW_HO,
+    &[0; 62],
+    &[6],
+    &ROW_HI,
+    &[0; 62],
+    &LEFT_1,
+    &ROW_ABSENT,
+    &[0; 64],
+    &LEFT_0,
+    &ENDED,
+];
 
-// An engine in which the open transaction 0 gave key 7 the value "hi", with a log of 330 bytes.
-fn with_row(rt: &impl Abort, alloc: Global) -> Result<Tried, Fail> {
-    let mut tried = Tried::new(alloc)?;
-    let steps = [
-        (Call::Create(1, 4), "created"),
-        (Call::Begin(0, 0), "trx 0"),
-        (Call::Put(0, 1, 7, b"hi".as_slice()), "ok"),
-    ];
-    tried.expect(rt, &steps)?;
-    Ok(tried)
-}
-
-#[test]
-fn the_log_of_one_row(rt: HostRuntime) -> Result<(), Fail> {
-    let alloc = rt.alloc();
-    let mut tried = with_row(&rt, alloc)?;
-    let mut log = Vec::from_slice(alloc, &OPENING)?;
-    log.extend_from_slice(&CREATE)?;
-    log.extend_from_slice(&BEGIN)?;
-    log.extend_from_slice(&put_bytes(alloc)?)?;
-    log.extend_from_slice(&COMMIT)?;
-    // the pages of the first transaction are in use
-    log.extend_from_slice(&BEGIN_AGAIN)?;
-    let steps = [
-        (Call::Commit(0), "committed 1"),
-        (Call::Begin(3, 1), "trx 0"),
-    ];
-    tried.expect(&rt, &steps)?;
-    assert_eq!(rt; tried.engine.redo(), log.as_slice());
-    Ok(())
-}
-
-#[test]
-fn the_log_of_taking_back(rt: HostRuntime) -> Result<(), Fail> {
-    let alloc = rt.alloc();
-    let mut tried = with_row(&rt, alloc)?;
-    let steps = [
-        (Call::Put(0, 1, 7, b"ho".as_slice()), "ok"),
-        (Call::Undo(0), "undone 1"),
-        (Call::Undo(0), "undone 0"),
-        (Call::Undo(0), "ended"),
-    ];
-    tried.expect(&rt, &steps)?;
-    let mut log = second_put_bytes(alloc)?;
-    log.extend_from_slice(&undo_bytes(alloc, &ROW_HI, 62, 1)?)?;
-    log.extend_from_slice(&undo_bytes(alloc, &ROW_ABSENT, 64, 0)?)?;
-    log.extend_from_slice(&ENDED)?;
-    tried.assert_end(&rt, 330, &log);
-    Ok(())
-}
-
-#[test]
-fn the_log_of_two_new_pages(rt: HostRuntime) -> Result<(), Fail> {
-    let alloc = rt.alloc();
-    let mut tried = with_row(&rt, alloc)?;
-    for _ in 1..40 {
-        assert_eq!(rt; tried.put(0, 1, 7, b"hi")?, Ok(()));
-    }
-    tried.expect(&rt, &[(Call::Put(0, 1, 6, b"hi".as_slice()), "ok")])?;
-    // behind 39 puts of 218 bytes
-    tried.assert_end(&rt, 330 + 39 * 218, &put_on_next_bytes(alloc)?);
-    Ok(())
-}
+/// A put of "hi" at key 6 as the change 40, in an undo page and a bucket page that are both new.
+pub const NEXT_PAGE: [&[u8]; 5] = [&UNDO_ON_NEXT, &[0; 72], &ROW_ON_NEXT, &[0; 62], &[6]];

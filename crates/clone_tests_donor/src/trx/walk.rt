@@ -1,13 +1,12 @@
 ghost use Rattle.std.specs.Prelude.{◌<◌};
 
 use crate::trx::plain::Plain;
-use crate::trx::{Tried, answered};
+use crate::trx::{Call, Tried, answered};
 use clone_model::{Binlog, fold};
 use clone_plain::Cause;
 use rand_core::utils::NextWord;
 use rand_pcg::Pcg32;
 use std::alloc::{AllocError, Global};
-use std::fmt::Debug;
 use std::process::Abort;
 use std::test::Fail;
 
@@ -39,61 +38,10 @@ impl Both {
         })
     }
 
-    fn create(&mut self, rt: &impl Abort, alloc: Global, number: u32) -> Result<(), Fail> {
-        let found = self.tried.create(number, number)?;
-        let expected = answered(self.plain.create(alloc, number, number))?;
-        self.compare(rt, found, expected)
-    }
-
-    fn begin(
-        &mut self,
-        rt: &impl Abort,
-        alloc: Global,
-        writer: u32,
-        index: u64,
-    ) -> Result<(), Fail> {
-        let found = self.tried.begin(writer, index)?;
-        let expected = answered(self.plain.begin(alloc, writer, index))?;
-        self.compare(rt, found, expected)
-    }
-
-    fn put(&mut self, rt: &impl Abort, alloc: Global, row: Row, value: &[u8]) -> Result<(), Fail> {
-        let found = self.tried.put(row.trx, row.table, row.key, value)?;
-        let expected = answered(self.plain.put(alloc, row.trx, row.table, row.key, value))?;
-        self.compare(rt, found, expected)
-    }
-
-    fn delete(&mut self, rt: &impl Abort, alloc: Global, row: Row) -> Result<(), Fail> {
-        let found = self.tried.delete(row.trx, row.table, row.key)?;
-        let expected = answered(self.plain.delete(alloc, row.trx, row.table, row.key))?;
-        self.compare(rt, found, expected)
-    }
-
-    fn get(&mut self, rt: &impl Abort, alloc: Global, row: Row) -> Result<(), Fail> {
-        let found = self.tried.get(row.trx, row.table, row.key)?;
-        let expected = answered(self.plain.get(alloc, row.trx, row.table, row.key))?;
-        self.compare(rt, found, expected)
-    }
-
-    fn undo_one(&mut self, rt: &impl Abort, trx: u32) -> Result<(), Fail> {
-        let found = self.tried.undo_one(trx)?;
-        let expected = answered(self.plain.undo_one(trx))?;
-        self.compare(rt, found, expected)
-    }
-
-    fn commit(&mut self, rt: &impl Abort, trx: u32) -> Result<(), Fail> {
-        let found = self.tried.commit(trx)?;
-        let expected = answered(self.plain.commit(trx))?;
-        self.compare(rt, found, expected)
-    }
-
-    // The two answers are equal. A refusal is noted.
-    fn compare<T: PartialEq + Debug + Drop>(
-        &mut self,
-        rt: &impl Abort,
-        found: Result<T, Cause>,
-        expected: Result<T, Cause>,
-    ) -> Result<(), Fail> {
+    // Makes a call of both, whose answers are equal. A refusal is noted.
+    fn compare(&mut self, rt: &impl Abort, call: Call) -> Result<(), Fail> {
+        let found = self.tried.answer(call)?;
+        let expected = answered(self.plain.answer(self.tried.alloc, call))?;
         if let Err(cause) = &expected {
             self.note(*cause)?;
         }
@@ -151,28 +99,27 @@ fn drawn_kind(words: &mut Pcg32, call: u64) -> u32 {
 }
 
 // One call, whose answers are equal.
-fn step(
-    rt: &impl Abort,
-    alloc: Global,
-    both: &mut Both,
-    words: &mut Pcg32,
-    call: u64,
-) -> Result<(), Fail> {
-    let row = drawn_row(words, call);
+fn step(rt: &impl Abort, both: &mut Both, words: &mut Pcg32, call: u64) -> Result<(), Fail> {
+    let Row { trx, table, key } = drawn_row(words, call);
     match drawn_kind(words, call) {
-        0 => both.create(rt, alloc, 1 + below(words, 3)),
-        1 | 2 => both.begin(rt, alloc, below(words, 8), call),
-        3..=7 => {
-            let byte = below(words, 256) as u8;
-            let value = [byte; 66];
-            let length = below(words, 66) as usize;
-            both.put(rt, alloc, row, &value[..length])
+        0 => {
+            let number = 1 + below(words, 3);
+            both.compare(rt, Call::Create(number, number))
         }
-        8 => both.delete(rt, alloc, row),
-        9 | 10 => both.get(rt, alloc, row),
-        11 | 12 => both.undo_one(rt, row.trx),
-        _ => both.commit(rt, row.trx),
+        1 | 2 => both.compare(rt, Call::Begin(below(words, 8), call)),
+        3..=7 => put(rt, both, words, Row { trx, table, key }),
+        8 => both.compare(rt, Call::Delete(trx, table, key)),
+        9 | 10 => both.compare(rt, Call::Get(trx, table, key)),
+        11 | 12 => both.compare(rt, Call::Undo(trx)),
+        _ => both.compare(rt, Call::Commit(trx)),
     }
+}
+
+// A put of a value of up to 65 bytes, one more than a row may have.
+fn put(rt: &impl Abort, both: &mut Both, words: &mut Pcg32, row: Row) -> Result<(), Fail> {
+    let value = [below(words, 256) as u8; 66];
+    let length = below(words, 66) as usize;
+    both.compare(rt, Call::Put(row.trx, row.table, row.key, &value[..length]))
 }
 
 // The same commits, and the same rows after them.
@@ -191,7 +138,7 @@ fn a_random_walk(rt: HostRuntime) -> Result<(), Fail> {
     let mut both = Both::new(alloc)?;
     let mut words = Pcg32::new(20, 26);
     for call in 0..CALLS {
-        step(&rt, alloc, &mut both, &mut words, call)?;
+        step(&rt, &mut both, &mut words, call)?;
     }
     // each cause came up but that of the 63rd table
     assert_eq!(rt; both.refused.len(), 8);
