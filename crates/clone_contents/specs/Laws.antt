@@ -1,4 +1,5 @@
--- The laws of contents: what each mini-transaction, each edit of recovery and each look-up says of a formed image.
+-- The laws of contents: what each mini-transaction, each edit of recovery and each look-up says of
+-- a formed image.
 use Rattle.std.specs.Prelude.{ℕ, ◌≡◌, ◌≢◌, ◌<◌, ◌^◌, List, length, None, Some}
 use Rattle.std.specs.declared.option.Option.{Option}
 use Rattle.std.specs.FinMap as finite

@@ -19,7 +19,8 @@ State = World EngineState
 abbrev pub donor_of : EngineState → Donor
 donor_of engine = engine.donor
 
--- a world in which nothing has happened: there is no table, no commit, and no place of a page has a key
+-- a world in which nothing has happened: there is no table, no commit, and no place of a page has a
+-- key
 pub record IsNew (s : State) : Type 0 where
   pub empty : s.donor.donor ≡ no_donor
   pub keys : keys_in s.donor.image ≡ (λ table page place. None)

@@ -13,7 +13,7 @@ pub use Rattle.clone_model.specs.declared.change.Change.{Change}
 pub use Rattle.clone_model.specs.declared.change.Commit.{Commit}
 pub use Rattle.clone_model.specs.declared.line.Line.{Line}
 pub use Rattle.clone_plain.specs.Calls.{Made, PlainStep, did_begin, did_put, did_commit, done, did_create, did_delete, did_get, did_undo_one, refused, Done, Call, Does, commit, made_call, begin, put}
-pub use Rattle.clone_plain.specs.Causes.{transaction_limit, change_limit}
+pub use Rattle.clone_base.specs.declared.limits.TheConstants.{TRANSACTION_LIMIT, CHANGE_LIMIT}
 pub use Rattle.clone_plain.specs.Donor.{Donor, changes_of, no_donor}
 pub use Rattle.clone_plain.specs.Effects.{begun, with_change, Changes, TakesBack, Leaves, Commits, Undoes, Releases, put_of}
 pub use Rattle.clone_plain.specs.Events.{Event, made, Events, completed, showed, incomplete, Happens, counted, said}

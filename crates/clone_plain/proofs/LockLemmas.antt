@@ -1,6 +1,6 @@
 -- Locks stay with the open transactions that changed their rows, at each step of the plain donor.
 use Rattle.std.proofs.Common.{◌≡◌, ◌≢◌, ℕ, ◌<◌, ◌≤◌, ◌⊎◌, List, [], ◌∷◌, ◌++◌, length, Some, None, IsSome, is_some, refl, sym, ap, subst, ◌∙◌, inl, inr, arith, slice_get}
-use Rattle.clone_plain.proofs.Common.{cases_eq, length_push, same_Some, none-some, slice_get_within, AllByRecursion, nat_cmp-IsAntisymmetric, nat_cmp_total, Change, Commit, row_cmp_total, row_cmp_exact, Drops, Donor, changes_of, transaction_limit, change_limit, begun, with_change, Changes, TakesBack, Leaves, Commits, Releases, IsLocked, get-set_same, get-set_other, get-removed_same, cases_row, cases_held, cases_pushed, slice_get-pushed_front}
+use Rattle.clone_plain.proofs.Common.{cases_eq, length_push, same_Some, none-some, slice_get_within, AllByRecursion, nat_cmp-IsAntisymmetric, nat_cmp_total, Change, Commit, row_cmp_total, row_cmp_exact, Drops, Donor, changes_of, TRANSACTION_LIMIT, CHANGE_LIMIT, begun, with_change, Changes, TakesBack, Leaves, Commits, Releases, IsLocked, get-set_same, get-set_other, get-removed_same, cases_row, cases_held, cases_pushed, slice_get-pushed_front}
 use Rattle.std.specs.FinMap as finite
 use Rattle.clone_plain.proofs.OpenLemmas.{few_inserted, few_removed}
 use Rattle.clone_plain.proofs.ValueLemmas.{changes_of_active, others-set, others-removed, own-set}
@@ -30,8 +30,8 @@ removed_cases d after trx n commit is there = (other, sym (others-removed d afte
 -- what a step that sets one transaction is to do to the locks
 record SetsOne (d after : Donor) (trx : ℕ) (new : Commit) : Type 0 where
   active : after.active ≡ finite.insert d.active trx new
-  number : trx < transaction_limit
-  few : length new.changes ≤ change_limit
+  number : trx < TRANSACTION_LIMIT
+  few : length new.changes ≤ CHANGE_LIMIT
   own : (i : ℕ) (change : Change) → slice_get new.changes i ≡ Some change → finite.get after.locks (change.table, change.key) ≡ Some trx
   kept : (row : ℕ × ℕ) (n : ℕ) → n ≢ trx → finite.get d.locks row ≡ Some n → finite.get after.locks row ≡ Some n
   held : (row : ℕ × ℕ) (n : ℕ) → finite.get after.locks row ≡ Some n → (n ≡ trx) ⊎ (finite.get d.locks row ≡ Some n)
@@ -87,7 +87,7 @@ ended_locked d after trx locked s = record {
 -- A change is made, of a row that no other transaction holds.
 
 pub changed_locked : {d after : Donor} {trx : ℕ} {change : Change} → IsLocked d → (c : Changes d trx change after) → (finite.get d.locks (change.table, change.key) ≡ None) ⊎ (finite.get d.locks (change.table, change.key) ≡ Some trx)
-    → length (changes_of d trx) < change_limit → IsLocked after
+    → length (changes_of d trx) < CHANGE_LIMIT → IsLocked after
 changed_locked {d} {after} {trx} {change} locked c free room = set_locked d after trx (with_change change c.commit) locked record {
   active = ap (λ (e : Donor). e.active) c.is;
   number = locked.few.numbers trx (ap is_some c.was_active);
@@ -152,7 +152,7 @@ left_locked {d} {after} {trx} locked l = ended_locked d after trx locked record 
 
 -- A transaction begins.
 
-pub begun_locked : (d : Donor) (trx writer index : ℕ) → trx < transaction_limit → IsLocked d → IsLocked (begun trx writer index d)
+pub begun_locked : (d : Donor) (trx writer index : ℕ) → trx < TRANSACTION_LIMIT → IsLocked d → IsLocked (begun trx writer index d)
 begun_locked d trx writer index small locked = set_locked d (begun trx writer index d) trx (record { writer = writer; index = index; changes = [] }) locked record {
   active = refl;
   number = small;

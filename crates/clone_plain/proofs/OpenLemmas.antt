@@ -1,6 +1,6 @@
 -- The open transactions stay few, with few changes each, when one is set, removed or loses its last change.
 use Rattle.std.proofs.Common.{◌≡◌, ◌≢◌, ◌<◌, ◌≤◌, ℕ, length, refl, sym, ap, subst, ◌∙◌, inl, inr, Some, None, IsSome, is_some, Option}
-use Rattle.clone_plain.proofs.Common.{nat_cmp-IsAntisymmetric, nat_cmp_total, cases_eq, same_Some, Commit, transaction_limit, change_limit, Opened, AreFew, get-set_same, get-set_other}
+use Rattle.clone_plain.proofs.Common.{nat_cmp-IsAntisymmetric, nat_cmp_total, cases_eq, same_Some, Commit, TRANSACTION_LIMIT, CHANGE_LIMIT, Opened, AreFew, get-set_same, get-set_other}
 use Rattle.std.specs.FinMap as finite
 use Rattle.clone_base.proofs.OrderedMaps.{get-remove_some}
 
@@ -8,14 +8,14 @@ some_there : {X : Type 0} (o : Option X) → IsSome o → (x : X) × (o ≡ Some
 some_there None there = absurd cc
 some_there (Some x) there = (x, refl)
 
-pub few_inserted : (old new : Opened) (trx : ℕ) (commit : Commit) → AreFew old → new ≡ finite.insert old trx commit → trx < transaction_limit → length commit.changes ≤ change_limit → AreFew new
+pub few_inserted : (old new : Opened) (trx : ℕ) (commit : Commit) → AreFew old → new ≡ finite.insert old trx commit → trx < TRANSACTION_LIMIT → length commit.changes ≤ CHANGE_LIMIT → AreFew new
 few_inserted old new trx commit before is number short = record {
   numbers = λ n there. elim (cases_eq n trx) [
-    | inl same ↦ subst (λ m. m < transaction_limit) (sym same) number
+    | inl same ↦ subst (λ m. m < TRANSACTION_LIMIT) (sym same) number
     | inr other ↦ before.numbers n (ap is_some (sym (kept n other)) ∙ there)
   ];
   few = λ n c at. elim (cases_eq n trx) [
-    | inl same ↦ subst (λ (x : Commit). length x.changes ≤ change_limit) (same_Some commit c (sym own ∙ ap (finite.get new) (sym same) ∙ at)) short
+    | inl same ↦ subst (λ (x : Commit). length x.changes ≤ CHANGE_LIMIT) (same_Some commit c (sym own ∙ ap (finite.get new) (sym same) ∙ at)) short
     | inr other ↦ before.few n c (sym (kept n other) ∙ at)
   ];
 }

@@ -1,4 +1,5 @@
--- The calls of a donor, and one relation that says what a call with its answer does to the plain donor.
+-- The calls of a donor, and one relation that says what a call with its answer does to the plain
+-- donor.
 use Rattle.std.specs.Prelude.{ℕ, ◌≡◌, ◌⊎◌, List, length, None, Some}
 use Rattle.std.specs.declared.option.Option.{Option}
 use Rattle.clone_plain.specs.declared.refusal.Cause.{Cause}
@@ -66,7 +67,10 @@ Does d (did_get trx table key value) after = Gets d trx table key value × (afte
 Does d (did_undo_one trx undone) after = Undoes d trx undone after
 Does d (did_commit trx position) after = Commits d trx position after
 
--- A call is carried out only where there is no cause against it. Else it is refused for that cause, and nothing changes. A page that is full is a cause that the plain donor doesn't know.
+-- A call is carried out only where there is no cause against it. Else it is refused for that cause,
+-- and nothing changes. A page that is full is a cause that the plain donor doesn't know.
 abbrev pub PlainStep : Donor → Made → Donor → Type 0
 PlainStep d (done x) after = (cause_of d (call_of x) ≡ None) × Does d x after
-PlainStep d (refused call cause) after = ((cause_of d call ≡ Some cause) ⊎ ((cause_of d call ≡ None) × (cause ≡ SpaceFull))) × (after ≡ d)
+PlainStep d (refused call cause) after =
+    ((cause_of d call ≡ Some cause) ⊎ ((cause_of d call ≡ None) × (cause ≡ SpaceFull)))
+    × (after ≡ d)

@@ -1,29 +1,16 @@
--- Why the plain donor refuses a call: the first cause that stands, in the order of each call, or none.
+-- Why the plain donor refuses a call: the first cause that stands, in the order of each call, or
+-- none.
 use Rattle.std.specs.Prelude.{ℕ, ◌==◌, not, nat_lt, Bool, true, false, length, if◌then◌else◌, is_none, None, Some}
 use Rattle.std.specs.declared.option.Option.{Option}
 use Rattle.std.specs.Option.{option_or}
 use Rattle.std.specs.List.{range_with_len, find}
 use Rattle.std.specs.FinMap as finite
 use Rattle.std.specs.Ordering.{nat_cmp}
-use Rattle.clone_model.specs.declared.change.Commit.{Commit}
 use Rattle.clone_base.specs.declared.limits.TheConstants.{CHANGE_LIMIT, TABLE_LIMIT, TRANSACTION_LIMIT, VALUE_LIMIT}
+use Rattle.clone_model.specs.declared.change.Commit.{Commit}
 use Rattle.clone_plain.specs.declared.refusal.Cause.{Cause}
 use Rattle.clone_plain.specs.declared.refusal.Cause.TheVariants.{NoSuchTrx, NoSuchTable, TableExists, RowLocked, ValueTooLong, UndoFull, TooManyTransactions, TooManyTables}
 use Rattle.clone_plain.specs.Donor.{Donor, changes_of}
-
--- how many transactions may be open, and how many changes each may have
-abbrev pub transaction_limit : ℕ
-transaction_limit = TRANSACTION_LIMIT
-
-abbrev pub change_limit : ℕ
-change_limit = CHANGE_LIMIT
-
-abbrev pub table_limit : ℕ
-table_limit = TABLE_LIMIT
-
--- how many bytes a value may have
-abbrev pub value_limit : ℕ
-value_limit = VALUE_LIMIT
 
 -- a cause where it stands
 abbrev pub whether : Bool → Cause → Option Cause
@@ -40,11 +27,11 @@ no_table d table = whether (not (finite.contains_key d.tables table)) NoSuchTabl
 
 -- the value has too many bytes
 abbrev pub too_long : ℕ → Option Cause
-too_long long = whether (nat_lt value_limit long) ValueTooLong
+too_long long = whether (nat_lt VALUE_LIMIT long) ValueTooLong
 
 -- the transaction has as many changes as it may have
 abbrev pub undo_full : Donor → ℕ → Option Cause
-undo_full d trx = whether (length (changes_of d trx) == change_limit) UndoFull
+undo_full d trx = whether (length (changes_of d trx) == CHANGE_LIMIT) UndoFull
 
 -- another transaction holds the row's lock
 abbrev pub locked_by : ℕ → Option ℕ → Option Cause
@@ -56,17 +43,23 @@ row_locked d trx table key = locked_by trx (finite.get d.locks (table, key))
 
 -- the least number below the limit of which no transaction is open, or none where each is taken
 unfoldable pub least_unused : finite.FinMap nat_cmp Commit → Option ℕ
-least_unused active = find (λ trx. not (finite.contains_key active trx)) (range_with_len 0 transaction_limit)
+least_unused active =
+    find (λ trx. not (finite.contains_key active trx)) (range_with_len 0 TRANSACTION_LIMIT)
 
 abbrev pub create_cause : Donor → ℕ → Option Cause
-create_cause d table = option_or (whether (finite.contains_key d.tables table) TableExists) (whether (finite.len d.tables == table_limit) TooManyTables)
+create_cause d table =
+    option_or (whether (finite.contains_key d.tables table) TableExists)
+    (whether (finite.len d.tables == TABLE_LIMIT) TooManyTables)
 
 abbrev pub begin_cause : Donor → Option Cause
 begin_cause d = whether (is_none (least_unused d.active)) TooManyTransactions
 
 -- of a change whose value has so many bytes; a removal has none
 abbrev pub change_cause : Donor → ℕ → ℕ → ℕ → ℕ → Option Cause
-change_cause d trx table key long = option_or (no_trx d trx) (option_or (too_long long) (option_or (no_table d table) (option_or (undo_full d trx) (row_locked d trx table key))))
+change_cause d trx table key long =
+    option_or (no_trx d trx) (option_or (too_long long) (option_or (no_table d table)
+    (option_or (undo_full d trx) (row_locked d trx table key))))
 
 abbrev pub get_cause : Donor → ℕ → ℕ → ℕ → Option Cause
-get_cause d trx table key = option_or (no_trx d trx) (option_or (no_table d table) (row_locked d trx table key))
+get_cause d trx table key =
+    option_or (no_trx d trx) (option_or (no_table d table) (row_locked d trx table key))

@@ -12,7 +12,10 @@ use Rattle.clone_plain.specs.declared.refusal.EngineRefusal.TheVariants.{Because
 abbrev pub none_outside : Cause → Type 0
 none_outside cause = ⊥
 
--- There is the first cause of the plain donor, if it has one, and the one that the state below it decides, if that has one. A call does what it is for only where neither stands. Else it is refused for the first of them. Where neither stands it may be refused for a cause from outside. Want of memory is free. After a refusal nothing has changed.
+-- There is the first cause of the plain donor, if it has one, and the one that the state below it
+-- decides, if that has one. A call does what it is for only where neither stands. Else it is
+-- refused for the first of them. Where neither stands it may be refused for a cause from outside.
+-- Want of memory is free. After a refusal nothing has changed.
 abbrev pub Decided : {S X : Type 0} → Option Cause → Option Cause → (Cause → Type 0) → S → S
     → Result X EngineRefusal → (X → Type 0) → Type 0
 Decided plain below outside before after (Ok answer) Does =

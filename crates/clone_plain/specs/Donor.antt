@@ -1,4 +1,5 @@
--- The plain donor: its tables, its open transactions with their changes and locks, its binlog and its drops. Nothing of pages is in it.
+-- The plain donor: its tables, its open transactions with their changes and locks, its binlog and
+-- its drops. Nothing of pages is in it.
 use Rattle.std.specs.Prelude.{ℕ, List, [], refl}
 use Rattle.std.specs.declared.option.Option.{Option}
 use Rattle.std.specs.Option.{option_map_or}
@@ -17,7 +18,8 @@ Locks = finite.FinMap row_cmp ℕ
 pub record Donor : Type 0 where
   -- from the number of a table to how many buckets it has
   pub tables : finite.FinMap nat_cmp ℕ
-  -- From the number of an open transaction to what its commit would be: its writer, its index, and its changes so far.
+  -- From the number of an open transaction to what its commit would be: its writer, its index, and
+  -- its changes so far.
   pub active : finite.FinMap nat_cmp Commit
   pub locks : Locks
   -- the commits in their order
@@ -54,7 +56,8 @@ donor_code =
 
 -- before anything happened
 abbrev pub no_donor : Donor
-no_donor = record { tables = finite.empty; active = finite.empty; locks = finite.empty; binlog = []; drops = [] }
+no_donor = record
+    { tables = finite.empty; active = finite.empty; locks = finite.empty; binlog = []; drops = [] }
 
 -- the commits and the drops in their order
 abbrev pub history : Donor → List Entry

@@ -16,11 +16,13 @@ created table buckets d = record d { tables = finite.insert d.tables table bucke
 
 -- a transaction is opened, with no change and no lock
 abbrev pub begun : ℕ → ℕ → ℕ → Donor → Donor
-begun trx writer index d = record d { active = finite.insert d.active trx (record { writer = writer; index = index; changes = [] }) }
+begun trx writer index d = record d { active = finite.insert d.active trx
+    (record { writer = writer; index = index; changes = [] }) }
 
 -- the transaction that begins gets the least free number
 abbrev pub Begins : Donor → ℕ → ℕ → ℕ → Donor → Type 0
-Begins d writer index trx after = (least_unused d.active ≡ Some trx) × (after ≡ begun trx writer index d)
+Begins d writer index trx after =
+    (least_unused d.active ≡ Some trx) × (after ≡ begun trx writer index d)
 
 abbrev pub put_of : ℕ → ℕ → List ℕ → Change
 put_of table key value = record { table = table; key = key; value = Some value }
@@ -38,7 +40,8 @@ pub record Changes (d : Donor) (trx : ℕ) (change : Change) (after : Donor) : T
   pub buckets : ℕ
   pub was_active : finite.get d.active trx ≡ Some commit
   pub was_table : finite.get d.tables change.table ≡ Some buckets
-  pub is : after ≡ record d { active = finite.insert d.active trx (with_change change commit); locks = finite.insert d.locks (change.table, change.key) trx }
+  pub is : after ≡ record d { active = finite.insert d.active trx (with_change change commit);
+      locks = finite.insert d.locks (change.table, change.key) trx }
 
 -- the row's value after the history and then the transaction's own changes
 pub record Gets (d : Donor) (trx table key : ℕ) (value : Option (List ℕ)) : Type 0 where
@@ -49,7 +52,8 @@ pub record Gets (d : Donor) (trx table key : ℕ) (value : Option (List ℕ)) : 
 -- the locks of a transaction are released, and no others
 pub record Releases (trx : ℕ) (before after : Locks) : Type 0 where
   pub own : (row : ℕ × ℕ) → finite.get before row ≡ Some trx → finite.get after row ≡ None
-  pub others : (row : ℕ × ℕ) → ¬ (finite.get before row ≡ Some trx) → finite.get after row ≡ finite.get before row
+  pub others : (row : ℕ × ℕ) → ¬ (finite.get before row ≡ Some trx)
+      → finite.get after row ≡ finite.get before row
 
 -- the last change is taken back, and the locks stay
 pub record TakesBack (d : Donor) (trx left : ℕ) (after : Donor) : Type 0 where
@@ -59,7 +63,8 @@ pub record TakesBack (d : Donor) (trx left : ℕ) (after : Donor) : Type 0 where
   pub last : Change
   pub split : commit.changes ≡ front ++ last ∷ []
   pub count : left ≡ length front
-  pub is : after ≡ record d { active = finite.insert d.active trx (record commit { changes = front }) }
+  pub is : after
+      ≡ record d { active = finite.insert d.active trx (record commit { changes = front }) }
 
 -- a transaction without changes ends, and leaves nothing
 pub record Leaves (d : Donor) (trx : ℕ) (after : Donor) : Type 0 where
@@ -81,4 +86,5 @@ pub record Commits (d : Donor) (trx position : ℕ) (after : Donor) : Type 0 whe
   pub locks : Locks
   pub released : Releases trx d.locks locks
   pub count : position ≡ length d.binlog + 1
-  pub is : after ≡ record d { active = finite.remove d.active trx; locks = locks; binlog = d.binlog ++ commit ∷ [] }
+  pub is : after ≡ record d
+      { active = finite.remove d.active trx; locks = locks; binlog = d.binlog ++ commit ∷ [] }

@@ -1,4 +1,6 @@
--- What happens while a script is carried out, one event after the other: calls of the donor, the moment of its clone, and rows that are shown. The donor is of a type D; `plain` tells the plain donor that it is, and `Step` what a call does to it.
+-- What happens while a script is carried out, one event after the other: calls of the donor, the
+-- moment of its clone, and rows that are shown. The donor is of a type D; `plain` tells the plain
+-- donor that it is, and `Step` what a call does to it.
 use Rattle.std.specs.Prelude.{ℕ, ◌≡◌, ◌+◌, List, [], ◌∷◌, ◌++◌, None, Some, MatchOption, codes}
 use Rattle.std.specs.Fmt.{decimal}
 use Rattle.std.specs.FinMap as finite
@@ -33,15 +35,23 @@ said (e ∷ f ∷ more) = said (f ∷ more)
 
 -- a writer has begun one transaction more
 abbrev pub counted : Made → finite.FinMap nat_cmp ℕ → finite.FinMap nat_cmp ℕ
-counted (done (did_begin writer index trx)) begun = finite.insert begun writer (index_in begun writer + 1)
+counted (done (did_begin writer index trx)) begun =
+    finite.insert begun writer (index_in begun writer + 1)
 counted m begun = begun
 
 module _ {D : Type 0} (plain : D → Donor) (Step : D → Made → D → Type 0) where
-  -- The first clone stops at the moment that stands, and each later one answers as the first. The rows shown are those of the history before the stop.
+  -- The first clone stops at the moment that stands, and each later one answers as the first. The
+  -- rows shown are those of the history before the stop.
   abbrev pub Happens : World D → Event → World D → Type 0
-  Happens s (made m) t = (d : D) × Step s.donor m d × (t ≡ record s { donor = d; begun = counted m s.begun })
-  Happens s (completed n) t = let now = stop_now (plain s.donor) in MatchOption s.stop ((n ≡ now.position) × (t ≡ record s { stop = Some now })) (λ (stop : Stop). (n ≡ stop.position) × (t ≡ s))
-  Happens s (showed rows) t = MatchOption s.stop ⊥ (λ (stop : Stop). rows ≡ fold (before_stop stop (plain s.donor))) × (t ≡ s)
+  Happens s (made m) t =
+      (d : D) × Step s.donor m d × (t ≡ record s { donor = d; begun = counted m s.begun })
+  Happens s (completed n) t =
+      let now = stop_now (plain s.donor) in
+      MatchOption s.stop ((n ≡ now.position) × (t ≡ record s { stop = Some now }))
+      (λ (stop : Stop). (n ≡ stop.position) × (t ≡ s))
+  Happens s (showed rows) t =
+      MatchOption s.stop ⊥ (λ (stop : Stop). rows ≡ fold (before_stop stop (plain s.donor)))
+      × (t ≡ s)
   Happens s incomplete t = (s.stop ≡ None) × (t ≡ s)
 
   -- events happen one after the other

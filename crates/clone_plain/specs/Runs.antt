@@ -17,9 +17,16 @@ MakesOne call events = (m : Made) × (made_call m ≡ call) × (events ≡ made 
 
 -- A transaction begins, makes one change and commits, as far as none of the three calls is refused.
 pub data MakesSet (writer index table key : ℕ) (value : List ℕ) (events : List Event) : Type 0 where
-  not_begun : (cause : Cause) → events ≡ made (refused (begin writer index) cause) ∷ [] → MakesSet writer index table key value events
-  not_changed : (trx : ℕ) (cause : Cause) → events ≡ made (done (did_begin writer index trx)) ∷ made (refused (put trx table key value) cause) ∷ [] → MakesSet writer index table key value events
-  set : (trx : ℕ) (last : Made) → made_call last ≡ commit trx → events ≡ made (done (did_begin writer index trx)) ∷ made (done (did_put trx table key value)) ∷ made last ∷ [] → MakesSet writer index table key value events
+  not_begun : (cause : Cause) → events ≡ made (refused (begin writer index) cause) ∷ []
+      → MakesSet writer index table key value events
+  not_changed : (trx : ℕ) (cause : Cause)
+      → events ≡ made (done (did_begin writer index trx))
+      ∷ made (refused (put trx table key value) cause) ∷ []
+      → MakesSet writer index table key value events
+  set : (trx : ℕ) (last : Made) → made_call last ≡ commit trx
+      → events ≡ made (done (did_begin writer index trx))
+      ∷ made (done (did_put trx table key value)) ∷ made last ∷ []
+      → MakesSet writer index table key value events
 
 -- the events of a line, where each writer's next transaction has this index
 abbrev pub Makes : (ℕ → ℕ) → Line → List Event → Type 0
@@ -30,9 +37,11 @@ Makes next (Delete trx table key) events = MakesOne (delete trx table key) event
 Makes next (Get trx table key) events = MakesOne (get trx table key) events
 Makes next (Undo trx) events = MakesOne (undo_one trx) events
 Makes next (Commit trx) events = MakesOne (commit trx) events
-Makes next (Set writer table key value) events = MakesSet writer (next writer) table key value events
+Makes next (Set writer table key value) events =
+    MakesSet writer (next writer) table key value events
 Makes next Clone events = (n : ℕ) × (events ≡ completed n ∷ [])
-Makes next ShowRows events = (events ≡ incomplete ∷ []) ⊎ ((rows : Rows) × (events ≡ showed rows ∷ []))
+Makes next ShowRows events =
+    (events ≡ incomplete ∷ []) ⊎ ((rows : Rows) × (events ≡ showed rows ∷ []))
 
 -- each answer is ended by a line feed
 abbrev pub output : List (List Event) → List ℕ

@@ -12,7 +12,8 @@ pub record Stop : Type 0 where
   pub position : ℕ
   pub drops : ℕ
 
--- a donor of a type D, how many transactions each writer has begun, and the stop of the clone once there is one
+-- a donor of a type D, how many transactions each writer has begun, and the stop of the clone once
+-- there is one
 pub record World (D : Type 0) : Type 0 where
   pub donor : D
   pub begun : finite.FinMap nat_cmp ℕ

@@ -16,7 +16,8 @@ pub record Answered (line : Line) (before after : State) (old new : Option (List
   pub step : Answers before line answer after
   pub out : new ≡ appended old (ended answer)
 
--- Memory ran out in the line, and nothing was written. Or the line was carried out, and a front of its answer was written.
+-- Memory ran out in the line, and nothing was written. Or the line was carried out, and a front of
+-- its answer was written.
 pub data StoppedAtLine (line : Line) (before after : State)
     (old new : Option (List ℕ)) : Type 0 where
   in_it : BreaksOff before line after → new ≡ old → StoppedAtLine line before after old new

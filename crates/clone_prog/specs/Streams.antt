@@ -1,4 +1,5 @@
--- What contracts see of a stream of the system: the bytes that std tells of it, where it tells them, and how often it failed.
+-- What contracts see of a stream of the system: the bytes that std tells of it, where it tells
+-- them, and how often it failed.
 use Rattle.std.specs.Prelude.{ℕ, List}
 use Rattle.std.specs.declared.option.Option.{Option}
 

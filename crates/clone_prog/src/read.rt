@@ -2,7 +2,7 @@ ghost use Rattle.std.specs.Prelude.{◌≡◌, ◌≤◌, ◌<◌, ◌+◌, List
 ghost use Rattle.clone_outside.specs.Bytes.{prepended, IsSpent};
 ghost use Rattle.clone_outside.specs.Causes.{Rose};
 ghost use Rattle.clone_outside.specs.declared.Refusal.TheVariants.{NoMemory};
-ghost use Rattle.clone_script.specs.Script.{longest_script};
+ghost use Rattle.clone_script.specs.declared.read.TheConstants.{LONGEST_SCRIPT};
 ghost use Rattle.clone_prog.specs.Stops.{stop_of, TookAtMost};
 
 use clone_outside::{Refusal, Source};
@@ -49,14 +49,14 @@ pub fn read_all<S: Source>(alloc: Global, source: &mut S) -> Result<Vec<u8>, Rea
     ensures gave { IfOk result (λ script. S.left source.old
         ≡ prepended script.items (S.left source.new)) }
     ensures spent { OnOk result (IsSpent (S.left source.new)) }
-    ensures short { IfOk result (λ script. length script.items ≤ longest_script) }
+    ensures short { IfOk result (λ script. length script.items ≤ LONGEST_SCRIPT) }
     ensures fault { IsErrOf result ReadStop.Fault
         → Rose (S.failures source.old) (S.failures source.new) }
     ensures long { IsErrOf result ReadStop.TooLong → (script : List ℕ)
         × (S.left source.old ≡ prepended script (S.left source.new))
-        × (longest_script < length script) }
+        × (LONGEST_SCRIPT < length script) }
     ensures later { S.failures source.old ≤ S.failures source.new }
-    ensures most { TookAtMost (longest_script + 1) (S.left source.old) (S.left source.new) }
+    ensures most { TookAtMost (LONGEST_SCRIPT + 1) (S.left source.old) (S.left source.new) }
     ensures steady { OnOk result (S.failures source.new ≡ S.failures source.old) }
     ensures steady_long { IsErrOf result ReadStop.TooLong
         → S.failures source.new ≡ S.failures source.old }

@@ -2,11 +2,6 @@
 use Rattle.std.specs.Prelude.{ℕ, ◌≡◌, ◌+◌, ◌⊎◌, ◌==◌, List, [], ◌∷◌, ◌++◌, length, if◌then◌else◌}
 use Rattle.clone_model.specs.Lines.{line_text, IsInRange}
 use Rattle.clone_model.specs.declared.line.Line.{Line}
-use Rattle.clone_script.specs.declared.read.TheConstants.{LONGEST_SCRIPT}
-
--- how many bytes a script may have
-abbrev pub longest_script : ℕ
-longest_script = LONGEST_SCRIPT
 
 abbrev pub line_feed : ℕ
 line_feed = 10

@@ -1,6 +1,6 @@
 -- Which cause there is against a call, and what it means that there is none.
 use Rattle.std.proofs.Common.{◌≡◌, ◌≢◌, ◌<◌, ◌≤◌, ◌⊎◌, ℕ, Bool, true, false, cond, length, Bor, Option, Some, None, refl, sym, ap, ◌∙◌, inl, inr, arith, eq-eqb, eqb-true, ◌==◌, not, is_some, option_copied, Result, Ok, Err, IsErrAnd, MatchResult, le-ltb}
-use Rattle.clone_trx.proofs.Common.{option_or, Commit, Cause, NoSuchTrx, NoSuchTable, RowLocked, ValueTooLong, UndoFull, Donor, changes_of, whether, no_trx, no_table, too_long, undo_full, row_locked, locked_by, value_limit, change_limit, change_cause, IsLocked, changes_of_active}
+use Rattle.clone_trx.proofs.Common.{option_or, Commit, Cause, NoSuchTrx, NoSuchTable, RowLocked, ValueTooLong, UndoFull, Donor, changes_of, whether, no_trx, no_table, too_long, undo_full, row_locked, locked_by, VALUE_LIMIT, CHANGE_LIMIT, change_cause, IsLocked, changes_of_active}
 use Rattle.std.specs.FinMap as finite
 
 -- what is borrowed of a map stands there
@@ -63,7 +63,7 @@ own_or_free trx (Some holder) none = at (holder == trx) refl none
 -- what is known once a transaction is found whose value isn't too long
 pub record Starts (d : Donor) (trx long : ℕ) (commit : Commit) : Type 0 where
   pub is : finite.get d.active trx ≡ Some commit
-  pub short : long ≤ value_limit
+  pub short : long ≤ VALUE_LIMIT
 
 -- and then the table, by how many buckets it has
 pub record Goes (d : Donor) (trx table long count : ℕ) (commit : Commit) : Type 0 where
@@ -72,20 +72,20 @@ pub record Goes (d : Donor) (trx table long count : ℕ) (commit : Commit) : Typ
 
 module _ {d : Donor} {trx long : ℕ} {commit : Commit} where
   begun : {rest : Option Cause} → Starts d trx long commit → option_or (no_trx d trx) (option_or (too_long long) rest) ≡ rest
-  begun starts = passed (trx_there d trx commit starts.is) ∙ passed (ap (λ (b : Bool). whether b ValueTooLong) (le-ltb value_limit long starts.short))
+  begun starts = passed (trx_there d trx commit starts.is) ∙ passed (ap (λ (b : Bool). whether b ValueTooLong) (le-ltb VALUE_LIMIT long starts.short))
 
-  full_by : Starts d trx long commit → (b : Bool) → (length commit.changes == change_limit) ≡ b → undo_full d trx ≡ whether b UndoFull
-  full_by starts b is = ap (λ cs. whether (length cs == change_limit) UndoFull) (changes_of_active d trx commit starts.is) ∙ ap (λ (b : Bool). whether b UndoFull) is
+  full_by : Starts d trx long commit → (b : Bool) → (length commit.changes == CHANGE_LIMIT) ≡ b → undo_full d trx ≡ whether b UndoFull
+  full_by starts b is = ap (λ cs. whether (length cs == CHANGE_LIMIT) UndoFull) (changes_of_active d trx commit starts.is) ∙ ap (λ (b : Bool). whether b UndoFull) is
 
   pub change_without_table : (table key : ℕ) → Starts d trx long commit → finite.get d.tables table ≡ None → change_cause d trx table key long ≡ Some NoSuchTable
   change_without_table table key starts none = begun starts ∙ stopped _ (table_away d table none)
 
-  pub change_too_many : {table count : ℕ} (key : ℕ) → Goes d trx table long count commit → length commit.changes ≡ change_limit → change_cause d trx table key long ≡ Some UndoFull
-  change_too_many {table} {count} key goes many = begun goes.starts ∙ passed (table_there d table count goes.there) ∙ stopped _ (full_by goes.starts true (eq-eqb (length commit.changes) change_limit many))
+  pub change_too_many : {table count : ℕ} (key : ℕ) → Goes d trx table long count commit → length commit.changes ≡ CHANGE_LIMIT → change_cause d trx table key long ≡ Some UndoFull
+  change_too_many {table} {count} key goes many = begun goes.starts ∙ passed (table_there d table count goes.there) ∙ stopped _ (full_by goes.starts true (eq-eqb (length commit.changes) CHANGE_LIMIT many))
 
   -- with room for its undo record, only a lock may stand against it
-  pub change_by_lock : {table count : ℕ} (key : ℕ) → Goes d trx table long count commit → length commit.changes ≢ change_limit → change_cause d trx table key long ≡ row_locked d trx table key
-  change_by_lock {table} {count} key goes few = begun goes.starts ∙ passed (table_there d table count goes.there) ∙ passed (full_by goes.starts false (not_equal (length commit.changes) change_limit few))
+  pub change_by_lock : {table count : ℕ} (key : ℕ) → Goes d trx table long count commit → length commit.changes ≢ CHANGE_LIMIT → change_cause d trx table key long ≡ row_locked d trx table key
+  change_by_lock {table} {count} key goes few = begun goes.starts ∙ passed (table_there d table count goes.there) ∙ passed (full_by goes.starts false (not_equal (length commit.changes) CHANGE_LIMIT few))
 
 -- there is no cause against it: the transaction is open and has room, the table is there, and the row is free
 pub record MayChange (d : Donor) (trx table key : ℕ) : Type 0 where
@@ -93,7 +93,7 @@ pub record MayChange (d : Donor) (trx table key : ℕ) : Type 0 where
   pub was_active : finite.get d.active trx ≡ Some commit
   pub buckets : ℕ
   pub was_table : finite.get d.tables table ≡ Some buckets
-  pub few : length (changes_of d trx) < change_limit
+  pub few : length (changes_of d trx) < CHANGE_LIMIT
   pub lock : (finite.get d.locks (table, key) ≡ None) ⊎ (finite.get d.locks (table, key) ≡ Some trx)
 
 pub may_change : (d : Donor) (trx table key long : ℕ) → IsLocked d → change_cause d trx table key long ≡ None → MayChange d trx table key
@@ -106,7 +106,7 @@ may_change d trx table key long locked none =
     let at_count = both_none (undo_full d trx) (row_locked d trx table key) at_table.1 in
     let active = held_there (finite.get d.active trx) (is_not _ _ at_trx.0) in
     let there = held_there (finite.get d.tables table) (is_not _ _ at_table.0) in
-    let other : length (changes_of d trx) ≢ change_limit = differs (is_not _ _ at_count.0) in
+    let other : length (changes_of d trx) ≢ CHANGE_LIMIT = differs (is_not _ _ at_count.0) in
     let most = locked.few.few trx active.0 active.1 in
     let same = ap length (changes_of_active d trx active.0 active.1) in
     record {

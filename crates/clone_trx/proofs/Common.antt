@@ -1,6 +1,6 @@
 -- The words that the lemmas of this crate share.
 pub use Rattle.clone_contents.proofs.Common.{drop-nil, cases_eq, cases_lt, length-replicate, same_Some, slice_get-get_or, AllByRecursion, big_bytes, length-bytes_high_first, part, kind_of, slot_at, Undo, Bucket, Record, Write, bound_key, row_slot, slots, Finds, unused, FindsFree, slot_in, row_in, present, records_of_change, records_of_taking_back, records_of_begin, records_of_end, made_first, entry_record, count_record, row_record, UndoEntry, IsEntry, entry_bytes, record_page, header_page, record_place, UndoSlot, all_pages-is, Image, page_of, after_records, all_pages, undo_slot_of, Contents, contents_of, set_at, told_value, with_undo, undone, with_slot, HasPage, HasContents, IsFormed, commit_records, opening_records, create_records, position_record, is_unused, telling, committed, opened, MayChange, changed, MayTakeBack, taken_back}
-pub use Rattle.clone_plain.proofs.Common.{length_push, none-some, nat_cmp_total, nat_cmp-IsAntisymmetric, get-empty, range_with_len, get-set_same, get-set_other, get-removed_same, cases_row, slice_get-pushed_last, get-removed_other, row_cmp_total, row_cmp_exact, after_changes, Rows, after_change, fold, Change, Commit, transaction_limit, change_limit, Donor, changes_of, no_donor, TakesBack, Changes, with_change, Commits, begun, Leaves, Releases, value_of, committed_rows, Opened, IsLocked, changes_by}
+pub use Rattle.clone_plain.proofs.Common.{length_push, none-some, nat_cmp_total, nat_cmp-IsAntisymmetric, get-empty, range_with_len, get-set_same, get-set_other, get-removed_same, cases_row, slice_get-pushed_last, get-removed_other, row_cmp_total, row_cmp_exact, after_changes, Rows, after_change, fold, Change, Commit, TRANSACTION_LIMIT, CHANGE_LIMIT, Donor, changes_of, no_donor, TakesBack, Changes, with_change, Commits, begun, Leaves, Releases, value_of, committed_rows, Opened, IsLocked, changes_by}
 pub use Rattle.std.proofs.Math.Seq.{take-append_seam}
 pub use Rattle.std.proofs.lemmas.List.{nil_from_length}
 pub use Rattle.std.proofs.lemmas.Map.Lookups.{exact_unsigned}
@@ -24,7 +24,8 @@ pub use Rattle.clone_contents.specs.Records.{system_size}
 pub use Rattle.clone_store.specs.Stored.{Writes, Keeps, Stored}
 pub use Rattle.clone_plain.proofs.LockLemmas.{taken_locked, committed_locked, begun_locked, left_locked, changed_locked}
 pub use Rattle.clone_plain.proofs.ValueLemmas.{changes_of_active, own-set, others-set, others-removed, taken_value, own_value, SameOthers, after_changes_same, committed_other, committed_value, begun_value, left_value, after_changes-append, value_is, changed_value, changed_value_other, taken_value_other}
-pub use Rattle.clone_plain.specs.Causes.{table_limit, change_cause, no_trx, whether, row_locked, least_unused, no_table, too_long, undo_full, locked_by, value_limit, get_cause}
+pub use Rattle.clone_plain.specs.Causes.{change_cause, no_trx, whether, row_locked, least_unused, no_table, too_long, undo_full, locked_by, get_cause}
+pub use Rattle.clone_base.specs.declared.limits.TheConstants.{TABLE_LIMIT, VALUE_LIMIT}
 pub use Rattle.clone_plain.specs.Donor.{Locks, history}
 pub use Rattle.clone_plain.specs.Effects.{created, Gets}
 pub use Rattle.clone_plain.specs.declared.refusal.Cause.{Cause}

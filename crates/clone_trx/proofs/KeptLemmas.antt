@@ -1,6 +1,6 @@
 -- Each mini-transaction of the engine keeps its image formed, and what the plain donor is.
 use Rattle.std.proofs.Common.{◌≡◌, ◌≢◌, ℕ, ◌<◌, ◌≤◌, ◌+◌, ◌++◌, ◌^◌, List, [], ◌∷◌, length, refl, sym, ap, subst, ◌∙◌, arith, Option, Some, None, is_some}
-use Rattle.clone_trx.proofs.Common.{AllByRecursion, same_Some, Change, Commit, Record, UndoEntry, IsEntry, UndoSlot, header_page, record_page, capacity, records_of_begin, records_of_change, records_of_taking_back, records_of_end, Image, after_records, undo_slot_of, Contents, contents_of, set_at, told_value, HasContents, opening_records, create_records, commit_records, is_unused, change_is, undo_is, Donor, no_donor, changes_of, least_unused, table_limit, transaction_limit, created, begun, TakesBack, Leaves, Commits, value_of, committed_rows, page_number, Keys, keys_in, told, IsSound, IsKept, IsUndoSlot, StandsFor}
+use Rattle.clone_trx.proofs.Common.{AllByRecursion, same_Some, Change, Commit, Record, UndoEntry, IsEntry, UndoSlot, header_page, record_page, capacity, records_of_begin, records_of_change, records_of_taking_back, records_of_end, Image, after_records, undo_slot_of, Contents, contents_of, set_at, told_value, HasContents, opening_records, create_records, commit_records, is_unused, change_is, undo_is, Donor, no_donor, changes_of, least_unused, TABLE_LIMIT, TRANSACTION_LIMIT, created, begun, TakesBack, Leaves, Commits, value_of, committed_rows, page_number, Keys, keys_in, told, IsSound, IsKept, IsUndoSlot, StandsFor}
 use Rattle.std.specs.FinMap as finite
 use Rattle.clone_row.specs.Slots as rows
 use Rattle.clone_contents.proofs.OpeningLemmas.{opening_is}
@@ -35,7 +35,7 @@ opening_keeps lsn = kept (opening_is lsn) opened_sound
 pub opening_keys : (lsn : ℕ) → keys_in (after_records lsn finite.empty opening_records) ≡ (λ table page place. None)
 opening_keys lsn = ap keys_of (opening_is lsn).1
 
-pub create_keeps : (lsn table buckets : ℕ) (d : Donor) (image : Image) → IsKept d image → finite.get d.tables table ≡ None → finite.len d.tables < table_limit → 1 ≤ table → table ≤ 1000000 → 1 ≤ buckets → buckets ≤ 1024
+pub create_keeps : (lsn table buckets : ℕ) (d : Donor) (image : Image) → IsKept d image → finite.get d.tables table ≡ None → finite.len d.tables < TABLE_LIMIT → 1 ≤ table → table ≤ 1000000 → 1 ≤ buckets → buckets ≤ 1024
     → Keeps (created table buckets d) image (after_records lsn image (create_records (finite.len d.tables) table buckets))
 create_keeps lsn table buckets d image is none room low high some few =
     let used : table ≢ 0 = λ zero. omega (arith, zero, low) in
@@ -86,12 +86,12 @@ take_back_keeps lsn trx left d after image slot front e is t used last =
 
 -- the undo slot of an open transaction
 pub record InUse (d : Donor) (image : Image) (trx : ℕ) (commit : Commit) : Type 0 where
-  pub small : trx < transaction_limit
+  pub small : trx < TRANSACTION_LIMIT
   pub own : IsUndoSlot d (contents_of image).slot commit ((contents_of image).undo trx)
 
 pub in_use : (d : Donor) (image : Image) (trx : ℕ) (commit : Commit) → IsKept d image → finite.get d.active trx ≡ Some commit → InUse d image trx commit
 in_use d image trx commit is active =
-    let small : trx < transaction_limit = is.sound.locked.few.numbers trx (ap is_some active) in
+    let small : trx < TRANSACTION_LIMIT = is.sound.locked.few.numbers trx (ap is_some active) in
     record { small = small; own = own_slot d (contents_of image).slot (finite.get d.active trx) ((contents_of image).undo trx) commit active (is.sound.undo trx small) }
 
 -- the slot itself
@@ -113,7 +113,7 @@ pub record KnownRecords (slot : UndoSlot) : Type 0 where
   pub in_range : AllByRecursion IsEntry slot.records
   pub few : length slot.records ≤ capacity
 
-pub known_records : (d : Donor) (image : Image) (trx : ℕ) (slot : UndoSlot) → IsKept d image → trx < transaction_limit → undo_slot_of image trx ≡ Some slot → KnownRecords slot
+pub known_records : (d : Donor) (image : Image) (trx : ℕ) (slot : UndoSlot) → IsKept d image → trx < TRANSACTION_LIMIT → undo_slot_of image trx ≡ Some slot → KnownRecords slot
 known_records d image trx slot is small used = at (finite.get d.active trx) refl (is.sound.undo trx small)
   where
     found : (contents_of image).undo trx ≡ Some slot

@@ -1,6 +1,6 @@
 -- What the engine finds of a row: the value that it shows, and the place for a change of it.
 use Rattle.std.proofs.Common.{◌≡◌, ◌≢◌, ◌<◌, ◌≤◌, ◌%◌, ◌^◌, ◌∙◌, ℕ, List, [], length, Option, Some, None, IsSome, refl, sym, ap, subst, arith, option_map, unwrap_or, ◌==◌, is_some, mod-lt}
-use Rattle.clone_trx.proofs.Common.{option_or, same_Some, Commit, kind_of, UndoEntry, IsBefore, Image, page_of, all_pages, all_pages-is, NoSuchTable, SpaceFull, Donor, row_locked, change_limit, change_cause, get_cause, Gets, changes_of_active, own_value, EngineState, page_number, full_cause, Places, HasValue, IsPlaceFor, held_value, state_of_row, IsKept}
+use Rattle.clone_trx.proofs.Common.{option_or, same_Some, Commit, kind_of, UndoEntry, IsBefore, Image, page_of, all_pages, all_pages-is, NoSuchTable, SpaceFull, Donor, row_locked, CHANGE_LIMIT, change_cause, get_cause, Gets, changes_of_active, own_value, EngineState, page_number, full_cause, Places, HasValue, IsPlaceFor, held_value, state_of_row, IsKept}
 use Rattle.std.specs.FinMap as finite
 use Rattle.clone_trx.proofs.CauseLemmas.{passed, stopped, trx_there, table_there, table_away, own_or_free, Starts, change_by_lock}
 use Rattle.clone_trx.proofs.KeyPlaceLemmas.{bucket_page, shown, held_is, not_full, is_full}
@@ -60,7 +60,7 @@ pub record Reaches (d : Donor) (image : Image) (trx table key long number : ℕ)
   pub kept : IsKept d image
   pub starts : Starts d trx long commit
   pub bucket : Bucket d table key number
-  pub few : length commit.changes ≢ change_limit
+  pub few : length commit.changes ≢ CHANGE_LIMIT
   pub free : row_locked d trx table key ≡ None
   pub there : page_of image table number ≡ Some page
 

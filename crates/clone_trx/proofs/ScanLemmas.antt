@@ -1,10 +1,10 @@
 -- A scan of numbers in ascending order, for the first that passes.
 use Rattle.std.proofs.Common.{◌≡◌, ℕ, zero, suc, ◌+◌, ◌-◌, ◌<◌, ◌≤◌, Bool, true, false, not, cond, refl, sym, ap, ◌∙◌, Option, Some, None, is_some, arith, find}
-use Rattle.clone_trx.proofs.Common.{range_with_len, same_Some, none-some, Donor, transaction_limit, Opened}
+use Rattle.clone_trx.proofs.Common.{range_with_len, same_Some, none-some, Donor, TRANSACTION_LIMIT, Opened}
 use Rattle.clone_plain.specs.Causes.{least_unused}
 use Rattle.std.specs.FinMap as finite
 
-pub least_unused-found : (active : Opened) → least_unused active ≡ find (λ trx. not (finite.contains_key active trx)) (range_with_len 0 transaction_limit)
+pub least_unused-found : (active : Opened) → least_unused active ≡ find (λ trx. not (finite.contains_key active trx)) (range_with_len 0 TRANSACTION_LIMIT)
 unfolding least_unused
 least_unused-found active = refl
 
@@ -37,6 +37,6 @@ none_there : {X : Type 0} (o : Option X) → not (is_some o) ≡ true → o ≡ 
 none_there None is = refl
 none_there (Some x) is = absurd cc
 
-pub least_free_is : (d : Donor) (trx : ℕ) → least_unused d.active ≡ Some trx → (trx < transaction_limit) × (finite.get d.active trx ≡ None)
+pub least_free_is : (d : Donor) (trx : ℕ) → least_unused d.active ≡ Some trx → (trx < TRANSACTION_LIMIT) × (finite.get d.active trx ≡ None)
 unfolding least_unused
-least_free_is d trx is = let f = found (λ n. not (finite.contains_key d.active n)) 0 transaction_limit trx is in (omega (arith, f.0), none_there (finite.get d.active trx) f.1)
+least_free_is d trx is = let f = found (λ n. not (finite.contains_key d.active n)) 0 TRANSACTION_LIMIT trx is in (omega (arith, f.0), none_there (finite.get d.active trx) f.1)

@@ -1,6 +1,6 @@
 -- A change keeps the contents sound.
 use Rattle.std.proofs.Common.{◌≡◌, ◌<◌, ◌≤◌, ◌%◌, ◌⊎◌, ◌++◌, ℕ, List, [], ◌∷◌, length, refl, sym, ap, subst, ◌∙◌, arith, inl, inr, Option, Some, None, is_some, IfSome, unwrap_or, mod-lt}
-use Rattle.clone_trx.proofs.Common.{cases_eq, after_changes, Change, Commit, row_slot, bound_key, UndoEntry, IsEntry, UndoSlot, Contents, told_value, MayChange, changed, telling, set_at-same, set_at-other, slot-same, change_limit, table_limit, Donor, changes_of, with_change, Changes, HoldsTables, HoldsRows, IsUndoSlot, StandsFor, IsSound, TellsChange, TellsChanges, committed_rows, value_of, page_number, told, changes_of_active, own-set, others-set, own_value, changed_value, changed_value_other, changed_locked}
+use Rattle.clone_trx.proofs.Common.{cases_eq, after_changes, Change, Commit, row_slot, bound_key, UndoEntry, IsEntry, UndoSlot, Contents, told_value, MayChange, changed, telling, set_at-same, set_at-other, slot-same, CHANGE_LIMIT, TABLE_LIMIT, Donor, changes_of, with_change, Changes, HoldsTables, HoldsRows, IsUndoSlot, StandsFor, IsSound, TellsChange, TellsChanges, committed_rows, value_of, page_number, told, changes_of_active, own-set, others-set, own_value, changed_value, changed_value_other, changed_locked}
 use Rattle.std.specs.FinMap as finite
 use Rattle.clone_trx.proofs.RowSlotLemmas.{MayTake, KeepsBound, SetsSlot, bound-row_slot, rows_set, kept}
 use Rattle.clone_trx.proofs.UndoRecordLemmas.{counted, in_range, tells_on, tells_push, own_slot, stands_open, stands_still}
@@ -19,14 +19,14 @@ same_tables d after named size same holds = record {
   tables = λ j used. ap (λ m. is_some (finite.get m (named j))) same ∙ holds.tables j used;
   once = holds.once;
   free = λ j high. holds.free j (subst (λ m. finite.len m ≤ j) same high);
-  few = subst (λ m. finite.len m ≤ table_limit) (sym same) holds.few;
+  few = subst (λ m. finite.len m ≤ TABLE_LIMIT) (sym same) holds.few;
 }
 
 -- a change is made for which there is no cause against it, at this place of its bucket's page
 pub record Puts (d after : Donor) (c : Contents) (trx : ℕ) (change : Change) (place : ℕ) : Type 0 where
   pub made : Changes d trx change after
   pub lock : (finite.get d.locks (change.table, change.key) ≡ None) ⊎ (finite.get d.locks (change.table, change.key) ≡ Some trx)
-  pub room : length (changes_of d trx) < change_limit
+  pub room : length (changes_of d trx) < CHANGE_LIMIT
   pub short : IfSome change.value (λ v. length v ≤ 64)
   pub is_place : MayTake c change.table (page_number d change.table change.key) place change.key
   pub in_range : IsEntry (told d change.table change.key place (value_of d change.table change.key))

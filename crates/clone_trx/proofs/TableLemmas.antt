@@ -1,12 +1,12 @@
 -- A table is made, and the contents stay sound.
 use Rattle.std.proofs.Common.{◌≡◌, ◌≢◌, ◌<◌, ◌≤◌, ◌+◌, ◌⊎◌, ℕ, cond, refl, sym, ap, subst, ◌∙◌, inl, inr, Option, Some, None, IsSome, arith, is_some}
-use Rattle.clone_trx.proofs.Common.{nat_cmp-IsAntisymmetric, len-insert, nat_cmp_total, cases_eq, same_Some, none-some, Contents, set_at, set_at-same, set_at-other, table_limit, Donor, HoldsTables, IsSound, get-set_same, get-set_other}
+use Rattle.clone_trx.proofs.Common.{nat_cmp-IsAntisymmetric, len-insert, nat_cmp_total, cases_eq, same_Some, none-some, Contents, set_at, set_at-same, set_at-other, TABLE_LIMIT, Donor, HoldsTables, IsSound, get-set_same, get-set_other}
 use Rattle.std.specs.FinMap as finite
 use Rattle.clone_contents.specs.Steps as contents
 use Rattle.clone_plain.specs.Effects as plain
 use Rattle.clone_trx.proofs.UndoRecordLemmas.{stands_still}
 
-module _ (d : Donor) (c : Contents) (place table buckets : ℕ) (sound : IsSound d c) (none : finite.get d.tables table ≡ None) (end : place ≡ finite.len d.tables) (room : place < table_limit) (behind : table ≢ 0) (low : 1 ≤ table) (high : table ≤ 1000000) (some : 1 ≤ buckets) (few : buckets ≤ 1024) where
+module _ (d : Donor) (c : Contents) (place table buckets : ℕ) (sound : IsSound d c) (none : finite.get d.tables table ≡ None) (end : place ≡ finite.len d.tables) (room : place < TABLE_LIMIT) (behind : table ≢ 0) (low : 1 ≤ table) (high : table ≤ 1000000) (some : 1 ≤ buckets) (few : buckets ≤ 1024) where
   abbrev after : Donor
   after = plain.created table buckets d
 

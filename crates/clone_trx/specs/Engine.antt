@@ -1,4 +1,5 @@
--- What contracts see of an engine: the plain donor that it is, its pages, and the redo log that made them.
+-- What contracts see of an engine: the plain donor that it is, its pages, and the redo log that
+-- made them.
 use Rattle.std.specs.Prelude.{ℕ, ◌%◌, List, [], unwrap_or, refl}
 use Rattle.std.specs.FinMap as finite
 use Rattle.std.specs.Ordering.{nat_cmp}

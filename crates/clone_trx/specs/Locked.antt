@@ -4,8 +4,8 @@ use Rattle.std.specs.declared.alloc.Global.{Global}
 use Rattle.std.specs.Option.{option_map_or}
 use Rattle.std.specs.List.{Contains}
 use Rattle.std.specs.FinMap as finite
+use Rattle.clone_base.specs.declared.limits.TheConstants.{TRANSACTION_LIMIT}
 use Rattle.clone_plain.specs.Donor.{Locks}
-use Rattle.clone_plain.specs.Causes.{transaction_limit}
 
 -- the locks that an ordered map lists
 abbrev pub holders_of : List ((ℕ × ℕ) × ℕ) → Locks
@@ -20,7 +20,7 @@ list_at lists trx = option_map_or (λ rows. rows.items) (slice_get lists trx) []
 
 -- each row stands in the list of the transaction that holds it, and in no other
 pub record AreListed (holders : Locks) (lists : Lists) : Type 0 where
-  pub count : length lists ≡ transaction_limit
+  pub count : length lists ≡ TRANSACTION_LIMIT
   pub held : (trx : ℕ) (row : ℕ × ℕ) → Contains (list_at lists trx) row
       → finite.get holders row ≡ Some trx
   pub listed : (trx : ℕ) (row : ℕ × ℕ) → finite.get holders row ≡ Some trx

@@ -10,7 +10,8 @@ use Rattle.clone_plain.specs.Donor.{Donor, changes_of}
 use Rattle.clone_plain.specs.Locked.{value_of}
 use Rattle.clone_trx.specs.Engine.{EngineState, page_number}
 
--- the slot for a key: the one that is bound to it, else the first that was never used, or none where there is neither
+-- the slot for a key: the one that is bound to it, else the first that was never used, or none
+-- where there is neither
 abbrev pub Places : ℕ → List ℕ → Option ℕ → Type 0
 Places key page found =
     MatchOption found (Finds key (slots page) None × FindsFree (slots page) None)
@@ -45,7 +46,8 @@ told d table key place value =
       value = unwrap_or value [];
     }
 
--- where a change of a row goes, for the transaction of this number: the place of its key, with what its undo record tells, and how many changes the transaction has made
+-- where a change of a row goes, for the transaction of this number: the place of its key, with what
+-- its undo record tells, and how many changes the transaction has made
 pub record IsPlaceFor (s : EngineState) (trx table key : ℕ) (entry : UndoEntry) (fresh : Bool)
     (made : ℕ) : Type 0 where
   pub place : Places key (all_pages s.image table entry.page) (Some entry.slot)

@@ -2,9 +2,11 @@
 use Rattle.std.specs.Prelude.{ℕ, ◌≡◌, ◌≢◌, ◌<◌, ◌≤◌, ◌%◌, List, [], ◌∷◌, length, None, Some, IsSome, MatchOption}
 use Rattle.std.specs.declared.option.Option.{Option}
 use Rattle.std.specs.FinMap as finite
+use Rattle.clone_base.specs.declared.limits.TheConstants.{TRANSACTION_LIMIT, TABLE_LIMIT}
 use Rattle.clone_model.specs.History.{Rows, after_change}
 use Rattle.clone_model.specs.declared.change.Change.{Change}
 use Rattle.clone_model.specs.declared.change.Commit.{Commit}
+use Rattle.clone_model.specs.declared.line.TheConstants.{HIGHEST_TABLE, MOST_BUCKETS}
 use Rattle.clone_row.specs.Slots.{Slot, row_slot, bound_key, unused}
 use Rattle.clone_undo.specs.Entries.{UndoEntry, IsEntry}
 use Rattle.clone_undo.specs.Slots.{UndoSlot}
@@ -12,7 +14,6 @@ use Rattle.clone_image.specs.Image.{Image}
 use Rattle.clone_contents.specs.Contents.{Contents, contents_of, told_value}
 use Rattle.clone_contents.specs.Formed.{IsFormed}
 use Rattle.clone_plain.specs.Donor.{Donor}
-use Rattle.clone_plain.specs.Causes.{transaction_limit, table_limit}
 use Rattle.clone_plain.specs.Locked.{IsLocked, committed_rows, value_of}
 
 -- from a table, a page and a place to the slot there
@@ -23,18 +24,20 @@ Slots = ℕ → ℕ → ℕ → Slot
 abbrev pub IsBound : Slots → ℕ → ℕ → ℕ → ℕ → Type 0
 IsBound slot table page place key = bound_key (slot table page place) ≡ Some key
 
--- Each table stands in one entry of the dictionary and has a space with a page for each bucket, and there are no others. The entries that are used are the first ones.
+-- Each table stands in one entry of the dictionary and has a space with a page for each bucket, and
+-- there are no others. The entries that are used are the first ones.
 pub record HoldsTables (d : Donor) (named : ℕ → ℕ) (size : ℕ → Option ℕ) : Type 0 where
   pub sizes : (table count : ℕ) → finite.get d.tables table ≡ Some count → (size table ≡ Some count)
-      × (1 ≤ table) × (table ≤ 1000000) × (1 ≤ count) × (count ≤ 1024)
+      × (1 ≤ table) × (table ≤ HIGHEST_TABLE) × (1 ≤ count) × (count ≤ MOST_BUCKETS)
   pub spaces : (table : ℕ) → table ≢ 0 → finite.get d.tables table ≡ None → size table ≡ None
   pub listed : (table : ℕ) → IsSome (finite.get d.tables table) → (j : ℕ) × (named j ≡ table)
   pub tables : (j : ℕ) → named j ≢ 0 → IsSome (finite.get d.tables (named j))
   pub once : (i j : ℕ) → named i ≢ 0 → named i ≡ named j → i ≡ j
   pub free : (j : ℕ) → finite.len d.tables ≤ j → named j ≡ 0
-  pub few : finite.len d.tables ≤ table_limit
+  pub few : finite.len d.tables ≤ TABLE_LIMIT
 
--- A slot that is bound to a key shows the key's value, and all others were never used. A key is bound once at most, on the page of its bucket, and it is wherever it has a value.
+-- A slot that is bound to a key shows the key's value, and all others were never used. A key is
+-- bound once at most, on the page of its bucket, and it is wherever it has a value.
 pub record HoldsRows (d : Donor) (slot : Slots) : Type 0 where
   pub shown : (table page place key : ℕ) → IsBound slot table page place key
       → slot table page place ≡ row_slot key (value_of d table key)
@@ -55,7 +58,8 @@ pub record TellsChange (slot : Slots) (rows : Rows) (change : Change) (e : UndoE
   pub bound : IsBound slot e.table e.page e.slot e.key
   pub before : told_value e ≡ finite.get rows (change.table, change.key)
 
--- undo records tell of changes that were made one after the other, where the rows were these at first
+-- undo records tell of changes that were made one after the other, where the rows were these at
+-- first
 abbrev pub TellsChanges : Slots → Rows → List Change → List UndoEntry → Type 0
 TellsChanges slot rows [] [] = Unit {0}
 TellsChanges slot rows (c ∷ cs) (e ∷ es) =
@@ -77,7 +81,7 @@ StandsFor d slot active found =
 
 abbrev pub HoldsUndo : Donor → Slots → (ℕ → Option UndoSlot) → Type 0
 HoldsUndo d slot undo =
-    (s : ℕ) → s < transaction_limit → StandsFor d slot (finite.get d.active s) (undo s)
+    (s : ℕ) → s < TRANSACTION_LIMIT → StandsFor d slot (finite.get d.active s) (undo s)
 
 -- all of it, with the number of commits
 pub record IsSound (d : Donor) (c : Contents) : Type 0 where

@@ -24,7 +24,8 @@ pub record Appends (records : List Record) (before after : EngineState) : Type 0
   pub log : after.log ≡ before.log ++ spelling records
   pub image : after.image ≡ after_records (first_lsn + length after.log) before.image records
 
--- a new table takes the least free entry of the dictionary, which is behind those of the tables that are there
+-- a new table takes the least free entry of the dictionary, which is behind those of the tables
+-- that are there
 abbrev pub AppendsCreate : ℕ → ℕ → EngineState → EngineState → Type 0
 AppendsCreate table buckets before after =
     Appends (create_records (finite.len before.donor.tables) table buckets) before after
@@ -34,7 +35,9 @@ AppendsBegin writer index trx before after =
     Appends (records_of_begin (is_unused before.image 0 (header_page trx)) trx writer index) before
     after
 
--- A change appends its undo record, the new count of its undo slot, and the row's slot with the new value, or as absent. The row goes to the slot of its bucket's page that is bound to its key, else to the first one that was never used. Pages that were never used are made first.
+-- A change appends its undo record, the new count of its undo slot, and the row's slot with the new
+-- value, or as absent. The row goes to the slot of its bucket's page that is bound to its key, else
+-- to the first one that was never used. Pages that were never used are made first.
 pub record AppendsChange (trx : ℕ) (change : Change) (before after : EngineState) : Type 0 where
   pub place : ℕ
   pub is_place : Places change.key
@@ -49,7 +52,8 @@ pub record AppendsChange (trx : ℕ) (change : Change) (before after : EngineSta
       (is_unused before.image e.table e.page) trx count e (rows.image change.key change.value))
       before after
 
--- Taking a change back gives the row's slot the state, the length and the value from before the change, and its undo slot a count of one less.
+-- Taking a change back gives the row's slot the state, the length and the value from before the
+-- change, and its undo slot a count of one less.
 pub record AppendsTakingBack (trx left : ℕ) (before after : EngineState) : Type 0 where
   pub last : Change
   pub was_last : slice_get (changes_of before.donor trx) left ≡ Some last

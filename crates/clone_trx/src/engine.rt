@@ -2,6 +2,7 @@ ghost use Rattle.std.specs.Prelude.{◌≡◌, ◌<◌, ◌≤◌, ◌%◌, ◌+
 ghost use Rattle.std.specs.Option.{option_copied};
 ghost use Rattle.std.specs.List.{AllByRecursion};
 ghost use Rattle.std.specs.FinMap as finite;
+ghost use Rattle.clone_base.specs.declared.limits.TheConstants.{TRANSACTION_LIMIT};
 ghost use Rattle.clone_model.specs.History.{fold};
 ghost use Rattle.clone_mtr.specs.Spelling.{spelling};
 ghost use Rattle.clone_undo.specs.Entries.{IsEntry};
@@ -13,7 +14,7 @@ ghost use Rattle.clone_image.specs.Replay.{first_lsn, Replays};
 ghost use Rattle.clone_image.specs.Rows.{HasRows};
 ghost use Rattle.clone_contents.specs.Records.{opening_records};
 ghost use Rattle.clone_plain.specs.Donor.{no_donor, history};
-ghost use Rattle.clone_plain.specs.Causes.{create_cause, begin_cause, least_unused, transaction_limit};
+ghost use Rattle.clone_plain.specs.Causes.{create_cause, begin_cause, least_unused};
 ghost use Rattle.clone_plain.specs.Decided.{Decided, none_outside};
 ghost use Rattle.clone_plain.specs.Effects.{created, Begins};
 ghost use Rattle.clone_trx.specs.Keys.{keys_in};
@@ -182,9 +183,9 @@ impl Engine {
         ensures replays { Replays self.now.log self.now.image }
         ensures rows { HasRows (page_of (recovered self.now.image))
             (fold (history self.now.donor)) }
-        ensures in_range { (s : ℕ) (slot : UndoSlot) → s < transaction_limit
+        ensures in_range { (s : ℕ) (slot : UndoSlot) → s < TRANSACTION_LIMIT
             → undo_slot_of self.now.image s ≡ Some slot → AllByRecursion IsEntry slot.records }
-        ensures counts { (s : ℕ) (slot : UndoSlot) → s < transaction_limit
+        ensures counts { (s : ℕ) (slot : UndoSlot) → s < TRANSACTION_LIMIT
             → undo_slot_of self.now.image s ≡ Some slot → length slot.records ≤ capacity }
         ensures kept { IsKept self.now.donor self.now.image }
         ensures drops { self.now.donor.drops ≡ [] }

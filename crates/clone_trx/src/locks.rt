@@ -1,7 +1,7 @@
 ghost use Rattle.std.specs.Prelude.{◌≡◌, ◌<◌, [], Some, IfOk, OnOk, OnErr, IsOk, IfSome};
 ghost use Rattle.std.specs.FinMap as finite;
+ghost use Rattle.clone_base.specs.declared.limits.TheConstants.{TRANSACTION_LIMIT};
 ghost use Rattle.clone_plain.specs.Effects.{Releases};
-ghost use Rattle.clone_plain.specs.Causes.{transaction_limit};
 ghost use Rattle.clone_trx.specs.Locked.{holders_of, without};
 
 use clone_plain::TRANSACTION_LIMIT;
@@ -60,7 +60,7 @@ impl Locks {
     /// The transaction holds the row's lock, which no other does. Where it holds it already this takes no
     /// memory. After a refusal the locks are as before.
     pub fn lock(&mut self, trx: u32, table: u32, key: u64) -> Result<(), AllocError>
-        requires open { trx < transaction_limit }
+        requires open { trx < TRANSACTION_LIMIT }
         requires free { IfSome (finite.get self.old (table, key)) (λ holder. holder ≡ trx) }
         ensures ok { OnOk result (self.new ≡ finite.insert self.old (table, key) trx) }
         ensures err { OnErr result (self.new ≡ self.old) }
@@ -78,7 +78,7 @@ impl Locks {
 
     /// The transaction holds no lock, and the others hold theirs. This takes no memory.
     pub fn release(&mut self, trx: u32)
-        requires { trx < transaction_limit }
+        requires { trx < TRANSACTION_LIMIT }
         ensures { Releases trx self.old self.new }
     {
         remove_all(&mut self.holders, &self.rows[trx as usize]);

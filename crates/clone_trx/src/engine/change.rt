@@ -1,8 +1,9 @@
 ghost use Rattle.std.specs.Prelude.{◌≡◌, ◌==◌, ◌<◌, ◌≤◌, ℕ, None, length, OnOk, OnErr};
+ghost use Rattle.clone_base.specs.declared.limits.TheConstants.{TRANSACTION_LIMIT, CHANGE_LIMIT};
 ghost use Rattle.clone_mtr.specs.Spelling.{longest};
 ghost use Rattle.clone_undo.specs.Changes.{records_of_change};
 ghost use Rattle.clone_store.specs.Stored.{Writes};
-ghost use Rattle.clone_plain.specs.Causes.{change_cause, transaction_limit, change_limit};
+ghost use Rattle.clone_plain.specs.Causes.{change_cause};
 ghost use Rattle.clone_plain.specs.Decided.{Decided, none_outside};
 ghost use Rattle.clone_plain.specs.Effects.{Changes, put_of, delete_of};
 ghost use Rattle.clone_trx.specs.Engine.{page_number};
@@ -125,8 +126,8 @@ fn write_change(
     first: usize,
 )
     requires room { longest ≤ store.old.room }
-    requires trx { trx < transaction_limit }
-    requires count { place.now.count < change_limit }
+    requires trx { trx < TRANSACTION_LIMIT }
+    requires count { place.now.count < CHANGE_LIMIT }
     requires first { first ≤ 1 }
     ensures { Writes (records_of_change (first == 0) place.now.unused trx place.now.count
         place.now.entry image.now) store.old store.new }

@@ -1,9 +1,10 @@
 ghost use Rattle.std.specs.Prelude.{◌≡◌, ◌++◌, ◌∷◌, [], ◌<◌, ◌≤◌, ℕ, List, None, Some, length, IfOk, OnOk, OnErr};
+ghost use Rattle.clone_base.specs.declared.limits.TheConstants.{TRANSACTION_LIMIT};
 ghost use Rattle.clone_undo.specs.Entries.{UndoEntry, IsEntry};
 ghost use Rattle.clone_undo.specs.Places.{capacity};
 ghost use Rattle.clone_undo.specs.Slots.{UndoSlot};
 ghost use Rattle.clone_image.specs.Recovered.{undo_slot_of};
-ghost use Rattle.clone_plain.specs.Causes.{no_trx, transaction_limit};
+ghost use Rattle.clone_plain.specs.Causes.{no_trx};
 ghost use Rattle.clone_plain.specs.Decided.{Decided, none_outside};
 ghost use Rattle.clone_plain.specs.Effects.{Undoes};
 ghost use Rattle.clone_trx.specs.Keys.{keys_in};
@@ -46,7 +47,7 @@ impl Engine {
 
 // The record of the last of so many changes of a transaction, from its page.
 fn last_entry(store: &Store, trx: u32, count: u16) -> UndoRecord
-    requires trx { trx < transaction_limit }
+    requires trx { trx < TRANSACTION_LIMIT }
     requires few { count ≤ capacity }
     requires slot { (slot : UndoSlot) × (front : List UndoEntry) × (e : UndoEntry)
         × (undo_slot_of store.now.image trx ≡ Some slot) × (slot.records ≡ front ++ e ∷ [])
