@@ -1,23 +1,15 @@
 -- A buffer stays kept, whatever a fetch does.
 use Rattle.std.proofs.Common.{◌≡◌, ◌<◌, ◌^◌, ◌&&◌, ℕ, Bool, true, false, List, not, set, refl, sym, ap, subst, ◌∙◌, Option, Some, None, Ok, Err, Result, IsSome, IsTrue, is_some, MatchOption}
-use Rattle.std.proofs.lemmas.Bool.{false≢true, and_from}
-use Rattle.std.proofs.lemmas.List.{get_or-set_same}
+use Rattle.clone_buffer.proofs.Common.{false≢true, get_or-set_same, DiskImage, ForTold, GivesQuiet, Image, replayed, ends, Frame, PageName, FetchRefusal, no_frame, frame_at, holder, touched, next_use, Frames, IsPool, IsVictim, used, State, Buffered, Shows, Flushes, frame_in, frame_of, IsKeptPage, IsKept}
+use Rattle.std.proofs.lemmas.Bool.{and_from}
 use Rattle.std.proofs.lemmas.Slice.Eq.{bytes_eq-Decides}
-use Rattle.clone_outside.specs.Disk.{DiskImage, ForTold, GivesQuiet}
-use Rattle.clone_image.specs.Image.{Image, page_of}
-use Rattle.clone_image.specs.Replay.{replayed}
-use Rattle.clone_law.specs.Since.{ends}
-use Rattle.clone_pool.specs.declared.frame.Frame.{Frame}
+use Rattle.clone_image.specs.Image.{page_of}
 use Rattle.clone_pool.specs.declared.frame.Flush.TheVariants as flush
-use Rattle.clone_pool.specs.declared.frame.PageName.{PageName}
-use Rattle.clone_pool.specs.declared.pool.FetchRefusal.{FetchRefusal}
 use Rattle.clone_pool.specs.declared.pool.FetchRefusal.TheVariants.{PoolFull, DiskFault}
-use Rattle.clone_pool.specs.Frames.{no_frame, frame_at, name_of, holder, touched, may_go, filled, emptied, next_use}
-use Rattle.clone_pool.specs.Pool.{Frames, IsPool, IsVictim, Fills, Fetches, Misses, used}
-use Rattle.clone_shadow.specs.State.{State, is_page}
-use Rattle.clone_buffer.specs.Buffered.{Buffered, Shows}
-use Rattle.clone_buffer.specs.OnePage.{Flushes, frame_in, frame_of}
-use Rattle.clone_buffer.specs.Keeping.{IsKeptPage, IsKept, Stands}
+use Rattle.clone_pool.specs.Frames.{may_go, filled, emptied}
+use Rattle.clone_pool.specs.Pool.{Fills, Fetches, Misses}
+use Rattle.clone_shadow.specs.State.{is_page}
+use Rattle.clone_buffer.specs.Keeping.{Stands}
 use Rattle.clone_buffer.proofs.PageLemmas.{like_page, lost_page, read_bytes, read_page}
 use Rattle.clone_buffer.proofs.FrameLemmas.{holder_name, some_name, no_name, none_some, counted, Becomes, set_becomes, moved, held_on}
 use Rattle.clone_buffer.proofs.ShownLemmas.{stands_there, shown_there}

@@ -1,37 +1,24 @@
 -- A flush of a page, step by step, leaves each page kept.
 use Rattle.std.proofs.Common.{◌≡◌, ◌≢◌, ◌<◌, ◌≤◌, ◌⊎◌, inl, inr, ◌&&◌, ◌↔◌, ◌++◌, ℕ, Bool, true, false, List, length, drop, slice_get, set, refl, sym, ap, subst, ◌∙◌, arith, Option, Some, None, option_and_then, unwrap_or, is_some, IsSome, IsTrue, if◌then◌else◌, get_or, not, ◌==◌}
-use Rattle.std.proofs.lemmas.Bool.{cases_eq, false≢true, true≢false, and_parts}
-use Rattle.std.proofs.lemmas.List.{get_or-set_same, get_or-set_other, take-append-drop, length-append}
+use Rattle.clone_buffer.proofs.Common.{cases_eq, false≢true, true≢false, and_parts, length-append, DiskImage, Record, log_of, stands, redone, ends, EngineRule, Engine, engine_kept, Frame, Flush, PageName, is_name_of, frame_at, name_in, name_of, holder, is_fresh, is_begun, Frames, IsPool, with_frame, named, is_own_name, within, Buffered, Flushes, disk_standing, is_open, has_space, frame_in, frame_of, flight_of, engine_with, IsKeptPage, IsKept}
+use Rattle.std.proofs.lemmas.List.{take-append-drop}
 use Rattle.std.proofs.lemmas.Option.{slice_get_within, get_or_from_slice_get}
 use Rattle.std.specs.FinMap as finite
 use Rattle.clone_base.proofs.MapEntries.{slice_get-set_same, slice_get-set_other}
 use Rattle.clone_outside.specs.Disk as disk
-use Rattle.clone_outside.specs.Disk.{DiskImage, Spaces}
+use Rattle.clone_outside.specs.Disk.{Spaces}
 use Rattle.clone_outside.specs.declared.disk.Held.{Held}
 use Rattle.clone_outside.specs.declared.disk.TheConstants.{HALF_PAGE}
-use Rattle.clone_mtr.specs.declared.record.Record.{Record}
-use Rattle.clone_mtr.specs.Spelling.{log_of}
-use Rattle.clone_image.specs.Redone.{stands, redone}
 use Rattle.clone_image.proofs.Images.{get-put_same, get-put_other}
 use Rattle.clone_image.proofs.Logs.{log_of-append}
-use Rattle.clone_law.specs.Since.{ends, IsAt}
-use Rattle.clone_law.specs.Rule.{EngineRule}
+use Rattle.clone_law.specs.Since.{IsAt}
 use Rattle.clone_law.specs.Machine as machine
-use Rattle.clone_law.specs.Machine.{Engine, Flight, Begun, Half, Landed, Checkpointed, AtMost}
-use Rattle.clone_law.proofs.EventLemmas.{engine_kept}
+use Rattle.clone_law.specs.Machine.{Flight, Begun, Half, Landed, Checkpointed, AtMost}
 use Rattle.clone_law.proofs.ExampleLemmas.{at_end}
-use Rattle.clone_pool.specs.declared.frame.Frame.{Frame}
-use Rattle.clone_pool.specs.declared.frame.Flush.{Flush}
 use Rattle.clone_pool.specs.declared.frame.Flush.TheVariants as flush
-use Rattle.clone_pool.specs.declared.frame.PageName.{PageName}
-use Rattle.clone_pool.specs.Index.{is_name_of}
-use Rattle.clone_pool.specs.Frames.{no_frame, frame_at, name_in, name_of, holder, is_fresh, is_dirty, is_begun, begun, landed, failed}
-use Rattle.clone_pool.specs.Pool.{Frames, IsPool, IsFrame, KeepsOthers, with_frame}
-use Rattle.clone_pool.proofs.NameLemmas.{named, is_own_name}
-use Rattle.clone_pool.proofs.PoolLemmas.{within}
-use Rattle.clone_buffer.specs.Buffered.{Buffered}
-use Rattle.clone_buffer.specs.OnePage.{Flushes, standing_at, standing_in, disk_standing, is_open, has_space, frame_in, frame_of, oldest_in, flush_in, flight_of, engine_with}
-use Rattle.clone_buffer.specs.Keeping.{IsKeptPage, IsKept}
+use Rattle.clone_pool.specs.Frames.{is_dirty, begun, landed, failed}
+use Rattle.clone_pool.specs.Pool.{IsFrame}
+use Rattle.clone_buffer.specs.OnePage.{standing_at, standing_in, oldest_in, flush_in}
 use Rattle.clone_buffer.specs.Flushing.{with_image, with_change, Changes, BeginKeeps, OpenKeeps, LandKeeps, RestLands, FailKeeps, CheckpointKeeps}
 use Rattle.clone_buffer.proofs.FrameLemmas.{holder_name, is_named, some_name, counted, frame_in-old, set_becomes, held_on}
 use Rattle.clone_buffer.proofs.PageLemmas.{world}

@@ -1,14 +1,8 @@
 -- The frame of each page, once one frame has changed.
 use Rattle.std.proofs.Common.{◌≡◌, ◌<◌, ◌⊎◌, inl, inr, ℕ, Bool, true, false, List, length, map, set, refl, sym, ap, subst, ◌∙◌, arith, Option, Some, None, if◌then◌else◌}
-use Rattle.std.proofs.lemmas.Bool.{true≢false}
-use Rattle.std.proofs.lemmas.List.{get_or-map, length-map, get_or-set_same, get_or-set_other}
-use Rattle.clone_pool.specs.declared.frame.Frame.{Frame}
-use Rattle.clone_pool.specs.declared.frame.PageName.{PageName}
-use Rattle.clone_pool.specs.Index.{is_name_of}
-use Rattle.clone_pool.specs.Frames.{no_frame, frame_at, name_of, is_fresh, holder}
-use Rattle.clone_pool.specs.Pool.{Frames, IsPool, KeepsOthers}
-use Rattle.clone_pool.proofs.NameLemmas.{found_name, named, is_own_name}
-use Rattle.clone_buffer.specs.OnePage.{frame_in}
+use Rattle.clone_buffer.proofs.Common.{true≢false, get_or-set_same, get_or-set_other, Frame, PageName, is_name_of, no_frame, frame_at, name_of, is_fresh, holder, Frames, IsPool, KeepsOthers, named, is_own_name, frame_in}
+use Rattle.std.proofs.lemmas.List.{get_or-map, length-map}
+use Rattle.clone_pool.proofs.NameLemmas.{found_name}
 
 -- the frame that is found has the page
 pub holder_name : (frames : List Frame) (page : PageName) (at : ℕ) → holder frames page ≡ Some at

@@ -1,24 +1,12 @@
 -- A new buffer over a blank disk is kept, and where a buffer is kept, the disk's page with its redo is the frame.
 use Rattle.std.proofs.Common.{◌≡◌, ◌&&◌, ℕ, Bool, true, false, List, [], replicate, refl, sym, ap, subst, ◌∙◌, arith, Option, Some, None, option_and_then, slice_get, IsSome, IsTrue}
-use Rattle.std.proofs.lemmas.Bool.{false≢true}
-use Rattle.std.proofs.lemmas.List.{get_or-replicate, length-replicate}
-use Rattle.std.specs.FinMap.{get-empty}
+use Rattle.clone_buffer.proofs.Common.{false≢true, get_or-replicate, length-replicate, get-empty, nat_cmp, DiskImage, Record, Standing, no_space, past_end, stands, redone, Engine, HasSpace, EngineRule, Frame, PageName, no_frame, name_of, holder, Frames, Buffered, Flushes, frame_in, frame_of, is_open, has_space, engine_with, IsKeptPage, IsKept}
 use Rattle.std.specs.FinMap as finite
-use Rattle.std.specs.Ordering.{nat_cmp}
-use Rattle.clone_outside.specs.Disk.{DiskImage, blank, page_of}
+use Rattle.clone_outside.specs.Disk.{blank, page_of}
 use Rattle.clone_outside.specs.declared.disk.Held as held
-use Rattle.clone_mtr.specs.declared.record.Record.{Record}
-use Rattle.clone_image.specs.Redone.{Standing, no_space, past_end, stands, redone}
-use Rattle.clone_law.specs.Machine.{Engine, HasSpace}
-use Rattle.clone_law.specs.Rule.{EngineRule}
 use Rattle.clone_law.proofs.EventLemmas.{nothing_kept, clean_is_disk, dirty_is_redone}
-use Rattle.clone_pool.specs.declared.frame.Frame.{Frame}
-use Rattle.clone_pool.specs.declared.frame.PageName.{PageName}
-use Rattle.clone_pool.specs.Frames.{no_frame, name_of, holder}
-use Rattle.clone_pool.specs.Pool.{Frames}
-use Rattle.clone_buffer.specs.Buffered.{Buffered}
-use Rattle.clone_buffer.specs.OnePage.{Flushes, unflushed, frame_in, frame_of, is_open, has_space, standing_in, engine_with}
-use Rattle.clone_buffer.specs.Keeping.{IsKeptPage, IsKept, DiskIsFrames}
+use Rattle.clone_buffer.specs.OnePage.{unflushed, standing_in}
+use Rattle.clone_buffer.specs.Keeping.{DiskIsFrames}
 use Rattle.clone_buffer.proofs.FrameLemmas.{holder_name, no_name}
 
 -- frames without pages hold none

@@ -1,3 +1,4 @@
+pub mod Common
 pub mod FrameLemmas
 pub mod ShownLemmas
 pub mod PageLemmas

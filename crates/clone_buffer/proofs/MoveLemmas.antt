@@ -1,17 +1,10 @@
 -- A buffer stands, whatever is done to a frame that leaves its page as it is.
-use Rattle.std.proofs.Common.{◌≡◌, ◌<◌, ◌&&◌, ◌==◌, ◌-◌, ℕ, Bool, true, false, List, length, set, refl, sym, ap, subst, ◌∙◌, Option, Some, None, Ok, Err, Result, MatchOption, if◌then◌else◌}
-use Rattle.std.proofs.lemmas.List.{get_or-set_same, get_or-set_other, length-set}
-use Rattle.clone_outside.specs.Disk.{DiskImage}
-use Rattle.clone_ring.specs.Window.{Window}
-use Rattle.clone_pool.specs.declared.frame.Frame.{Frame}
-use Rattle.clone_pool.specs.declared.frame.Content.TheVariants.{Unused}
-use Rattle.clone_pool.specs.declared.frame.PageName.{PageName}
-use Rattle.clone_pool.specs.declared.pool.FetchRefusal.{FetchRefusal}
-use Rattle.clone_pool.specs.Frames.{no_frame, frame_at, name_of, is_fresh, holder, touched, pinned, unpinned, freshened, next_use}
-use Rattle.clone_pool.specs.Pool.{Frames, IsPool, IsVictim, Freshens, TakesFrame, used, with_frame, with_fresh}
-use Rattle.clone_buffer.specs.Buffered.{Buffered}
-use Rattle.clone_buffer.specs.OnePage.{Flushes, frame_of}
-use Rattle.clone_buffer.specs.Keeping.{IsKeptPage, IsKept, Stands}
+use Rattle.std.proofs.Common.{◌≡◌, ◌<◌, ◌&&◌, ◌==◌, ◌-◌, ℕ, Bool, true, false, List, length, refl, sym, ap, subst, ◌∙◌, Option, Some, None, Ok, Err, Result, MatchOption, if◌then◌else◌}
+use Rattle.clone_buffer.proofs.Common.{DiskImage, Window, Frame, Unused, PageName, FetchRefusal, frame_at, is_fresh, holder, touched, freshened, next_use, Frames, IsPool, IsVictim, used, with_frame, Buffered, Flushes, frame_of, IsKeptPage, IsKept}
+use Rattle.std.proofs.lemmas.List.{length-set}
+use Rattle.clone_pool.specs.Frames.{pinned, unpinned}
+use Rattle.clone_pool.specs.Pool.{Freshens, TakesFrame, with_fresh}
+use Rattle.clone_buffer.specs.Keeping.{Stands}
 use Rattle.clone_buffer.proofs.PageLemmas.{like_page}
 use Rattle.clone_buffer.proofs.FrameLemmas.{holder_name, no_name, counted, Becomes, set_becomes, moved, held_on}
 use Rattle.clone_buffer.proofs.FetchLemmas.{makes_place}

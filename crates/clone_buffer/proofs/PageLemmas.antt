@@ -1,22 +1,13 @@
 -- One page that is kept stays so, whatever a call does to it.
-use Rattle.std.proofs.Common.{◌≡◌, ◌↔◌, ◌&&◌, ◌++◌, ℕ, Bool, true, false, List, [], ◌∷◌, slice_get, refl, sym, ap, subst, ◌∙◌, Option, Some, None, option_map, option_and_then, unwrap_or, IsSome, IfSome, IsTrue, if◌then◌else◌}
-use Rattle.std.proofs.lemmas.Bool.{false≢true, true≢false}
+use Rattle.std.proofs.Common.{◌≡◌, ◌↔◌, ◌&&◌, ◌++◌, ℕ, Bool, true, false, List, [], ◌∷◌, slice_get, refl, sym, ap, subst, ◌∙◌, Option, Some, None, option_and_then, unwrap_or, IsSome, IfSome, IsTrue, if◌then◌else◌}
+use Rattle.clone_buffer.proofs.Common.{false≢true, true≢false, DiskImage, GivesQuiet, Record, Standing, no_space, past_end, stands, redone, ends, Suits, EngineRule, Engine, HasSpace, engine_kept, Frame, Flush, is_fresh, noted, is_begun, Flushes, is_open, has_space, flight_of, engine_with, IsKeptPage}
 use Rattle.std.specs.FinMap as finite
-use Rattle.clone_outside.specs.Disk.{DiskImage, page_of, GivesQuiet}
+use Rattle.clone_outside.specs.Disk.{page_of}
 use Rattle.clone_outside.specs.declared.disk.Held.{Held}
-use Rattle.clone_mtr.specs.declared.record.Record.{Record}
-use Rattle.clone_image.specs.Redone.{Standing, no_space, past_end, stands, redone}
-use Rattle.clone_law.specs.Since.{ends, Suits}
 use Rattle.clone_law.specs.Touches.{Lax}
-use Rattle.clone_law.specs.Rule.{EngineRule}
-use Rattle.clone_law.specs.Machine.{Engine, World, Idle, Passed, Changed, Fetched, Evicted, HasSpace, Stands, first_of, dirtied}
-use Rattle.clone_law.proofs.EventLemmas.{engine_kept}
-use Rattle.clone_pool.specs.declared.frame.Frame.{Frame}
-use Rattle.clone_pool.specs.declared.frame.Flush.{Flush}
+use Rattle.clone_law.specs.Machine.{World, Idle, Passed, Changed, Fetched, Evicted, Stands, first_of, dirtied}
 use Rattle.clone_pool.specs.declared.frame.Flush.TheVariants as flush
-use Rattle.clone_pool.specs.Frames.{is_fresh, noted, is_begun}
-use Rattle.clone_buffer.specs.OnePage.{Flushes, standing_at, standing_in, is_open, has_space, flight_of, engine_with}
-use Rattle.clone_buffer.specs.Keeping.{IsKeptPage}
+use Rattle.clone_buffer.specs.OnePage.{standing_at, standing_in}
 use Rattle.clone_buffer.proofs.FrameLemmas.{counted}
 
 -- the page without a clone

@@ -1,18 +1,10 @@
 -- What a frame shows of the page that it has.
 use Rattle.std.proofs.Common.{◌≡◌, ◌<◌, ◌^◌, ℕ, false, List, slice_get, refl, sym, ap, subst, ◌∙◌, Option, Some, None, option_and_then, IsSome}
-use Rattle.std.proofs.lemmas.Bool.{false≢true, true≢false}
+use Rattle.clone_buffer.proofs.Common.{false≢true, true≢false, Record, Image, replayed, stands, redone, replayed_is_redone, ends, Content, Unused, Fresh, PageName, name_in, is_fresh, Shown}
 use Rattle.std.specs.FinMap as finite
-use Rattle.clone_mtr.specs.declared.record.Record.{Record}
-use Rattle.clone_image.specs.Image.{Image, page_of}
-use Rattle.clone_image.specs.Replay.{replayed}
-use Rattle.clone_image.specs.Redone.{stands, standing_at, standing_in, standing_of, redone}
-use Rattle.clone_image.proofs.Redoing.{replayed_is_redone}
-use Rattle.clone_law.specs.Since.{ends}
-use Rattle.clone_pool.specs.declared.frame.Content.{Content}
-use Rattle.clone_pool.specs.declared.frame.Content.TheVariants.{Unused, Fresh, Held}
-use Rattle.clone_pool.specs.declared.frame.PageName.{PageName}
-use Rattle.clone_pool.specs.Frames.{name_in, is_fresh}
-use Rattle.clone_buffer.specs.Buffered.{Shown}
+use Rattle.clone_image.specs.Image.{page_of}
+use Rattle.clone_image.specs.Redone.{standing_at, standing_in, standing_of}
+use Rattle.clone_pool.specs.declared.frame.Content.TheVariants.{Held}
 use Rattle.clone_buffer.proofs.FrameLemmas.{some_name, no_name}
 
 -- a page that the image has stands by the log

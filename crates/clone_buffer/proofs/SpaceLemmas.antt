@@ -1,44 +1,26 @@
 -- A mini-transaction that makes a space which stands on the disk already, with pages of zero bytes alone.
-use Rattle.std.proofs.Common.{◌≡◌, ◌↔◌, ◌≢◌, ◌<◌, ◌≤◌, ◌+◌, ◌^◌, ◌&&◌, ◌==◌, ◌⊎◌, inl, inr, ◌++◌, ℕ, Bool, true, false, List, [], ◌∷◌, length, replicate, slice_get, nat_lt, refl, sym, ap, subst, ◌∙◌, arith, Option, Some, None, Ok, Err, Result, is_some, option_and_then, unwrap_or, IsSome, IsTrue, if◌then◌else◌}
-use Rattle.std.proofs.lemmas.Bool.{cases_eq, cases_lt, false≢true, true≢false, lt-ltb, ltb-true, ltb-false, eq-eqb, eqb-true}
-use Rattle.std.proofs.lemmas.List.{get_or-replicate, length-replicate}
+use Rattle.std.proofs.Common.{◌≡◌, ◌↔◌, ◌≢◌, ◌<◌, ◌≤◌, ◌+◌, ◌^◌, ◌&&◌, ◌==◌, ◌⊎◌, inl, inr, ◌++◌, ℕ, Bool, true, false, List, [], ◌∷◌, length, replicate, slice_get, nat_lt, refl, sym, ap, subst, ◌∙◌, arith, Option, Some, None, Result, is_some, option_and_then, unwrap_or, IsSome, IsTrue, if◌then◌else◌}
+use Rattle.clone_buffer.proofs.Common.{cases_eq, cases_lt, false≢true, true≢false, eqb-true, get_or-replicate, length-replicate, DiskImage, ForTold, zero_page, Record, Standing, no_space, past_end, stands, redone, ends, Suits, EngineRule, Engine, engine_kept, Frame, Flush, frame_at, name_in, name_of, is_fresh, is_begun, holder, noted, Flushes, frame_in, frame_of, flight_of, disk_standing, is_open, has_space, engine_with, IsKeptPage, IsKept, Create, spelling, replayed, IsSpelled, replayed_is_redone, page_of-past, page_of-elsewhere, passes, edits, touches, names, resets, passes_by, suits_unnamed, free_in, LogFull, Content, Unused, Fresh, PageName, IsPool, Buffered, IsBuffer, any_names, written, Writes, MakesSpace, Creates}
+use Rattle.std.proofs.lemmas.Bool.{lt-ltb, ltb-true, ltb-false, eq-eqb}
 use Rattle.std.proofs.lemmas.Option.{slice_get-get_or, slice_get_past}
 use Rattle.std.specs.FinMap as finite
 use Rattle.clone_outside.specs.Disk as disk
-use Rattle.clone_outside.specs.Disk.{DiskImage, ForTold, page_of}
+use Rattle.clone_outside.specs.Disk.{page_of}
 use Rattle.clone_outside.specs.declared.disk.Held as held
-use Rattle.clone_page.specs.Header.{zero_page}
-use Rattle.clone_mtr.specs.declared.record.Record.{Record}
-use Rattle.clone_image.specs.Redone.{Standing, no_space, past_end, stands, made, redone}
-use Rattle.clone_law.specs.Since.{ends, Suits}
-use Rattle.clone_law.specs.Rule.{EngineRule}
-use Rattle.clone_law.specs.Machine.{Engine, Created, Opened}
-use Rattle.clone_law.proofs.EventLemmas.{engine_kept}
-use Rattle.clone_pool.specs.declared.frame.Frame.{Frame}
-use Rattle.clone_pool.specs.declared.frame.Flush.{Flush}
+use Rattle.clone_image.specs.Redone.{made}
+use Rattle.clone_law.specs.Machine.{Created, Opened}
 use Rattle.clone_pool.specs.declared.frame.Flush.TheVariants as flush
-use Rattle.clone_pool.specs.Frames.{frame_at, name_in, name_of, is_fresh, is_begun, holder, noted}
-use Rattle.clone_buffer.specs.OnePage.{Flushes, frame_in, frame_of, standing_at, standing_in, flight_of, disk_standing, is_open, has_space, engine_with}
-use Rattle.clone_buffer.specs.Keeping.{IsKeptPage, IsKept, Stands}
+use Rattle.clone_buffer.specs.OnePage.{standing_at, standing_in}
+use Rattle.clone_buffer.specs.Keeping.{Stands}
 use Rattle.clone_buffer.proofs.PageLemmas.{world}
-use Rattle.clone_mtr.specs.declared.record.Record.TheVariants.{Init, Write, Extend, Create, Drop}
-use Rattle.clone_mtr.specs.Spelling.{spelling}
 use Rattle.clone_image.specs.Image.{page_of as image_page}
-use Rattle.clone_image.specs.Replay.{end_of, replayed, IsSpelled}
+use Rattle.clone_image.specs.Replay.{end_of}
 use Rattle.clone_image.specs.Redone.{standing_in as image_standing}
-use Rattle.clone_image.proofs.Redoing.{replayed_is_redone}
-use Rattle.clone_image.proofs.Images.{page_of-past, page_of-elsewhere}
-use Rattle.clone_law.specs.Touches.{Touch, passes, edits, becomes, reaches, touches, names, resets, passes_by, applied, Sound, Ordered}
-use Rattle.clone_law.proofs.AppendLemmas.{appended, suits_unnamed}
-use Rattle.clone_ring.specs.Window.{free_in}
+use Rattle.clone_law.specs.Touches.{Touch, becomes, reaches, applied, Sound, Ordered}
+use Rattle.clone_law.proofs.AppendLemmas.{appended}
 use Rattle.clone_ring.specs.Window as ring
-use Rattle.clone_ring.specs.declared.log_full.LogFull.{LogFull}
-use Rattle.clone_pool.specs.declared.frame.Content.{Content}
-use Rattle.clone_pool.specs.declared.frame.Content.TheVariants.{Unused, Fresh, Held}
-use Rattle.clone_pool.specs.declared.frame.PageName.{PageName}
-use Rattle.clone_pool.specs.Pool.{IsPool}
-use Rattle.clone_buffer.specs.Buffered.{Buffered, IsBuffer}
-use Rattle.clone_buffer.specs.Writing.{any_names, written, Writes, MakesSpace, Creates, HasMade}
+use Rattle.clone_pool.specs.declared.frame.Content.TheVariants.{Held}
+use Rattle.clone_buffer.specs.Writing.{HasMade}
 use Rattle.clone_buffer.proofs.FrameLemmas.{holder_name, some_name, no_name}
 use Rattle.clone_buffer.proofs.WriteLemmas.{named_held, changed_is, of_named, passes_all, resets_none}
 use Rattle.clone_buffer.proofs.WrittenLemmas.{small, passed, renewed, renewed_frame, frame_of-passed, some_of, shows_created, stands_result, IsBuffer-written}
@@ -102,14 +84,6 @@ other_space space s other = by (space == s) refl
     by false is = refl
     by true is = absurd (other (sym (eqb-true space s is)))
 
-made_by : (t : Bool) (x : Standing) (ts : List Touch) → t ≡ false → names ts ≡ false → passes_by ts ≡ true → (names ((if t then becomes x else passes) ∷ ts) ≡ false) × (passes_by ((if t then becomes x else passes) ∷ ts) ≡ true)
-made_by true x ts is unnamed passing = absurd (true≢false is)
-made_by false x ts is unnamed passing = (unnamed, passing)
-
-calm_by : (t : Bool) (x : Standing) (ts : List Touch) → t ≡ false → resets ts ≡ false → resets ((if t then becomes x else passes) ∷ ts) ≡ false
-calm_by true x ts is calm = absurd (true≢false is)
-calm_by false x ts is calm = calm
-
 applied_passing : (v : Standing) (ts : List Touch) → passes_by ts ≡ true → applied v ts ≡ v
 applied_passing v [] passing = refl
 applied_passing v (passes ∷ ts) passing = applied_passing v ts passing
@@ -123,19 +97,6 @@ edits_sound b (passes ∷ ts) calm = edits_sound b ts calm
 edits_sound b (edits f ∷ ts) calm = ((edits_sound b ts calm).0, calm)
 edits_sound b (becomes s ∷ ts) calm = absurd (true≢false calm)
 edits_sound b (reaches s ∷ ts) calm = edits_sound b ts calm
-
--- in the space that is made
-same_unnamed : (t : Bool) (x : Standing) (ts : List Touch) → t ≡ true → names ts ≡ false → names ((if t then becomes x else passes) ∷ ts) ≡ false
-same_unnamed true x ts is unnamed = unnamed
-same_unnamed false x ts is unnamed = unnamed
-
-same_applied : (t : Bool) (v x : Standing) (ts : List Touch) → t ≡ true → applied v ((if t then becomes x else passes) ∷ ts) ≡ applied x ts
-same_applied true v x ts is = refl
-same_applied false v x ts is = absurd (false≢true is)
-
-same_sound : (t : Bool) (v x : Standing) (ts : List Touch) → t ≡ true → Sound x ts × Ordered ts → Sound v ((if t then becomes x else passes) ∷ ts) × Ordered ((if t then becomes x else passes) ∷ ts)
-same_sound true v x ts is both = both
-same_sound false v x ts is both = absurd (false≢true is)
 
 no_space_there : (log : List (List Record)) (space number : ℕ) → ends log < 2 ^ 64 → finite.get (replayed log) space ≡ None → redone space number log ≡ no_space
 no_space_there log space number small none = sym (replayed_is_redone log space number small) ∙ ap (λ (o : Option (List (List ℕ))). image_standing o number) none
@@ -158,6 +119,10 @@ module _ (v : Buffered) (flushes : Flushes) (m : DiskImage) (space pages : ℕ) 
   abbrev Kept : ℕ → ℕ → Type 0
   Kept s n = IsKeptPage (v.log ++ records ∷ []) flushes m s n (frame_of new s n)
 
+  -- what the record that makes the space does to a page of this number, in this space or in another one
+  abbrev first : ℕ → Bool → Touch
+  first n t = if t then becomes (made n pages) else passes
+
   less : ends v.log + length (spelling records) < 2 ^ 64
   less = small v flushes m records p b after k
 
@@ -165,10 +130,10 @@ module _ (v : Buffered) (flushes : Flushes) (m : DiskImage) (space pages : ℕ) 
   other_page : (s n : ℕ) → s ≢ space → (t : Bool) → any_names (record { space = s; number = n }) rest ≡ t → Kept s n
   other_page s n other false miss =
       let by = passes_all end s n rest makes.edits miss in
-      let both = made_by (space == s) (made n pages) (touches end s n rest) (other_space space s other) by.unnamed by.passing in
-      passed v flushes m records p b after k s n miss (record { unnamed = both.0; passing = both.1 })
+      let apart = other_space space s other in
+      passed v flushes m records p b after k s n miss (record { unnamed = ap (λ (t : Bool). names (first n t ∷ touches end s n rest)) apart ∙ by.unnamed; passing = ap (λ (t : Bool). passes_by (first n t ∷ touches end s n rest)) apart ∙ by.passing })
   other_page s n other true hits =
-      renewed v flushes m records p b after k s n hits (calm_by (space == s) (made n pages) (touches end s n rest) (other_space space s other) (resets_none end s n rest makes.edits)) (of_named (λ q. IsSome (holder v.pool.frames q)) (record { space = s; number = n }) rest hits makes.framed)
+      renewed v flushes m records p b after k s n hits (ap (λ (t : Bool). resets (first n t ∷ touches end s n rest)) (other_space space s other) ∙ resets_none end s n rest makes.edits) (of_named (λ q. IsSome (holder v.pool.frames q)) (record { space = s; number = n }) rest hits makes.framed)
       (subst IsSome (page_of-elsewhere (replayed v.log) space pages s n other) (of_named (λ q. IsSome (image_page (finite.insert (replayed v.log) space (replicate pages zero_page)) q.space q.number)) (record { space = s; number = n }) rest hits (makes.there k.right)))
 
   -- no frame has a page of the space but a new one
@@ -197,8 +162,8 @@ module _ (v : Buffered) (flushes : Flushes) (m : DiskImage) (space pages : ℕ) 
   new_page : (n : ℕ) (t : Bool) → any_names (record { space = space; number = n }) rest ≡ t → Kept space n
   new_page n false miss =
       let by = passes_all end space n rest makes.edits miss in
-      let suits = suits_unnamed space n v.log records less (same_unnamed (space == space) (made n pages) (touches end space n rest) own by.unnamed) in
-      let is : redone space n (v.log ++ records ∷ []) ≡ made n pages = appended space n v.log records (bare n).rule.fits suits ∙ same_applied (space == space) (redone space n v.log) (made n pages) (touches end space n rest) own ∙ applied_passing (made n pages) (touches end space n rest) by.passing in
+      let suits = suits_unnamed space n v.log records less (ap (λ (t : Bool). names (first n t ∷ touches end space n rest)) own ∙ by.unnamed) in
+      let is : redone space n (v.log ++ records ∷ []) ≡ made n pages = appended space n v.log records (bare n).rule.fits suits ∙ ap (λ (t : Bool). applied (redone space n v.log) (first n t ∷ touches end space n rest)) own ∙ applied_passing (made n pages) (touches end space n rest) by.passing in
       subst (IsKeptPage (v.log ++ records ∷ []) flushes m space n) (sym (frame_of-passed v flushes m records p b after k space n miss ∙ unframed n)) (created_page v.log flushes m space n pages records quiet suits is (bare n))
   new_page n true hits =
       let page : PageName = record { space = space; number = n } in
@@ -209,8 +174,8 @@ module _ (v : Buffered) (flushes : Flushes) (m : DiskImage) (space pages : ℕ) 
       let low : n < pages = within (cases_lt n pages) (of_named (λ q. IsSome (image_page (finite.insert (replayed v.log) space (replicate pages zero_page)) q.space q.number)) page rest hits (makes.there k.right)) in
       let both = renewed_frame v flushes m records p b after k space n held.0 held.1 (named_held page records (ring.end_of v.ring) (ring.end_of v.ring + length (spelling records)) f hits) in
       let dirty = (changed_is page records (ring.end_of v.ring) (ring.end_of v.ring + length (spelling records)) f).1 hits in
-      let first : made n pages ≡ stands zero_page = ap (λ (t : Bool). if t then stands zero_page else past_end) (lt-ltb n pages low) in
-      let sound = same_sound (space == space) (redone space n v.log) (made n pages) (touches end space n rest) own (subst (λ (s : Standing). Sound s (touches end space n rest) × Ordered (touches end space n rest)) (sym first) (edits_sound zero_page (touches end space n rest) (resets_none end space n rest makes.edits))) in
+      let zero : made n pages ≡ stands zero_page = ap (λ (t : Bool). if t then stands zero_page else past_end) (lt-ltb n pages low) in
+      let sound = subst (λ (t : Bool). Sound (redone space n v.log) (first n t ∷ touches end space n rest) × Ordered (first n t ∷ touches end space n rest)) (sym own) (subst (λ (s : Standing). Sound s (touches end space n rest) × Ordered (touches end space n rest)) (sym zero) (edits_sound zero_page (touches end space n rest) (resets_none end space n rest makes.edits))) in
       let suits : Suits space n v.log records = record { small = less; sound = sound.0; ordered = sound.1 } in
       subst (IsKeptPage (v.log ++ records ∷ []) flushes m space n) (sym both.0)
       (opened_page v.log flushes m space n pages records quiet _ low suits both.1 (no_space_there v.log space n (omega (arith, less)) (makes.absent k.right))

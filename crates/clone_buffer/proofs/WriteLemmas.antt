@@ -1,31 +1,19 @@
 -- What the records of a mini-transaction do to the frames, and to the pages that they show.
-use Rattle.std.proofs.Common.{◌≡◌, ◌≢◌, ◌<◌, ◌≤◌, ◌⊎◌, inl, inr, ◌&&◌, ◌==◌, ℕ, Bool, true, false, List, [], ◌∷◌, length, set, map, refl, sym, ap, subst, ◌∙◌, Option, Some, None, option_map, option_and_then, unwrap_or, IsSome, IfSome, if◌then◌else◌, get_or}
-use Rattle.std.proofs.lemmas.Bool.{cases_eq, cases_lt, false≢true, true≢false, and_parts, eqb-true}
-use Rattle.std.proofs.lemmas.List.{get_or-set_same, get_or-set_other, map-set, set_past, set-get_or}
+use Rattle.std.proofs.Common.{◌≡◌, ◌<◌, ◌≤◌, ◌⊎◌, inl, inr, ◌&&◌, ◌==◌, ℕ, Bool, true, false, List, [], ◌∷◌, length, set, map, refl, sym, ap, subst, ◌∙◌, Option, Some, None, option_map, option_and_then, unwrap_or, IsSome, IfSome, if◌then◌else◌, get_or}
+use Rattle.clone_buffer.proofs.Common.{cases_lt, false≢true, true≢false, and_parts, eqb-true, get_or-set_same, get_or-set_other, AllByRecursion, effect, Record, Image, EditsPages, zero_page, page_of-edited_same, touches, names, resets, passes_by, edits, passes, Frame, Content, Unused, Fresh, Flush, PageName, is_name_of, no_frame, frame_at, name_in, name_of, is_fresh, holder, noted, Frames, named, is_own_name, Shown, Shows, after_records, IsOnPage, any_names}
+use Rattle.std.proofs.lemmas.List.{map-set, set_past, set-get_or}
 use Rattle.std.proofs.Math.ListN.{get_or-map}
-use Rattle.std.specs.List.{AllByRecursion}
-use Rattle.clone_mtr.specs.Effects.{effect}
-use Rattle.clone_mtr.specs.declared.record.Record.{Record}
 use Rattle.clone_mtr.specs.declared.record.Record.TheVariants as record_is
-use Rattle.clone_image.specs.Image.{Image, page_of, with_edit, edited, after_record, EditsPages}
+use Rattle.clone_image.specs.Image.{page_of, with_edit, edited, after_record}
 use Rattle.clone_image.specs.Image as image_is
-use Rattle.clone_page.specs.Header.{zero_page}
 use Rattle.clone_undo.specs.Changes as undo
 use Rattle.clone_image.proofs.Pages.{records_pages}
-use Rattle.clone_image.proofs.Images.{page_of-edited_same, page_of-edited_other}
-use Rattle.clone_law.specs.Touches.{touches, names, resets, passes_by, edits, passes}
-use Rattle.clone_pool.specs.declared.frame.Frame.{Frame}
-use Rattle.clone_pool.specs.declared.frame.Content.{Content}
-use Rattle.clone_pool.specs.declared.frame.Content.TheVariants.{Unused, Fresh, Held}
-use Rattle.clone_pool.specs.declared.frame.Flush.{Flush}
+use Rattle.clone_image.proofs.Images.{page_of-edited_other}
+use Rattle.clone_pool.specs.declared.frame.Content.TheVariants.{Held}
 use Rattle.clone_pool.specs.declared.frame.Flush.TheVariants as flush
-use Rattle.clone_pool.specs.declared.frame.PageName.{PageName}
-use Rattle.clone_pool.specs.Index.{is_name_of, place_of}
-use Rattle.clone_pool.specs.Frames.{no_frame, frame_at, name_in, name_of, is_fresh, holder, page_changed, changed, made, noted}
-use Rattle.clone_pool.specs.Pool.{Frames}
-use Rattle.clone_pool.proofs.NameLemmas.{named, is_own_name}
-use Rattle.clone_buffer.specs.Buffered.{Shown, Shows}
-use Rattle.clone_buffer.specs.Writing.{named_frame, changed_at, after_records, IsOnPage, any_names}
+use Rattle.clone_pool.specs.Index.{place_of}
+use Rattle.clone_pool.specs.Frames.{page_changed, changed, made}
+use Rattle.clone_buffer.specs.Writing.{named_frame, changed_at}
 use Rattle.clone_buffer.proofs.FrameLemmas.{holder_name, some_name}
 use Rattle.clone_buffer.proofs.ShownLemmas.{shown_unused, shown_named}
 

@@ -1,37 +1,18 @@
 -- A buffer once a mini-transaction was written.
 use Rattle.std.proofs.Common.{◌≡◌, ◌≢◌, ◌<◌, ◌≤◌, ◌+◌, ◌-◌, ◌^◌, ◌⊎◌, inl, inr, ℕ, Bool, true, false, List, [], ◌∷◌, ◌++◌, length, drop, refl, sym, ap, subst, ◌∙◌, arith, Option, Some, None, Ok, Err, Result, IsSome, IsTrue, if◌then◌else◌, unwrap_or, replicate}
-use Rattle.std.proofs.lemmas.Bool.{cases_eq, cases_lt, false≢true, true≢false}
-use Rattle.std.proofs.lemmas.List.{length-append, length-drop, drop-append-le}
-use Rattle.std.specs.List.{AllByRecursion}
+use Rattle.clone_buffer.proofs.Common.{cases_eq, cases_lt, false≢true, length-append, AllByRecursion, DiskImage, zero_page, Record, spelling, log_of, Image, EditsPages, first_lsn, replayed, IsSpelled, stands, redone, page_of-made, page_of-past, page_of-elsewhere, ends, touches, resets, suits_unnamed, free_in, LogFull, Frame, Content, Unused, Fresh, PageName, frame_at, name_of, is_fresh, holder, noted, Frames, IsPool, Buffered, IsBuffer, Shown, Shows, Flushes, frame_in, frame_of, IsKeptPage, IsKept, after_records, HasFrame, IsOnPage, any_names, written, Writes, Creates, MakesSpace}
+use Rattle.std.proofs.lemmas.List.{length-drop, drop-append-le}
 use Rattle.std.specs.FinMap as finite
-use Rattle.clone_outside.specs.Disk.{DiskImage}
-use Rattle.clone_page.specs.Header.{zero_page}
-use Rattle.clone_mtr.specs.declared.record.Record.{Record}
 use Rattle.clone_mtr.specs.declared.record.Record.TheVariants as record_is
-use Rattle.clone_mtr.specs.Spelling.{spelling, log_of}
-use Rattle.clone_image.specs.Image.{Image, page_of, EditsPages}
+use Rattle.clone_image.specs.Image.{page_of}
 use Rattle.clone_image.specs.Image as image_is
-use Rattle.clone_image.specs.Replay.{first_lsn, end_of, replayed, IsSpelled}
-use Rattle.clone_image.specs.Redone.{stands, redone}
-use Rattle.clone_image.proofs.Images.{page_of-made, page_of-past, page_of-elsewhere}
+use Rattle.clone_image.specs.Replay.{end_of}
 use Rattle.clone_base.proofs.Lists.{All-push}
 use Rattle.clone_image.proofs.Logs.{log_of-push, after_log-push}
-use Rattle.clone_law.specs.Since.{ends}
-use Rattle.clone_law.specs.Touches.{touches, resets}
-use Rattle.clone_law.proofs.AppendLemmas.{suits_there, suits_unnamed, others_pass}
-use Rattle.clone_ring.specs.Window.{free_in}
+use Rattle.clone_law.proofs.AppendLemmas.{suits_there, others_pass}
 use Rattle.clone_ring.specs.Window as ring
-use Rattle.clone_ring.specs.declared.log_full.LogFull.{LogFull}
-use Rattle.clone_pool.specs.declared.frame.Frame.{Frame}
-use Rattle.clone_pool.specs.declared.frame.Content.{Content}
-use Rattle.clone_pool.specs.declared.frame.Content.TheVariants.{Unused, Fresh, Held}
-use Rattle.clone_pool.specs.declared.frame.PageName.{PageName}
-use Rattle.clone_pool.specs.Frames.{frame_at, name_in, name_of, is_fresh, holder, noted}
-use Rattle.clone_pool.specs.Pool.{Frames, IsPool}
-use Rattle.clone_buffer.specs.Buffered.{Buffered, IsBuffer, Shown, Shows}
-use Rattle.clone_buffer.specs.OnePage.{Flushes, frame_in, frame_of}
-use Rattle.clone_buffer.specs.Keeping.{IsKeptPage, IsKept, Stands}
-use Rattle.clone_buffer.specs.Writing.{after_records, HasFrame, IsOnPage, any_names, written, Writes, Creates, MakesSpace}
+use Rattle.clone_pool.specs.declared.frame.Content.TheVariants.{Held}
+use Rattle.clone_buffer.specs.Keeping.{Stands}
 use Rattle.clone_buffer.proofs.PageLemmas.{passed_page, changed_page}
 use Rattle.clone_buffer.proofs.FrameLemmas.{holder_name, frame_in-old}
 use Rattle.clone_buffer.proofs.ShownLemmas.{stands_there, shown_held, not_fresh}

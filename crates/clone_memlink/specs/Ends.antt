@@ -74,7 +74,7 @@ abbrev pub CarriesAll : Connection → List LinkEntry → Type 0
 CarriesAll first run =
     (side : Side)
     → (way_to side first).waiting ++ sent_in (other side) run
-        ≡ received_in side run ++ (way_to side (end_of first run)).waiting
+    ≡ received_in side run ++ (way_to side (end_of first run)).waiting
 
 -- from a connection with nothing on the way: what each end received begins what the other sent
 abbrev pub IsHonest : Connection → List LinkEntry → Type 0

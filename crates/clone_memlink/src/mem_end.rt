@@ -170,7 +170,9 @@ impl<R: Wait + Copy> MemEnd<R> {
         ensures sent { SendsFront self.old from.now result self.new }
         ensures count { IfOk result (λ n. n ≤ length from.now) }
         ensures same { self.new ≡ record self.old {
-            seat = self.new.seat; faults = faults_sent result self.old.faults } }
+          seat = self.new.seat;
+          faults = faults_sent result self.old.faults;
+        } }
         ensures rises { self.old.faults ≤ self.new.faults }
     {
         let piece = Piece::new(&from[..from.len().min(PIECE)]);
@@ -195,7 +197,9 @@ impl<R: Wait + Copy> MemEnd<R> {
         ensures sent { SendsFront self.old from.now result self.new }
         ensures count { IfOk result (λ n. (0 < n) × (n ≤ length from.now)) }
         ensures same { self.new ≡ record self.old {
-            seat = self.new.seat; faults = faults_sent result self.old.faults } }
+          seat = self.new.seat;
+          faults = faults_sent result self.old.faults;
+        } }
         ensures rises { self.old.faults ≤ self.new.faults }
     {
         let sent = self.try_send(from);
@@ -213,7 +217,9 @@ impl<R: Wait + Copy> MemEnd<R> {
         ensures sent { SendsFront self.old from.now result self.new }
         ensures count { IfOk result (λ n. (0 < n) × (n ≤ length from.now)) }
         ensures same { self.new ≡ record self.old {
-            seat = self.new.seat; faults = faults_sent result self.old.faults } }
+          seat = self.new.seat;
+          faults = faults_sent result self.old.faults;
+        } }
         ensures rises { self.old.faults ≤ self.new.faults }
     {
         let rt = self.rt;

@@ -19,7 +19,7 @@ bytes_of pages = map (λ h. h.bytes) pages
 abbrev pub image_of : DiskImage → Image
 image_of m =
     finite.from_entries (map (λ e. (e.0, bytes_of e.1))
-        (finite.entries (finite.retain_keys m.spaces (λ s. nat_lt s redo_space))))
+    (finite.entries (finite.retain_keys m.spaces (λ s. nat_lt s redo_space))))
 
 -- no page of the disk is being written
 abbrev pub IsQuiet : DiskImage → Type 0

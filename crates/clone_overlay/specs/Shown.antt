@@ -33,7 +33,7 @@ pub record Fits (base : List (List ℕ)) (cover : Cover) : Type 0 where
 pub record Shows (base image : Image) (overlay : Overlay) : Type 0 where
   pub standings : (space number : ℕ)
       → standing_of image space number
-          ≡ standing_over (pages_in base space) (finite.get overlay space) number
+      ≡ standing_over (pages_in base space) (finite.get overlay space) number
   pub fits : (space : ℕ) → IfSome (finite.get overlay space) (Fits (pages_in base space))
 
 -- the page is held, or there is no such page

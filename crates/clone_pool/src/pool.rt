@@ -87,8 +87,8 @@ impl Pool {
         ensures disk { D.told disk.new ≡ D.told disk.old }
         ensures read { IfOk result
             (λ at. holder self.old.frames (record { space = space; number = page }) ≡ None
-                → ForTold (D.told disk.old)
-                    (λ m. GivesQuiet m space page (frame_at self.new.frames at).page)) }
+            → ForTold (D.told disk.old)
+            (λ m. GivesQuiet m space page (frame_at self.new.frames at).page)) }
     {
         let name = PageName {
             space,
@@ -336,7 +336,7 @@ impl Pool {
         ensures disk { D.told disk.new ≡ D.told disk.old }
         ensures read { OnOk result
             (ForTold (D.told disk.old)
-                (λ m. GivesQuiet m name.space name.number (frame_at self.new.frames at).page)) }
+            (λ m. GivesQuiet m name.space name.number (frame_at self.new.frames at).page)) }
     {
         let number = next_use(self.uses);
         let read = read_into(disk, &mut self.frames[at], name, number);

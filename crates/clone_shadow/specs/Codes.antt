@@ -63,6 +63,6 @@ abbrev pub record_code : Coded Record
 record_code =
     code_by Parts
     (coded⊎ (coded× coded_ℕ (coded× coded_ℕ kind_code))
-        (coded⊎ (coded× coded_ℕ (coded× coded_ℕ patch_code))
-            (coded⊎ (coded× coded_ℕ coded_ℕ) (coded⊎ (coded× coded_ℕ coded_ℕ) coded_ℕ))))
+    (coded⊎ (coded× coded_ℕ (coded× coded_ℕ patch_code))
+    (coded⊎ (coded× coded_ℕ coded_ℕ) (coded⊎ (coded× coded_ℕ coded_ℕ) coded_ℕ))))
     parts_of record_of record_back

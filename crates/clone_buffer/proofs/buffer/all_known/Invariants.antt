@@ -1,5 +1,5 @@
 use Rattle.std.proofs.Common.{drop}
-use Rattle.std.specs.List.{AllByRecursion}
+use Rattle.clone_buffer.proofs.Common.{AllByRecursion}
 use Rattle.clone_mtr.specs.Records.{IsRecord}
 use Rattle.clone_buffer.proofs.buffer.all_known.Given as goal
 

@@ -1,5 +1,5 @@
 use Rattle.std.proofs.Common.{◌≡◌, drop}
-use Rattle.clone_buffer.specs.Writing.{after_records}
+use Rattle.clone_buffer.proofs.Common.{after_records}
 use Rattle.clone_buffer.proofs.buffer.change_frames.Given as goal
 
 -- what the records that are left make of the frames is what all of them make of the first frames

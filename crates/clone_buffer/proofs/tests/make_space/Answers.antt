@@ -1,23 +1,11 @@
-use Rattle.std.proofs.Common.{◌≡◌, ◌<◌, ℕ, zero, suc, List, [], ◌∷◌, Option, Some, Ok, Err, Result, IsSome, OnOk, true, ◌++◌, refl, ap, sym, subst, ◌∙◌, arith}
+use Rattle.std.proofs.Common.{◌≡◌, ℕ, zero, suc, List, [], ◌∷◌, Ok, Err, Result, IsSome, OnOk, true, ◌++◌, refl, ap, sym, subst, ◌∙◌, arith}
+use Rattle.clone_buffer.proofs.Common.{get-empty, nat_cmp, zero_page, effect, Record, Create, Init, first_lsn, replayed, page_of-made, page_of-edited_same, LogFull, Fresh, Frame, PageName, no_frame, frame_at, freshened, Buffered, HasFrame, Writes, any_names, AllByRecursion}
 use Rattle.std.specs.FinMap as finite
-use Rattle.std.specs.FinMap.{get-empty}
-use Rattle.std.specs.Ordering.{nat_cmp}
-use Rattle.clone_page.specs.Header.{zero_page}
 use Rattle.clone_page.specs.declared.kind.PageKind.TheVariants.{System}
-use Rattle.clone_mtr.specs.Effects.{effect}
-use Rattle.clone_mtr.specs.declared.record.Record.{Record}
-use Rattle.clone_mtr.specs.declared.record.Record.TheVariants.{Create, Init}
 use Rattle.clone_image.specs.Image.{page_of}
-use Rattle.clone_image.specs.Replay.{first_lsn, end_of, replayed}
-use Rattle.clone_image.proofs.Images.{page_of-made, page_of-edited_same}
-use Rattle.clone_ring.specs.declared.log_full.LogFull.{LogFull}
-use Rattle.clone_pool.specs.declared.frame.Content.TheVariants.{Fresh, Held}
-use Rattle.clone_pool.specs.declared.frame.Frame.{Frame}
-use Rattle.clone_pool.specs.declared.frame.PageName.{PageName}
-use Rattle.clone_pool.specs.Frames.{no_frame, frame_at, freshened}
-use Rattle.clone_buffer.specs.Buffered.{Buffered, image_of}
-use Rattle.clone_buffer.specs.Writing.{HasFrame, Writes, any_names, written}
-use Rattle.std.specs.List.{AllByRecursion}
+use Rattle.clone_image.specs.Replay.{end_of}
+use Rattle.clone_pool.specs.declared.frame.Content.TheVariants.{Held}
+use Rattle.clone_buffer.specs.Buffered.{image_of}
 use Rattle.clone_buffer.proofs.tests.make_space.Goals as goal
 
 abbrev page : PageName

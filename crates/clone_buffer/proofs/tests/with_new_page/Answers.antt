@@ -1,9 +1,6 @@
 use Rattle.std.proofs.Common.{ℕ, List, Option, ap, slice_get, option_and_then, ◌∙◌}
-use Rattle.std.specs.FinMap.{get-empty}
-use Rattle.std.specs.Ordering.{nat_cmp}
-use Rattle.clone_mtr.specs.declared.record.Record.{Record}
+use Rattle.clone_buffer.proofs.Common.{get-empty, nat_cmp, Record, replayed}
 use Rattle.clone_image.specs.Image.{page_of}
-use Rattle.clone_image.specs.Replay.{replayed}
 use Rattle.clone_buffer.proofs.tests.with_new_page.Goals as goal
 
 pub fresh-requires-clause-absent : goal.fresh-requires-clause-absent

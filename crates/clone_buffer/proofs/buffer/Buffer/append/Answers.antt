@@ -1,13 +1,8 @@
 use Rattle.std.proofs.Common.{◌≡◌, ◌≤◌, length, take, ap, sym, subst, arith, IsTrue}
-use Rattle.std.proofs.lemmas.List.{length-append}
-use Rattle.clone_mtr.specs.Spelling.{spelling}
+use Rattle.clone_buffer.proofs.Common.{length-append, spelling, replayed, Window, free_in, State, Buffered, IsBuffer, Shows, written}
 use Rattle.clone_mtr.proofs.Spellings.{spelling_some}
-use Rattle.clone_image.specs.Replay.{replayed}
 use Rattle.clone_image.proofs.Logs.{spelled_by}
-use Rattle.clone_ring.specs.Window.{Window, free_in, end_of}
-use Rattle.clone_shadow.specs.State.{State}
-use Rattle.clone_buffer.specs.Buffered.{Buffered, IsBuffer, Shows}
-use Rattle.clone_buffer.specs.Writing.{written}
+use Rattle.clone_ring.specs.Window.{end_of}
 use Rattle.clone_buffer.proofs.WrittenLemmas.{IsBuffer-written, written_is}
 use Rattle.clone_buffer.proofs.buffer.Buffer.append.Goals as goal
 

@@ -1,8 +1,6 @@
 use Rattle.std.proofs.Common.{◌<◌, ◌^◌, sym, subst, arith, IsTrue, IsSome}
+use Rattle.clone_buffer.proofs.Common.{replayed, ends, Buffered}
 use Rattle.clone_image.specs.Image.{page_of}
-use Rattle.clone_image.specs.Replay.{replayed}
-use Rattle.clone_law.specs.Since.{ends}
-use Rattle.clone_buffer.specs.Buffered.{Buffered}
 use Rattle.clone_buffer.specs.Keeping.{Stands}
 use Rattle.clone_buffer.proofs.FetchLemmas.{stands_fetched, stands_refused}
 use Rattle.clone_buffer.proofs.buffer.Buffer.fetch.Goals as goal

@@ -1,11 +1,7 @@
 use Rattle.std.proofs.Common.{◌≡◌, ◌∙◌, Some, IsTrue, ap, sym, subst}
+use Rattle.clone_buffer.proofs.Common.{replayed, Content, PageName, frame_at, Buffered, Shown}
 use Rattle.clone_image.specs.Image.{page_of}
-use Rattle.clone_image.specs.Replay.{replayed}
-use Rattle.clone_pool.specs.declared.frame.Content.{Content}
 use Rattle.clone_pool.specs.declared.frame.Content.TheVariants.{Held}
-use Rattle.clone_pool.specs.declared.frame.PageName.{PageName}
-use Rattle.clone_pool.specs.Frames.{frame_at}
-use Rattle.clone_buffer.specs.Buffered.{Buffered, Shown}
 use Rattle.clone_buffer.proofs.buffer.Buffer.frame.Goals as goal
 
 pub returns-clause-shown : goal.returns-clause-shown

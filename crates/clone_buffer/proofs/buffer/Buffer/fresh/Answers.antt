@@ -1,5 +1,5 @@
 use Rattle.std.proofs.Common.{sym, subst}
-use Rattle.clone_buffer.specs.Buffered.{Buffered}
+use Rattle.clone_buffer.proofs.Common.{Buffered}
 use Rattle.clone_buffer.specs.Keeping.{Stands}
 use Rattle.clone_buffer.proofs.MoveLemmas.{stands_fresh}
 use Rattle.clone_buffer.proofs.buffer.Buffer.fresh.Goals as goal

@@ -1,7 +1,6 @@
 use Rattle.std.proofs.Common.{subst, refl}
-use Rattle.clone_mtr.specs.Spelling.{log_of}
-use Rattle.clone_image.specs.Replay.{replayed, Replays}
-use Rattle.clone_buffer.specs.Buffered.{Buffered}
+use Rattle.clone_buffer.proofs.Common.{log_of, replayed, Buffered}
+use Rattle.clone_image.specs.Replay.{Replays}
 use Rattle.clone_buffer.proofs.buffer.Buffer.laws.Goals as goal
 
 pub returns-clause-replays : goal.returns-clause-replays

@@ -1,5 +1,5 @@
 use Rattle.std.proofs.Common.{ap, subst, sym, IsTrue, refl}
-use Rattle.clone_shadow.specs.State.{State}
+use Rattle.clone_buffer.proofs.Common.{State}
 use Rattle.clone_buffer.proofs.LawLemmas.{new_stands}
 use Rattle.clone_buffer.proofs.buffer.Buffer.new.Goals as goal
 

@@ -1,8 +1,5 @@
 use Rattle.std.proofs.Common.{subst, sym}
-use Rattle.clone_pool.specs.Frames.{frame_at, HoldsPage}
-use Rattle.clone_pool.specs.Pool.{Frames, IsPool}
-use Rattle.clone_pool.proofs.PoolLemmas.{within}
-use Rattle.clone_buffer.specs.Buffered.{Buffered}
+use Rattle.clone_buffer.proofs.Common.{frame_at, HoldsPage, Frames, IsPool, within, Buffered}
 use Rattle.clone_buffer.specs.Keeping.{Stands}
 use Rattle.clone_buffer.proofs.MoveLemmas.{stands_unpinned}
 use Rattle.clone_buffer.proofs.buffer.Buffer.unpin.Goals as goal

@@ -1,7 +1,5 @@
 use Rattle.std.proofs.Common.{◌+◌, ℕ, length, ap, sym, subst}
-use Rattle.clone_mtr.specs.Spelling.{spelling}
-use Rattle.clone_pool.specs.Pool.{IsPool}
-use Rattle.clone_buffer.specs.Buffered.{Buffered, IsBuffer}
+use Rattle.clone_buffer.proofs.Common.{spelling, IsPool, Buffered, IsBuffer}
 use Rattle.clone_buffer.proofs.WrittenLemmas.{shows_created}
 use Rattle.clone_buffer.proofs.SpaceLemmas.{stands_created}
 use Rattle.clone_buffer.proofs.buffer.Buffer.write_space.Goals as goal
