@@ -16,8 +16,10 @@ created table buckets d = record d { tables = finite.insert d.tables table bucke
 
 -- a transaction is opened, with no change and no lock
 abbrev pub begun : ℕ → ℕ → ℕ → Donor → Donor
-begun trx writer index d = record d { active = finite.insert d.active trx
-    (record { writer = writer; index = index; changes = [] }) }
+begun trx writer index d = record d {
+  active = finite.insert d.active trx
+      (record { writer = writer; index = index; changes = [] });
+}
 
 -- the transaction that begins gets the least free number
 abbrev pub Begins : Donor → ℕ → ℕ → ℕ → Donor → Type 0
@@ -40,8 +42,10 @@ pub record Changes (d : Donor) (trx : ℕ) (change : Change) (after : Donor) : T
   pub buckets : ℕ
   pub was_active : finite.get d.active trx ≡ Some commit
   pub was_table : finite.get d.tables change.table ≡ Some buckets
-  pub is : after ≡ record d { active = finite.insert d.active trx (with_change change commit);
-      locks = finite.insert d.locks (change.table, change.key) trx }
+  pub is : after ≡ record d {
+    active = finite.insert d.active trx (with_change change commit);
+    locks = finite.insert d.locks (change.table, change.key) trx;
+  }
 
 -- the row's value after the history and then the transaction's own changes
 pub record Gets (d : Donor) (trx table key : ℕ) (value : Option (List ℕ)) : Type 0 where

@@ -1,5 +1,5 @@
-use clone_script::{ReadRefusal, read_script};
 use clone_model::{Line, line_text};
+use clone_script::{ReadRefusal, read_script};
 use std::process::Abort;
 use std::test::*;
 

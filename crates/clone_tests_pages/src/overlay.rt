@@ -1,8 +1,8 @@
-use clone_overlay::{FetchRefusal, Overlay};
 use clone_base::REDO_SPACE;
 use clone_memdisk::MemDisk;
 use clone_mtr::{Patch, Record};
 use clone_outside::PageDisk;
+use clone_overlay::{FetchRefusal, Overlay};
 use clone_page::{Page, PageKind};
 use std::test::*;
 

@@ -1,7 +1,7 @@
-use clone_row::*;
 use clone_model::Value;
 use clone_mtr::{Patch, Record, apply};
 use clone_page::Page;
+use clone_row::*;
 use std::process::Abort;
 use std::test::Fail;
 

@@ -1,6 +1,6 @@
-use clone_shadow::{Note, Shadow, sent};
 use clone_mtr::Record;
 use clone_page::Page;
+use clone_shadow::{Note, Shadow, sent};
 use std::mem::size_of;
 use std::test::Fail;
 

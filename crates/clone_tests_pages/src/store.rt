@@ -1,6 +1,6 @@
-use clone_store::Store;
 use clone_mtr::{Patch, Record};
 use clone_page::PageKind;
+use clone_store::Store;
 use std::test::*;
 
 #[test]

@@ -1,5 +1,5 @@
-use clone_undo::*;
 use clone_mtr::{Record, encode_into};
+use clone_undo::*;
 use std::test::*;
 
 // Writer 0 begins its transaction 0 in slot 0, whose first page was unused.

@@ -1,5 +1,5 @@
-use clone_wire::*;
 use clone_page::Page;
+use clone_wire::*;
 use std::alloc::{AllocError, Global};
 use std::test::*;
 
