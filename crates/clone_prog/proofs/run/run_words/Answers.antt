@@ -1,4 +1,5 @@
-use Rattle.std.proofs.Common.{refl, rules, ap, Err, subst, List, ℕ}
+use Rattle.std.proofs.Common.{refl, rules, ap, Err, subst, List, ◌++◌, ℕ, codes}
+use Rattle.std.specs.Fmt.{decimal}
 use Rattle.clone_script.specs.declared.read.ReadRefusal.{ReadRefusal}
 use Rattle.clone_prog.specs.declared.status.Status.TheVariants.{TooLong, BadLine, SourceFault}
 use Rattle.clone_script.specs.Reading.{Reads}
@@ -9,14 +10,14 @@ pub returns-in-Err-Fault : goal.returns-in-Err-Fault
 returns-in-Err-Fault g c =
     let command = c.is_command.ensures.0 (search rules) in
     let rose = c.in-Err-Fault.ensures.fault (ap Err c.in-Err-Fault.field-0-is) in
-    said _ _ _ SourceFault _ _ c.say-in-Err-Fault.ensures refl (command, rose, refl, refl) (λ w. w)
+    said _ _ _ SourceFault _ (codes "source fault") c.say-in-Err-Fault.ensures refl (command, rose, refl, refl) (λ w. w)
 
 pub returns-in-Err-TooLong : goal.returns-in-Err-TooLong
 returns-in-Err-TooLong g c =
     let command = c.is_command.ensures.0 (search rules) in
     let long = c.in-Err-TooLong.ensures.long (ap Err c.in-Err-TooLong.field-0-is) in
     let steady = c.in-Err-TooLong.ensures.steady_long (ap Err c.in-Err-TooLong.field-0-is) in
-    said _ _ _ TooLong _ _ c.say-in-Err-TooLong.ensures refl (command, long.0, record { given = long.1; steady = steady; long = long.2 }, refl, refl) (λ w. w)
+    said _ _ _ TooLong _ (codes "script too long") c.say-in-Err-TooLong.ensures refl (command, long.0, record { given = long.1; steady = steady; long = long.2 }, refl, refl) (λ w. w)
 
 pub returns-in-Err-BadLine : goal.returns-in-Err-BadLine
 returns-in-Err-BadLine g c =
@@ -25,7 +26,7 @@ returns-in-Err-BadLine g c =
     let P : ReadRefusal → Type 0 = λ e. Reads c.deref.result.now (Err e) in
     let Q : List ℕ → Type 0 = λ bytes. Reads bytes (Err (ReadRefusal.BadLine c.in-Err-BadLine.line)) in
     let read = subst Q c.deref.ensures.value (subst P c.in-Err-BadLine.field-0-is c.in-Err-BadLine.ensures) in
-    said _ _ _ BadLine _ _ c.say_bad_line.ensures refl (command, _, _, gave, read, refl, refl) (λ w. w)
+    said _ _ _ BadLine _ (codes "bad line " ++ decimal c.in-Err-BadLine.line) c.say_bad_line.ensures refl (command, _, _, gave, read, refl, refl) (λ w. w)
 
 pub returns-in-Ok-run_lines : goal.returns-in-Ok-run_lines
 returns-in-Ok-run_lines g c =
