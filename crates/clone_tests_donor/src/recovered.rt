@@ -33,11 +33,15 @@ fn expect_rows(rt: &impl Abort, tried: &Tried, text: &str) -> Result<(), AllocEr
 }
 
 // A value stays where its transaction committed, and the change of an open one is taken back.
+fn expect_recovered(rt: &impl Abort, tried: &mut Tried) -> Result<(), Fail> {
+    tried.expect(rt, &OPEN)?;
+    expect_rows(rt, tried, "")?;
+    tried.expect(rt, &COMMITTED)?;
+    Ok(expect_rows(rt, tried, "1 7 6869\n")?)
+}
+
 #[test]
 fn recovers_what_is_committed(rt: HostRuntime) -> Result<(), Fail> {
     let mut tried = Tried::new(rt.alloc())?;
-    tried.expect(&rt, &OPEN)?;
-    expect_rows(&rt, &tried, "")?;
-    tried.expect(&rt, &COMMITTED)?;
-    Ok(expect_rows(&rt, &tried, "1 7 6869\n")?)
+    expect_recovered(&rt, &mut tried)
 }
