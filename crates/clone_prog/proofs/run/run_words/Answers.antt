@@ -1,10 +1,14 @@
 use Rattle.std.proofs.Common.{refl, rules, ap, Err, subst, List, ◌++◌, ℕ, codes}
 use Rattle.std.specs.Fmt.{decimal}
 use Rattle.clone_script.specs.declared.read.ReadRefusal.{ReadRefusal}
-use Rattle.clone_prog.specs.declared.status.Status.TheVariants.{TooLong, BadLine, SourceFault}
+use Rattle.clone_prog.specs.declared.status.Status.TheVariants.{Usage, TooLong, BadLine, SourceFault}
 use Rattle.clone_script.specs.Reading.{Reads}
 use Rattle.clone_prog.proofs.Ending.{all_given, same_script, said, done, given_up}
 use Rattle.clone_prog.proofs.run.run_words.Goals as goal
+
+pub returns-then-not-is_command : goal.returns-then-not-is_command
+returns-then-not-is_command g c =
+    said _ _ _ Usage _ (codes "usage") c.say.ensures refl (λ is. let yes = c.is_command.ensures.1 is in let no = c.if-not-is_command.true in cc, refl, refl) (λ w. w)
 
 pub returns-in-Err-Fault : goal.returns-in-Err-Fault
 returns-in-Err-Fault g c =
