@@ -1,5 +1,5 @@
-//! What several crates need: the numbers that more than one of them keeps to, each once, and lemmas on
-//! finite maps and lists.
+//! What several crates need: the numbers that more than one of them keeps to, each once, and lemmas
+//! on finite maps and lists.
 #![tactic(auto)]
 
 mod limits;

@@ -19,5 +19,6 @@ pub const TRANSACTION_LIMIT: u32 = 64;
 /// How many changes a transaction may have.
 pub const CHANGE_LIMIT: usize = 160;
 
-/// The space of a recipient's disk that holds the redo bytes. It and the spaces behind it are no tables.
+/// The space of a recipient's disk that holds the redo bytes. It and the spaces behind it are no
+/// tables.
 pub const REDO_SPACE: u32 = 0xFFFF_FF00;

@@ -1,6 +1,6 @@
 -- A mini-transaction that makes a space which stands on the disk already, with pages of zero bytes alone.
-use Rattle.std.proofs.Common.{◌≡◌, ◌↔◌, ◌≢◌, ◌<◌, ◌≤◌, ◌+◌, ◌^◌, ◌&&◌, ◌==◌, ◌⊎◌, inl, inr, ◌++◌, ℕ, Bool, true, false, List, [], ◌∷◌, length, replicate, slice_get, nat_lt, refl, sym, ap, subst, ◌∙◌, arith, Option, Some, None, Result, is_some, option_and_then, unwrap_or, IsSome, IsTrue, if◌then◌else◌}
-use Rattle.clone_buffer.proofs.Common.{cases_eq, cases_lt, false≢true, true≢false, eqb-true, get_or-replicate, length-replicate, DiskImage, ForTold, zero_page, Record, Standing, no_space, past_end, stands, redone, ends, Suits, EngineRule, Engine, engine_kept, Frame, Flush, frame_at, name_in, name_of, is_fresh, is_begun, holder, noted, Flushes, frame_in, frame_of, flight_of, disk_standing, is_open, has_space, engine_with, IsKeptPage, IsKept, Create, spelling, replayed, IsSpelled, replayed_is_redone, page_of-past, page_of-elsewhere, passes, edits, touches, names, resets, passes_by, suits_unnamed, free_in, LogFull, Content, Unused, Fresh, PageName, IsPool, Buffered, IsBuffer, any_names, written, Writes, MakesSpace, Creates}
+use Rattle.std.proofs.Common.{◌≡◌, ◌↔◌, ◌≢◌, ◌<◌, ◌≤◌, ◌+◌, ◌^◌, ◌&&◌, ◌==◌, ◌⊎◌, inl, inr, ◌++◌, ℕ, Bool, true, false, List, [], ◌∷◌, length, replicate, slice_get, nat_lt, refl, sym, ap, subst, ◌∙◌, arith, Option, Some, None, Result, Ok, Err, is_some, option_and_then, unwrap_or, IsSome, IsTrue, if◌then◌else◌}
+use Rattle.clone_buffer.proofs.Common.{cases_eq, cases_lt, false≢true, true≢false, eqb-true, get_or-replicate, length-replicate, DiskImage, ForTold, zero_page, Record, Standing, no_space, past_end, stands, redone, ends, Suits, EngineRule, Engine, engine_kept, Frame, Flush, frame_at, name_in, name_of, is_fresh, is_begun, holder, noted, Flushes, frame_in, frame_of, flight_of, disk_standing, is_open, has_space, engine_with, IsKeptPage, IsKept, Create, Init, spelling, replayed, IsSpelled, replayed_is_redone, page_of-past, page_of-elsewhere, passes, edits, touches, names, resets, passes_by, suits_unnamed, free_in, LogFull, Content, Unused, Fresh, PageName, IsPool, Buffered, IsBuffer, any_names, written, Writes, MakesSpace, Creates}
 use Rattle.std.proofs.lemmas.Bool.{lt-ltb, ltb-true, ltb-false, eq-eqb}
 use Rattle.std.proofs.lemmas.Option.{slice_get-get_or, slice_get_past}
 use Rattle.std.specs.FinMap as finite
@@ -8,6 +8,7 @@ use Rattle.clone_outside.specs.Disk as disk
 use Rattle.clone_outside.specs.Disk.{page_of}
 use Rattle.clone_outside.specs.declared.disk.Held as held
 use Rattle.clone_image.specs.Redone.{made}
+use Rattle.clone_mtr.specs.declared.record.Record.TheVariants.{Write, Extend, Drop}
 use Rattle.clone_law.specs.Machine.{Created, Opened}
 use Rattle.clone_pool.specs.declared.frame.Flush.TheVariants as flush
 use Rattle.clone_buffer.specs.OnePage.{standing_at, standing_in}
@@ -194,13 +195,23 @@ module _ (v : Buffered) (flushes : Flushes) (m : DiskImage) (space pages : ℕ) 
       by s n (inl same) = subst (λ (x : ℕ). Kept x n) (sym same) (new_page n (any_names (record { space = space; number = n }) rest) refl)
       by s n (inr other) = other_page s n other (any_names (record { space = s; number = n }) rest) refl
 
--- a buffer over a disk stands after a mini-transaction that makes a space
-pub stands_created : (v w : Buffered) (flushes : Flushes) (told : Option DiskImage) (records : List Record) (result : Result ℕ LogFull) → IsPool v.pool → IsBuffer v → IsSpelled records → Creates v records → Writes records v w result → ForTold told (HasMade records) → Stands v flushes told → Stands w flushes told
-stands_created v w flushes told (Create space count ∷ rest) result p b spelled makes writes on st = stands_result v w flushes told (Create space count ∷ rest) result writes (λ room. by room told on) st
+-- a buffer is kept over a disk after a mini-transaction that makes a space
+kept_by : (v : Buffered) (flushes : Flushes) (m : DiskImage) (records : List Record) → IsPool v.pool → IsBuffer v → IsSpelled records → Creates v records → length (spelling records) ≤ free_in v.ring → HasMade records m → IsKept v flushes m → IsKept (written records v) flushes m
+kept_by v flushes m [] p b spelled makes room on k = absurd makes
+kept_by v flushes m (Init space number kind ∷ rest) p b spelled makes room on k = absurd makes
+kept_by v flushes m (Write space number patch ∷ rest) p b spelled makes room on k = absurd makes
+kept_by v flushes m (Extend space count ∷ rest) p b spelled makes room on k = absurd makes
+kept_by v flushes m (Drop space ∷ rest) p b spelled makes room on k = absurd makes
+kept_by v flushes m (Create space count ∷ rest) p b spelled makes room on k =
+    let records = Create space count ∷ rest in
+    let after = IsBuffer-written v records b spelled room (λ t. shows_created v records p (sym (ap (λ n. n + length (spelling records)) b.end)) makes t (b.shows t)) in
+    kept_created v flushes m space count rest p b after makes on k
+
+-- so a buffer stands after it
+pub stands_created : (v w : Buffered) (flushes : Flushes) (told : Option DiskImage) (records : List Record) (result : Result ℕ LogFull) → IsPool v.pool → IsBuffer v → IsSpelled records → (IsTrue v.right → Creates v records) → Writes records v w result → ForTold told (HasMade records) → Stands v flushes told → Stands w flushes told
+stands_created v w flushes told records (Err full) p b spelled makes writes on st = subst (λ (u : Buffered). Stands u flushes told) (sym writes.2) st
+stands_created v w flushes told records (Ok lsn) p b spelled makes writes on st = subst (λ (u : Buffered). Stands u flushes told) (sym writes.1) (by told on st)
   where
-    by : length (spelling (Create space count ∷ rest)) ≤ free_in v.ring → (t : Option DiskImage) → ForTold t (HasMade (Create space count ∷ rest)) → Stands v flushes t → Stands (written (Create space count ∷ rest) v) flushes t
-    by room None on st = tt
-    by room (Some m) on k =
-        let after = IsBuffer-written v (Create space count ∷ rest) b spelled room (λ t. shows_created v (Create space count ∷ rest) p (sym (ap (λ n. n + length (spelling (Create space count ∷ rest))) b.end)) makes t (b.shows t)) in
-        kept_created v flushes m space count rest p b after makes on k
-stands_created v w flushes told other result p b spelled makes writes on st = absurd makes
+    by : (t : Option DiskImage) → ForTold t (HasMade records) → Stands v flushes t → Stands (written records v) flushes t
+    by None on st = tt
+    by (Some m) on k = kept_by v flushes m records p b spelled (makes k.right) writes.0 on k

@@ -1,4 +1,4 @@
-ghost use Rattle.std.specs.Prelude.{◌≡◌, ◌<◌, ◌≤◌, ◌+◌, ◌-◌, ◌^◌, ◌↔◌, ℕ, [], None, Some, IfOk, IfNone, IfSome, OnErr, IsSome, IsTrue, length, take, drop, replicate};
+ghost use Rattle.std.specs.Prelude.{◌≡◌, ◌<◌, ◌≤◌, ◌+◌, ◌-◌, ◌^◌, ◌↔◌, ℕ, [], None, Some, IfOk, IfNone, IfSome, OnOk, OnErr, IfErr, IsSome, IsTrue, length, take, drop, replicate};
 ghost use Rattle.std.specs.Option.{ForSome};
 ghost use Rattle.clone_outside.specs.Causes.{Rose};
 ghost use Rattle.clone_buffer.specs.Writing.{after_records, changed_at, named_frame};
@@ -14,7 +14,7 @@ ghost use Rattle.clone_pool.specs.declared.frame.Content.TheVariants.{Held};
 ghost use Rattle.clone_pool.specs.declared.frame.PageName.{PageName};
 ghost use Rattle.clone_pool.specs.Pool.{IsPool, Fetches, Freshens, IsHolder, KeepsOthers, KeepsInUse, AreClean, IsOldest, HasPinRoom, with_frame};
 
-use clone_mtr::{LONGEST_MTR, Record, encode_into};
+use clone_mtr::{LONGEST_MTR, Record, encode_into, spelling_length};
 use clone_outside::PageDisk;
 use clone_page::Page;
 use clone_pool::{FetchRefusal, PageName, Pool};
@@ -226,7 +226,7 @@ impl Buffer {
     pub fn write_space(&mut self, records: &[Record]) -> Result<u64, LogFull>
         requires some { 1 ≤ length records.now }
         requires short { length (spelling records.now) ≤ longest }
-        requires creates { Creates self.old records.now }
+        requires creates { IsTrue self.old.right → Creates self.old records.now }
         ensures written { Writes records.now self.old self.new result }
         ensures stands { (flushes : Flushes) (told : Option DiskImage)
             → Stands self.old flushes told → ForTold told (HasMade records.now)
@@ -253,6 +253,26 @@ impl Buffer {
         change_frames(&mut self.pool, records, start, end);
         self.shadow = self.shadow.then(&Note::Wrote(records));
         Ok(end)
+    }
+
+    /// Whether the log has room for a mini-transaction of these records.
+    ///
+    /// It is refused exactly where its spelling has more bytes than are free.
+    pub fn room_for(&self, records: &[Record]) -> Result<(), LogFull>
+        requires short { length (spelling records.now) ≤ longest }
+        ensures room { OnOk result (length (spelling records.now) ≤ free_in self.now.ring) }
+        ensures full { IfErr result (λ full. (free_in self.now.ring < length (spelling records.now))
+            × (full ≡ record {
+              need = length (spelling records.now);
+              free = free_in self.now.ring;
+            })) }
+    {
+        let need = spelling_length(records) as u64;
+        let free = self.ring.free();
+        if free < need {
+            return Err(LogFull { need, free });
+        }
+        Ok(())
     }
 
     /// How many bytes the log may grow by before its floor rises.

@@ -1,5 +1,5 @@
-//! Fields of fixed width: numbers of one, two, four and eight bytes, the highest byte first, and runs
-//! of bytes.
+//! Fields of fixed width: numbers of one, two, four and eight bytes, the highest byte first, and
+//! runs of bytes.
 #![tactic(auto)]
 
 mod laws;

@@ -14,8 +14,8 @@ pub struct Short {
     pub have: usize,
 }
 
-/// A place in bytes, from which fields are read one after the other. It is seen as the bytes that are
-/// left.
+/// A place in bytes, from which fields are read one after the other. It is seen as the bytes that
+/// are left.
 #[derive(Drop)]
 pub struct Reader<'a> {
     left: &'a [u8],
@@ -51,31 +51,32 @@ impl<'a> Reader<'a> {
         Ok(self.take(1)?[0])
     }
 
-    /// The number in the next two bytes. `Short` comes exactly where fewer are left, and the reader is
-    /// unchanged then.
+    /// The number in the next two bytes. `Short` comes exactly where fewer are left, and the reader
+    /// is unchanged then.
     pub fn u16(&mut self) -> Result<u16, Short>
         ensures { Reads (λ x. x ≡ big_number 2 self.old) 2 self.old self.new result }
     {
         Ok(BigEndian::read_u16(self.take(2)?))
     }
 
-    /// The number in the next four bytes. `Short` comes exactly where fewer are left, and the reader is
-    /// unchanged then.
+    /// The number in the next four bytes. `Short` comes exactly where fewer are left, and the
+    /// reader is unchanged then.
     pub fn u32(&mut self) -> Result<u32, Short>
         ensures { Reads (λ x. x ≡ big_number 4 self.old) 4 self.old self.new result }
     {
         Ok(BigEndian::read_u32(self.take(4)?))
     }
 
-    /// The number in the next eight bytes. `Short` comes exactly where fewer are left, and the reader is
-    /// unchanged then.
+    /// The number in the next eight bytes. `Short` comes exactly where fewer are left, and the
+    /// reader is unchanged then.
     pub fn u64(&mut self) -> Result<u64, Short>
         ensures { Reads (λ x. x ≡ big_number 8 self.old) 8 self.old self.new result }
     {
         Ok(BigEndian::read_u64(self.take(8)?))
     }
 
-    /// The next `n` bytes. `Short` comes exactly where fewer are left, and the reader is unchanged then.
+    /// The next `n` bytes. `Short` comes exactly where fewer are left, and the reader is unchanged
+    /// then.
     pub fn take(&mut self, n: usize) -> Result<&'a [u8], Short>
         ensures { Reads (λ x. x.now ≡ take n self.old) n self.old self.new result }
     {

@@ -7,26 +7,26 @@ pub fn opening_law()
     ensures { OpeningLaw }
 {}
 
-/// What it does to the contents that a table is made: the dictionary names it, and it has a space, of which
-/// no slot was ever used.
+/// What it does to the contents that a table is made: the dictionary names it, and it has a space,
+/// of which no slot was ever used.
 pub fn create_law()
     ensures { CreateLaw }
 {}
 
-/// What it does to the contents that a transaction begins: its undo slot is in use, without a change. The
-/// page of the slot's header is made first where it was never used.
+/// What it does to the contents that a transaction begins: its undo slot is in use, without a
+/// change. The page of the slot's header is made first where it was never used.
 pub fn begin_law()
     ensures { BeginLaw }
 {}
 
-/// What a change does to the contents: its undo record joins those of its undo slot, and its row slot is
-/// set. Pages that were never used are made first.
+/// What a change does to the contents: its undo record joins those of its undo slot, and its row
+/// slot is set. Pages that were never used are made first.
 pub fn change_law()
     ensures { ChangeLaw }
 {}
 
-/// What it does to the contents that the last change is taken back: the undo slot loses its last record,
-/// and the row slot that this one names is as it was.
+/// What it does to the contents that the last change is taken back: the undo slot loses its last
+/// record, and the row slot that this one names is as it was.
 pub fn taking_back_law()
     ensures { TakingBackLaw }
 {}
@@ -36,13 +36,14 @@ pub fn end_law()
     ensures { EndLaw }
 {}
 
-/// What a commit does to the contents: the undo slot is free, and the number of commits is that of the record.
+/// What a commit does to the contents: the undo slot is free, and the number of commits is that of
+/// the record.
 pub fn commit_law()
     ensures { CommitLaw }
 {}
 
-/// What it does to the contents that recovery takes a change back: the row slot that the record names is as
-/// it was.
+/// What it does to the contents that recovery takes a change back: the row slot that the record
+/// names is as it was.
 pub fn undoing_law()
     ensures { UndoingLaw }
 {}

@@ -1,5 +1,5 @@
-//! What an image contains, between the bytes of its pages and the rows that they mean, and what each
-//! mini-transaction does to it.
+//! What an image contains, between the bytes of its pages and the rows that they mean, and what
+//! each mini-transaction does to it.
 #![tactic(auto)]
 
 mod laws;

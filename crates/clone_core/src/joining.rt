@@ -10,8 +10,9 @@ use clone_recover::{RecoverRefusal, recover};
 use clone_trx::Engine;
 use std::alloc::{AllocError, Global};
 
-/// The image that a donor's redo log leaves, with the changes of each transaction that is open taken
-/// back. It is what recovery makes of the log's bytes, and its rows are those that the donor's history leaves.
+/// The image that a donor's redo log leaves, with the changes of each transaction that is open
+/// taken back. It is what recovery makes of the log's bytes, and its rows are those that the
+/// donor's history leaves.
 pub fn recovered_image(alloc: Global, engine: &Engine) -> Result<Image, AllocError>
     ensures recovers { IfOk result (Recovers engine.now.log) }
     ensures rows { IfOk result (λ image. HasRows (page_of image)

@@ -5,9 +5,9 @@ ghost use Rattle.clone_plain.specs.Headline.{AreCommits, AreSets, ShowsStop, all
 ghost use Rattle.clone_plain.specs.World.{IsWithin};
 ghost use Rattle.clone_core.specs.Lines.{State, donor_of, IsNew, Runs};
 
-/// Each run of a world from the beginning: its binlog has a commit for each position that was answered, that
-/// of a `set` with its one change; the rows shown are those of the stop; and each line adds at most one commit,
-/// and one transaction of each writer.
+/// Each run of a world from the beginning: its binlog has a commit for each position that was
+/// answered, that of a `set` with its one change; the rows shown are those of the stop; and each
+/// line adds at most one commit, and one transaction of each writer.
 pub fn run_laws()
     ensures commits { (s : State) (lines : List Line) (events : List (List Event)) (t : State)
         → IsNew s → Runs s lines events t → AreCommits (all_events events) t.donor.donor.binlog }

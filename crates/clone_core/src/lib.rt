@@ -1,4 +1,5 @@
-//! The world that a script acts on: a donor, the clone taken of it, and what each line does to them.
+//! The world that a script acts on: a donor, the clone taken of it, and what each line does to
+//! them.
 #![tactic(auto)]
 
 mod begun;

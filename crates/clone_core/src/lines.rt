@@ -141,7 +141,8 @@ impl World {
         answered(alloc, called, text)
     }
 
-    // Sets a row in a transaction of its own. Where its change is refused the transaction stays open.
+    // Sets a row in a transaction of its own. Where its change is refused the transaction stays
+    // open.
     fn set(
         &mut self,
         alloc: Global,

@@ -51,7 +51,8 @@ pub fn committed_text(alloc: Global, engine: &Engine) -> Result<String, AllocErr
     format!(in alloc; "committed {position}")
 }
 
-/// The answer of a line whose call answered so: this text where it was carried out, else that of the refusal.
+/// The answer of a line whose call answered so: this text where it was carried out, else that of
+/// the refusal.
 pub fn answered<T: Drop>(
     alloc: Global,
     called: Result<T, EngineRefusal>,

@@ -70,8 +70,8 @@ impl World {
         self.engine.binlog()
     }
 
-    /// Carries out a line and gives its answer. Where memory runs out in it, a front of its calls was
-    /// carried out, and against none of these was there a cause.
+    /// Carries out a line and gives its answer. Where memory runs out in it, a front of its calls
+    /// was carried out, and against none of these was there a cause.
     pub fn event(&mut self, alloc: Global, line: &Line) -> Result<String, AllocError>
         requires within { IsWithin donor_of (2 ^ 63 - 1) self.old }
         ensures ok { IfOk result (λ text. Answers self.old line.now (string_bytes text) self.new) }

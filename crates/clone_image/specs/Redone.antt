@@ -74,7 +74,10 @@ abbrev pub redone_from : ℕ → ℕ → ℕ → Standing → List (List Record)
 redone_from start space number p [] = p
 redone_from start space number p (m ∷ ms) =
     redone_from (end_of start m) space number
-    (redone_records (end_of start m) space number (record { standing = p; counts = None }) m).standing
+    (redone_records (end_of start m) space number (record {
+      standing = p;
+      counts = None;
+    }) m).standing
     ms
 
 -- what a log leaves of a page from nothing

@@ -60,8 +60,8 @@ impl Image {
         self.pages(space)?.get(number as usize)
     }
 
-    /// Does to the image what the record says. `lsn` is the end of its mini-transaction. A record that
-    /// makes no page takes no memory, and after a refusal the image is as before.
+    /// Does to the image what the record says. `lsn` is the end of its mini-transaction. A record
+    /// that makes no page takes no memory, and after a refusal the image is as before.
     pub fn apply(&mut self, alloc: Global, entry: &Record, lsn: u64) -> Result<(), AllocError>
         ensures ok { OnOk result (self.new ≡ after_record lsn self.old entry.now) }
         ensures err { OnErr result (self.new ≡ self.old) }
@@ -81,9 +81,9 @@ impl Image {
         }
     }
 
-    /// Does to the image what the records of a mini-transaction say, in their order. `lsn` is its end.
-    /// Where none makes a page it takes no memory. After a refusal some records may have been applied,
-    /// but none where only the first makes a page.
+    /// Does to the image what the records of a mini-transaction say, in their order. `lsn` is its
+    /// end. Where none makes a page it takes no memory. After a refusal some records may have been
+    /// applied, but none where only the first makes a page.
     pub fn apply_all(
         &mut self,
         alloc: Global,

@@ -33,8 +33,8 @@ pub fn page_laws()
         → page_count (with_edit image space (edited number edit)) s ≡ page_count image s }
 {}
 
-/// What a log makes of an image is what it makes of each page by itself. A log of fewer than 2^64 bytes
-/// has only ends that fit a page LSN.
+/// What a log makes of an image is what it makes of each page by itself. A log of fewer than 2^64
+/// bytes has only ends that fit a page LSN.
 pub fn redone_laws()
     ensures { (mtrs : List (List Record)) (space number : ℕ) → first_lsn + length (log_of mtrs)
         < 2 ^ 64 → standing_of (replayed mtrs) space number ≡ redone space number mtrs }

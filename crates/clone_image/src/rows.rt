@@ -80,8 +80,8 @@ fn add_pages(tables: &mut Tables, table: u32, pages: &[Page]) -> Result<(), Allo
     Ok(())
 }
 
-/// Adds the rows of a page of this table, if the page is of a kind that holds rows. Of rows that stand
-/// more than once the last is kept.
+/// Adds the rows of a page of this table, if the page is of a kind that holds rows. Of rows that
+/// stand more than once the last is kept.
 pub fn add_page(tables: &mut Tables, table: u32, page: &Page) -> Result<(), AllocError>
     ensures { OnOk result (Adds tables.old tables.new (InPage table page.now)) }
 {

@@ -15,12 +15,16 @@ use Rattle.clone_law.specs.Since.{ends, Suits}
 abbrev pub opening : List Record
 opening = Create 0 257 ∷ Init 0 0 System ∷ []
 
--- a new overflow page, page 8 of space 5: the dictionary entry, the space's length, the page itself, and the next field of page 3
+-- a new overflow page, page 8 of space 5: the dictionary entry, the space's length, the page
+-- itself, and the next field of page 3
 abbrev pub overflow : Patched → List Record
 overflow patch = Write 0 0 patch ∷ Extend 5 9 ∷ Init 5 8 Overflow ∷ Write 5 3 patch ∷ []
 
 abbrev pub SuitsOverflow : Type 0
-SuitsOverflow = (log : List (List Record)) (patch : Patched) → ends log + length (spelling (overflow patch)) < 2 ^ 64 → redone 5 8 log ≡ past_end → Suits 5 8 log (overflow patch)
+SuitsOverflow =
+    (log : List (List Record)) (patch : Patched)
+    → ends log + length (spelling (overflow patch)) < 2 ^ 64 → redone 5 8 log ≡ past_end
+    → Suits 5 8 log (overflow patch)
 
 -- The only page of space 1 is made and changed once, and then a clone begins.
 
@@ -57,31 +61,50 @@ torn_page = with_lsn (ends changed_log) zero_page
 
 -- the page is made and changed, with the checkpoint before the change
 abbrev pub beginning : List Event
-beginning = Created making ∷ Checkpointed (ends made_log) ∷ Fetched zero_page ∷ Changed first_change first_page ∷ []
+beginning =
+    Created making ∷ Checkpointed (ends made_log) ∷ Fetched zero_page
+    ∷ Changed first_change first_page ∷ []
 
--- In FILE COPY the page is flushed, and its block read while its write is open. Then it is sent in PAGE COPY, and changed once more.
+-- In FILE COPY the page is flushed, and its block read while its write is open. Then it is sent in
+-- PAGE COPY, and changed once more.
 abbrev pub flushed_run : List Event
 flushed_run =
     beginning
-    ++ Started true ∷ Begun first_page ∷ Half (stands torn_page) ∷ FileRead torn_page ∷ Landed ∷ FilesEnded ∷ PageRead first_page ∷ Changed second_change second_page ∷ PagesEnded ∷ []
+    ++ Started true ∷ Begun first_page ∷ Half (stands torn_page) ∷ FileRead torn_page ∷ Landed
+    ∷ FilesEnded ∷ PageRead first_page ∷ Changed second_change second_page ∷ PagesEnded ∷ []
 
 -- the run comes to the stop with what PAGE COPY sent
 abbrev pub FlushedStops : Type 0
-FlushedStops = (w : World) × Runs 1 0 nothing flushed_run w × (w.copy ≡ Stopped (ends made_log) last_log (stands first_page ∷ []))
+FlushedStops =
+    (w : World) × Runs 1 0 nothing flushed_run w
+    × (w.copy ≡ Stopped (ends made_log) last_log (stands first_page ∷ []))
 
 -- and the archived log makes that the page as it is
 abbrev pub SentIsNow : Type 0
-SentIsNow = (redone_from (ends made_log) 1 0 (stands first_page) (first_change ∷ second_change ∷ []) ≡ stands second_page) × (redone 1 0 last_log ≡ stands second_page)
+SentIsNow =
+    (redone_from (ends made_log) 1 0 (stands first_page) (first_change ∷ second_change ∷ [])
+    ≡ stands second_page) × (redone 1 0 last_log ≡ stands second_page)
 
 -- for each wrong machine a run that misleads it, and the starting value
 abbrev pub misleading : Mistake → List Event
-misleading LeavesFlightOut = beginning ++ Begun first_page ∷ Started true ∷ Half (stands torn_page) ∷ FileRead torn_page ∷ Landed ∷ FilesEnded ∷ PagesEnded ∷ []
-misleading BeginsUnnoted = beginning ++ Started true ∷ Begun first_page ∷ Half (stands torn_page) ∷ FileRead torn_page ∷ Landed ∷ FilesEnded ∷ PagesEnded ∷ []
-misleading ArchivesLate = beginning ++ Started true ∷ FileRead zero_page ∷ FilesEnded ∷ PagesEnded ∷ []
+misleading LeavesFlightOut =
+    beginning
+    ++ Begun first_page ∷ Started true ∷ Half (stands torn_page) ∷ FileRead torn_page ∷ Landed
+    ∷ FilesEnded ∷ PagesEnded ∷ []
+misleading BeginsUnnoted =
+    beginning
+    ++ Started true ∷ Begun first_page ∷ Half (stands torn_page) ∷ FileRead torn_page ∷ Landed
+    ∷ FilesEnded ∷ PagesEnded ∷ []
+misleading ArchivesLate =
+    beginning ++ Started true ∷ FileRead zero_page ∷ FilesEnded ∷ PagesEnded ∷ []
 misleading LandsClean =
     beginning
-    ++ Begun first_page ∷ Changed second_change second_page ∷ Landed ∷ Checkpointed (ends last_log) ∷ Started true ∷ FileRead first_page ∷ FilesEnded ∷ PagesEnded ∷ []
-misleading ChecksPast = beginning ++ Checkpointed (ends changed_log) ∷ Started true ∷ FileRead zero_page ∷ FilesEnded ∷ PagesEnded ∷ []
+    ++ Begun first_page ∷ Changed second_change second_page ∷ Landed ∷ Checkpointed (ends last_log)
+    ∷ Started true ∷ FileRead first_page ∷ FilesEnded ∷ PagesEnded ∷ []
+misleading ChecksPast =
+    beginning
+    ++ Checkpointed (ends changed_log) ∷ Started true ∷ FileRead zero_page ∷ FilesEnded ∷ PagesEnded
+    ∷ []
 
 abbrev pub misled : Mistake → Standing
 misled LeavesFlightOut = stands torn_page

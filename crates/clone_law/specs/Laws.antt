@@ -31,67 +31,90 @@ NewerStays =
 abbrev pub RedoneInParts : Type 0
 RedoneInParts =
     (space number : ℕ) (front rest : List (List Record))
-    → redone space number (front ++ rest) ≡ redone_from (ends front) space number (redone space number front) rest
+    → redone space number (front ++ rest)
+    ≡ redone_from (ends front) space number (redone space number front) rest
 
 -- redo of a page by mini-transactions that the page has already changes nothing
 abbrev pub RedoneAgain : Type 0
 RedoneAgain =
     (space number : ℕ) (front rest : List (List Record)) → AllFit space number (front ++ rest)
-    → redone_from (ends front) space number (redone space number (front ++ rest)) rest ≡ redone space number (front ++ rest)
+    → redone_from (ends front) space number (redone space number (front ++ rest)) rest
+    ≡ redone space number (front ++ rest)
 
--- what the page was at a moment that isn't before the redo's start becomes what it is at the log's end
+-- what the page was at a moment that isn't before the redo's start becomes what it is at the log's
+-- end
 abbrev pub RedoneSince : Type 0
 RedoneSince =
-    (space number from : ℕ) (s : Standing) (log front rest : List (List Record)) → AllFit space number log → Since space number from s log
-    → log ≡ front ++ rest → ends front ≡ from → Lax (redone_from from space number s rest) (redone space number log)
+    (space number from : ℕ) (s : Standing) (log front rest : List (List Record))
+    → AllFit space number log → Since space number from s log
+    → log ≡ front ++ rest → ends front ≡ from
+    → Lax (redone_from from space number s rest) (redone space number log)
 
 -- A log that grows.
 
 -- a moment of a log is one of each longer log
 abbrev pub SinceLonger : Type 0
 SinceLonger =
-    (space number from : ℕ) (s : Standing) (log : List (List Record)) (m : List Record) → Since space number from s log → Since space number from s (log ++ m ∷ [])
+    (space number from : ℕ) (s : Standing) (log : List (List Record)) (m : List Record)
+    → Since space number from s log → Since space number from s (log ++ m ∷ [])
 
--- where the page was nothing, a file that is too short or one that was lengthened by zero pages serves as well
+-- where the page was nothing, a file that is too short or one that was lengthened by zero pages
+-- serves as well
 abbrev pub SinceLengthened : Type 0
 SinceLengthened =
-    (space number from : ℕ) (u s : Standing) (log : List (List Record)) → Lax u s → Since space number from s log → Since space number from u log
+    (space number from : ℕ) (u s : Standing) (log : List (List Record)) → Lax u s
+    → Since space number from s log → Since space number from u log
 
 abbrev pub FitsLonger : Type 0
-FitsLonger = (space number : ℕ) (log : List (List Record)) (m : List Record) → AllFit space number log → Suits space number log m → AllFit space number (log ++ m ∷ [])
+FitsLonger =
+    (space number : ℕ) (log : List (List Record)) (m : List Record) → AllFit space number log
+    → Suits space number log m → AllFit space number (log ++ m ∷ [])
 
--- all records of the mini-transaction that is appended count, also where several of them name the page
+-- all records of the mini-transaction that is appended count, also where several of them name the
+-- page
 abbrev pub AllCount : Type 0
 AllCount =
-    (space number : ℕ) (log : List (List Record)) (m : List Record) → AllFit space number log → Suits space number log m
-    → redone space number (log ++ m ∷ []) ≡ applied (redone space number log) (touches (end_of (ends log) m) space number m)
+    (space number : ℕ) (log : List (List Record)) (m : List Record) → AllFit space number log
+    → Suits space number log m
+    → redone space number (log ++ m ∷ [])
+    ≡ applied (redone space number log) (touches (end_of (ends log) m) space number m)
 
 -- a mini-transaction that names neither the page nor its space leaves the page
 abbrev pub OthersPass : Type 0
 OthersPass =
-    (space number : ℕ) (log : List (List Record)) (m : List Record) → passes_by (touches (end_of (ends log) m) space number m) ≡ true
+    (space number : ℕ) (log : List (List Record)) (m : List Record)
+    → passes_by (touches (end_of (ends log) m) space number m) ≡ true
     → redone space number (log ++ m ∷ []) ≡ redone space number log
 
 -- the space of the page is made, gets longer, or is dropped
 abbrev pub SpaceMade : Type 0
-SpaceMade = (space number count : ℕ) (log : List (List Record)) → redone space number (log ++ (Create space count ∷ []) ∷ []) ≡ made number count
+SpaceMade =
+    (space number count : ℕ) (log : List (List Record))
+    → redone space number (log ++ (Create space count ∷ []) ∷ []) ≡ made number count
 
 abbrev pub SpaceLonger : Type 0
-SpaceLonger = (space number count : ℕ) (log : List (List Record)) → redone space number (log ++ (Extend space count ∷ []) ∷ []) ≡ stretched number count (redone space number log)
+SpaceLonger =
+    (space number count : ℕ) (log : List (List Record))
+    → redone space number (log ++ (Extend space count ∷ []) ∷ [])
+    ≡ stretched number count (redone space number log)
 
 abbrev pub SpaceDropped : Type 0
-SpaceDropped = (space number : ℕ) (log : List (List Record)) → redone space number (log ++ (Drop space ∷ []) ∷ []) ≡ no_space
+SpaceDropped =
+    (space number : ℕ) (log : List (List Record))
+    → redone space number (log ++ (Drop space ∷ []) ∷ []) ≡ no_space
 
 -- What suits: no record makes or drops the space, and the page stands; or no record names the page.
 
 abbrev pub SuitsThere : Type 0
 SuitsThere =
-    (space number : ℕ) (log : List (List Record)) (m : List Record) (page : List ℕ) → ends log + length (spelling m) < 2 ^ 64 → redone space number log ≡ stands page
+    (space number : ℕ) (log : List (List Record)) (m : List Record) (page : List ℕ)
+    → ends log + length (spelling m) < 2 ^ 64 → redone space number log ≡ stands page
     → resets (touches (end_of (ends log) m) space number m) ≡ false → Suits space number log m
 
 abbrev pub SuitsUnnamed : Type 0
 SuitsUnnamed =
-    (space number : ℕ) (log : List (List Record)) (m : List Record) → ends log + length (spelling m) < 2 ^ 64
+    (space number : ℕ) (log : List (List Record)) (m : List Record)
+    → ends log + length (spelling m) < 2 ^ 64
     → names (touches (end_of (ends log) m) space number m) ≡ false → Suits space number log m
 
 -- The machine of a page.
@@ -100,36 +123,46 @@ abbrev pub RuleBegins : Type 0
 RuleBegins = (space number : ℕ) → Rule space number nothing
 
 abbrev pub RuleKept : Type 0
-RuleKept = (space number : ℕ) (w : World) (event : Event) → Rule space number w → Allowed space number w event → Rule space number (happens space number w event)
+RuleKept =
+    (space number : ℕ) (w : World) (event : Event) → Rule space number w
+    → Allowed space number w event → Rule space number (happens space number w event)
 
 -- a clean frame is the disk's page
 abbrev pub CleanIsDisk : Type 0
 CleanIsDisk =
-    (space number : ℕ) (e : Engine) (bytes : List ℕ) → EngineRule space number e → e.writing ≡ false → e.frame ≡ Some bytes → e.oldest ≡ None
+    (space number : ℕ) (e : Engine) (bytes : List ℕ) → EngineRule space number e → e.writing ≡ false
+    → e.frame ≡ Some bytes → e.oldest ≡ None
     → e.disk ≡ stands bytes
 
 -- a dirty frame is what redo from its oldest modification makes of the disk's page
 abbrev pub DirtyIsRedone : Type 0
 DirtyIsRedone =
-    (space number : ℕ) (e : Engine) (bytes : List ℕ) (o : ℕ) → EngineRule space number e → e.writing ≡ false → e.frame ≡ Some bytes → e.oldest ≡ Some o
-    → (front rest : List (List Record)) → e.log ≡ front ++ rest → ends front ≡ o → redone_from o space number e.disk rest ≡ stands bytes
+    (space number : ℕ) (e : Engine) (bytes : List ℕ) (o : ℕ) → EngineRule space number e
+    → e.writing ≡ false → e.frame ≡ Some bytes → e.oldest ≡ Some o
+    → (front rest : List (List Record)) → e.log ≡ front ++ rest → ends front ≡ o
+    → redone_from o space number e.disk rest ≡ stands bytes
 
 -- at the stop, redo by the archived log makes each starting value the page as it is
 abbrev pub StartsGive : Type 0
 StartsGive =
-    (space number : ℕ) (events : List Event) (w : World) (base : ℕ) (log : List (List Record)) (starts : List Standing) (u : Standing)
-    → Runs space number nothing events w → w.copy ≡ Stopped base log starts → IsStart starts u → IsAt base log × Gives space number base log u
+    (space number : ℕ) (events : List Event) (w : World) (base : ℕ) (log : List (List Record))
+    (starts : List Standing) (u : Standing)
+    → Runs space number nothing events w → w.copy ≡ Stopped base log starts → IsStart starts u
+    → IsAt base log × Gives space number base log u
 
--- an answer of FILE COPY stays a start as long as the page isn't tracked, and then as long as the session stands
+-- an answer of FILE COPY stays a start as long as the page isn't tracked, and then as long as the
+-- session stands
 abbrev pub FilesStay : Type 0
 FilesStay =
-    (space number : ℕ) (u : Standing) (w v : World) (es : List Event) → Runs space number w es v → AllByRecursion (λ e. InCalm e ≡ true) es
+    (space number : ℕ) (u : Standing) (w v : World) (es : List Event) → Runs space number w es v
+    → AllByRecursion (λ e. InCalm e ≡ true) es
     → HasStart w.copy u → HasStart v.copy u
 
 -- and one that counts in PAGE COPY as long as the session stands
 abbrev pub PagesStay : Type 0
 PagesStay =
-    (space number : ℕ) (u : Standing) (w v : World) (es : List Event) → Runs space number w es v → AllByRecursion (λ e. InSession e ≡ true) es
+    (space number : ℕ) (u : Standing) (w v : World) (es : List Event) → Runs space number w es v
+    → AllByRecursion (λ e. InSession e ≡ true) es
     → HasCopied w.copy u → HasCopied v.copy u
 
 -- The composition.
@@ -149,5 +182,6 @@ pub record IsLaid (base : ℕ) (log : List (List Record)) (copy : Image) : Type 
 -- with undo taken back it has the rows that the donor's pages have with undo taken back
 abbrev pub CopyRecovers : Type 0
 CopyRecovers =
-    (base : ℕ) (log : List (List Record)) (copy : Image) (rows : Rows) → IsLaid base log copy → CanTakeBack (replayed log)
+    (base : ℕ) (log : List (List Record)) (copy : Image) (rows : Rows) → IsLaid base log copy
+    → CanTakeBack (replayed log)
     → HasRows (page_of (recovered (replayed log))) rows → HasRows (page_of (recovered copy)) rows

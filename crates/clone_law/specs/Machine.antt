@@ -1,4 +1,5 @@
--- One page of a donor and of the clone that it gives: all that can happen to the page, and when each event may come.
+-- One page of a donor and of the clone that it gives: all that can happen to the page, and when
+-- each event may come.
 use Rattle.std.specs.Prelude.{ℕ, ◌≡◌, ◌≤◌, ◌⊎◌, ◌++◌, Bool, true, false, List, [], ◌∷◌, None, Some, if◌then◌else◌}
 use Rattle.std.specs.declared.option.Option.{Option}
 use Rattle.clone_page.specs.Header.{zero_page}
@@ -42,7 +43,9 @@ pub record World : Type 0 where
   pub copy : Copy
 
 pub data Event : Type 0 where
-  -- A mini-transaction: one that leaves the page, one that makes these bytes of it, one that makes its space, one that makes the space and these bytes of the page, one that drops the space, and how the page stands on disk then.
+  -- A mini-transaction: one that leaves the page, one that makes these bytes of it, one that makes
+  -- its space, one that makes the space and these bytes of the page, one that drops the space, and
+  -- how the page stands on disk then.
   Passed : List Record → Event
   Changed : List Record → List ℕ → Event
   Created : List Record → Event
@@ -55,7 +58,8 @@ pub data Event : Type 0 where
   Begun : List ℕ → Event
   -- the file got longer, by zero pages
   Lengthened : Event
-  -- half of the image in flight is written, and the page may stand on disk in any way; all of it has landed; or a flush failed
+  -- half of the image in flight is written, and the page may stand on disk in any way; all of it
+  -- has landed; or a flush failed
   Half : Standing → Event
   Landed : Event
   Failed : Standing → Event
@@ -87,7 +91,16 @@ dirtied at (Some i) = Some (record { image = i.image; later = first_of at i.late
 -- the disk has the image, and the page is dirty from the first change since its flush began
 abbrev pub landed : Engine → Option Flight → Engine
 landed e None = e
-landed e (Some i) = record { log = e.log; checkpoint = e.checkpoint; disk = stands i.image; writing = false; frame = e.frame; oldest = i.later; flight = None }
+landed e (Some i) =
+    record {
+      log = e.log;
+      checkpoint = e.checkpoint;
+      disk = stands i.image;
+      writing = false;
+      frame = e.frame;
+      oldest = i.later;
+      flight = None;
+    }
 
 -- a page that isn't there starts as it stands on disk
 abbrev pub outside : Standing → Standing → Standing
@@ -147,31 +160,88 @@ pages_ended log (Stopped base before starts) = Stopped base before starts
 
 -- WHAT AN EVENT DOES
 abbrev pub happens : ℕ → ℕ → World → Event → World
-happens space number w (Passed m) = record { engine = record w.engine { log = w.engine.log ++ m ∷ [] }; copy = w.copy }
+happens space number w (Passed m) =
+    record { engine = record w.engine { log = w.engine.log ++ m ∷ [] }; copy = w.copy }
 happens space number w (Changed m bytes) =
-    record { engine = record w.engine { log = w.engine.log ++ m ∷ []; frame = Some bytes; oldest = first_of (ends w.engine.log) w.engine.oldest; flight = dirtied (ends w.engine.log) w.engine.flight }; copy = w.copy }
+    record {
+      engine = record w.engine {
+        log = w.engine.log ++ m ∷ [];
+        frame = Some bytes;
+        oldest = first_of (ends w.engine.log) w.engine.oldest;
+        flight = dirtied (ends w.engine.log) w.engine.flight;
+      };
+      copy = w.copy;
+    }
 happens space number w (Created m) =
     record {
-      engine = record w.engine { log = w.engine.log ++ m ∷ []; disk = redone space number (w.engine.log ++ m ∷ []); writing = false; frame = None; oldest = None; flight = None };
+      engine = record w.engine {
+        log = w.engine.log ++ m ∷ [];
+        disk = redone space number (w.engine.log ++ m ∷ []);
+        writing = false;
+        frame = None;
+        oldest = None;
+        flight = None;
+      };
       copy = created (redone space number (w.engine.log ++ m ∷ [])) w.copy;
     }
 happens space number w (Opened m bytes) =
-    record { engine = record w.engine { log = w.engine.log ++ m ∷ []; disk = stands zero_page; writing = false; frame = Some bytes; oldest = Some (ends w.engine.log); flight = None }; copy = w.copy }
-happens space number w (Dropped m disk) = record { engine = record w.engine { log = w.engine.log ++ m ∷ []; disk = disk; writing = false; frame = None; oldest = None; flight = None }; copy = w.copy }
-happens space number w (Fetched bytes) = record { engine = record w.engine { frame = Some bytes }; copy = w.copy }
+    record {
+      engine = record w.engine {
+        log = w.engine.log ++ m ∷ [];
+        disk = stands zero_page;
+        writing = false;
+        frame = Some bytes;
+        oldest = Some (ends w.engine.log);
+        flight = None;
+      };
+      copy = w.copy;
+    }
+happens space number w (Dropped m disk) =
+    record {
+      engine = record w.engine {
+        log = w.engine.log ++ m ∷ [];
+        disk = disk;
+        writing = false;
+        frame = None;
+        oldest = None;
+        flight = None;
+      };
+      copy = w.copy;
+    }
+happens space number w (Fetched bytes) =
+    record { engine = record w.engine { frame = Some bytes }; copy = w.copy }
 happens space number w Evicted = record { engine = record w.engine { frame = None }; copy = w.copy }
-happens space number w (Begun bytes) = record { engine = record w.engine { flight = Some (record { image = bytes; later = None }) }; copy = noted w.copy }
-happens space number w Lengthened = record { engine = record w.engine { disk = stands zero_page }; copy = w.copy }
-happens space number w (Half disk) = record { engine = record w.engine { disk = disk; writing = true }; copy = w.copy }
+happens space number w (Begun bytes) =
+    record {
+      engine = record w.engine { flight = Some (record { image = bytes; later = None }) };
+      copy = noted w.copy;
+    }
+happens space number w Lengthened =
+    record { engine = record w.engine { disk = stands zero_page }; copy = w.copy }
+happens space number w (Half disk) =
+    record { engine = record w.engine { disk = disk; writing = true }; copy = w.copy }
 happens space number w Landed = record { engine = landed w.engine w.engine.flight; copy = w.copy }
-happens space number w (Failed disk) = record { engine = record w.engine { disk = disk; writing = true; flight = None }; copy = noted w.copy }
-happens space number w (Checkpointed at) = record { engine = record w.engine { checkpoint = at }; copy = w.copy }
+happens space number w (Failed disk) =
+    record {
+      engine = record w.engine { disk = disk; writing = true; flight = None };
+      copy = noted w.copy;
+    }
+happens space number w (Checkpointed at) =
+    record { engine = record w.engine { checkpoint = at }; copy = w.copy }
 happens space number w (Started listed) =
-    record { engine = w.engine; copy = started w.engine.writing w.engine.flight (if listed then [] else (outside (redone space number w.engine.log) w.engine.disk ∷ [])) }
-happens space number w (FileRead bytes) = record { engine = w.engine; copy = file_read bytes w.copy }
-happens space number w FilesEnded = record { engine = w.engine; copy = files_ended w.engine.checkpoint w.copy }
-happens space number w (PageRead bytes) = record { engine = w.engine; copy = page_read bytes w.copy }
-happens space number w PagesEnded = record { engine = w.engine; copy = pages_ended w.engine.log w.copy }
+    record {
+      engine = w.engine;
+      copy = started w.engine.writing w.engine.flight (if listed then []
+          else (outside (redone space number w.engine.log) w.engine.disk ∷ []));
+    }
+happens space number w (FileRead bytes) =
+    record { engine = w.engine; copy = file_read bytes w.copy }
+happens space number w FilesEnded =
+    record { engine = w.engine; copy = files_ended w.engine.checkpoint w.copy }
+happens space number w (PageRead bytes) =
+    record { engine = w.engine; copy = page_read bytes w.copy }
+happens space number w PagesEnded =
+    record { engine = w.engine; copy = pages_ended w.engine.log w.copy }
 happens space number w Left = record { engine = w.engine; copy = Idle }
 
 -- the page's space is there
@@ -201,31 +271,62 @@ AtMost at (Some o) log = (at ≤ o) × IsAt o log
 
 -- WHEN AN EVENT MAY COME: what the donor guarantees when it makes it
 abbrev pub Allowed : ℕ → ℕ → World → Event → Type 0
-Allowed space number w (Passed m) = Suits space number w.engine.log m × (redone space number (w.engine.log ++ m ∷ []) ≡ redone space number w.engine.log)
-Allowed space number w (Changed m bytes) = Suits space number w.engine.log m × (redone space number (w.engine.log ++ m ∷ []) ≡ stands bytes) × HasSpace (redone space number w.engine.log)
+Allowed space number w (Passed m) =
+    Suits space number w.engine.log m
+    × (redone space number (w.engine.log ++ m ∷ []) ≡ redone space number w.engine.log)
+Allowed space number w (Changed m bytes) =
+    Suits space number w.engine.log m
+    × (redone space number (w.engine.log ++ m ∷ []) ≡ stands bytes)
+    × HasSpace (redone space number w.engine.log)
 Allowed space number w (Created m) = Suits space number w.engine.log m
-Allowed space number w (Opened m bytes) = Suits space number w.engine.log m × (redone space number (w.engine.log ++ m ∷ []) ≡ stands bytes) × (redone space number w.engine.log ≡ no_space) × NoFiles w.copy
-Allowed space number w (Dropped m disk) = Suits space number w.engine.log m × (redone space number (w.engine.log ++ m ∷ []) ≡ no_space) × NoFiles w.copy
-Allowed space number w (Fetched bytes) = (w.engine.frame ≡ None) × (w.engine.disk ≡ stands bytes) × Stands (redone space number w.engine.log)
-Allowed space number w Evicted = (w.engine.writing ≡ false) × (w.engine.oldest ≡ None) × (w.engine.flight ≡ None)
+Allowed space number w (Opened m bytes) =
+    Suits space number w.engine.log m
+    × (redone space number (w.engine.log ++ m ∷ []) ≡ stands bytes)
+    × (redone space number w.engine.log ≡ no_space) × NoFiles w.copy
+Allowed space number w (Dropped m disk) =
+    Suits space number w.engine.log m × (redone space number (w.engine.log ++ m ∷ []) ≡ no_space)
+    × NoFiles w.copy
+Allowed space number w (Fetched bytes) =
+    (w.engine.frame ≡ None) × (w.engine.disk ≡ stands bytes)
+    × Stands (redone space number w.engine.log)
+Allowed space number w Evicted =
+    (w.engine.writing ≡ false) × (w.engine.oldest ≡ None) × (w.engine.flight ≡ None)
 Allowed space number w (Begun bytes) = w.engine.frame ≡ Some bytes
 Allowed space number w Lengthened = w.engine.disk ≡ past_end
 Allowed space number w (Half disk) = (i : Flight) × (w.engine.flight ≡ Some i)
 Allowed space number w Landed = Unit {0}
 Allowed space number w (Failed disk) = (bytes : List ℕ) × (w.engine.frame ≡ Some bytes)
-Allowed space number w (Checkpointed at) = AtMost at w.engine.oldest w.engine.log × IsAt at w.engine.log
+Allowed space number w (Checkpointed at) =
+    AtMost at w.engine.oldest w.engine.log × IsAt at w.engine.log
 Allowed space number w (Started listed) = Unit {0}
-Allowed space number w (FileRead bytes) = HasSpace (redone space number w.engine.log) × (w.engine.writing ≡ false → w.engine.disk ≡ stands bytes)
+Allowed space number w (FileRead bytes) =
+    HasSpace (redone space number w.engine.log)
+    × (w.engine.writing ≡ false → w.engine.disk ≡ stands bytes)
 Allowed space number w FilesEnded = Unit {0}
-Allowed space number w (PageRead bytes) = (w.engine.frame ≡ Some bytes) ⊎ ((w.engine.frame ≡ None) × (w.engine.disk ≡ stands bytes) × Stands (redone space number w.engine.log))
+Allowed space number w (PageRead bytes) =
+    (w.engine.frame ≡ Some bytes)
+    ⊎ ((w.engine.frame ≡ None) × (w.engine.disk ≡ stands bytes)
+    × Stands (redone space number w.engine.log))
 Allowed space number w PagesEnded = Unit {0}
 Allowed space number w Left = Unit {0}
 
 -- these events, one after the other
 abbrev pub Runs : ℕ → ℕ → World → List Event → World → Type 0
 Runs space number w [] v = w ≡ v
-Runs space number w (e ∷ es) v = Allowed space number w e × Runs space number (happens space number w e) es v
+Runs space number w (e ∷ es) v =
+    Allowed space number w e × Runs space number (happens space number w e) es v
 
 -- before the log begins
 abbrev pub nothing : World
-nothing = record { engine = record { log = []; checkpoint = first_lsn; disk = no_space; writing = false; frame = None; oldest = None; flight = None }; copy = Idle }
+nothing = record {
+  engine = record {
+    log = [];
+    checkpoint = first_lsn;
+    disk = no_space;
+    writing = false;
+    frame = None;
+    oldest = None;
+    flight = None;
+  };
+  copy = Idle;
+}

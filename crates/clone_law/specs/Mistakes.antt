@@ -19,19 +19,27 @@ pub data Mistake : Type 0 where
   ChecksPast : Mistake
 
 abbrev pub left_out : ℕ → ℕ → World → Event → World
-left_out space number w (Started listed) = record { engine = w.engine; copy = Untracked (if listed then [] else (outside (redone space number w.engine.log) w.engine.disk ∷ [])) }
+left_out space number w (Started listed) =
+    record {
+      engine = w.engine;
+      copy = Untracked (if listed then []
+          else (outside (redone space number w.engine.log) w.engine.disk ∷ []));
+    }
 left_out space number w e = happens space number w e
 
 abbrev pub unnoted : ℕ → ℕ → World → Event → World
-unnoted space number w (Begun bytes) = record { engine = (happens space number w (Begun bytes)).engine; copy = w.copy }
+unnoted space number w (Begun bytes) =
+    record { engine = (happens space number w (Begun bytes)).engine; copy = w.copy }
 unnoted space number w e = happens space number w e
 
 abbrev pub archived_late : ℕ → ℕ → World → Event → World
-archived_late space number w FilesEnded = record { engine = w.engine; copy = files_ended (ends w.engine.log) w.copy }
+archived_late space number w FilesEnded =
+    record { engine = w.engine; copy = files_ended (ends w.engine.log) w.copy }
 archived_late space number w e = happens space number w e
 
 abbrev pub landed_clean : ℕ → ℕ → World → Event → World
-landed_clean space number w Landed = record { engine = record (landed w.engine w.engine.flight) { oldest = None }; copy = w.copy }
+landed_clean space number w Landed =
+    record { engine = record (landed w.engine w.engine.flight) { oldest = None }; copy = w.copy }
 landed_clean space number w e = happens space number w e
 
 abbrev pub mistaken : Mistake → ℕ → ℕ → World → Event → World
@@ -55,10 +63,14 @@ AllowedBy ChecksPast = AllowedPast
 -- these events, one after the other, in the wrong machine
 abbrev pub Misruns : Mistake → ℕ → ℕ → World → List Event → World → Type 0
 Misruns mistake space number w [] v = w ≡ v
-Misruns mistake space number w (e ∷ es) v = AllowedBy mistake space number w e × Misruns mistake space number (mistaken mistake space number w e) es v
+Misruns mistake space number w (e ∷ es) v =
+    AllowedBy mistake space number w e
+    × Misruns mistake space number (mistaken mistake space number w e) es v
 
--- The wrong machine allows these events from the beginning on, and redo doesn't make one of its starting values the page as it is at the stop.
-pub record Misleads (mistake : Mistake) (space number : ℕ) (events : List Event) (start : Standing) : Type 0 where
+-- The wrong machine allows these events from the beginning on, and redo doesn't make one of its
+-- starting values the page as it is at the stop.
+pub record Misleads (mistake : Mistake) (space number : ℕ) (events : List Event)
+    (start : Standing) : Type 0 where
   pub world : World
   pub run : Misruns mistake space number nothing events world
   pub base : ℕ

@@ -1,4 +1,5 @@
--- The rule that every event of a page keeps: what its frame, its image in flight, the disk and the clone have is the page as it is, or as it was late enough.
+-- The rule that every event of a page keeps: what its frame, its image in flight, the disk and the
+-- clone have is the page as it is, or as it was late enough.
 use Rattle.std.specs.Prelude.{ℕ, ◌≡◌, ◌≤◌, Bool, false, List, None, Some}
 use Rattle.std.specs.declared.option.Option.{Option}
 use Rattle.std.specs.List.{AllByRecursion}
@@ -39,24 +40,32 @@ abbrev pub InOrder : Option ℕ → Option Flight → List (List Record) → Typ
 InOrder oldest None log = Unit {0}
 InOrder oldest (Some i) log = IsLater oldest i.later log
 
--- Whatever the donor has of the page is the page now, or as it was late enough for redo from its oldest modification. The checkpoint is before that.
+-- Whatever the donor has of the page is the page now, or as it was late enough for redo from its
+-- oldest modification. The checkpoint is before that.
 pub record EngineRule (space number : ℕ) (e : Engine) : Type 0 where
   pub fits : AllFit space number e.log
   pub framed : Framed e.frame (redone space number e.log)
-  pub quiet : e.writing ≡ false → HasSpace (redone space number e.log) → Held space number e.oldest e.disk e.log
+  pub quiet : e.writing ≡ false → HasSpace (redone space number e.log)
+      → Held space number e.oldest e.disk e.log
   pub flying : Flying space number e.flight e.log
   pub order : InOrder e.oldest e.flight e.log
   pub bare : Bare e.frame e.writing e.oldest e.flight
   pub low : AtMost e.checkpoint e.oldest e.log
   pub aligned : IsAt e.checkpoint e.log
 
--- Whatever was answered is the page now, or as it was late enough for redo from where the archive starts, or, in FILE COPY, from the oldest modification.
+-- Whatever was answered is the page now, or as it was late enough for redo from where the archive
+-- starts, or, in FILE COPY, from the oldest modification.
 abbrev pub CopyRule : ℕ → ℕ → Engine → Copy → Type 0
 CopyRule space number e Idle = Unit {0}
-CopyRule space number e (Untracked starts) = (e.writing ≡ false) × (e.flight ≡ None) × AllByRecursion (λ s. Held space number e.oldest s e.log) starts
+CopyRule space number e (Untracked starts) =
+    (e.writing ≡ false) × (e.flight ≡ None)
+    × AllByRecursion (λ s. Held space number e.oldest s e.log) starts
 CopyRule space number e Tracked = Unit {0}
-CopyRule space number e (Copied base starts) = IsAt base e.log × AllByRecursion (λ s. Since space number base s e.log) starts
-CopyRule space number e (Stopped base log starts) = AllFit space number log × IsAt base log × AllByRecursion (λ s. Since space number base s log) starts
+CopyRule space number e (Copied base starts) =
+    IsAt base e.log × AllByRecursion (λ s. Since space number base s e.log) starts
+CopyRule space number e (Stopped base log starts) =
+    AllFit space number log × IsAt base log
+    × AllByRecursion (λ s. Since space number base s log) starts
 
 -- THE RULE
 pub record Rule (space number : ℕ) (w : World) : Type 0 where

@@ -8,7 +8,9 @@ use Rattle.clone_law.specs.Machine.{Copy, Idle, Untracked, Tracked, Copied, Stop
 
 -- Redo of a starting value by the archived log gives the page as it was at the stop.
 abbrev pub Gives : ℕ → ℕ → ℕ → List (List Record) → Standing → Type 0
-Gives space number base log s = (front rest : List (List Record)) → log ≡ front ++ rest → ends front ≡ base → Lax (redone_from base space number s rest) (redone space number log)
+Gives space number base log s =
+    (front rest : List (List Record)) → log ≡ front ++ rest → ends front ≡ base
+    → Lax (redone_from base space number s rest) (redone space number log)
 
 -- a value from which redo may start, or nothing or a zero page in place of one that is nothing
 abbrev pub IsStart : List Standing → Standing → Type 0

@@ -9,7 +9,8 @@ use Rattle.clone_mtr.specs.declared.record.Record.TheVariants.{Init, Write, Exte
 use Rattle.clone_image.specs.Replay.{end_of}
 use Rattle.clone_image.specs.Redone.{Standing, no_space, past_end, stands, Redoing, settled, made}
 
--- what a record is to a page: nothing, an edit, a new standing, or, for a page past the end, a new standing
+-- what a record is to a page: nothing, an edit, a new standing, or, for a page past the end, a new
+-- standing
 pub data Touch : Type 0 where
   passes : Touch
   edits : (List ℕ → List ℕ) → Touch
@@ -22,8 +23,10 @@ pub record Step : Type 0 where
   pub touches : List Touch
 
 abbrev pub touch : ℕ → ℕ → ℕ → Record → Touch
-touch end space number (Init s n kind) = if (s == space) && (n == number) then edits (effect end (Init s n kind)) else passes
-touch end space number (Write s n patch) = if (s == space) && (n == number) then edits (effect end (Write s n patch)) else passes
+touch end space number (Init s n kind) =
+    if (s == space) && (n == number) then edits (effect end (Init s n kind)) else passes
+touch end space number (Write s n patch) =
+    if (s == space) && (n == number) then edits (effect end (Write s n patch)) else passes
 touch end space number (Extend s count) = if s == space then reaches (made number count) else passes
 touch end space number (Create s count) = if s == space then becomes (made number count) else passes
 touch end space number (Drop s) = if s == space then becomes no_space else passes
@@ -37,13 +40,18 @@ step end space number m = record { end = end; touches = touches end space number
 
 abbrev pub steps : ℕ → ℕ → ℕ → List (List Record) → List Step
 steps start space number [] = []
-steps start space number (m ∷ ms) = step (end_of start m) space number m ∷ steps (end_of start m) space number ms
+steps start space number (m ∷ ms) =
+    step (end_of start m) space number m ∷ steps (end_of start m) space number ms
 
 -- an edit counts where the page is older than the mini-transaction
 abbrev pub edited_on : ℕ → (List ℕ → List ℕ) → Option Bool → Standing → Redoing
 edited_on end f counts no_space = record { standing = no_space; counts = counts }
 edited_on end f counts past_end = record { standing = past_end; counts = counts }
-edited_on end f counts (stands page) = record { standing = stands (if settled end counts page then f page else page); counts = Some (settled end counts page) }
+edited_on end f counts (stands page) =
+    record {
+      standing = stands (if settled end counts page then f page else page);
+      counts = Some (settled end counts page);
+    }
 
 abbrev pub reached : Standing → Standing → Standing
 reached s no_space = no_space
@@ -120,7 +128,9 @@ NotAbove bound (stands page) = (PAGE_SIZE ≤ length page) × (lsn_of page ≤ b
 
 -- an edit leaves the mini-transaction's end on the page
 abbrev pub Marks : ℕ → (List ℕ → List ℕ) → Type 0
-Marks end f = (page : List ℕ) → PAGE_SIZE ≤ length page → (PAGE_SIZE ≤ length (f page)) × (lsn_of (f page) ≡ end)
+Marks end f =
+    (page : List ℕ) → PAGE_SIZE ≤ length page
+    → (PAGE_SIZE ≤ length (f page)) × (lsn_of (f page) ≡ end)
 
 abbrev pub IsMade : Standing → Type 0
 IsMade no_space = ⊥
@@ -144,7 +154,8 @@ abbrev pub Fits : ℕ → Standing → List Step → Type 0
 Fits start v [] = Unit {0}
 Fits start v (s ∷ ss) = FitsStep start v s × Fits s.end (after s v) ss
 
--- The one is the other, or it is nothing or a zero page where the other is nothing. Where the space is there, nothing is 'past its end'.
+-- The one is the other, or it is nothing or a zero page where the other is nothing. Where the space
+-- is there, nothing is 'past its end'.
 abbrev pub Lax : Standing → Standing → Type 0
 Lax no_space no_space = Unit {0}
 Lax past_end no_space = Unit {0}

@@ -49,26 +49,27 @@ pub fn answer_laws()
     ensures pages { PagesStay }
 {}
 
-/// A copy that is laid from starting values and redone recovers to the rows of the donor's pages at the stop.
+/// A copy that is laid from starting values and redone recovers to the rows of the donor's pages at
+/// the stop.
 pub fn recovery_laws()
     ensures { CopyRecovers }
 {}
 
-/// A page that is flushed in FILE COPY while its block is read, sent in PAGE COPY and changed once more: what was
-/// sent, redone by the archived log, is the page at the stop.
+/// A page that is flushed in FILE COPY while its block is read, sent in PAGE COPY and changed once
+/// more: what was sent, redone by the archived log, is the page at the stop.
 pub fn flushed_example()
     ensures run { FlushedStops }
     ensures sent { SentIsNow }
 {}
 
-/// Each rule of the machine is needed: without it a run gives a starting value of which redo doesn't make the
-/// page at the stop.
+/// Each rule of the machine is needed: without it a run gives a starting value of which redo
+/// doesn't make the page at the stop.
 pub fn mistakes_mislead()
     ensures { (mistake : Mistake) → Misleads mistake 1 0 (misleading mistake) (misled mistake) }
 {}
 
-/// Mini-transactions that suit: a donor's first one its first page, and one that makes an overflow page that page,
-/// which isn't there before.
+/// Mini-transactions that suit: a donor's first one its first page, and one that makes an overflow
+/// page that page, which isn't there before.
 pub fn suiting_examples()
     ensures opening { Suits 0 0 [] opening }
     ensures overflow { SuitsOverflow }

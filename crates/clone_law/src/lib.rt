@@ -1,5 +1,6 @@
-//! The central law of a clone, page by page: what redo makes of one page, all that can happen to a page while it is
-//! cloned, and that each value from which redo may start becomes the page as it was at the stop.
+//! The central law of a clone, page by page: what redo makes of one page, all that can happen to a
+//! page while it is cloned, and that each value from which redo may start becomes the page as it
+//! was at the stop.
 #![tactic(auto)]
 
 mod laws;

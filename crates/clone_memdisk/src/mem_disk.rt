@@ -19,8 +19,8 @@ type Spaces = BTreeMap<u32, Space>;
 /// A page disk in memory.
 ///
 /// A call fails exactly where an order named it, and a failed call changes no byte, no space and no
-/// mark; but after a failed half write the page's write is open. A read of an open page gives the bytes
-/// that the page has by then, or what the last order to tear says.
+/// mark; but after a failed half write the page's write is open. A read of an open page gives the
+/// bytes that the page has by then, or what the last order to tear says.
 #[derive(Drop)]
 pub struct MemDisk {
     alloc: Global,

@@ -80,7 +80,8 @@ impl Space {
         }
     }
 
-    /// Adds pages of zero bytes until there are so many. After a refusal there are as many as before.
+    /// Adds pages of zero bytes until there are so many. After a refusal there are as many as
+    /// before.
     pub fn extend(&mut self, count: u32) -> Result<(), AllocError>
         ensures ok { OnOk result (self.new ≡ extended count self.old) }
         ensures err { OnErr result (self.new ≡ self.old) }

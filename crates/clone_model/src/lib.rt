@@ -1,5 +1,5 @@
-//! What a donor keeps, apart from how it keeps it: values, changes, commits, the rows that a history
-//! leaves, the texts of all these, and how a binlog is read back from its text.
+//! What a donor keeps, apart from how it keeps it: values, changes, commits, the rows that a
+//! history leaves, the texts of all these, and how a binlog is read back from its text.
 #![tactic(auto)]
 
 mod change;

@@ -105,8 +105,8 @@ impl Binlog {
         }
     }
 
-    /// Adds a commit behind the others. Refused only where there is no room, and then the commits are as
-    /// before.
+    /// Adds a commit behind the others. Refused only where there is no room, and then the commits
+    /// are as before.
     pub fn push(&mut self, commit: Commit) -> Result<(), AllocError>
         ensures ok { OnOk result (self.new.commits ≡ self.old.commits ++ commit ∷ []) }
         ensures err { OnErr result (self.new.commits ≡ self.old.commits) }

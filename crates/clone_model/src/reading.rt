@@ -41,8 +41,8 @@ impl From<AllocError> for ReadRefusal {
 }
 
 /// The binlog that has this text, which is that of `binlog_text`. `BadLine` has the number of the
-/// first line that no binlog has behind the lines before it; each line needs its line feed. Where the
-/// text ends inside a commit, it has the number of the first line that is missing.
+/// first line that no binlog has behind the lines before it; each line needs its line feed. Where
+/// the text ends inside a commit, it has the number of the first line that is missing.
 pub fn read_binlog(alloc: Global, text: &[u8]) -> Result<Binlog, ReadRefusal>
     ensures { MatchResult result
         (λ binlog. ReadsBinlog text.now (Ok binlog.commits))

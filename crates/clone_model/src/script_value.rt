@@ -8,8 +8,8 @@ use std::marker::Model;
 /// The most bytes that a script may give a value.
 pub const LONGEST_SCRIPT_VALUE: usize = 1_024;
 
-/// The value of a row as a script gives it: at most 1,024 bytes. A row keeps at most 64 of them, and
-/// it is for the reader of a script's lines to refuse more.
+/// The value of a row as a script gives it: at most 1,024 bytes. A row keeps at most 64 of them,
+/// and it is for the reader of a script's lines to refuse more.
 #[derive(Drop)]
 pub struct ScriptValue {
     kept: Kept,

@@ -5,8 +5,8 @@ use crate::{DecodeRefusal, LONGEST_MTR, Patch, Record};
 use clone_bytes::Reader;
 use clone_page::{PageKind, is_allowed};
 
-// Each function answers a value, which the reader is behind then. `at` is the place where the record
-// begins.
+// Each function answers a value, which the reader is behind then. `at` is the place where the
+// record begins.
 
 #[tactic(auto, unfolding(crate::specs::Reading::init_at))]
 pub(crate) fn init_of(at: usize, reader: &mut Reader) -> Result<Record, DecodeRefusal>

@@ -1,5 +1,5 @@
-//! Mini-transactions: lists of redo records, their one spelling as bytes, and what a record does to a
-//! page.
+//! Mini-transactions: lists of redo records, their one spelling as bytes, and what a record does to
+//! a page.
 #![tactic(auto)]
 
 mod effects;
@@ -15,7 +15,7 @@ mod writing;
 pub use effects::apply;
 pub use laws::{one_answer, one_spelling};
 pub use patch::{LONGEST_PATCH, Patch};
-pub use placing::encode_into;
+pub use placing::{encode_into, spelling_length};
 pub use reading::decode;
 pub use record::{Mtr, Record};
 pub use refusal::{DecodeRefusal, EncodeRefusal, TooLong};

@@ -7,8 +7,8 @@ use std::marker::Model;
 /// The most bytes that a write may have: as many as a mini-transaction of one write has place for.
 pub const LONGEST_PATCH: usize = 1_010;
 
-/// What a write puts on a page: 1 to `LONGEST_PATCH` bytes, kept in place, from an offset on. They lie
-/// within the bytes that a write may name.
+/// What a write puts on a page: 1 to `LONGEST_PATCH` bytes, kept in place, from an offset on. They
+/// lie within the bytes that a write may name.
 #[derive(Drop)]
 pub struct Patch {
     offset: u16,

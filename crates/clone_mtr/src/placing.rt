@@ -8,14 +8,14 @@ use crate::writing::LONGEST_MTR;
 use crate::{Patch, Record, TooLong};
 use byteorder::{BigEndian, ByteOrder};
 
-/// Puts the one spelling of a mini-transaction of these records at the front of the bytes, and answers
-/// its length. No memory is taken. It is refused exactly where the spelling would be longer than 1,024
-/// bytes, and the bytes are unchanged then.
+/// Puts the one spelling of a mini-transaction of these records at the front of the bytes, and
+/// answers its length. No memory is taken. It is refused exactly where the spelling would be longer
+/// than 1,024 bytes, and the bytes are unchanged then.
 pub fn encode_into(entries: &[Record], into: &mut [u8; LONGEST_MTR]) -> Result<usize, TooLong>
     requires { 1 ≤ length entries.now }
     ensures { EncodesInto (spelling entries.now) into.old into.new result }
 {
-    let length = length_of(entries);
+    let length = spelling_length(entries);
     if length > LONGEST_MTR {
         return Err(TooLong { length });
     }
@@ -23,8 +23,9 @@ pub fn encode_into(entries: &[Record], into: &mut [u8; LONGEST_MTR]) -> Result<u
     Ok(length)
 }
 
-// How long the spelling is, or the greatest number where it is longer.
-fn length_of(entries: &[Record]) -> usize
+/// How many bytes the spelling of a mini-transaction of these records has, or the greatest number
+/// where it has more.
+pub fn spelling_length(entries: &[Record]) -> usize
     ensures { result ≡ min (length (spelling entries.now)) usize.MAX }
 {
     let mut length: usize = 0;

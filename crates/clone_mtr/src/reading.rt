@@ -7,7 +7,8 @@ use crate::{DecodeRefusal, LONGEST_MTR, Mtr, Record};
 use clone_bytes::Reader;
 use std::alloc::Global;
 
-/// The mini-transaction whose spelling is at the front of the bytes, and the length of that spelling.
+/// The mini-transaction whose spelling is at the front of the bytes, and the length of that
+/// spelling.
 pub fn decode(alloc: Global, bytes: &[u8]) -> Result<(Mtr, usize), DecodeRefusal>
     ensures { Decodes bytes.now result }
 {

@@ -20,8 +20,8 @@ pub struct TooLong {
 }
 
 /// Why no mini-transaction was read. `Short` comes exactly where further bytes would make one. The
-/// others but want of memory come exactly where no further bytes could, each for the first cause that
-/// reading from left to right meets.
+/// others but want of memory come exactly where no further bytes could, each for the first cause
+/// that reading from left to right meets.
 #[derive(Clone, Copy, Debug, PartialEq, Eq)]
 pub enum DecodeRefusal {
     /// The bytes end inside a record, or before the end mark.

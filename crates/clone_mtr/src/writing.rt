@@ -10,8 +10,8 @@ use std::alloc::{AllocError, Global};
 /// The most bytes that the spelling of a mini-transaction may have.
 pub const LONGEST_MTR: usize = 1024;
 
-/// The one spelling of a mini-transaction. It is refused exactly where it would be longer than 1,024
-/// bytes.
+/// The one spelling of a mini-transaction. It is refused exactly where it would be longer than
+/// 1,024 bytes.
 pub fn encode(alloc: Global, mtr: &Mtr) -> Result<Vec<u8>, EncodeRefusal>
     ensures exact { Encodes (spelling mtr.now) result }
     ensures spells { IfOk result (λ text. Spells text.items mtr.now) }

@@ -35,8 +35,8 @@ pub enum DiskOrder {
 /// A page is written in halves. Between the first half and the rest its write is open, and so it is
 /// after a fault of either; what a read of an open page gives is left open.
 ///
-/// `Fault` comes only where the count of faults rose, and `NoMemory` where there was no memory. After
-/// `NoMemory` the disk is as before.
+/// `Fault` comes only where the count of faults rose, and `NoMemory` where there was no memory.
+/// After `NoMemory` the disk is as before.
 pub trait PageDisk {
     ghost use Rattle.std.specs.Prelude.{List, ℕ};
     ghost use Rattle.std.specs.declared.option.Option.{Option};
@@ -73,8 +73,8 @@ pub trait PageDisk {
         ensures cause { HasCause (failures self.old) (failures self.new) result }
         ensures orders { orders self.new ≡ orders self.old };
 
-    /// Reads a page. It takes no memory, so each error is `Fault`. What comes of a page that is open or
-    /// isn't there, and what `into` has after an error, is left open.
+    /// Reads a page. It takes no memory, so each error is `Fault`. What comes of a page that is
+    /// open or isn't there, and what `into` has after an error, is left open.
     fn read_page(
         &mut self,
         space: u32,
@@ -89,8 +89,8 @@ pub trait PageDisk {
         ensures cause { HasCause (failures self.old) (failures self.new) result }
         ensures orders { orders self.new ≡ orders self.old };
 
-    /// Writes the first 2,048 bytes of a page, and opens its write. After `Fault` the write is open too,
-    /// and what bytes the page has is left open. A page that isn't there stays so.
+    /// Writes the first 2,048 bytes of a page, and opens its write. After `Fault` the write is open
+    /// too, and what bytes the page has is left open. A page that isn't there stays so.
     fn write_half(&mut self, space: u32, page: u32, from: &[u8; PAGE_SIZE]) -> Result<(), Refusal>
         ensures written { OnOk result (Steps (told self.old) (told self.new)
             (λ m. with_page m space page (half_written from.now))) }
@@ -100,8 +100,8 @@ pub trait PageDisk {
         ensures cause { HasCause (failures self.old) (failures self.new) result }
         ensures orders { orders self.new ≡ orders self.old };
 
-    /// Writes the other 2,048 bytes of a page, and closes its write. After `Fault` the write is open,
-    /// and what bytes the page has is left open. A page that isn't there stays so.
+    /// Writes the other 2,048 bytes of a page, and closes its write. After `Fault` the write is
+    /// open, and what bytes the page has is left open. A page that isn't there stays so.
     fn write_rest(&mut self, space: u32, page: u32, from: &[u8; PAGE_SIZE]) -> Result<(), Refusal>
         ensures written { OnOk result (Steps (told self.old) (told self.new)
             (λ m. with_page m space page (rest_written from.now))) }
@@ -111,9 +111,9 @@ pub trait PageDisk {
         ensures cause { HasCause (failures self.old) (failures self.new) result }
         ensures orders { orders self.new ≡ orders self.old };
 
-    /// Gives a space that has fewer pages so many, the new ones of zero bytes. A longer space stays as it
-    /// is, and so does one that isn't there. After `Fault` the space is as before or as the call leaves
-    /// it.
+    /// Gives a space that has fewer pages so many, the new ones of zero bytes. A longer space stays
+    /// as it is, and so does one that isn't there. After `Fault` the space is as before or as the
+    /// call leaves it.
     fn extend(&mut self, space: u32, pages: u32) -> Result<(), Refusal>
         ensures extended { OnOk result
             (Steps (told self.old) (told self.new) (λ m. with_extended m space pages)) }
@@ -134,7 +134,8 @@ pub trait PageDisk {
         ensures cause { HasCause (failures self.old) (failures self.new) result }
         ensures orders { orders self.new ≡ orders self.old };
 
-    /// Takes a space away, if it is there. After `Fault` the space is as before or as the call leaves it.
+    /// Takes a space away, if it is there. After `Fault` the space is as before or as the call
+    /// leaves it.
     fn remove(&mut self, space: u32) -> Result<(), Refusal>
         ensures removed { OnOk result
             (Steps (told self.old) (told self.new) (λ m. with_removed m space)) }
@@ -167,8 +168,8 @@ pub trait PageDisk {
         ensures cause { HasCause (failures self.old) (failures self.new) result }
         ensures orders { orders self.new ≡ orders self.old };
 
-    /// Tells a disk in memory what to do. A real disk does nothing, and answers Ok. The error is want of
-    /// memory, and the disk is as before.
+    /// Tells a disk in memory what to do. A real disk does nothing, and answers Ok. The error is
+    /// want of memory, and the disk is as before.
     fn order(&mut self, order: DiskOrder) -> Result<(), AllocError>
         ensures ok { OnOk result (orders self.new ≡ orders self.old ++ order ∷ []) }
         ensures err { OnErr result (orders self.new ≡ orders self.old) }

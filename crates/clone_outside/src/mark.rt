@@ -1,9 +1,9 @@
 //! The mark of a disk: 64 bytes, with numbers of 8 bytes, the highest byte first.
 //!
 //! The letters `CLONMARK` stand at 0, the kind at 8 (1 in progress, 2 complete, 3 recovered), the
-//! session at 16, the checkpoint at 24, the LSN at 32 and the position at 40. All other bytes are zero,
-//! and in a mark of the first kind the last three numbers are. The checkpoint is at most the LSN, and
-//! the LSN is below 2^39. Other bytes are no mark.
+//! session at 16, the checkpoint at 24, the LSN at 32 and the position at 40. All other bytes are
+//! zero, and in a mark of the first kind the last three numbers are. The checkpoint is at most the
+//! LSN, and the LSN is below 2^39. Other bytes are no mark.
 ghost use Rattle.std.specs.Prelude.{◌≡◌, ◌≢◌, ◌≤◌, ◌<◌, ◌+◌, ◌^◌, ℕ, take, drop, IfSome, IsNone, Some};
 ghost use Rattle.std.specs.Int.{w64, from_be_bytes};
 ghost use Rattle.clone_base.specs.declared.limits.TheConstants.{LSN_LIMIT};

@@ -48,9 +48,9 @@ impl MemSource {
         &self.bytes[self.at..]
     }
 
-    /// Lets the `read` with this number fail, where the first has number 1. The count of reads stays
-    /// at 2^64 - 1, so that number names each read from there on. The error is want of memory, and the
-    /// source is as before.
+    /// Lets the `read` with this number fail, where the first has number 1. The count of reads
+    /// stays at 2^64 - 1, so that number names each read from there on. The error is want of
+    /// memory, and the source is as before.
     pub fn fail_at(&mut self, call: u64) -> Result<(), AllocError>
         ensures bytes { self.new.bytes ≡ self.old.bytes }
         ensures ok { OnOk result (self.new.calls ≡ with_failing self.old.calls call) }
@@ -71,8 +71,8 @@ impl Source for MemSource {
         self.plan.faults()
     }
 
-    /// Gives as many bytes as there are and fit. It fails exactly in the calls that `fail_at` named,
-    /// and then gives none and leaves `into` as it was.
+    /// Gives as many bytes as there are and fit. It fails exactly in the calls that `fail_at`
+    /// named, and then gives none and leaves `into` as it was.
     #[tactic(auto, using(crate::proofs::Pieces::front_and_rest))]
     fn read(&mut self, into: &mut [u8]) -> Result<usize, Refusal>
         ensures bound { ReadsAtMost result into.new }

@@ -76,7 +76,8 @@ impl Overlay {
 
     /// The disk as it is: its spaces below the redo's, with no page held.
     pub fn open<D: PageDisk>(alloc: Global, disk: &mut D) -> Result<Overlay, Refusal>
-        ensures shows { IfOk result (λ overlay. ForTold (D.told disk.old) (λ m. Shows (image_of m) (image_of m) overlay)) }
+        ensures shows { IfOk result (λ overlay. ForTold (D.told disk.old)
+            (λ m. Shows (image_of m) (image_of m) overlay)) }
         ensures told { D.told disk.new ≡ D.told disk.old }
         ensures cause { HasCause (D.failures disk.old) (D.failures disk.new) result }
         ensures orders { D.orders disk.new ≡ D.orders disk.old }
@@ -95,13 +96,14 @@ impl Overlay {
 
     /// How many pages a space has, or none where it isn't there.
     pub fn pages(&self, space: u32) -> Option<u32>
-        ensures { (base image : Image) → Shows base image self.now → result ≡ page_count image space }
+        ensures { (base image : Image) → Shows base image self.now
+            → result ≡ page_count image space }
     {
         count_in(&self.sheets, space)
     }
 
-    /// Makes the page ready: where it is there, it is held from now on. It is read from the disk once.
-    /// `Header` comes where what the disk gives may not stand at this place.
+    /// Makes the page ready: where it is there, it is held from now on. It is read from the disk
+    /// once. `Header` comes where what the disk gives may not stand at this place.
     pub fn fetch<D: PageDisk>(
         &mut self,
         disk: &mut D,
@@ -110,8 +112,10 @@ impl Overlay {
     ) -> Result<(), FetchRefusal>
         ensures ready { OnOk result (IsReady self.new space number) }
         ensures shows { OnOk result (ShowsSame (D.told disk.old) self.old self.new) }
-        ensures header { IsErrOf result FetchRefusal.Header → ForBase (D.told disk.old) self.old (IsMisplaced space number) }
-        ensures fault { IsErrOf result FetchRefusal.DiskFault → Rose (D.failures disk.old) (D.failures disk.new) }
+        ensures header { IsErrOf result FetchRefusal.Header
+            → ForBase (D.told disk.old) self.old (IsMisplaced space number) }
+        ensures fault { IsErrOf result FetchRefusal.DiskFault
+            → Rose (D.failures disk.old) (D.failures disk.new) }
         ensures told { D.told disk.new ≡ D.told disk.old }
         ensures orders { D.orders disk.new ≡ D.orders disk.old }
         ensures later { D.failures disk.old ≤ D.failures disk.new }
@@ -122,7 +126,8 @@ impl Overlay {
     /// The page, if it is there.
     pub fn page(&self, space: u32, number: u32) -> Option<&Page>
         requires { IsReady self.now space number }
-        ensures { (base image : Image) → Shows base image self.now → option_copied result ≡ page_of image space number }
+        ensures { (base image : Image) → Shows base image self.now
+            → option_copied result ≡ page_of image space number }
     {
         let sheet = self.sheets.get(&space)?;
         if number >= sheet.count() {
@@ -131,11 +136,12 @@ impl Overlay {
         sheet.page(number)
     }
 
-    /// Does to the pages what the record says. `lsn` is the end of its mini-transaction. After a refusal
-    /// the overlay is as before.
+    /// Does to the pages what the record says. `lsn` is the end of its mini-transaction. After a
+    /// refusal the overlay is as before.
     pub fn apply(&mut self, alloc: Global, entry: &Record, lsn: u64) -> Result<(), AllocError>
         requires { IsReadyFor self.old entry.now }
-        ensures ok { OnOk result ((base image : Image) → Shows base image self.old → Shows base (after_record lsn image entry.now) self.new) }
+        ensures ok { OnOk result ((base image : Image) → Shows base image self.old
+            → Shows base (after_record lsn image entry.now) self.new) }
         ensures err { OnErr result (self.new ≡ self.old) }
         ensures without_memory { MakesNoPage entry.now → IsOk result }
     {
@@ -162,7 +168,9 @@ impl Overlay {
     pub fn lay(&mut self, space: u32, number: u32, offset: u16, bytes: &[u8])
         requires ready { IsReady self.old space number }
         requires allowed { IsAllowed offset (length bytes.now) }
-        ensures { (base image : Image) → Shows base image self.old → Shows base (with_edit image space (edited number (put_at offset bytes.now))) self.new }
+        ensures { (base image : Image) → Shows base image self.old
+            → Shows base (with_edit image space (edited number (put_at offset bytes.now)))
+            self.new }
     {
         lay_in(&mut self.sheets, space, number, offset, bytes);
     }
@@ -170,7 +178,8 @@ impl Overlay {
 
 // The sheets of these spaces, with no page held.
 fn sheets_of<D: PageDisk>(alloc: Global, disk: &mut D, spaces: &[u32]) -> Result<Sheets, Refusal>
-    ensures sheets { IfOk result (λ sheets. ForTold (D.told disk.old) (λ m. covers_of sheets.entries ≡ with_spaces m finite.empty spaces.now)) }
+    ensures sheets { IfOk result (λ sheets. ForTold (D.told disk.old)
+        (λ m. covers_of sheets.entries ≡ with_spaces m finite.empty spaces.now)) }
     ensures told { D.told disk.new ≡ D.told disk.old }
     ensures cause { HasCause (D.failures disk.old) (D.failures disk.new) result }
     ensures orders { D.orders disk.new ≡ D.orders disk.old }
@@ -189,7 +198,8 @@ fn add<D: PageDisk>(
     sheets: &mut Sheets,
     space: u32,
 ) -> Result<(), Refusal>
-    ensures added { OnOk result (ForTold (D.told disk.old) (λ m. covers_of sheets.new.entries ≡ with_space m (covers_of sheets.old.entries) space)) }
+    ensures added { OnOk result (ForTold (D.told disk.old)
+        (λ m. covers_of sheets.new.entries ≡ with_space m (covers_of sheets.old.entries) space)) }
     ensures told { D.told disk.new ≡ D.told disk.old }
     ensures cause { HasCause (D.failures disk.old) (D.failures disk.new) result }
     ensures orders { D.orders disk.new ≡ D.orders disk.old }
@@ -205,7 +215,8 @@ fn add<D: PageDisk>(
 
 // Puts a space of so many pages in, all of them the disk's.
 fn put(alloc: Global, sheets: &mut Sheets, space: u32, count: u32) -> Result<(), AllocError>
-    ensures { OnOk result (covers_of sheets.new.entries ≡ finite.insert (covers_of sheets.old.entries) space (whole count)) }
+    ensures { OnOk result (covers_of sheets.new.entries
+        ≡ finite.insert (covers_of sheets.old.entries) space (whole count)) }
 {
     sheets.insert(space, Sheet::new(alloc, count, count))?;
     Ok(())
@@ -217,9 +228,12 @@ fn fetch_in<D: PageDisk>(
     space: u32,
     number: u32,
 ) -> Result<(), FetchRefusal>
-    ensures ok { OnOk result (FetchedIn (D.told disk.old) space number (covers_of sheets.old.entries) (covers_of sheets.new.entries)) }
-    ensures header { IsErrOf result FetchRefusal.Header → HasMisplaced (D.told disk.old) space number (covers_of sheets.old.entries) }
-    ensures fault { IsErrOf result FetchRefusal.DiskFault → Rose (D.failures disk.old) (D.failures disk.new) }
+    ensures ok { OnOk result (FetchedIn (D.told disk.old) space number
+        (covers_of sheets.old.entries) (covers_of sheets.new.entries)) }
+    ensures header { IsErrOf result FetchRefusal.Header
+        → HasMisplaced (D.told disk.old) space number (covers_of sheets.old.entries) }
+    ensures fault { IsErrOf result FetchRefusal.DiskFault
+        → Rose (D.failures disk.old) (D.failures disk.new) }
     ensures told { D.told disk.new ≡ D.told disk.old }
     ensures orders { D.orders disk.new ≡ D.orders disk.old }
     ensures later { D.failures disk.old ≤ D.failures disk.new }
@@ -242,7 +256,9 @@ fn count_in(sheets: &Sheets, space: u32) -> Option<u32>
 
 // Changes the page that an INIT or a WRITE names, if it is there.
 fn change_in(sheets: &mut Sheets, space: u32, number: u32, entry: &Record, lsn: u64)
-    ensures { covers_of sheets.new.entries ≡ with_cover (covers_of sheets.old.entries) space (with_leaf number (effect lsn entry.now)) }
+    ensures { covers_of sheets.new.entries
+        ≡ with_cover (covers_of sheets.old.entries) space
+        (with_leaf number (effect lsn entry.now)) }
 {
     if let Some(sheet) = sheets.get_mut(&space) {
         sheet.change(number, entry, lsn);
@@ -251,7 +267,9 @@ fn change_in(sheets: &mut Sheets, space: u32, number: u32, entry: &Record, lsn: 
 
 fn lay_in(sheets: &mut Sheets, space: u32, number: u32, offset: u16, bytes: &[u8])
     requires { IsAllowed offset (length bytes.now) }
-    ensures { covers_of sheets.new.entries ≡ with_cover (covers_of sheets.old.entries) space (with_leaf number (put_at offset bytes.now)) }
+    ensures { covers_of sheets.new.entries
+        ≡ with_cover (covers_of sheets.old.entries) space
+        (with_leaf number (put_at offset bytes.now)) }
 {
     if let Some(sheet) = sheets.get_mut(&space) {
         sheet.lay(number, offset, bytes);
@@ -260,7 +278,8 @@ fn lay_in(sheets: &mut Sheets, space: u32, number: u32, offset: u16, bytes: &[u8
 
 // Gives a space at least so many pages, if it is there.
 fn extend_in(sheets: &mut Sheets, space: u32, count: u32)
-    ensures { covers_of sheets.new.entries ≡ with_cover (covers_of sheets.old.entries) space (stretched_to count) }
+    ensures { covers_of sheets.new.entries
+        ≡ with_cover (covers_of sheets.old.entries) space (stretched_to count) }
 {
     if let Some(sheet) = sheets.get_mut(&space) {
         sheet.extend(count);
@@ -269,7 +288,8 @@ fn extend_in(sheets: &mut Sheets, space: u32, count: u32)
 
 // Makes a space of unused pages, in the place of one of the same number.
 fn create_in(alloc: Global, sheets: &mut Sheets, space: u32, count: u32) -> Result<(), AllocError>
-    ensures ok { OnOk result (covers_of sheets.new.entries ≡ finite.insert (covers_of sheets.old.entries) space (unused count)) }
+    ensures ok { OnOk result (covers_of sheets.new.entries
+        ≡ finite.insert (covers_of sheets.old.entries) space (unused count)) }
     ensures err { OnErr result (covers_of sheets.new.entries ≡ covers_of sheets.old.entries) }
 {
     sheets.insert(space, Sheet::new(alloc, 0, count))?;

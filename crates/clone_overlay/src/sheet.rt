@@ -36,7 +36,11 @@ impl Model for Sheet {
 
     ghost coded = { cover_code };
 
-    ghost view = { λ s. record { kept = s.kept; count = s.count; leaves = leaves_of s.leaves.entries } };
+    ghost view = { λ s. record {
+      kept = s.kept;
+      count = s.count;
+      leaves = leaves_of s.leaves.entries;
+    } };
 
     ghost invariant = { λ s. s.kept ≤ s.count };
 }
@@ -83,9 +87,9 @@ impl Sheet {
         page_in(&self.leaves, number)
     }
 
-    /// Holds the page, as the disk gives it or as an unused one, if it is there and isn't held yet. After
-    /// a refusal no page is held that wasn't. `Header` comes where what the disk gives may not stand at
-    /// this place.
+    /// Holds the page, as the disk gives it or as an unused one, if it is there and isn't held yet.
+    /// After a refusal no page is held that wasn't. `Header` comes where what the disk gives may
+    /// not stand at this place.
     pub fn fetch<D: PageDisk>(
         &mut self,
         disk: &mut D,
@@ -93,8 +97,10 @@ impl Sheet {
         number: u32,
     ) -> Result<(), FetchRefusal>
         ensures ok { OnOk result (Fetched (D.told disk.old) space number self.old self.new) }
-        ensures header { IsErrOf result FetchRefusal.Header → GivesMisplaced (D.told disk.old) space number self.old }
-        ensures fault { IsErrOf result FetchRefusal.DiskFault → Rose (D.failures disk.old) (D.failures disk.new) }
+        ensures header { IsErrOf result FetchRefusal.Header
+            → GivesMisplaced (D.told disk.old) space number self.old }
+        ensures fault { IsErrOf result FetchRefusal.DiskFault
+            → Rose (D.failures disk.old) (D.failures disk.new) }
         ensures told { D.told disk.new ≡ D.told disk.old }
         ensures orders { D.orders disk.new ≡ D.orders disk.old }
         ensures later { D.failures disk.old ≤ D.failures disk.new }
@@ -113,7 +119,8 @@ impl Sheet {
 
     // Whether the page is held, or isn't there.
     fn is_ready(&self, number: u32) -> bool
-        ensures { IsTrue result ↔ (number < self.now.count → IsSome (finite.get self.now.leaves number)) }
+        ensures { IsTrue result ↔ (number < self.now.count
+            → IsSome (finite.get self.now.leaves number)) }
     {
         if number >= self.count {
             return true;
@@ -154,10 +161,13 @@ impl Sheet {
 
 // Reads a page and tests its header.
 fn read<D: PageDisk>(disk: &mut D, space: u32, number: u32) -> Result<Page, FetchRefusal>
-    ensures given { IfOk result (λ page. ForTold (D.told disk.old) (λ m. GivesQuiet m space number page)) }
+    ensures given { IfOk result (λ page. ForTold (D.told disk.old)
+        (λ m. GivesQuiet m space number page)) }
     ensures page { IfOk result (λ page. IsPage space number page) }
-    ensures header { IsErrOf result FetchRefusal.Header → GivesAgainst (D.told disk.old) space number }
-    ensures fault { IsErrOf result FetchRefusal.DiskFault → Rose (D.failures disk.old) (D.failures disk.new) }
+    ensures header { IsErrOf result FetchRefusal.Header
+        → GivesAgainst (D.told disk.old) space number }
+    ensures fault { IsErrOf result FetchRefusal.DiskFault
+        → Rose (D.failures disk.old) (D.failures disk.new) }
     ensures told { D.told disk.new ≡ D.told disk.old }
     ensures orders { D.orders disk.new ≡ D.orders disk.old }
     ensures later { D.failures disk.old ≤ D.failures disk.new }
@@ -189,14 +199,16 @@ fn page_in(leaves: &Leaves, number: u32) -> Option<&Page>
 }
 
 fn insert_in(leaves: &mut Leaves, number: u32, page: Page) -> Result<(), AllocError>
-    ensures { OnOk result (leaves_of leaves.new.entries ≡ finite.insert (leaves_of leaves.old.entries) number page) }
+    ensures { OnOk result (leaves_of leaves.new.entries
+        ≡ finite.insert (leaves_of leaves.old.entries) number page) }
 {
     leaves.insert(number, page)?;
     Ok(())
 }
 
 fn change_in(leaves: &mut Leaves, number: u32, entry: &Record, lsn: u64)
-    ensures { leaves_of leaves.new.entries ≡ leaf_edited (leaves_of leaves.old.entries) number (effect lsn entry.now) }
+    ensures { leaves_of leaves.new.entries
+        ≡ leaf_edited (leaves_of leaves.old.entries) number (effect lsn entry.now) }
 {
     if let Some(page) = leaves.get_mut(&number) {
         clone_mtr::apply(entry, page, lsn);
@@ -205,7 +217,8 @@ fn change_in(leaves: &mut Leaves, number: u32, entry: &Record, lsn: u64)
 
 fn lay_in(leaves: &mut Leaves, number: u32, offset: u16, bytes: &[u8])
     requires { IsAllowed offset (length bytes.now) }
-    ensures { leaves_of leaves.new.entries ≡ leaf_edited (leaves_of leaves.old.entries) number (put_at offset bytes.now) }
+    ensures { leaves_of leaves.new.entries
+        ≡ leaf_edited (leaves_of leaves.old.entries) number (put_at offset bytes.now) }
 {
     if let Some(page) = leaves.get_mut(&number) {
         page.write_at(offset, bytes);

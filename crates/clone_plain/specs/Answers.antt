@@ -5,7 +5,7 @@ use Rattle.std.specs.Fmt.{decimal}
 use Rattle.clone_model.specs.History.{Row}
 use Rattle.clone_model.specs.Texts.{rows_text, value_text}
 use Rattle.clone_plain.specs.declared.refusal.Cause.{Cause}
-use Rattle.clone_plain.specs.declared.refusal.Cause.TheVariants.{NoSuchTrx, NoSuchTable, TableExists, RowLocked, ValueTooLong, UndoFull, SpaceFull, TooManyTransactions, TooManyTables}
+use Rattle.clone_plain.specs.declared.refusal.Cause.TheVariants.{NoSuchTrx, NoSuchTable, TableExists, RowLocked, ValueTooLong, UndoFull, SpaceFull, LogFull, PoolFull, TooManyTransactions, TooManyTables, DiskFault}
 use Rattle.clone_plain.specs.declared.refusal.Undone.{Undone}
 use Rattle.clone_plain.specs.declared.refusal.Undone.TheVariants.{Left, Ended}
 use Rattle.clone_plain.specs.Calls.{Done, did_create, did_begin, did_put, did_delete, did_get, did_undo_one, did_commit, Made, done, refused}
@@ -22,8 +22,11 @@ refusal_text (RowLocked holder) = codes "refused E4 " ++ decimal holder
 refusal_text ValueTooLong = codes "refused E5"
 refusal_text UndoFull = codes "refused E6"
 refusal_text SpaceFull = codes "refused E7"
+refusal_text (LogFull need free) = codes "refused E8 " ++ decimal need ++ codes " " ++ decimal free
+refusal_text (PoolFull frames) = codes "refused E9 " ++ decimal frames
 refusal_text TooManyTransactions = codes "refused E10"
 refusal_text TooManyTables = codes "refused E11"
+refusal_text DiskFault = codes "refused E17"
 
 -- a value, or that there is none
 abbrev pub value_answer : Option (List ℕ) → Text

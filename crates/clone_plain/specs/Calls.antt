@@ -1,9 +1,9 @@
 -- The calls of a donor, and one relation that says what a call with its answer does to the plain
 -- donor.
-use Rattle.std.specs.Prelude.{ℕ, ◌≡◌, ◌⊎◌, List, length, None, Some}
+use Rattle.std.specs.Prelude.{ℕ, ◌≡◌, ◌⊎◌, Bool, true, false, List, length, None, Some}
 use Rattle.std.specs.declared.option.Option.{Option}
 use Rattle.clone_plain.specs.declared.refusal.Cause.{Cause}
-use Rattle.clone_plain.specs.declared.refusal.Cause.TheVariants.{SpaceFull}
+use Rattle.clone_plain.specs.declared.refusal.Cause.TheVariants.{NoSuchTrx, NoSuchTable, TableExists, RowLocked, ValueTooLong, UndoFull, SpaceFull, LogFull, PoolFull, TooManyTransactions, TooManyTables, DiskFault}
 use Rattle.clone_plain.specs.declared.refusal.Undone.{Undone}
 use Rattle.clone_plain.specs.Donor.{Donor}
 use Rattle.clone_plain.specs.Causes.{create_cause, begin_cause, change_cause, get_cause, no_trx}
@@ -67,10 +67,26 @@ Does d (did_get trx table key value) after = Gets d trx table key value × (afte
 Does d (did_undo_one trx undone) after = Undoes d trx undone after
 Does d (did_commit trx position) after = Commits d trx position after
 
+-- a cause that the plain donor doesn't know: a page, the log or the pool is full, or the disk
+-- failed
+abbrev pub is_below : Cause → Bool
+is_below NoSuchTrx = false
+is_below NoSuchTable = false
+is_below TableExists = false
+is_below (RowLocked holder) = false
+is_below ValueTooLong = false
+is_below UndoFull = false
+is_below SpaceFull = true
+is_below (LogFull need free) = true
+is_below (PoolFull frames) = true
+is_below TooManyTransactions = false
+is_below TooManyTables = false
+is_below DiskFault = true
+
 -- A call is carried out only where there is no cause against it. Else it is refused for that cause,
--- and nothing changes. A page that is full is a cause that the plain donor doesn't know.
+-- and nothing changes. It may be refused for one that the plain donor doesn't know.
 abbrev pub PlainStep : Donor → Made → Donor → Type 0
 PlainStep d (done x) after = (cause_of d (call_of x) ≡ None) × Does d x after
 PlainStep d (refused call cause) after =
-    ((cause_of d call ≡ Some cause) ⊎ ((cause_of d call ≡ None) × (cause ≡ SpaceFull)))
+    ((cause_of d call ≡ Some cause) ⊎ ((cause_of d call ≡ None) × (is_below cause ≡ true)))
     × (after ≡ d)

@@ -7,9 +7,9 @@ ghost use Rattle.clone_plain.specs.Headline.{AreCommits, AreSets, ShowsStop, all
 ghost use Rattle.clone_plain.specs.Runs.{Runs};
 ghost use Rattle.clone_plain.specs.World.{World, opened, IsWithin};
 
-/// Each run of the plain donor from the beginning: its binlog has a commit for each position that was
-/// answered, that of a `set` with its one change; the rows shown are those of the stop; and each line adds at
-/// most one commit, and one transaction of each writer.
+/// Each run of the plain donor from the beginning: its binlog has a commit for each position that
+/// was answered, that of a `set` with its one change; the rows shown are those of the stop; and
+/// each line adds at most one commit, and one transaction of each writer.
 pub fn run_laws()
     ensures commits { (lines : List Line) (events : List (List Event)) (t : World Donor)
         → Runs (λ d. d) PlainStep (opened no_donor) lines events t

@@ -1,5 +1,6 @@
-//! The plain donor: what its calls answer and leave, which calls the lines of a script make, and what a whole
-//! run says, with nothing of pages, logs or copies in it. Definitions and laws, and the refusals that calls answer.
+//! The plain donor: what its calls answer and leave, which calls the lines of a script make, and
+//! what a whole run says, with nothing of pages, logs or copies in it. Definitions and laws, and
+//! the refusals that calls answer.
 #![tactic(auto)]
 
 mod laws;

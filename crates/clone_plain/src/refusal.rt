@@ -21,10 +21,24 @@ pub enum Cause {
     UndoFull,
     /// E7: the row's bucket has no place for its key and no free one.
     SpaceFull,
+    /// E8: the log has no room for the mini-transaction.
+    LogFull {
+        /// How many bytes the mini-transaction has.
+        need: u64,
+        /// How many bytes are free.
+        free: u64,
+    },
+    /// E9: a page has to be fetched, and each frame is pinned or dirty.
+    PoolFull {
+        /// How many frames there are.
+        frames: u32,
+    },
     /// E10: 64 transactions are open.
     TooManyTransactions,
     /// E11: 62 tables are there.
     TooManyTables,
+    /// E17: the disk failed.
+    DiskFault,
 }
 
 /// The answer of a script: `refused`, the number with its letter, and its values.
@@ -43,8 +57,11 @@ impl fmt::Display for Cause {
             Cause::ValueTooLong => f.write_str("refused E5"),
             Cause::UndoFull => f.write_str("refused E6"),
             Cause::SpaceFull => f.write_str("refused E7"),
+            Cause::LogFull { need, free } => write!(f, "refused E8 {need} {free}"),
+            Cause::PoolFull { frames } => write!(f, "refused E9 {frames}"),
             Cause::TooManyTransactions => f.write_str("refused E10"),
             Cause::TooManyTables => f.write_str("refused E11"),
+            Cause::DiskFault => f.write_str("refused E17"),
         }
     }
 }

@@ -8,8 +8,9 @@ use clone_outside::{Refusal, Sink, Source};
 use std::io::{Read, Write};
 use std::marker::Model;
 
-/// A source over a stream of the system. It counts its faults. As a source it tells nothing of what it
-/// reads, since a stream may begin to tell; where std tells what is left, so does the clause of `read`.
+/// A source over a stream of the system. It counts its faults. As a source it tells nothing of what
+/// it reads, since a stream may begin to tell; where std tells what is left, so does the clause of
+/// `read`.
 #[derive(Drop)]
 pub struct StdSource<R: Read> {
     stream: R,
@@ -65,9 +66,9 @@ impl<R: Read> Source for StdSource<R> {
     }
 }
 
-/// A sink over a stream of the system that keeps nothing back: what a write took is out. It counts its
-/// faults. As a sink it tells nothing of what it took, since a stream may begin to tell; where std tells
-/// what was written, so does the clause of `write`.
+/// A sink over a stream of the system that keeps nothing back: what a write took is out. It counts
+/// its faults. As a sink it tells nothing of what it took, since a stream may begin to tell; where
+/// std tells what was written, so does the clause of `write`.
 #[derive(Drop)]
 pub struct StdSink<W: Write> {
     stream: W,
@@ -102,8 +103,8 @@ impl<W: Write> Sink for StdSink<W> {
         self.faults
     }
 
-    /// Each error of the stream is a fault, and so is a write that takes nothing of a piece that is not
-    /// empty. What was taken is what the stream took, and no more.
+    /// Each error of the stream is a fault, and so is a write that takes nothing of a piece that is
+    /// not empty. What was taken is what the stream took, and no more.
     fn write(&mut self, from: &[u8]) -> Result<usize, Refusal>
         ensures bound { WritesAtMost result from.now }
         ensures progress { IfOk result (λ n. 0 < length from.now → 0 < n) }

@@ -42,9 +42,9 @@ impl From<AllocError> for ReadStop {
     }
 }
 
-/// Reads the source to its end, or until it gave one byte more than a script may have, and takes no more
-/// of it than that. The first read that fails is the last: where the answer is a script or `TooLong`, the
-/// source's count of faults is as before.
+/// Reads the source to its end, or until it gave one byte more than a script may have, and takes no
+/// more of it than that. The first read that fails is the last: where the answer is a script or
+/// `TooLong`, the source's count of faults is as before.
 pub fn read_all<S: Source>(alloc: Global, source: &mut S) -> Result<Vec<u8>, ReadStop>
     ensures gave { IfOk result (λ script. S.left source.old
         ≡ prepended script.items (S.left source.new)) }

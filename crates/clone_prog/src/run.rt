@@ -19,8 +19,9 @@ use clone_outside::{Refusal, Sink, Source, write_all};
 use clone_script::{ReadRefusal, read_script};
 use std::alloc::Global;
 
-/// Runs the program: reads the script that the words ask for from the source, carries out its lines,
-/// writes their answers to `out` and at the end the commits to `binlog`. The answer is the status.
+/// Runs the program: reads the script that the words ask for from the source, carries out its
+/// lines, writes their answers to `out` and at the end the commits to `binlog`. The answer is the
+/// status.
 pub fn clone_main<S: Source, K: Sink, B: Sink>(
     alloc: Global,
     words: &[String],

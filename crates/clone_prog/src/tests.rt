@@ -196,9 +196,9 @@ fn takes_scripts_up_to_the_longest(rt: HostRuntime) -> Result<(), Fail> {
     Ok(())
 }
 
-/// Lines of a script: how many times they come, what they are, and what they add to the output and to the
-/// binlog. In the text of the nth, counted from 0, `N` stands for n, `S` for n + 1, `D` for 2n, `L` for how
-/// many come behind it, and `V` for the longest value.
+/// Lines of a script: how many times they come, what they are, and what they add to the output and
+/// to the binlog. In the text of the nth, counted from 0, `N` stands for n, `S` for n + 1, `D` for
+/// 2n, `L` for how many come behind it, and `V` for the longest value.
 type Lines = (u32, &'static str, &'static str, &'static str);
 
 const LONG_SCRIPTS: [&[Lines]; 6] = [

@@ -1,5 +1,5 @@
-//! Recovery: the image that a redo log leaves, with the changes of each transaction that was open taken
-//! back, and the rows of such an image.
+//! Recovery: the image that a redo log leaves, with the changes of each transaction that was open
+//! taken back, and the rows of such an image.
 #![tactic(auto)]
 
 mod laws;

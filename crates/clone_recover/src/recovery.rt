@@ -13,8 +13,8 @@ use std::alloc::{AllocError, Global};
 
 /// The image that a log leaves, with the changes of each transaction that was open taken back, last
 /// change first, and its undo slot freed. `Damaged(Redo)` comes exactly where the bytes are no log.
-/// `Damaged(Undo)` names the first undo slot that is in use with a count above 160, or, where none is,
-/// the first that is in use and has a record out of range.
+/// `Damaged(Undo)` names the first undo slot that is in use with a count above 160, or, where none
+/// is, the first that is in use and has a record out of range.
 pub fn recover(alloc: Global, redo: &[u8]) -> Result<Image, RecoverRefusal>
     ensures image { IfOk result (λ image. Recovers redo.now image) }
     ensures cause { IfErr result (IsCause redo.now) }

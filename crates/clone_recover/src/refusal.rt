@@ -10,7 +10,8 @@ use std::alloc::AllocError;
 pub enum Damage {
     /// The bytes are no log of mini-transactions.
     Redo,
-    /// This undo slot is in use with a count above 160, or a record of it has a field out of its range.
+    /// This undo slot is in use with a count above 160, or a record of it has a field out of its
+    /// range.
     Undo { slot: u32 },
 }
 

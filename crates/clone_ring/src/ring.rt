@@ -33,7 +33,8 @@ impl Model for Ring {
 }
 
 impl Ring {
-    /// A ring that has room for so many bytes, with floor and end at 8,192. No later call takes memory.
+    /// A ring that has room for so many bytes, with floor and end at 8,192. No later call takes
+    /// memory.
     pub fn new(alloc: Global, size: u64) -> Result<Ring, AllocError>
         ensures { IfOk result (λ ring. ring ≡ empty size) }
     {
@@ -67,9 +68,9 @@ impl Ring {
         room.min(LSN_LIMIT - 1 - self.end())
     }
 
-    /// Appends bytes, and answers the log's end. It takes no memory, and writes over no byte from the
-    /// floor on. It is refused exactly where there are more bytes than are free, and nothing has changed
-    /// then.
+    /// Appends bytes, and answers the log's end. It takes no memory, and writes over no byte from
+    /// the floor on. It is refused exactly where there are more bytes than are free, and nothing
+    /// has changed then.
     pub fn append(&mut self, bytes: &[u8]) -> Result<u64, LogFull>
         ensures { Appends bytes.now self.old self.new result }
     {

@@ -1,5 +1,5 @@
-//! A bucket page or an overflow page as a list of 50 slots: what the slots hold, the bytes of a slot,
-//! and what a write of a slot leaves.
+//! A bucket page or an overflow page as a list of 50 slots: what the slots hold, the bytes of a
+//! slot, and what a write of a slot leaves.
 #![tactic(auto)]
 
 mod laws;

@@ -40,8 +40,8 @@ pub fn free_slot(page: &Page) -> Option<u16>
     None
 }
 
-/// The key and the value of a slot. None exactly where there is no such slot, or it isn't present. A
-/// slot whose length is above that of a value isn't.
+/// The key and the value of a slot. None exactly where there is no such slot, or it isn't present.
+/// A slot whose length is above that of a value isn't.
 pub fn present(page: &Page, slot: u16) -> Option<(u64, Value)>
     ensures { result ≡ row_in (slot_in (slots page.now) slot) }
 {

@@ -36,8 +36,8 @@ impl<T: Drop> From<AllocFailed<T>> for ReadRefusal {
     }
 }
 
-/// The lines of a script, in order. `BadLine` has the number of the first text that is neither passed
-/// over nor the text of a line. The texts that are passed over count, too.
+/// The lines of a script, in order. `BadLine` has the number of the first text that is neither
+/// passed over nor the text of a line. The texts that are passed over count, too.
 pub fn read_script(alloc: Global, bytes: &[u8]) -> Result<Vec<Line>, ReadRefusal>
     ensures { Reads bytes.now result }
 {

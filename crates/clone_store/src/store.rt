@@ -87,8 +87,8 @@ impl Store {
         let _ = &self.image;
     }
 
-    /// Makes room in the log for one mini-transaction, however long. The pages and the log stay as they
-    /// are.
+    /// Makes room in the log for one mini-transaction, however long. The pages and the log stay as
+    /// they are.
     pub fn reserve(&mut self) -> Result<(), AllocError>
         ensures ok { OnOk result (longest ≤ self.new.room) }
         ensures same { Keeps self.old self.new }
@@ -96,8 +96,8 @@ impl Store {
         self.redo.reserve(LONGEST_MTR)
     }
 
-    /// Writes a mini-transaction to the log and does to the pages what it says. Of its records only the
-    /// first may make pages. After a refusal the pages and the log are as before.
+    /// Writes a mini-transaction to the log and does to the pages what it says. Of its records only
+    /// the first may make pages. After a refusal the pages and the log are as before.
     pub fn write(&mut self, alloc: Global, records: &[Record]) -> Result<(), AllocError>
         requires some { 1 ≤ length records.now }
         requires short { length (spelling records.now) ≤ longest }
@@ -114,7 +114,8 @@ impl Store {
         Ok(())
     }
 
-    /// Writes a mini-transaction that makes no page. The log has room for it, so this takes no memory.
+    /// Writes a mini-transaction that makes no page. The log has room for it, so this takes no
+    /// memory.
     pub fn write_within(&mut self, alloc: Global, records: &[Record])
         requires some { 1 ≤ length records.now }
         requires short { length (spelling records.now) ≤ longest }

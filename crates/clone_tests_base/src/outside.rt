@@ -101,7 +101,8 @@ fn other_bytes_are_no_mark(rt: HostRuntime) {
     let mark = Mark::InProgress { session: 1 };
     let bytes = mark.to_bytes();
     assert_eq!(rt; Mark::from_bytes(&bytes), Some(mark));
-    // a letter, no kind, another kind without numbers, a zero, an LSN, the LSN's limit, and the last zero
+    // a letter, no kind, another kind without numbers, a zero, an LSN, the LSN's limit, and the
+    // last zero
     for (at, byte) in [(0, b'c'), (8, 0), (8, 4), (9, 1), (31, 1), (39, 1), (63, 1)] {
         let mut other = bytes;
         other[at] = byte;

@@ -2,7 +2,7 @@ use clone_plain::Cause;
 use std::test::Fail;
 
 /// Each refusal with its text.
-const REFUSALS: [(Cause, &str); 11] = [
+const REFUSALS: [(Cause, &str); 14] = [
     (Cause::NoSuchTrx, "refused E1"),
     (Cause::NoSuchTable, "refused E2"),
     (Cause::TableExists, "refused E3"),
@@ -15,8 +15,17 @@ const REFUSALS: [(Cause, &str); 11] = [
     (Cause::ValueTooLong, "refused E5"),
     (Cause::UndoFull, "refused E6"),
     (Cause::SpaceFull, "refused E7"),
+    (
+        Cause::LogFull {
+            need: 218,
+            free: 217,
+        },
+        "refused E8 218 217",
+    ),
+    (Cause::PoolFull { frames: 16 }, "refused E9 16"),
     (Cause::TooManyTransactions, "refused E10"),
     (Cause::TooManyTables, "refused E11"),
+    (Cause::DiskFault, "refused E17"),
 ];
 
 #[test]

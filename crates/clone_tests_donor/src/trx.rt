@@ -40,7 +40,8 @@ pub enum Answer {
     Committed(u64),
 }
 
-/// An engine, each of whose calls answers, or names the cause against it. Want of memory is an error.
+/// An engine, each of whose calls answers, or names the cause against it. Want of memory is an
+/// error.
 #[derive(Drop)]
 pub struct Tried {
     pub engine: Engine,

@@ -34,8 +34,8 @@ fn no_row(rt: HostRuntime) -> Result<(), Fail> {
     Ok(())
 }
 
-// A system page that lists a table, and in the space 1 a bucket whose first slot has the key 7 and a
-// value of this length, which begins with "hi".
+// A system page that lists a table, and in the space 1 a bucket whose first slot has the key 7 and
+// a value of this length, which begins with "hi".
 fn image_of(alloc: Global, listed: u8, length: u8) -> Result<Image, AllocError> {
     let mut image = Image::new(alloc);
     image.apply_all(alloc, &spaces(), 8300)?;

@@ -6,7 +6,8 @@ use clone_overlay::{FetchRefusal, Overlay};
 use clone_page::{Page, PageKind};
 use std::test::*;
 
-// Space 1 has a page of rows with the page LSN 9 and a page of zero bytes, and the redo's space is there.
+// Space 1 has a page of rows with the page LSN 9 and a page of zero bytes, and the redo's space is
+// there.
 fn a_disk(rt: HostRuntime) -> Result<MemDisk, Fail> {
     let mut disk = MemDisk::new(rt.alloc());
     disk.create(1, 2)?;

@@ -25,14 +25,16 @@ const BEGIN: [u8; 41] = [
     6,
 ];
 
-// An undo record of key 7, whose slot 0 on page 3 of table 1 was absent. Behind it come 72 zero bytes.
+// An undo record of key 7, whose slot 0 on page 3 of table 1 was absent. Behind it come 72 zero
+// bytes.
 const UNDO: [u8; 37] = [
     2, 0, 0, 0, 0, 0, 0, 0, 1, 0, 64, 0, 96, // on page 1 of space 0, from 64 on, 96 bytes
     0, 0, 0, 1, 0, 0, 0, 3, 0, 0, 2, 0, 0, 0, 0, 0, // table, page, slot, state, length
     0, 0, 0, 0, 0, 0, 0, 7,
 ];
 
-// The count of undo records, and the row of key 7 with the value "hi". Behind it come 62 zero bytes.
+// The count of undo records, and the row of key 7 with the value "hi". Behind it come 62 zero
+// bytes.
 const ROW: [u8; 57] = [
     2, 0, 0, 0, 0, 0, 0, 0, 1, 0, 42, 0, 2, 0, 1, // the count is 1
     1, 0, 0, 0, 1, 0, 0, 0, 3, 0, 3, // page 3 of space 1 is a bucket page
@@ -129,8 +131,8 @@ fn an_undo_record_out_of_range(rt: HostRuntime) -> Result<(), Fail> {
     Ok(())
 }
 
-// A count above 160 of a slot in use goes before a damaged record of an earlier slot, and is no matter in
-// a slot that is free.
+// A count above 160 of a slot in use goes before a damaged record of an earlier slot, and is no
+// matter in a slot that is free.
 #[test]
 fn a_count_above_the_most(rt: HostRuntime) -> Result<(), Fail> {
     let alloc = rt.alloc();

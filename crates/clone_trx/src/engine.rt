@@ -98,14 +98,16 @@ impl Engine {
         &self.binlog
     }
 
-    /// The open transaction of this number, as the commit that it would be, or none where none is open.
+    /// The open transaction of this number, as the commit that it would be, or none where none is
+    /// open.
     pub fn transaction(&self, trx: u32) -> Option<&Commit>
         ensures { option_copied result ≡ finite.get self.now.donor.active trx }
     {
         self.active.get(trx)
     }
 
-    /// The number that the next transaction gets: the least of which none is open, if there is one below 64.
+    /// The number that the next transaction gets: the least of which none is open, if there is one
+    /// below 64.
     pub fn next_number(&self) -> Option<u32>
         ensures { result ≡ least_unused self.now.donor.active }
     {
@@ -150,9 +152,9 @@ impl Engine {
         Ok(())
     }
 
-    /// Begins a transaction of a writer, which is its transaction of this index, and answers the least
-    /// number below 64 of which none is open. Refused where each is. The room of its commit in the binlog
-    /// is made here.
+    /// Begins a transaction of a writer, which is its transaction of this index, and answers the
+    /// least number below 64 of which none is open. Refused where each is. The room of its commit
+    /// in the binlog is made here.
     pub fn begin(&mut self, alloc: Global, writer: u32, index: u64) -> Result<u32, EngineRefusal>
         ensures answer { Decided (begin_cause self.old.donor) None none_outside self.old.donor
             self.new.donor result (λ trx. Begins self.old.donor writer index trx self.new.donor) }
@@ -176,9 +178,10 @@ impl Engine {
         Ok(trx)
     }
 
-    /// What holds between calls: the pages are what the log leaves of none; their rows, once the changes of
-    /// every open transaction are taken back, are those that the history leaves; no undo slot has
-    /// more records than fit, and each is in its ranges; no table was dropped; and the pages are formed, and contain what the donor is.
+    /// What holds between calls: the pages are what the log leaves of none; their rows, once the
+    /// changes of every open transaction are taken back, are those that the history leaves; no undo
+    /// slot has more records than fit, and each is in its ranges; no table was dropped; and the
+    /// pages are formed, and contain what the donor is.
     pub fn laws(&self)
         ensures replays { Replays self.now.log self.now.image }
         ensures rows { HasRows (page_of (recovered self.now.image))

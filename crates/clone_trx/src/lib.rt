@@ -1,5 +1,5 @@
-//! The engine of a donor: transactions over pages and the redo log that made them. Each call is a step of
-//! the plain donor.
+//! The engine of a donor: transactions over pages and the redo log that made them. Each call is a
+//! step of the plain donor.
 #![tactic(auto)]
 
 mod active;

@@ -57,8 +57,8 @@ impl Locks {
         self.holders.get(&(table, key)).copied()
     }
 
-    /// The transaction holds the row's lock, which no other does. Where it holds it already this takes no
-    /// memory. After a refusal the locks are as before.
+    /// The transaction holds the row's lock, which no other does. Where it holds it already this
+    /// takes no memory. After a refusal the locks are as before.
     pub fn lock(&mut self, trx: u32, table: u32, key: u64) -> Result<(), AllocError>
         requires open { trx < TRANSACTION_LIMIT }
         requires free { IfSome (finite.get self.old (table, key)) (λ holder. holder ≡ trx) }

@@ -9,8 +9,8 @@ use clone_mtr::Record;
 use clone_store::Store;
 use std::alloc::Global;
 
-/// The number of the first of the records that are written to a page of the system space: the one that
-/// makes the page where it was never used, else the one behind.
+/// The number of the first of the records that are written to a page of the system space: the one
+/// that makes the page where it was never used, else the one behind.
 pub fn first_record(store: &Store, page: u32) -> usize
     ensures value { result ≡ (if is_unused store.now.image 0 page then 0 else 1) }
     ensures range { result ≤ 1 }

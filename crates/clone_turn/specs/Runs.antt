@@ -11,7 +11,8 @@ module _ {S C A : Type 0} where
   -- each entry is a step of the machine, from the state that the entry before it left
   abbrev pub IsLegalRun : (S → C → A → S → Type 0) → S → List (Entry S C A) → Type 0
   IsLegalRun steps first [] = Unit {0}
-  IsLegalRun steps first (e ∷ es) = steps first e.call e.answer e.after × IsLegalRun steps e.after es
+  IsLegalRun steps first (e ∷ es) =
+      steps first e.call e.answer e.after × IsLegalRun steps e.after es
 
   -- of what a seat has seen, each entry with whether it is the seat's own: the entries
   abbrev pub entries : List (Entry S C A × Bool) → List (Entry S C A)
@@ -29,7 +30,8 @@ module _ {S C A : Type 0} where
   others (e ∷ es) = (e, false) ∷ others es
 
   -- what two seats have seen, laid over each other: the longer of the two, with the calls of both
-  abbrev pub meld : List (Entry S C A × Bool) → List (Entry S C A × Bool) → List (Entry S C A × Bool)
+  abbrev pub meld : List (Entry S C A × Bool) → List (Entry S C A × Bool)
+      → List (Entry S C A × Bool)
   meld [] ys = ys
   meld (x ∷ xs) [] = x ∷ xs
   meld (x ∷ xs) (y ∷ ys) = (x.0, x.1 || y.1) ∷ meld xs ys

@@ -1,5 +1,5 @@
-//! The least machine: a number to which each call adds one. Two threads that call it show what the clauses of a
-//! cell are good for.
+//! The least machine: a number to which each call adds one. Two threads that call it show what the
+//! clauses of a cell are good for.
 ghost use Rattle.std.specs.Prelude.{◌≡◌, [], ◌++◌, ◌+◌, ◌^◌, ◌<◌, IfOk, IsPermutation};
 ghost use Rattle.std.specs.List.{range_with_len};
 ghost use Rattle.clone_turn.specs.Runs.{calls};
@@ -72,7 +72,8 @@ pub struct Added {
     pub second: Vec<u64>,
 }
 
-/// Two threads make n calls each, on a number that starts at 0. Their answers are 1 to 2n, each once.
+/// Two threads make n calls each, on a number that starts at 0. Their answers are 1 to 2n, each
+/// once.
 pub fn add_by_two<R: Threads + Wait + Sync>(
     rt: &R,
     alloc: Global,

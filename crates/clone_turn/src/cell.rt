@@ -10,7 +10,8 @@ use std::alloc::{AllocError, Global};
 use std::marker::Model;
 use std::sync::Wait;
 
-/// The state of a machine, which threads call in turns. Contracts see which cell it is, and its first state.
+/// The state of a machine, which threads call in turns. Contracts see which cell it is, and its
+/// first state.
 pub struct TurnCell<M: Machine> {
     raw: RawCell<M>,
 }
@@ -20,11 +21,14 @@ impl<M: Machine> Model for TurnCell<M> {
 
     ghost Value = { CellModel M.State };
 
-    ghost view = { λ c. record { cell = c.raw.table.shared.table_id; first = c.raw.table.shared.key.value } };
+    ghost view = { λ c. record {
+      cell = c.raw.table.shared.table_id;
+      first = c.raw.table.shared.key.value;
+    } };
 }
 
-/// The right to call a cell. Contracts see what it has seen of the run, which of the entries are its own
-/// calls, and its share. It has no bytes.
+/// The right to call a cell. Contracts see what it has seen of the run, which of the entries are
+/// its own calls, and its share. It has no bytes.
 pub struct Seat<M: Machine> {
     raw: RawSeat<M>,
 }
@@ -41,8 +45,8 @@ impl<M: Machine> Model for Seat<M> {
 }
 
 impl<M: Machine> TurnCell<M> {
-    /// A cell with its first state, and the seat that has the whole share. Where there is no memory the
-    /// state comes back.
+    /// A cell with its first state, and the seat that has the whole share. Where there is no memory
+    /// the state comes back.
     pub fn new(
         alloc: Global,
         first: M::State,
@@ -55,8 +59,8 @@ impl<M: Machine> TurnCell<M> {
         Ok((TurnCell { raw }, Seat { raw: seat }))
     }
 
-    /// Waits for the turn, and makes the call. It takes no memory of its own. After a `close` it waits
-    /// forever.
+    /// Waits for the turn, and makes the call. It takes no memory of its own. After a `close` it
+    /// waits forever.
     pub fn call<R: Wait>(&self, rt: &R, seat: &mut Seat<M>, call: M::Call) -> M::Answer
         requires seat { IsOf self.now seat.old }
         requires fits { M.fits call (end_of self.now.first (entries seat.old.seen)) }
@@ -65,8 +69,8 @@ impl<M: Machine> TurnCell<M> {
         self.raw.call(rt, &mut seat.raw, call)
     }
 
-    /// A new seat, which has seen what this one has, and has made no call. Each of the two has half of the
-    /// share.
+    /// A new seat, which has seen what this one has, and has made no call. Each of the two has half
+    /// of the share.
     pub fn split(&self, seat: &mut Seat<M>) -> Seat<M>
         requires { IsOf self.now seat.old }
         ensures left { seat.new ≡ left_seat seat.old }
@@ -84,7 +88,8 @@ impl<M: Machine> TurnCell<M> {
         ensures joined { seat.new ≡ joined_seat seat.old other }
         ensures knows { IsPrefix (entries seat.old.seen) (entries seat.new.seen) }
         ensures knows_other { IsPrefix (entries other.seen) (entries seat.new.seen) }
-        ensures calls { IsPermutation (calls seat.old.seen ++ calls other.seen) (calls seat.new.seen) }
+        ensures calls { IsPermutation (calls seat.old.seen ++ calls other.seen)
+            (calls seat.new.seen) }
     {
         self.raw.join(&mut seat.raw, other.into_raw());
     }

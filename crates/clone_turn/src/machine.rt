@@ -29,6 +29,7 @@ pub trait Machine {
         → steps s c a t → ◌≡◌ (key t) (key s) };
 
     // A call that fits a state fits after each step.
-    ghost still_fits: { (d : Self.Call) (s : Self.State) (c : Self.Call) (a : Self.Answer) (t : Self.State)
+    ghost still_fits: { (d : Self.Call) (s : Self.State) (c : Self.Call) (a : Self.Answer)
+        (t : Self.State)
         → fits d s → steps s c a t → fits d t };
 }

@@ -1,5 +1,6 @@
-//! The atomic steps of a cell. Word 0 of its table is the next ticket, word 1 the ticket that is served, and
-//! slot 0 holds the state. The rule `Kept` (specs/Rule.antt) holds between any two steps.
+//! The atomic steps of a cell. Word 0 of its table is the next ticket, word 1 the ticket that is
+//! served, and slot 0 holds the state. The rule `Kept` (specs/Rule.antt) holds between any two
+//! steps.
 ghost use Rattle.std.specs.Prelude.{◌≡◌, [], ◌∷◌, IfOk, IfErr, IfSome, IfNone, Some, ◌==◌, false, true, None, ◌<◌, MatchBool};
 ghost use Rattle.clone_turn.specs.Runs.{Agree, end_of, entries};
 ghost use Rattle.clone_turn.specs.Rule.{first_view, Idle, Calls, Closes, left_view, right_view, joined_view, with_ticket, Lifts, Lifted, with_note, note_in};
@@ -84,7 +85,8 @@ impl<M: Machine> RawCell<M> {
         requires down { seat.old.seat.me.0.lifted ≡ false }
         ensures seat { seat.new.seat.table_id ≡ seat.old.seat.table_id }
         ensures room { result < 18446744073709551615 }
-        ensures ticket { seat.new.seat.me ≡ (with_ticket seat.old.seat.me.0 result, seat.old.seat.me.1) }
+        ensures ticket { seat.new.seat.me
+            ≡ (with_ticket seat.old.seat.me.0 result, seat.old.seat.me.1) }
     {
         for _ in rt.forever() {
             if let Some(ticket) = self.try_draw(seat) {
@@ -152,8 +154,8 @@ impl<M: Machine> RawCell<M> {
         requires seat { seat.old.seat.table_id ≡ self.now.table.shared.table_id }
         requires idle { Idle self.now.table.shared.key.value seat.old.seat.me }
         ensures seat { seat.new.seat.table_id ≡ seat.old.seat.table_id }
-        ensures lifted { Lifted M.steps self.now.table.shared.key.value seat.old.seat.me result.0 result.1
-            seat.new.seat.me }
+        ensures lifted { Lifted M.steps self.now.table.shared.key.value seat.old.seat.me
+            result.0 result.1 seat.new.seat.me }
     {
         let ticket = self.draw(rt, seat);
         self.wait(rt, seat, ticket);
@@ -174,9 +176,11 @@ impl<M: Machine> RawCell<M> {
     )
         requires seat { seat.old.seat.table_id ≡ self.now.table.shared.table_id }
         requires ticket { seat.old.seat.me.0.ticket ≡ Some ticket }
-        requires holds { (seat.old.seat.me.1 ≡ (0, None) ∷ []) × (seat.old.seat.me.0.lifted ≡ true) }
+        requires holds { (seat.old.seat.me.1 ≡ (0, None) ∷ [])
+            × (seat.old.seat.me.0.lifted ≡ true) }
         requires share { 0 < seat.old.seat.me.0.part }
-        requires step { M.steps (end_of self.now.table.shared.key.value (entries seat.old.seat.me.0.seen))
+        requires step { M.steps
+            (end_of self.now.table.shared.key.value (entries seat.old.seat.me.0.seen))
             call.value answer.value state }
         requires room { ticket < 18446744073709551615 }
         ensures seat { seat.new.seat.table_id ≡ seat.old.seat.table_id }
@@ -193,8 +197,8 @@ impl<M: Machine> RawCell<M> {
         self.wake_next(ticket);
     }
 
-    // Wakes who sleeps, after the turn of the ticket. Nobody does where no later ticket was drawn: one that
-    // is drawn after this look finds the turn that came.
+    // Wakes who sleeps, after the turn of the ticket. Nobody does where no later ticket was drawn:
+    // one that is drawn after this look finds the turn that came.
     fn wake_next(&self, ticket: u64)
         requires { ticket < 18446744073709551615 }
     {
@@ -206,7 +210,8 @@ impl<M: Machine> RawCell<M> {
     pub fn call<R: Wait>(&self, rt: &R, seat: &mut RawSeat<M>, call: M::Call) -> M::Answer
         requires seat { seat.old.seat.table_id ≡ self.now.table.shared.table_id }
         requires idle { Idle self.now.table.shared.key.value seat.old.seat.me }
-        requires fits { M.fits call (end_of self.now.table.shared.key.value (entries seat.old.seat.me.0.seen)) }
+        requires fits { M.fits call
+            (end_of self.now.table.shared.key.value (entries seat.old.seat.me.0.seen)) }
         ensures seat { seat.new.seat.table_id ≡ seat.old.seat.table_id }
         ensures idle { Idle self.now.table.shared.key.value seat.new.seat.me }
         ensures call { Calls M.steps self.now.table.shared.key.value seat.old.seat.me.0 call result

@@ -1,5 +1,5 @@
-//! The rule of a cell's table, and what each kind of step on it tells its seat. The definitions are those of
-//! specs/Rule.antt.
+//! The rule of a cell's table, and what each kind of step on it tells its seat. The definitions are
+//! those of specs/Rule.antt.
 
 use crate::machine::Machine;
 use crate::view::View;

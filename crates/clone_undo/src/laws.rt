@@ -18,7 +18,8 @@ pub fn slot_laws()
         (last : UndoEntry) → undo_slot s pages ≡ Some slot → slot.records ≡ front ++ last ∷ []
         → last ≡ entry_on (length front) (pages (places.record_page s (length front))) }
 
-    // Where the page of the next record is unused, that record is the first on a later page of the slot.
+    // Where the page of the next record is unused, that record is the first on a later page of the
+    // slot.
     ensures unused { (s : ℕ) (pages : ℕ → List ℕ) (slot : UndoSlot) → undo_slot s pages ≡ Some slot
         → AllByRecursion IsEntry slot.records
         → pages (places.record_page s (length slot.records)) ≡ zero_page
@@ -51,8 +52,8 @@ pub fn end_laws()
         → after lsn (records_of_end s) pages space page ≡ pages space page }
 {}
 
-/// What a change does to the undo slots and to the pages. The page of its record is unused only where
-/// this is the first record on a later page of the slot.
+/// What a change does to the undo slots and to the pages. The page of its record is unused only
+/// where this is the first record on a later page of the slot.
 pub fn change_laws()
     // The slot has one record more, at the end.
     ensures added { (unused row_unused : Bool) (lsn s : ℕ) (slot : UndoSlot) (e : UndoEntry)

@@ -1,5 +1,5 @@
-//! Undo slots: who writes a transaction and what stood in each row slot before it was changed, read from
-//! pages, and the mini-transactions that begin, change, take back and end.
+//! Undo slots: who writes a transaction and what stood in each row slot before it was changed, read
+//! from pages, and the mini-transactions that begin, change, take back and end.
 #![tactic(auto)]
 
 mod before;

@@ -1,5 +1,5 @@
-//! Where the undo slots stand in the system space: four pages each, of which the first has the header,
-//! and forty records on each page. Places on a page are in bytes from its beginning.
+//! Where the undo slots stand in the system space: four pages each, of which the first has the
+//! header, and forty records on each page. Places on a page are in bytes from its beginning.
 ghost use Rattle.std.specs.Prelude.{◌≡◌, ◌<◌, ◌+◌, ◌*◌};
 ghost use Rattle.clone_undo.specs.Places as places;
 
@@ -44,7 +44,8 @@ pub const RECORD_VALUE_AT: usize = 24;
 /// The pages of a table's space have numbers below this.
 pub const TABLE_PAGE_LIMIT: u32 = 65_536;
 
-/// Where the header stands, on the first page of an undo slot. Its first byte is 1 where the slot is in use.
+/// Where the header stands, on the first page of an undo slot. Its first byte is 1 where the slot
+/// is in use.
 pub const HEADER_AT: u16 = 40;
 
 /// How many bytes the header has.
@@ -59,7 +60,8 @@ pub const WRITER_AT: u16 = 44;
 /// Where in the header the index of the transaction stands.
 pub const INDEX_AT: u16 = 48;
 
-/// The page of the system space that has the header of an undo slot. `slot` is its number, from 0 to 63.
+/// The page of the system space that has the header of an undo slot. `slot` is its number, from 0
+/// to 63.
 pub fn header_page(slot: u32) -> u32
     requires { slot < places.slot_count }
     ensures { result ≡ places.header_page slot }
@@ -67,7 +69,8 @@ pub fn header_page(slot: u32) -> u32
     1 + UNDO_SLOT_PAGES * slot
 }
 
-/// The page of the system space that has the record of this number, counted from 0, of an undo slot.
+/// The page of the system space that has the record of this number, counted from 0, of an undo
+/// slot.
 pub fn record_page(slot: u32, number: usize) -> u32
     requires slot { slot < places.slot_count }
     requires number { number < places.capacity }

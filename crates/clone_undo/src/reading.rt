@@ -51,8 +51,8 @@ pub fn has_possible_count(page: &Page) -> bool
     u16_at(page.bytes(), COUNT_AT as usize) <= UNDO_CAPACITY
 }
 
-/// The record of this number, counted from 0, from its page, or none where one of its fields is out of
-/// range.
+/// The record of this number, counted from 0, from its page, or none where one of its fields is out
+/// of range.
 pub fn record_at(page: &Page, number: usize) -> Option<UndoRecord>
     requires { number < places.capacity }
     ensures some { IfSome result (λ r. r ≡ entry_on number page.now) }
@@ -92,8 +92,8 @@ fn record_bytes(page: &Page, number: usize) -> &[u8]
     &page.bytes()[at..at + RECORD_BYTES]
 }
 
-// What the slot held before, by the bytes of a record, or none where the state or the length is out of
-// range.
+// What the slot held before, by the bytes of a record, or none where the state or the length is out
+// of range.
 fn before_in(bytes: &[u8]) -> Option<Before>
     requires { length bytes.now ≡ RECORD_BYTES }
     ensures state { IfSome result (λ b. state_number b ≡ field RECORD_STATE_AT 1 bytes.now) }

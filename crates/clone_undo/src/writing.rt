@@ -10,8 +10,8 @@ use byteorder::{BigEndian, ByteOrder};
 use clone_mtr::{Patch, Record};
 use clone_page::{PageKind, SLOT_BYTES, SLOTS_AT};
 
-/// A transaction begins: the undo slot is in use and has no records. The first record makes the page of
-/// its header. Where that page is in use, only the second is written.
+/// A transaction begins: the undo slot is in use and has no records. The first record makes the
+/// page of its header. Where that page is in use, only the second is written.
 pub fn begin_records(slot: u32, writer: u32, index: u64) -> [Record; 2]
     requires { slot < places.slot_count }
     ensures { result ≡ records_of_begin true slot writer index }
@@ -26,9 +26,9 @@ pub fn begin_records(slot: u32, writer: u32, index: u64) -> [Record; 2]
     ]
 }
 
-/// A change is made behind `count` others: its undo record, the new count, and the row slot that the
-/// record names, which gets the bytes of `image`. The first record makes the page of the undo record.
-/// Where that page is in use, only the others are written.
+/// A change is made behind `count` others: its undo record, the new count, and the row slot that
+/// the record names, which gets the bytes of `image`. The first record makes the page of the undo
+/// record. Where that page is in use, only the others are written.
 pub fn change_records(
     slot: u32,
     count: u16,
@@ -74,8 +74,8 @@ pub fn first_change_records(
     ]
 }
 
-/// The last of `count` changes is taken back: the row slot that its record names gets the state, the
-/// length and the value from before, and the count is one less.
+/// The last of `count` changes is taken back: the row slot that its record names gets the state,
+/// the length and the value from before, and the count is one less.
 pub fn take_back_records(slot: u32, count: u16, entry: &UndoRecord) -> [Record; 2]
     requires slot { slot < places.slot_count }
     requires some { 0 < count }

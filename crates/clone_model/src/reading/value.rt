@@ -8,8 +8,8 @@ use crate::{LONGEST_SCRIPT_VALUE, ScriptValue, Value};
 use clone_base::VALUE_LIMIT;
 use std::alloc::{AllocError, Global};
 
-/// The value that the whole text shows: a dash for the empty one, or two lower-case hex digits for each
-/// of its bytes.
+/// The value that the whole text shows: a dash for the empty one, or two lower-case hex digits for
+/// each of its bytes.
 pub fn value_of(text: &[u8]) -> Option<Value>
     ensures some { IfSome result (λ v. IsValue v × (text.now ≡ value_text v)) }
     ensures only { (v : List ℕ) → IsValue v → text.now ≡ value_text v → result ≡ Some v }
@@ -19,8 +19,8 @@ pub fn value_of(text: &[u8]) -> Option<Value>
     Value::new(&room[..len])
 }
 
-/// The value of at most 1,024 bytes that the whole text shows, in the form of `value_of`. None where
-/// it shows no such value.
+/// The value of at most 1,024 bytes that the whole text shows, in the form of `value_of`. None
+/// where it shows no such value.
 pub fn script_value_of(alloc: Global, text: &[u8]) -> Result<Option<ScriptValue>, AllocError>
     ensures some { IfOk result
         (λ read. IfSome read (λ v. IsScriptValue v × (text.now ≡ value_text v))) }
@@ -46,8 +46,8 @@ pub fn value_or_none(text: &[u8]) -> Option<Option<Value>>
     Some(Some(value_of(text)?))
 }
 
-/// Puts the bytes of the value that the whole text shows at the front of the room, and says how many
-/// they are. None where the text shows no value that fits.
+/// Puts the bytes of the value that the whole text shows at the front of the room, and says how
+/// many they are. None where the text shows no value that fits.
 fn decode_value(text: &[u8], room: &mut [u8]) -> Option<usize>
     ensures some { IfSome result
         (λ n. IsFront n room.new × (text.now ≡ value_text (take n room.new))) }

@@ -9,8 +9,9 @@ use clone_plain::{
 use std::alloc::{AllocError, Global};
 use std::collections::BTreeMap;
 
-/// A donor without pages and without a log: the keys that have a place in each bucket of each table, the
-/// open transactions, the locks, and the commits. Each of its calls answers as the plain donor does.
+/// A donor without pages and without a log: the keys that have a place in each bucket of each
+/// table, the open transactions, the locks, and the commits. Each of its calls answers as the plain
+/// donor does.
 #[derive(Drop)]
 pub struct Plain {
     tables: BTreeMap<u32, Table>,

@@ -28,14 +28,16 @@ const BEGIN_AGAIN: [u8; 30] = [
     6,
 ];
 
-// An undo record of key 7, whose slot 0 on page 3 of table 1 was absent. Behind it come 72 zero bytes.
+// An undo record of key 7, whose slot 0 on page 3 of table 1 was absent. Behind it come 72 zero
+// bytes.
 const UNDO: [u8; 37] = [
     2, 0, 0, 0, 0, 0, 0, 0, 1, 0, 64, 0, 96, // on page 1 of space 0, from 64 on, 96 bytes
     0, 0, 0, 1, 0, 0, 0, 3, 0, 0, 2, 0, 0, 0, 0, 0, // table, page, slot, state, length
     0, 0, 0, 0, 0, 0, 0, 7,
 ];
 
-// The count of undo records, and the row of key 7 with the value "hi". Behind it come 62 zero bytes.
+// The count of undo records, and the row of key 7 with the value "hi". Behind it come 62 zero
+// bytes.
 const ROW: [u8; 57] = [
     2, 0, 0, 0, 0, 0, 0, 0, 1, 0, 42, 0, 2, 0, 1, // the count is 1
     1, 0, 0, 0, 1, 0, 0, 0, 3, 0, 3, // page 3 of space 1 is a bucket page
@@ -51,7 +53,8 @@ const UNDO_HI: [u8; 39] = [
     0, 0, 0, 0, 0, 0, 0, 7, 104, 105,
 ];
 
-// The count of undo records, and the row of key 7 with the value "ho". Behind it come 62 zero bytes.
+// The count of undo records, and the row of key 7 with the value "ho". Behind it come 62 zero
+// bytes.
 const ROW_HO: [u8; 46] = [
     2, 0, 0, 0, 0, 0, 0, 0, 1, 0, 42, 0, 2, 0, 2, // the count is 2
     2, 0, 0, 0, 1, 0, 0, 0, 3, 0, 48, 0, 80, // on page 3 of space 1, from 48 on, 80 bytes
@@ -88,8 +91,8 @@ const COMMIT: [u8; 51] = [
     0, 0, 0, 0, 0, 0, 0, 1, 6,
 ];
 
-// The undo record of number 40, of key 6, whose slot 0 on page 2 of table 1 was absent. Behind it come
-// 72 zero bytes.
+// The undo record of number 40, of key 6, whose slot 0 on page 2 of table 1 was absent. Behind it
+// come 72 zero bytes.
 const UNDO_ON_NEXT: [u8; 48] = [
     1, 0, 0, 0, 0, 0, 0, 0, 2, 0, 2, // page 2 of space 0 is an undo page
     2, 0, 0, 0, 0, 0, 0, 0, 2, 0, 64, 0, 96, // on it, from 64 on, 96 bytes
@@ -97,7 +100,8 @@ const UNDO_ON_NEXT: [u8; 48] = [
     0, 0, 0, 0, 0, 0, 0, 6,
 ];
 
-// The count of undo records, and the row of key 6 with the value "hi". Behind it come 62 zero bytes.
+// The count of undo records, and the row of key 6 with the value "hi". Behind it come 62 zero
+// bytes.
 const ROW_ON_NEXT: [u8; 57] = [
     2, 0, 0, 0, 0, 0, 0, 0, 1, 0, 42, 0, 2, 0, 41, // the count is 41
     1, 0, 0, 0, 1, 0, 0, 0, 2, 0, 3, // page 2 of space 1 is a bucket page
@@ -111,8 +115,8 @@ const LEFT_1: [u8; 16] = [2, 0, 0, 0, 0, 0, 0, 0, 1, 0, 42, 0, 2, 0, 1, 6];
 
 const LEFT_0: [u8; 16] = [2, 0, 0, 0, 0, 0, 0, 0, 1, 0, 42, 0, 2, 0, 0, 6];
 
-/// A put of "hi" at key 7 in an undo page that is in use and a bucket page that isn't, its commit, and a
-/// transaction that begins where the pages of the first are in use.
+/// A put of "hi" at key 7 in an undo page that is in use and a bucket page that isn't, its commit,
+/// and a transaction that begins where the pages of the first are in use.
 pub const ONE_ROW: [&[u8]; 10] = [
     &OPENING,
     &CREATE,

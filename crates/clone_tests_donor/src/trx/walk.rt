@@ -70,8 +70,8 @@ fn below(words: &mut Pcg32, limit: u32) -> u32
     words.next_word() % limit
 }
 
-// In every other thousand of calls none commits, and most are of transaction 0, so that it comes to its
-// last change, and the others to the last number.
+// In every other thousand of calls none commits, and most are of transaction 0, so that it comes to
+// its last change, and the others to the last number.
 fn is_busy(call: u64) -> bool {
     call / 1000 % 2 == 1
 }
@@ -132,7 +132,8 @@ fn assert_same(rt: &impl Abort, found: &Binlog, expected: &Binlog) {
     }
 }
 
-// The words that this state and this stream give. (Its caller's proof then knows no number of theirs.)
+// The words that this state and this stream give. (Its caller's proof then knows no number of
+// theirs.)
 fn words_from(state: u64, stream: u64) -> Pcg32 {
     Pcg32::new(state, stream)
 }

@@ -22,9 +22,9 @@ use clone_undo::{change_records, first_change_records, record_page};
 use std::alloc::{AllocError, Global};
 
 impl Engine {
-    /// Gives a row its value and locks it. The causes for which it is refused, in their order: no such
-    /// transaction, a value above 64 bytes, no such table, 160 changes, the lock of another transaction, a
-    /// full bucket.
+    /// Gives a row its value and locks it. The causes for which it is refused, in their order: no
+    /// such transaction, a value above 64 bytes, no such table, 160 changes, the lock of another
+    /// transaction, a full bucket.
     pub fn put(
         &mut self,
         alloc: Global,
@@ -55,8 +55,8 @@ impl Engine {
         Ok(())
     }
 
-    /// Removes a row and locks it. An absent row may be removed. The causes are those of `put`, but for the
-    /// value.
+    /// Removes a row and locks it. An absent row may be removed. The causes are those of `put`, but
+    /// for the value.
     pub fn delete(
         &mut self,
         alloc: Global,
@@ -82,7 +82,8 @@ impl Engine {
         Ok(())
     }
 
-    // Makes a change at its place, against which there is no cause. After a refusal nothing has changed.
+    // Makes a change at its place, against which there is no cause. After a refusal nothing has
+    // changed.
     fn make_change(
         &mut self,
         alloc: Global,
@@ -115,8 +116,8 @@ impl Engine {
     }
 }
 
-// Writes a change to the log and the pages. The first record makes the page of the undo record, and is
-// left out where that page is in use.
+// Writes a change to the log and the pages. The first record makes the page of the undo record, and
+// is left out where that page is in use.
 fn write_change(
     store: &mut Store,
     alloc: Global,

@@ -12,8 +12,9 @@ use clone_undo::end_record;
 use std::alloc::Global;
 
 impl Engine {
-    /// Commits all changes of a transaction, which ends, and answers the new number of commits. Refused
-    /// where no open transaction has this number. The binlog has the room, which `begin` made.
+    /// Commits all changes of a transaction, which ends, and answers the new number of commits.
+    /// Refused where no open transaction has this number. The binlog has the room, which `begin`
+    /// made.
     pub fn commit(&mut self, alloc: Global, trx: u32) -> Result<u64, EngineRefusal>
         ensures answer { Decided (no_trx self.old.donor trx) None none_outside self.old.donor
             self.new.donor result (λ position. Commits self.old.donor trx position self.new.donor) }

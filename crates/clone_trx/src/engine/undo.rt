@@ -17,8 +17,9 @@ use clone_undo::{UndoRecord, end_record, last_record, record_page, take_back_rec
 use std::alloc::Global;
 
 impl Engine {
-    /// Takes the last change of a transaction back and answers how many are left. The locks stay. Where it
-    /// has no change, it ends without a commit. Refused where no open transaction has this number.
+    /// Takes the last change of a transaction back and answers how many are left. The locks stay.
+    /// Where it has no change, it ends without a commit. Refused where no open transaction has this
+    /// number.
     pub fn undo_one(&mut self, alloc: Global, trx: u32) -> Result<Undone, EngineRefusal>
         ensures answer { Decided (no_trx self.old.donor trx) None none_outside self.old.donor
             self.new.donor result (λ undone. Undoes self.old.donor trx undone self.new.donor) }

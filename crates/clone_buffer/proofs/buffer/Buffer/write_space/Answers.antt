@@ -9,7 +9,7 @@ append-requires-clause-shows c =
     let records = c.args.records.now in
     let pool = subst (λ (s : Buffered). IsPool s.pool) c.self.view_is c.laws.ensures in
     let buffer = subst IsBuffer c.self.view_is c.self.invariant in
-    λ t. shows_created c.args.self.now records pool (sym (ap (λ (n : ℕ). n + length (spelling records)) buffer.end)) c.requires.creates t (buffer.shows t)
+    λ t. shows_created c.args.self.now records pool (sym (ap (λ (n : ℕ). n + length (spelling records)) buffer.end)) (c.requires.creates t) t (buffer.shows t)
 
 pub returns-clause-stands : goal.returns-clause-stands
 returns-clause-stands c =
