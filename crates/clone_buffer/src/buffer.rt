@@ -1,23 +1,23 @@
-ghost use Rattle.std.specs.Prelude.{◌≡◌, ◌<◌, ◌≤◌, ◌+◌, ◌-◌, ◌^◌, ◌↔◌, ℕ, [], None, Some, IfOk, IfNone, IfSome, OnOk, OnErr, IfErr, IsSome, IsTrue, length, take, drop, replicate};
+ghost use Rattle.std.specs.Prelude.{◌≡◌, ◌<◌, ◌≤◌, ◌+◌, ◌-◌, ◌^◌, ◌↔◌, ℕ, true, [], None, Some, IfOk, IfNone, IfSome, OnOk, OnErr, IfErr, IsSome, IsTrue, length, take, drop, replicate};
 ghost use Rattle.std.specs.Option.{ForSome};
 ghost use Rattle.clone_outside.specs.Causes.{Rose};
 ghost use Rattle.clone_buffer.specs.Writing.{after_records, changed_at, named_frame};
 ghost use Rattle.std.specs.List.{AllByRecursion};
-ghost use Rattle.clone_buffer.specs.Flushing.{BeginKeeps, OpenKeeps, LandKeeps, RestLands, FailKeeps, CheckpointKeeps};
+ghost use Rattle.clone_buffer.specs.Flushing.{BeginKeeps, OpenKeeps, LandKeeps, RestLands, FailKeeps, CheckpointKeeps, with_change};
 ghost use Rattle.clone_mtr.specs.Records.{IsRecord};
 ghost use Rattle.clone_mtr.specs.Spelling.{spelling, Spells, longest, log_of};
 ghost use Rattle.clone_ring.specs.Window.{empty, end_of, free_in, raised};
 ghost use Rattle.clone_image.specs.Image.{page_of, EditsPages};
 ghost use Rattle.clone_image.specs.Replay.{Replays, IsSpelled};
-ghost use Rattle.clone_pool.specs.Frames.{no_frame, frame_at, holder, HoldsPage, page_changed, pinned, unpinned};
+ghost use Rattle.clone_pool.specs.Frames.{no_frame, frame_at, holder, HoldsPage, IsInFlight, is_waiting, page_changed, pinned, unpinned, begun, landed, failed};
 ghost use Rattle.clone_pool.specs.declared.frame.Content.TheVariants.{Held};
 ghost use Rattle.clone_pool.specs.declared.frame.PageName.{PageName};
-ghost use Rattle.clone_pool.specs.Pool.{IsPool, Fetches, Freshens, IsHolder, KeepsOthers, KeepsInUse, AreClean, IsOldest, HasPinRoom, with_frame};
+ghost use Rattle.clone_pool.specs.Pool.{IsPool, Fetches, Freshens, IsHolder, KeepsOthers, KeepsInUse, AreClean, IsOldest, HasPinRoom, with_frame, AreNotWaiting, IsNextToFlush};
 
 use clone_mtr::{LONGEST_MTR, Record, encode_into, spelling_length};
 use clone_outside::PageDisk;
 use clone_page::Page;
-use clone_pool::{FetchRefusal, PageName, Pool};
+use clone_pool::{FetchRefusal, Frame, PageName, Pool};
 use clone_ring::{LogFull, Ring};
 use clone_shadow::{Note, Shadow};
 use std::alloc::{AllocError, Global};
@@ -273,6 +273,53 @@ impl Buffer {
             return Err(LogFull { need, free });
         }
         Ok(())
+    }
+
+    /// How the page in a frame stands to the disk, with the page.
+    pub fn state(&self, at: u32) -> &Frame
+        requires { HoldsPage (frame_at self.now.pool.frames at) }
+        ensures { result.now ≡ frame_at self.now.pool.frames at }
+    {
+        self.pool.state(at)
+    }
+
+    /// A flush of a dirty page begins: what is changed from now on isn't in it.
+    pub fn begin_flush(&mut self, at: u32)
+        requires holds { HoldsPage (frame_at self.old.pool.frames at) }
+        requires waits { is_waiting (frame_at self.old.pool.frames at) ≡ true }
+        ensures { self.new ≡ with_change at begun self.old }
+    {
+        self.pool.begin_flush(at);
+    }
+
+    /// A flush ends, with the page on the disk as it was when the flush began. The page is dirty
+    /// from the first change after that, or clean where there was none.
+    pub fn land_flush(&mut self, at: u32)
+        requires holds { HoldsPage (frame_at self.old.pool.frames at) }
+        requires flight { IsInFlight (frame_at self.old.pool.frames at) }
+        ensures { self.new ≡ with_change at landed self.old }
+    {
+        self.pool.land_flush(at);
+    }
+
+    /// A flush ends in a failure. The page is dirty as before.
+    pub fn fail_flush(&mut self, at: u32)
+        requires holds { HoldsPage (frame_at self.old.pool.frames at) }
+        requires flight { IsInFlight (frame_at self.old.pool.frames at) }
+        ensures { self.new ≡ with_change at failed self.old }
+    {
+        self.pool.fail_flush(at);
+    }
+
+    /// The frame of the dirty page to be flushed next, or none where no dirty page waits for that.
+    /// Of those whose flush isn't under way it is the one with the least oldest change, and of
+    /// several with the same the first by space and page.
+    pub fn next_to_flush(&self) -> Option<u32>
+        ensures none { IfNone result (AreNotWaiting self.now.pool.frames) }
+        ensures some { IfSome result (IsNextToFlush self.now.pool.frames) }
+        ensures held { IfSome result (λ at. HoldsPage (frame_at self.now.pool.frames at)) }
+    {
+        self.pool.next_to_flush()
     }
 
     /// How many bytes the log may grow by before its floor rises.

@@ -92,6 +92,13 @@ impl Frame {
         self.oldest.is_some()
     }
 
+    /// Whether a flush of its page has begun, and has neither landed nor failed.
+    pub fn is_in_flight(&self) -> bool
+        ensures { result ≡ is_begun self.now.flush }
+    {
+        is_begun(self.flush)
+    }
+
     // Whether it may make place for another page.
     pub(crate) fn may_go(&self) -> bool
         ensures { result ≡ may_go self.now }

@@ -164,6 +164,14 @@ impl Pool {
         &self.frames[self.place(at)].page
     }
 
+    /// How the page in a frame stands to the disk, with the page.
+    pub fn state(&self, at: u32) -> &Frame
+        requires { HoldsPage (frame_at self.now.frames at) }
+        ensures { result.now ≡ frame_at self.now.frames at }
+    {
+        &self.frames[self.place(at)]
+    }
+
     /// Keeps the page in its frame until it is unpinned as often.
     pub fn pin(&mut self, at: u32)
         requires holds { HoldsPage (frame_at self.old.frames at) }
