@@ -24,7 +24,7 @@ use Rattle.clone_buffer.proofs.FrameLemmas.{holder_name, is_named, some_name, co
 use Rattle.clone_buffer.proofs.PageLemmas.{world}
 
 -- What holds of one page and of each other one holds of all.
-each : (page : PageName) (P : ℕ → ℕ → Type 0) → P page.space page.number → ((s n : ℕ) → (page ≡ record { space = s; number = n } → ⊥) → P s n) → (s n : ℕ) → P s n
+pub each : (page : PageName) (P : ℕ → ℕ → Type 0) → P page.space page.number → ((s n : ℕ) → (page ≡ record { space = s; number = n } → ⊥) → P s n) → (s n : ℕ) → P s n
 each page P this others s n = by (is_named (record { space = s; number = n }) (Some page))
   where
     by : (Some page ≡ Some (record { space = s; number = n })) ⊎ (Some page ≡ Some (record { space = s; number = n }) → ⊥) → P s n
@@ -34,10 +34,10 @@ each page P this others s n = by (is_named (record { space = s; number = n }) (S
     by (inr other) = others s n (λ same. other (ap Some same))
 
 -- the images of a page and of another one
-image_this : (page : PageName) (image : Option (List ℕ)) (flushes : Flushes) → (with_image page image flushes).image page.space page.number ≡ image
+pub image_this : (page : PageName) (image : Option (List ℕ)) (flushes : Flushes) → (with_image page image flushes).image page.space page.number ≡ image
 image_this page image flushes = ap (λ (b : Bool). if b then image else flushes.image page.space page.number) (is_own_name page)
 
-image_other : (page : PageName) (image : Option (List ℕ)) (flushes : Flushes) (s n : ℕ) → (page ≡ record { space = s; number = n } → ⊥) → (with_image page image flushes).image s n ≡ flushes.image s n
+pub image_other : (page : PageName) (image : Option (List ℕ)) (flushes : Flushes) (s n : ℕ) → (page ≡ record { space = s; number = n } → ⊥) → (with_image page image flushes).image s n ≡ flushes.image s n
 image_other page image flushes s n apart = by (is_name_of page (Some q)) refl
   where
     q : PageName
@@ -58,7 +58,7 @@ module _ (m : DiskImage) (page : PageName) (edit : Held → Held) where
   abbrev spaces : Option (List Held) → Spaces
   spaces o = disk.changed m.spaces page.space (disk.edited page.number edit) o
 
-  this_page : (held : Held) → disk.page_of m page.space page.number ≡ Some held → (disk.page_of after page.space page.number ≡ Some (edit held)) × (disk_standing after page.space page.number ≡ stands (edit held).bytes)
+  pub this_page : (held : Held) → disk.page_of m page.space page.number ≡ Some held → (disk.page_of after page.space page.number ≡ Some (edit held)) × (disk_standing after page.space page.number ≡ stands (edit held).bytes)
   this_page held is = by (finite.get m.spaces page.space) refl is
     where
       by : (o : Option (List Held)) → finite.get m.spaces page.space ≡ o → option_and_then (λ pages. slice_get pages page.number) o ≡ Some held → (disk.page_of after page.space page.number ≡ Some (edit held)) × (disk_standing after page.space page.number ≡ stands (edit held).bytes)
@@ -95,7 +95,7 @@ module _ (m : DiskImage) (page : PageName) (edit : Held → Held) where
           let same : finite.get after.spaces s ≡ finite.get m.spaces s = ap (λ (o : Option (List Held)). finite.get (spaces o) s) got ∙ get-put_other m.spaces page.space s (disk.edited page.number edit pages) apart in
           (ap (λ (o : Option (List Held)). option_and_then (λ ps. slice_get ps n) o) same, ap (λ (o : Option (List Held)). standing_in o n) same)
 
-  other_page : (s n : ℕ) → (page ≡ record { space = s; number = n } → ⊥) → IsSameOnDisk s n
+  pub other_page : (s n : ℕ) → (page ≡ record { space = s; number = n } → ⊥) → IsSameOnDisk s n
   other_page s n apart = by (cases_eq s page.space) (cases_eq n page.number)
     where
       by : (s ≡ page.space) ⊎ (s ≢ page.space) → (n ≡ page.number) ⊎ (n ≢ page.number) → IsSameOnDisk s n
