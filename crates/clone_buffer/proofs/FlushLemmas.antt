@@ -319,7 +319,7 @@ module _ (v : Buffered) (flushes : Flushes) (m : DiskImage) (lsn : ℕ) (k : IsK
           }
 
   -- a frame that is dirty has been so since a mini-transaction began
-  at_oldest : IsPool v.pool → (at : ℕ) → (frame_at v.pool.frames at).oldest ≡ Some lsn → IsAt lsn v.log
+  at_oldest : IsPool v.pool → (at : ℕ) → (frame_at v.pool.frames at).oldest ≡ Some lsn → AtMost flushes.checkpoint (Some lsn) v.log
   at_oldest p at is = by (name_of f) refl
     where
       f : Frame
@@ -328,7 +328,7 @@ module _ (v : Buffered) (flushes : Flushes) (m : DiskImage) (lsn : ℕ) (k : IsK
       dirty : is_dirty f ≡ true
       dirty = ap is_some is
 
-      by : (o : Option PageName) → name_of f ≡ o → IsAt lsn v.log
+      by : (o : Option PageName) → name_of f ≡ o → AtMost flushes.checkpoint (Some lsn) v.log
       by None none = absurd (true≢false (sym ((p.frame at).unused none).0 ∙ ap (λ (b : Bool). (f.pins == 0) && not b) dirty ∙ never (f.pins == 0)))
         where
           never : (b : Bool) → (b && false) ≡ false
@@ -336,11 +336,15 @@ module _ (v : Buffered) (flushes : Flushes) (m : DiskImage) (lsn : ℕ) (k : IsK
           never false = refl
       by (Some page) name =
           let had : IsKeptPage v.log flushes m page.space page.number (Some f) = subst (IsKeptPage v.log flushes m page.space page.number) (framed v page at p name dirty) (k.page page.space page.number) in
-          (subst (λ (o : Option ℕ). AtMost flushes.checkpoint o v.log) is had.rule.low).1
+          subst (λ (o : Option ℕ). AtMost flushes.checkpoint o v.log) is had.rule.low
 
 pub checkpoint_keeps : CheckpointKeeps
-checkpoint_keeps v flushes m lsn p (inl oldest) k = raised v flushes m lsn k (at_oldest v flushes m lsn k p oldest.at oldest.dirty) oldest.least
-checkpoint_keeps v flushes m lsn p (inr ended) k = raised v flushes m lsn k (subst (λ (x : ℕ). IsAt x v.log) (sym ended.1) (at_end v.log)) later
+checkpoint_keeps v flushes m lsn p (inl oldest) k =
+    let low = at_oldest v flushes m lsn k p oldest.at oldest.dirty in
+    (low.0, at_most lsn v.log low.1, raised v flushes m lsn k low.1 oldest.least)
+checkpoint_keeps v flushes m lsn p (inr ended) k =
+    let at : IsAt lsn v.log = subst (λ (x : ℕ). IsAt x v.log) (sym ended.1) (at_end v.log) in
+    (subst (λ (x : ℕ). flushes.checkpoint ≤ x) (sym ended.1) (at_most flushes.checkpoint v.log (k.page 0 0).rule.aligned), at_most lsn v.log at, raised v flushes m lsn k at later)
   where
     none : (o : Option ℕ) → is_some o ≡ false → lsn ≤ unwrap_or o lsn
     none None is = omega (arith)

@@ -1,5 +1,5 @@
 -- What a flush does to the page of one frame, and to what flushes keep beside a buffer.
-use Rattle.std.specs.Prelude.{ℕ, ◌≡◌, ◌⊎◌, true, false, List, take, None, Some, IsSome, if◌then◌else◌}
+use Rattle.std.specs.Prelude.{ℕ, ◌≡◌, ◌≤◌, ◌⊎◌, true, false, List, take, None, Some, IsSome, if◌then◌else◌}
 use Rattle.std.specs.declared.option.Option.{Option}
 use Rattle.clone_outside.specs.Disk as disk
 use Rattle.clone_outside.specs.Disk.{DiskImage}
@@ -83,8 +83,9 @@ FailKeeps =
 abbrev pub IsReached : Buffered → ℕ → Type 0
 IsReached v lsn = IsOldest v.pool.frames lsn ⊎ (AreClean v.pool.frames × (lsn ≡ ends v.log))
 
--- the checkpoint rises as far as all is on the disk
+-- the checkpoint rises as far as all is on the disk, at most to the log's end
 abbrev pub CheckpointKeeps : Type 0
 CheckpointKeeps =
     (v : Buffered) (flushes : Flushes) (m : DiskImage) (lsn : ℕ) → IsPool v.pool → IsReached v lsn
-    → IsKept v flushes m → IsKept v (record flushes { checkpoint = lsn }) m
+    → IsKept v flushes m → (flushes.checkpoint ≤ lsn) × (lsn ≤ ends v.log)
+    × IsKept v (record flushes { checkpoint = lsn }) m
