@@ -3,6 +3,7 @@ use Rattle.std.proofs.Common.{◌≡◌, ℕ, ◌+◌, List, [], Bool, true, fal
 use Rattle.clone_core.proofs.Common.{option_or, Entry, fold, page_of, HasRows, Cause, SpaceFull, EngineRefusal, Because, NoMemory, Donor, whether, Gets, Call, create, begin, put, delete, get, undo_one, commit, Done, did_get, did_begin, done, refused, call_of, cause_of, Does, index_in, counted, Adds, adds_none, made_adds, before_stop-longer, EngineState, below_cause, BindsKeys, EngineStep, State, EngineCalled, Called, Carries, IsCopy, stop_of, Copy}
 use Rattle.std.specs.FinMap as finite
 use Rattle.std.specs.Option.{ForSome}
+use Rattle.clone_plain.specs.Calls.{is_below}
 use Rattle.clone_plain.specs.Decided.{Decided, none_outside}
 
 -- ---- a call of the engine
@@ -30,7 +31,7 @@ not_none o c is none = let e = sym is ∙ none in cc
 
 refused_step : (e : EngineState) (call : Call) (cause : Cause) → (cause_of e.donor call ≡ Some cause) ⊎ ((cause_of e.donor call ≡ None) × (below_cause e call ≡ Some cause)) → EngineStep e (refused call cause) e
 refused_step e call cause (inl is) = record { plain = (inl is, refl); pages = (λ none. absurd (not_none _ cause is none), refl) }
-refused_step e call cause (inr is) = record { plain = (inr (is.0, below_is e call cause is.1), refl); pages = (λ none. is.1, refl) }
+refused_step e call cause (inr is) = record { plain = (inr (is.0, ap is_below (below_is e call cause is.1)), refl); pages = (λ none. is.1, refl) }
 
 decided_cause : (e : EngineState) (call : Call) (cause : Cause) → (option_or (cause_of e.donor call) (below_cause e call) ≡ Some cause) ⊎ ((option_or (cause_of e.donor call) (below_cause e call) ≡ None) × none_outside cause) → EngineStep e (refused call cause) e
 decided_cause e call cause (inl is) = refused_step e call cause (first_of_two _ _ cause is)

@@ -29,7 +29,7 @@ pub write_space-requires-clause-creates : goal.write_space-requires-clause-creat
 write_space-requires-clause-creates c =
     let v = c.args.buffer.now in
     let is : frames ≡ v.pool.frames = sym c.requires.frames in
-    record {
+    λ right. record {
       absent = λ _. ap (λ (log : List (List Record)). finite.get (replayed log) 3) c.requires.log ∙ get-empty nat_cmp 3;
       edits = (tt, tt);
       there = λ _. (subst IsSome (sym (page_of-made (image_of v) 3 1 0 (omega arith))) refl, tt);
