@@ -1,0 +1,124 @@
+-- What the calls of a flush do to a buffer, the writes under way, and the disk.
+use Rattle.std.specs.Prelude.{ℕ, ◌≡◌, ◌&&◌, nat_lt, nat_le, if◌then◌else◌, Bool, false, true, Some, Result, Ok, Err}
+use Rattle.std.specs.declared.option.Option.{Option}
+use Rattle.std.specs.FinMap as finite
+use Rattle.clone_outside.specs.Disk.{DiskImage, Opens, Steps, with_page, half_written, rest_written}
+use Rattle.clone_pool.specs.declared.frame.PageName.{PageName}
+use Rattle.clone_pool.specs.Frames.{frame_at, is_dirty, is_begun, IsInFlight, begun, failed, landed}
+use Rattle.clone_pool.specs.Pool.{IsHolder}
+use Rattle.clone_ring.specs.Window.{Window, end_of, raised}
+use Rattle.clone_buffer.specs.Buffered.{Buffered}
+use Rattle.clone_buffer.specs.Flushing.{with_change}
+use Rattle.clone_flush.specs.Flights.{Flights, write_of}
+use Rattle.clone_flush.specs.declared.flusher.PageWrite.{PageWrite}
+use Rattle.clone_flush.specs.declared.refusal.FlushRefusal.{FlushRefusal}
+use Rattle.clone_flush.specs.declared.refusal.FlushRefusal.TheVariants.{NotDirty, InFlight, NoFlush, DiskFault, NoMemory}
+
+-- a buffer, and the writes of its pages
+pub record State : Type 0 where
+  pub buffer : Buffered
+  pub flights : Flights
+
+-- the page has a frame with a change that isn't on the disk
+pub record HasDirty (page : PageName) (b : Buffered) (at : ℕ) : Type 0 where
+  pub holder : IsHolder page b.pool.frames at
+  pub dirty : is_dirty (frame_at b.pool.frames at) ≡ true
+
+-- the write of a page is under way
+abbrev pub with_write : PageName → PageWrite → Flights → Flights
+with_write page w f =
+    record f { writes = finite.insert f.writes (page.space, page.number) w }
+
+-- it isn't any more
+abbrev pub without_write : PageName → Flights → Flights
+without_write page f = record f { writes = finite.remove f.writes (page.space, page.number) }
+
+-- the image is the page as it is in the frame, and nothing of it is written
+abbrev pub new_write : ℕ → Buffered → PageWrite
+new_write at b = record { image = (frame_at b.pool.frames at).page; halved = false }
+
+-- A page that isn't dirty is refused first, and then one whose flush has begun.
+abbrev pub RefusesBegin : FlushRefusal → PageName → State → State → Type 0
+RefusesBegin NotDirty page old new =
+    ((at : ℕ) → HasDirty page old.buffer at → ⊥) × (new ≡ old)
+RefusesBegin InFlight page old new =
+    (at : ℕ) × HasDirty page old.buffer at × IsInFlight (frame_at old.buffer.pool.frames at)
+    × (new ≡ old)
+RefusesBegin NoFlush page old new = ⊥
+RefusesBegin DiskFault page old new = ⊥
+RefusesBegin NoMemory page old new = new ≡ old
+
+-- A FLUSH BEGINS, with the page as it is.
+abbrev pub Begins : {X : Type 0} → PageName → State → State → Result X FlushRefusal → Type 0
+Begins page old new (Ok _) =
+    (at : ℕ) × HasDirty page old.buffer at
+    × (is_begun (frame_at old.buffer.pool.frames at).flush ≡ false)
+    × (new ≡ record {
+      buffer = with_change at begun old.buffer;
+      flights = with_write page (new_write at old.buffer) old.flights;
+    })
+Begins page old new (Err refusal) = RefusesBegin refusal page old new
+
+-- a flush of the page is under way, and its first half is written or not
+pub record IsUnderWay (page : PageName) (halved : Bool) (old : State) (w : PageWrite)
+    (at : ℕ) : Type 0 where
+  pub write : write_of old.flights page ≡ Some w
+  pub halved_is : w.halved ≡ halved
+  pub holder : IsHolder page old.buffer.pool.frames at
+  pub flight : IsInFlight (frame_at old.buffer.pool.frames at)
+
+-- the flush of the page fails
+abbrev pub after_failure : PageName → ℕ → State → State
+after_failure page at old = record {
+  buffer = with_change at failed old.buffer;
+  flights = without_write page old.flights;
+}
+
+-- A half of the image is written, after which the state is this, and the disk's page that. It is refused where no flush of the page is under way, or its first half is written already, or isn't yet. After a fault of the disk the flush has failed, and the page's write is open.
+abbrev pub WritesHalf : {X : Type 0} → PageName → Bool → State → State → Option DiskImage
+    → Option DiskImage → Result X FlushRefusal → (ℕ → PageWrite → State)
+    → (PageWrite → DiskImage → DiskImage) → Type 0
+WritesHalf page halved old new before after (Ok _) state disk =
+    (w : PageWrite) × (at : ℕ) × IsUnderWay page halved old w at × (new ≡ state at w)
+    × Steps before after (disk w)
+WritesHalf page halved old new before after (Err NoFlush) state disk =
+    ((w : PageWrite) (at : ℕ) → IsUnderWay page halved old w at → ⊥)
+    × (new ≡ old) × (after ≡ before)
+WritesHalf page halved old new before after (Err DiskFault) state disk =
+    (w : PageWrite) × (at : ℕ) × IsUnderWay page halved old w at
+    × (new ≡ after_failure page at old) × Opens page.space page.number before after
+WritesHalf page halved old new before after (Err NoMemory) state disk =
+    (new ≡ old) × (after ≡ before)
+WritesHalf page halved old new before after (Err NotDirty) state disk = ⊥
+WritesHalf page halved old new before after (Err InFlight) state disk = ⊥
+
+-- THE FIRST HALF
+abbrev pub Halves : {X : Type 0} → PageName → State → State → Option DiskImage → Option DiskImage
+    → Result X FlushRefusal → Type 0
+Halves page old new before after result =
+    WritesHalf page false old new before after result
+    (λ at w. record old { flights = with_write page (record w { halved = true }) old.flights })
+    (λ w m. with_page m page.space page.number (half_written w.image))
+
+-- THE SECOND. The page is clean then, or dirty from its first change after the flush began.
+abbrev pub Lands : {X : Type 0} → PageName → State → State → Option DiskImage → Option DiskImage
+    → Result X FlushRefusal → Type 0
+Lands page old new before after result =
+    WritesHalf page true old new before after result
+    (λ at w. record {
+      buffer = with_change at landed old.buffer;
+      flights = without_write page old.flights;
+    })
+    (λ w m. with_page m page.space page.number (rest_written w.image))
+
+-- the log goes below an LSN that is above its floor, and within it
+abbrev pub floored : ℕ → Window → Window
+floored lsn ring =
+    if nat_lt ring.floor lsn && nat_le lsn (end_of ring) then raised lsn ring else ring
+
+-- A CHECKPOINT at an LSN. The log below it goes.
+abbrev pub checked : ℕ → State → State
+checked lsn old = record {
+  buffer = record old.buffer { ring = floored lsn old.buffer.ring };
+  flights = record old.flights { checkpoint = lsn };
+}

@@ -1,0 +1,345 @@
+//! The writes of pages that are under way. A page's write is kept here exactly while its frame's flush has begun.
+ghost use Rattle.std.specs.Prelude.{ℕ, ◌≡◌, Err, IfErr, IfNone, IfOk, IfSome, IsSome, OnErr, OnOk, Some, false, option_copied, true};
+ghost use Rattle.std.specs.FinMap as finite;
+ghost use Rattle.clone_outside.specs.Causes.{Rose};
+ghost use Rattle.clone_outside.specs.Disk.{DiskImage, ForTold, Opens, page_of};
+ghost use Rattle.clone_image.specs.Replay.{first_lsn};
+ghost use Rattle.std.specs.declared.option.Option.{Option};
+ghost use Rattle.clone_pool.specs.Frames.{frame_at, name_of, IsInFlight, is_begun};
+ghost use Rattle.clone_pool.specs.Pool.{AreNotWaiting, IsHolder, IsNextToFlush};
+ghost use Rattle.clone_pool.specs.declared.frame.PageName.{PageName};
+ghost use Rattle.clone_buffer.specs.Flushing.{IsReached};
+ghost use Rattle.clone_flush.specs.Calls.{HasDirty, Begins, RefusesBegin, Halves, Lands, IsUnderWay, after_failure, checked, floored, with_write, without_write};
+ghost use Rattle.clone_flush.specs.Flights.{Flights, StandsFlown, write_of, writes_of};
+ghost use Rattle.clone_flush.specs.declared.flusher.PageWrite.{PageWrite};
+
+use crate::FlushRefusal;
+use clone_base::FIRST_LSN;
+use clone_buffer::Buffer;
+use clone_outside::{PageDisk, Refusal};
+use clone_page::Page;
+use std::alloc::{AllocError, Global};
+use std::collections::BTreeMap;
+use std::marker::Model;
+
+/// A page on its way to the disk.
+#[derive(Drop)]
+pub struct PageWrite {
+    /// The page as it was when its flush began.
+    pub image: Page,
+    /// Whether its first half is written.
+    pub halved: bool,
+}
+
+/// The pages on their way to the disk, each as it was when its flush began, and the last checkpoint.
+#[derive(Drop)]
+pub struct Flusher {
+    writes: BTreeMap<(u32, u32), PageWrite>,
+    checkpoint: u64,
+}
+
+impl Model for Flusher {
+    ghost use Rattle.clone_flush.specs.Flights.{Flights, flights_code, writes_of};
+
+    ghost Value = { Flights };
+
+    ghost coded = { flights_code };
+
+    ghost view = { λ f. record {
+      writes = writes_of f.writes.entries;
+      checkpoint = f.checkpoint;
+    } };
+}
+
+impl Flusher {
+    /// No page is on its way, and the checkpoint is where a log begins.
+    pub fn new(alloc: Global) -> Flusher
+        ensures writes { result.writes ≡ finite.empty }
+        ensures checkpoint { result.checkpoint ≡ first_lsn }
+    {
+        Flusher {
+            writes: BTreeMap::new(alloc),
+            checkpoint: FIRST_LSN,
+        }
+    }
+
+    /// The LSN of the last checkpoint.
+    pub fn last_checkpoint(&self) -> u64
+        ensures { result ≡ self.now.checkpoint }
+    {
+        self.checkpoint
+    }
+
+    /// The flush of a page begins: its image is what will be written. Refused where the page isn't dirty,
+    /// and where a flush of it has begun. This takes memory for the image.
+    pub fn begin(
+        &mut self,
+        buffer: &mut Buffer,
+        space: u32,
+        number: u32,
+    ) -> Result<(), FlushRefusal>
+        ensures begins { Begins (record { space = space; number = number })
+            (record { buffer = buffer.old; flights = self.old })
+            (record { buffer = buffer.new; flights = self.new }) result }
+        ensures stands { (told : Option DiskImage) → StandsFlown buffer.old self.old told
+            → ForTold told (λ m. IsSome (page_of m space number))
+            → StandsFlown buffer.new self.new told }
+    {
+        let at = waiting(buffer, space, number)?;
+        let write = PageWrite {
+            image: Page::from_bytes(buffer.frame(at).bytes()),
+            halved: false,
+        };
+        self.keep(space, number, write)?;
+        buffer.laws();
+        buffer.begin_flush(at);
+        buffer.laws();
+        Ok(())
+    }
+
+    // The write of a page is under way.
+    fn keep(&mut self, space: u32, number: u32, write: PageWrite) -> Result<(), AllocError>
+        ensures ok { OnOk result (self.new
+            ≡ with_write (record { space = space; number = number }) write self.old) }
+        ensures err { OnErr result (self.new ≡ self.old) }
+    {
+        self.writes.insert((space, number), write)?;
+        Ok(())
+    }
+
+    // The write of a page is under way no more.
+    fn forget(&mut self, space: u32, number: u32)
+        ensures { self.new ≡ without_write (record { space = space; number = number }) self.old }
+    {
+        let _ = self.writes.remove(&(space, number));
+    }
+
+    // The write of a page that is under way, if there is one.
+    fn write_at(&self, space: u32, number: u32) -> Option<&PageWrite>
+        ensures { option_copied result
+            ≡ write_of self.now (record { space = space; number = number }) }
+    {
+        self.writes.get(&(space, number))
+    }
+
+    // The first half of a page is written.
+    fn halve(&mut self, space: u32, number: u32)
+        ensures { (w : PageWrite)
+            → write_of self.old (record { space = space; number = number }) ≡ Some w
+            → self.new ≡ with_write (record { space = space; number = number })
+            (record w { halved = true }) self.old }
+    {
+        halve_in(&mut self.writes, space, number);
+    }
+
+    // The frame of a page whose flush is under way, with its first half written or not.
+    fn under_way(
+        &self,
+        buffer: &Buffer,
+        space: u32,
+        number: u32,
+        halved: bool,
+    ) -> Result<u32, FlushRefusal>
+        ensures ok { IfOk result (λ at. (w : PageWrite) × IsUnderWay
+            (record { space = space; number = number }) halved
+            (record { buffer = buffer.now; flights = self.now }) w at) }
+        ensures refused { IfErr result (λ refusal. (refusal ≡ FlushRefusal.NoFlush)
+            × ((w : PageWrite) (at : ℕ) → IsUnderWay (record { space = space; number = number })
+            halved (record { buffer = buffer.now; flights = self.now }) w at → ⊥)) }
+    {
+        match self.write_at(space, number) {
+            Some(write) if write.halved == halved => {}
+            _ => return Err(FlushRefusal::NoFlush),
+        }
+        match buffer.find(space, number) {
+            Some(at) if buffer.state(at).is_in_flight() => Ok(at),
+            _ => Err(FlushRefusal::NoFlush),
+        }
+    }
+
+    // The disk failed to write a half of a page whose flush is under way.
+    fn fail(&mut self, buffer: &mut Buffer, space: u32, number: u32, at: u32)
+        requires holder { IsHolder (record { space = space; number = number })
+            buffer.old.pool.frames at }
+        requires flight { IsInFlight (frame_at buffer.old.pool.frames at) }
+        requires write { IsSome
+            (write_of self.old (record { space = space; number = number })) }
+        ensures failed { record { buffer = buffer.new; flights = self.new } ≡ after_failure
+            (record { space = space; number = number }) at
+            (record { buffer = buffer.old; flights = self.old }) }
+        ensures stands { (before after : Option DiskImage) → Opens space number before after
+            → StandsFlown buffer.old self.old before → StandsFlown buffer.new self.new after }
+    {
+        buffer.laws();
+        self.forget(space, number);
+        buffer.fail_flush(at);
+        buffer.laws();
+    }
+
+    /// Writes the first half of an image. Refused where no flush of the page is under way, and
+    /// where its first half is written. Where the disk fails, the flush has failed: the page is
+    /// dirty as before, and its write open until a later flush of it lands.
+    pub fn half<D: PageDisk>(
+        &mut self,
+        buffer: &mut Buffer,
+        space: u32,
+        number: u32,
+        disk: &mut D,
+    ) -> Result<(), FlushRefusal>
+        ensures halves { Halves (record { space = space; number = number })
+            (record { buffer = buffer.old; flights = self.old })
+            (record { buffer = buffer.new; flights = self.new })
+            (D.told disk.old) (D.told disk.new) result }
+        ensures fault { result ≡ Err FlushRefusal.DiskFault
+            → Rose (D.failures disk.old) (D.failures disk.new) }
+        ensures stands { StandsFlown buffer.old self.old (D.told disk.old)
+            → StandsFlown buffer.new self.new (D.told disk.new) }
+    {
+        buffer.laws();
+        let at = self.under_way(buffer, space, number, false)?;
+        let Some(write) = self.write_at(space, number) else {
+            unreachable!();
+        };
+        match disk.write_half(space, number, write.image.bytes()) {
+            Ok(()) => {
+                self.halve(space, number);
+                Ok(())
+            }
+            Err(Refusal::Fault) => {
+                self.fail(buffer, space, number, at);
+                Err(FlushRefusal::DiskFault)
+            }
+            Err(Refusal::NoMemory) => Err(FlushRefusal::NoMemory),
+        }
+    }
+
+    /// Writes the second half of an image. The disk has the page then as it was when the flush
+    /// began, and the page is clean, or dirty from its first change after that. Refused where no
+    /// flush of the page has its first half written. Where the disk fails, the flush has failed, as
+    /// with the first half.
+    pub fn land<D: PageDisk>(
+        &mut self,
+        buffer: &mut Buffer,
+        space: u32,
+        number: u32,
+        disk: &mut D,
+    ) -> Result<(), FlushRefusal>
+        ensures lands { Lands (record { space = space; number = number })
+            (record { buffer = buffer.old; flights = self.old })
+            (record { buffer = buffer.new; flights = self.new })
+            (D.told disk.old) (D.told disk.new) result }
+        ensures image { OnOk result (StandsFlown buffer.old self.old (D.told disk.old)
+            → ForTold (D.told disk.new) (λ m. (w : PageWrite)
+            → write_of self.old (record { space = space; number = number }) ≡ Some w
+            → page_of m space number ≡ Some (record { bytes = w.image; writing = false }))) }
+        ensures fault { result ≡ Err FlushRefusal.DiskFault
+            → Rose (D.failures disk.old) (D.failures disk.new) }
+        ensures stands { StandsFlown buffer.old self.old (D.told disk.old)
+            → StandsFlown buffer.new self.new (D.told disk.new) }
+    {
+        buffer.laws();
+        let at = self.under_way(buffer, space, number, true)?;
+        let Some(write) = self.write_at(space, number) else {
+            unreachable!();
+        };
+        match disk.write_rest(space, number, write.image.bytes()) {
+            Ok(()) => {
+                self.forget(space, number);
+                buffer.land_flush(at);
+                buffer.laws();
+                Ok(())
+            }
+            Err(Refusal::Fault) => {
+                self.fail(buffer, space, number, at);
+                Err(FlushRefusal::DiskFault)
+            }
+            Err(Refusal::NoMemory) => Err(FlushRefusal::NoMemory),
+        }
+    }
+
+    /// The dirty page to be flushed next, by its space and its number, or none where no dirty page waits
+    /// for that. Of those whose flush isn't under way it is the one with the least oldest change, and of
+    /// several with the same the first by space and page.
+    pub fn oldest_dirty(&self, buffer: &Buffer) -> Option<(u32, u32)>
+        ensures none { IfNone result (AreNotWaiting buffer.now.pool.frames) }
+        ensures some { IfSome result (λ page. (at : ℕ) × IsNextToFlush buffer.now.pool.frames at
+            × (name_of (frame_at buffer.now.pool.frames at)
+            ≡ Some (record { space = page.0; number = page.1 }))) }
+    {
+        let at = buffer.next_to_flush()?;
+        let name = buffer.state(at).name()?;
+        let _ = &self.writes;
+        Some((name.space, name.number))
+    }
+
+    /// A checkpoint: the LSN at which the oldest change begins that isn't on the disk, or the log's end
+    /// where no page is dirty. The log below it may go.
+    pub fn checkpoint(&mut self, buffer: &mut Buffer) -> u64
+        ensures reached { IsReached buffer.old result }
+        ensures checked { record { buffer = buffer.new; flights = self.new } ≡ checked result
+            (record { buffer = buffer.old; flights = self.old }) }
+        ensures floor { (told : Option DiskImage) → StandsFlown buffer.old self.old told
+            → ForTold told (λ m. buffer.new.ring.floor ≡ result) }
+        ensures stands { (told : Option DiskImage) → StandsFlown buffer.old self.old told
+            → StandsFlown buffer.new self.new told }
+    {
+        buffer.laws();
+        let lsn = reached(buffer);
+        let_go(buffer, lsn);
+        self.checkpoint = lsn;
+        lsn
+    }
+}
+
+// The first half of a page is written, where its write is under way.
+fn halve_in(writes: &mut BTreeMap<(u32, u32), PageWrite>, space: u32, number: u32)
+    ensures { (w : PageWrite) → finite.get (writes_of writes.old.entries) (space, number) ≡ Some w
+        → writes_of writes.new.entries ≡ finite.insert (writes_of writes.old.entries)
+        (space, number) (record w { halved = true }) }
+{
+    if let Some(write) = writes.get_mut(&(space, number)) {
+        write.halved = true;
+    }
+}
+
+// The LSN at which the oldest change begins that isn't on the disk, or the log's end.
+fn reached(buffer: &Buffer) -> u64
+    ensures { IsReached buffer.now result }
+{
+    buffer.laws();
+    match buffer.oldest() {
+        Some(oldest) => oldest,
+        None => buffer.end(),
+    }
+}
+
+// The log below an LSN goes, where that is above its floor and within it.
+fn let_go(buffer: &mut Buffer, lsn: u64)
+    ensures { buffer.new ≡ record buffer.old { ring = floored lsn buffer.old.ring } }
+{
+    if buffer.floor() < lsn && lsn <= buffer.end() {
+        buffer.raise_floor(lsn);
+    }
+}
+
+// The frame of a dirty page that waits for its flush.
+fn waiting(buffer: &Buffer, space: u32, number: u32) -> Result<u32, FlushRefusal>
+    ensures ok { IfOk result (λ at. HasDirty (record { space = space; number = number })
+        buffer.now at × (is_begun (frame_at buffer.now.pool.frames at).flush ≡ false)) }
+    ensures refused { IfErr result (λ refusal. (f : Flights) → RefusesBegin refusal
+        (record { space = space; number = number })
+        (record { buffer = buffer.now; flights = f })
+        (record { buffer = buffer.now; flights = f })) }
+{
+    let Some(at) = buffer.find(space, number) else {
+        return Err(FlushRefusal::NotDirty);
+    };
+    let frame = buffer.state(at);
+    if !frame.is_dirty() {
+        return Err(FlushRefusal::NotDirty);
+    }
+    if frame.is_in_flight() {
+        return Err(FlushRefusal::InFlight);
+    }
+    Ok(at)
+}

@@ -1,0 +1,8 @@
+//! Pages are flushed in halves, and checkpoints are taken.
+#![tactic(auto)]
+
+mod flusher;
+mod refusal;
+
+pub use flusher::Flusher;
+pub use refusal::FlushRefusal;
