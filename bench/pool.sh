@@ -40,7 +40,7 @@ fn main(rt: HostRuntime) -> ExitCode {
     };
     let done = match &way {
         Some(way) if way.as_str() == "made" => filled(alloc, frames, dirty).map(|_| ()),
-        Some(way) if way.as_str() == "pool" => Pool::new(alloc, u32::from(frames)).ok().map(|_| ()),
+        Some(way) if way.as_str() == "read" => read(alloc, frames),
         Some(way) if way.as_str() == "hit" => fetches(alloc, frames, dirty, 0, frames, 2_000_000),
         Some(way) if way.as_str() == "miss" => misses(alloc, frames, dirty),
         Some(way) if way.as_str() == "pages" => copies(alloc, frames, 0),
@@ -74,6 +74,18 @@ fn filled(alloc: Global, frames: u16, dirty: bool) -> Option<(Pool, MemDisk)> {
         }
     }
     Some((pool, disk))
+}
+
+// The disk of such a pool, with each of its pages read once.
+fn read(alloc: Global, frames: u16) -> Option<()> {
+    let frames = u32::from(frames);
+    let mut disk = MemDisk::new(alloc);
+    disk.create(0, 3 * frames).ok()?;
+    let mut page = Page::zero();
+    for number in 0..frames {
+        disk.read_page(0, number, page.bytes_mut()).ok()?;
+    }
+    Some(())
 }
 
 fn fetches(alloc: Global, frames: u16, dirty: bool, from: u16, until: u16, count: u32) -> Option<()> {
@@ -206,11 +218,12 @@ print(f"change of 80 bytes: {change:.1f} ns")
 megabytes = 400_000 * 2 * 1024 / 1e6
 for way, without in (("ring", "no_ring"), ("row", "no_row")):
     print(f"{way:>7} {megabytes / beyond(seconds(without), way):>8.0f} MB/second")
-full, none = (min(run("pool", frames)[1] for _ in range(5)) for frames in ("4096", "0"))
+full, none = (min(run(*words)[1] for _ in range(5)) for words in (("made", "4096", "dirty"), ("read", "4096")))
 beside = full - none - 16 * 1024
 print(f"4,096 frames: {beside} KiB beside 16 MiB")
-print(f"    measured as the most resident memory (ru_maxrss of wait4) of a run that makes such a pool, {full} KiB,")
-print(f"    less that of a run that makes one without frames, {none} KiB: the least of five runs each")
+print(f"    measured as the most resident memory (ru_maxrss of wait4) of a run that fetches and changes a page in")
+print(f"    each frame, {full} KiB, less that of a run that reads the same pages of the same disk into one,")
+print(f"    {none} KiB: the least of five runs each")
 if beside > 1024:
     sys.exit("more than 1 MiB beside the pages")
 PYTHON

@@ -74,7 +74,9 @@ after_failure page at old = record {
   flights = without_write page old.flights;
 }
 
--- A half of the image is written, after which the state is this, and the disk's page that. It is refused where no flush of the page is under way, or its first half is written already, or isn't yet. After a fault of the disk the flush has failed, and the page's write is open.
+-- A half of the image is written, after which the state is this, and the disk's page that. It is
+-- refused where no flush of the page is under way, or its first half is written already, or isn't
+-- yet. After a fault of the disk the flush has failed, and the page's write is open.
 abbrev pub WritesHalf : {X : Type 0} → PageName → Bool → State → State → Option DiskImage
     → Option DiskImage → Result X FlushRefusal → (ℕ → PageWrite → State)
     → (PageWrite → DiskImage → DiskImage) → Type 0

@@ -1,4 +1,5 @@
-//! The writes of pages that are under way. A page's write is kept here exactly while its frame's flush has begun.
+//! The writes of pages that are under way. A page's write is kept here exactly while its frame's
+//! flush has begun.
 ghost use Rattle.std.specs.Prelude.{ℕ, ◌≡◌, Err, IfErr, IfNone, IfOk, IfSome, IsSome, OnErr, OnOk, Some, false, option_copied, true};
 ghost use Rattle.std.specs.FinMap as finite;
 ghost use Rattle.clone_outside.specs.Causes.{Rose};
@@ -31,7 +32,8 @@ pub struct PageWrite {
     pub halved: bool,
 }
 
-/// The pages on their way to the disk, each as it was when its flush began, and the last checkpoint.
+/// The pages on their way to the disk, each as it was when its flush began, and the last
+/// checkpoint.
 #[derive(Drop)]
 pub struct Flusher {
     writes: BTreeMap<(u32, u32), PageWrite>,
@@ -70,8 +72,8 @@ impl Flusher {
         self.checkpoint
     }
 
-    /// The flush of a page begins: its image is what will be written. Refused where the page isn't dirty,
-    /// and where a flush of it has begun. This takes memory for the image.
+    /// The flush of a page begins: its image is what will be written. Refused where the page isn't
+    /// dirty, and where a flush of it has begun. This takes memory for the image.
     pub fn begin(
         &mut self,
         buffer: &mut Buffer,
@@ -257,9 +259,9 @@ impl Flusher {
         }
     }
 
-    /// The dirty page to be flushed next, by its space and its number, or none where no dirty page waits
-    /// for that. Of those whose flush isn't under way it is the one with the least oldest change, and of
-    /// several with the same the first by space and page.
+    /// The dirty page to be flushed next, by its space and its number, or none where no dirty page
+    /// waits for that. Of those whose flush isn't under way it is the one with the least oldest
+    /// change, and of several with the same the first by space and page.
     pub fn oldest_dirty(&self, buffer: &Buffer) -> Option<(u32, u32)>
         ensures none { IfNone result (AreNotWaiting buffer.now.pool.frames) }
         ensures some { IfSome result (λ page. (at : ℕ) × IsNextToFlush buffer.now.pool.frames at
@@ -272,8 +274,8 @@ impl Flusher {
         Some((name.space, name.number))
     }
 
-    /// A checkpoint: the LSN at which the oldest change begins that isn't on the disk, or the log's end
-    /// where no page is dirty. The log below it may go.
+    /// A checkpoint: the LSN at which the oldest change begins that isn't on the disk, or the log's
+    /// end where no page is dirty. The log below it may go.
     pub fn checkpoint(&mut self, buffer: &mut Buffer) -> u64
         ensures reached { IsReached buffer.old result }
         ensures checked { record { buffer = buffer.new; flights = self.new } ≡ checked result
