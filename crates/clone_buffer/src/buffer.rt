@@ -109,6 +109,7 @@ impl Buffer {
         ensures refused { OnErr result (self.new.right ≡ self.old.right) }
         ensures fault { result ≡ Err FetchRefusal.DiskFault
             → Rose (D.failures disk.old) (D.failures disk.new) }
+        ensures later { D.failures disk.old ≤ D.failures disk.new }
         ensures disk { D.told disk.new ≡ D.told disk.old }
         ensures stands { (flushes : Flushes) → Stands self.old flushes (D.told disk.old)
             → Stands self.new flushes (D.told disk.new) }

@@ -1,4 +1,4 @@
-ghost use Rattle.std.specs.Prelude.{◌≡◌, ◌<◌, ◌-◌, ◌^◌, ℕ, None, true, false, IfOk, IfErr, IfNone, IfSome, OnOk, OnErr, length, replicate, slice_set};
+ghost use Rattle.std.specs.Prelude.{◌≡◌, ◌<◌, ◌≤◌, ◌-◌, ◌^◌, ℕ, None, true, false, IfOk, IfErr, IfNone, IfSome, OnOk, OnErr, length, replicate, slice_set};
 ghost use Rattle.std.specs.Option.{ForSome};
 ghost use Rattle.clone_outside.specs.Causes.{Rose};
 ghost use Rattle.clone_outside.specs.Disk.{ForTold, GivesQuiet};
@@ -84,6 +84,7 @@ impl Pool {
         ensures kept { KeepsInUse self.old.frames self.new.frames }
         ensures fault { result ≡ Err FetchRefusal.DiskFault
             → Rose (D.failures disk.old) (D.failures disk.new) }
+        ensures later { D.failures disk.old ≤ D.failures disk.new }
         ensures disk { D.told disk.new ≡ D.told disk.old }
         ensures read { IfOk result
             (λ at. holder self.old.frames (record { space = space; number = page }) ≡ None
@@ -341,6 +342,7 @@ impl Pool {
         ensures err { IfErr result
             (λ e. (e ≡ FetchRefusal.DiskFault) × Empties at self.old self.new) }
         ensures fault { OnErr result (Rose (D.failures disk.old) (D.failures disk.new)) }
+        ensures later { D.failures disk.old ≤ D.failures disk.new }
         ensures disk { D.told disk.new ≡ D.told disk.old }
         ensures read { OnOk result
             (ForTold (D.told disk.old)
@@ -369,6 +371,7 @@ fn read_into<D: PageDisk>(
     ensures err { IfErr result
         (λ e. (e ≡ FetchRefusal.DiskFault) × (frame.new ≡ emptied frame.new.page frame.old)) }
     ensures fault { OnErr result (Rose (D.failures disk.old) (D.failures disk.new)) }
+    ensures later { D.failures disk.old ≤ D.failures disk.new }
     ensures disk { D.told disk.new ≡ D.told disk.old }
     ensures read { OnOk result
         (ForTold (D.told disk.old) (λ m. GivesQuiet m name.space name.number frame.new.page)) }

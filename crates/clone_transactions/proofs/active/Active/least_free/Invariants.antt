@@ -1,0 +1,10 @@
+use Rattle.std.proofs.Common.{◌≡◌, ◌-◌, not, find}
+use Rattle.clone_transactions.proofs.Common.{range_with_len, TRANSACTION_LIMIT}
+use Rattle.std.specs.FinMap as finite
+use Rattle.clone_transactions.proofs.active.Active.least_free.Given as goal
+
+-- no number before this one is free
+abbrev pub invariant-loop-trx : goal.invariant-loop-trx
+invariant-loop-trx l =
+    find (λ trx. not (finite.contains_key l.self trx)) (range_with_len 0 TRANSACTION_LIMIT)
+    ≡ find (λ trx. not (finite.contains_key l.self trx)) (range_with_len l.trx-counter (TRANSACTION_LIMIT - l.trx-counter))

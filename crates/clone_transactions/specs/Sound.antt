@@ -1,0 +1,97 @@
+-- How the contents of an engine's image keep what the plain donor is. No byte is mentioned.
+use Rattle.std.specs.Prelude.{ℕ, ◌≡◌, ◌≢◌, ◌<◌, ◌≤◌, ◌%◌, List, [], ◌∷◌, length, None, Some, IsSome, MatchOption}
+use Rattle.std.specs.declared.option.Option.{Option}
+use Rattle.std.specs.FinMap as finite
+use Rattle.clone_base.specs.declared.limits.TheConstants.{TRANSACTION_LIMIT, TABLE_LIMIT}
+use Rattle.clone_model.specs.History.{Rows, after_change}
+use Rattle.clone_model.specs.declared.change.Change.{Change}
+use Rattle.clone_model.specs.declared.change.Commit.{Commit}
+use Rattle.clone_model.specs.declared.line.TheConstants.{HIGHEST_TABLE, MOST_BUCKETS}
+use Rattle.clone_row.specs.Slots.{Slot, row_slot, bound_key, unused}
+use Rattle.clone_undo.specs.Entries.{UndoEntry, IsEntry}
+use Rattle.clone_undo.specs.Slots.{UndoSlot}
+use Rattle.clone_image.specs.Image.{Image}
+use Rattle.clone_contents.specs.Contents.{Contents, contents_of, told_value}
+use Rattle.clone_contents.specs.Formed.{IsFormed}
+use Rattle.clone_plain.specs.Donor.{Donor}
+use Rattle.clone_plain.specs.Locked.{IsLocked, committed_rows, value_of}
+
+-- from a table, a page and a place to the slot there
+abbrev pub Slots : Type 0
+Slots = ℕ → ℕ → ℕ → Slot
+
+-- the slot at a place is bound to a key
+abbrev pub IsBound : Slots → ℕ → ℕ → ℕ → ℕ → Type 0
+IsBound slot table page place key = bound_key (slot table page place) ≡ Some key
+
+-- Each table stands in one entry of the dictionary and has a space with a page for each bucket, and
+-- there are no others. The entries that are used are the first ones.
+pub record HoldsTables (d : Donor) (named : ℕ → ℕ) (size : ℕ → Option ℕ) : Type 0 where
+  pub sizes : (table count : ℕ) → finite.get d.tables table ≡ Some count → (size table ≡ Some count)
+      × (1 ≤ table) × (table ≤ HIGHEST_TABLE) × (1 ≤ count) × (count ≤ MOST_BUCKETS)
+  pub spaces : (table : ℕ) → table ≢ 0 → finite.get d.tables table ≡ None → size table ≡ None
+  pub listed : (table : ℕ) → IsSome (finite.get d.tables table) → (j : ℕ) × (named j ≡ table)
+  pub tables : (j : ℕ) → named j ≢ 0 → IsSome (finite.get d.tables (named j))
+  pub once : (i j : ℕ) → named i ≢ 0 → named i ≡ named j → i ≡ j
+  pub free : (j : ℕ) → finite.len d.tables ≤ j → named j ≡ 0
+  pub few : finite.len d.tables ≤ TABLE_LIMIT
+
+-- A slot that is bound to a key shows the key's value, and all others were never used. A key is
+-- bound once at most, on the page of its bucket, and it is wherever it has a value.
+pub record HoldsRows (d : Donor) (slot : Slots) : Type 0 where
+  pub shown : (table page place key : ℕ) → IsBound slot table page place key
+      → slot table page place ≡ row_slot key (value_of d table key)
+  pub clean : (table page place : ℕ) → bound_key (slot table page place) ≡ None
+      → slot table page place ≡ unused
+  pub own : (table page place key : ℕ) → IsBound slot table page place key → (count : ℕ)
+      × (finite.get d.tables table ≡ Some count) × (page ≡ key % count)
+  pub once : (table key p i q j : ℕ) → IsBound slot table p i key → IsBound slot table q j key
+      → (p ≡ q) × (i ≡ j)
+  pub found : (table key : ℕ) (value : List ℕ) → value_of d table key ≡ Some value → (page : ℕ)
+      × (place : ℕ) × IsBound slot table page place key
+
+-- an undo record tells of a change that was made where the rows were these
+pub record TellsChange (slot : Slots) (rows : Rows) (change : Change) (e : UndoEntry) : Type 0 where
+  pub in_range : IsEntry e
+  pub table : e.table ≡ change.table
+  pub key : e.key ≡ change.key
+  pub bound : IsBound slot e.table e.page e.slot e.key
+  pub before : told_value e ≡ finite.get rows (change.table, change.key)
+
+-- undo records tell of changes that were made one after the other, where the rows were these at
+-- first
+abbrev pub TellsChanges : Slots → Rows → List Change → List UndoEntry → Type 0
+TellsChanges slot rows [] [] = Unit {0}
+TellsChanges slot rows (c ∷ cs) (e ∷ es) =
+    TellsChange slot rows c e × TellsChanges slot (after_change rows c) cs es
+TellsChanges slot rows [] (e ∷ es) = ⊥
+TellsChanges slot rows (c ∷ cs) [] = ⊥
+
+-- an undo slot in use has the writer and the index of its transaction, and tells of its changes
+pub record IsUndoSlot (d : Donor) (slot : Slots) (commit : Commit)
+    (found : Option UndoSlot) : Type 0 where
+  pub records : List UndoEntry
+  pub is : found ≡ Some (record { writer = commit.writer; index = commit.index; records = records })
+  pub tells : TellsChanges slot (committed_rows d) commit.changes records
+
+-- an undo slot is that of the open transaction of its number, or free where there is none
+abbrev pub StandsFor : Donor → Slots → Option Commit → Option UndoSlot → Type 0
+StandsFor d slot active found =
+    MatchOption active (found ≡ None) (λ commit. IsUndoSlot d slot commit found)
+
+abbrev pub HoldsUndo : Donor → Slots → (ℕ → Option UndoSlot) → Type 0
+HoldsUndo d slot undo =
+    (s : ℕ) → s < TRANSACTION_LIMIT → StandsFor d slot (finite.get d.active s) (undo s)
+
+-- all of it, with the number of commits
+pub record IsSound (d : Donor) (c : Contents) : Type 0 where
+  pub locked : IsLocked d
+  pub tables : HoldsTables d c.named c.size
+  pub rows : HoldsRows d c.slot
+  pub undo : HoldsUndo d c.slot c.undo
+  pub position : c.position ≡ length d.binlog
+
+-- an image is formed, and keeps what the donor is
+pub record IsKept (d : Donor) (image : Image) : Type 0 where
+  pub formed : IsFormed image
+  pub sound : IsSound d (contents_of image)

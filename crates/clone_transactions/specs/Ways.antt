@@ -1,0 +1,137 @@
+-- What a call does to the pages and the log, step by step.
+use Rattle.std.specs.Prelude.{ℕ, ◌≡◌, ◌<◌, ◌≤◌, ◌⊎◌, ◌↔◌, List, length, None, Some, IsTrue, IsOk, Result, Ok, Err}
+use Rattle.std.specs.declared.option.Option.{Option}
+use Rattle.clone_mtr.specs.declared.record.Record.{Record}
+use Rattle.clone_mtr.specs.Spelling.{spelling}
+use Rattle.clone_image.specs.Image.{page_of}
+use Rattle.clone_ring.specs.Window.{free_in}
+use Rattle.clone_outside.specs.Disk.{DiskImage}
+use Rattle.clone_pool.specs.declared.frame.Frame.{Frame}
+use Rattle.clone_pool.specs.declared.frame.PageName.{PageName}
+use Rattle.clone_pool.specs.declared.pool.FetchRefusal.{FetchRefusal}
+use Rattle.clone_pool.specs.declared.pool.FetchRefusal.TheVariants as fetch
+use Rattle.clone_pool.specs.Frames.{frame_at, pinned, unpinned}
+use Rattle.clone_pool.specs.Pool.{Fetches, with_frame}
+use Rattle.clone_buffer.specs.Buffered.{Buffered, image_of}
+use Rattle.clone_buffer.specs.Writing.{written}
+use Rattle.clone_buffer.specs.OnePage.{Flushes}
+use Rattle.clone_buffer.specs.Keeping.{Stands}
+use Rattle.clone_plain.specs.Donor.{Donor}
+use Rattle.clone_plain.specs.declared.refusal.Cause.{Cause}
+use Rattle.clone_plain.specs.declared.refusal.Cause.TheVariants.{LogFull, PoolFull, DiskFault}
+use Rattle.clone_plain.specs.declared.refusal.EngineRefusal.{EngineRefusal}
+use Rattle.clone_plain.specs.declared.refusal.EngineRefusal.TheVariants.{Because, NoMemory}
+
+-- The way of a call. What is done behind a page may depend on the bytes that were read of it.
+pub data Way : Type 0 where
+  -- a page is brought into a frame, and stays there while the rest is done
+  reads : PageName → (List ℕ → Way) → Way
+  -- there is a cause against the call
+  stops : Cause → Way
+  -- a mini-transaction is written
+  writes : List Record → Way
+  -- the disk makes a space, and the mini-transaction that makes it is written
+  makes : List Record → Way
+  -- nothing more is done
+  ends : Way
+
+-- the bytes in a frame
+abbrev pub page_in : ℕ → Buffered → List ℕ
+page_in at b = (frame_at b.pool.frames at).page
+
+-- a frame has a pin more
+abbrev pub held : ℕ → Buffered → Buffered
+held at b = record b { pool = with_frame at pinned b.pool }
+
+-- a frame has a pin less
+abbrev pub let_go : ℕ → Buffered → Buffered
+let_go at b = record b { pool = with_frame at unpinned b.pool }
+
+-- A page was brought into a frame. All that was read is right if it was so before, and this page is
+-- the one that the log makes.
+pub record Brings (page : PageName) (at : ℕ) (old new : Buffered) : Type 0 where
+  pub fetched : Fetches page old.pool new.pool (Ok at)
+  pub log : new.log ≡ old.log
+  pub ring : new.ring ≡ old.ring
+  pub right : IsTrue new.right
+      ↔ (IsTrue old.right × (page_of (image_of old) page.space page.number ≡ Some (page_in at new)))
+
+-- why a page isn't brought
+abbrev pub cause_of : FetchRefusal → Cause
+cause_of (fetch.PoolFull frames) = PoolFull frames
+cause_of fetch.DiskFault = DiskFault
+
+-- a page wasn't brought, and nothing but frames has changed
+pub record Misses (page : PageName) (cause : Cause) (old new : Buffered) : Type 0 where
+  pub refusal : FetchRefusal
+  pub is : cause ≡ cause_of refusal
+  pub fetched : Fetches page old.pool new.pool (Err refusal)
+  pub same : new ≡ record old { pool = new.pool }
+
+-- the log has room for a mini-transaction
+abbrev pub HasRoom : List Record → Buffered → Type 0
+HasRoom records b = length (spelling records) ≤ free_in b.ring
+
+-- the log has none
+pub record IsFull (records : List Record) (b : Buffered) (cause : Cause) : Type 0 where
+  pub less : free_in b.ring < length (spelling records)
+  pub is : cause ≡ LogFull (length (spelling records)) (free_in b.ring)
+
+-- A mini-transaction is written where the log has room for it. Else the call is refused, and
+-- nothing has changed. It may want memory where there is room.
+abbrev pub Writes : {X : Type 0} → List Record → Buffered → Buffered → Result X EngineRefusal
+    → Type 0
+Writes records old new (Ok x) = HasRoom records old × (new ≡ written records old)
+Writes records old new (Err (Because cause)) = IsFull records old cause × (new ≡ old)
+Writes records old new (Err NoMemory) = HasRoom records old × (new ≡ old)
+
+-- where there is room, the disk may fail to make the space first
+abbrev pub Makes : {X : Type 0} → List Record → Buffered → Buffered → Result X EngineRefusal
+    → Type 0
+Makes records old new result =
+    Writes records old new result
+    ⊎ (HasRoom records old × (result ≡ Err (Because DiskFault)) × (new ≡ old))
+
+-- THE WAY IS GONE, up to this answer.
+abbrev pub Goes : {X : Type 0} → Way → Buffered → Buffered → Result X EngineRefusal → Type 0
+Goes (reads page rest) old new result =
+    ((cause : Cause) × (result ≡ Err (Because cause)) × Misses page cause old new)
+    ⊎ ((at : ℕ) × (next last : Buffered) × Brings page at old next
+    × Goes (rest (page_in at next)) (held at next) last result × (new ≡ let_go at last))
+Goes (stops cause) old new result = (result ≡ Err (Because cause)) × (new ≡ old)
+Goes (writes records) old new result = Writes records old new result
+Goes (makes records) old new result = Makes records old new result
+Goes ends old new result = IsOk result × (new ≡ old)
+
+-- what the donor is afterwards: a call that was refused leaves it
+abbrev pub Carries : {X : Type 0} → Donor → Donor → Result X EngineRefusal → (X → Type 0) → Type 0
+Carries old new (Ok x) Does = Does x
+Carries old new (Err refusal) Does = new ≡ old
+
+-- Where the plain donor has a cause against it, a call is refused for the first one, and nothing
+-- changes. Else it goes its way, and does what it is for if it comes to the end.
+abbrev pub Answers : {X : Type 0} → Option Cause → Way → Donor → Donor → Buffered → Buffered
+    → Result X EngineRefusal → (X → Type 0) → Type 0
+Answers (Some cause) way d e old new result Does =
+    (result ≡ Err (Because cause)) × (e ≡ d) × (new ≡ old)
+Answers None way d e old new result Does = Goes way old new result × Carries d e result Does
+
+-- the page was brought into a frame, and pinned there
+pub record Holds (page : PageName) (at : ℕ) (old new : Buffered) : Type 0 where
+  pub next : Buffered
+  pub brings : Brings page at old next
+  pub is : new ≡ held at next
+
+-- a page wasn't held, for this refusal
+abbrev pub MissesBy : PageName → EngineRefusal → Buffered → Buffered → Type 0
+MissesBy page refusal old new =
+    (cause : Cause) × (refusal ≡ Because cause) × Misses page cause old new
+
+-- so many pins has each frame at most
+abbrev pub PinsAtMost : ℕ → List Frame → Type 0
+PinsAtMost most frames = (at : ℕ) → (frame_at frames at).pins ≤ most
+
+-- over a disk that tells what it holds, a buffer that stood stands
+abbrev pub StaysStanding : Buffered → Buffered → Option DiskImage → Option DiskImage → Type 0
+StaysStanding old new before after =
+    (flushes : Flushes) → Stands old flushes before → Stands new flushes after
