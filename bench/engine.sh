@@ -1,23 +1,29 @@
 #!/bin/sh
-# Times a put in one open transaction and in each of 64, over 1 table and over 62. A round commits 64
-# transactions of 160 changes each, either one after the other or all at a time; its puts are on the same
-# 10,240 rows in the same order either way, and over about as many pages. Prints the nanoseconds of
-# processor time that a put costs, with its share of begin and commit, as the median of seven times, and
-# how the costs compare. The program that is timed is built in a copy of the crates, since it is no part
-# of what is proved.
+# Times a put of a donor over a disk in memory, in one open transaction and in each of 64, over 1 table
+# and over 62. A round commits 64 transactions of 160 changes each, either one after the other or all at a
+# time; its puts are on the same 10,240 rows in the same order either way, and over about as many pages.
+# The pool has a frame for each page, and the ring room for six rounds and more; behind each sixth round all
+# pages are flushed and a checkpoint is taken. Prints the nanoseconds of processor time that a put costs,
+# with its share of begin and commit and of the flushes, as the median of seven times, and how the costs
+# compare. The program that is timed is built in a copy of the crates, since it is no part of what is proved.
 
 top=$(cd "$(dirname "$0")/.." && pwd) || exit 1
 . "$top/bench/copied.sh"
 
-build_program 'clone_model clone_trx' <<'PROGRAM'
+build_program 'clone_outside clone_memdisk clone_model clone_plain clone_donor' <<'PROGRAM'
 //! Makes rounds of changes. The words are how the transactions are open, the number of tables, and the
 //! number of rounds.
+#![tactic(auto)]
 
-use clone_model::{BucketCount, TableNumber};
-use clone_trx::Engine;
+use clone_donor::{Donor, OpenRefusal};
+use clone_memdisk::MemDisk;
+use clone_model::{BucketCount, Config, MOST_POOL, MOST_RING, TableNumber};
 use std::alloc::Global;
 use std::env;
 use std::process::ExitCode;
+
+/// How many rounds are made before the pages are flushed. The ring has room for one more.
+const ROUNDS_KEPT: u32 = 6;
 
 fn main(rt: HostRuntime) -> ExitCode {
     let alloc = rt.alloc();
@@ -30,83 +36,116 @@ fn main(rt: HostRuntime) -> ExitCode {
     let (Ok(tables), Ok(rounds)) = (tables.parse::<u32>(), rounds.parse::<u32>()) else {
         return ExitCode::from(2);
     };
-    match make_rounds(alloc, way.as_str(), tables, rounds) {
+    match open_and_make(alloc, way.as_str(), tables, rounds) {
         Some(()) => ExitCode::from(0),
         None => ExitCode::from(1),
     }
 }
 
-fn make_rounds(alloc: Global, way: &str, tables: u32, rounds: u32) -> Option<()> {
-    let mut engine = with_tables(alloc, tables)?;
-    for _ in 0..rounds {
+fn open_and_make(alloc: Global, way: &str, tables: u32, rounds: u32) -> Option<()> {
+    let config = Config { pool: MOST_POOL, ring: MOST_RING };
+    match Donor::open(alloc, MemDisk::new(alloc), config) {
+        Ok(mut donor) => {
+            let made = make_rounds(alloc, &mut donor, way, tables, rounds);
+            let _disk = donor.into_disk();
+            made
+        }
+        Err(OpenRefusal { cause: _, disk: _ }) => None,
+    }
+}
+
+fn make_rounds(
+    alloc: Global,
+    donor: &mut Donor<MemDisk>,
+    way: &str,
+    tables: u32,
+    rounds: u32,
+) -> Option<()> {
+    make_tables(donor, tables)?;
+    for before in 0..rounds {
         match way {
-            "apart" => round_apart(alloc, &mut engine, tables)?,
-            "together" => round_together(alloc, &mut engine, tables)?,
+            "apart" => round_apart(alloc, donor, tables)?,
+            "together" => round_together(alloc, donor, tables)?,
             _ => return None,
+        }
+        if before % ROUNDS_KEPT == ROUNDS_KEPT - 1 {
+            flush_all(donor)?;
         }
     }
     Some(())
 }
 
-fn with_tables(alloc: Global, tables: u32) -> Option<Engine> {
-    let mut engine = Engine::new(alloc).ok()?;
+fn make_tables(donor: &mut Donor<MemDisk>, tables: u32) -> Option<()> {
     let buckets = BucketCount::new(1024_u32.checked_div(tables)?)?;
     for before in 0..tables {
         let table = TableNumber::new(before.wrapping_add(1))?;
-        engine.create(alloc, table, buckets).ok()?;
+        donor.create(table, buckets).ok()?;
     }
-    Some(engine)
+    Some(())
 }
 
-fn round_apart(alloc: Global, engine: &mut Engine, tables: u32) -> Option<()> {
+fn round_apart(alloc: Global, donor: &mut Donor<MemDisk>, tables: u32) -> Option<()> {
     for writer in 0..64_u32 {
         let first = writer.wrapping_mul(160);
-        transaction(alloc, engine, tables, first)?;
+        transaction(alloc, donor, tables, first)?;
     }
     Some(())
 }
 
-fn transaction(alloc: Global, engine: &mut Engine, tables: u32, first: u32) -> Option<()> {
-    let trx = engine.begin(alloc, 0, 0).ok()?;
+fn transaction(alloc: Global, donor: &mut Donor<MemDisk>, tables: u32, first: u32) -> Option<()> {
+    let trx = donor.begin(alloc, 0, 0).ok()?;
     for place in 0..160_u32 {
-        put(alloc, engine, tables, trx, first.wrapping_add(place))?;
+        put(donor, tables, trx, first.wrapping_add(place))?;
     }
-    commit(alloc, engine, trx)
+    commit(donor, trx)
 }
 
-fn round_together(alloc: Global, engine: &mut Engine, tables: u32) -> Option<()> {
-    begin_all(alloc, engine)?;
+fn round_together(alloc: Global, donor: &mut Donor<MemDisk>, tables: u32) -> Option<()> {
+    begin_all(alloc, donor)?;
     for row in 0..10240_u32 {
-        put(alloc, engine, tables, row % 64, row)?;
+        put(donor, tables, row % 64, row)?;
     }
-    commit_all(alloc, engine)
+    commit_all(donor)
 }
 
-fn begin_all(alloc: Global, engine: &mut Engine) -> Option<()> {
+fn begin_all(alloc: Global, donor: &mut Donor<MemDisk>) -> Option<()> {
     for writer in 0..64_u32 {
-        engine.begin(alloc, writer, 0).ok()?;
+        donor.begin(alloc, writer, 0).ok()?;
     }
     Some(())
 }
 
-fn commit_all(alloc: Global, engine: &mut Engine) -> Option<()> {
+fn commit_all(donor: &mut Donor<MemDisk>) -> Option<()> {
     for trx in 0..64_u32 {
-        commit(alloc, engine, trx)?;
+        commit(donor, trx)?;
     }
     Some(())
 }
 
-fn put(alloc: Global, engine: &mut Engine, tables: u32, trx: u32, row: u32) -> Option<()> {
+fn put(donor: &mut Donor<MemDisk>, tables: u32, trx: u32, row: u32) -> Option<()> {
     let table = row.checked_rem(tables)?.wrapping_add(1);
     let key = row.checked_div(tables)? as u64;
-    engine.put(alloc, trx, table, key, &[7; 8]).ok()
+    donor.put(trx, table, key, &[7; 8]).ok()
 }
 
-fn commit(alloc: Global, engine: &mut Engine, trx: u32) -> Option<()> {
-    match engine.commit(alloc, trx) {
+fn commit(donor: &mut Donor<MemDisk>, trx: u32) -> Option<()> {
+    match donor.commit(trx) {
         Ok(_) => Some(()),
         Err(_) => None,
     }
+}
+
+fn flush_all(donor: &mut Donor<MemDisk>) -> Option<()> {
+    for _ in 0..MOST_POOL {
+        let Some((space, page)) = donor.oldest_dirty() else {
+            break;
+        };
+        donor.flush_begin(space, page).ok()?;
+        donor.flush_half(space, page).ok()?;
+        donor.flush_land(space, page).ok()?;
+    }
+    donor.checkpoint();
+    Some(())
 }
 PROGRAM
 
@@ -116,7 +155,8 @@ import statistics
 import sys
 
 PUTS = 64 * 160
-FEW, MANY = 2, 18
+# three times six rounds lie between them, and behind each six of these the pages are flushed once
+FEW, MANY = 2, 20
 TIMES = 7
 
 

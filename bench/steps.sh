@@ -1,9 +1,15 @@
 #!/bin/sh
 # Times scripts of 2,000, 8,000 and 32,000 lines: `set` lines, and transactions of 1, 16 and 160 changes
 # each with their `begin`, `put` and `commit` lines. All are over one table of 1,024 buckets with at most
-# 32 keys a bucket, and end with a clone and its rows. Prints for each script the median of the seconds of
-# processor time of five runs, in which the program waits for nothing, and the memory that is in use at
-# most; and then how the cost of a change grows with the script, and how it differs between the kinds.
+# 32 keys a bucket, and end with a clone and its rows. Head lines give the pool a frame for each page and
+# the ring room for the whole log. Prints for each script the median of the seconds of processor time of
+# five runs, in which the program waits for nothing, and the memory that is in use at most; and then how
+# the cost of a change grows with the script, and how it differs between the kinds.
+#
+# It then times two scripts of 32,000 `set` lines: the one of above, and one with a pool of 64 frames and a
+# `clean` and a `checkpoint` behind each 40 sets. An older program, built of a commit before there were such
+# lines, may be given as `bench/steps.sh PROGRAM`: it gets the same sets without them, and both are timed in
+# turn. Prints the medians of five runs of each, and how many times the older program's they are.
 
 top=$(cd "$(dirname "$0")/.." && pwd) || exit 1
 scripts=$(mktemp -d) || exit 1
@@ -13,7 +19,7 @@ trap 'rm -rf "$scripts"' EXIT
 "$top/clone" </dev/null >/dev/null
 [ $? -eq 2 ] || exit 1
 
-python3 - "$top/crates/clone_prog/out/clone_prog" "$scripts" <<'PYTHON'
+python3 - "$top/crates/clone_prog/out/clone_prog" "$scripts" "$@" <<'PYTHON'
 import os
 import resource
 import statistics
@@ -24,6 +30,10 @@ KINDS = {"set lines": None, "1 a transaction": 1, "16 a transaction": 16, "160 a
 COUNTS = [2000, 8000, 32000]
 KEYS = 32768
 RUNS = 5
+POOL, SMALL_POOL = "pool 4096", "pool 64"
+RING = "ring 16777216"
+SETS_TO_CLEAN = 40
+NEWER_WORDS = {"pool", "ring", "clean", "checkpoint"}
 
 
 def changes_of(count, size):
@@ -39,11 +49,25 @@ def script(count, size):
     """A script with so many lines that change rows, in transactions of this size or each a `set` line."""
     changes, sizes = changes_of(count, size)
     keys = (change % KEYS for change in range(changes))
-    lines = ["create 1 1024"]
+    lines = [POOL, RING, "create 1 1024"]
     for own in sizes:
         lines += ["begin 0", *(f"put 0 1 {next(keys)} 61" for _ in range(own)), "commit 0"]
     lines += [f"set 0 1 {key} 61" for key in keys]
     return "\n".join([*lines, "clone", "rows", ""])
+
+
+def flushing_script(count):
+    """A script with so many `set` lines over few frames, whose pages are flushed again and again."""
+    lines = [SMALL_POOL, RING, "create 1 1024"]
+    for first in range(0, count, SETS_TO_CLEAN):
+        lines += [f"set 0 1 {key % KEYS} 61" for key in range(first, min(first + SETS_TO_CLEAN, count))]
+        lines += ["clean", "checkpoint"]
+    return "\n".join([*lines, "clone", "rows", ""])
+
+
+def older_script(text):
+    """The script without the lines that an older program doesn't know."""
+    return "\n".join(line for line in text.split("\n") if line.split(" ")[0] not in NEWER_WORDS)
 
 
 def test(program, path, changes):
@@ -105,7 +129,38 @@ def measure_all(program, path):
     return costs
 
 
-def main(program, folder):
+def medians_of(runs):
+    """The median of the seconds of each program over its script. All are timed in turn, so that a slow
+    time of the machine falls on each."""
+    times = [[time_of(*run) for run in runs] for _ in range(RUNS)]
+    return [statistics.median(column) for column in zip(*times)]
+
+
+def compare(kind, text, program, folder, older):
+    """Prints a row for a script: the seconds of the program, and of the older one where it is given."""
+    count = COUNTS[-1]
+    runs = [(program, os.path.join(folder, "script"), text)]
+    if older is not None:
+        runs.append((os.path.abspath(older), os.path.join(folder, "older_script"), older_script(text)))
+    for runner, path, lines in runs:
+        with open(path, "w") as out:
+            out.write(lines)
+        test(runner, path, count)
+    taken, *beside = medians_of([(runner, path) for runner, path, _ in runs])
+    compared = "".join(f" {seconds:>9.3f} {taken / seconds:>6.2f}" for seconds in beside)
+    print(f"{count:>8,} {kind:>32} {taken:>9.3f}{compared}")
+
+
+def compare_all(program, folder, older=None):
+    """Prints a row for each of the two long scripts of `set` lines."""
+    count = COUNTS[-1]
+    compared = "" if older is None else f" {'older':>9} {'ratio':>6}"
+    print(f"{'sets':>8} {'with':>32} {'seconds':>9}{compared}")
+    compare(f"{POOL}, {RING}", script(count, None), program, folder, older)
+    compare(f"{SMALL_POOL}, clean and checkpoint", flushing_script(count), program, folder, older)
+
+
+def main(program, folder, *older):
     costs = measure_all(program, os.path.join(folder, "script"))
     least, middle, most = COUNTS
     cheapest = min(costs[kind, most][1] for kind in KINDS)
@@ -114,6 +169,8 @@ def main(program, folder):
     for kind in KINDS:
         seconds, each = costs[kind, most]
         print(f"{kind:>18} {each / costs[kind, least][1]:>27.2f} {seconds / costs[kind, middle][0]:>25.2f} {each / cheapest:>26.2f}")
+    print()
+    compare_all(program, folder, *older)
 
 
 main(*sys.argv[1:])

@@ -111,6 +111,7 @@ impl Buffer {
             → Rose (D.failures disk.old) (D.failures disk.new) }
         ensures later { D.failures disk.old ≤ D.failures disk.new }
         ensures disk { D.told disk.new ≡ D.told disk.old }
+        ensures orders { D.orders disk.new ≡ D.orders disk.old }
         ensures stands { (flushes : Flushes) → Stands self.old flushes (D.told disk.old)
             → Stands self.new flushes (D.told disk.new) }
     {

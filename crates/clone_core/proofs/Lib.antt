@@ -1,6 +1,15 @@
 pub mod Common
 pub mod CountLemmas
-pub mod RecoveredLemmas
+pub mod StepLemmas
+pub mod OrderLemmas
+pub mod FaultLemmas
+pub mod RunLemmas
 pub mod CallLemmas
 pub mod LineLemmas
-pub mod RunLemmas
+pub mod SetLemmas
+pub mod WaitingLemmas
+pub mod CleanLemmas
+pub mod OrderedLemmas
+pub mod CloneLemmas
+pub mod RowsLemmas
+pub mod RecoveredLemmas

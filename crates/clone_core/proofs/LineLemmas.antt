@@ -1,245 +1,156 @@
 -- What lines do, by what their calls answered.
-use Rattle.std.proofs.Common.{◌≡◌, ℕ, ◌+◌, List, [], ◌∷◌, ◌++◌, length, take, arith, refl, sym, ap, ◌∙◌, subst, inl, inr, Option, Some, None, Result, Ok, Err, IfOk, OnErr, MatchOption, MatchResult, IsErr, IsErrAnd, codes, decimal, take_all}
-use Rattle.clone_core.proofs.Common.{Entry, Rows, fold, history_of, rows_in, Line, Cause, NoSuchTrx, EngineRefusal, Because, NoMemory, page_of, Pages, IsRow, ShowsRows, HasRows, Donor, history, Call, create, begin, put, delete, get, undo_one, commit, Done, did_begin, did_put, did_get, did_commit, done, refused, call_of, Stop, index_in, stop_now, before_stop, Event, made, completed, showed, incomplete, event_text, said, Happens, Events, Makes, MakesOne, not_begun, not_changed, set, EngineStep, State, donor_of, Answers, BreaksOff, IsCopy, stop_of, Copy, Called, Carries, SaysCause, RefusesSet, Sets}
-use Rattle.std.specs.FinMap as finite
-use Rattle.clone_model.specs.declared.line.Line.TheVariants as lines
+use Rattle.std.proofs.Common.{◌≡◌, ℕ, List, [], ◌∷◌, refl, sym, ap, ◌∙◌, subst, Option, Result, Ok, Err, IfOk, OnErr, MatchResult, IsErr}
 use Rattle.std.specs.declared.alloc.AllocError.{AllocError}
-use Rattle.clone_plain.specs.Answers.{Text, done_text, value_answer, rows_answer}
-use Rattle.clone_plain.specs.BreaksOff.{IsDone}
-use Rattle.clone_plain.proofs.RunLemmas.{Events-append}
+use Rattle.clone_model.specs.declared.line.Line.{Line}
+use Rattle.clone_model.specs.declared.line.Line.TheVariants as lines
+use Rattle.clone_plain.specs.declared.refusal.Cause.{Cause}
+use Rattle.clone_plain.specs.declared.refusal.Cause.TheVariants.{NoSuchTrx}
+use Rattle.clone_plain.specs.declared.refusal.EngineRefusal.{EngineRefusal}
+use Rattle.clone_plain.specs.declared.refusal.EngineRefusal.TheVariants.{Because, NoMemory}
+use Rattle.clone_plain.specs.Answers.{Text, done_text, undone_answer}
+use Rattle.clone_plain.specs.Calls.{Call, create, begin, put, delete, get, undo_one, commit, flush_begin, flush_half, flush_land, checkpoint, end, Done, did_get, did_undo_one, Made, done, refused, made_call, call_of, PlainStep}
+use Rattle.clone_plain.specs.declared.refusal.Undone.{Undone}
+use Rattle.clone_plain.specs.Donor.{Donor}
+use Rattle.clone_plain.specs.Effects.{Undoes}
+use Rattle.clone_plain.specs.World.{index_in}
+use Rattle.clone_plain.specs.Events.{to_donor, to_recipient, Event, made, incomplete, ordered, event_text, Happens}
+use Rattle.clone_outside.specs.declared.disk.DiskOrder.TheVariants as orders
+use Rattle.clone_plain.specs.Runs.{Makes, MakesOne, not_begun, all_clean, is_broken, not_there}
+use Rattle.clone_core.specs.System.{SystemStep, donor_of}
+use Rattle.clone_core.specs.Lines.{State, Answers, BreaksOff}
+use Rattle.clone_core.specs.Called.{Stays, Called, SaysCause, Notes}
+use Rattle.clone_core.proofs.StepLemmas.{refines}
 
 -- ---- one event
 
-carried : (s t : State) (d : Done) → Carries s d t → Events donor_of EngineStep s (made (done d) ∷ []) t
-carried s t d is = (t, (is.engine, is.step, is.is), refl)
+-- what a call does to the plain donor
+pub made_step : (s t : State) (m : Made) → Happens donor_of SystemStep s (made m) t → PlainStep (donor_of s.donor) m (donor_of t.donor)
+made_step s t m is = refines s.donor t.donor (made m) is.step
 
-stays : (s t : State) (call : Call) (cause : Cause) → EngineStep s.donor (refused call cause) s.donor → t ≡ s → Events donor_of EngineStep s (made (refused call cause) ∷ []) t
-stays s t call cause stands same = (t, (s.donor, stands, same), refl)
+pub same_stays : (s : State) → Stays s s
+same_stays s = record { donor = refl; begun = refl }
+
+-- a refusal leaves the donor and the writers' counts
+pub refused_stays : (s t : State) (call : Call) (cause : Cause) → Happens donor_of SystemStep s (made (refused call cause)) t → Stays s t
+refused_stays s t call cause is = record { donor = (made_step s t (refused call cause) is).1; begun = is.begun }
+
+-- a line of one event
+pub event_answers : {A : Type 0} (bytes : A → Text) (s t : State) (line : Line) (e : Event) (result : Result A AllocError) → Makes (index_in s.begun) line (e ∷ []) → Happens donor_of SystemStep s e t → IfOk result (λ a. bytes a ≡ event_text e)
+    → IfOk result (λ a. Answers s line (bytes a) t)
+event_answers bytes s t line e (Err refusal) makes is says = tt
+event_answers bytes s t line e (Ok a) makes is says = record { events = e ∷ []; step = (makes, (t, is, refl)); is = says }
+
+-- ---- memory ran out
+
+at_once : (s t : State) (line : Line) (next : Event) (rest : List Event) → Makes (index_in s.begun) line (next ∷ rest) → Stays s t → BreaksOff s line t
+at_once s t line next rest makes stays = record { front = []; next = next; rest = rest; makes = makes; carried = tt; then = s; happened = refl; donor = stays.donor; begun = stays.begun }
+
+call_at_once : (s t : State) (line : Line) (call : Call) → ((es : List Event) → MakesOne call es → Makes (index_in s.begun) line es) → Stays s t → BreaksOff s line t
+call_at_once s t line call makes stays = at_once s t line (made (refused call NoSuchTrx)) [] (makes _ (refused call NoSuchTrx, refl, refl)) stays
+
+-- before a call was carried out that does something to the plain donor
+pub breaks_at_once : (s t : State) (line : Line) → Stays s t → BreaksOff s line t
+breaks_at_once s t (lines.Create table buckets) stays = call_at_once s t _ (create table buckets) (λ es m. m) stays
+breaks_at_once s t (lines.Begin writer) stays = call_at_once s t _ (begin writer (index_in s.begun writer)) (λ es m. m) stays
+breaks_at_once s t (lines.Put trx table key value) stays = call_at_once s t _ (put trx table key value) (λ es m. m) stays
+breaks_at_once s t (lines.Delete trx table key) stays = call_at_once s t _ (delete trx table key) (λ es m. m) stays
+breaks_at_once s t (lines.Get trx table key) stays = call_at_once s t _ (get trx table key) (λ es m. m) stays
+breaks_at_once s t (lines.Undo trx) stays = call_at_once s t _ (undo_one trx) (λ es m. m) stays
+breaks_at_once s t (lines.Commit trx) stays = call_at_once s t _ (commit trx) (λ es m. m) stays
+breaks_at_once s t (lines.Set writer table key value) stays = at_once s t (lines.Set writer table key value) (made (refused (begin writer (index_in s.begun writer)) NoSuchTrx)) [] (not_begun NoSuchTrx refl) stays
+breaks_at_once s t (lines.Flush space page) stays = call_at_once s t _ (flush_begin space page) (λ es m. m) stays
+breaks_at_once s t (lines.Half space page) stays = call_at_once s t _ (flush_half space page) (λ es m. m) stays
+breaks_at_once s t (lines.Land space page) stays = call_at_once s t _ (flush_land space page) (λ es m. m) stays
+breaks_at_once s t lines.Clean stays = at_once s t lines.Clean _ _ (all_clean [] refl) stays
+breaks_at_once s t lines.Checkpoint stays = call_at_once s t _ checkpoint (λ es m. m) stays
+breaks_at_once s t lines.Lsn stays = call_at_once s t _ end (λ es m. m) stays
+breaks_at_once s t (lines.Tear byte) stays = at_once s t (lines.Tear byte) (ordered to_donor (orders.Tear byte)) [] refl stays
+breaks_at_once s t (lines.FailDonor call) stays = at_once s t (lines.FailDonor call) (ordered to_donor (orders.FailAt call)) [] refl stays
+breaks_at_once s t (lines.FailRecipient call) stays = at_once s t (lines.FailRecipient call) (ordered to_recipient (orders.FailAt call)) [] refl stays
+breaks_at_once s t lines.Clone stays = at_once s t lines.Clone _ [] (is_broken refl) stays
+breaks_at_once s t lines.Rows stays = at_once s t lines.Rows incomplete [] (not_there refl) stays
+
+-- whatever the result, nothing of the plain donor has changed
+pub stays_breaks : {A : Type 0} (s t : State) (line : Line) (result : Result A AllocError) → Stays s t → OnErr result (BreaksOff s line t)
+stays_breaks s t line (Ok a) stays = tt
+stays_breaks s t line (Err e) stays = breaks_at_once s t line stays
+
+pub same_breaks : {A : Type 0} (s : State) (line : Line) (result : Result A AllocError) → OnErr result (BreaksOff s line s)
+same_breaks s line result = stays_breaks s s line result (same_stays s)
+
+-- nothing at all has changed where memory ran out
+pub line_breaks : {A : Type 0} (s t : State) (line : Line) (result : Result A AllocError) → OnErr result (t ≡ s) → OnErr result (BreaksOff s line t)
+line_breaks s t line (Ok a) same = tt
+line_breaks s t line (Err e) same = let P : State → Type 0 = λ w. BreaksOff s line w in subst P (sym same) (breaks_at_once s s line (same_stays s))
 
 -- ---- lines of one call
 
 one_answers : {X : Type 0} (s t : State) (line : Line) (call : Call) (did : X → Done) (called : Result X EngineRefusal) (text answer : Text) → ((es : List Event) → MakesOne call es → Makes (index_in s.begun) line es) → ((x : X) → call_of (did x) ≡ call) → Called s call did called t
-    → ((x : X) → called ≡ Ok x → Carries s (did x) t → text ≡ done_text (did x)) → MatchResult called (λ _. answer ≡ text) (λ refusal. SaysCause refusal answer) → Answers s line answer t
+    → ((x : X) → called ≡ Ok x → Happens donor_of SystemStep s (made (done (did x))) t → text ≡ done_text (did x)) → MatchResult called (λ _. answer ≡ text) (λ refusal. SaysCause refusal answer) → Answers s line answer t
 one_answers s t line call did (Ok x) text answer makes same is told says =
-    record { events = made (done (did x)) ∷ []; step = (makes _ (done (did x), same x, refl), carried s t (did x) is); is = says ∙ told x refl is }
+    record { events = made (done (did x)) ∷ []; step = (makes _ (done (did x), same x, refl), (t, is, refl)); is = says ∙ told x refl is }
 one_answers {X} s t line call did (Err refusal) text answer makes same is told says =
     let P : EngineRefusal → Type 0 = λ r. Called {X = X} s call did (Err r) t in
     let at = subst P says.is is in
-    record { events = made (refused call says.cause) ∷ []; step = (makes _ (refused call says.cause, refl, refl), stays s t call says.cause at.0 at.1); is = says.same }
+    record { events = made (refused call says.cause) ∷ []; step = (makes _ (refused call says.cause, refl, refl), (t, at, refl)); is = says.same }
 
-pub line_answers : {X A : Type 0} (bytes : A → Text) (s t : State) (line : Line) (call : Call) (did : X → Done) (called : Result X EngineRefusal) (text : Text) (result : Result A AllocError) → ((es : List Event) → MakesOne call es → Makes (index_in s.begun) line es) → ((x : X) → call_of (did x) ≡ call)
-    → Called s call did called t → ((x : X) → called ≡ Ok x → Carries s (did x) t → text ≡ done_text (did x)) → IfOk result (λ a. MatchResult called (λ _. bytes a ≡ text) (λ refusal. SaysCause refusal (bytes a))) → IfOk result (λ a. Answers s line (bytes a) t)
-line_answers bytes s t line call did called text (Ok a) makes same is told says = one_answers s t line call did called text (bytes a) makes same is told says
-line_answers bytes s t line call did called text (Err e) makes same is told says = tt
+pub call_answers : {X A : Type 0} (bytes : A → Text) (s t : State) (line : Line) (call : Call) (did : X → Done) (called : Result X EngineRefusal) (text : Text) (result : Result A AllocError) → ((es : List Event) → MakesOne call es → Makes (index_in s.begun) line es) → ((x : X) → call_of (did x) ≡ call)
+    → Called s call did called t → ((x : X) → called ≡ Ok x → Happens donor_of SystemStep s (made (done (did x))) t → text ≡ done_text (did x)) → IfOk result (λ a. MatchResult called (λ _. bytes a ≡ text) (λ refusal. SaysCause refusal (bytes a))) → IfOk result (λ a. Answers s line (bytes a) t)
+call_answers bytes s t line call did called text (Ok a) makes same is told says = one_answers s t line call did called text (bytes a) makes same is told says
+call_answers bytes s t line call did called text (Err e) makes same is told says = tt
 
--- the value of a row is shown, or why it isn't
-pub value_answers : {A : Type 0} (bytes : A → Text) (s : State) (trx table key : ℕ) (value shown : Option (List ℕ)) (result : Result A AllocError) → shown ≡ value → Carries s (did_get trx table key value) s → IfOk result (λ a. bytes a ≡ value_answer shown)
-    → IfOk result (λ a. Answers s (lines.Get trx table key) (bytes a) s)
-value_answers bytes s trx table key value shown (Err e) same is says = tt
-value_answers bytes s trx table key value shown (Ok a) same is says =
-    record { events = made (done (did_get trx table key value)) ∷ []; step = ((done (did_get trx table key value), refl, refl), carried s s (did_get trx table key value) is); is = says ∙ ap value_answer same }
+-- a call that was refused, or for which there was no memory, leaves the plain donor
+pub not_called : {X : Type 0} (s t : State) (call : Call) (did : X → Done) (called : Result X EngineRefusal) → Called s call did called t → IsErr called → Stays s t
+not_called s t call did (Ok x) is failed = absurd (let e = failed in cc)
+not_called s t call did (Err (Because cause)) is failed = refused_stays s t call cause is
+not_called s t call did (Err NoMemory) is failed = is
 
-pub get_refused : {A : Type 0} (bytes : A → Text) (s : State) (trx table key : ℕ) (refusal : EngineRefusal) (result : Result A AllocError) → Called s (get trx table key) (λ value. did_get trx table key value) (Err refusal) s → IfOk result (λ a. SaysCause refusal (bytes a))
-    → IfOk result (λ a. Answers s (lines.Get trx table key) (bytes a) s)
-get_refused bytes s trx table key refusal (Err e) is says = tt
-get_refused bytes s trx table key refusal (Ok a) is says = one_answers s s (lines.Get trx table key) (get trx table key) (λ value. did_get trx table key value) (Err refusal) [] (bytes a) (λ es m. m) (λ _. refl) is (λ x e. cc) says
+pub call_breaks : {X A : Type 0} (s t : State) (line : Line) (call : Call) (did : X → Done) (called : Result X EngineRefusal) (result : Result A AllocError) → Called s call did called t → OnErr result (IsErr called) → OnErr result (BreaksOff s line t)
+call_breaks s t line call did called (Ok a) is failed = tt
+call_breaks s t line call did called (Err e) is failed = breaks_at_once s t line (not_called s t call did called is failed)
 
--- ---- a clone, and its rows
+-- a call was refused, and its refusal is shown
+pub refusal_answers : {X A : Type 0} (bytes : A → Text) (s t : State) (line : Line) (call : Call) (did : X → Done) (refusal : EngineRefusal) (result : Result A AllocError) → ((es : List Event) → MakesOne call es → Makes (index_in s.begun) line es) → Called {X = X} s call did (Err refusal) t
+    → IfOk result (λ a. SaysCause refusal (bytes a)) → IfOk result (λ a. Answers s line (bytes a) t)
+refusal_answers bytes s t line call did refusal (Err e) makes is says = tt
+refusal_answers {X} bytes s t line call did refusal (Ok a) makes is says =
+    let P : EngineRefusal → Type 0 = λ r. Called {X = X} s call did (Err r) t in
+    record { events = made (refused call says.cause) ∷ []; step = (makes _ (refused call says.cause, refl, refl), (t, subst P says.is is, refl)); is = says.same }
 
-clone_answers : (s t : State) (text : Text) (n : ℕ) → Happens donor_of EngineStep s (completed n) t → text ≡ event_text (completed n) → Answers s lines.Clone text t
-clone_answers s t text n is says = record { events = completed n ∷ []; step = ((n, refl), (t, is, refl)); is = says }
+pub refusal_breaks : {X A : Type 0} (s t : State) (line : Line) (call : Call) (did : X → Done) (refusal : EngineRefusal) (result : Result A AllocError) → Called {X = X} s call did (Err refusal) t → OnErr result (BreaksOff s line t)
+refusal_breaks {X} s t line call did refusal result is = stays_breaks s t line result (not_called {X = X} s t call did (Err refusal) is refl)
 
--- the stop that stands is answered again
-pub cloned_again : {A : Type 0} (bytes : A → Text) (r s : State) (copy : Copy) (result : Result A AllocError) → r ≡ s → r.stop ≡ Some (stop_of copy) → IfOk result (λ a. bytes a ≡ event_text (completed copy.position)) → IfOk result (λ a. Answers s lines.Clone (bytes a) s)
-cloned_again bytes r s copy (Err e) same stop says = tt
-cloned_again bytes r s copy (Ok a) same stop says =
-    let now = stop_now s.donor.donor in
-    let P : Option Stop → Type 0 = λ o. MatchOption o ((copy.position ≡ now.position) × (s ≡ record s { stop = Some now })) (λ (at : Stop). (copy.position ≡ at.position) × (s ≡ s)) in
-    clone_answers s s (bytes a) copy.position (subst P (sym stop ∙ ap (λ (w : State). w.stop) same) (refl, refl)) says
+-- a value that was got leaves the plain donor
+pub got_stays : (s t : State) (trx table key : ℕ) (value : Option (List ℕ)) → Happens donor_of SystemStep s (made (done (did_get trx table key value))) t → Stays s t
+got_stays s t trx table key value is = record { donor = (made_step s t _ is).1; begun = is.begun }
 
-pub no_copy : (o : Option Copy) → ((copy : Copy) → o ≡ Some copy → ⊥) → o ≡ None
-no_copy None is = refl
-no_copy (Some copy) is = absurd (is copy refl)
+-- what is said is said in other words
+pub said_is : {A : Type 0} (bytes : A → Text) (result : Result A AllocError) (text other : Text) → text ≡ other → IfOk result (λ a. bytes a ≡ text) → IfOk result (λ a. bytes a ≡ other)
+said_is bytes (Err e) text other same says = tt
+said_is bytes (Ok a) text other same says = says ∙ same
 
--- the first clone stops at the moment that stands
-pub cloned : (r s : State) (position drops : ℕ) (text : Text) → r ≡ s → r.stop ≡ None → position ≡ length r.donor.donor.binlog → drops ≡ length r.donor.donor.drops → text ≡ event_text (completed position)
-    → Answers s lines.Clone text (record r { stop = Some (record { position = position; drops = drops }) })
-cloned r s position drops text same none commits dropped says =
-    let P : State → Type 0 = λ w. Answers w lines.Clone text (record r { stop = Some (record { position = position; drops = drops }) }) in
-    let now = stop_now r.donor.donor in
-    let at : ◌≡◌ {A = Stop} (record { position = position; drops = drops }) now = λ i. record { position = commits i; drops = dropped i } in
-    let t : State = record r { stop = Some (record { position = position; drops = drops }) } in
-    let Q : Option Stop → Type 0 = λ o. MatchOption o ((position ≡ now.position) × (t ≡ record r { stop = Some now })) (λ (stop : Stop). (position ≡ stop.position) × (t ≡ r)) in
-    subst P same (clone_answers r t text position (subst Q (sym none) (commits, ap (λ (stop : Stop). record r { stop = Some stop }) at)) says)
+-- the text that was made before a change was taken back is right once it was
+pub undo_told : (r s t : State) (trx : ℕ) (undone : Undone) (text : Text) → r ≡ s → ((u : Undone) (after : Donor) → Undoes (donor_of r.donor) trx u after → text ≡ undone_answer u) → Happens donor_of SystemStep s (made (done (did_undo_one trx undone))) t → text ≡ undone_answer undone
+undo_told r s t trx undone text same told is =
+    let P : State → Type 0 = λ w. Undoes (donor_of w.donor) trx undone (donor_of t.donor) in
+    told undone (donor_of t.donor) (subst P (sym same) (made_step s t _ is).1)
 
--- whatever shows the rows of pages is the map of which they have the rows
-abbrev pub ShownIsTheMap : Type 0
-ShownIsTheMap =
-    (pages : Pages) (rows m : Rows) → ShowsRows pages rows → ((table key : ℕ) (value : List ℕ) → IsRow pages (table, key, value) → finite.get m (table, key) ≡ Some value)
-    → ((table key : ℕ) (value : List ℕ) → finite.get m (table, key) ≡ Some value → IsRow pages (table, key, value)) → rows ≡ m
+-- ---- an order
 
-rows_answer_is : (r s : State) (copy : Copy) (rows : Rows) (text : Text) → ShownIsTheMap → r ≡ s → r.stop ≡ Some (stop_of copy) → IsCopy r.donor.donor copy → ShowsRows (page_of copy.image) rows → text ≡ rows_answer (rows_in rows) → Answers s lines.Rows text s
-rows_answer_is r s copy rows text law same stop is shows says =
-    let shown : rows ≡ fold (before_stop (stop_of copy) r.donor.donor) = law (page_of copy.image) rows _ shows is.rows.here is.rows.there in
-    let P : State → Type 0 = λ w. Answers w lines.Rows text w in
-    let Q : Option Stop → Type 0 = λ o. MatchOption o ⊥ (λ (at : Stop). rows ≡ fold (before_stop at r.donor.donor)) in
-    subst P same record { events = showed rows ∷ []; step = (inr (rows, refl), (r, (subst Q (sym stop) shown, refl), refl)); is = says }
+pub notes_answer : {A : Type 0} (bytes : A → Text) (s t : State) (line : Line) (e : Event) (result : Result A AllocError) → Makes (index_in s.begun) line (e ∷ []) → IfOk result (λ a. Notes s e (bytes a) t) → IfOk result (λ a. Answers s line (bytes a) t)
+notes_answer bytes s t line e (Err refusal) makes is = tt
+notes_answer bytes s t line e (Ok a) makes is = record { events = e ∷ []; step = (makes, (t, is.happened, refl)); is = is.is }
 
-pub rows_answers : {A : Type 0} (bytes : A → Text) (r s : State) (copy : Copy) (result : Result A AllocError) → ShownIsTheMap → r ≡ s → r.stop ≡ Some (stop_of copy) → IsCopy r.donor.donor copy
-    → IfOk result (λ a. (rows : Rows) × ShowsRows (page_of copy.image) rows × (bytes a ≡ rows_answer (rows_in rows))) → IfOk result (λ a. Answers s lines.Rows (bytes a) s)
-rows_answers bytes r s copy (Err e) law same stop is shows = tt
-rows_answers bytes r s copy (Ok a) law same stop is shows = rows_answer_is r s copy shows.0 (bytes a) law same stop is shows.1 shows.2
+-- the lines that give an order
+pub tear_makes : (next : ℕ → ℕ) (line : Line) (byte : ℕ) → line ≡ lines.Tear byte → Makes next line (ordered to_donor (orders.Tear byte) ∷ [])
+tear_makes next line byte is = let P : Line → Type 0 = λ l. Makes next l (ordered to_donor (orders.Tear byte) ∷ []) in subst P (sym is) refl
 
-pub no_rows : {A : Type 0} (bytes : A → Text) (r s : State) (result : Result A AllocError) → r ≡ s → r.stop ≡ None → IfOk result (λ a. bytes a ≡ codes "incomplete") → IfOk result (λ a. Answers s lines.Rows (bytes a) s)
-no_rows bytes r s (Err e) same none says = tt
-no_rows bytes r s (Ok a) same none says = record { events = incomplete ∷ []; step = (inl refl, (s, (sym (ap (λ (w : State). w.stop) same) ∙ none, refl), refl)); is = says }
+pub fail_donor_makes : (next : ℕ → ℕ) (line : Line) (call at : ℕ) → line ≡ lines.FailDonor call → at ≡ call → Makes next line (ordered to_donor (orders.FailAt at) ∷ [])
+fail_donor_makes next line call at is same =
+    let P : Line → Type 0 = λ l. Makes next l (ordered to_donor (orders.FailAt at) ∷ []) in
+    subst P (sym is) (ap (λ (n : ℕ). ordered to_donor (orders.FailAt n) ∷ []) same)
 
--- the image that was recovered has the rows of the stop
-pub copied : (d : Donor) (copy : Copy) → copy.position ≡ length d.binlog → copy.drops ≡ length d.drops → HasRows (page_of copy.image) (fold (history d)) → IsCopy d copy
-copied d copy commits dropped rows =
-    let whole : before_stop (stop_of copy) d ≡ history d =
-    ap (λ b. history_of b (take copy.drops d.drops)) (ap (λ n. take n d.binlog) commits ∙ take_all (length d.binlog) d.binlog (omega arith)) ∙ ap (history_of d.binlog) (ap (λ n. take n d.drops) dropped ∙ take_all (length d.drops) d.drops (omega arith)) in
-    let P : List Entry → Type 0 = λ h. HasRows (page_of copy.image) (fold h) in
-    record { commits = omega (arith, commits); drops = omega (arith, dropped); rows = subst P (sym whole) rows }
-
--- ---- memory ran out
-
--- before a call was carried out
-pub breaks_at_once : (s t : State) (line : Line) → t ≡ s → BreaksOff s line t
-breaks_at_once s t (lines.Create table buckets) same = record { front = []; next = made (refused (create table buckets) NoSuchTrx); rest = []; makes = (refused (create table buckets) NoSuchTrx, refl, refl); carried = tt; happened = sym same }
-breaks_at_once s t (lines.Begin writer) same = record { front = []; next = made (refused (begin writer (index_in s.begun writer)) NoSuchTrx); rest = []; makes = (refused (begin writer (index_in s.begun writer)) NoSuchTrx, refl, refl); carried = tt; happened = sym same }
-breaks_at_once s t (lines.Put trx table key value) same = record { front = []; next = made (refused (put trx table key value) NoSuchTrx); rest = []; makes = (refused (put trx table key value) NoSuchTrx, refl, refl); carried = tt; happened = sym same }
-breaks_at_once s t (lines.Delete trx table key) same = record { front = []; next = made (refused (delete trx table key) NoSuchTrx); rest = []; makes = (refused (delete trx table key) NoSuchTrx, refl, refl); carried = tt; happened = sym same }
-breaks_at_once s t (lines.Get trx table key) same = record { front = []; next = made (refused (get trx table key) NoSuchTrx); rest = []; makes = (refused (get trx table key) NoSuchTrx, refl, refl); carried = tt; happened = sym same }
-breaks_at_once s t (lines.Undo trx) same = record { front = []; next = made (refused (undo_one trx) NoSuchTrx); rest = []; makes = (refused (undo_one trx) NoSuchTrx, refl, refl); carried = tt; happened = sym same }
-breaks_at_once s t (lines.Commit trx) same = record { front = []; next = made (refused (commit trx) NoSuchTrx); rest = []; makes = (refused (commit trx) NoSuchTrx, refl, refl); carried = tt; happened = sym same }
-breaks_at_once s t (lines.Set writer table key value) same = record { front = []; next = made (refused (begin writer (index_in s.begun writer)) NoSuchTrx); rest = []; makes = not_begun NoSuchTrx refl; carried = tt; happened = sym same }
-breaks_at_once s t lines.Clone same = record { front = []; next = completed 0; rest = []; makes = (0, refl); carried = tt; happened = sym same }
-breaks_at_once s t lines.Rows same = record { front = []; next = incomplete; rest = []; makes = inl refl; carried = tt; happened = sym same }
-
-pub line_breaks : {A : Type 0} (s t : State) (line : Line) (result : Result A AllocError) → OnErr result (t ≡ s) → OnErr result (BreaksOff s line t)
-line_breaks s t line (Ok a) same = tt
-line_breaks s t line (Err e) same = breaks_at_once s t line same
-
-pub shown_breaks : {A : Type 0} (s : State) (line : Line) (result : Result A AllocError) → OnErr result (BreaksOff s line s)
-shown_breaks s line (Ok a) = tt
-shown_breaks s line (Err e) = breaks_at_once s s line refl
-
--- ---- a `set`
-
-is_done : (d : Done) → IsDone (made (done d))
-is_done d = (d, refl)
-
-said-last : (front : List Event) (e : Event) → said (front ++ e ∷ []) ≡ event_text e
-said-last [] e = refl
-said-last (x ∷ []) e = refl
-said-last (x ∷ y ∷ front) e = said-last (y ∷ front) e
-
-begin_refused : (s t : State) (writer table key : ℕ) (value : List ℕ) (refusal : EngineRefusal) → Called s (begin writer (index_in s.begun writer)) (λ trx. did_begin writer (index_in s.begun writer) trx) (Err refusal) t → Sets s writer table key value (Err refusal) t
-begin_refused s t writer table key value (Because cause) is =
-    let P : State → Type 0 = λ w. EngineStep w.donor (refused (begin writer (index_in s.begun writer)) cause) w.donor in
-    record { front = []; call = begin writer (index_in s.begun writer); makes = not_begun cause refl; carried = tt; happened = sym is.1; stands = subst P (sym is.1) is.0 }
-begin_refused s t writer table key value NoMemory is = breaks_at_once s t (lines.Set writer table key value) is
-
-put_refused : (s u t : State) (writer table key trx : ℕ) (value : List ℕ) (refusal : EngineRefusal) → Carries s (did_begin writer (index_in s.begun writer) trx) u → Called {X = Unit {0}} u (put trx table key value) (λ _. did_put trx table key value) (Err refusal) t
-    → Sets s writer table key value (Err refusal) t
-put_refused s u t writer table key trx value (Because cause) begins is =
-    let P : State → Type 0 = λ w. EngineStep w.donor (refused (put trx table key value) cause) w.donor in
-    let Q : State → Type 0 = λ w. Events donor_of EngineStep s (made (done (did_begin writer (index_in s.begun writer) trx)) ∷ []) w in
-    record {
-      front = made (done (did_begin writer (index_in s.begun writer) trx)) ∷ [];
-      call = put trx table key value;
-      makes = not_changed trx cause refl;
-      carried = (is_done _, tt);
-      happened = subst Q (sym is.1) (carried s u _ begins);
-      stands = subst P (sym is.1) is.0;
-    }
-put_refused s u t writer table key trx value NoMemory begins is =
-    let Q : State → Type 0 = λ w. Events donor_of EngineStep s (made (done (did_begin writer (index_in s.begun writer) trx)) ∷ []) w in
-    record {
-      front = made (done (did_begin writer (index_in s.begun writer) trx)) ∷ [];
-      next = made (refused (put trx table key value) NoSuchTrx);
-      rest = [];
-      makes = not_changed trx NoSuchTrx refl;
-      carried = (is_done _, tt);
-      happened = subst Q (sym is) (carried s u _ begins);
-    }
-
--- the change of a `set` is made
-changed : (s u v : State) (writer table key trx : ℕ) (value : List ℕ) → Carries s (did_begin writer (index_in s.begun writer) trx) u → Carries u (did_put trx table key value) v
-    → Events donor_of EngineStep s (made (done (did_begin writer (index_in s.begun writer) trx)) ∷ made (done (did_put trx table key value)) ∷ []) v
-changed s u v writer table key trx value begins puts = (u, (begins.engine, begins.step, begins.is), carried u v _ puts)
-
--- its commits are those of before
-same_binlog : (s u v : State) (writer table key trx index : ℕ) (value : List ℕ) → Carries s (did_begin writer index trx) u → Carries u (did_put trx table key value) v → v.donor.donor.binlog ≡ s.donor.donor.binlog
-same_binlog s u v writer table key trx index value begins puts =
-    ap (λ (w : State). w.donor.donor.binlog) puts.is ∙ ap (λ (d : Donor). d.binlog) puts.step.plain.1.is ∙ ap (λ (w : State). w.donor.donor.binlog) begins.is ∙ ap (λ (d : Donor). d.binlog) begins.step.plain.1.1
-
-pub set_commits : (s u v t : State) (writer table key trx : ℕ) (value : List ℕ) (result : Result ℕ EngineRefusal) → Carries s (did_begin writer (index_in s.begun writer) trx) u → Carries u (did_put trx table key value) v → Called v (commit trx) (λ position. did_commit trx position) result t
-    → Sets s writer table key value result t
-set_commits s u v t writer table key trx value (Ok position) begins puts is =
-    record {
-      events = made (done (did_begin writer (index_in s.begun writer) trx)) ∷ made (done (did_put trx table key value)) ∷ made (done (did_commit trx position)) ∷ [];
-      makes = set trx (done (did_commit trx position)) refl refl;
-      happened = (u, (begins.engine, begins.step, begins.is), (v, (puts.engine, puts.step, puts.is), carried v t _ is));
-      is = refl;
-      count = is.step.plain.1.count ∙ ap (λ b. length b + 1) (same_binlog s u v writer table key trx (index_in s.begun writer) value begins puts);
-    }
-set_commits s u v t writer table key trx value (Err (Because cause)) begins puts is =
-    let P : State → Type 0 = λ w. EngineStep w.donor (refused (commit trx) cause) w.donor in
-    let Q : State → Type 0 = λ w. Events donor_of EngineStep s (made (done (did_begin writer (index_in s.begun writer) trx)) ∷ made (done (did_put trx table key value)) ∷ []) w in
-    record {
-      front = made (done (did_begin writer (index_in s.begun writer) trx)) ∷ made (done (did_put trx table key value)) ∷ [];
-      call = commit trx;
-      makes = set trx (refused (commit trx) cause) refl refl;
-      carried = (is_done _, (is_done _, tt));
-      happened = subst Q (sym is.1) (changed s u v writer table key trx value begins puts);
-      stands = subst P (sym is.1) is.0;
-    }
-set_commits s u v t writer table key trx value (Err NoMemory) begins puts is =
-    let Q : State → Type 0 = λ w. Events donor_of EngineStep s (made (done (did_begin writer (index_in s.begun writer) trx)) ∷ made (done (did_put trx table key value)) ∷ []) w in
-    record {
-      front = made (done (did_begin writer (index_in s.begun writer) trx)) ∷ made (done (did_put trx table key value)) ∷ [];
-      next = made (refused (commit trx) NoSuchTrx);
-      rest = [];
-      makes = set trx (refused (commit trx) NoSuchTrx) refl refl;
-      carried = (is_done _, (is_done _, tt));
-      happened = subst Q (sym is) (changed s u v writer table key trx value begins puts);
-    }
-
--- a refusal that is passed on
-passed_on : (s t : State) (writer table key : ℕ) (value : List ℕ) (refusal : EngineRefusal) (result : Result ℕ EngineRefusal) → IsErrAnd result (λ e. e ≡ refusal) → Sets s writer table key value (Err refusal) t → Sets s writer table key value result t
-passed_on s t writer table key value refusal (Ok x) is sets = absurd is
-passed_on s t writer table key value refusal (Err e) is sets = let P : EngineRefusal → Type 0 = λ r. Sets s writer table key value (Err r) t in subst P (sym is) sets
-
-pub set_not_begun : (s t : State) (writer table key : ℕ) (value : List ℕ) (refusal : EngineRefusal) (result : Result ℕ EngineRefusal) → Called s (begin writer (index_in s.begun writer)) (λ trx. did_begin writer (index_in s.begun writer) trx) (Err refusal) t
-    → IsErrAnd result (λ e. e ≡ refusal) → Sets s writer table key value result t
-set_not_begun s t writer table key value refusal result is passed = passed_on s t writer table key value refusal result passed (begin_refused s t writer table key value refusal is)
-
-pub set_not_changed : (s u t : State) (writer table key trx : ℕ) (value : List ℕ) (refusal : EngineRefusal) (result : Result ℕ EngineRefusal) → Carries s (did_begin writer (index_in s.begun writer) trx) u
-    → Called {X = Unit {0}} u (put trx table key value) (λ _. did_put trx table key value) (Err refusal) t → IsErrAnd result (λ e. e ≡ refusal) → Sets s writer table key value result t
-set_not_changed s u t writer table key trx value refusal result begins is passed = passed_on s t writer table key value refusal result passed (put_refused s u t writer table key trx value refusal begins is)
-
-set_answer : (s t : State) (writer table key : ℕ) (value : List ℕ) (called : Result ℕ EngineRefusal) (text answer : Text) → Sets s writer table key value called t → text ≡ codes "committed " ++ decimal (length s.donor.donor.binlog + 1)
-    → MatchResult called (λ _. answer ≡ text) (λ refusal. SaysCause refusal answer) → Answers s (lines.Set writer table key value) answer t
-set_answer s t writer table key value (Ok position) text answer is told says =
-    record { events = is.events; step = (is.makes, is.happened); is = says ∙ told ∙ ap (λ n. codes "committed " ++ decimal n) (sym is.count) ∙ sym is.is }
-set_answer s t writer table key value (Err refusal) text answer is told says =
-    let P : EngineRefusal → Type 0 = λ r. Sets s writer table key value (Err r) t in
-    let at : RefusesSet s writer table key value says.cause t = subst P says.is is in
-    record {
-      events = at.front ++ made (refused at.call says.cause) ∷ [];
-      step = (at.makes, Events-append donor_of EngineStep s at.front _ t t at.happened (stays t t at.call says.cause at.stands refl));
-      is = says.same ∙ sym (said-last at.front (made (refused at.call says.cause)));
-    }
-
-pub set_answers : {A : Type 0} (bytes : A → Text) (s t : State) (writer table key : ℕ) (value : List ℕ) (called : Result ℕ EngineRefusal) (text : Text) (result : Result A AllocError) → Sets s writer table key value called t → text ≡ codes "committed " ++ decimal (length s.donor.donor.binlog + 1)
-    → IfOk result (λ a. MatchResult called (λ _. bytes a ≡ text) (λ refusal. SaysCause refusal (bytes a))) → IfOk result (λ a. Answers s (lines.Set writer table key value) (bytes a) t)
-set_answers bytes s t writer table key value called text (Err e) is told says = tt
-set_answers bytes s t writer table key value called text (Ok a) is told says = set_answer s t writer table key value called text (bytes a) is told says
-
-pub set_breaks : {A : Type 0} (s t : State) (writer table key : ℕ) (value : List ℕ) (called : Result ℕ EngineRefusal) (result : Result A AllocError) → Sets s writer table key value called t → OnErr result (IsErr called) → OnErr result (BreaksOff s (lines.Set writer table key value) t)
-set_breaks s t writer table key value called (Ok a) is failed = tt
-set_breaks s t writer table key value (Ok position) (Err e) is failed = cc
-set_breaks s t writer table key value (Err (Because cause)) (Err e) is failed = record { front = is.front; next = made (refused is.call cause); rest = []; makes = is.makes; carried = is.carried; happened = is.happened }
-set_breaks s t writer table key value (Err NoMemory) (Err e) is failed = is
+pub fail_recipient_makes : (next : ℕ → ℕ) (line : Line) (call at : ℕ) → line ≡ lines.FailRecipient call → at ≡ call → Makes next line (ordered to_recipient (orders.FailAt at) ∷ [])
+fail_recipient_makes next line call at is same =
+    let P : Line → Type 0 = λ l. Makes next l (ordered to_recipient (orders.FailAt at) ∷ []) in
+    subst P (sym is) (ap (λ (n : ℕ). ordered to_recipient (orders.FailAt n) ∷ []) same)

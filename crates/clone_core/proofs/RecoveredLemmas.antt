@@ -1,50 +1,74 @@
--- What recovery gives of a log that replays to an image.
-use Rattle.std.proofs.Common.{◌≡◌, ℕ, ◌<◌, ◌≤◌, List, length, refl, sym, ap, ◌∙◌, subst, None, Some, IfSome, Option}
-use Rattle.clone_core.proofs.Common.{AllByRecursion, Rows, IsEntry, capacity, UndoSlot, Image, page_of, undo_slot_of, recovered, HasRows, Recovers, IsCause, FirstDamaged, by_count, by_record}
-use Rattle.clone_undo.specs.Places.{slot_count}
-use Rattle.clone_image.specs.Replay.{Replays, replayed}
-use Rattle.clone_recover.specs.declared.refusal.Damage.{Damage}
-use Rattle.clone_recover.specs.declared.refusal.Damage.TheVariants.{Redo, Undo}
-use Rattle.clone_recover.specs.declared.refusal.RecoverRefusal.TheVariants.{Damaged}
+-- A disk that was recovered just now: its rows, and why they weren't read.
+use Rattle.std.proofs.Common.{◌≡◌, ◌<◌, ◌^◌, ℕ, List, true, false, refl, sym, ap, ◌∙◌, subst, Option, Some, None, is_some, Result, Ok, Err, IfOk, IfErr, Vec}
+use Rattle.std.specs.Prelude.{IsErrOf}
+use Rattle.std.specs.declared.alloc.Global.{Global}
+use Rattle.clone_outside.specs.Disk.{DiskImage, ForTold}
+use Rattle.clone_outside.specs.declared.mark.Mark.TheVariants as mark
+use Rattle.clone_model.specs.History.{Row}
+use Rattle.clone_recover.specs.Listing.{ListsRows, ListsRowsOn}
+use Rattle.clone_recover.specs.Restores.{Answers, ForStep, HasRecovered, IsCause, IsUnrecovered, IsRowsCause, incomplete, complete, unmarked, under_way}
+use Rattle.clone_recover.specs.declared.recovery.Recovered.{Recovered}
+use Rattle.clone_recover.specs.declared.refusal.RecoverRefusal.{RecoverRefusal}
+use Rattle.clone_recover.specs.declared.refusal.RecoverRefusal.TheVariants.{Incomplete, Damaged, DiskFault, NoMemory}
+use Rattle.clone_apply.proofs.EndMarks.{not_both, recovered_not_under_way}
+use Rattle.clone_core.specs.Showing.{ShowsRecovered}
 
--- a log replays to one image
-abbrev pub Once : Type 0
-Once = (bytes : List ℕ) (i j : Image) → Replays bytes i → Replays bytes j → i ≡ j
+abbrev RowsRead : Type 0
+RowsRead = Result (Vec Row Global) RecoverRefusal
 
--- each undo slot of an image that is in use has records in their ranges
-abbrev pub HasRanges : Image → Type 0
-HasRanges image = (s : ℕ) (slot : UndoSlot) → s < slot_count → undo_slot_of image s ≡ Some slot → AllByRecursion IsEntry slot.records
+-- the rows are those of the recovered disk
+pub recovered_shows : (result : RowsRead) (old mid new : Option DiskImage) (numbers : Recovered) → numbers.position < 2 ^ 64 → ForStep old mid (λ m n. Answers m n numbers) → new ≡ mid → IfOk result (λ list. ListsRowsOn mid list.items)
+    → IfOk result (λ list. ForStep old new (λ m n. ShowsRecovered m n list.items))
+recovered_shows (Err e) old mid new numbers range step same lists = tt
+recovered_shows (Ok list) None mid new numbers range step same lists = tt
+recovered_shows (Ok list) (Some m) mid new numbers range step same lists =
+    let P : Option DiskImage → Type 0 = λ o. ListsRowsOn o list.items in
+    (step.0, (same ∙ step.1.0, record { numbers = numbers; range = range; recovers = step.1.1; lists = subst P step.1.0 lists }))
 
-rows_after : (f : Image → Image) (left was image : Image) (rows : Rows) → image ≡ f left → left ≡ was → HasRows (page_of (f was)) rows → HasRows (page_of image) rows
-rows_after f left was image rows is same has = subst (λ (i : Image). HasRows (page_of i) rows) (sym (is ∙ ap f same)) has
+-- a recovered mark stands there, and no other
+not_incomplete : (n : DiskImage) → HasRecovered n → IsUnrecovered n → ⊥
+not_incomplete n has (incomplete (unmarked none)) = none (mark.Recovered has.0) has.1 has.2
+not_incomplete n has (incomplete (under_way session is)) = recovered_not_under_way n has.0 session has.2 is
+not_incomplete n has (complete end is) = not_both n end has.0 is has.2
 
-pub rows_recovered : (log bytes : List ℕ) (was image : Image) (rows : Rows) → bytes ≡ log → Once → Replays log was → HasRows (page_of (recovered was)) rows → Recovers bytes image → HasRows (page_of image) rows
-rows_recovered log bytes was image rows same once replays has is =
-    let of_log : Recovers log image = subst (λ (b : List ℕ). Recovers b image) same is in
-    rows_after recovered of_log.left was image rows of_log.is (once log of_log.left was (record { log = of_log.log; made = of_log.made }) replays) has
+not_told : {X : Type 0} → false ≡ true → X
+not_told is = absurd (let e = is in cc)
 
--- each undo slot of an image that is in use has no more records than it can have
-abbrev pub HasCounts : Image → Type 0
-HasCounts image = (s : ℕ) (slot : UndoSlot) → s < slot_count → undo_slot_of image s ≡ Some slot → length slot.records ≤ capacity
+nothing : (told : Option DiskImage) → ForTold told (λ m. Unit {0})
+nothing None = tt
+nothing (Some m) = tt
 
-if_some : {X : Type 0} (found : Option X) (P : X → Type 0) → ((x : X) → found ≡ Some x → P x) → IfSome found P
-if_some None P is = tt
-if_some (Some x) P is = is x refl
+-- a disk that tells what it holds isn't found without its mark
+known : (old mid : Option DiskImage) → ForTold mid HasRecovered → is_some mid ≡ is_some old → ForTold mid (λ m. IsRowsCause m Incomplete) → ForTold old (λ m. ⊥)
+known None mid has tells cause = tt
+known (Some m) None has tells cause = not_told tells
+known (Some m) (Some n) has tells cause = not_incomplete n has cause
 
-first_damaged : (image : Image) (s : ℕ) → HasCounts image → HasRanges image → FirstDamaged image s → ⊥
-first_damaged image s counts ranges (by_count below before damaged) = damaged (if_some (undo_slot_of image s) _ (λ slot is. counts s slot below is))
-first_damaged image s counts ranges (by_record below all before damaged) = damaged (if_some (undo_slot_of image s) _ (λ slot is. ranges s slot below is))
+absurd_cause : (old : Option DiskImage) (P : DiskImage → Type 0) → ForTold old (λ m. ⊥) → ForTold old P
+absurd_cause None P is = tt
+absurd_cause (Some m) P is = absurd is
 
-not_damaged : (log : List ℕ) (was : Image) (damage : Damage) → Once → Replays log was → HasCounts was → HasRanges was → IsCause log (Damaged damage) → ⊥
-not_damaged log was Redo once replays counts ranges cause = cause replays.log
-not_damaged log was (Undo s) once replays counts ranges cause =
-    let same : replayed cause.log.mtrs ≡ was = once log (replayed cause.log.mtrs) was (record { log = cause.log; made = refl }) replays in
-    let P : Image → Type 0 = λ i. FirstDamaged i s in
-    first_damaged was s counts ranges (subst P same cause.first)
+undamaged : (old mid : Option DiskImage) → is_some mid ≡ is_some old → ForTold mid (λ m. ⊥) → ForTold old (λ m. ⊥)
+undamaged None mid tells is = tt
+undamaged (Some m) None tells is = not_told tells
+undamaged (Some m) (Some n) tells is = is
 
-pub no_damage : (log bytes : List ℕ) (was : Image) (damage : Damage) → bytes ≡ log → Once → Replays log was → HasCounts was → HasRanges was → IsCause bytes (Damaged damage) → ⊥
-no_damage log bytes was damage same once replays counts ranges cause = not_damaged log was damage once replays counts ranges (subst (λ (b : List ℕ). IsCause b (Damaged damage)) same cause)
+pub recovered_cause : (result : RowsRead) (old mid : Option DiskImage) → ForTold mid HasRecovered → is_some mid ≡ is_some old → IfErr result (λ refusal. ForTold mid (λ m. IsRowsCause m refusal)) → IfErr result (λ refusal. ForTold old (λ m. IsCause m refusal))
+recovered_cause (Ok list) old mid has tells cause = tt
+recovered_cause (Err Incomplete) old mid has tells cause = absurd_cause old _ (known old mid has tells cause)
+recovered_cause (Err (Damaged space page why)) old mid has tells cause = absurd_cause old _ (undamaged old mid tells cause)
+recovered_cause (Err DiskFault) old mid has tells cause = nothing old
+recovered_cause (Err NoMemory) old mid has tells cause = nothing old
 
--- what recovery made of the bytes, by the log that they are
-pub recovers_log : (log bytes : List ℕ) (image : Image) → bytes ≡ log → Recovers bytes image → Recovers log image
-recovers_log log bytes image same is = subst (λ (b : List ℕ). Recovers b image) same is
+-- the disk is as before: it tells nothing
+same_none : (old new : Option DiskImage) → ForTold old (λ m. ⊥) → is_some new ≡ is_some old → new ≡ old
+same_none None None is tells = refl
+same_none None (Some n) is tells = not_told (sym tells)
+same_none (Some m) new is tells = absurd is
+
+pub recovered_same : (result : RowsRead) (old mid new : Option DiskImage) → ForTold mid HasRecovered → is_some mid ≡ is_some old → new ≡ mid → IfErr result (λ refusal. ForTold mid (λ m. IsRowsCause m refusal)) → IsErrOf result Incomplete → new ≡ old
+recovered_same (Ok list) old mid new has tells same cause is = absurd (let e = is in cc)
+recovered_same (Err refusal) old mid new has tells same cause is =
+    let is_incomplete : refusal ≡ Incomplete = cc in
+    let P : RecoverRefusal → Type 0 = λ r. ForTold mid (λ m. IsRowsCause m r) in
+    same ∙ same_none old mid (known old mid has tells (subst P is_incomplete cause)) tells

@@ -1,32 +1,49 @@
 -- What a run of a world from the beginning says, by the laws of plain runs.
-use Rattle.std.proofs.Common.{ℕ, ◌≤◌, List, [], ◌∷◌, ◌++◌, length, ap, subst, None}
-use Rattle.clone_core.proofs.Common.{Line, Donor, Event, AreCommits, AreSets, ShowsStop, all_events, IsWithin, opened, events_add, are_commits, shows_stop, EngineStep, State, donor_of, IsNew, Runs, Answers}
+use Rattle.std.proofs.Common.{◌≡◌, ◌≤◌, ◌⊎◌, ℕ, List, [], ◌∷◌, length, Bool, true, sym, ap, subst}
+use Rattle.clone_outside.specs.Causes.{Rose}
+use Rattle.clone_model.specs.declared.line.Line.{Line}
+use Rattle.clone_plain.specs.Donor.{Donor}
+use Rattle.clone_plain.specs.Events.{Event}
+use Rattle.clone_plain.specs.Headline.{AreCommits, AreSets, ShowsStop, all_events}
+use Rattle.clone_plain.specs.World.{Stop, Clone, IsWithin, no_clone, opened}
+use Rattle.std.specs.declared.option.Option.{Option}
+use Rattle.clone_plain.proofs.BinlogLemmas.{events_add, are_commits}
 use Rattle.clone_plain.proofs.ReachedLemmas.{Runs-IsWithin}
-use Rattle.clone_plain.proofs.RunLemmas as plain
+use Rattle.clone_plain.proofs.RunLemmas.{Runs-Events, Runs-tells}
 use Rattle.clone_plain.proofs.SetLemmas.{are_sets}
+use Rattle.clone_plain.proofs.StopLemmas.{IsStop, shows_stop}
+use Rattle.clone_core.specs.System.{SystemStep, donor_of}
+use Rattle.clone_core.specs.Lines.{State, IsNew, Runs}
+use Rattle.clone_core.proofs.StepLemmas.{refines}
+use Rattle.clone_core.proofs.FaultLemmas.{events_met, met_since}
 
--- one more line
-pub Runs-push : (s : State) (lines : List Line) (events : List (List Event)) (t : State) (l : Line) (text : List ℕ) (u : State) → Runs s lines events t → (answers : Answers t l text u) → Runs s (lines ++ l ∷ []) (events ++ answers.events ∷ []) u
-Runs-push s lines events t l text u run answers = plain.Runs-push donor_of EngineStep s lines events t l answers.events u run answers.step
-
--- a run from the engine that a new world has
-from_engine : (s : State) (new : IsNew s) (lines : List Line) (events : List (List Event)) (t : State) → Runs s lines events t → Runs (opened s.donor) lines events t
-from_engine s new lines events t run = let P : State → Type 0 = λ w. Runs w lines events t in subst P (λ i. record { donor = s.donor; begun = new.begun i; stop = new.stop i }) run
-
-pub run_commits : (s : State) (lines : List Line) (events : List (List Event)) (t : State) → IsNew s → Runs s lines events t → AreCommits (all_events events) t.donor.donor.binlog
+pub run_commits : (s : State) (lines : List Line) (events : List (List Event)) (t : State) → IsNew s → Runs s lines events t → AreCommits (all_events events) (donor_of t.donor).binlog
 run_commits s lines events t new run =
-    let first = s.donor in
-    let whole = plain.Runs-Events donor_of EngineStep (opened first) lines events t (from_engine s new lines events t run) in
-    are_commits first.donor t.donor.donor (all_events events) (ap (λ (d : Donor). d.binlog) new.empty) (events_add donor_of EngineStep (λ d e m step. step.plain) (opened first) (all_events events) t whole)
+    let whole = Runs-Events donor_of SystemStep s lines events t run in
+    are_commits (donor_of s.donor) (donor_of t.donor) (all_events events) (ap (λ (d : Donor). d.binlog) new.donor.donor) (events_add donor_of SystemStep refines s (all_events events) t whole)
 
-pub run_sets : (s : State) (lines : List Line) (events : List (List Event)) (t : State) → IsNew s → Runs s lines events t → AreSets lines events t.donor.donor.binlog
-run_sets s lines events t new run = are_sets donor_of EngineStep (λ d e m step. step.plain) (opened s.donor) lines events t (from_engine s new lines events t run)
+pub run_sets : (s : State) (lines : List Line) (events : List (List Event)) (t : State) → Runs s lines events t → AreSets lines events (donor_of t.donor).binlog
+run_sets s lines events t run = are_sets donor_of SystemStep refines s lines events t run
 
-pub run_stop : (s : State) (lines : List Line) (events : List (List Event)) (t : State) → IsNew s → Runs s lines events t → ShowsStop t.donor.donor.binlog t.donor.donor.drops None (all_events events)
+pub run_tells : (s : State) (lines : List Line) (events : List (List Event)) (t : State) → Runs s lines events t → t.tells ≡ s.tells
+run_tells s lines events t run = Runs-tells donor_of SystemStep s lines events t run
+
+-- a world without a clone has no stop
+no_stop : (s : State) → s.clone ≡ no_clone → IsStop s.clone.stop (donor_of s.donor)
+no_stop s none = let P : Option Stop → Type 0 = λ o. IsStop o (donor_of s.donor) in subst P (ap (λ (c : Clone). c.stop) (sym none)) tt
+
+pub run_stop : (s : State) (lines : List Line) (events : List (List Event)) (t : State) → IsNew s → Runs s lines events t → ShowsStop (donor_of t.donor).binlog (donor_of t.donor).drops t.tells no_clone (all_events events)
 run_stop s lines events t new run =
-    let first = s.donor in
-    shows_stop donor_of EngineStep (λ d e m step. step.plain) (opened first) (all_events events) t tt (plain.Runs-Events donor_of EngineStep (opened first) lines events t (from_engine s new lines events t run))
+    let shows = shows_stop donor_of SystemStep refines s (all_events events) t (no_stop s new.clone) (Runs-Events donor_of SystemStep s lines events t run) in
+    let P : Bool → Type 0 = λ b. ShowsStop (donor_of t.donor).binlog (donor_of t.donor).drops b s.clone (all_events events) in
+    let Q : Clone → Type 0 = λ c. ShowsStop (donor_of t.donor).binlog (donor_of t.donor).drops t.tells c (all_events events) in
+    subst Q new.clone (subst P (sym (run_tells s lines events t run)) shows)
 
 pub run_within : (s : State) (lines : List Line) (events : List (List Event)) (t : State) (n : ℕ) → IsNew s → Runs s lines events t → length lines ≤ n → IsWithin donor_of n t
 run_within s lines events t n new run le =
-    Runs-IsWithin donor_of EngineStep (λ d e m step. step.plain) s.donor (ap (λ (d : Donor). d.binlog) new.empty) lines events t n (from_engine s new lines events t run) le
+    let P : State → Type 0 = λ w. Runs w lines events t in
+    let from : Runs (opened s.donor s.tells) lines events t = subst P (λ i. record { donor = s.donor; begun = new.begun i; clone = new.clone i; tells = s.tells }) run in
+    Runs-IsWithin donor_of SystemStep refines s.donor (ap (λ (d : Donor). d.binlog) new.donor.donor) s.tells lines events t n from le
+
+pub run_fault : (s : State) (lines : List Line) (events : List (List Event)) (t : State) → IsNew s → Runs s lines events t → ((t.clone.broken ≡ true) ⊎ (t.clone.doubted ≡ true)) → Rose s.donor.recipient.failures t.donor.recipient.failures
+run_fault s lines events t new run met = met_since s t new.clone (events_met s (all_events events) t (Runs-Events donor_of SystemStep s lines events t run) met)

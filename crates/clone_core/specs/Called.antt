@@ -1,44 +1,34 @@
 -- What a call leaves, by what it answered.
-use Rattle.std.specs.Prelude.{ℕ, ◌≡◌, ◌+◌, ◌++◌, ◌∷◌, [], List, length, codes}
+use Rattle.std.specs.Prelude.{ℕ, ◌≡◌, ◌+◌, ◌++◌, ◌∷◌, [], List, length, None, codes}
 use Rattle.std.specs.Fmt.{decimal}
-use Rattle.std.specs.List.{AllByRecursion}
+use Rattle.std.specs.List.{AllByRecursion, flat_map}
 use Rattle.std.specs.declared.result.Result.{Result}
 use Rattle.std.specs.declared.result.Result.TheVariants.{Ok, Err}
+use Rattle.clone_model.specs.declared.line.Line.TheVariants.{Set, Clean}
 use Rattle.clone_plain.specs.declared.refusal.Cause.{Cause}
 use Rattle.clone_plain.specs.declared.refusal.EngineRefusal.{EngineRefusal}
 use Rattle.clone_plain.specs.declared.refusal.EngineRefusal.TheVariants.{Because, NoMemory}
 use Rattle.clone_plain.specs.Answers.{Text, refusal_text}
-use Rattle.clone_plain.specs.Calls.{Call, Done, done, refused}
+use Rattle.clone_plain.specs.Calls.{Call, Done, did_oldest_dirty, done, refused, call_of}
 use Rattle.clone_plain.specs.World.{index_in}
-use Rattle.clone_plain.specs.Events.{Event, made, counted, said, Events}
-use Rattle.clone_plain.specs.Runs.{MakesSet}
+use Rattle.clone_plain.specs.Events.{Event, event_text, made, said, Happens}
+use Rattle.clone_plain.specs.Runs.{MakesSet, flushed}
 use Rattle.clone_plain.specs.BreaksOff.{IsDone}
-use Rattle.clone_model.specs.declared.line.Line.TheVariants.{Set}
-use Rattle.clone_trx.specs.Engine.{EngineState}
-use Rattle.clone_trx.specs.Step.{EngineStep}
-use Rattle.clone_core.specs.Lines.{State, donor_of, BreaksOff}
+use Rattle.clone_core.specs.System.{SystemStep, donor_of}
+use Rattle.clone_core.specs.Lines.{State, Events, BreaksOff}
 
--- a call of the engine: it was carried out, or refused for a cause, or there was no memory for it
-abbrev pub EngineCalled : {X : Type 0} → EngineState → Call → (X → Done) → Result X EngineRefusal
-    → EngineState → Type 0
-EngineCalled e call did (Ok x) after = EngineStep e (done (did x)) after
-EngineCalled e call did (Err (Because cause)) after =
-    EngineStep e (refused call cause) e × (after ≡ e)
-EngineCalled e call did (Err NoMemory) after = after ≡ e
+-- what the plain donor is stays, and so do the writers' indexes
+pub record Stays (s t : State) : Type 0 where
+  pub donor : donor_of t.donor ≡ donor_of s.donor
+  pub begun : t.begun ≡ s.begun
 
--- the call was carried out in a world
-pub record Carries (s : State) (d : Done) (t : State) : Type 0 where
-  pub engine : EngineState
-  pub step : EngineStep s.donor (done d) engine
-  pub is : t ≡ record s { donor = engine; begun = counted (done d) s.begun }
-
--- the same of a world
+-- a call of the donor: it was carried out, or refused for a cause, or there was no memory for it
 abbrev pub Called : {X : Type 0} → State → Call → (X → Done) → Result X EngineRefusal → State
     → Type 0
-Called s call did (Ok x) t = Carries s (did x) t
+Called s call did (Ok x) t = Happens donor_of SystemStep s (made (done (did x))) t
 Called s call did (Err (Because cause)) t =
-    EngineStep s.donor (refused call cause) s.donor × (t ≡ s)
-Called s call did (Err NoMemory) t = t ≡ s
+    Happens donor_of SystemStep s (made (refused call cause)) t
+Called s call did (Err NoMemory) t = Stays s t
 
 -- the refusal is for a cause, and this is its text
 pub record SaysCause (refusal : EngineRefusal) (text : Text) : Type 0 where
@@ -54,20 +44,47 @@ pub record RefusesSet (s : State) (writer table key : ℕ) (value : List ℕ) (c
   pub makes : MakesSet writer (index_in s.begun writer) table key value
       (front ++ made (refused call cause) ∷ [])
   pub carried : AllByRecursion IsDone front
-  pub happened : Events donor_of EngineStep s front t
-  pub stands : EngineStep t.donor (refused call cause) t.donor
+  pub happened : Events s (front ++ made (refused call cause) ∷ []) t
 
 -- all calls of a `set` were carried out
 pub record CommitsSet (s : State) (writer table key : ℕ) (value : List ℕ) (position : ℕ)
     (t : State) : Type 0 where
   pub events : List Event
   pub makes : MakesSet writer (index_in s.begun writer) table key value events
-  pub happened : Events donor_of EngineStep s events t
+  pub happened : Events s events t
   pub is : said events ≡ codes "committed " ++ decimal position
-  pub count : position ≡ length s.donor.donor.binlog + 1
+  pub count : position ≡ length (donor_of s.donor).binlog + 1
 
 -- a `set` by what it answered
 abbrev pub Sets : State → ℕ → ℕ → ℕ → List ℕ → Result ℕ EngineRefusal → State → Type 0
 Sets s writer table key value (Ok position) t = CommitsSet s writer table key value position t
 Sets s writer table key value (Err (Because cause)) t = RefusesSet s writer table key value cause t
 Sets s writer table key value (Err NoMemory) t = BreaksOff s (Set writer table key value) t
+
+-- each dirty page was flushed, and so many landed
+pub record CleansAll (s : State) (landed : ℕ) (t : State) : Type 0 where
+  pub pages : List (ℕ × ℕ)
+  pub count : landed ≡ length pages
+  pub happened : Events s (flat_map flushed pages ++ made (done (did_oldest_dirty None)) ∷ []) t
+
+-- a call of a flush was refused, behind pages that landed
+pub record StopsCleaning (s : State) (cause : Cause) (t : State) : Type 0 where
+  pub pages : List (ℕ × ℕ)
+  pub page : ℕ × ℕ
+  pub front : List Event
+  pub rest : List Event
+  pub next : Done
+  pub split : flushed page ≡ front ++ made (done next) ∷ rest
+  pub happened : Events s
+      (flat_map flushed pages ++ front ++ made (refused (call_of next) cause) ∷ []) t
+
+-- a `clean` by what it answered
+abbrev pub Cleans : State → Result ℕ EngineRefusal → State → Type 0
+Cleans s (Ok landed) t = CleansAll s landed t
+Cleans s (Err (Because cause)) t = StopsCleaning s cause t
+Cleans s (Err NoMemory) t = BreaksOff s Clean t
+
+-- one event happened, and its text is the answer
+pub record Notes (s : State) (event : Event) (text : Text) (t : State) : Type 0 where
+  pub happened : Happens donor_of SystemStep s event t
+  pub is : text ≡ event_text event

@@ -1,3 +1,6 @@
+pub mod System
 pub mod Lines
+pub mod Codes
 pub mod Called
 pub mod Copied
+pub mod Showing

@@ -1,42 +1,41 @@
 -- A world as contracts see it, and what a line of a script does to it.
-use Rattle.std.specs.Prelude.{◌≡◌, List, None}
+use Rattle.std.specs.Prelude.{◌≡◌, List}
 use Rattle.std.specs.FinMap as finite
 use Rattle.clone_model.specs.declared.line.Line.{Line}
-use Rattle.clone_plain.specs.Donor.{Donor, no_donor}
 use Rattle.clone_plain.specs.Answers.{Text}
-use Rattle.clone_plain.specs.World.{World}
+use Rattle.clone_plain.specs.World.{World, no_clone}
 use Rattle.clone_plain.specs.Events.{Event, said}
+use Rattle.clone_plain.specs.Events as plain_events
 use Rattle.clone_plain.specs.Runs as plain
 use Rattle.clone_plain.specs.BreaksOff as broken
-use Rattle.clone_trx.specs.Engine.{EngineState}
-use Rattle.clone_trx.specs.Keys.{keys_in}
-use Rattle.clone_trx.specs.Step.{EngineStep}
+use Rattle.clone_donor.specs.Opened.{IsOpened}
+use Rattle.clone_core.specs.System.{System, SystemStep, donor_of, tell}
 
--- an engine, the indexes of its writers, and the stop of its clone
+-- a donor and the disk of a recipient, the indexes of writers, and the clone
 abbrev pub State : Type 0
-State = World EngineState
+State = World System
 
-abbrev pub donor_of : EngineState → Donor
-donor_of engine = engine.donor
-
--- a world in which nothing has happened: there is no table, no commit, and no place of a page has a
--- key
+-- a world in which nothing has happened
 pub record IsNew (s : State) : Type 0 where
-  pub empty : s.donor.donor ≡ no_donor
-  pub keys : keys_in s.donor.image ≡ (λ table page place. None)
+  pub donor : IsOpened s.donor.donor
   pub begun : s.begun ≡ finite.empty
-  pub stop : s.stop ≡ None
+  pub clone : s.clone ≡ no_clone
+  pub tells : s.tells ≡ tell s.donor
 
--- lines are carried out one after the other, each call a step of the engine
+-- events happen, each a step of donor and recipient
+abbrev pub Events : State → List Event → State → Type 0
+Events s events t = plain_events.Events donor_of SystemStep s events t
+
+-- lines are carried out one after the other
 abbrev pub Runs : State → List Line → List (List Event) → State → Type 0
-Runs s lines events t = plain.Runs donor_of EngineStep s lines events t
+Runs s lines events t = plain.Runs donor_of SystemStep s lines events t
 
 -- a line is carried out, and answers so
 pub record Answers (s : State) (line : Line) (text : Text) (t : State) : Type 0 where
   pub events : List Event
-  pub step : plain.LineStep donor_of EngineStep s line events t
+  pub step : plain.LineStep donor_of SystemStep s line events t
   pub is : text ≡ said events
 
 -- memory ran out in a line
 abbrev pub BreaksOff : State → Line → State → Type 0
-BreaksOff s line t = broken.BreaksOff donor_of EngineStep s line t
+BreaksOff s line t = broken.BreaksOff donor_of SystemStep s line t

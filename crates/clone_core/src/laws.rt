@@ -1,23 +1,40 @@
-ghost use Rattle.std.specs.Prelude.{◌≤◌, ℕ, List, length, None};
+ghost use Rattle.std.specs.Prelude.{◌≡◌, ◌≤◌, ◌⊎◌, ◌++◌, ℕ, List, length, true};
+ghost use Rattle.std.specs.List.{filter_map};
+ghost use Rattle.clone_outside.specs.Causes.{Rose};
 ghost use Rattle.clone_model.specs.declared.line.Line.{Line};
 ghost use Rattle.clone_plain.specs.Events.{Event};
-ghost use Rattle.clone_plain.specs.Headline.{AreCommits, AreSets, ShowsStop, all_events};
-ghost use Rattle.clone_plain.specs.World.{IsWithin};
-ghost use Rattle.clone_core.specs.Lines.{State, donor_of, IsNew, Runs};
+ghost use Rattle.clone_plain.specs.Headline.{AreCommits, AreSets, ShowsStop, all_events, donor_order, recipient_order};
+ghost use Rattle.clone_plain.specs.World.{IsWithin, no_clone};
+ghost use Rattle.clone_core.specs.System.{donor_of};
+ghost use Rattle.clone_core.specs.Lines.{State, IsNew, Runs};
 
 /// Each run of a world from the beginning: its binlog has a commit for each position that was
-/// answered, that of a `set` with its one change; the rows shown are those of the stop; and each
-/// line adds at most one commit, and one transaction of each writer.
+/// answered, that of a `set` with its one change; the rows shown are those of the stop, where they
+/// are known; each line adds at most one commit, and one transaction of each writer; each disk got
+/// the orders of the lines that are for it, and no others; and a fault of the recipient's disk that
+/// was answered is in its count.
 pub fn run_laws()
     ensures commits { (s : State) (lines : List Line) (events : List (List Event)) (t : State)
-        → IsNew s → Runs s lines events t → AreCommits (all_events events) t.donor.donor.binlog }
+        → IsNew s → Runs s lines events t
+        → AreCommits (all_events events) (donor_of t.donor).binlog }
     ensures sets { (s : State) (lines : List Line) (events : List (List Event)) (t : State)
-        → IsNew s → Runs s lines events t → AreSets lines events t.donor.donor.binlog }
+        → IsNew s → Runs s lines events t → AreSets lines events (donor_of t.donor).binlog }
     ensures stop { (s : State) (lines : List Line) (events : List (List Event)) (t : State)
-        → IsNew s
-        → Runs s lines events t
-        → ShowsStop t.donor.donor.binlog t.donor.donor.drops None (all_events events) }
+        → IsNew s → Runs s lines events t → ShowsStop (donor_of t.donor).binlog
+        (donor_of t.donor).drops t.tells no_clone (all_events events) }
     ensures within { (s : State) (lines : List Line) (events : List (List Event)) (t : State)
         → (n : ℕ)
         → IsNew s → Runs s lines events t → length lines ≤ n → IsWithin donor_of n t }
+    ensures donor_orders { (s : State) (lines : List Line) (events : List (List Event)) (t : State)
+        → Runs s lines events t → t.donor.donor.disk.orders
+        ≡ s.donor.donor.disk.orders ++ filter_map donor_order lines }
+    ensures recipient_orders { (s : State) (lines : List Line) (events : List (List Event))
+        → (t : State) → Runs s lines events t → t.donor.recipient.orders
+        ≡ s.donor.recipient.orders ++ filter_map recipient_order lines }
+    ensures tells { (s : State) (lines : List Line) (events : List (List Event)) (t : State)
+        → Runs s lines events t → t.tells ≡ s.tells }
+    ensures fault { (s : State) (lines : List Line) (events : List (List Event)) (t : State)
+        → IsNew s → Runs s lines events t
+        → ((t.clone.broken ≡ true) ⊎ (t.clone.doubted ≡ true))
+        → Rose s.donor.recipient.failures t.donor.recipient.failures }
 {}

@@ -1,15 +1,15 @@
-//! The world that a script acts on: a donor, the clone taken of it, and what each line does to
-//! them.
+//! The world that a script acts on: a donor, the disk of a recipient, the clone on it, and what
+//! each line does to them.
 #![tactic(auto)]
 
 mod begun;
 mod calls;
-mod joining;
+mod cloning;
 mod laws;
 mod lines;
+mod rows;
 mod texts;
 mod world;
 
-pub use joining::recovered_image;
 pub use laws::run_laws;
-pub use world::World;
+pub use world::{Copied, World};

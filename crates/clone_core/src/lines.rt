@@ -1,23 +1,22 @@
 ghost use Rattle.std.specs.Prelude.{◌≡◌, ◌^◌, ◌-◌, IfOk, OnErr};
 ghost use Rattle.std.specs.String.{string_bytes};
+ghost use Rattle.clone_outside.specs.declared.disk.DiskOrder.{DiskOrder};
 ghost use Rattle.clone_model.specs.declared.line.Line.TheVariants as lines;
+ghost use Rattle.clone_plain.specs.Events.{ordered, to_donor, to_recipient};
 ghost use Rattle.clone_plain.specs.World.{IsWithin};
-ghost use Rattle.clone_core.specs.Lines.{donor_of, Answers, BreaksOff};
-ghost use Rattle.clone_core.specs.Called.{Sets};
+ghost use Rattle.clone_core.specs.System.{donor_of};
+ghost use Rattle.clone_core.specs.Lines.{Answers, BreaksOff};
+ghost use Rattle.clone_core.specs.Called.{Cleans, Notes, Sets};
 
 use crate::World;
-use crate::joining::recovered_image;
-use crate::texts::{
-    answered, begun_text, committed_text, refused, rows_shown, undone_text, value_shown,
-};
-use crate::world::Copy;
-use clone_image::shown_is_the_map;
+use crate::texts::{answered, begun_text, committed_text, refused, undone_text, value_shown};
 use clone_model::{BucketCount, TableNumber};
+use clone_outside::{DiskOrder, PageDisk};
 use clone_plain::EngineRefusal;
 use std::alloc::{AllocError, Global};
 
 // What each line of a script does, and its answer, which is made before its call.
-impl World {
+impl<D: PageDisk, R: PageDisk> World<D, R> {
     // Makes a table.
     pub(crate) fn create_line(
         &mut self,
@@ -27,10 +26,10 @@ impl World {
     ) -> Result<String, AllocError>
         ensures ok { IfOk result (λ text. Answers self.old (lines.Create table buckets)
             (string_bytes text) self.new) }
-        ensures err { OnErr result (self.new ≡ self.old) }
+        ensures err { OnErr result (BreaksOff self.old (lines.Create table buckets) self.new) }
     {
         let text = String::from_str(alloc, "created")?;
-        let called = self.create(alloc, table, buckets);
+        let called = self.create(table, buckets);
         answered(alloc, called, text)
     }
 
@@ -39,9 +38,9 @@ impl World {
         requires { IsWithin donor_of (2 ^ 63 - 1) self.old }
         ensures ok { IfOk result (λ text. Answers self.old (lines.Begin writer) (string_bytes text)
             self.new) }
-        ensures err { OnErr result (self.new ≡ self.old) }
+        ensures err { OnErr result (BreaksOff self.old (lines.Begin writer) self.new) }
     {
-        let text = begun_text(alloc, &self.engine)?;
+        let text = begun_text(alloc, &self.donor)?;
         let called = self.begin(alloc, writer);
         answered(alloc, called, text)
     }
@@ -57,10 +56,11 @@ impl World {
     ) -> Result<String, AllocError>
         ensures ok { IfOk result (λ text. Answers self.old (lines.Put trx table key value.now)
             (string_bytes text) self.new) }
-        ensures err { OnErr result (self.new ≡ self.old) }
+        ensures err { OnErr result
+            (BreaksOff self.old (lines.Put trx table key value.now) self.new) }
     {
         let text = String::from_str(alloc, "ok")?;
-        let called = self.put(alloc, trx, table, key, value);
+        let called = self.put(trx, table, key, value);
         answered(alloc, called, text)
     }
 
@@ -74,23 +74,24 @@ impl World {
     ) -> Result<String, AllocError>
         ensures ok { IfOk result (λ text. Answers self.old (lines.Delete trx table key)
             (string_bytes text) self.new) }
-        ensures err { OnErr result (self.new ≡ self.old) }
+        ensures err { OnErr result (BreaksOff self.old (lines.Delete trx table key) self.new) }
     {
         let text = String::from_str(alloc, "ok")?;
-        let called = self.delete(alloc, trx, table, key);
+        let called = self.delete(trx, table, key);
         answered(alloc, called, text)
     }
 
     // Shows the value of a row.
     pub(crate) fn get_line(
-        &self,
+        &mut self,
         alloc: Global,
         trx: u32,
         table: TableNumber,
         key: u64,
     ) -> Result<String, AllocError>
-        ensures { IfOk result (λ text. Answers self.now (lines.Get trx table key)
-            (string_bytes text) self.now) }
+        ensures ok { IfOk result (λ text. Answers self.old (lines.Get trx table key)
+            (string_bytes text) self.new) }
+        ensures err { OnErr result (BreaksOff self.old (lines.Get trx table key) self.new) }
     {
         match self.get(trx, table, key) {
             Ok(value) => value_shown(alloc, value.as_ref()),
@@ -102,10 +103,10 @@ impl World {
     pub(crate) fn undo_line(&mut self, alloc: Global, trx: u32) -> Result<String, AllocError>
         ensures ok { IfOk result (λ text. Answers self.old (lines.Undo trx) (string_bytes text)
             self.new) }
-        ensures err { OnErr result (self.new ≡ self.old) }
+        ensures err { OnErr result (BreaksOff self.old (lines.Undo trx) self.new) }
     {
-        let text = undone_text(alloc, &self.engine, trx)?;
-        let called = self.undo_one(alloc, trx);
+        let text = undone_text(alloc, &self.donor, trx)?;
+        let called = self.undo_one(trx);
         answered(alloc, called, text)
     }
 
@@ -114,10 +115,10 @@ impl World {
         requires { IsWithin donor_of (2 ^ 63 - 1) self.old }
         ensures ok { IfOk result (λ text. Answers self.old (lines.Commit trx) (string_bytes text)
             self.new) }
-        ensures err { OnErr result (self.new ≡ self.old) }
+        ensures err { OnErr result (BreaksOff self.old (lines.Commit trx) self.new) }
     {
-        let text = committed_text(alloc, &self.engine)?;
-        let called = self.commit(alloc, trx);
+        let text = committed_text(alloc, &self.donor)?;
+        let called = self.commit(trx);
         answered(alloc, called, text)
     }
 
@@ -136,7 +137,7 @@ impl World {
         ensures err { OnErr result
             (BreaksOff self.old (lines.Set writer table key value.now) self.new) }
     {
-        let text = committed_text(alloc, &self.engine)?;
+        let text = committed_text(alloc, &self.donor)?;
         let called = self.set(alloc, writer, table, key, value);
         answered(alloc, called, text)
     }
@@ -155,40 +156,131 @@ impl World {
         ensures { Sets self.old writer table key value.now result self.new }
     {
         let trx = self.begin(alloc, writer)?;
-        self.put(alloc, trx, table, key, value)?;
-        self.commit(alloc, trx)
+        self.put(trx, table, key, value)?;
+        self.commit(trx)
     }
 
-    // Takes a clone from the log alone, unless one was taken.
-    pub(crate) fn clone_line(&mut self, alloc: Global) -> Result<String, AllocError>
-        ensures ok { IfOk result (λ text. Answers self.old lines.Clone (string_bytes text)
+    // The flush of a page begins.
+    pub(crate) fn flush_line(
+        &mut self,
+        alloc: Global,
+        space: u32,
+        page: u32,
+    ) -> Result<String, AllocError>
+        ensures ok { IfOk result (λ text. Answers self.old (lines.Flush space page)
+            (string_bytes text) self.new) }
+        ensures err { OnErr result (BreaksOff self.old (lines.Flush space page) self.new) }
+    {
+        let text = String::from_str(alloc, "begun")?;
+        let called = self.flush_begin(space, page);
+        answered(alloc, called, text)
+    }
+
+    // The first half of a page is written.
+    pub(crate) fn half_line(
+        &mut self,
+        alloc: Global,
+        space: u32,
+        page: u32,
+    ) -> Result<String, AllocError>
+        ensures ok { IfOk result (λ text. Answers self.old (lines.Half space page)
+            (string_bytes text) self.new) }
+        ensures err { OnErr result (BreaksOff self.old (lines.Half space page) self.new) }
+    {
+        let text = String::from_str(alloc, "half")?;
+        let called = self.flush_half(space, page);
+        answered(alloc, called, text)
+    }
+
+    // The other half of a page is written.
+    pub(crate) fn land_line(
+        &mut self,
+        alloc: Global,
+        space: u32,
+        page: u32,
+    ) -> Result<String, AllocError>
+        ensures ok { IfOk result (λ text. Answers self.old (lines.Land space page)
+            (string_bytes text) self.new) }
+        ensures err { OnErr result (BreaksOff self.old (lines.Land space page) self.new) }
+    {
+        let text = String::from_str(alloc, "landed")?;
+        let called = self.flush_land(space, page);
+        answered(alloc, called, text)
+    }
+
+    // Flushes each dirty page, the oldest first.
+    pub(crate) fn clean_line(&mut self, alloc: Global) -> Result<String, AllocError>
+        ensures ok { IfOk result (λ text. Answers self.old lines.Clean (string_bytes text)
             self.new) }
+        ensures err { OnErr result (BreaksOff self.old lines.Clean self.new) }
+    {
+        match self.clean() {
+            Ok(landed) => format!(in alloc; "cleaned {landed}"),
+            Err(refusal) => refused(alloc, refusal),
+        }
+    }
+
+    // Flushes the oldest dirty page until there is none, and answers how many landed.
+    fn clean(&mut self) -> Result<u64, EngineRefusal>
+        ensures { Cleans self.old result self.new }
+    {
+        self.donor.laws();
+        let mut landed = 0;
+        while let Some((space, page)) = self.oldest_dirty() {
+            self.flush_begin(space, page)?;
+            self.flush_half(space, page)?;
+            self.flush_land(space, page)?;
+            landed += 1;
+        }
+        Ok(landed)
+    }
+
+    // Takes a checkpoint.
+    pub(crate) fn checkpoint_line(&mut self, alloc: Global) -> Result<String, AllocError>
+        ensures ok { IfOk result (λ text. Answers self.old lines.Checkpoint (string_bytes text)
+            self.new) }
+        ensures err { OnErr result (BreaksOff self.old lines.Checkpoint self.new) }
+    {
+        let lsn = self.checkpoint();
+        format!(in alloc; "checkpoint {lsn}")
+    }
+
+    // Shows the log's end.
+    pub(crate) fn lsn_line(&mut self, alloc: Global) -> Result<String, AllocError>
+        ensures ok { IfOk result (λ text. Answers self.old lines.Lsn (string_bytes text) self.new) }
+        ensures err { OnErr result (BreaksOff self.old lines.Lsn self.new) }
+    {
+        let lsn = self.end();
+        format!(in alloc; "lsn {lsn}")
+    }
+
+    // Gives the donor's disk an order.
+    pub(crate) fn donor_order_line(
+        &mut self,
+        alloc: Global,
+        order: DiskOrder,
+    ) -> Result<String, AllocError>
+        ensures ok { IfOk result (λ text. Notes self.old (ordered to_donor order)
+            (string_bytes text) self.new) }
         ensures err { OnErr result (self.new ≡ self.old) }
     {
-        if let Some(copy) = &self.copy {
-            let position = copy.position;
-            return format!(in alloc; "complete position {position}");
-        }
-        let position = self.engine.binlog().len() as u64;
-        let text = format!(in alloc; "complete position {position}")?;
-        let image = recovered_image(alloc, &self.engine)?;
-        self.engine.laws();
-        self.copy = Some(Copy {
-            image,
-            position,
-            drops: 0,
-        });
+        let text = String::from_str(alloc, "noted")?;
+        self.donor.order(order)?;
         Ok(text)
     }
 
-    // Shows the rows of the clone.
-    pub(crate) fn rows_line(&self, alloc: Global) -> Result<String, AllocError>
-        ensures { IfOk result (λ text. Answers self.now lines.Rows (string_bytes text) self.now) }
+    // Gives the recipient's disk an order.
+    pub(crate) fn recipient_order_line(
+        &mut self,
+        alloc: Global,
+        order: DiskOrder,
+    ) -> Result<String, AllocError>
+        ensures ok { IfOk result (λ text. Notes self.old (ordered to_recipient order)
+            (string_bytes text) self.new) }
+        ensures err { OnErr result (self.new ≡ self.old) }
     {
-        shown_is_the_map();
-        match &self.copy {
-            None => String::from_str(alloc, "incomplete"),
-            Some(copy) => rows_shown(alloc, &copy.image),
-        }
+        let text = String::from_str(alloc, "noted")?;
+        self.recipient.order(order)?;
+        Ok(text)
     }
 }

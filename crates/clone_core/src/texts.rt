@@ -1,40 +1,43 @@
 ghost use Rattle.std.specs.Prelude.{◌≡◌, ◌<◌, ◌+◌, ◌-◌, ◌^◌, ◌++◌, ℕ, Some, length, IfOk, OnErr, IsErr, MatchResult, option_copied, codes};
 ghost use Rattle.std.specs.Fmt.{decimal};
 ghost use Rattle.std.specs.String.{string_bytes};
-ghost use Rattle.clone_model.specs.History.{Rows, rows_in};
-ghost use Rattle.clone_image.specs.Image.{page_of};
-ghost use Rattle.clone_image.specs.Rows.{ShowsRows};
 ghost use Rattle.clone_plain.specs.declared.refusal.Undone.{Undone};
-ghost use Rattle.clone_plain.specs.Donor.{Donor};
+ghost use Rattle.clone_plain.specs.Donor as plain;
 ghost use Rattle.clone_plain.specs.Causes.{least_unused};
 ghost use Rattle.clone_plain.specs.Effects.{Undoes};
 ghost use Rattle.clone_plain.specs.Answers.{undone_answer, rows_answer, value_answer};
+ghost use Rattle.clone_plain.specs.Events.{complete_text, damaged, event_text, recipient_fault};
+ghost use Rattle.clone_core.specs.System.{why_text};
 ghost use Rattle.clone_core.specs.Called.{SaysCause};
 
-use clone_image::Image;
+use clone_donor::Donor;
 use clone_model::{Value, push_value, rows_text};
+use clone_outside::PageDisk;
 use clone_plain::EngineRefusal;
-use clone_recover::open_rows;
-use clone_trx::Engine;
+use clone_recover::Why;
 use std::alloc::{AllocError, Global};
 
 /// The answer of a `begin` that isn't refused.
-pub fn begun_text(alloc: Global, engine: &Engine) -> Result<String, AllocError>
-    ensures { IfOk result (λ text. (trx : ℕ) → least_unused engine.now.donor.active ≡ Some trx
+pub fn begun_text<D: PageDisk>(alloc: Global, donor: &Donor<D>) -> Result<String, AllocError>
+    ensures { IfOk result (λ text. (trx : ℕ) → least_unused donor.now.donor.active ≡ Some trx
         → string_bytes text ≡ codes "trx " ++ decimal trx) }
 {
-    match engine.next_number() {
+    match donor.next_number() {
         Some(trx) => format!(in alloc; "trx {trx}"),
         None => Ok(String::new(alloc)),
     }
 }
 
 /// The answer of an `undo` that isn't refused.
-pub fn undone_text(alloc: Global, engine: &Engine, trx: u32) -> Result<String, AllocError>
-    ensures { IfOk result (λ text. (undone : Undone) (after : Donor)
-        → Undoes engine.now.donor trx undone after → string_bytes text ≡ undone_answer undone) }
+pub fn undone_text<D: PageDisk>(
+    alloc: Global,
+    donor: &Donor<D>,
+    trx: u32,
+) -> Result<String, AllocError>
+    ensures { IfOk result (λ text. (undone : Undone) (after : plain.Donor)
+        → Undoes donor.now.donor trx undone after → string_bytes text ≡ undone_answer undone) }
 {
-    let count = engine.transaction(trx).map_or(0, |open| open.changes.len());
+    let count = donor.transaction(trx).map_or(0, |open| open.changes.len());
     match count.checked_sub(1) {
         Some(left) => format!(in alloc; "undone {left}"),
         None => String::from_str(alloc, "ended"),
@@ -42,12 +45,12 @@ pub fn undone_text(alloc: Global, engine: &Engine, trx: u32) -> Result<String, A
 }
 
 /// The answer of a line that commits.
-pub fn committed_text(alloc: Global, engine: &Engine) -> Result<String, AllocError>
-    requires { length engine.now.donor.binlog < 2 ^ 64 - 1 }
+pub fn committed_text<D: PageDisk>(alloc: Global, donor: &Donor<D>) -> Result<String, AllocError>
+    requires { length donor.now.donor.binlog < 2 ^ 64 - 1 }
     ensures { IfOk result (λ text. string_bytes text ≡ codes "committed "
-        ++ decimal (length engine.now.donor.binlog + 1)) }
+        ++ decimal (length donor.now.donor.binlog + 1)) }
 {
-    let position = engine.binlog().len() as u64 + 1;
+    let position = donor.binlog().len() as u64 + 1;
     format!(in alloc; "committed {position}")
 }
 
@@ -91,15 +94,48 @@ pub fn value_shown(alloc: Global, value: Option<&Value>) -> Result<String, Alloc
     Ok(text)
 }
 
-/// The rows of an image, each on a line, and then their number.
-pub fn rows_shown(alloc: Global, image: &Image) -> Result<String, AllocError>
-    ensures { IfOk result (λ text. (rows : Rows) × ShowsRows (page_of image.now) rows
-        × (string_bytes text ≡ rows_answer (rows_in rows))) }
+/// Rows, each on a line, and then their number.
+pub fn rows_shown(alloc: Global, rows: &[(u32, u64, Value)]) -> Result<String, AllocError>
+    ensures { IfOk result (λ text. string_bytes text ≡ rows_answer rows.now) }
 {
-    let rows = open_rows(alloc, image)?;
-    let mut text = rows_text(alloc, &rows)?;
+    let mut text = rows_text(alloc, rows)?;
     let count = rows.len();
     let last = format!(in alloc; "rows {count}")?;
     text.push_str(last.as_str())?;
     Ok(text)
+}
+
+/// The answer of a `clone` that is complete at a position.
+pub fn complete_text(alloc: Global, position: u64) -> Result<String, AllocError>
+    ensures { IfOk result (λ text. string_bytes text ≡ complete_text position) }
+{
+    format!(in alloc; "complete position {position}")
+}
+
+/// The answer of a line in which the recipient's disk failed.
+pub fn recipient_fault(alloc: Global) -> Result<String, AllocError>
+    ensures { IfOk result (λ text. string_bytes text ≡ recipient_fault) }
+{
+    String::from_str(alloc, "recipient disk fault")
+}
+
+/// The answer of `rows` where a page, or the redo from a page on, is against the format.
+pub fn damage_text(alloc: Global, space: u32, page: u32, why: Why) -> Result<String, AllocError>
+    ensures { IfOk result (λ text. string_bytes text ≡ event_text (damaged space page
+        (why_text why))) }
+{
+    let word = why_word(why);
+    format!(in alloc; "damaged {space} {page} {word}")
+}
+
+// What is against the format, in a word.
+fn why_word(why: Why) -> &'static str
+    ensures { result.now ≡ why_text why }
+{
+    match why {
+        Why::Header => "header",
+        Why::Redo => "redo",
+        Why::Dictionary => "dictionary",
+        Why::Undo => "undo",
+    }
 }

@@ -1,6 +1,6 @@
 //! The writes of pages that are under way. A page's write is kept here exactly while its frame's
 //! flush has begun.
-ghost use Rattle.std.specs.Prelude.{ℕ, ◌≡◌, Err, IfErr, IfNone, IfOk, IfSome, IsSome, OnErr, OnOk, Some, false, option_copied, true};
+ghost use Rattle.std.specs.Prelude.{ℕ, ◌≡◌, ◌≤◌, Err, IfErr, IfNone, IfOk, IfSome, IsSome, OnErr, OnOk, Some, false, option_copied, true};
 ghost use Rattle.std.specs.FinMap as finite;
 ghost use Rattle.clone_outside.specs.Causes.{Rose};
 ghost use Rattle.clone_outside.specs.Disk.{DiskImage, ForTold, Opens, page_of};
@@ -194,6 +194,8 @@ impl Flusher {
             (D.told disk.old) (D.told disk.new) result }
         ensures fault { result ≡ Err FlushRefusal.DiskFault
             → Rose (D.failures disk.old) (D.failures disk.new) }
+        ensures later { D.failures disk.old ≤ D.failures disk.new }
+        ensures orders { D.orders disk.new ≡ D.orders disk.old }
         ensures stands { StandsFlown buffer.old self.old (D.told disk.old)
             → StandsFlown buffer.new self.new (D.told disk.new) }
     {
@@ -236,6 +238,8 @@ impl Flusher {
             → page_of m space number ≡ Some (record { bytes = w.image; writing = false }))) }
         ensures fault { result ≡ Err FlushRefusal.DiskFault
             → Rose (D.failures disk.old) (D.failures disk.new) }
+        ensures later { D.failures disk.old ≤ D.failures disk.new }
+        ensures orders { D.orders disk.new ≡ D.orders disk.old }
         ensures stands { StandsFlown buffer.old self.old (D.told disk.old)
             → StandsFlown buffer.new self.new (D.told disk.new) }
     {

@@ -1,4 +1,3 @@
-pub mod Spaces
 pub mod Records
 pub mod Adding
 pub mod Shown

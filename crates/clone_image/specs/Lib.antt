@@ -1,4 +1,3 @@
-pub mod Spaces
 pub mod Image
 pub mod Replay
 pub mod Rows

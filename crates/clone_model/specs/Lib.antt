@@ -5,5 +5,6 @@ pub mod Room
 pub mod Kept
 pub mod Texts
 pub mod Lines
+pub mod Config
 pub mod Reading
 pub mod Following

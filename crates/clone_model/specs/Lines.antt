@@ -3,10 +3,10 @@ use Rattle.std.specs.Prelude.{ℕ, ◌<◌, ◌≤◌, ◌^◌, List, ◌++◌, 
 use Rattle.std.specs.Fmt.{decimal}
 use Rattle.std.specs.List.{AllByRecursion}
 use Rattle.clone_model.specs.Texts.{value_text}
-use Rattle.clone_model.specs.declared.line.TheConstants.{HIGHEST_TABLE, MOST_BUCKETS}
+use Rattle.clone_model.specs.declared.line.TheConstants.{HIGHEST_TABLE, MOST_BUCKETS, MOST_PAGES, MOST_CALLS}
 use Rattle.clone_model.specs.declared.script_value.TheConstants.{LONGEST_SCRIPT_VALUE}
 use Rattle.clone_model.specs.declared.line.Line.{Line}
-use Rattle.clone_model.specs.declared.line.Line.TheVariants.{Create, Begin, Put, Delete, Get, Undo, Commit, Set, Clone, Rows}
+use Rattle.clone_model.specs.declared.line.Line.TheVariants.{Create, Begin, Put, Delete, Get, Undo, Commit, Set, Flush, Half, Land, Clean, Checkpoint, Lsn, Tear, FailDonor, FailRecipient, Clone, Rows}
 
 abbrev pub line_text : Line → List ℕ
 line_text (Create table buckets) = codes "create " ++ decimal table ++ codes " " ++ decimal buckets
@@ -23,11 +23,28 @@ line_text (Commit trx) = codes "commit " ++ decimal trx
 line_text (Set writer table key value) =
     codes "set " ++ decimal writer ++ codes " " ++ decimal table ++ codes " " ++ decimal key
     ++ codes " " ++ value_text value
+line_text (Flush space page) = codes "flush " ++ decimal space ++ codes " " ++ decimal page
+line_text (Half space page) = codes "half " ++ decimal space ++ codes " " ++ decimal page
+line_text (Land space page) = codes "land " ++ decimal space ++ codes " " ++ decimal page
+line_text Clean = codes "clean"
+line_text Checkpoint = codes "checkpoint"
+line_text Lsn = codes "lsn"
+line_text (Tear byte) = codes "tear " ++ decimal byte
+line_text (FailDonor call) = codes "fail donor " ++ decimal call
+line_text (FailRecipient call) = codes "fail recipient " ++ decimal call
 line_text Clone = codes "clone"
 line_text Rows = codes "rows"
 
 abbrev pub IsTable : ℕ → Type 0
 IsTable table = (1 ≤ table) × (table ≤ HIGHEST_TABLE)
+
+-- the page of this number may stand in this space
+abbrev pub IsPlace : ℕ → ℕ → Type 0
+IsPlace space page = (space ≤ HIGHEST_TABLE) × (page < MOST_PAGES)
+
+-- a call that a line may let fail
+abbrev pub IsCall : ℕ → Type 0
+IsCall call = (1 ≤ call) × (call ≤ MOST_CALLS)
 
 -- the bytes of a value that a script may give
 abbrev pub IsScriptValue : List ℕ → Type 0
@@ -45,5 +62,14 @@ IsInRange (Undo trx) = trx < 2 ^ 32
 IsInRange (Commit trx) = trx < 2 ^ 32
 IsInRange (Set writer table key value) =
     (writer < 2 ^ 32) × IsTable table × (key < 2 ^ 64) × IsScriptValue value
+IsInRange (Flush space page) = IsPlace space page
+IsInRange (Half space page) = IsPlace space page
+IsInRange (Land space page) = IsPlace space page
+IsInRange Clean = Unit {0}
+IsInRange Checkpoint = Unit {0}
+IsInRange Lsn = Unit {0}
+IsInRange (Tear byte) = byte < 256
+IsInRange (FailDonor call) = IsCall call
+IsInRange (FailRecipient call) = IsCall call
 IsInRange Clone = Unit {0}
 IsInRange Rows = Unit {0}

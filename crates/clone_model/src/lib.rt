@@ -3,6 +3,7 @@
 #![tactic(auto)]
 
 mod change;
+mod config;
 mod history;
 mod line;
 mod list;
@@ -13,8 +14,11 @@ mod text;
 mod value;
 
 pub use change::{Change, Commit};
+pub use config::{Config, LEAST_POOL, LEAST_RING, MOST_POOL, MOST_RING, USUAL_POOL, USUAL_RING};
 pub use history::history_laws;
-pub use line::{BucketCount, HIGHEST_TABLE, Line, MOST_BUCKETS, TableNumber};
+pub use line::{
+    BucketCount, HIGHEST_TABLE, Line, MOST_BUCKETS, MOST_CALLS, MOST_PAGES, TableNumber,
+};
 pub use list::{Binlog, Changes};
 pub use reading::{
     ReadRefusal, as_u32, binlog_reads_back, leading_number, number_of, one_answer, one_binlog,

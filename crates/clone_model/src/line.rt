@@ -9,6 +9,12 @@ pub const HIGHEST_TABLE: u32 = 1_000_000;
 /// The most buckets that a table may have. It has at least one.
 pub const MOST_BUCKETS: u32 = 1_024;
 
+/// The most pages that a space may have. Their numbers are below it.
+pub const MOST_PAGES: u32 = 65_536;
+
+/// The highest number of a call that a line may let fail. The lowest is 1.
+pub const MOST_CALLS: u32 = 1_000_000;
+
 /// The number of a table, from 1 to 1,000,000.
 #[derive(Clone, Copy, Debug, PartialEq, Eq)]
 pub struct TableNumber {
@@ -155,6 +161,48 @@ pub enum Line {
         key: u64,
         /// The value that the row gets.
         value: ScriptValue,
+    },
+    /// `flush X P`: page P of space X is written to the disk.
+    Flush {
+        /// The number of the space.
+        space: u32,
+        /// The number of the page in its space.
+        page: u32,
+    },
+    /// `half X P`: the first half of page P of space X is written to the disk.
+    Half {
+        /// The number of the space.
+        space: u32,
+        /// The number of the page in its space.
+        page: u32,
+    },
+    /// `land X P`: the second half of page P of space X is written to the disk.
+    Land {
+        /// The number of the space.
+        space: u32,
+        /// The number of the page in its space.
+        page: u32,
+    },
+    /// `clean`: each page that was changed is written to the disk.
+    Clean,
+    /// `checkpoint`: a checkpoint is taken.
+    Checkpoint,
+    /// `lsn`: the ends of the log are shown.
+    Lsn,
+    /// `tear N`: from now on a read of a page that is half written gives nothing but byte N.
+    Tear {
+        /// The byte.
+        byte: u8,
+    },
+    /// `fail donor N`: the Nth call of the donor's disk from now on fails.
+    FailDonor {
+        /// The number of the call, where the next one has number 1.
+        call: u32,
+    },
+    /// `fail recipient N`: the Nth call of the recipient's disk from now on fails.
+    FailRecipient {
+        /// The number of the call, where the next one has number 1.
+        call: u32,
     },
     /// `clone`: a clone is taken.
     Clone,

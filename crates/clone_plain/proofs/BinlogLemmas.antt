@@ -1,6 +1,6 @@
 -- What events add to the binlog: a commit each time that one is answered, and nothing else.
-use Rattle.std.proofs.Common.{◌≡◌, ℕ, ◌+◌, List, [], ◌∷◌, ◌++◌, length, refl, sym, ap, ◌∙◌, subst, zero, suc, zero-add, add-zero, arith, append_assoc, length-append, Option, Some, None, append-nil, MatchOption, filter_map}
-use Rattle.clone_plain.proofs.Common.{cons_option, range_with_len, Commit, Donor, Undoes, Done, did_create, did_begin, did_put, did_delete, did_get, did_undo_one, did_commit, Made, done, refused, Does, PlainStep, World, Stop, Event, made, completed, showed, incomplete, Happens, Events, committed_at, AreCommits}
+use Rattle.std.proofs.Common.{◌≡◌, ℕ, ◌+◌, List, [], ◌∷◌, ◌++◌, length, refl, sym, ap, ◌∙◌, subst, zero, suc, zero-add, add-zero, arith, append_assoc, length-append, Option, Some, None, append-nil, filter_map}
+use Rattle.clone_plain.proofs.Common.{cons_option, range_with_len, Commit, Donor, Undoes, Done, did_create, did_begin, did_put, did_delete, did_get, did_undo_one, did_commit, did_flush_begin, did_flush_half, did_flush_land, did_oldest_dirty, did_checkpoint, did_end, Made, done, refused, Does, PlainStep, World, Event, made, cleaned, completed, completed_before, broke, broke_before, showed, incomplete, hidden, damaged, ordered, PlainEvent, Happens, Events, committed_at, AreCommits}
 use Rattle.clone_plain.specs.declared.refusal.Undone.{Undone}
 use Rattle.clone_plain.specs.declared.refusal.Undone.TheVariants.{Left, Ended}
 
@@ -32,13 +32,32 @@ does_add d (did_create table buckets) after is = adds_none d after (binlog_of is
 does_add d (did_begin writer index trx) after is = adds_none d after (binlog_of is.1) (drops_of is.1)
 does_add d (did_put trx table key value) after is = adds_none d after (binlog_of is.is) (drops_of is.is)
 does_add d (did_delete trx table key) after is = adds_none d after (binlog_of is.is) (drops_of is.is)
-does_add d (did_get trx table key value) after is = adds_none d after (binlog_of is.1) (drops_of is.1)
+does_add d (did_get trx table key value) after is = adds_none d after (binlog_of is) (drops_of is)
 does_add d (did_undo_one trx undone) after is = undoes_none d trx undone after is
 does_add d (did_commit trx position) after is = adds_one d after is.commit position (binlog_of is.is) (drops_of is.is) is.count
+does_add d (did_flush_begin space page) after is = adds_none d after (binlog_of is) (drops_of is)
+does_add d (did_flush_half space page) after is = adds_none d after (binlog_of is) (drops_of is)
+does_add d (did_flush_land space page) after is = adds_none d after (binlog_of is) (drops_of is)
+does_add d (did_oldest_dirty page) after is = adds_none d after (binlog_of is) (drops_of is)
+does_add d (did_checkpoint lsn) after is = adds_none d after (binlog_of is) (drops_of is)
+does_add d (did_end lsn) after is = adds_none d after (binlog_of is) (drops_of is)
 
 pub made_adds : (d : Donor) (m : Made) (after : Donor) → PlainStep d m after → Adds d after (cons_option (committed_at (made m)) [])
 made_adds d (done x) after is = does_add d x after is.1
 made_adds d (refused call cause) after is = adds_none d after (binlog_of is.1) (drops_of is.1)
+
+pub plain_adds : (d : Donor) (e : Event) (after : Donor) → PlainEvent d e after → Adds d after (cons_option (committed_at e) [])
+plain_adds d (made m) after is = made_adds d m after is
+plain_adds d (cleaned landed) after is = adds_none d after (binlog_of is) (drops_of is)
+plain_adds d (completed n) after is = adds_none d after (binlog_of is) (drops_of is)
+plain_adds d (completed_before n) after is = adds_none d after (binlog_of is) (drops_of is)
+plain_adds d broke after is = adds_none d after (binlog_of is) (drops_of is)
+plain_adds d broke_before after is = adds_none d after (binlog_of is) (drops_of is)
+plain_adds d (showed rows) after is = adds_none d after (binlog_of is) (drops_of is)
+plain_adds d incomplete after is = adds_none d after (binlog_of is) (drops_of is)
+plain_adds d hidden after is = adds_none d after (binlog_of is) (drops_of is)
+plain_adds d (damaged space page why) after is = adds_none d after (binlog_of is) (drops_of is)
+plain_adds d (ordered side order) after is = adds_none d after (binlog_of is) (drops_of is)
 
 -- numbers in a row, in two parts
 range-append : (a m n : ℕ) → range_with_len a (m + n) ≡ range_with_len a m ++ range_with_len (a + m) n
@@ -67,25 +86,12 @@ cons_option-append : {X : Type 0} (o : Option X) (xs : List X) → cons_option o
 cons_option-append None xs = refl
 cons_option-append (Some x) xs = refl
 
-module _ {D : Type 0} (plain : D → Donor) (Step : D → Made → D → Type 0) (refines : (d e : D) (m : Made) → Step d m e → PlainStep (plain d) m (plain e)) where
-  stop_adds : (s t : World D) (n : ℕ) (stop : Option Stop) (first : Stop) → MatchOption stop ((n ≡ first.position) × (t ≡ record s { stop = Some first })) (λ (at : Stop). (n ≡ at.position) × (t ≡ s)) → t.donor ≡ s.donor
-  stop_adds s t n None first is = ap (λ (w : World D). w.donor) is.1
-  stop_adds s t n (Some at) first is = ap (λ (w : World D). w.donor) is.1
-
-  same_adds : (s t : World D) → t.donor ≡ s.donor → Adds (plain s.donor) (plain t.donor) []
-  same_adds s t same = adds_none (plain s.donor) (plain t.donor) (ap (λ d. (plain d).binlog) same) (ap (λ d. (plain d).drops) same)
-
+module _ {D : Type 0} (plain : D → Donor) (Step : D → Event → D → Type 0) (refines : (d e : D) (event : Event) → Step d event e → PlainEvent (plain d) event (plain e)) where
   pub event_adds : (s : World D) (e : Event) (t : World D) → Happens plain Step s e t → Adds (plain s.donor) (plain t.donor) (cons_option (committed_at e) [])
-  event_adds s (made m) t is =
-      let added = made_adds (plain s.donor) m (plain is.0) (refines s.donor is.0 m is.1) in
-      let P : D → Type 0 = λ d. Adds (plain s.donor) (plain d) (cons_option (committed_at (made m)) []) in
-      subst P (ap (λ (w : World D). w.donor) (sym is.2)) added
-  event_adds s (completed n) t is = same_adds s t (stop_adds s t n s.stop _ is)
-  event_adds s (showed rows) t is = same_adds s t (ap (λ (w : World D). w.donor) is.1)
-  event_adds s incomplete t is = same_adds s t (ap (λ (w : World D). w.donor) is.1)
+  event_adds s e t is = plain_adds (plain s.donor) e (plain t.donor) (refines s.donor t.donor e is.step)
 
   pub events_add : (s : World D) (es : List Event) (t : World D) → Events plain Step s es t → Adds (plain s.donor) (plain t.donor) (filter_map committed_at es)
-  events_add s [] t is = same_adds s t (ap (λ (w : World D). w.donor) (sym is))
+  events_add s [] t is = adds_none (plain s.donor) (plain t.donor) (ap (λ (w : World D). (plain w.donor).binlog) (sym is)) (ap (λ (w : World D). (plain w.donor).drops) (sym is))
   events_add s (e ∷ es) t is =
       let P : List ℕ → Type 0 = Adds (plain s.donor) (plain t.donor) in
       subst P (sym (cons_option-append (committed_at e) (filter_map committed_at es))) (adds_behind _ (plain is.0.donor) _ _ _ (event_adds s e is.0 is.1) (events_add is.0 es t is.2))

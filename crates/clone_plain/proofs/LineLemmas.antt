@@ -1,30 +1,77 @@
--- A line makes one event, or it is a `set`.
-use Rattle.std.proofs.Common.{◌≡◌, ℕ, List, [], ◌∷◌, inl, inr, ◌⊎◌, refl, ap}
-use Rattle.clone_plain.proofs.Common.{Line, Cause, Call, commit, did_create, did_begin, did_put, did_delete, did_get, did_undo_one, did_commit, Made, done, refused, made_call, Event, made, completed, showed, incomplete, Makes, MakesOne, MakesSet}
-use Rattle.clone_model.specs.declared.line.Line.TheVariants.{Create, Begin, Put, Delete, Get, Undo, Commit, Set, Clone, Rows}
+-- A line makes one event, or it is a `set`, or it is a `clean`, none of whose events commits or begins.
+use Rattle.std.proofs.Common.{◌≡◌, ℕ, List, [], ◌∷◌, ◌++◌, refl, sym, ap, subst, ◌∙◌, append_assoc, None, flat_map, nat_cmp}
+use Rattle.clone_plain.proofs.Common.{AllByRecursion, FinMap, Line, Cause, Call, commit, call_of, did_create, did_begin, did_put, did_delete, did_get, did_undo_one, did_commit, did_flush_begin, did_flush_half, did_flush_land, did_oldest_dirty, did_checkpoint, did_end, Made, done, refused, made_call, Event, made, completed, completed_before, broke, broke_before, showed, incomplete, hidden, damaged, ordered, counted, committed_at, Makes, MakesOne, MakesSet, MakesClean, all_clean, not_flushed, flushed, MakesClone, is_complete, was_complete, is_broken, was_broken, MakesRows, are_shown, not_there, not_read, not_sound}
+use Rattle.clone_model.specs.declared.line.Line.TheVariants as lines
+
+-- by an event nothing commits, and no transaction begins
+pub record IsQuiet (e : Event) : Type 0 where
+  pub commits : committed_at e ≡ None
+  pub begins : (begun : FinMap nat_cmp ℕ) → counted e begun ≡ begun
 
 pub data Shape (events : List Event) : Type 0 where
   one : (e : Event) → events ≡ e ∷ [] → Shape events
   sets : (writer index table key : ℕ) (value : List ℕ) → MakesSet writer index table key value events → Shape events
+  quiet : AllByRecursion IsQuiet events → Shape events
+
+is_quiet : (e : Event) → committed_at e ≡ None → ((begun : FinMap nat_cmp ℕ) → counted e begun ≡ begun) → IsQuiet e
+is_quiet e commits begins = record { commits = commits; begins = begins }
+
+flushed_quiet : (page : ℕ × ℕ) (rest : List Event) → AllByRecursion IsQuiet rest → AllByRecursion IsQuiet (flushed page ++ rest)
+flushed_quiet page rest is =
+    (is_quiet _ refl (λ begun. refl), (is_quiet _ refl (λ begun. refl), (is_quiet _ refl (λ begun. refl), (is_quiet _ refl (λ begun. refl), is))))
+
+pages_quiet : (pages : List (ℕ × ℕ)) (rest : List Event) → AllByRecursion IsQuiet rest → AllByRecursion IsQuiet (flat_map flushed pages ++ rest)
+pages_quiet [] rest is = is
+pages_quiet (page ∷ pages) rest is = flushed_quiet page (flat_map flushed pages ++ rest) (pages_quiet pages rest is)
+
+-- a front of events, and then one more
+front_quiet : (front rest : List Event) (e : Event) → AllByRecursion IsQuiet (front ++ rest) → IsQuiet e → AllByRecursion IsQuiet (front ++ e ∷ [])
+front_quiet [] rest e all is = (is, tt)
+front_quiet (f ∷ front) rest e all is = (all.0, front_quiet front rest e all.1 is)
+
+clean_quiet : (events : List Event) → MakesClean events → AllByRecursion IsQuiet events
+clean_quiet events (all_clean pages is) = subst (AllByRecursion IsQuiet) (sym is) (pages_quiet pages _ (is_quiet _ refl (λ begun. refl), (is_quiet _ refl (λ begun. refl), tt)))
+clean_quiet events (not_flushed pages page front rest next cause split is) =
+    let last : Event = made (refused (call_of next) cause) in
+    let all = subst (AllByRecursion IsQuiet) split (flushed_quiet page [] tt) in
+    let front_last = front_quiet front (made (done next) ∷ rest) last all (is_quiet last refl (λ begun. refl)) in
+    subst (AllByRecursion IsQuiet) (sym (is ∙ append_assoc (flat_map flushed pages) front (last ∷ []))) (pages_quiet pages (front ++ last ∷ []) front_last)
 
 call_shape : (call : Call) (events : List Event) → MakesOne call events → Shape events
 call_shape call events is = one (made is.0) is.2
 
-rows_shape : {X : Type 0} {f : X → Event} (events : List Event) → (events ≡ incomplete ∷ []) ⊎ ((x : X) × (events ≡ f x ∷ [])) → Shape events
-rows_shape events (inl is) = one incomplete is
-rows_shape {f = f} events (inr is) = one (f is.0) is.1
+clone_shape : (events : List Event) → MakesClone events → Shape events
+clone_shape events (is_complete n is) = one (completed n) is
+clone_shape events (was_complete n is) = one (completed_before n) is
+clone_shape events (is_broken is) = one broke is
+clone_shape events (was_broken is) = one broke_before is
+
+rows_shape : (events : List Event) → MakesRows events → Shape events
+rows_shape events (are_shown rows is) = one (showed rows) is
+rows_shape events (not_there is) = one incomplete is
+rows_shape events (not_read is) = one hidden is
+rows_shape events (not_sound space page why is) = one (damaged space page why) is
 
 pub shape : (next : ℕ → ℕ) (line : Line) (events : List Event) → Makes next line events → Shape events
-shape next (Create table buckets) events is = call_shape _ events is
-shape next (Begin writer) events is = call_shape _ events is
-shape next (Put trx table key value) events is = call_shape _ events is
-shape next (Delete trx table key) events is = call_shape _ events is
-shape next (Get trx table key) events is = call_shape _ events is
-shape next (Undo trx) events is = call_shape _ events is
-shape next (Commit trx) events is = call_shape _ events is
-shape next (Set writer table key value) events is = sets writer (next writer) table key value is
-shape next Clone events is = one (completed is.0) is.1
-shape next Rows events is = rows_shape {f = showed} events is
+shape next (lines.Create table buckets) events is = call_shape _ events is
+shape next (lines.Begin writer) events is = call_shape _ events is
+shape next (lines.Put trx table key value) events is = call_shape _ events is
+shape next (lines.Delete trx table key) events is = call_shape _ events is
+shape next (lines.Get trx table key) events is = call_shape _ events is
+shape next (lines.Undo trx) events is = call_shape _ events is
+shape next (lines.Commit trx) events is = call_shape _ events is
+shape next (lines.Flush space page) events is = call_shape _ events is
+shape next (lines.Half space page) events is = call_shape _ events is
+shape next (lines.Land space page) events is = call_shape _ events is
+shape next lines.Checkpoint events is = call_shape _ events is
+shape next lines.Lsn events is = call_shape _ events is
+shape next (lines.Set writer table key value) events is = sets writer (next writer) table key value is
+shape next lines.Clean events is = quiet (clean_quiet events is)
+shape next (lines.Tear byte) events is = one (ordered _ _) is
+shape next (lines.FailDonor call) events is = one (ordered _ _) is
+shape next (lines.FailRecipient call) events is = one (ordered _ _) is
+shape next lines.Clone events is = clone_shape events is
+shape next lines.Rows events is = rows_shape events is
 
 -- a commit that was made: it was refused, or carried out
 pub data CommitMade (trx : ℕ) (m : Made) : Type 0 where
@@ -43,4 +90,10 @@ commit_made trx (done (did_put t table key value)) is = cc
 commit_made trx (done (did_delete t table key)) is = cc
 commit_made trx (done (did_get t table key value)) is = cc
 commit_made trx (done (did_undo_one t undone)) is = cc
+commit_made trx (done (did_flush_begin space page)) is = cc
+commit_made trx (done (did_flush_half space page)) is = cc
+commit_made trx (done (did_flush_land space page)) is = cc
+commit_made trx (done (did_oldest_dirty page)) is = cc
+commit_made trx (done (did_checkpoint lsn)) is = cc
+commit_made trx (done (did_end lsn)) is = cc
 commit_made trx (done (did_commit t position)) is = was_done position (ap (λ n. done (did_commit n position)) (ap same_trx is))

@@ -1,11 +1,11 @@
 -- A line adds at most one commit, and at most one transaction of each writer.
-use Rattle.std.proofs.Common.{◌≡◌, ℕ, ◌+◌, ◌≤◌, List, [], ◌∷◌, length, Bool, true, false, cond, refl, sym, ap, ◌∙◌, subst, arith, length-append, Option, Some, None, unwrap_or, inl, inr, ◌⊎◌, MatchOption, filter_map, nat_cmp}
-use Rattle.clone_plain.proofs.Common.{cons_option, FinMap, get, get-empty, get-insert, eq_by_cmp, Line, Cause, Donor, Call, begin, put, Done, did_create, did_begin, did_put, did_delete, did_get, did_undo_one, did_commit, Made, done, refused, PlainStep, World, Stop, opened, index_in, IsWithin, Event, made, completed, showed, incomplete, counted, Happens, Events, MakesSet, not_begun, not_changed, set, LineStep, Runs, committed_at}
+use Rattle.std.proofs.Common.{◌≡◌, ℕ, ◌+◌, ◌≤◌, List, [], ◌∷◌, length, Bool, true, false, cond, refl, sym, ap, ◌∙◌, subst, arith, length-append, Option, Some, None, unwrap_or, inl, inr, ◌⊎◌, filter_map, nat_cmp}
+use Rattle.clone_plain.proofs.Common.{cons_option, AllByRecursion, FinMap, get, get-empty, get-insert, eq_by_cmp, Line, Cause, Donor, Call, begin, put, Done, did_create, did_begin, did_put, did_delete, did_get, did_undo_one, did_commit, did_flush_begin, did_flush_half, did_flush_land, did_oldest_dirty, did_checkpoint, did_end, Made, done, refused, World, opened, index_in, IsWithin, Event, made, cleaned, completed, completed_before, broke, broke_before, showed, incomplete, hidden, damaged, ordered, PlainEvent, counted, Happens, Events, MakesSet, not_begun, not_changed, set, LineStep, Runs, committed_at}
 use Rattle.std.specs.FinMap.{insert}
 use Rattle.std.proofs.lemmas.Cmp.{nat_cmp_total}
 use Rattle.std.proofs.lemmas.List.FromFn.{length-range_with_len}
 use Rattle.clone_plain.proofs.BinlogLemmas.{events_add}
-use Rattle.clone_plain.proofs.LineLemmas.{Shape, one, sets, shape, CommitMade, was_refused, was_done, commit_made}
+use Rattle.clone_plain.proofs.LineLemmas.{IsQuiet, Shape, one, sets, quiet, shape, CommitMade, was_refused, was_done, commit_made}
 
 abbrev Begun : Type 0
 Begun = FinMap nat_cmp ℕ
@@ -14,7 +14,7 @@ Begun = FinMap nat_cmp ℕ
 MayBegin : Begun → Begun → Type 0
 MayBegin before after = (after ≡ before) ⊎ ((writer : ℕ) × (after ≡ insert before writer (index_in before writer + 1)))
 
-done_begins : (d : Done) (begun : Begun) → MayBegin begun (counted (done d) begun)
+done_begins : (d : Done) (begun : Begun) → MayBegin begun (counted (made (done d)) begun)
 unfolding MayBegin
 done_begins (did_create table buckets) begun = inl refl
 done_begins (did_begin writer index trx) begun = inr (writer, refl)
@@ -23,15 +23,35 @@ done_begins (did_delete trx table key) begun = inl refl
 done_begins (did_get trx table key value) begun = inl refl
 done_begins (did_undo_one trx undone) begun = inl refl
 done_begins (did_commit trx position) begun = inl refl
+done_begins (did_flush_begin space page) begun = inl refl
+done_begins (did_flush_half space page) begun = inl refl
+done_begins (did_flush_land space page) begun = inl refl
+done_begins (did_oldest_dirty page) begun = inl refl
+done_begins (did_checkpoint lsn) begun = inl refl
+done_begins (did_end lsn) begun = inl refl
 
-made_begins : (m : Made) (begun : Begun) → MayBegin begun (counted m begun)
+made_begins : (m : Made) (begun : Begun) → MayBegin begun (counted (made m) begun)
 unfolding MayBegin
 made_begins (done d) begun = done_begins d begun
 made_begins (refused call cause) begun = inl refl
 
-commit_begins : (trx : ℕ) (m : Made) (begun : Begun) → CommitMade trx m → counted m begun ≡ begun
-commit_begins trx m begun (was_refused call cause is) = ap (λ n. counted n begun) is
-commit_begins trx m begun (was_done position is) = ap (λ n. counted n begun) is
+counted_begins : (e : Event) (begun : Begun) → MayBegin begun (counted e begun)
+unfolding MayBegin
+counted_begins (made m) begun = made_begins m begun
+counted_begins (cleaned landed) begun = inl refl
+counted_begins (completed n) begun = inl refl
+counted_begins (completed_before n) begun = inl refl
+counted_begins broke begun = inl refl
+counted_begins broke_before begun = inl refl
+counted_begins (showed rows) begun = inl refl
+counted_begins incomplete begun = inl refl
+counted_begins hidden begun = inl refl
+counted_begins (damaged space page why) begun = inl refl
+counted_begins (ordered side order) begun = inl refl
+
+commit_begins : (trx : ℕ) (m : Made) (begun : Begun) → CommitMade trx m → counted (made m) begun ≡ begun
+commit_begins trx m begun (was_refused call cause is) = ap (λ n. counted (made n) begun) is
+commit_begins trx m begun (was_done position is) = ap (λ n. counted (made n) begun) is
 
 one_more : (b : Bool) (x n : ℕ) (o : Option ℕ) → x ≤ n → unwrap_or o 0 ≤ n → unwrap_or (cond b (Some (x + 1)) o) 0 ≤ n + 1
 one_more true x n o le les = omega arith
@@ -55,21 +75,18 @@ set_commits writer index table key value events (not_begun cause is) = omega (ar
 set_commits writer index table key value events (not_changed trx cause is) = omega (arith, ap (λ es. length (filter_map committed_at es)) is)
 set_commits writer index table key value events (set trx last commits is) = omega (arith, ap (λ es. length (filter_map committed_at es)) is, at_most_one (committed_at (made last)))
 
+quiet_commits : (events : List Event) → AllByRecursion IsQuiet events → filter_map committed_at events ≡ []
+quiet_commits [] all = refl
+quiet_commits (e ∷ es) all = ap (λ o. cons_option o (filter_map committed_at es)) all.0.commits ∙ quiet_commits es all.1
+
 shape_commits : (events : List Event) → Shape events → length (filter_map committed_at events) ≤ 1
 shape_commits events (one e is) = omega (arith, ap (λ es. length (filter_map committed_at es)) is, at_most_one (committed_at e))
 shape_commits events (sets writer index table key value is) = set_commits writer index table key value events is
+shape_commits events (quiet all) = omega (arith, ap length (quiet_commits events all))
 
-module _ {D : Type 0} (plain : D → Donor) (Step : D → Made → D → Type 0) (refines : (d e : D) (m : Made) → Step d m e → PlainStep (plain d) m (plain e)) where
-  stop_begins : (s t : World D) (n : ℕ) (stop : Option Stop) (first : Stop) → MatchOption stop ((n ≡ first.position) × (t ≡ record s { stop = Some first })) (λ (at : Stop). (n ≡ at.position) × (t ≡ s)) → t.begun ≡ s.begun
-  stop_begins s t n None first is = ap (λ (w : World D). w.begun) is.1
-  stop_begins s t n (Some at) first is = ap (λ (w : World D). w.begun) is.1
-
+module _ {D : Type 0} (plain : D → Donor) (Step : D → Event → D → Type 0) (refines : (d e : D) (event : Event) → Step d event e → PlainEvent (plain d) event (plain e)) where
   event_begins : (s : World D) (e : Event) (t : World D) → Happens plain Step s e t → MayBegin s.begun t.begun
-  unfolding MayBegin
-  event_begins s (made m) t is = subst (MayBegin s.begun) (ap (λ (w : World D). w.begun) (sym is.2)) (made_begins m s.begun)
-  event_begins s (completed n) t is = inl (stop_begins s t n s.stop _ is)
-  event_begins s (showed rows) t is = inl (ap (λ (w : World D). w.begun) is.1)
-  event_begins s incomplete t is = inl (ap (λ (w : World D). w.begun) is.1)
+  event_begins s e t is = subst (MayBegin s.begun) (sym is.begun) (counted_begins e s.begun)
 
   begun_of : (s t : World D) → s ≡ t → s.begun ≡ t.begun
   begun_of s t same = ap (λ (w : World D). w.begun) same
@@ -80,13 +97,13 @@ module _ {D : Type 0} (plain : D → Donor) (Step : D → Made → D → Type 0)
   -- of a `set` the begin alone counts
   refused_begins : (s : World D) (writer index trx : ℕ) (call : Call) (cause : Cause) (t : World D) → Events plain Step s (made (done (did_begin writer index trx)) ∷ made (refused call cause) ∷ []) t → MayBegin s.begun t.begun
   unfolding MayBegin
-  refused_begins s writer index trx call cause t is = inr (writer, begun_of _ _ (sym is.2.2) ∙ begun_of _ _ is.2.1.2 ∙ begun_of _ _ is.1.2)
+  refused_begins s writer index trx call cause t is = inr (writer, begun_of _ _ (sym is.2.2) ∙ is.2.1.begun ∙ is.1.begun)
 
   all_begin : (s : World D) (writer index trx table key : ℕ) (value : List ℕ) (last : Made) (t : World D) → CommitMade trx last
       → Events plain Step s (made (done (did_begin writer index trx)) ∷ made (done (did_put trx table key value)) ∷ made last ∷ []) t → MayBegin s.begun t.begun
   unfolding MayBegin
   all_begin s writer index trx table key value last t commits is =
-      inr (writer, begun_of _ _ (sym is.2.2.2) ∙ begun_of _ _ is.2.2.1.2 ∙ commit_begins trx last _ commits ∙ begun_of _ _ is.2.1.2 ∙ begun_of _ _ is.1.2)
+      inr (writer, begun_of _ _ (sym is.2.2.2) ∙ is.2.2.1.begun ∙ commit_begins trx last _ commits ∙ is.2.1.begun ∙ is.1.begun)
 
   set_begins : (s : World D) (writer index table key : ℕ) (value : List ℕ) (events : List Event) (t : World D) → MakesSet writer index table key value events → Events plain Step s events t → MayBegin s.begun t.begun
   set_begins s writer index table key value events t (not_begun cause is) happened = let P : List Event → Type 0 = λ es. Events plain Step s es t in one_begins s (made (refused (begin writer index) cause)) t (subst P is happened)
@@ -95,9 +112,15 @@ module _ {D : Type 0} (plain : D → Donor) (Step : D → Made → D → Type 0)
       let P : List Event → Type 0 = λ es. Events plain Step s es t in
       all_begin s writer index trx table key value last t (commit_made trx last commits) (subst P is happened)
 
+  quiet_begins : (s : World D) (events : List Event) (t : World D) → AllByRecursion IsQuiet events → Events plain Step s events t → t.begun ≡ s.begun
+  quiet_begins s [] t all is = begun_of _ _ (sym is)
+  quiet_begins s (e ∷ es) t all is = quiet_begins is.0 es t all.1 is.2 ∙ is.1.begun ∙ all.0.begins s.begun
+
   shape_begins : (s : World D) (events : List Event) (t : World D) → Shape events → Events plain Step s events t → MayBegin s.begun t.begun
+  unfolding MayBegin
   shape_begins s events t (one e is) happened = let P : List Event → Type 0 = λ es. Events plain Step s es t in one_begins s e t (subst P is happened)
   shape_begins s events t (sets writer index table key value is) happened = set_begins s writer index table key value events t is happened
+  shape_begins s events t (quiet all) happened = inl (quiet_begins s events t all happened)
 
   -- a line reaches one further at most
   line_reaches : (n : ℕ) (s : World D) (line : Line) (events : List Event) (t : World D) → LineStep plain Step s line events t → IsWithin plain n s → IsWithin plain (n + 1) t
@@ -118,8 +141,8 @@ module _ {D : Type 0} (plain : D → Donor) (Step : D → Made → D → Type 0)
   run_reaches n s (l ∷ lines) (es ∷ more) t run within = wider (n + 1 + length lines) _ t (omega arith) (run_reaches (n + 1) run.0 lines more t run.2 (line_reaches n s l es run.0 run.1 within))
 
   -- A run from the beginning reaches the number of its lines, and so each greater number.
-  pub Runs-IsWithin : (first : D) → (plain first).binlog ≡ [] → (lines : List Line) (events : List (List Event)) (t : World D) (n : ℕ) → Runs plain Step (opened first) lines events t → length lines ≤ n → IsWithin plain n t
-  Runs-IsWithin first none lines events t n run le =
+  pub Runs-IsWithin : (first : D) → (plain first).binlog ≡ [] → (tells : Bool) (lines : List Line) (events : List (List Event)) (t : World D) (n : ℕ) → Runs plain Step (opened first tells) lines events t → length lines ≤ n → IsWithin plain n t
+  Runs-IsWithin first none tells lines events t n run le =
       let index : Option ℕ → ℕ = λ o. unwrap_or o 0 in
-      let at : (q : ℕ) → index_in (opened first).begun q ≤ 0 = λ q. omega (arith, ap index (get-empty nat_cmp q)) in
-      wider (0 + length lines) n t (omega arith) (run_reaches 0 (opened first) lines events t run (record { commits = omega (arith, ap length none); transactions = at }))
+      let at : (q : ℕ) → index_in (opened first tells).begun q ≤ 0 = λ q. omega (arith, ap index (get-empty nat_cmp q)) in
+      wider (0 + length lines) n t (omega arith) (run_reaches 0 (opened first tells) lines events t run (record { commits = omega (arith, ap length none); transactions = at }))

@@ -1,6 +1,6 @@
 -- The commit of a `set` is of its writer, and has its one change.
 use Rattle.std.proofs.Common.{◌≡◌, ℕ, ◌+◌, ◌-◌, ◌<◌, List, [], ◌∷◌, ◌++◌, length, sym, ap, ◌∙◌, subst, arith, length-append, append_assoc, Some, slice_get, filter_map}
-use Rattle.clone_plain.proofs.Common.{nat_cmp_total, nat_cmp-IsAntisymmetric, get-set_same, same_Some, slice_get-get_or, Change, Commit, Line, Donor, begun, put_of, with_change, Changes, did_begin, did_put, did_commit, Made, done, PlainStep, World, Event, made, Happens, Events, MakesSet, not_begun, not_changed, set, Runs, committed_at, IsSet, AreSets}
+use Rattle.clone_plain.proofs.Common.{nat_cmp_total, nat_cmp-IsAntisymmetric, get-set_same, same_Some, slice_get-get_or, Change, Commit, Line, Donor, begun, put_of, with_change, Changes, did_begin, did_put, did_commit, Made, done, PlainStep, World, Event, made, PlainEvent, Happens, Events, MakesSet, not_begun, not_changed, set, Runs, committed_at, IsSet, AreSets}
 use Rattle.std.specs.FinMap as finite
 use Rattle.std.proofs.Math.Seq.{get_or-append_seam}
 use Rattle.clone_model.specs.declared.line.Line.TheVariants as lines
@@ -32,9 +32,9 @@ set_stands writer index table key value before commit after more position is gro
           ∙ ap Some is,
     )
 
-module _ {D : Type 0} (plain : D → Donor) (Step : D → Made → D → Type 0) (refines : (d e : D) (m : Made) → Step d m e → PlainStep (plain d) m (plain e)) where
+module _ {D : Type 0} (plain : D → Donor) (Step : D → Event → D → Type 0) (refines : (d e : D) (event : Event) → Step d event e → PlainEvent (plain d) event (plain e)) where
   made_step : (s u : World D) (m : Made) → Happens plain Step s (made m) u → PlainStep (plain s.donor) m (plain u.donor)
-  made_step s u m is = let P : D → Type 0 = λ d. PlainStep (plain s.donor) m (plain d) in subst P (ap (λ (w : World D). w.donor) (sym is.2)) (refines s.donor is.0 m is.1)
+  made_step s u m is = refines s.donor u.donor (made m) is.step
 
   -- a transaction began, made its one change and committed
   set_commits : (s u v w : World D) (writer index trx table key : ℕ) (value : List ℕ) (position : ℕ) → Happens plain Step s (made (done (did_begin writer index trx))) u → Happens plain Step u (made (done (did_put trx table key value))) v
@@ -83,6 +83,15 @@ module _ {D : Type 0} (plain : D → Donor) (Step : D → Made → D → Type 0)
   are_sets s (lines.Get trx table key ∷ ls) (es ∷ more) t run = are_sets run.0 ls more t run.2
   are_sets s (lines.Undo trx ∷ ls) (es ∷ more) t run = are_sets run.0 ls more t run.2
   are_sets s (lines.Commit trx ∷ ls) (es ∷ more) t run = are_sets run.0 ls more t run.2
+  are_sets s (lines.Flush space page ∷ ls) (es ∷ more) t run = are_sets run.0 ls more t run.2
+  are_sets s (lines.Half space page ∷ ls) (es ∷ more) t run = are_sets run.0 ls more t run.2
+  are_sets s (lines.Land space page ∷ ls) (es ∷ more) t run = are_sets run.0 ls more t run.2
+  are_sets s (lines.Clean ∷ ls) (es ∷ more) t run = are_sets run.0 ls more t run.2
+  are_sets s (lines.Checkpoint ∷ ls) (es ∷ more) t run = are_sets run.0 ls more t run.2
+  are_sets s (lines.Lsn ∷ ls) (es ∷ more) t run = are_sets run.0 ls more t run.2
+  are_sets s (lines.Tear byte ∷ ls) (es ∷ more) t run = are_sets run.0 ls more t run.2
+  are_sets s (lines.FailDonor call ∷ ls) (es ∷ more) t run = are_sets run.0 ls more t run.2
+  are_sets s (lines.FailRecipient call ∷ ls) (es ∷ more) t run = are_sets run.0 ls more t run.2
   are_sets s (lines.Clone ∷ ls) (es ∷ more) t run = are_sets run.0 ls more t run.2
   are_sets s (lines.Rows ∷ ls) (es ∷ more) t run = are_sets run.0 ls more t run.2
   are_sets s (lines.Set writer table key value ∷ ls) (es ∷ more) t run =

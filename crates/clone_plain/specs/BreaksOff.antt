@@ -3,7 +3,7 @@ use Rattle.std.specs.Prelude.{◌≡◌, List, ◌∷◌, ◌++◌}
 use Rattle.std.specs.List.{AllByRecursion}
 use Rattle.clone_model.specs.declared.line.Line.{Line}
 use Rattle.clone_plain.specs.Donor.{Donor}
-use Rattle.clone_plain.specs.Calls.{Done, Made, done}
+use Rattle.clone_plain.specs.Calls.{Done, done}
 use Rattle.clone_plain.specs.World.{World, index_in}
 use Rattle.clone_plain.specs.Events.{Event, made, Events}
 use Rattle.clone_plain.specs.Runs.{Makes}
@@ -12,12 +12,16 @@ use Rattle.clone_plain.specs.Runs.{Makes}
 abbrev pub IsDone : Event → Type 0
 IsDone event = (d : Done) × (event ≡ made (done d))
 
-module _ {D : Type 0} (plain : D → Donor) (Step : D → Made → D → Type 0) where
-  -- A front of the line's calls was carried out, and against none of these was there a cause.
+module _ {D : Type 0} (plain : D → Donor) (Step : D → Event → D → Type 0) where
+  -- A front of the line's calls was carried out, and against none of these was there a cause. What
+  -- the next one did of which memory ran out is no matter of the plain donor.
   pub record BreaksOff (s : World D) (line : Line) (t : World D) : Type 0 where
     pub front : List Event
     pub next : Event
     pub rest : List Event
     pub makes : Makes (index_in s.begun) line (front ++ next ∷ rest)
     pub carried : AllByRecursion IsDone front
-    pub happened : Events plain Step s front t
+    pub then : World D
+    pub happened : Events plain Step s front then
+    pub donor : plain t.donor ≡ plain then.donor
+    pub begun : t.begun ≡ then.begun

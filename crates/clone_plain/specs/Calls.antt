@@ -3,11 +3,11 @@
 use Rattle.std.specs.Prelude.{ℕ, ◌≡◌, ◌⊎◌, Bool, true, false, List, length, None, Some}
 use Rattle.std.specs.declared.option.Option.{Option}
 use Rattle.clone_plain.specs.declared.refusal.Cause.{Cause}
-use Rattle.clone_plain.specs.declared.refusal.Cause.TheVariants.{NoSuchTrx, NoSuchTable, TableExists, RowLocked, ValueTooLong, UndoFull, SpaceFull, LogFull, PoolFull, TooManyTransactions, TooManyTables, DiskFault}
+use Rattle.clone_plain.specs.declared.refusal.Cause.TheVariants.{NoSuchTrx, NoSuchTable, TableExists, RowLocked, ValueTooLong, UndoFull, SpaceFull, LogFull, PoolFull, TooManyTransactions, TooManyTables, NotDirty, InFlight, NoFlush, DiskFault}
 use Rattle.clone_plain.specs.declared.refusal.Undone.{Undone}
 use Rattle.clone_plain.specs.Donor.{Donor}
 use Rattle.clone_plain.specs.Causes.{create_cause, begin_cause, change_cause, get_cause, no_trx}
-use Rattle.clone_plain.specs.Effects.{created, Begins, Changes, put_of, delete_of, Gets, Undoes, Commits}
+use Rattle.clone_plain.specs.Effects.{created, Begins, Changes, put_of, delete_of, Undoes, Commits}
 
 -- a call
 pub data Call : Type 0 where
@@ -18,6 +18,12 @@ pub data Call : Type 0 where
   get : (trx table key : ℕ) → Call
   undo_one : (trx : ℕ) → Call
   commit : (trx : ℕ) → Call
+  flush_begin : (space page : ℕ) → Call
+  flush_half : (space page : ℕ) → Call
+  flush_land : (space page : ℕ) → Call
+  oldest_dirty : Call
+  checkpoint : Call
+  end : Call
 
 -- a call that was carried out, with its answer
 pub data Done : Type 0 where
@@ -28,6 +34,12 @@ pub data Done : Type 0 where
   did_get : (trx table key : ℕ) (value : Option (List ℕ)) → Done
   did_undo_one : (trx : ℕ) (undone : Undone) → Done
   did_commit : (trx position : ℕ) → Done
+  did_flush_begin : (space page : ℕ) → Done
+  did_flush_half : (space page : ℕ) → Done
+  did_flush_land : (space page : ℕ) → Done
+  did_oldest_dirty : (page : Option (ℕ × ℕ)) → Done
+  did_checkpoint : (lsn : ℕ) → Done
+  did_end : (lsn : ℕ) → Done
 
 -- a call that was made: it was carried out, or refused for a cause
 pub data Made : Type 0 where
@@ -42,6 +54,12 @@ call_of (did_delete trx table key) = delete trx table key
 call_of (did_get trx table key value) = get trx table key
 call_of (did_undo_one trx undone) = undo_one trx
 call_of (did_commit trx position) = commit trx
+call_of (did_flush_begin space page) = flush_begin space page
+call_of (did_flush_half space page) = flush_half space page
+call_of (did_flush_land space page) = flush_land space page
+call_of (did_oldest_dirty page) = oldest_dirty
+call_of (did_checkpoint lsn) = checkpoint
+call_of (did_end lsn) = end
 
 -- the call that was made
 abbrev pub made_call : Made → Call
@@ -57,18 +75,32 @@ cause_of d (delete trx table key) = change_cause d trx table key 0
 cause_of d (get trx table key) = get_cause d trx table key
 cause_of d (undo_one trx) = no_trx d trx
 cause_of d (commit trx) = no_trx d trx
+cause_of d (flush_begin space page) = None
+cause_of d (flush_half space page) = None
+cause_of d (flush_land space page) = None
+cause_of d oldest_dirty = None
+cause_of d checkpoint = None
+cause_of d end = None
 
+-- What a call does that is carried out. The value that a `get` answers comes from pages, and is said
+-- where these are known.
 abbrev pub Does : Donor → Done → Donor → Type 0
 Does d (did_create table buckets) after = after ≡ created table buckets d
 Does d (did_begin writer index trx) after = Begins d writer index trx after
 Does d (did_put trx table key value) after = Changes d trx (put_of table key value) after
 Does d (did_delete trx table key) after = Changes d trx (delete_of table key) after
-Does d (did_get trx table key value) after = Gets d trx table key value × (after ≡ d)
+Does d (did_get trx table key value) after = after ≡ d
 Does d (did_undo_one trx undone) after = Undoes d trx undone after
 Does d (did_commit trx position) after = Commits d trx position after
+Does d (did_flush_begin space page) after = after ≡ d
+Does d (did_flush_half space page) after = after ≡ d
+Does d (did_flush_land space page) after = after ≡ d
+Does d (did_oldest_dirty page) after = after ≡ d
+Does d (did_checkpoint lsn) after = after ≡ d
+Does d (did_end lsn) after = after ≡ d
 
--- a cause that the plain donor doesn't know: a page, the log or the pool is full, or the disk
--- failed
+-- a cause that the plain donor doesn't know: a page, the log or the pool is full, a page isn't at
+-- this step of a flush, or the disk failed
 abbrev pub is_below : Cause → Bool
 is_below NoSuchTrx = false
 is_below NoSuchTable = false
@@ -81,6 +113,9 @@ is_below (LogFull need free) = true
 is_below (PoolFull frames) = true
 is_below TooManyTransactions = false
 is_below TooManyTables = false
+is_below NotDirty = true
+is_below InFlight = true
+is_below NoFlush = true
 is_below DiskFault = true
 
 -- A call is carried out only where there is no cause against it. Else it is refused for that cause,

@@ -1,5 +1,5 @@
 -- What a whole run says of its binlog and of its clone.
-use Rattle.std.specs.Prelude.{ℕ, ◌≡◌, ◌≤◌, ◌-◌, ◌⊎◌, List, [], ◌∷◌, length, take, None, Some, MatchOption, slice_get}
+use Rattle.std.specs.Prelude.{ℕ, ◌≡◌, ◌≤◌, ◌-◌, ◌⊎◌, Bool, true, List, [], ◌∷◌, length, take, None, Some, MatchOption, slice_get}
 use Rattle.std.specs.declared.option.Option.{Option}
 use Rattle.std.specs.List.{filter_map, flat_map, range_with_len}
 use Rattle.clone_model.specs.History.{Drops, fold, history_of}
@@ -8,8 +8,10 @@ use Rattle.clone_model.specs.declared.line.Line.{Line}
 use Rattle.clone_model.specs.declared.line.Line.TheVariants as lines
 use Rattle.clone_plain.specs.Effects.{put_of}
 use Rattle.clone_plain.specs.Calls.{did_commit, done}
-use Rattle.clone_plain.specs.World.{Stop}
-use Rattle.clone_plain.specs.Events.{Event, made, completed, showed, incomplete}
+use Rattle.clone_outside.specs.declared.disk.DiskOrder.{DiskOrder}
+use Rattle.clone_outside.specs.declared.disk.DiskOrder.TheVariants as order
+use Rattle.clone_plain.specs.World.{Stop, Clone, IsSure}
+use Rattle.clone_plain.specs.Events.{Event, made, cleaned, completed, completed_before, broke, broke_before, showed, incomplete, hidden, damaged, ordered}
 
 -- the events of lines, one after the other
 abbrev pub all_events : List (List Event) → List Event
@@ -40,17 +42,46 @@ AreSets (lines.Set writer table key value ∷ ls) (es ∷ more) binlog =
 AreSets (l ∷ ls) (es ∷ more) binlog = AreSets ls more binlog
 AreSets ls more binlog = Unit {0}
 
--- Each clone answers the position of the stop, which the first one sets. The rows shown behind it
--- are exactly those that the history before the stop leaves: each commit before the stop whole,
--- none later, and nothing of a transaction that was open then.
-abbrev pub ShowsStop : List Commit → Drops → Option Stop → List Event → Type 0
-ShowsStop binlog drops stop [] = Unit {0}
-ShowsStop binlog drops stop (made m ∷ es) = ShowsStop binlog drops stop es
-ShowsStop binlog drops stop (completed n ∷ es) =
-    (now : Stop) × (n ≡ now.position) × (n ≤ length binlog)
-    × ((stop ≡ None) ⊎ (stop ≡ Some now)) × ShowsStop binlog drops (Some now) es
-ShowsStop binlog drops stop (showed rows ∷ es) =
-    MatchOption stop ⊥ (λ (at : Stop).
-    rows ≡ fold (history_of (take at.position binlog) (take at.drops drops)))
-    × ShowsStop binlog drops stop es
-ShowsStop binlog drops stop (incomplete ∷ es) = (stop ≡ None) × ShowsStop binlog drops stop es
+-- The first clone sets the stop, and each later one answers its position. The rows shown behind it
+-- are exactly those that the history before the stop leaves, where that is known: each commit
+-- before the stop whole, none later, and nothing of a transaction that was open then. No damage is
+-- found then, and a complete clone isn't found incomplete.
+abbrev pub ShowsStop : List Commit → Drops → Bool → Clone → List Event → Type 0
+ShowsStop binlog drops tells clone [] = Unit {0}
+ShowsStop binlog drops tells clone (made m ∷ es) = ShowsStop binlog drops tells clone es
+ShowsStop binlog drops tells clone (cleaned n ∷ es) = ShowsStop binlog drops tells clone es
+ShowsStop binlog drops tells clone (completed n ∷ es) =
+    (now : Stop) × (n ≡ now.position) × (n ≤ length binlog) × (clone.stop ≡ None)
+    × ShowsStop binlog drops tells (record clone { stop = Some now }) es
+ShowsStop binlog drops tells clone (completed_before n ∷ es) =
+    MatchOption clone.stop ⊥ (λ (at : Stop). n ≡ at.position)
+    × ShowsStop binlog drops tells clone es
+ShowsStop binlog drops tells clone (broke ∷ es) =
+    (now : Stop) × (clone.stop ≡ None)
+    × ShowsStop binlog drops tells (record clone { stop = Some now; broken = true }) es
+ShowsStop binlog drops tells clone (broke_before ∷ es) =
+    (clone.broken ≡ true) × ShowsStop binlog drops tells clone es
+ShowsStop binlog drops tells clone (showed rows ∷ es) =
+    MatchOption clone.stop ⊥ (λ (at : Stop). IsSure tells clone
+    → rows ≡ fold (history_of (take at.position binlog) (take at.drops drops)))
+    × ShowsStop binlog drops tells (record clone { shown = true }) es
+ShowsStop binlog drops tells clone (incomplete ∷ es) =
+    (IsSure tells clone → (clone.stop ≡ None) ⊎ (clone.broken ≡ true))
+    × ShowsStop binlog drops tells clone es
+ShowsStop binlog drops tells clone (hidden ∷ es) =
+    ShowsStop binlog drops tells (record clone { doubted = true }) es
+ShowsStop binlog drops tells clone (damaged space page why ∷ es) =
+    (IsSure tells clone → ⊥) × ShowsStop binlog drops tells clone es
+ShowsStop binlog drops tells clone (ordered side order ∷ es) =
+    ShowsStop binlog drops tells clone es
+
+-- the orders that lines give to the donor's disk
+abbrev pub donor_order : Line → Option DiskOrder
+donor_order (lines.Tear byte) = Some (order.Tear byte)
+donor_order (lines.FailDonor call) = Some (order.FailAt call)
+donor_order line = None
+
+-- those that they give to the recipient's
+abbrev pub recipient_order : Line → Option DiskOrder
+recipient_order (lines.FailRecipient call) = Some (order.FailAt call)
+recipient_order line = None

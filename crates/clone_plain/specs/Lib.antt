@@ -1,7 +1,6 @@
 pub mod Donor
 pub mod Causes
 pub mod Effects
-pub mod Decided
 pub mod Calls
 pub mod Answers
 pub mod World

@@ -1,15 +1,17 @@
 -- Which events a line makes, and runs of lines.
-use Rattle.std.specs.Prelude.{ℕ, ◌≡◌, ◌⊎◌, List, [], ◌∷◌}
+use Rattle.std.specs.Prelude.{ℕ, ◌≡◌, List, [], ◌∷◌, ◌++◌, length, None, Some}
 use Rattle.std.specs.List.{flat_map}
+use Rattle.clone_outside.specs.declared.disk.DiskOrder.TheVariants as order
 use Rattle.clone_model.specs.History.{Rows}
 use Rattle.clone_model.specs.Texts.{ended}
 use Rattle.clone_model.specs.declared.line.Line.{Line}
-use Rattle.clone_model.specs.declared.line.Line.TheVariants.{Create, Begin, Put, Delete, Get, Undo, Commit, Set, Clone, Rows as ShowRows}
+use Rattle.clone_model.specs.declared.line.Line.TheVariants.{Create, Begin, Put, Delete, Get, Undo, Commit, Set, Flush, Half, Land, Clean, Checkpoint, Lsn, Tear, FailDonor, FailRecipient, Clone, Rows as ShowRows}
 use Rattle.clone_plain.specs.declared.refusal.Cause.{Cause}
 use Rattle.clone_plain.specs.Donor.{Donor}
-use Rattle.clone_plain.specs.Calls.{Call, create, begin, put, delete, get, undo_one, commit, did_begin, did_put, Made, done, refused, made_call}
+use Rattle.clone_plain.specs.Calls.{Call, create, begin, put, delete, get, undo_one, commit, flush_begin, flush_half, flush_land, checkpoint, end, Done, did_begin, did_put, did_flush_begin, did_flush_half, did_flush_land, did_oldest_dirty, Made, done, refused, made_call, call_of}
+use Rattle.clone_plain.specs.Answers.{Text}
 use Rattle.clone_plain.specs.World.{World, index_in}
-use Rattle.clone_plain.specs.Events.{Event, made, completed, showed, incomplete, said, Events}
+use Rattle.clone_plain.specs.Events.{to_donor, to_recipient, Event, made, cleaned, completed, completed_before, broke, broke_before, showed, incomplete, hidden, damaged, ordered, said, Events}
 
 -- one call is made
 abbrev pub MakesOne : Call → List Event → Type 0
@@ -28,6 +30,37 @@ pub data MakesSet (writer index table key : ℕ) (value : List ℕ) (events : Li
       ∷ made (done (did_put trx table key value)) ∷ made last ∷ []
       → MakesSet writer index table key value events
 
+-- the calls that flush a page, each carried out
+abbrev pub flushed : ℕ × ℕ → List Event
+flushed page =
+    made (done (did_oldest_dirty (Some page))) ∷ made (done (did_flush_begin page.0 page.1))
+    ∷ made (done (did_flush_half page.0 page.1)) ∷ made (done (did_flush_land page.0 page.1)) ∷ []
+
+-- The oldest dirty page is flushed until there is none, as far as none of the calls is refused.
+pub data MakesClean (events : List Event) : Type 0 where
+  all_clean : (pages : List (ℕ × ℕ)) → events ≡ flat_map flushed pages
+      ++ made (done (did_oldest_dirty None)) ∷ cleaned (length pages) ∷ []
+      → MakesClean events
+  not_flushed : (pages : List (ℕ × ℕ)) (page : ℕ × ℕ) (front rest : List Event) (next : Done)
+      (cause : Cause) → flushed page ≡ front ++ made (done next) ∷ rest
+      → events ≡ flat_map flushed pages ++ front ++ made (refused (call_of next) cause) ∷ []
+      → MakesClean events
+
+-- a clone is taken, or a later one answers as the first
+pub data MakesClone (events : List Event) : Type 0 where
+  is_complete : (n : ℕ) → events ≡ completed n ∷ [] → MakesClone events
+  was_complete : (n : ℕ) → events ≡ completed_before n ∷ [] → MakesClone events
+  is_broken : events ≡ broke ∷ [] → MakesClone events
+  was_broken : events ≡ broke_before ∷ [] → MakesClone events
+
+-- rows are shown, or why they aren't
+pub data MakesRows (events : List Event) : Type 0 where
+  are_shown : (rows : Rows) → events ≡ showed rows ∷ [] → MakesRows events
+  not_there : events ≡ incomplete ∷ [] → MakesRows events
+  not_read : events ≡ hidden ∷ [] → MakesRows events
+  not_sound : (space page : ℕ) (why : Text) → events ≡ damaged space page why ∷ []
+      → MakesRows events
+
 -- the events of a line, where each writer's next transaction has this index
 abbrev pub Makes : (ℕ → ℕ) → Line → List Event → Type 0
 Makes next (Create table buckets) events = MakesOne (create table buckets) events
@@ -39,15 +72,23 @@ Makes next (Undo trx) events = MakesOne (undo_one trx) events
 Makes next (Commit trx) events = MakesOne (commit trx) events
 Makes next (Set writer table key value) events =
     MakesSet writer (next writer) table key value events
-Makes next Clone events = (n : ℕ) × (events ≡ completed n ∷ [])
-Makes next ShowRows events =
-    (events ≡ incomplete ∷ []) ⊎ ((rows : Rows) × (events ≡ showed rows ∷ []))
+Makes next (Flush space page) events = MakesOne (flush_begin space page) events
+Makes next (Half space page) events = MakesOne (flush_half space page) events
+Makes next (Land space page) events = MakesOne (flush_land space page) events
+Makes next Clean events = MakesClean events
+Makes next Checkpoint events = MakesOne checkpoint events
+Makes next Lsn events = MakesOne end events
+Makes next (Tear byte) events = events ≡ ordered to_donor (order.Tear byte) ∷ []
+Makes next (FailDonor call) events = events ≡ ordered to_donor (order.FailAt call) ∷ []
+Makes next (FailRecipient call) events = events ≡ ordered to_recipient (order.FailAt call) ∷ []
+Makes next Clone events = MakesClone events
+Makes next ShowRows events = MakesRows events
 
 -- each answer is ended by a line feed
 abbrev pub output : List (List Event) → List ℕ
 output events = flat_map (λ es. ended (said es)) events
 
-module _ {D : Type 0} (plain : D → Donor) (Step : D → Made → D → Type 0) where
+module _ {D : Type 0} (plain : D → Donor) (Step : D → Event → D → Type 0) where
   -- a line makes its events
   abbrev pub LineStep : World D → Line → List Event → World D → Type 0
   LineStep s line events t = Makes (index_in s.begun) line events × Events plain Step s events t

@@ -1,9 +1,8 @@
--- What a script acts on: a donor, the indexes of its writers, and the stop of its clone.
-use Rattle.std.specs.Prelude.{ℕ, ◌≤◌, List, length, take, None, unwrap_or, refl}
+-- What a script acts on: a donor, the indexes of its writers, and its clone.
+use Rattle.std.specs.Prelude.{ℕ, ◌≡◌, ◌≤◌, Bool, true, false, List, length, take, None, unwrap_or}
 use Rattle.std.specs.declared.option.Option.{Option}
 use Rattle.std.specs.FinMap as finite
 use Rattle.std.specs.Ordering.{nat_cmp}
-use Rattle.std.specs.Coded.{Coded, code_by, coded×, coded_ℕ, coded_option}
 use Rattle.clone_model.specs.History.{Entry, history_of}
 use Rattle.clone_plain.specs.Donor.{Donor}
 
@@ -12,29 +11,35 @@ pub record Stop : Type 0 where
   pub position : ℕ
   pub drops : ℕ
 
--- a donor of a type D, how many transactions each writer has begun, and the stop of the clone once
--- there is one
+-- A clone: its stop, once it has ended; whether it ended by a fault of the recipient's disk;
+-- whether such a fault came in the way of its rows since; and whether its rows were shown.
+pub record Clone : Type 0 where
+  pub stop : Option Stop
+  pub broken : Bool
+  pub doubted : Bool
+  pub shown : Bool
+
+-- none was taken yet
+abbrev pub no_clone : Clone
+no_clone = record { stop = None; broken = false; doubted = false; shown = false }
+
+-- A donor of a type D, how many transactions each writer has begun, the clone, and whether the
+-- disks of donor and recipient tell what they hold.
 pub record World (D : Type 0) : Type 0 where
   pub donor : D
   pub begun : finite.FinMap nat_cmp ℕ
-  pub stop : Option Stop
+  pub clone : Clone
+  pub tells : Bool
 
-abbrev pub stop_code : Coded Stop
-stop_code =
-    code_by (ℕ × ℕ) (coded× coded_ℕ coded_ℕ) (λ s. (s.position, s.drops))
-    (λ p. record { position = p.0; drops = p.1 }) (λ _. refl)
+-- What a clone's rows are is known: the disks tell what they hold, and no fault came in the way.
+pub record IsSure (tells : Bool) (clone : Clone) : Type 0 where
+  pub told : tells ≡ true
+  pub steady : clone.doubted ≡ false
 
--- it is stored as the pairs of its parts
-abbrev pub world_code : {D : Type 0} → Coded D → Coded (World D)
-world_code {D} code =
-    code_by (D × (finite.FinMap nat_cmp ℕ × Option Stop))
-    (coded× code (coded× (finite.code coded_ℕ coded_ℕ) (coded_option stop_code)))
-    (λ s. (s.donor, (s.begun, s.stop))) (λ p. record { donor = p.0; begun = p.1.0; stop = p.1.1 })
-    (λ _. refl)
-
--- a donor of which nothing was asked
-abbrev pub opened : {D : Type 0} → D → World D
-opened donor = record { donor = donor; begun = finite.empty; stop = None }
+-- a donor of which nothing was asked, over disks that tell what they hold, or don't
+abbrev pub opened : {D : Type 0} → D → Bool → World D
+opened donor tells =
+    record { donor = donor; begun = finite.empty; clone = no_clone; tells = tells }
 
 -- the index of the next transaction of a writer
 abbrev pub index_in : finite.FinMap nat_cmp ℕ → ℕ → ℕ

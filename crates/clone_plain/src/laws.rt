@@ -1,35 +1,43 @@
-ghost use Rattle.std.specs.Prelude.{◌≡◌, ◌≤◌, ◌++◌, ℕ, List, length, None};
+ghost use Rattle.std.specs.Prelude.{◌≡◌, ◌≤◌, ◌++◌, Bool, ℕ, List, length};
 ghost use Rattle.clone_model.specs.declared.line.Line.{Line};
-ghost use Rattle.clone_plain.specs.Calls.{PlainStep};
 ghost use Rattle.clone_plain.specs.Donor.{Donor, no_donor};
-ghost use Rattle.clone_plain.specs.Events.{Event};
+ghost use Rattle.clone_plain.specs.Events.{Event, PlainEvent};
 ghost use Rattle.clone_plain.specs.Headline.{AreCommits, AreSets, ShowsStop, all_events};
 ghost use Rattle.clone_plain.specs.Runs.{Runs};
-ghost use Rattle.clone_plain.specs.World.{World, opened, IsWithin};
+ghost use Rattle.clone_plain.specs.World.{World, IsWithin, no_clone, opened};
 
 /// Each run of the plain donor from the beginning: its binlog has a commit for each position that
-/// was answered, that of a `set` with its one change; the rows shown are those of the stop; and
-/// each line adds at most one commit, and one transaction of each writer.
+/// was answered, that of a `set` with its one change; the rows shown are those of the stop, where
+/// that is known; each line adds at most one commit, and one transaction of each writer; and
+/// whether the disks tell what they hold stays.
 pub fn run_laws()
     ensures commits { (lines : List Line) (events : List (List Event)) (t : World Donor)
-        → Runs (λ d. d) PlainStep (opened no_donor) lines events t
+        → (tells : Bool)
+        → Runs (λ d. d) PlainEvent (opened no_donor tells) lines events t
         → AreCommits (all_events events) t.donor.binlog }
     ensures sets { (lines : List Line) (events : List (List Event)) (t : World Donor)
-        → Runs (λ d. d) PlainStep (opened no_donor) lines events t
+        → (tells : Bool)
+        → Runs (λ d. d) PlainEvent (opened no_donor tells) lines events t
         → AreSets lines events t.donor.binlog }
     ensures stop { (lines : List Line) (events : List (List Event)) (t : World Donor)
-        → Runs (λ d. d) PlainStep (opened no_donor) lines events t
-        → ShowsStop t.donor.binlog t.donor.drops None (all_events events) }
+        → (tells : Bool)
+        → Runs (λ d. d) PlainEvent (opened no_donor tells) lines events t
+        → ShowsStop t.donor.binlog t.donor.drops tells no_clone (all_events events) }
     ensures within { (lines : List Line) (events : List (List Event)) (t : World Donor) (n : ℕ)
-        → Runs (λ d. d) PlainStep (opened no_donor) lines events t
+        → (tells : Bool)
+        → Runs (λ d. d) PlainEvent (opened no_donor tells) lines events t
         → length lines ≤ n
         → IsWithin (λ d. d) n t }
+    ensures tells { (lines : List Line) (events : List (List Event)) (t : World Donor)
+        → (tells : Bool)
+        → Runs (λ d. d) PlainEvent (opened no_donor tells) lines events t
+        → t.tells ≡ tells }
 {}
 
 /// Runs join: what one run leaves, another may start from.
 pub fn runs_join()
     ensures { (front back : List Line) (before behind : List (List Event)) (s t u : World Donor)
-        → Runs (λ d. d) PlainStep s front before t
-        → Runs (λ d. d) PlainStep t back behind u
-        → Runs (λ d. d) PlainStep s (front ++ back) (before ++ behind) u }
+        → Runs (λ d. d) PlainEvent s front before t
+        → Runs (λ d. d) PlainEvent t back behind u
+        → Runs (λ d. d) PlainEvent s (front ++ back) (before ++ behind) u }
 {}

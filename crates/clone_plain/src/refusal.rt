@@ -37,6 +37,12 @@ pub enum Cause {
     TooManyTransactions,
     /// E11: 62 tables are there.
     TooManyTables,
+    /// E14: the page isn't dirty.
+    NotDirty,
+    /// E15: a flush of the page has begun, and has neither landed nor failed.
+    InFlight,
+    /// E16: no flush of the page is at this half.
+    NoFlush,
     /// E17: the disk failed.
     DiskFault,
 }
@@ -61,6 +67,9 @@ impl fmt::Display for Cause {
             Cause::PoolFull { frames } => write!(f, "refused E9 {frames}"),
             Cause::TooManyTransactions => f.write_str("refused E10"),
             Cause::TooManyTables => f.write_str("refused E11"),
+            Cause::NotDirty => f.write_str("refused E14"),
+            Cause::InFlight => f.write_str("refused E15"),
+            Cause::NoFlush => f.write_str("refused E16"),
             Cause::DiskFault => f.write_str("refused E17"),
         }
     }

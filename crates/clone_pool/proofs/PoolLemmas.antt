@@ -9,7 +9,7 @@ use Rattle.clone_pool.specs.declared.frame.PageName.{PageName}
 use Rattle.clone_pool.specs.declared.orders.Orders.{Orders}
 use Rattle.clone_pool.specs.declared.tournament.TheConstants.{NO_NUMBER}
 use Rattle.clone_pool.specs.Frames.{no_frame, frame_at, name_of, HoldsPage, holder}
-use Rattle.clone_pool.specs.Orders.{AreLong, orders_of, refreshed, use_rank, age_rank, waiting_rank}
+use Rattle.clone_pool.specs.Orders.{orders_of, refreshed, use_rank, age_rank, waiting_rank}
 use Rattle.clone_pool.specs.Pool.{Frames, IsPool, IsKept, IsFrame, IsHolder}
 use Rattle.clone_pool.proofs.NameLemmas.{name_at, AreOnce, found_at, found_name, once_set}
 use Rattle.clone_pool.proofs.FrameLemmas.{KeepsOrLosesPage, more_uses, unused_frame}

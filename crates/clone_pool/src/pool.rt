@@ -86,6 +86,7 @@ impl Pool {
             → Rose (D.failures disk.old) (D.failures disk.new) }
         ensures later { D.failures disk.old ≤ D.failures disk.new }
         ensures disk { D.told disk.new ≡ D.told disk.old }
+        ensures orders { D.orders disk.new ≡ D.orders disk.old }
         ensures read { IfOk result
             (λ at. holder self.old.frames (record { space = space; number = page }) ≡ None
             → ForTold (D.told disk.old)
@@ -344,6 +345,7 @@ impl Pool {
         ensures fault { OnErr result (Rose (D.failures disk.old) (D.failures disk.new)) }
         ensures later { D.failures disk.old ≤ D.failures disk.new }
         ensures disk { D.told disk.new ≡ D.told disk.old }
+        ensures orders { D.orders disk.new ≡ D.orders disk.old }
         ensures read { OnOk result
             (ForTold (D.told disk.old)
             (λ m. GivesQuiet m name.space name.number (frame_at self.new.frames at).page)) }
@@ -373,6 +375,7 @@ fn read_into<D: PageDisk>(
     ensures fault { OnErr result (Rose (D.failures disk.old) (D.failures disk.new)) }
     ensures later { D.failures disk.old ≤ D.failures disk.new }
     ensures disk { D.told disk.new ≡ D.told disk.old }
+    ensures orders { D.orders disk.new ≡ D.orders disk.old }
     ensures read { OnOk result
         (ForTold (D.told disk.old) (λ m. GivesQuiet m name.space name.number frame.new.page)) }
 {

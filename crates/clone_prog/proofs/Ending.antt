@@ -1,25 +1,35 @@
 -- What a run is, by how it ended.
-use Rattle.std.proofs.Common.{◌≡◌, ◌≤◌, ℕ, List, [], length, refl, sym, ap, ◌∙◌, subst, ◌⊎◌, inl, inr, None, Some}
+use Rattle.std.proofs.Common.{◌≡◌, ◌≤◌, ℕ, Bool, true, false, List, [], ◌++◌, ◌&&◌, is_some, refl, sym, ap, ◌∙◌, subst, ◌⊎◌, inl, inr, None, Some, codes, arith, filter_map}
 use Rattle.std.proofs.lemmas.List.{append-nil}
+use Rattle.std.specs.Fmt.{decimal}
 use Rattle.std.specs.declared.option.Option.{Option}
-use Rattle.clone_outside.specs.Causes.{Rose}
+use Rattle.clone_outside.specs.Causes.{Rose, raised}
 use Rattle.clone_outside.specs.Bytes.{IsSpent, appended, prepended}
-use Rattle.clone_outside.specs.declared.Refusal.{Refusal}
-use Rattle.clone_outside.specs.declared.Refusal.TheVariants.{Fault, NoMemory}
+use Rattle.clone_outside.specs.Disk.{DiskImage}
+use Rattle.clone_outside.specs.declared.disk.DiskOrder.{DiskOrder}
 use Rattle.clone_model.specs.Texts.{ended, binlog_text}
+use Rattle.clone_model.specs.declared.config.Config.{Config}
 use Rattle.clone_model.specs.declared.line.Line.{Line}
 use Rattle.clone_plain.specs.Answers.{Text}
+use Rattle.clone_plain.specs.Events.{Event, recipient_fault}
+use Rattle.clone_plain.specs.Headline.{AreCommits, AreSets, ShowsStop, all_events, donor_order, recipient_order}
 use Rattle.clone_plain.specs.Runs.{output}
-use Rattle.clone_core.specs.Lines.{State}
-use Rattle.clone_core.proofs.RunLemmas.{run_commits, run_sets, run_stop}
+use Rattle.clone_plain.specs.World.{no_clone}
+use Rattle.clone_donor.specs.Disks.{DiskState, Visits}
+use Rattle.clone_core.specs.System.{donor_of}
+use Rattle.clone_core.specs.Lines.{State, IsNew, Runs}
+use Rattle.clone_core.specs.Copied.{HoldsClone}
+use Rattle.clone_prog.specs.declared.reading.Unread.{Unread}
+use Rattle.clone_prog.specs.declared.reading.Unread.TheVariants as unread
+use Rattle.clone_prog.specs.declared.run.Unready.{Unready}
+use Rattle.clone_prog.specs.declared.run.Unready.TheVariants as unready
 use Rattle.clone_prog.specs.declared.status.Status.{Status}
-use Rattle.clone_prog.specs.declared.status.Status.TheVariants.{Done, Memory}
-use Rattle.clone_prog.specs.Status.{status_of}
-use Rattle.clone_script.specs.Script.{IsScript}
-use Rattle.clone_script.specs.declared.read.TheConstants.{LONGEST_SCRIPT}
-use Rattle.clone_prog.specs.Carrying.{AnsweredAll, Finished, Stopped, before_lines, in_lines, in_binlog}
-use Rattle.clone_prog.specs.Saying.{Says}
-use Rattle.clone_prog.specs.Main.{Ends, IsCommand, GaveAll, Steps, Due, Front, Outcome}
+use Rattle.clone_prog.specs.declared.status.Status.TheVariants.{Done, Memory, Usage, BadLine, SourceFault, SinkFault, DonorFault, RecipientFault, NotEmpty, TooLong}
+use Rattle.clone_prog.specs.Carrying.{AnsweredAll, Finished, Stopped, in_lines, in_binlog}
+use Rattle.clone_prog.specs.Ended.{EndsLines}
+use Rattle.clone_prog.specs.Looking.{IsUnread, IsUnready}
+use Rattle.clone_prog.specs.Saying.{Says, SaysUnread, SaysUnready}
+use Rattle.clone_prog.specs.Main.{End, disk_of, ends, Ends, IsUntouched, IsRead, IsSaid, WereEmpty, Carried, MetFault, Steps, Due, Front, Outcome}
 
 -- all that was due by a status was written
 abbrev Whole : Status → List (List ℕ) → Ends → Ends → Type 0
@@ -31,7 +41,7 @@ nothing_appended None new same = same
 nothing_appended (Some xs) new same = same ∙ ap Some (sym (append-nil xs))
 
 -- a run that ends with one line
-pub said : (words : List (List ℕ)) (old new : Ends) (asked got : Status) (text : Text) → Says asked got old.out.told new.out.told old.out.faults new.out.faults (ended text)
+said : (words : List (List ℕ)) (old new : Ends) (asked got : Status) (text : Text) → Says asked got old.out.told new.out.told old.out.faults new.out.faults (ended text)
     → new.binlog.told ≡ old.binlog.told → Due asked words old new (ended text) [] → (Whole asked words old new → Outcome asked words old new) → Outcome got words old new
 said words old new asked got text (inl is) same due so =
     let P : Status → Type 0 = λ s. Outcome s words old new in subst P (sym is.0) (so (ended text, [], due, is.1, nothing_appended _ _ same))
@@ -40,55 +50,158 @@ said words old new asked got text (inr (inl is)) same due so =
 said words old new asked got text (inr (inr is)) same due so =
     let P : Status → Type 0 = λ s. Outcome s words old new in subst P (sym is.0) (inl is.1, inr (asked, ended text, [], due, inl (is.2, same)))
 
--- what is due where all lines were carried out
-steps : (old new : Ends) (script : List ℕ) (lines : List Line) (final : State) (out_old out_new : Option (List ℕ)) → GaveAll old new script → IsScript script lines
-    → (is : AnsweredAll lines final out_old out_new) → Steps old new (output is.events) (binlog_text final.donor.donor.binlog)
-steps old new script lines final out_old out_new gave read is = record {
-  script = script;
-  lines = lines;
-  events = is.events;
-  final = final;
-  gave = gave;
-  read = read;
-  run = is.run;
-  commits = run_commits is.run.first lines is.events final is.run.new is.run.run;
-  sets = run_sets is.run.first lines is.events final is.run.new is.run.run;
-  clone = run_stop is.run.first lines is.events final is.run.new is.run.run;
-  answers = refl;
-  texts = refl;
+-- nothing was said for want of memory
+silent : (words : List (List ℕ)) (old new : Ends) (got : Status) → got ≡ Memory → new.out.told ≡ old.out.told → new.binlog.told ≡ old.binlog.told → Outcome got words old new
+silent words old new got is out same =
+    let P : Status → Type 0 = λ s. Outcome s words old new in subst P (sym is) (inl (out, same))
+
+is_said : (text : Text) → IsSaid text (ended text) []
+is_said text = record { said = refl; none = refl }
+
+-- no script was read
+pub not_read : (words : List (List ℕ)) (old new : Ends) (why : Unread) (got : Status) → IsUnread words old.source new.source why → IsUntouched old new
+    → SaysUnread why got old.out.told new.out.told old.out.faults new.out.faults → new.binlog.told ≡ old.binlog.told → Outcome got words old new
+not_read words old new unread.Usage got is kept says same = said words old new Usage got (codes "usage") says same (is, kept, is_said (codes "usage")) (λ w. w)
+not_read words old new unread.SourceFault got is kept says same =
+    said words old new SourceFault got (codes "source fault") says same (is.0, is.1, kept, is_said (codes "source fault")) (λ w. w)
+not_read words old new unread.TooLong got is kept says same =
+    said words old new TooLong got (codes "script too long") says same (is.0, is.1, is.2, kept, is_said (codes "script too long")) (λ w. w)
+not_read words old new (unread.BadLine line) got is kept says same =
+    let text : Text = codes "bad line " ++ decimal line in
+    said words old new BadLine got text says same (is.0, is.1, line, is.2, is.3, kept, is_said text) (λ w. w)
+not_read words old new unread.Memory got is kept says same = silent words old new got says.0 says.1 same
+
+-- its lines weren't begun
+pub not_begun : (words : List (List ℕ)) (old new : Ends) (config : Config) (lines : List Line) (why : Unready) (got : Status) → IsRead words old.source new.source config lines
+    → IsUnready old.donor old.recipient new.donor new.recipient why
+    → SaysUnready why got old.out.told new.out.told old.out.faults new.out.faults → new.binlog.told ≡ old.binlog.told → Outcome got words old new
+not_begun words old new config lines unready.DonorFault got read is says same =
+    said words old new DonorFault got (codes "donor disk fault") says same (config, lines, read, record { donor = is.0; recipient = is.1 }, is.2, is_said (codes "donor disk fault")) (λ w. w)
+not_begun words old new config lines unready.RecipientFault got read is says same =
+    said words old new RecipientFault got recipient_fault says same (inl (config, lines, read, record { donor = is.0; recipient = is.1 }, is.2, is_said recipient_fault)) (λ w. w)
+not_begun words old new config lines unready.NotEmpty got read is says same =
+    said words old new NotEmpty got (codes "not empty") says same (config, lines, read, record { donor = is.0; recipient = is.1 }, is.2, is_said (codes "not empty")) (λ w. w)
+not_begun words old new config lines unready.Memory got read is says same = silent words old new got says.0 says.1 same
+
+-- a world was begun over the disks
+pub record Began (old : Ends) (first : State) : Type 0 where
+  pub new : IsNew first
+  pub empty : WereEmpty old
+  pub donor : Visits old.donor first.donor.donor.disk
+  pub recipient : Visits old.recipient first.donor.recipient
+
+-- the disks were given back by a world
+pub record Left (new : Ends) (final : State) : Type 0 where
+  pub donor : new.donor ≡ final.donor.donor.disk
+  pub recipient : new.recipient ≡ final.donor.recipient
+  pub clone : HoldsClone (donor_of final.donor) final.tells final.clone final.donor.recipient.told
+
+-- a disk, by what is told of it
+same_disk : (told : Option DiskImage) (failures : ℕ) (orders : List DiskOrder) (d : DiskState) → told ≡ d.told → failures ≡ d.failures → orders ≡ d.orders → disk_of told failures orders ≡ d
+same_disk told failures orders d t f o = λ i. record { told = t i; failures = f i; orders = o i }
+
+pub left_so : (source out binlog : End) (final : State) (a b : Option DiskImage) (m n : ℕ) (xs ys : List DiskOrder)
+    → a ≡ final.donor.donor.disk.told → m ≡ final.donor.donor.disk.failures → xs ≡ final.donor.donor.disk.orders
+    → b ≡ final.donor.recipient.told → n ≡ final.donor.recipient.failures → ys ≡ final.donor.recipient.orders
+    → HoldsClone (donor_of final.donor) final.tells final.clone final.donor.recipient.told
+    → Left (ends source out binlog (disk_of a m xs) (disk_of b n ys)) final
+left_so source out binlog final a b m n xs ys da dm dx rb rn ry holds = record {
+  donor = same_disk a m xs final.donor.donor.disk da dm dx;
+  recipient = same_disk b n ys final.donor.recipient rb rn ry;
+  clone = holds;
 }
 
--- the lines of a script were carried out to the end
-pub done : (words : List (List ℕ)) (old new : Ends) (script : List ℕ) (lines : List Line) → IsCommand words → GaveAll old new script → IsScript script lines
-    → Finished lines old.out.told new.out.told old.binlog.told new.binlog.told → Outcome Done words old new
-done words old new script lines command gave read is =
-    (output is.answered.events, binlog_text is.final.donor.donor.binlog, (command, steps old new script lines is.final _ _ gave read is.answered), is.answered.out, is.binlog)
+-- what holds of each run from a world
+pub record LawsFrom (first : State) : Type 0 where
+  pub commits : (lines : List Line) (events : List (List Event)) (t : State) → Runs first lines events t → AreCommits (all_events events) (donor_of t.donor).binlog
+  pub sets : (lines : List Line) (events : List (List Event)) (t : State) → Runs first lines events t → AreSets lines events (donor_of t.donor).binlog
+  pub stop : (lines : List Line) (events : List (List Event)) (t : State) → Runs first lines events t → ShowsStop (donor_of t.donor).binlog (donor_of t.donor).drops t.tells no_clone (all_events events)
+  pub donor_orders : (lines : List Line) (events : List (List Event)) (t : State) → Runs first lines events t → t.donor.donor.disk.orders ≡ first.donor.donor.disk.orders ++ filter_map donor_order lines
+  pub recipient_orders : (lines : List Line) (events : List (List Event)) (t : State) → Runs first lines events t → t.donor.recipient.orders ≡ first.donor.recipient.orders ++ filter_map recipient_order lines
+  pub tells : (lines : List Line) (events : List (List Event)) (t : State) → Runs first lines events t → t.tells ≡ first.tells
+  pub fault : (lines : List Line) (events : List (List Event)) (t : State) → Runs first lines events t → MetFault t → Rose first.donor.recipient.failures t.donor.recipient.failures
+
+-- the orders of a disk, as it was before it was asked
+orders_since : (old asked new final : DiskState) (given : List DiskOrder) → Visits old asked → new ≡ final → final.orders ≡ asked.orders ++ given → new.orders ≡ old.orders ++ given
+orders_since old asked new final given visits left added = ap (λ (d : DiskState). d.orders) left ∙ added ∙ ap (λ orders. orders ++ given) visits.orders
+
+both_tell : (old first : Ends) (a b : DiskState) → Visits old.donor a → Visits old.recipient b → (is_some a.told && is_some b.told) ≡ (is_some old.donor.told && is_some old.recipient.told)
+both_tell old first a b donor recipient = ap (λ x. x && is_some b.told) donor.tells ∙ ap (λ x. is_some old.donor.told && x) recipient.tells
+
+-- what is due where all lines were carried out
+steps : (words : List (List ℕ)) (old new : Ends) (config : Config) (lines : List Line) (first final : State) → IsRead words old.source new.source config lines → Began old first → LawsFrom first → Left new final
+    → (is : AnsweredAll lines first final old.out.told new.out.told) → Steps words old new final (output is.events) (binlog_text (donor_of final.donor).binlog)
+steps words old new config lines first final read began laws left is = record {
+  config = config;
+  lines = lines;
+  events = is.events;
+  read = read;
+  empty = began.empty;
+  run = record { first = first; new = began.new; donor = began.donor; recipient = began.recipient; run = is.run };
+  commits = laws.commits lines is.events final is.run;
+  sets = laws.sets lines is.events final is.run;
+  shows = laws.stop lines is.events final is.run;
+  answers = refl;
+  texts = refl;
+  donor = left.donor;
+  recipient = left.recipient;
+  donor_orders = orders_since _ _ _ _ _ began.donor left.donor (laws.donor_orders lines is.events final is.run);
+  recipient_orders = orders_since _ _ _ _ _ began.recipient left.recipient (laws.recipient_orders lines is.events final is.run);
+  tells = laws.tells lines is.events final is.run ∙ began.new.tells ∙ both_tell old old _ _ began.donor began.recipient;
+  clone = let P : Option DiskImage → Type 0 = HoldsClone (donor_of final.donor) final.tells final.clone in subst P (sym (ap (λ (d : DiskState). d.told) left.recipient)) left.clone;
+}
+
+-- a count that rose since a disk was asked rose since before
+rose_before : (old asked final : ℕ) → old ≤ asked → Rose asked final → Rose old final
+rose_before old asked final later rose = omega (arith, later, rose)
+
+rose : (old new : Ends) (lines : List Line) (events : List (List Event)) (first final : State) → Began old first → LawsFrom first → Left new final → Runs first lines events final → MetFault final → Rose old.recipient.failures new.recipient.failures
+rose old new lines events first final began laws left run met =
+    let P : ℕ → Type 0 = Rose old.recipient.failures in
+    subst P (sym (ap (λ (d : DiskState). d.failures) left.recipient)) (rose_before _ _ _ began.recipient.later (laws.fault lines events final run met))
+
+decided : (a b : Bool) → ((a ≡ true) ⊎ (b ≡ true)) ⊎ (((a ≡ true) ⊎ (b ≡ true)) → ⊥)
+decided true b = inl (inl refl)
+decided false true = inl (inr refl)
+decided false false = inr neither
+  where
+    neither : ((false ≡ true) ⊎ (false ≡ true)) → ⊥
+    neither (inl is) = absurd (cc)
+    neither (inr is) = absurd (cc)
 
 -- what was written where a run of the lines stopped
-front : (words : List (List ℕ)) (old new : Ends) (script : List ℕ) (lines : List Line) → IsCommand words → GaveAll old new script → IsScript script lines
-    → Stopped lines old.out.told new.out.told old.binlog.told new.binlog.told → Front words old new
-front words old new script lines command gave read (before_lines out binlog) = inl (out, binlog)
-front words old new script lines command gave read (in_lines is same) =
-    inr (Memory, output is.events, [], (command, script, lines, is.count, is.events, is.final, gave, read, is.carried, refl, refl), inl (is.out, same))
-front words old new script lines command gave read (in_binlog final is some) =
-    inr (Done, output is.events, binlog_text final.donor.donor.binlog, (command, steps old new script lines final _ _ gave read is), inr (is.out, some))
+front : (words : List (List ℕ)) (old new : Ends) (config : Config) (lines : List Line) (first final : State) → IsRead words old.source new.source config lines → Began old first → LawsFrom first → Left new final
+    → Stopped lines first final old.out.told new.out.told old.binlog.told new.binlog.told → Front words old new
+front words old new config lines first final read began laws left (in_lines is same) =
+    let carried : Carried old _ is.events is.final = record { first = first; new = began.new; donor = began.donor; recipient = began.recipient; run = is.run } in
+    inr (Memory, output is.events, [], (config, lines, is.count, is.events, is.final, read, carried, refl, refl), inl (is.out, same))
+front words old new config lines first final read began laws left (in_binlog is some) = by_fault (decided final.clone.broken final.clone.doubted)
+  where
+    whole : Steps words old new final (output is.events) (binlog_text (donor_of final.donor).binlog)
+    whole = steps words old new config lines first final read began laws left is
 
--- a run of the lines stopped
-pub given_up : (words : List (List ℕ)) (old new : Ends) (script : List ℕ) (lines : List Line) (refusal : Refusal) (got : Status) → IsCommand words → GaveAll old new script → IsScript script lines
-    → Stopped lines old.out.told new.out.told old.binlog.told new.binlog.told → (refusal ≡ Fault → Rose old.out.faults new.out.faults ⊎ Rose old.binlog.faults new.binlog.faults)
-    → got ≡ status_of refusal → Outcome got words old new
-given_up words old new script lines Fault got command gave read stopped rose is =
-    let P : Status → Type 0 = λ s. Outcome s words old new in subst P (sym is) (rose refl, front words old new script lines command gave read stopped)
-given_up words old new script lines NoMemory got command gave read stopped rose is =
-    let P : Status → Type 0 = λ s. Outcome s words old new in subst P (sym is) (front words old new script lines command gave read stopped)
+    by_fault : MetFault final ⊎ (MetFault final → ⊥) → Front words old new
+    by_fault (inl met) = inr (RecipientFault, output is.events, binlog_text (donor_of final.donor).binlog, inr (final, whole, met, rose old new lines is.events first final began laws left is.run met), inr (is.out, some))
+    by_fault (inr none) = inr (Done, output is.events, binlog_text (donor_of final.donor).binlog, (final, whole, none), inr (is.out, some))
 
--- the source was read to its end
-pub all_given : (old new : Ends) (script : List ℕ) → old.source.told ≡ prepended script new.source.told → new.source.faults ≡ old.source.faults → IsSpent new.source.told → length script ≤ LONGEST_SCRIPT → GaveAll old new script
-all_given old new script given steady spent short = record { given = given; steady = steady; spent = spent; short = short }
+-- the lines were carried out as they were lent
+pub lent : (lines passed : List Line) (first final : State) (a b : Option (List ℕ)) (m n : ℕ) (x y : Option (List ℕ)) (k l : ℕ) (got : Status) → passed ≡ lines → EndsLines passed first final a b m n x y k l got → EndsLines lines first final a b m n x y k l got
+lent lines passed first final a b m n x y k l got same is =
+    let P : List Line → Type 0 = λ ls. EndsLines ls first final a b m n x y k l got in subst P same is
 
--- the same bytes and lines, as they were passed
-pub same_script : (bytes passed_bytes : List ℕ) (lines passed_lines : List Line) → passed_bytes ≡ bytes → passed_lines ≡ lines → IsScript passed_bytes lines → IsScript bytes passed_lines
-same_script bytes passed_bytes lines passed_lines same_bytes same_lines read =
-    let P : List ℕ → Type 0 = λ bs. IsScript bs lines in
-    let Q : List Line → Type 0 = IsScript bytes in
-    subst Q (sym same_lines) (subst P same_bytes read)
+-- the lines of a script were carried out, to the end or up to a stop
+pub ran : (words : List (List ℕ)) (old new : Ends) (config : Config) (lines : List Line) (first final : State) (got : Status) → IsRead words old.source new.source config lines → Began old first → LawsFrom first → Left new final
+    → EndsLines lines first final old.out.told new.out.told old.out.faults new.out.faults old.binlog.told new.binlog.told old.binlog.faults new.binlog.faults got → Outcome got words old new
+ran words old new config lines first final Done read began laws left is =
+    (output is.0.answered.events, binlog_text (donor_of final.donor).binlog, (final, steps words old new config lines first final read began laws left is.0.answered, is.1), is.0.answered.out, is.0.binlog)
+ran words old new config lines first final RecipientFault read began laws left is =
+    let met = rose old new lines is.0.answered.events first final began laws left is.0.answered.run is.1 in
+    (output is.0.answered.events, binlog_text (donor_of final.donor).binlog, inr (final, steps words old new config lines first final read began laws left is.0.answered, is.1, met), is.0.answered.out, is.0.binlog)
+ran words old new config lines first final Memory read began laws left is = front words old new config lines first final read began laws left is
+ran words old new config lines first final SinkFault read began laws left is = (is.0, front words old new config lines first final read began laws left is.1)
+ran words old new config lines first final Usage read began laws left is = absurd is
+ran words old new config lines first final BadLine read began laws left is = absurd is
+ran words old new config lines first final SourceFault read began laws left is = absurd is
+ran words old new config lines first final DonorFault read began laws left is = absurd is
+ran words old new config lines first final NotEmpty read began laws left is = absurd is
+ran words old new config lines first final TooLong read began laws left is = absurd is

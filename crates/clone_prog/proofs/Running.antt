@@ -1,5 +1,5 @@
 -- How far a run has come: what was carried out, and what of its answers was written.
-use Rattle.std.proofs.Common.{◌≡◌, ℕ, ◌+◌, ◌≤◌, ◌<◌, List, [], ◌∷◌, ◌++◌, length, take, get_or, refl, sym, ap, ◌∙◌, subst, Some, None, Result, Ok, Err, OnOk, OnErr, IsErrOf, IsErrAnd, append_assoc, arith}
+use Rattle.std.proofs.Common.{◌≡◌, ℕ, ◌+◌, ◌<◌, ◌≤◌, List, [], ◌∷◌, ◌++◌, length, take, get_or, refl, sym, ap, ◌∙◌, subst, Some, None, Result, Ok, Err, OnOk, OnErr, IsErrOf, IsErrAnd, append_assoc, arith}
 use Rattle.std.proofs.lemmas.List.{take_more, append-nil, take_all, length-take}
 use Rattle.std.proofs.Math.Seq.{take-length, take-append-add}
 use Rattle.std.specs.declared.option.Option.{Option}
@@ -10,12 +10,10 @@ use Rattle.clone_outside.specs.declared.Refusal.TheVariants.{Fault, NoMemory}
 use Rattle.clone_model.specs.Texts.{ended, binlog_text}
 use Rattle.clone_model.specs.declared.line.Line.{Line}
 use Rattle.clone_plain.specs.Events.{Event, said}
-use Rattle.clone_plain.specs.World.{IsWithin}
 use Rattle.clone_plain.specs.Runs.{output}
-use Rattle.clone_plain.proofs.RunLemmas.{output-push}
-use Rattle.clone_core.specs.Lines.{State, donor_of, IsNew, Runs}
-use Rattle.clone_core.proofs.RunLemmas.{Runs-push, run_within}
-use Rattle.clone_prog.specs.Main.{Carried}
+use Rattle.clone_plain.proofs.RunLemmas.{output-push, Runs-push}
+use Rattle.clone_core.specs.System.{SystemStep, donor_of}
+use Rattle.clone_core.specs.Lines.{State, Runs}
 use Rattle.clone_prog.specs.Carrying.{Answered, AnsweredAll, AnsweredSome, Finished, StoppedAtLine, in_it, behind_it}
 
 pub nothing_taken : (old new : Option (List ℕ)) (text : List ℕ) → new ≡ old → TakesSome old new text
@@ -37,58 +35,55 @@ some_behind old mid new xs ys front some = (
 )
 
 -- the lines before i were carried out, and their answers were written
-abbrev pub Sofar : List Line → ℕ → State → Option (List ℕ) → Option (List ℕ) → Type 0
-Sofar lines i world old now = AnsweredAll (take i lines) world old now
+abbrev pub Sofar : List Line → ℕ → State → State → Option (List ℕ) → Option (List ℕ) → Type 0
+Sofar lines i first world old now = AnsweredAll (take i lines) first world old now
 
-pub begun : (lines : List Line) (world : State) (old : Option (List ℕ)) → IsNew world → Sofar lines 0 world old old
-begun lines world None new = record { events = []; run = record { first = world; new = new; run = refl }; out = refl }
-begun lines world (Some xs) new = record { events = []; run = record { first = world; new = new; run = refl }; out = ap Some (sym (append-nil xs)) }
+pub begun : (lines : List Line) (first : State) (old : Option (List ℕ)) → Sofar lines 0 first first old old
+begun lines first None = record { events = []; run = refl; out = refl }
+begun lines first (Some xs) = record { events = []; run = refl; out = ap Some (sym (append-nil xs)) }
 
 -- the lines before i and the line at i are those before i + 1
 front : (lines : List Line) (i : ℕ) (l : Line) → l ≡ get_or lines i l → i < length lines → take i lines ++ l ∷ [] ≡ take (i + 1) lines
 front lines i l at lt = ap (λ x. take i lines ++ x ∷ []) at ∙ sym (take_more lines i l lt)
 
 -- one line more was carried out
-carried_on : (lines : List Line) (i : ℕ) (l : Line) (w u : State) (old now new : Option (List ℕ)) → l ≡ get_or lines i l → i < length lines → (far : Sofar lines i w old now) → (next : Answered l w u now new) → Carried (take (i + 1) lines) (far.events ++ next.step.events ∷ []) u
-carried_on lines i l w u old now new at lt far next =
-    let P : List Line → Type 0 = λ ls. Runs far.run.first ls (far.events ++ next.step.events ∷ []) u in
-    record { first = far.run.first; new = far.run.new; run = subst P (front lines i l at lt) (Runs-push far.run.first (take i lines) far.events w l next.answer u far.run.run next.step) }
+carried_on : (lines : List Line) (i : ℕ) (l : Line) (first w u : State) (old now new : Option (List ℕ)) → l ≡ get_or lines i l → i < length lines → (far : Sofar lines i first w old now) → (next : Answered l w u now new)
+    → Runs first (take (i + 1) lines) (far.events ++ next.step.events ∷ []) u
+carried_on lines i l first w u old now new at lt far next =
+    let P : List Line → Type 0 = λ ls. Runs first ls (far.events ++ next.step.events ∷ []) u in
+    subst P (front lines i l at lt) (Runs-push donor_of SystemStep first (take i lines) far.events w l next.step.events u far.run next.step.step)
 
 written_on : (events : List (List Event)) (es : List Event) (answer : List ℕ) (old now new : Option (List ℕ)) → answer ≡ said es → now ≡ appended old (output events) → new ≡ appended now (ended answer) → new ≡ appended old (output (events ++ es ∷ []))
 written_on events es answer old now new is before behind = behind ∙ ap (λ o. appended o (ended answer)) before ∙ appended_twice old (output events) (ended answer) ∙ ap (λ a. appended old (output events ++ ended a)) is ∙ ap (appended old) (output-push events es)
 
-pub one_more : (lines : List Line) (i : ℕ) (l : Line) (w u : State) (old now new : Option (List ℕ)) → l ≡ get_or lines i l → i < length lines → Sofar lines i w old now → Answered l w u now new → Sofar lines (i + 1) u old new
-one_more lines i l w u old now new at lt far next =
-    record { events = far.events ++ next.step.events ∷ []; run = carried_on lines i l w u old now new at lt far next; out = written_on far.events next.step.events next.answer old now new next.step.is far.out next.out }
+pub one_more : (lines : List Line) (i : ℕ) (l : Line) (first w u : State) (old now new : Option (List ℕ)) → l ≡ get_or lines i l → i < length lines → Sofar lines i first w old now → Answered l w u now new → Sofar lines (i + 1) first u old new
+one_more lines i l first w u old now new at lt far next =
+    record { events = far.events ++ next.step.events ∷ []; run = carried_on lines i l first w u old now new at lt far next; out = written_on far.events next.step.events next.answer old now new next.step.is far.out next.out }
 
 -- it stopped at line i
-pub stopped : (lines : List Line) (i : ℕ) (l : Line) (w u : State) (old now new : Option (List ℕ)) → l ≡ get_or lines i l → i < length lines → Sofar lines i w old now → StoppedAtLine l w u now new → AnsweredSome lines old new
-stopped lines i l w u old now new at lt far (in_it off out) =
+pub stopped : (lines : List Line) (i : ℕ) (l : Line) (first w u : State) (old now new : Option (List ℕ)) → l ≡ get_or lines i l → i < length lines → Sofar lines i first w old now → StoppedAtLine l w u now new → AnsweredSome lines first old new
+stopped lines i l first w u old now new at lt far (in_it off out) =
     record {
       events = far.events;
       final = w;
       count = i;
-      carried = far.run;
+      run = far.run;
       out = all_taken old new (output far.events) (out ∙ far.out);
     }
-stopped lines i l w u old now new at lt far (behind_it answer step out) =
+stopped lines i l first w u old now new at lt far (behind_it answer step out) =
     let P : List ℕ → Type 0 = TakesSome old new in
     let next : Answered l w u now (appended now (ended answer)) = record { answer = answer; step = step; out = refl } in
     record {
       events = far.events ++ step.events ∷ [];
       final = u;
       count = i + 1;
-      carried = carried_on lines i l w u old now _ at lt far next;
+      run = carried_on lines i l first w u old now _ at lt far next;
       out = subst P (ap (λ a. output far.events ++ ended a) step.is ∙ output-push far.events step.events) (some_behind old now new (output far.events) (ended answer) far.out out);
     }
 
 -- it went on to the end
-pub at_end : (lines : List Line) (i : ℕ) (w : State) (old now : Option (List ℕ)) → length lines ≤ i → Sofar lines i w old now → AnsweredAll lines w old now
-at_end lines i w old now le far = let P : List Line → Type 0 = λ ls. AnsweredAll ls w old now in subst P (take_all i lines le) far
-
--- so many commits and transactions at most as lines were carried out
-pub within : (lines : List Line) (i n : ℕ) (w : State) (old now : Option (List ℕ)) → Sofar lines i w old now → i ≤ n → IsWithin donor_of n w
-within lines i n w old now far le = run_within far.run.first (take i lines) far.events w n far.run.new far.run.run (omega (arith, length-take i lines))
+pub at_end : (lines : List Line) (i : ℕ) (first w : State) (old now : Option (List ℕ)) → length lines ≤ i → Sofar lines i first w old now → AnsweredAll lines first w old now
+at_end lines i first w old now le far = let P : List Line → Type 0 = λ ls. AnsweredAll ls first w old now in subst P (take_all i lines le) far
 
 err_same : {U : Type 0} (x y : Refusal) → ◌≡◌ {A = Result U Refusal} (Err x) (Err y) → x ≡ y
 err_same x y same = cc
@@ -108,7 +103,7 @@ on_err (Ok x) p = tt
 on_err (Err e) p = p
 
 -- the lines were carried out, and where the binlog was written, all is done
-pub finished : {T E : Type 0} (r : Result T E) (lines : List Line) (final : State) (out_old out_new binlog_old binlog_new : Option (List ℕ)) (text : List ℕ) → AnsweredAll lines final out_old out_new → text ≡ binlog_text final.donor.donor.binlog
-    → OnOk r (binlog_new ≡ appended binlog_old text) → OnOk r (Finished lines out_old out_new binlog_old binlog_new)
-finished (Ok x) lines final out_old out_new binlog_old binlog_new text answered is all = record { final = final; answered = answered; binlog = all ∙ ap (appended binlog_old) is }
-finished (Err e) lines final out_old out_new binlog_old binlog_new text answered is all = tt
+pub finished : {T E : Type 0} (r : Result T E) (lines : List Line) (first final : State) (out_old out_new binlog_old binlog_new : Option (List ℕ)) (text : List ℕ) → AnsweredAll lines first final out_old out_new → text ≡ binlog_text (donor_of final.donor).binlog
+    → OnOk r (binlog_new ≡ appended binlog_old text) → OnOk r (Finished lines first final out_old out_new binlog_old binlog_new)
+finished (Ok x) lines first final out_old out_new binlog_old binlog_new text answered is all = record { answered = answered; binlog = all ∙ ap (appended binlog_old) is }
+finished (Err e) lines first final out_old out_new binlog_old binlog_new text answered is all = tt

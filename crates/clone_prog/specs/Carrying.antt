@@ -7,8 +7,8 @@ use Rattle.clone_model.specs.declared.line.Line.{Line}
 use Rattle.clone_plain.specs.Answers.{Text}
 use Rattle.clone_plain.specs.Events.{Event}
 use Rattle.clone_plain.specs.Runs.{output}
-use Rattle.clone_core.specs.Lines.{State, Answers, BreaksOff}
-use Rattle.clone_prog.specs.Main.{Carried}
+use Rattle.clone_core.specs.System.{donor_of}
+use Rattle.clone_core.specs.Lines.{State, Answers, BreaksOff, Runs}
 
 -- the line was carried out, and its whole answer was written
 pub record Answered (line : Line) (before after : State) (old new : Option (List ℕ)) : Type 0 where
@@ -25,34 +25,32 @@ pub data StoppedAtLine (line : Line) (before after : State)
       → StoppedAtLine line before after old new
 
 -- all lines were carried out, and all of their answers were written
-pub record AnsweredAll (lines : List Line) (final : State)
+pub record AnsweredAll (lines : List Line) (first final : State)
     (old new : Option (List ℕ)) : Type 0 where
   pub events : List (List Event)
-  pub run : Carried lines events final
+  pub run : Runs first lines events final
   pub out : new ≡ appended old (output events)
 
 -- some of the lines were carried out, and a front of their answers was written
-pub record AnsweredSome (lines : List Line) (old new : Option (List ℕ)) : Type 0 where
+pub record AnsweredSome (lines : List Line) (first : State)
+    (old new : Option (List ℕ)) : Type 0 where
   pub events : List (List Event)
   pub final : State
   pub count : ℕ
-  pub carried : Carried (take count lines) events final
+  pub run : Runs first (take count lines) events final
   pub out : TakesSome old new (output events)
 
 -- all lines were carried out, and their answers and then the binlog were written
-pub record Finished (lines : List Line)
+pub record Finished (lines : List Line) (first final : State)
     (out_old out_new binlog_old binlog_new : Option (List ℕ)) : Type 0 where
-  pub final : State
-  pub answered : AnsweredAll lines final out_old out_new
-  pub binlog : binlog_new ≡ appended binlog_old (binlog_text final.donor.donor.binlog)
+  pub answered : AnsweredAll lines first final out_old out_new
+  pub binlog : binlog_new ≡ appended binlog_old (binlog_text (donor_of final.donor).binlog)
 
--- it stopped before the lines, in the lines, or behind them in the binlog
-pub data Stopped (lines : List Line)
+-- it stopped in the lines, or behind them in the binlog
+pub data Stopped (lines : List Line) (first final : State)
     (out_old out_new binlog_old binlog_new : Option (List ℕ)) : Type 0 where
-  before_lines : out_new ≡ out_old → binlog_new ≡ binlog_old
-      → Stopped lines out_old out_new binlog_old binlog_new
-  in_lines : AnsweredSome lines out_old out_new → binlog_new ≡ binlog_old
-      → Stopped lines out_old out_new binlog_old binlog_new
-  in_binlog : (final : State) → AnsweredAll lines final out_old out_new
-      → TakesSome binlog_old binlog_new (binlog_text final.donor.donor.binlog)
-      → Stopped lines out_old out_new binlog_old binlog_new
+  in_lines : AnsweredSome lines first out_old out_new → binlog_new ≡ binlog_old
+      → Stopped lines first final out_old out_new binlog_old binlog_new
+  in_binlog : AnsweredAll lines first final out_old out_new
+      → TakesSome binlog_old binlog_new (binlog_text (donor_of final.donor).binlog)
+      → Stopped lines first final out_old out_new binlog_old binlog_new

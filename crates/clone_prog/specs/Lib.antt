@@ -4,3 +4,5 @@ pub mod Carrying
 pub mod Saying
 pub mod Stops
 pub mod Streams
+pub mod Looking
+pub mod Ended

@@ -3,7 +3,7 @@ use Rattle.std.specs.Prelude.{ℕ}
 use Rattle.clone_outside.specs.declared.Refusal.{Refusal}
 use Rattle.clone_outside.specs.declared.Refusal.TheVariants.{Fault, NoMemory}
 use Rattle.clone_prog.specs.declared.status.Status.{Status}
-use Rattle.clone_prog.specs.declared.status.Status.TheVariants.{Done, Memory, Usage, BadLine, SourceFault, SinkFault, TooLong}
+use Rattle.clone_prog.specs.declared.status.Status.TheVariants.{Done, Memory, Usage, BadLine, SourceFault, SinkFault, DonorFault, RecipientFault, NotEmpty, TooLong}
 
 abbrev pub number_of : Status → ℕ
 number_of Done = 0
@@ -12,6 +12,9 @@ number_of Usage = 2
 number_of BadLine = 3
 number_of SourceFault = 4
 number_of SinkFault = 5
+number_of DonorFault = 6
+number_of RecipientFault = 7
+number_of NotEmpty = 9
 number_of TooLong = 15
 
 -- the status of a run that a refusal of a sink or of memory ended

@@ -3,12 +3,14 @@
 
 mod adapters;
 mod read;
+mod reading;
 mod run;
 mod status;
 #[cfg(test)]
 mod tests;
 
 use adapters::{StdSink, StdSource};
+use clone_memdisk::MemDisk;
 use run::clone_main;
 use status::Status;
 use std::alloc::AllocError;
@@ -25,7 +27,18 @@ fn main(rt: HostRuntime) -> ExitCode {
     let mut source = StdSource::new(rt.stdin());
     let mut out = StdSink::new(rt.stdout());
     let mut binlog = StdSink::new(rt.stderr());
-    ExitCode::from(clone_main(alloc, &words, &mut source, &mut out, &mut binlog))
+    let donor = MemDisk::new(alloc);
+    let recipient = MemDisk::new(alloc);
+    let ended = clone_main(
+        alloc,
+        &words,
+        &mut source,
+        &mut out,
+        &mut binlog,
+        donor,
+        recipient,
+    );
+    ExitCode::from(ended.status)
 }
 
 /// The words of the command line behind the program's name, or none where one of them is no text.

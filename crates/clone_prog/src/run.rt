@@ -1,111 +1,274 @@
-ghost use Rattle.std.specs.Prelude.{◌≡◌, ◌++◌, ◌∷◌, ◌⊎◌, ◌≤◌, ◌<◌, ◌↔◌, ◌^◌, ◌-◌, [], List, ℕ, OnOk, OnErr, IfOk, IsErrOf, IsTrue, map, codes, length};
+ghost use Rattle.std.specs.Prelude.{◌≡◌, ◌++◌, ◌⊎◌, ◌^◌, ◌-◌, ◌≤◌, ℕ, Err, List, IfErr, IfOk, OnOk, OnErr, IsErrOf, codes, map};
 ghost use Rattle.std.specs.Fmt.{decimal};
 ghost use Rattle.std.specs.String.{string_bytes};
-ghost use Rattle.clone_outside.specs.Bytes.{appended, TakesSome};
 ghost use Rattle.clone_outside.specs.Causes.{HasCause, Rose};
+ghost use Rattle.clone_outside.specs.Disk.{ForTold, blank};
+ghost use Rattle.clone_donor.specs.Disks.{Visits};
+ghost use Rattle.clone_donor.specs.Opened.{IsNotEmpty};
+ghost use Rattle.clone_model.specs.Config.{IsConfig};
 ghost use Rattle.clone_model.specs.Texts.{ended};
 ghost use Rattle.clone_plain.specs.World.{IsWithin};
-ghost use Rattle.clone_core.specs.Lines.{donor_of, IsNew};
+ghost use Rattle.clone_core.specs.System.{donor_of};
+ghost use Rattle.clone_core.specs.Lines.{IsNew};
 ghost use Rattle.clone_prog.specs.Carrying.{Answered, AnsweredAll, AnsweredSome, Finished, Stopped, StoppedAtLine};
-ghost use Rattle.clone_prog.specs.Main.{IsCommand, Outcome, ends};
-ghost use Rattle.clone_prog.specs.Saying.{Says};
+ghost use Rattle.clone_prog.specs.Ended.{EndsLines};
+ghost use Rattle.clone_prog.specs.Looking.{IsUnready};
+ghost use Rattle.clone_prog.specs.Main.{End, IsRead, Outcome, disk_of, end_of, ends};
+ghost use Rattle.clone_prog.specs.Saying.{Says, SaysUnread, SaysUnready};
 ghost use Rattle.clone_prog.specs.Status.{number_of};
 
-use crate::read::{ReadStop, read_all};
+use crate::reading::{Unread, read_words};
 use crate::status::Status;
-use clone_core::World;
-use clone_model::{Line, binlog_text};
-use clone_outside::{Refusal, Sink, Source, write_all};
-use clone_script::{ReadRefusal, read_script};
+use clone_core::{World, run_laws};
+use clone_donor::{Donor, OpenCause, OpenRefusal, is_empty};
+use clone_model::{Config, Line, binlog_text};
+use clone_outside::{PageDisk, Refusal, Sink, Source, write_all};
+use clone_script::Script;
 use std::alloc::Global;
 
-/// Runs the program: reads the script that the words ask for from the source, carries out its
-/// lines, writes their answers to `out` and at the end the commits to `binlog`. The answer is the
-/// status.
-pub fn clone_main<S: Source, K: Sink, B: Sink>(
-    alloc: Global,
-    words: &[String],
-    source: &mut S,
-    out: &mut K,
-    binlog: &mut B,
-) -> u8
-    ensures { (status : Status) × (result ≡ number_of status)
-        × Outcome status (map (λ w. string_bytes w) words.now)
-        (ends (S.left source.old) (S.failures source.old) (K.taken out.old) (K.failures out.old)
-        (B.taken binlog.old) (B.failures binlog.old))
-        (ends (S.left source.new) (S.failures source.new) (K.taken out.new) (K.failures out.new)
-        (B.taken binlog.new) (B.failures binlog.new)) }
-{
-    run_words(alloc, words, source, out, binlog).number()
+/// How a run ended, and the disks that it was given.
+#[derive(Drop)]
+pub struct Ended<D, R> {
+    /// The status.
+    pub status: u8,
+    /// The donor's disk.
+    pub donor: D,
+    /// The recipient's disk.
+    pub recipient: R,
 }
 
-/// Runs the program, and says how the run ended.
-fn run_words<S: Source, K: Sink, B: Sink>(
+/// Runs the program: reads the script that the words ask for from the source, carries out its lines
+/// over a donor on the one disk and a clone on the other, writes their answers to `out` and at the
+/// end the commits to `binlog`.
+pub fn clone_main<S: Source, K: Sink, B: Sink, D: PageDisk, R: PageDisk>(
     alloc: Global,
     words: &[String],
     source: &mut S,
     out: &mut K,
     binlog: &mut B,
-) -> Status
-    ensures { Outcome result (map (λ w. string_bytes w) words.now)
-        (ends (S.left source.old) (S.failures source.old) (K.taken out.old) (K.failures out.old)
-        (B.taken binlog.old) (B.failures binlog.old))
-        (ends (S.left source.new) (S.failures source.new) (K.taken out.new) (K.failures out.new)
-        (B.taken binlog.new) (B.failures binlog.new)) }
+    donor: D,
+    recipient: R,
+) -> Ended<D, R>
+    ensures { (status : Status) × (result.status ≡ number_of status)
+        × Outcome status (map (λ w. string_bytes w) words.now)
+        (ends (end_of (S.left source.old) (S.failures source.old))
+        (end_of (K.taken out.old) (K.failures out.old))
+        (end_of (B.taken binlog.old) (B.failures binlog.old))
+        (disk_of (D.told donor) (D.failures donor) (D.orders donor))
+        (disk_of (R.told recipient) (R.failures recipient) (R.orders recipient)))
+        (ends (end_of (S.left source.new) (S.failures source.new))
+        (end_of (K.taken out.new) (K.failures out.new))
+        (end_of (B.taken binlog.new) (B.failures binlog.new))
+        (disk_of (D.told result.donor) (D.failures result.donor) (D.orders result.donor))
+        (disk_of (R.told result.recipient) (R.failures result.recipient)
+        (R.orders result.recipient))) }
 {
-    if !is_command(words) {
-        return say(out, "usage\n", Status::Usage);
+    let (status, donor, recipient) = match read_words(alloc, words, source) {
+        Ok(script) => run_script(alloc, &script, out, binlog, donor, recipient),
+        Err(unread) => (say_unread(alloc, out, unread), donor, recipient),
+    };
+    Ended {
+        status: status.number(),
+        donor,
+        recipient,
     }
-    let script = match read_all(alloc, source) {
-        Ok(script) => script,
-        Err(ReadStop::Memory) => return Status::Memory,
-        Err(ReadStop::Fault) => return say(out, "source fault\n", Status::SourceFault),
-        Err(ReadStop::TooLong) => return say(out, "script too long\n", Status::TooLong),
+}
+
+/// Why the lines of a script aren't begun.
+#[derive(Clone, Copy, Debug, PartialEq, Eq)]
+pub enum Unready {
+    /// The donor's disk failed.
+    DonorFault,
+    /// The recipient's disk failed.
+    RecipientFault,
+    /// A disk holds a space or a mark.
+    NotEmpty,
+    /// There was no memory.
+    Memory,
+}
+
+/// The lines of a script aren't begun, and the disks are given back.
+struct Unbegun<D, R> {
+    why: Unready,
+    donor: D,
+    recipient: R,
+}
+
+/// Carries out a script over two disks, and says how the run ended.
+fn run_script<K: Sink, B: Sink, D: PageDisk, R: PageDisk>(
+    alloc: Global,
+    script: &Script,
+    out: &mut K,
+    binlog: &mut B,
+    donor: D,
+    recipient: R,
+) -> (Status, D, R)
+    requires config { IsConfig script.now.config }
+    ensures { (words : List (List ℕ)) (before after : End)
+        → IsRead words before after script.now.config script.now.lines.items
+        → Outcome result.0 words
+        (ends before (end_of (K.taken out.old) (K.failures out.old))
+        (end_of (B.taken binlog.old) (B.failures binlog.old))
+        (disk_of (D.told donor) (D.failures donor) (D.orders donor))
+        (disk_of (R.told recipient) (R.failures recipient) (R.orders recipient)))
+        (ends after (end_of (K.taken out.new) (K.failures out.new))
+        (end_of (B.taken binlog.new) (B.failures binlog.new))
+        (disk_of (D.told result.1) (D.failures result.1) (D.orders result.1))
+        (disk_of (R.told result.2) (R.failures result.2) (R.orders result.2))) }
+{
+    let mut world = match begin(alloc, script.config, donor, recipient) {
+        Ok(world) => world,
+        Err(
+            Unbegun {
+                why,
+                donor,
+                recipient,
+            },
+        ) => return (say_unready(out, why), donor, recipient),
     };
-    let lines = match read_script(alloc, &script) {
-        Ok(lines) => lines,
-        Err(ReadRefusal::NoMemory) => return Status::Memory,
-        Err(ReadRefusal::BadLine { line }) => return say_bad_line(alloc, out, line),
+    let status = run_lines(alloc, &script.lines, out, binlog, &mut world);
+    run_laws();
+    world.laws();
+    let (donor, recipient) = world.into_disks();
+    (status, donor, recipient)
+}
+
+/// Looks whether both disks are empty, and opens a donor over the one.
+fn begin<D: PageDisk, R: PageDisk>(
+    alloc: Global,
+    config: Config,
+    donor: D,
+    recipient: R,
+) -> Result<World<D, R>, Unbegun<D, R>>
+    requires { IsConfig config }
+    ensures new { IfOk result IsNew }
+    ensures empty { OnOk result (ForTold (D.told donor) (λ m. m ≡ blank)
+        × ForTold (R.told recipient) (λ m. m ≡ blank)) }
+    ensures donor { IfOk result (λ world.
+        Visits (disk_of (D.told donor) (D.failures donor) (D.orders donor))
+        world.donor.donor.disk) }
+    ensures recipient { IfOk result (λ world.
+        Visits (disk_of (R.told recipient) (R.failures recipient) (R.orders recipient))
+        world.donor.recipient) }
+    ensures why { IfErr result (λ unbegun. IsUnready
+        (disk_of (D.told donor) (D.failures donor) (D.orders donor))
+        (disk_of (R.told recipient) (R.failures recipient) (R.orders recipient))
+        (disk_of (D.told unbegun.donor) (D.failures unbegun.donor) (D.orders unbegun.donor))
+        (disk_of (R.told unbegun.recipient) (R.failures unbegun.recipient)
+        (R.orders unbegun.recipient)) unbegun.why) }
+{
+    let mut donor = donor;
+    let mut recipient = recipient;
+    if let Err(why) = look(alloc, &mut donor, &mut recipient) {
+        return Err(Unbegun {
+            why,
+            donor,
+            recipient,
+        });
+    }
+    match Donor::open(alloc, donor, config) {
+        Ok(donor) => Ok(World::new(alloc, donor, recipient)),
+        Err(OpenRefusal { cause, disk }) => Err(Unbegun {
+            why: Unready::from(cause),
+            donor: disk,
+            recipient,
+        }),
+    }
+}
+
+/// Looks whether both disks are empty, the donor's first.
+fn look<D: PageDisk, R: PageDisk>(
+    alloc: Global,
+    donor: &mut D,
+    recipient: &mut R,
+) -> Result<(), Unready>
+    ensures empty { OnOk result (ForTold (D.told donor.old) (λ m. m ≡ blank)
+        × ForTold (R.told recipient.old) (λ m. m ≡ blank)) }
+    ensures donor_fault { result ≡ Err Unready.DonorFault
+        → Rose (D.failures donor.old) (D.failures donor.new) }
+    ensures recipient_fault { result ≡ Err Unready.RecipientFault
+        → Rose (R.failures recipient.old) (R.failures recipient.new) }
+    ensures not_empty { result ≡ Err Unready.NotEmpty
+        → ForTold (D.told donor.old) IsNotEmpty ⊎ ForTold (R.told recipient.old) IsNotEmpty }
+    ensures donor_told { D.told donor.new ≡ D.told donor.old }
+    ensures recipient_told { R.told recipient.new ≡ R.told recipient.old }
+    ensures donor_later { D.failures donor.old ≤ D.failures donor.new }
+    ensures recipient_later { R.failures recipient.old ≤ R.failures recipient.new }
+    ensures donor_orders { D.orders donor.new ≡ D.orders donor.old }
+    ensures recipient_orders { R.orders recipient.new ≡ R.orders recipient.old }
+{
+    let donor_empty = match is_empty(alloc, donor) {
+        Ok(empty) => empty,
+        Err(Refusal::Fault) => return Err(Unready::DonorFault),
+        Err(Refusal::NoMemory) => return Err(Unready::Memory),
     };
-    match run_lines(alloc, &lines, out, binlog) {
+    let recipient_empty = match is_empty(alloc, recipient) {
+        Ok(empty) => empty,
+        Err(Refusal::Fault) => return Err(Unready::RecipientFault),
+        Err(Refusal::NoMemory) => return Err(Unready::Memory),
+    };
+    if !donor_empty || !recipient_empty {
+        return Err(Unready::NotEmpty);
+    }
+    Ok(())
+}
+
+/// Carries out the lines of a script, and then writes the binlog.
+fn run_lines<K: Sink, B: Sink, D: PageDisk, R: PageDisk>(
+    alloc: Global,
+    lines: &[Line],
+    out: &mut K,
+    binlog: &mut B,
+    world: &mut World<D, R>,
+) -> Status
+    requires new { IsNew world.old }
+    ensures { EndsLines lines.now world.old world.new (K.taken out.old) (K.taken out.new)
+        (K.failures out.old) (K.failures out.new) (B.taken binlog.old) (B.taken binlog.new)
+        (B.failures binlog.old) (B.failures binlog.new) result }
+{
+    match write_lines(alloc, lines, out, binlog, world) {
+        Ok(()) if world.met_fault() => Status::RecipientFault,
         Ok(()) => Status::Done,
         Err(refusal) => Status::from(refusal),
     }
 }
 
-/// Carries out the lines of a script, and then writes the binlog.
-fn run_lines<K: Sink, B: Sink>(
+/// Carries out the lines of a script and writes their answers, and then the binlog.
+fn write_lines<K: Sink, B: Sink, D: PageDisk, R: PageDisk>(
     alloc: Global,
     lines: &[Line],
     out: &mut K,
     binlog: &mut B,
+    world: &mut World<D, R>,
 ) -> Result<(), Refusal>
-    ensures ok { OnOk result (Finished lines.now (K.taken out.old) (K.taken out.new)
-        (B.taken binlog.old) (B.taken binlog.new)) }
-    ensures err { OnErr result
-        (Stopped lines.now (K.taken out.old) (K.taken out.new) (B.taken binlog.old)
-        (B.taken binlog.new)) }
+    requires new { IsNew world.old }
+    ensures ok { OnOk result (Finished lines.now world.old world.new
+        (K.taken out.old) (K.taken out.new) (B.taken binlog.old) (B.taken binlog.new)) }
+    ensures err { OnErr result (Stopped lines.now world.old world.new
+        (K.taken out.old) (K.taken out.new) (B.taken binlog.old) (B.taken binlog.new)) }
     ensures fault { IsErrOf result Refusal.Fault → Rose (K.failures out.old) (K.failures out.new)
         ⊎ Rose (B.failures binlog.old) (B.failures binlog.new) }
 {
-    let mut world = World::new(alloc)?;
-    carry_out(alloc, lines, out, &mut world)?;
+    carry_out(alloc, lines, out, world)?;
     let text = binlog_text(alloc, world.binlog())?;
     write_all(binlog, text.as_bytes())
 }
 
 /// Carries out the lines of a script in turn, and writes the answer of each.
-fn carry_out<K: Sink>(
+fn carry_out<K: Sink, D: PageDisk, R: PageDisk>(
     alloc: Global,
     lines: &[Line],
     out: &mut K,
-    world: &mut World,
+    world: &mut World<D, R>,
 ) -> Result<(), Refusal>
     requires { IsNew world.old }
-    ensures ok { OnOk result (AnsweredAll lines.now world.new (K.taken out.old) (K.taken out.new)) }
-    ensures err { OnErr result (AnsweredSome lines.now (K.taken out.old) (K.taken out.new)) }
+    ensures ok { OnOk result
+        (AnsweredAll lines.now world.old world.new (K.taken out.old) (K.taken out.new)) }
+    ensures err { OnErr result
+        (AnsweredSome lines.now world.old (K.taken out.old) (K.taken out.new)) }
     ensures cause { HasCause (K.failures out.old) (K.failures out.new) result }
 {
+    run_laws();
     for line in lines {
         carry_one(alloc, line, out, world)?;
     }
@@ -113,11 +276,11 @@ fn carry_out<K: Sink>(
 }
 
 /// Carries out one line, and writes its answer.
-fn carry_one<K: Sink>(
+fn carry_one<K: Sink, D: PageDisk, R: PageDisk>(
     alloc: Global,
     line: &Line,
     out: &mut K,
-    world: &mut World,
+    world: &mut World<D, R>,
 ) -> Result<(), Refusal>
     requires { IsWithin donor_of (2 ^ 63 - 1) world.old }
     ensures ok { OnOk result (Answered line.now world.old world.new (K.taken out.old)
@@ -131,21 +294,6 @@ fn carry_one<K: Sink>(
     write_all(out, answer.as_bytes())
 }
 
-fn is_command(words: &[String]) -> bool
-    ensures { IsTrue result ↔ IsCommand (map (λ w. string_bytes w) words.now) }
-{
-    match words {
-        [word] => is_steps(word.as_str()),
-        _ => false,
-    }
-}
-
-fn is_steps(word: &str) -> bool
-    ensures { IsTrue result ↔ (word.now ≡ codes "steps") }
-{
-    word == "steps"
-}
-
 /// Writes a text, and says that the run ended so, or why it was not written.
 fn say<K: Sink>(out: &mut K, text: &str, status: Status) -> Status
     ensures { Says status result (K.taken out.old) (K.taken out.new) (K.failures out.old)
@@ -154,6 +302,33 @@ fn say<K: Sink>(out: &mut K, text: &str, status: Status) -> Status
     match write_all(out, text.as_bytes()) {
         Ok(()) => status,
         Err(refusal) => Status::from(refusal),
+    }
+}
+
+/// Says why no script was read.
+fn say_unread<K: Sink>(alloc: Global, out: &mut K, unread: Unread) -> Status
+    ensures { SaysUnread unread result (K.taken out.old) (K.taken out.new) (K.failures out.old)
+        (K.failures out.new) }
+{
+    match unread {
+        Unread::Usage => say(out, "usage\n", Status::Usage),
+        Unread::SourceFault => say(out, "source fault\n", Status::SourceFault),
+        Unread::TooLong => say(out, "script too long\n", Status::TooLong),
+        Unread::BadLine { line } => say_bad_line(alloc, out, line),
+        Unread::Memory => Status::Memory,
+    }
+}
+
+/// Says why the lines aren't begun.
+fn say_unready<K: Sink>(out: &mut K, unready: Unready) -> Status
+    ensures { SaysUnready unready result (K.taken out.old) (K.taken out.new) (K.failures out.old)
+        (K.failures out.new) }
+{
+    match unready {
+        Unready::DonorFault => say(out, "donor disk fault\n", Status::DonorFault),
+        Unready::RecipientFault => say(out, "recipient disk fault\n", Status::RecipientFault),
+        Unready::NotEmpty => say(out, "not empty\n", Status::NotEmpty),
+        Unready::Memory => Status::Memory,
     }
 }
 
@@ -166,4 +341,19 @@ fn say_bad_line<K: Sink>(alloc: Global, out: &mut K, line: u64) -> Status
         return Status::Memory;
     };
     say(out, text.as_str(), Status::BadLine)
+}
+
+/// Why a donor that isn't opened keeps the lines from being begun.
+impl From<OpenCause> for Unready {
+    ghost use Rattle.clone_prog.specs.Looking.{unready_of};
+
+    ghost from_gives = { λ cause unready. unready ≡ unready_of cause };
+
+    fn from(cause: OpenCause) -> Unready {
+        match cause {
+            OpenCause::NotEmpty => Unready::NotEmpty,
+            OpenCause::DiskFault => Unready::DonorFault,
+            OpenCause::NoMemory => Unready::Memory,
+        }
+    }
 }

@@ -18,6 +18,13 @@ pub enum Status {
     SourceFault,
     /// A sink failed.
     SinkFault,
+    /// The donor's disk failed before the first line.
+    DonorFault,
+    /// The recipient's disk failed before the first line, ended the clone, or came in the way of
+    /// its rows.
+    RecipientFault,
+    /// A disk held a space or a mark before the first line.
+    NotEmpty,
     /// The script has more than 1,048,576 bytes.
     TooLong,
 }
@@ -34,6 +41,9 @@ impl Status {
             Status::BadLine => 3,
             Status::SourceFault => 4,
             Status::SinkFault => 5,
+            Status::DonorFault => 6,
+            Status::RecipientFault => 7,
+            Status::NotEmpty => 9,
             Status::TooLong => 15,
         }
     }

@@ -1,4 +1,5 @@
 use crate::run::clone_main;
+use clone_memdisk::MemDisk;
 use clone_outside::{MemSink, MemSource, Refusal, Sink};
 use std::alloc::{AllocError, Global};
 use std::process::Abort;
@@ -10,15 +11,17 @@ const PLAINEST_OUT: &str = "created\ncommitted 1\ncomplete position 1\n1 7 6869\
 
 const PLAINEST_BINLOG: &str = "commit 0 0 1\n1 7 6869\n";
 
-// How a run ended, and what its sinks took.
+// How a run ended, what its sinks took, and its disks.
 #[derive(Drop)]
-struct Ended {
+struct Ran {
     status: u8,
     out: MemSink,
     binlog: MemSink,
+    donor: MemDisk,
+    recipient: MemDisk,
 }
 
-impl Ended {
+impl Ran {
     fn expect(&self, rt: &impl Abort, status: u8, out: &str, binlog: &str) {
         assert_eq!(rt; self.out.bytes(), out.as_bytes());
         assert_eq!(rt; self.binlog.bytes(), binlog.as_bytes());
@@ -26,7 +29,7 @@ impl Ended {
     }
 }
 
-fn run(alloc: Global, words: &[&str], script: &[u8]) -> Result<Ended, AllocError> {
+fn run(alloc: Global, words: &[&str], script: &[u8]) -> Result<Ran, AllocError> {
     let mut source = source_of(alloc, script)?;
     run_over(
         alloc,
@@ -43,13 +46,25 @@ fn run_over(
     source: &mut MemSource,
     mut out: MemSink,
     mut binlog: MemSink,
-) -> Result<Ended, AllocError> {
+) -> Result<Ran, AllocError> {
     let words = words_of(alloc, words)?;
-    let status = clone_main(alloc, &words, source, &mut out, &mut binlog);
-    Ok(Ended {
-        status,
+    let donor = MemDisk::new(alloc);
+    let recipient = MemDisk::new(alloc);
+    let ended = clone_main(
+        alloc,
+        &words,
+        source,
+        &mut out,
+        &mut binlog,
+        donor,
+        recipient,
+    );
+    Ok(Ran {
+        status: ended.status,
         out,
         binlog,
+        donor: ended.donor,
+        recipient: ended.recipient,
     })
 }
 
@@ -177,6 +192,9 @@ fn names_the_first_bad_line(rt: HostRuntime) -> Result<(), Fail> {
         (b"create 1 4\nrows\xc3\xa9\n", "bad line 2\n"),
         (b"create 1 4\nbegin 0\nput 0 1 7\n", "bad line 3\n"),
         (b"undo\n", "bad line 1\n"),
+        (b"pool 15\n", "bad line 1\n"),
+        (b"pool 16\nring 65536\npool 16\n", "bad line 3\n"),
+        (b"create 1 4\nring 65536\n", "bad line 2\n"),
     ];
     for (script, out) in cases {
         run(rt.alloc(), &["steps"], script)?.expect(&rt, 3, out, "");
@@ -201,7 +219,7 @@ fn takes_scripts_up_to_the_longest(rt: HostRuntime) -> Result<(), Fail> {
 /// 2n, `L` for how many come behind it, and `V` for the longest value.
 type Lines = (u32, &'static str, &'static str, &'static str);
 
-const LONG_SCRIPTS: [&[Lines]; 6] = [
+const LONG_SCRIPTS: [&[Lines]; 9] = [
     // a key of a full bucket is refused
     &[
         (1, "create 1 1\n", "created\n", ""),
@@ -344,6 +362,68 @@ const LONG_SCRIPTS: [&[Lines]; 6] = [
             "",
         ),
     ],
+    // a ring that has a byte less than it takes, and its room behind a checkpoint
+    &[
+        (1, "ring 65729\ncreate 1 1\n", "created\n", ""),
+        (
+            218,
+            "set 0 1 1 aa\n",
+            "committed S\n",
+            "commit 0 N 1\n1 1 aa\n",
+        ),
+        (
+            1,
+            "begin 0\nput 0 1 1 bb\nput 0 1 1 cc\nclean\ncheckpoint\nput 0 1 1 cc\n",
+            "trx 0\nok\nrefused E8 218 217\ncleaned 3\ncheckpoint 73704\nok\n",
+            "commit 0 218 2\n1 1 bb\n1 1 cc\n",
+        ),
+        (
+            1,
+            "commit 0\nclone\nrows\n",
+            "committed 219\ncomplete position 219\n1 1 cc\nrows 1\n",
+            "",
+        ),
+    ],
+    // a ring that is just long enough
+    &[
+        (1, "ring 65730\ncreate 1 1\n", "created\n", ""),
+        (
+            218,
+            "set 0 1 1 aa\n",
+            "committed S\n",
+            "commit 0 N 1\n1 1 aa\n",
+        ),
+        (
+            1,
+            "begin 0\nput 0 1 1 bb\nput 0 1 1 cc\n",
+            "trx 0\nok\nok\n",
+            "",
+        ),
+    ],
+    // a pool whose frames are all dirty, until a page has landed
+    &[
+        (1, "pool 16\ncreate 1 32\n", "created\n", ""),
+        (
+            14,
+            "set 0 1 N aa\n",
+            "committed S\n",
+            "commit 0 N 1\n1 N aa\n",
+        ),
+        (
+            1,
+            "begin 0\nput 0 1 14 aa\nflush 1 0\nhalf 1 0\nland 1 0\nput 0 1 14 aa\n",
+            "trx 0\nrefused E9 16\nbegun\nhalf\nlanded\nok\n",
+            "commit 0 14 1\n1 14 aa\n",
+        ),
+        (
+            1,
+            "commit 0\nclone\nrows\n",
+            "committed 15\ncomplete position 15\n",
+            "",
+        ),
+        (15, "", "1 N aa\n", ""),
+        (1, "", "rows 15\n", ""),
+    ],
 ];
 
 const LONGEST: &str =
@@ -406,8 +486,8 @@ fn texts_of(alloc: Global, parts: &[Lines]) -> Result<Texts, AllocError> {
 
 fn carries_out(rt: &impl Abort, alloc: Global, parts: &[Lines]) -> Result<(), AllocError> {
     let texts = texts_of(alloc, parts)?;
-    let ended = run(alloc, &["steps"], texts.script.as_bytes())?;
-    ended.expect(rt, 0, texts.out.as_str(), texts.binlog.as_str());
+    let ran = run(alloc, &["steps"], texts.script.as_bytes())?;
+    ran.expect(rt, 0, texts.out.as_str(), texts.binlog.as_str());
     Ok(())
 }
 
@@ -519,12 +599,24 @@ fn writes_the_same_byte_by_byte(rt: HostRuntime) -> Result<(), Fail> {
     let mut binlog = ByteByByte {
         sink: MemSink::new(alloc),
     };
-    let status = clone_main(alloc, &words, &mut source, &mut out, &mut binlog);
-    let ended = Ended {
-        status,
+    let ended = clone_main(
+        alloc,
+        &words,
+        &mut source,
+        &mut out,
+        &mut binlog,
+        MemDisk::new(alloc),
+        MemDisk::new(alloc),
+    );
+    let ran = Ran {
+        status: ended.status,
         out: out.sink,
         binlog: binlog.sink,
+        donor: ended.donor,
+        recipient: ended.recipient,
     };
-    ended.expect(&rt, 0, PLAINEST_OUT, PLAINEST_BINLOG);
+    ran.expect(&rt, 0, PLAINEST_OUT, PLAINEST_BINLOG);
     Ok(())
 }
+
+mod disks;

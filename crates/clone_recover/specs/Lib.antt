@@ -1,3 +1,9 @@
 pub mod Refusals
-pub mod Replaying
-pub mod Recovers
+pub mod Reading
+pub mod Meetings
+pub mod Redo
+pub mod Damage
+pub mod Undoing
+pub mod Written
+pub mod Restores
+pub mod Listing

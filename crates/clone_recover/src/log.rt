@@ -1,53 +1,269 @@
-ghost use Rattle.std.specs.Prelude.{◌≤◌, ◌+◌, ◌^◌, ◌<◌, IfOk, OnOk, IfErr, length, take};
-ghost use Rattle.clone_mtr.specs.Spelling.{Spells};
-ghost use Rattle.clone_image.specs.Replay.{Replays, first_lsn};
-ghost use Rattle.clone_recover.specs.Replaying.{Applied, BeginsNoneUnlessMemory};
-ghost use Rattle.clone_recover.specs.Recovers.{IsNoLogUnlessMemory};
+ghost use Rattle.std.specs.Prelude.{◌≡◌, ◌≤◌, ◌<◌, ◌+◌, ◌*◌, ◌++◌, take, drop, length};
+ghost use Rattle.clone_base.specs.declared.limits.TheConstants.{PAGE_SIZE, LSN_LIMIT};
 
 use crate::RecoverRefusal;
-use clone_base::FIRST_LSN;
-use clone_image::Image;
-use clone_mtr::{Mtr, decode};
+use crate::refusal::damaged_redo;
+use crate::scan::{first_foreign, names_foreign};
+use clone_base::{PAGE_SIZE, REDO_SPACE};
+use clone_mtr::{DecodeRefusal, Mtr, decode};
+use clone_outside::{CloneEnd, PageDisk};
 use std::alloc::Global;
 
-/// Reads the log and applies its mini-transactions to the empty image.
-pub fn replay(alloc: Global, redo: &[u8]) -> Result<Image, RecoverRefusal>
-    ensures image { IfOk result (λ image. Replays redo.now image) }
-    ensures short { OnOk result (first_lsn + length redo.now < 2 ^ 64) }
-    ensures cause { IfErr result (IsNoLogUnlessMemory redo.now) }
-{
-    let mut image = Image::new(alloc);
-    let mut rest = redo;
-    let mut lsn = FIRST_LSN;
-    while !rest.is_empty() {
-        let length = replay_one(alloc, rest, lsn, &mut image)?;
-        lsn += length as u64;
-        rest = rest.split_at(length).1;
+// How many bytes of the log are at hand: a mini-transaction lies on one page or on two.
+const WINDOW: usize = 2 * PAGE_SIZE;
+
+const PAGE_BYTES: u64 = PAGE_SIZE as u64;
+
+/// The redo bytes of a disk, read from their front a mini-transaction at a time. Two pages are at
+/// hand.
+#[derive(Drop)]
+pub struct Log {
+    // how many bytes the log has, and how many of them the redo's space has
+    total: u64,
+    available: u64,
+    // how many were read
+    at: u64,
+    // the first page at hand
+    first: u32,
+    window: [u8; WINDOW],
+    ghost begun: { PAGE_SIZE * first ≤ at },
+    ghost at_hand: { at ≤ PAGE_SIZE * first + 2 * PAGE_SIZE },
+    ghost within: { at ≤ available },
+    ghost most: { available ≤ total },
+    ghost limit: { total < LSN_LIMIT },
+}
+
+impl Log {
+    ghost use Rattle.std.specs.Prelude.{◌≡◌, ◌≤◌, ◌<◌, ◌+◌, ◌*◌, [], ◌∷◌, ◌++◌, List, take, drop, length, OnOk, IfOk, IfErr, IfSome, IsErrOf};
+    ghost use Rattle.clone_mtr.specs.declared.record.Record.{Record};
+    ghost use Rattle.clone_outside.specs.Causes.{Rose};
+    ghost use Rattle.clone_outside.specs.Disk.{DiskImage};
+    ghost use Rattle.clone_recover.specs.Refusals.{IsOfDisk};
+    ghost use Rattle.clone_recover.specs.Reading.{redo_length, IsNoRedo, read_of, total_of, rest_of, base_of, Reads, ReadsOn, KeepsOn, ContinuesOn, StopsOn, Loads, IsOfRedo};
+
+    /// The log from the checkpoint to the end of a clone, of which nothing was read.
+    pub fn open<R: PageDisk>(disk: &mut R, end: &CloneEnd) -> Result<Log, RecoverRefusal>
+        ensures reads { IfOk result (ReadsOn (R.told disk.old) []) }
+        ensures total { IfOk result (λ log. total_of log ≡ redo_length end.now) }
+        ensures cause { IfErr result IsOfDisk }
+        ensures fault { IsErrOf result RecoverRefusal.DiskFault
+            → Rose (R.failures disk.old) (R.failures disk.new) }
+        ensures told { R.told disk.new ≡ R.told disk.old }
+        ensures orders { R.orders disk.new ≡ R.orders disk.old }
+        ensures later { R.failures disk.old ≤ R.failures disk.new }
+    {
+        let total = end.lsn - end.checkpoint;
+        let pages = disk.pages(REDO_SPACE)?.unwrap_or(0);
+        let mut log = Log {
+            total,
+            available: total.min(PAGE_BYTES * u64::from(pages)),
+            at: 0,
+            first: 0,
+            window: [0; WINDOW],
+        };
+        log.load(disk, 0, 0)?;
+        log.load(disk, 1, PAGE_SIZE)?;
+        Ok(log)
     }
-    Ok(image)
+
+    /// How many bytes were read.
+    pub fn at(&self) -> u64
+        ensures value { result ≡ read_of self.now }
+        ensures most { read_of self.now ≤ total_of self.now }
+    {
+        self.at
+    }
+
+    /// The next mini-transaction, or none at the end. `Damaged` comes where none stands there, or
+    /// where one of its records names a space that is no table.
+    pub fn next<R: PageDisk>(
+        &mut self,
+        alloc: Global,
+        disk: &mut R,
+    ) -> Result<Option<Mtr>, RecoverRefusal>
+        ensures next { IfOk result (ContinuesOn (R.told disk.old) self.old self.new) }
+        ensures more { IfOk result
+            (λ next. IfSome next (λ _. read_of self.old < read_of self.new)) }
+        ensures most { read_of self.new ≤ total_of self.new }
+        ensures total { total_of self.new ≡ total_of self.old }
+        ensures cause { IfErr result (StopsOn (R.told disk.old) self.old) }
+        ensures known { IsErrOf result RecoverRefusal.Incomplete → ⊥ }
+        ensures fault { IsErrOf result RecoverRefusal.DiskFault
+            → Rose (R.failures disk.old) (R.failures disk.new) }
+        ensures told { R.told disk.new ≡ R.told disk.old }
+        ensures orders { R.orders disk.new ≡ R.orders disk.old }
+        ensures later { R.failures disk.old ≤ R.failures disk.new }
+    {
+        if self.at == self.total {
+            return Ok(None);
+        }
+        self.make_ready(disk)?;
+        Ok(Some(self.read(alloc)?))
+    }
+
+    // Where in the log the first page at hand begins.
+    fn base(&self) -> u64
+        ensures value { result ≡ base_of self.now }
+        ensures most { result ≤ read_of self.now }
+        ensures hand { read_of self.now ≤ result + 2 * PAGE_SIZE }
+    {
+        PAGE_BYTES * u64::from(self.first)
+    }
+
+    // The bytes at hand that weren't read.
+    fn rest(&self) -> &[u8]
+        ensures value { result.now ≡ rest_of self.now }
+        ensures most { length result.now ≤ 2 * PAGE_SIZE }
+    {
+        let from = (self.at - self.base()) as usize;
+        let to = (self.available - self.base()).min(WINDOW as u64) as usize;
+        &self.window[from..to]
+    }
+
+    // Makes the page at hand that has the next byte.
+    fn make_ready<R: PageDisk>(&mut self, disk: &mut R) -> Result<(), RecoverRefusal>
+        ensures keeps { OnOk result (KeepsOn (R.told disk.old) self.old self.new) }
+        ensures near { OnOk result (read_of self.new ≤ base_of self.new + PAGE_SIZE) }
+        ensures read { read_of self.new ≡ read_of self.old }
+        ensures total { total_of self.new ≡ total_of self.old }
+        ensures cause { IfErr result IsOfDisk }
+        ensures fault { IsErrOf result RecoverRefusal.DiskFault
+            → Rose (R.failures disk.old) (R.failures disk.new) }
+        ensures told { R.told disk.new ≡ R.told disk.old }
+        ensures orders { R.orders disk.new ≡ R.orders disk.old }
+        ensures later { R.failures disk.old ≤ R.failures disk.new }
+    {
+        if self.at - self.base() < PAGE_BYTES {
+            return Ok(());
+        }
+        self.turn();
+        self.load(disk, self.first + 1, PAGE_SIZE)
+    }
+
+    // Takes the second page at hand for the first.
+    fn turn(&mut self)
+        requires { base_of self.old + PAGE_SIZE ≤ read_of self.old }
+        ensures first { self.new.first ≡ self.old.first + 1 }
+        ensures front { take PAGE_SIZE self.new.window ≡ drop PAGE_SIZE self.old.window }
+        ensures long { length self.new.window ≡ 2 * PAGE_SIZE }
+        ensures at { self.new.at ≡ self.old.at }
+        ensures total { self.new.total ≡ self.old.total }
+        ensures available { self.new.available ≡ self.old.available }
+    {
+        self.window.rotate_left(PAGE_SIZE);
+        self.first += 1;
+    }
+
+    // Reads a page of the log to a place of the window, if the log has bytes on it.
+    fn load<R: PageDisk>(
+        &mut self,
+        disk: &mut R,
+        page: u32,
+        to: usize,
+    ) -> Result<(), RecoverRefusal>
+        requires { to ≤ PAGE_SIZE }
+        ensures loads { OnOk result (Loads (R.told disk.old) page to self.old self.new) }
+        ensures long { length self.new.window ≡ 2 * PAGE_SIZE }
+        ensures first { self.new.first ≡ self.old.first }
+        ensures at { self.new.at ≡ self.old.at }
+        ensures total { self.new.total ≡ self.old.total }
+        ensures available { self.new.available ≡ self.old.available }
+        ensures cause { IfErr result IsOfDisk }
+        ensures fault { IsErrOf result RecoverRefusal.DiskFault
+            → Rose (R.failures disk.old) (R.failures disk.new) }
+        ensures told { R.told disk.new ≡ R.told disk.old }
+        ensures orders { R.orders disk.new ≡ R.orders disk.old }
+        ensures later { R.failures disk.old ≤ R.failures disk.new }
+    {
+        if PAGE_BYTES * u64::from(page) >= self.available {
+            return Ok(());
+        }
+        let mut bytes = [0; PAGE_SIZE];
+        disk.read_page(REDO_SPACE, page, &mut bytes)?;
+        put(&mut self.window, to, &bytes);
+        Ok(())
+    }
+
+    // Reads the mini-transaction that the next bytes are.
+    fn read(&mut self, alloc: Global) -> Result<Mtr, RecoverRefusal>
+        requires near { read_of self.old ≤ base_of self.old + PAGE_SIZE }
+        requires some { read_of self.old < total_of self.old }
+        ensures read { IfOk result (λ mtr. (m : DiskImage) (done : List (List Record))
+            → Reads m done self.old → Reads m (done ++ mtr ∷ []) self.new) }
+        ensures more { OnOk result (read_of self.old < read_of self.new) }
+        ensures most { read_of self.new ≤ total_of self.new }
+        ensures total { total_of self.new ≡ total_of self.old }
+        ensures redo { IfErr result IsOfRedo }
+        ensures cause { IfErr result (λ refusal. (m : DiskImage) (done : List (List Record))
+            → Reads m done self.old → IsNoRedo m (total_of self.old) refusal) }
+    {
+        match decode(alloc, self.rest()) {
+            Ok((mtr, _)) if names_foreign(mtr.records()) => Err(self.foreign()),
+            Ok((mtr, length)) => {
+                self.at += length as u64;
+                Ok(mtr)
+            }
+            Err(refusal) => Err(self.broken(alloc, refusal)),
+        }
+    }
+
+    // The refusal for a record that names a space that is no table.
+    fn foreign(&self) -> RecoverRefusal
+        ensures { IsOfRedo result }
+    {
+        damaged_redo(self.page_at(first_foreign(self.rest()).unwrap_or(0)))
+    }
+
+    // The refusal for bytes that begin no mini-transaction. It names the page of the first byte
+    // against the grammar or that is missing, or of an earlier record that names a space that is no
+    // table.
+    fn broken(&self, alloc: Global, refusal: DecodeRefusal) -> RecoverRefusal
+        ensures redo { IsOfRedo result }
+        ensures memory { refusal ≡ DecodeRefusal.NoMemory → result ≡ RecoverRefusal.NoMemory }
+    {
+        let page = match refusal {
+            DecodeRefusal::NoMemory => return RecoverRefusal::NoMemory,
+            DecodeRefusal::Short => (self.available / PAGE_BYTES) as u32,
+            _ => match self.broken_page(alloc) {
+                Some(page) => page,
+                None => return RecoverRefusal::NoMemory,
+            },
+        };
+        match first_foreign(self.rest()) {
+            Some(place) => damaged_redo(page.min(self.page_at(place))),
+            None => damaged_redo(page),
+        }
+    }
+
+    // The page of the first byte against the grammar, or none for want of memory: the second at
+    // hand where the bytes on the first begin a mini-transaction.
+    fn broken_page(&self, alloc: Global) -> Option<u32> {
+        let rest = self.rest();
+        let behind = self.base() + PAGE_BYTES;
+        if self.at + rest.len() as u64 <= behind {
+            return Some(self.first);
+        }
+        match decode(alloc, &rest[..behind.saturating_sub(self.at) as usize]) {
+            Err(DecodeRefusal::Short) => Some(self.first + 1),
+            Err(DecodeRefusal::NoMemory) => None,
+            _ => Some(self.first),
+        }
+    }
+
+    // The page of the byte at a place behind those that were read.
+    fn page_at(&self, place: usize) -> u32
+        requires { place ≤ 2 * PAGE_SIZE }
+    {
+        ((self.at + place as u64) / PAGE_BYTES) as u32
+    }
 }
 
-// Applies the mini-transaction at the front, which begins at `start`, and gives its length.
-fn replay_one(
-    alloc: Global,
-    rest: &[u8],
-    start: u64,
-    image: &mut Image,
-) -> Result<usize, RecoverRefusal>
-    requires { start + length rest.now < 2 ^ 64 }
-    ensures applied { IfOk result (λ n. Applied rest.now start n image.old image.new) }
-    ensures cause { IfErr result (BeginsNoneUnlessMemory rest.now) }
+// Puts the bytes of a page at a place of the window.
+fn put(window: &mut [u8; WINDOW], to: usize, bytes: &[u8; PAGE_SIZE])
+    requires { to ≤ PAGE_SIZE }
+    ensures value { window.new
+        ≡ take to window.old ++ (bytes.now ++ drop (to + PAGE_SIZE) window.old) }
+    ensures long { length window.new ≡ 2 * PAGE_SIZE }
 {
-    let (mtr, length) = read_one(alloc, rest)?;
-    image.apply_all(alloc, mtr.records(), start + length as u64)?;
-    Ok(length)
-}
-
-// Reads the mini-transaction at the front, and gives its length.
-fn read_one(alloc: Global, rest: &[u8]) -> Result<(Mtr, usize), RecoverRefusal>
-    ensures within { IfOk result (λ found. found.1 ≤ length rest.now) }
-    ensures spelled { IfOk result (λ found. Spells (take found.1 rest.now) found.0) }
-    ensures cause { IfErr result (BeginsNoneUnlessMemory rest.now) }
-{
-    Ok(decode(alloc, rest)?)
+    window[to..to + PAGE_SIZE].copy_from_slice(bytes);
 }

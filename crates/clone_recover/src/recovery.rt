@@ -1,33 +1,149 @@
-ghost use Rattle.std.specs.Prelude.{◌≡◌, IfOk, IfErr};
-ghost use Rattle.clone_model.specs.History.{Rows, rows_in};
-ghost use Rattle.clone_image.specs.Image.{page_of};
-ghost use Rattle.clone_image.specs.Rows.{ShowsRows};
-ghost use Rattle.clone_recover.specs.Recovers.{Recovers, IsCause};
+ghost use Rattle.std.specs.Prelude.{◌≡◌, ◌≤◌, ℕ, IfOk, IfErr, OnOk, IsErrOf, is_some};
+ghost use Rattle.clone_outside.specs.Causes.{HasCause, Rose};
+ghost use Rattle.clone_outside.specs.Disk.{ForTold, Steps, with_mark};
+ghost use Rattle.clone_outside.specs.Mark.{mark_bytes, IsEnd};
+ghost use Rattle.clone_outside.specs.declared.mark.Mark.TheVariants as mark;
+ghost use Rattle.clone_recover.specs.Written.{written_out};
+ghost use Rattle.clone_recover.specs.Refusals.{IsOfDisk};
+ghost use Rattle.clone_recover.specs.Restores.{Answers, HasMark, HasRecovered, IsCause, IsMarkOf, ForStep, RestoresOn, UndoesOn, DamagedOn, numbers_of};
+ghost use Rattle.clone_recover.specs.declared.refusal.Why.{Why};
+ghost use Rattle.clone_recover.specs.declared.refusal.RecoverRefusal.TheVariants.{Damaged};
 
 use crate::RecoverRefusal;
-use crate::log::replay;
+use crate::dictionary::check_dictionary;
+use crate::redo::{check_log, redo};
 use crate::rollback::take_back_open;
-use clone_image::{Image, rows_of};
-use clone_model::Value;
-use std::alloc::{AllocError, Global};
+use crate::writing::write_out;
+use clone_outside::{CloneEnd, Mark, PageDisk, Refusal};
+use clone_overlay::Overlay;
+use std::alloc::Global;
 
-/// The image that a log leaves, with the changes of each transaction that was open taken back, last
-/// change first, and its undo slot freed. `Damaged(Redo)` comes exactly where the bytes are no log.
-/// `Damaged(Undo)` names the first undo slot that is in use with a count above 160, or, where none
-/// is, the first that is in use and has a record out of range.
-pub fn recover(alloc: Global, redo: &[u8]) -> Result<Image, RecoverRefusal>
-    ensures image { IfOk result (λ image. Recovers redo.now image) }
-    ensures cause { IfErr result (IsCause redo.now) }
-{
-    let mut image = replay(alloc, redo)?;
-    take_back_open(&mut image)?;
-    Ok(image)
+/// What a recovered disk has: all commits up to an LSN, and how many these are.
+#[derive(Clone, Copy, Debug, PartialEq, Eq)]
+pub struct Recovered {
+    /// Where the redo of the clone ends.
+    pub lsn: u64,
+    /// How many commits there are.
+    pub position: u64,
 }
 
-/// The rows of an image, ascending by table and key. The one refusal is for want of memory.
-pub fn open_rows(alloc: Global, image: &Image) -> Result<Vec<(u32, u64, Value)>, AllocError>
-    ensures { IfOk result
-        (λ list. (rows : Rows) × ShowsRows (page_of image.now) rows × (list.items ≡ rows_in rows)) }
+/// Recovers a clone on a disk: its redo is carried out over the pages that are there, the changes
+/// of each transaction that was open are taken back, and the disk gets the recovered mark. On a
+/// recovered disk nothing is written. `Incomplete` comes exactly where no mark or the in-progress
+/// mark stands.
+pub fn recover<R: PageDisk>(alloc: Global, disk: &mut R) -> Result<Recovered, RecoverRefusal>
+    ensures ok { IfOk result (λ numbers. ForStep (R.told disk.old) (R.told disk.new)
+        (λ m n. Answers m n numbers)) }
+    ensures marked { OnOk result (ForTold (R.told disk.new) HasRecovered) }
+    ensures cause { IfErr result (λ refusal. ForTold (R.told disk.old) (λ m. IsCause m refusal)) }
+    ensures fault { IsErrOf result RecoverRefusal.DiskFault
+        → Rose (R.failures disk.old) (R.failures disk.new) }
+    ensures incomplete { IsErrOf result RecoverRefusal.Incomplete
+        → R.told disk.new ≡ R.told disk.old }
+    ensures damaged { (space page : ℕ) (why : Why) → IsErrOf result (Damaged space page why)
+        → R.told disk.new ≡ R.told disk.old }
+    ensures tells { is_some (R.told disk.new) ≡ is_some (R.told disk.old) }
+    ensures orders { R.orders disk.new ≡ R.orders disk.old }
+    ensures later { R.failures disk.old ≤ R.failures disk.new }
 {
-    rows_of(alloc, image)?.rows(alloc)
+    match mark_of(disk)? {
+        Some(Mark::Recovered(end)) => Ok(numbers_of(end)),
+        Some(Mark::Complete(end)) => {
+            recover_from(alloc, disk, &end)?;
+            Ok(numbers_of(end))
+        }
+        Some(Mark::InProgress { .. }) => Err(RecoverRefusal::Incomplete),
+        None => Err(RecoverRefusal::Incomplete),
+    }
+}
+
+fn numbers_of(end: CloneEnd) -> Recovered
+    ensures numbers { result ≡ numbers_of end }
+    ensures ranges { IsEnd end }
+{
+    Recovered {
+        lsn: end.lsn,
+        position: end.position,
+    }
+}
+
+/// The mark of a disk, if it has one.
+pub fn mark_of<R: PageDisk>(disk: &mut R) -> Result<Option<Mark>, RecoverRefusal>
+    ensures mark { IfOk result (λ mark. ForTold (R.told disk.old) (λ m. IsMarkOf m mark)) }
+    ensures cause { IfErr result IsOfDisk }
+    ensures fault { IsErrOf result RecoverRefusal.DiskFault
+        → Rose (R.failures disk.old) (R.failures disk.new) }
+    ensures told { R.told disk.new ≡ R.told disk.old }
+    ensures orders { R.orders disk.new ≡ R.orders disk.old }
+    ensures later { R.failures disk.old ≤ R.failures disk.new }
+{
+    match disk.read_mark()? {
+        Some(bytes) => Ok(Mark::from_bytes(&bytes)),
+        None => Ok(None),
+    }
+}
+
+// Recovers a clone that is complete.
+fn recover_from<R: PageDisk>(
+    alloc: Global,
+    disk: &mut R,
+    end: &CloneEnd,
+) -> Result<(), RecoverRefusal>
+    ensures ok { OnOk result (RestoresOn (R.told disk.old) (R.told disk.new) end.now) }
+    ensures marked { OnOk result
+        (ForTold (R.told disk.new) (λ m. HasMark m (mark.Recovered end.now))) }
+    ensures cause { IfErr result (DamagedOn (R.told disk.old) end.now) }
+    ensures known { IsErrOf result RecoverRefusal.Incomplete → ⊥ }
+    ensures fault { IsErrOf result RecoverRefusal.DiskFault
+        → Rose (R.failures disk.old) (R.failures disk.new) }
+    ensures damaged { (space page : ℕ) (why : Why) → IsErrOf result (Damaged space page why)
+        → R.told disk.new ≡ R.told disk.old }
+    ensures tells { is_some (R.told disk.new) ≡ is_some (R.told disk.old) }
+    ensures orders { R.orders disk.new ≡ R.orders disk.old }
+    ensures later { R.failures disk.old ≤ R.failures disk.new }
+{
+    let overlay = recovered_pages(alloc, disk, end)?;
+    Ok(write_recovered(alloc, disk, &overlay, end)?)
+}
+
+// Writes the pages and the recovered mark.
+fn write_recovered<R: PageDisk>(
+    alloc: Global,
+    disk: &mut R,
+    overlay: &Overlay,
+    end: &CloneEnd,
+) -> Result<(), Refusal>
+    ensures ok { OnOk result (Steps (R.told disk.old) (R.told disk.new)
+        (λ m. with_mark (written_out overlay.now m) (mark_bytes (mark.Recovered end.now)))) }
+    ensures tells { is_some (R.told disk.new) ≡ is_some (R.told disk.old) }
+    ensures cause { HasCause (R.failures disk.old) (R.failures disk.new) result }
+    ensures orders { R.orders disk.new ≡ R.orders disk.old }
+{
+    write_out(alloc, disk, overlay)?;
+    disk.sync()?;
+    disk.write_mark(&Mark::Recovered(*end).to_bytes())?;
+    disk.sync()
+}
+
+// The recovered pages of a clone that is complete. Nothing is written.
+fn recovered_pages<R: PageDisk>(
+    alloc: Global,
+    disk: &mut R,
+    end: &CloneEnd,
+) -> Result<Overlay, RecoverRefusal>
+    ensures ok { IfOk result (UndoesOn (R.told disk.old) end.now) }
+    ensures cause { IfErr result (DamagedOn (R.told disk.old) end.now) }
+    ensures known { IsErrOf result RecoverRefusal.Incomplete → ⊥ }
+    ensures fault { IsErrOf result RecoverRefusal.DiskFault
+        → Rose (R.failures disk.old) (R.failures disk.new) }
+    ensures told { R.told disk.new ≡ R.told disk.old }
+    ensures orders { R.orders disk.new ≡ R.orders disk.old }
+    ensures later { R.failures disk.old ≤ R.failures disk.new }
+{
+    check_log(alloc, disk, end)?;
+    let mut overlay = Overlay::open(alloc, disk)?;
+    redo(alloc, disk, &mut overlay, end)?;
+    check_dictionary(disk, &mut overlay)?;
+    take_back_open(disk, &mut overlay)?;
+    Ok(overlay)
 }

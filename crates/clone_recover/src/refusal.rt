@@ -1,55 +1,96 @@
 ghost use Rattle.std.specs.Prelude.{◌≡◌};
-ghost use Rattle.clone_recover.specs.Refusals.{refusal_of};
-ghost use Rattle.clone_recover.specs.declared.refusal.RecoverRefusal.TheVariants as refusals;
+ghost use Rattle.clone_overlay.specs.Images.{redo_space};
+ghost use Rattle.clone_recover.specs.Refusals.{not_fetched};
 
-use clone_mtr::DecodeRefusal;
+use clone_base::REDO_SPACE;
+use clone_outside::Refusal;
+use clone_overlay::FetchRefusal;
 use std::alloc::AllocError;
 
-/// What of a log is against the format.
+/// What on a disk is against the format.
 #[derive(Clone, Copy, Debug, PartialEq, Eq)]
-pub enum Damage {
-    /// The bytes are no log of mini-transactions.
+pub enum Why {
+    /// The page's constants, number, space, kind or trailer.
+    Header,
+    /// The redo bytes are no log, or a record names the redo's space or one behind it.
     Redo,
-    /// This undo slot is in use with a count above 160, or a record of it has a field out of its
-    /// range.
-    Undo { slot: u32 },
+    /// The dictionary names a space that isn't there.
+    Dictionary,
+    /// An undo slot in use has a count above 160, or an undo record has a field out of its range.
+    Undo,
 }
 
-/// Why no image was recovered.
+/// Why nothing was recovered or read.
 #[derive(Clone, Copy, Debug, PartialEq, Eq)]
 pub enum RecoverRefusal {
-    /// The log is against the format.
-    Damaged(Damage),
+    /// The mark doesn't stand that the call needs.
+    Incomplete,
+    /// A page, or the redo from a page on, is against the format.
+    Damaged { space: u32, page: u32, why: Why },
+    /// The disk failed, and its count of faults rose.
+    DiskFault,
     /// There was no memory.
     NoMemory,
 }
 
 impl From<AllocError> for RecoverRefusal {
-    ghost from_gives = { λ _ e. e ≡ refusals.NoMemory };
+    ghost use Rattle.std.specs.Prelude.{◌≡◌};
+    ghost use Rattle.clone_recover.specs.declared.refusal.RecoverRefusal.TheVariants as refusals;
 
-    fn from(_error: AllocError) -> RecoverRefusal {
+    ghost from_gives = { λ _ refusal. refusal ≡ refusals.NoMemory };
+
+    fn from(_: AllocError) -> RecoverRefusal {
         RecoverRefusal::NoMemory
     }
 }
 
-impl From<Damage> for RecoverRefusal {
-    ghost from_gives = { λ damage e. e ≡ refusals.Damaged damage };
+impl From<Refusal> for RecoverRefusal {
+    ghost use Rattle.std.specs.Prelude.{◌≡◌};
+    ghost use Rattle.clone_recover.specs.Refusals.{refusal_of};
 
-    fn from(damage: Damage) -> RecoverRefusal {
-        RecoverRefusal::Damaged(damage)
+    ghost from_gives = { λ cause refusal. refusal ≡ refusal_of cause };
+
+    fn from(cause: Refusal) -> RecoverRefusal {
+        match cause {
+            Refusal::Fault => RecoverRefusal::DiskFault,
+            Refusal::NoMemory => RecoverRefusal::NoMemory,
+        }
     }
 }
 
-impl From<DecodeRefusal> for RecoverRefusal {
-    ghost from_gives = { λ refusal e. e ≡ refusal_of refusal };
+/// The refusal for a page that wasn't fetched.
+pub fn not_fetched(space: u32, page: u32, cause: FetchRefusal) -> RecoverRefusal
+    ensures { result ≡ not_fetched space page cause }
+{
+    match cause {
+        FetchRefusal::Header => RecoverRefusal::Damaged {
+            space,
+            page,
+            why: Why::Header,
+        },
+        FetchRefusal::DiskFault => RecoverRefusal::DiskFault,
+        FetchRefusal::NoMemory => RecoverRefusal::NoMemory,
+    }
+}
 
-    fn from(refusal: DecodeRefusal) -> RecoverRefusal {
-        match refusal {
-            DecodeRefusal::NoMemory => RecoverRefusal::NoMemory,
-            DecodeRefusal::Short
-            | DecodeRefusal::BadKind { .. }
-            | DecodeRefusal::OutOfPage { .. }
-            | DecodeRefusal::TooLong => RecoverRefusal::Damaged(Damage::Redo),
-        }
+/// The refusal for the redo from a page on.
+pub fn damaged_redo(page: u32) -> RecoverRefusal
+    ensures { result ≡ RecoverRefusal.Damaged redo_space page Why.Redo }
+{
+    RecoverRefusal::Damaged {
+        space: REDO_SPACE,
+        page,
+        why: Why::Redo,
+    }
+}
+
+/// The refusal for an undo slot or an undo record, which a page of the system space has.
+pub fn damaged_undo(page: u32) -> RecoverRefusal
+    ensures { result ≡ RecoverRefusal.Damaged 0 page Why.Undo }
+{
+    RecoverRefusal::Damaged {
+        space: 0,
+        page,
+        why: Why::Undo,
     }
 }

@@ -1,141 +1,324 @@
-ghost use Rattle.std.specs.Prelude.{◌≡◌, ◌<◌, ◌≤◌, OnOk, IfErr, None, IfSome, IfNone};
+ghost use Rattle.std.specs.Prelude.{◌≡◌, ◌<◌, ◌≤◌, ℕ, List, true, false, OnOk, IfOk, IfErr, IfSome, IfNone, IsErrOf, Some, is_some};
 ghost use Rattle.std.specs.List.{AllByRecursion};
+ghost use Rattle.clone_outside.specs.Causes.{Rose};
 ghost use Rattle.clone_undo.specs.Entries.{IsEntry};
 ghost use Rattle.clone_undo.specs.Places as places;
 ghost use Rattle.clone_undo.specs.Slots.{entry_on, entries};
-ghost use Rattle.clone_image.specs.Recovered.{system_pages, undo_slot_of, undone, all_undone, taken_back, recovered};
-ghost use Rattle.clone_recover.specs.Recovers.{HasChanges, IsCountInRange, CountsInRange, InRange, IsSlotInRange, IsFirstDamaged, IsDamage};
+ghost use Rattle.clone_image.specs.Image.{Image, page_of};
+ghost use Rattle.clone_image.specs.Recovered.{system_pages, undo_slot_of, undone, all_undone, taken_back, freed, recovered};
+ghost use Rattle.clone_image.specs.Rows.{IsListed};
+ghost use Rattle.clone_overlay.specs.Shown.{Shows, ShowsSame, IsReady};
+ghost use Rattle.clone_recover.specs.Undoing.{IsSlotInRange};
+ghost use Rattle.clone_recover.specs.Damage.{ForImage, HeaderOn, ShowsEdited, PageOrOn, CountsTooMany, HasTooMany, CountsFit, IsUnsoundAt, IsUnsoundBelow, IsBroken, HasBroken, IsFirstBroken};
+ghost use Rattle.clone_recover.specs.Undoing.{IsHeaderOf, IsRecordOf, IsSoundRecord, record_of};
 
-use crate::Damage;
-use clone_image::Image;
+use crate::RecoverRefusal;
+use crate::dictionary::names;
+use crate::redo::fetch;
+use crate::refusal::damaged_undo;
+use clone_outside::PageDisk;
+use clone_overlay::Overlay;
 use clone_row::slot_offset;
 use clone_undo::{
     HEADER_AT, HEADER_BYTES, SlotHeader, UNDO_CAPACITY, UNDO_SLOT_COUNT, UndoRecord, header,
     header_page, record_at, record_page,
 };
 
-/// Takes back the changes of each transaction that is open, and frees its undo slot. All counts are
-/// tested before any record is read.
-pub fn take_back_open(image: &mut Image) -> Result<(), Damage>
-    ensures recovered { OnOk result (image.new ≡ recovered image.old) }
-    ensures counts { OnOk result (CountsInRange places.slot_count image.old) }
-    ensures ranges { OnOk result (InRange places.slot_count image.old) }
-    ensures damage { IfErr result (IsFirstDamaged image.old) }
+/// Takes back the changes of each transaction that is open, and frees its undo slot. All headers
+/// are tested before any record is read.
+pub fn take_back_open<R: PageDisk>(
+    disk: &mut R,
+    overlay: &mut Overlay,
+) -> Result<(), RecoverRefusal>
+    ensures recovered { OnOk result
+        (ShowsEdited (R.told disk.old) overlay.old overlay.new recovered) }
+    ensures sound { OnOk result (ForImage (R.told disk.old) overlay.old
+        (λ m image. (page : ℕ) → HasBroken image page → ⊥)) }
+    ensures cause { IfErr result (PageOrOn (R.told disk.old) overlay.old HasBroken) }
+    ensures order { IfErr result (PageOrOn (R.told disk.old) overlay.old IsFirstBroken) }
+    ensures known { IsErrOf result RecoverRefusal.Incomplete → ⊥ }
+    ensures fault { IsErrOf result RecoverRefusal.DiskFault
+        → Rose (R.failures disk.old) (R.failures disk.new) }
+    ensures told { R.told disk.new ≡ R.told disk.old }
+    ensures orders { R.orders disk.new ≡ R.orders disk.old }
+    ensures later { R.failures disk.old ≤ R.failures disk.new }
 {
-    check_counts(image)?;
-    take_back_all(image)
+    check_counts(disk, overlay)?;
+    take_back_all(disk, overlay)
 }
 
 // Tests the count of each undo slot that is in use.
-fn check_counts(image: &Image) -> Result<(), Damage>
-    ensures counts { OnOk result (CountsInRange places.slot_count image.now) }
-    ensures damage { IfErr result (IsFirstDamaged image.now) }
+fn check_counts<R: PageDisk>(disk: &mut R, overlay: &mut Overlay) -> Result<(), RecoverRefusal>
+    ensures shows { OnOk result (ShowsSame (R.told disk.old) overlay.old overlay.new) }
+    ensures counts { OnOk result (ForImage (R.told disk.old) overlay.old
+        (λ m image. CountsFit image)) }
+    ensures cause { IfErr result (PageOrOn (R.told disk.old) overlay.old HasTooMany) }
+    ensures known { IsErrOf result RecoverRefusal.Incomplete → ⊥ }
+    ensures fault { IsErrOf result RecoverRefusal.DiskFault
+        → Rose (R.failures disk.old) (R.failures disk.new) }
+    ensures told { R.told disk.new ≡ R.told disk.old }
+    ensures orders { R.orders disk.new ≡ R.orders disk.old }
+    ensures later { R.failures disk.old ≤ R.failures disk.new }
 {
     for slot in 0..UNDO_SLOT_COUNT {
-        check_count(image, slot)?;
+        header_of(disk, overlay, slot)?;
     }
     Ok(())
 }
 
-// Tests the count of an undo slot, if it is in use.
-fn check_count(image: &Image, slot: u32) -> Result<(), Damage>
-    requires { slot < places.slot_count }
-    ensures count { OnOk result (IsCountInRange (undo_slot_of image.now slot)) }
-    ensures damage { IfErr result (IsDamage slot (IsCountInRange (undo_slot_of image.now slot))) }
-{
-    let Some(header) = header_of(image, slot) else {
-        return Ok(());
-    };
-    if header.count > UNDO_CAPACITY {
-        return Err(Damage::Undo { slot });
-    }
-    Ok(())
-}
-
-// Takes back the changes of each undo slot that is in use and frees it. Their counts were tested.
-fn take_back_all(image: &mut Image) -> Result<(), Damage>
-    requires { CountsInRange places.slot_count image.old }
-    ensures recovered { OnOk result (image.new ≡ recovered image.old) }
-    ensures ranges { OnOk result (InRange places.slot_count image.old) }
-    ensures damage { IfErr result (IsFirstDamaged image.old) }
+// Takes back the changes of each undo slot that is in use and frees it.
+fn take_back_all<R: PageDisk>(disk: &mut R, overlay: &mut Overlay) -> Result<(), RecoverRefusal>
+    ensures recovered { OnOk result
+        (ShowsEdited (R.told disk.old) overlay.old overlay.new recovered) }
+    ensures sound { OnOk result (ForImage (R.told disk.old) overlay.old
+        (λ m image. (page : ℕ) → HasBroken image page → ⊥)) }
+    ensures cause { IfErr result (PageOrOn (R.told disk.old) overlay.old HasBroken) }
+    ensures known { IsErrOf result RecoverRefusal.Incomplete → ⊥ }
+    ensures fault { IsErrOf result RecoverRefusal.DiskFault
+        → Rose (R.failures disk.old) (R.failures disk.new) }
+    ensures told { R.told disk.new ≡ R.told disk.old }
+    ensures orders { R.orders disk.new ≡ R.orders disk.old }
+    ensures later { R.failures disk.old ≤ R.failures disk.new }
 {
     for slot in 0..UNDO_SLOT_COUNT {
-        take_back(image, slot)?;
+        take_back(disk, overlay, slot)?;
     }
     Ok(())
 }
 
 // Takes back the changes of an undo slot and frees it, if it is in use.
-fn take_back(image: &mut Image, slot: u32) -> Result<(), Damage>
-    requires slot { slot < places.slot_count }
-    requires count { IsCountInRange (undo_slot_of image.old slot) }
-    ensures taken_back { OnOk result
-        (image.new ≡ taken_back image.old slot (undo_slot_of image.old slot)) }
-    ensures ranges { OnOk result (IsSlotInRange (undo_slot_of image.old slot)) }
-    ensures damage { IfErr result (IsDamage slot (IsSlotInRange (undo_slot_of image.old slot))) }
+fn take_back<R: PageDisk>(
+    disk: &mut R,
+    overlay: &mut Overlay,
+    slot: u32,
+) -> Result<(), RecoverRefusal>
+    requires { slot < places.slot_count }
+    ensures taken_back { OnOk result (ShowsEdited (R.told disk.old) overlay.old overlay.new
+        (λ image. taken_back image slot (undo_slot_of image slot))) }
+    ensures ranges { OnOk result (ForImage (R.told disk.old) overlay.old
+        (λ m image. IsSlotInRange (undo_slot_of image slot))) }
+    ensures sound { OnOk result (ForImage (R.told disk.old) overlay.old
+        (λ m image. (page : ℕ) → IsBroken image slot page → ⊥)) }
+    ensures cause { IfErr result
+        (PageOrOn (R.told disk.old) overlay.old (λ image. IsBroken image slot)) }
+    ensures known { IsErrOf result RecoverRefusal.Incomplete → ⊥ }
+    ensures fault { IsErrOf result RecoverRefusal.DiskFault
+        → Rose (R.failures disk.old) (R.failures disk.new) }
+    ensures told { R.told disk.new ≡ R.told disk.old }
+    ensures orders { R.orders disk.new ≡ R.orders disk.old }
+    ensures later { R.failures disk.old ≤ R.failures disk.new }
 {
-    let Some(header) = header_of(image, slot) else {
+    let Some(header) = header_of(disk, overlay, slot)? else {
         return Ok(());
     };
-    undo_changes(image, slot, header.count)?;
-    image.lay(0, header_page(slot), HEADER_AT, &[0; HEADER_BYTES]);
+    undo_changes(disk, overlay, slot, header.count)?;
+    free(disk, overlay, slot)
+}
+
+// Frees an undo slot.
+fn free<R: PageDisk>(disk: &mut R, overlay: &mut Overlay, slot: u32) -> Result<(), RecoverRefusal>
+    requires { slot < places.slot_count }
+    ensures freed { OnOk result
+        (ShowsEdited (R.told disk.old) overlay.old overlay.new (λ image. freed image slot)) }
+    ensures cause { IfErr result (HeaderOn (R.told disk.old) overlay.old) }
+    ensures known { IsErrOf result RecoverRefusal.Incomplete → ⊥ }
+    ensures fault { IsErrOf result RecoverRefusal.DiskFault
+        → Rose (R.failures disk.old) (R.failures disk.new) }
+    ensures told { R.told disk.new ≡ R.told disk.old }
+    ensures orders { R.orders disk.new ≡ R.orders disk.old }
+    ensures later { R.failures disk.old ≤ R.failures disk.new }
+{
+    let number = header_page(slot);
+    fetch(disk, overlay, 0, number)?;
+    overlay.lay(0, number, HEADER_AT, &[0; HEADER_BYTES]);
     Ok(())
 }
 
-// The header of an undo slot, if it is in use.
-fn header_of(image: &Image, slot: u32) -> Option<SlotHeader>
+// The header of an undo slot, if it is in use. A count above the most is damage.
+fn header_of<R: PageDisk>(
+    disk: &mut R,
+    overlay: &mut Overlay,
+    slot: u32,
+) -> Result<Option<SlotHeader>, RecoverRefusal>
     requires { slot < places.slot_count }
-    ensures some { IfSome result (λ h. HasChanges h.count slot image.now) }
-    ensures none { IfNone result (undo_slot_of image.now slot ≡ None) }
+    ensures count { IfOk result (λ header. IfSome header (λ h. h.count ≤ places.capacity)) }
+    ensures header { IfOk result (IsHeaderOf (R.told disk.old) overlay.old slot) }
+    ensures shows { OnOk result (ShowsSame (R.told disk.old) overlay.old overlay.new) }
+    ensures cause { IfErr result
+        (PageOrOn (R.told disk.old) overlay.old (λ image. CountsTooMany image slot)) }
+    ensures known { IsErrOf result RecoverRefusal.Incomplete → ⊥ }
+    ensures fault { IsErrOf result RecoverRefusal.DiskFault
+        → Rose (R.failures disk.old) (R.failures disk.new) }
+    ensures told { R.told disk.new ≡ R.told disk.old }
+    ensures orders { R.orders disk.new ≡ R.orders disk.old }
+    ensures later { R.failures disk.old ≤ R.failures disk.new }
 {
-    header(image.page(0, header_page(slot))?)
+    let number = header_page(slot);
+    fetch(disk, overlay, 0, number)?;
+    let Some(page) = overlay.page(0, number) else {
+        return Ok(None);
+    };
+    match header(page) {
+        Some(header) if header.count > UNDO_CAPACITY => Err(damaged_undo(number)),
+        found => Ok(found),
+    }
 }
 
 // Takes back so many changes of an undo slot, the last of them first.
-fn undo_changes(image: &mut Image, slot: u32, count: u16) -> Result<(), Damage>
+fn undo_changes<R: PageDisk>(
+    disk: &mut R,
+    overlay: &mut Overlay,
+    slot: u32,
+    count: u16,
+) -> Result<(), RecoverRefusal>
     requires slot { slot < places.slot_count }
     requires count { count ≤ places.capacity }
-    ensures undone { OnOk result
-        (image.new ≡ all_undone image.old (entries slot (system_pages image.old) count)) }
-    ensures ranges { OnOk result
-        (AllByRecursion IsEntry (entries slot (system_pages image.old) count)) }
-    ensures damage { IfErr result
-        (IsDamage slot (AllByRecursion IsEntry (entries slot (system_pages image.old) count))) }
+    ensures undone { OnOk result (ShowsEdited (R.told disk.old) overlay.old overlay.new
+        (λ image. all_undone image (entries slot (system_pages image) count))) }
+    ensures ranges { OnOk result (ForImage (R.told disk.old) overlay.old
+        (λ m image. AllByRecursion IsEntry (entries slot (system_pages image) count))) }
+    ensures sound { OnOk result (ForImage (R.told disk.old) overlay.old
+        (λ m image. (page : ℕ) → IsUnsoundBelow image slot count page → ⊥)) }
+    ensures cause { IfErr result (PageOrOn (R.told disk.old) overlay.old
+        (λ image. IsUnsoundBelow image slot count)) }
+    ensures known { IsErrOf result RecoverRefusal.Incomplete → ⊥ }
+    ensures fault { IsErrOf result RecoverRefusal.DiskFault
+        → Rose (R.failures disk.old) (R.failures disk.new) }
+    ensures told { R.told disk.new ≡ R.told disk.old }
+    ensures orders { R.orders disk.new ≡ R.orders disk.old }
+    ensures later { R.failures disk.old ≤ R.failures disk.new }
 {
     for number in (0..count as usize).rev() {
-        undo_change(image, slot, number)?;
+        undo_change(disk, overlay, slot, number)?;
     }
     Ok(())
 }
 
 // Takes back the change that the record of this number tells.
-fn undo_change(image: &mut Image, slot: u32, number: usize) -> Result<(), Damage>
+fn undo_change<R: PageDisk>(
+    disk: &mut R,
+    overlay: &mut Overlay,
+    slot: u32,
+    number: usize,
+) -> Result<(), RecoverRefusal>
     requires slot { slot < places.slot_count }
     requires number { number < places.capacity }
-    ensures undone { OnOk result (image.new ≡ undone image.old
-        (entry_on number (system_pages image.old (places.record_page slot number)))) }
-    ensures range { OnOk result
-        (IsEntry (entry_on number (system_pages image.old (places.record_page slot number)))) }
-    ensures damage { IfErr result (IsDamage slot
-        (IsEntry (entry_on number (system_pages image.old (places.record_page slot number))))) }
+    ensures undone { OnOk result (ShowsEdited (R.told disk.old) overlay.old overlay.new
+        (λ image. undone image (record_of image slot number))) }
+    ensures range { OnOk result (ForImage (R.told disk.old) overlay.old
+        (λ m image. IsEntry (record_of image slot number))) }
+    ensures sound { OnOk result (ForImage (R.told disk.old) overlay.old
+        (λ m image. (page : ℕ) → IsUnsoundAt image slot number page → ⊥)) }
+    ensures cause { IfErr result (PageOrOn (R.told disk.old) overlay.old
+        (λ image. IsUnsoundAt image slot number)) }
+    ensures known { IsErrOf result RecoverRefusal.Incomplete → ⊥ }
+    ensures fault { IsErrOf result RecoverRefusal.DiskFault
+        → Rose (R.failures disk.old) (R.failures disk.new) }
+    ensures told { R.told disk.new ≡ R.told disk.old }
+    ensures orders { R.orders disk.new ≡ R.orders disk.old }
+    ensures later { R.failures disk.old ≤ R.failures disk.new }
 {
-    let Some(change) = change_at(image, slot, number) else {
-        return Err(Damage::Undo { slot });
+    let on = record_page(slot, number);
+    let Some(change) = sound_change(disk, overlay, on, number)? else {
+        return Err(damaged_undo(on));
     };
+    fetch(disk, overlay, change.table(), change.page())?;
     let row_at = slot_offset(change.slot());
-    image.lay(change.table(), change.page(), row_at, &change.slot_before());
+    overlay.lay(change.table(), change.page(), row_at, &change.slot_before());
     Ok(())
 }
 
-// The record of this number of an undo slot, or none where one of its fields is out of range.
-fn change_at(image: &Image, slot: u32, number: usize) -> Option<UndoRecord>
-    requires slot { slot < places.slot_count }
-    requires number { number < places.capacity }
-    ensures some { IfSome result
-        (λ r. r ≡ entry_on number (system_pages image.now (places.record_page slot number))) }
-    ensures range { IfSome result (λ r. IsEntry r) }
-    ensures none { IfNone result
-        (IsEntry (entry_on number (system_pages image.now (places.record_page slot number))) → ⊥) }
+// The record of this number on its page, or none where one of its fields is out of range, or its
+// table or its page isn't there.
+fn sound_change<R: PageDisk>(
+    disk: &mut R,
+    overlay: &mut Overlay,
+    on: u32,
+    number: usize,
+) -> Result<Option<UndoRecord>, RecoverRefusal>
+    requires { number < places.capacity }
+    ensures change { IfOk result
+        (IsSoundRecord (R.told disk.old) overlay.old on number) }
+    ensures shows { OnOk result (ShowsSame (R.told disk.old) overlay.old overlay.new) }
+    ensures cause { IfErr result (HeaderOn (R.told disk.old) overlay.old) }
+    ensures known { IsErrOf result RecoverRefusal.Incomplete → ⊥ }
+    ensures fault { IsErrOf result RecoverRefusal.DiskFault
+        → Rose (R.failures disk.old) (R.failures disk.new) }
+    ensures told { R.told disk.new ≡ R.told disk.old }
+    ensures orders { R.orders disk.new ≡ R.orders disk.old }
+    ensures later { R.failures disk.old ≤ R.failures disk.new }
 {
-    record_at(image.page(0, record_page(slot, number))?, number)
+    fetch(disk, overlay, 0, on)?;
+    let Some(change) = change_on(overlay, on, number) else {
+        return Ok(None);
+    };
+    if !is_listed(disk, overlay, change.table())? {
+        return Ok(None);
+    }
+    if !stands(disk, overlay, change.table(), change.page())? {
+        return Ok(None);
+    }
+    Ok(Some(change))
+}
+
+// The record of this number on its page, or none where one of its fields is out of range.
+fn change_on(overlay: &Overlay, on: u32, number: usize) -> Option<UndoRecord>
+    requires ready { IsReady overlay.now 0 on }
+    requires number { number < places.capacity }
+    ensures some { IfSome result (IsRecordOf overlay.now on number) }
+    ensures range { IfSome result (λ r. IsEntry r) }
+    ensures none { IfNone result ((base image : Image) → Shows base image overlay.now
+        → (bytes : List ℕ) → page_of image 0 on ≡ Some bytes
+        → IsEntry (entry_on number bytes) → ⊥) }
+{
+    record_at(overlay.page(0, on)?, number)
+}
+
+// Whether the dictionary names the table.
+fn is_listed<R: PageDisk>(
+    disk: &mut R,
+    overlay: &mut Overlay,
+    table: u32,
+) -> Result<bool, RecoverRefusal>
+    requires { 0 < table }
+    ensures yes { IfOk result (λ listed. ForImage (R.told disk.old) overlay.old
+        (λ m image. listed ≡ true → IsListed (page_of image) table)) }
+    ensures no { IfOk result (λ listed. ForImage (R.told disk.old) overlay.old
+        (λ m image. listed ≡ false → IsListed (page_of image) table → ⊥)) }
+    ensures shows { OnOk result (ShowsSame (R.told disk.old) overlay.old overlay.new) }
+    ensures cause { IfErr result (HeaderOn (R.told disk.old) overlay.old) }
+    ensures known { IsErrOf result RecoverRefusal.Incomplete → ⊥ }
+    ensures fault { IsErrOf result RecoverRefusal.DiskFault
+        → Rose (R.failures disk.old) (R.failures disk.new) }
+    ensures told { R.told disk.new ≡ R.told disk.old }
+    ensures orders { R.orders disk.new ≡ R.orders disk.old }
+    ensures later { R.failures disk.old ≤ R.failures disk.new }
+{
+    fetch(disk, overlay, 0, 0)?;
+    match overlay.page(0, 0) {
+        Some(system) => Ok(names(system, table)),
+        None => Ok(false),
+    }
+}
+
+// Whether a page is there.
+fn stands<R: PageDisk>(
+    disk: &mut R,
+    overlay: &mut Overlay,
+    space: u32,
+    number: u32,
+) -> Result<bool, RecoverRefusal>
+    ensures there { IfOk result (λ there. ForImage (R.told disk.old) overlay.old
+        (λ m image. there ≡ is_some (page_of image space number))) }
+    ensures shows { OnOk result (ShowsSame (R.told disk.old) overlay.old overlay.new) }
+    ensures cause { IfErr result (HeaderOn (R.told disk.old) overlay.old) }
+    ensures known { IsErrOf result RecoverRefusal.Incomplete → ⊥ }
+    ensures fault { IsErrOf result RecoverRefusal.DiskFault
+        → Rose (R.failures disk.old) (R.failures disk.new) }
+    ensures told { R.told disk.new ≡ R.told disk.old }
+    ensures orders { R.orders disk.new ≡ R.orders disk.old }
+    ensures later { R.failures disk.old ≤ R.failures disk.new }
+{
+    fetch(disk, overlay, space, number)?;
+    Ok(overlay.page(space, number).is_some())
 }

@@ -1,4 +1,5 @@
 pub mod Cuts
+pub mod Texts
 pub mod ReadLines
 pub mod FieldTexts
 pub mod LineTexts

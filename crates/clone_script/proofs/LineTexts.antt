@@ -3,7 +3,7 @@ use Rattle.std.proofs.Common.{◌≡◌, ℕ, List, [], ◌∷◌, ◌++◌, Opt
 use Rattle.std.specs.Prelude.{codes}
 use Rattle.clone_model.specs.Lines.{line_text, IsInRange}
 use Rattle.clone_model.specs.declared.line.Line.{Line}
-use Rattle.clone_model.specs.declared.line.Line.TheVariants.{Create, Begin, Put, Delete, Get, Undo, Commit, Set, Clone, Rows}
+use Rattle.clone_model.specs.declared.line.Line.TheVariants.{Put, Delete, Get, Set}
 use Rattle.clone_script.specs.Fields.{IsRow, IsRowWithValue, row_text, row_with_value_text}
 use Rattle.clone_script.specs.declared.fields.Row.{Row}
 use Rattle.clone_script.specs.Reading.{Parses, ParsesLine}
@@ -28,61 +28,29 @@ made_line InRange text_of make front fields there text back None h = record {
 }
 
 fields-put : (fields : List ℕ) (l : Line) → IsInRange l → codes "put " ++ fields ≡ line_text l → (x : Row × List ℕ) × IsRowWithValue x × (fields ≡ row_with_value_text x) × (l ≡ Put x.0.number x.0.table x.0.key x.1)
-fields-put fields (Create table buckets) r e = absurd (omega (arith, ap first_of e))
-fields-put fields (Begin writer) r e = absurd (omega (arith, ap first_of e))
 fields-put fields (Put trx table key value) r e = ((record { number = trx; table = table; key = key }, value), ((r.0, r.1, r.2), r.3), ap (drop 4) e, refl)
-fields-put fields (Delete trx table key) r e = absurd (omega (arith, ap first_of e))
-fields-put fields (Get trx table key) r e = absurd (omega (arith, ap first_of e))
-fields-put fields (Undo trx) r e = absurd (omega (arith, ap first_of e))
-fields-put fields (Commit trx) r e = absurd (omega (arith, ap first_of e))
-fields-put fields (Set writer table key value) r e = absurd (omega (arith, ap first_of e))
-fields-put fields Clone r e = absurd (omega (arith, ap first_of e))
-fields-put fields Rows r e = absurd (omega (arith, ap first_of e))
+fields-put fields l r e = absurd (omega (arith, ap first_of e))
 
 pub Parses-put : (fields : List ℕ) (read : Option (Row × List ℕ)) → Parses IsRowWithValue row_with_value_text fields read → ParsesLine (codes "put " ++ fields) (option_map (λ x. Put x.0.number x.0.table x.0.key x.1) read)
 Parses-put fields read h = made_line IsRowWithValue row_with_value_text (λ x. Put x.0.number x.0.table x.0.key x.1) (codes "put ") fields (λ x is. (is.0.0, is.0.1, is.0.2, is.1)) (λ x. refl) (fields-put fields) read h
 
 fields-set : (fields : List ℕ) (l : Line) → IsInRange l → codes "set " ++ fields ≡ line_text l → (x : Row × List ℕ) × IsRowWithValue x × (fields ≡ row_with_value_text x) × (l ≡ Set x.0.number x.0.table x.0.key x.1)
-fields-set fields (Create table buckets) r e = absurd (omega (arith, ap first_of e))
-fields-set fields (Begin writer) r e = absurd (omega (arith, ap first_of e))
-fields-set fields (Put trx table key value) r e = absurd (omega (arith, ap first_of e))
-fields-set fields (Delete trx table key) r e = absurd (omega (arith, ap first_of e))
-fields-set fields (Get trx table key) r e = absurd (omega (arith, ap first_of e))
-fields-set fields (Undo trx) r e = absurd (omega (arith, ap first_of e))
-fields-set fields (Commit trx) r e = absurd (omega (arith, ap first_of e))
 fields-set fields (Set writer table key value) r e = ((record { number = writer; table = table; key = key }, value), ((r.0, r.1, r.2), r.3), ap (drop 4) e, refl)
-fields-set fields Clone r e = absurd (omega (arith, ap first_of e))
-fields-set fields Rows r e = absurd (omega (arith, ap first_of e))
+fields-set fields l r e = absurd (omega (arith, ap first_of e))
 
 pub Parses-set : (fields : List ℕ) (read : Option (Row × List ℕ)) → Parses IsRowWithValue row_with_value_text fields read → ParsesLine (codes "set " ++ fields) (option_map (λ x. Set x.0.number x.0.table x.0.key x.1) read)
 Parses-set fields read h = made_line IsRowWithValue row_with_value_text (λ x. Set x.0.number x.0.table x.0.key x.1) (codes "set ") fields (λ x is. (is.0.0, is.0.1, is.0.2, is.1)) (λ x. refl) (fields-set fields) read h
 
 fields-del : (fields : List ℕ) (l : Line) → IsInRange l → codes "del " ++ fields ≡ line_text l → (x : Row) × IsRow x × (fields ≡ row_text x) × (l ≡ Delete x.number x.table x.key)
-fields-del fields (Create table buckets) r e = absurd (omega (arith, ap first_of e))
-fields-del fields (Begin writer) r e = absurd (omega (arith, ap first_of e))
-fields-del fields (Put trx table key value) r e = absurd (omega (arith, ap first_of e))
 fields-del fields (Delete trx table key) r e = (record { number = trx; table = table; key = key }, r, ap (drop 4) e, refl)
-fields-del fields (Get trx table key) r e = absurd (omega (arith, ap first_of e))
-fields-del fields (Undo trx) r e = absurd (omega (arith, ap first_of e))
-fields-del fields (Commit trx) r e = absurd (omega (arith, ap first_of e))
-fields-del fields (Set writer table key value) r e = absurd (omega (arith, ap first_of e))
-fields-del fields Clone r e = absurd (omega (arith, ap first_of e))
-fields-del fields Rows r e = absurd (omega (arith, ap first_of e))
+fields-del fields l r e = absurd (omega (arith, ap first_of e))
 
 pub Parses-del : (fields : List ℕ) (read : Option (Row)) → Parses IsRow row_text fields read → ParsesLine (codes "del " ++ fields) (option_map (λ x. Delete x.number x.table x.key) read)
 Parses-del fields read h = made_line IsRow row_text (λ x. Delete x.number x.table x.key) (codes "del ") fields (λ x is. is) (λ x. refl) (fields-del fields) read h
 
 fields-get : (fields : List ℕ) (l : Line) → IsInRange l → codes "get " ++ fields ≡ line_text l → (x : Row) × IsRow x × (fields ≡ row_text x) × (l ≡ Get x.number x.table x.key)
-fields-get fields (Create table buckets) r e = absurd (omega (arith, ap first_of e))
-fields-get fields (Begin writer) r e = absurd (omega (arith, ap first_of e))
-fields-get fields (Put trx table key value) r e = absurd (omega (arith, ap first_of e))
-fields-get fields (Delete trx table key) r e = absurd (omega (arith, ap first_of e))
 fields-get fields (Get trx table key) r e = (record { number = trx; table = table; key = key }, r, ap (drop 4) e, refl)
-fields-get fields (Undo trx) r e = absurd (omega (arith, ap first_of e))
-fields-get fields (Commit trx) r e = absurd (omega (arith, ap first_of e))
-fields-get fields (Set writer table key value) r e = absurd (omega (arith, ap first_of e))
-fields-get fields Clone r e = absurd (omega (arith, ap first_of e))
-fields-get fields Rows r e = absurd (omega (arith, ap first_of e))
+fields-get fields l r e = absurd (omega (arith, ap first_of e))
 
 pub Parses-get : (fields : List ℕ) (read : Option (Row)) → Parses IsRow row_text fields read → ParsesLine (codes "get " ++ fields) (option_map (λ x. Get x.number x.table x.key) read)
 Parses-get fields read h = made_line IsRow row_text (λ x. Get x.number x.table x.key) (codes "get ") fields (λ x is. is) (λ x. refl) (fields-get fields) read h

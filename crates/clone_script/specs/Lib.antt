@@ -1,3 +1,4 @@
+pub mod Given
 pub mod Script
 pub mod Fields
 pub mod Reading

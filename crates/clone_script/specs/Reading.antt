@@ -1,18 +1,30 @@
 -- What reading a script answers, and what reading a text of it answers.
-use Rattle.std.specs.Prelude.{ℕ, ◌≡◌, ◌⊎◌, List, Option, Some, IfSome, Result, Ok, Err, Vec, ⊤}
-use Rattle.std.specs.declared.alloc.Global.{Global}
+use Rattle.std.specs.Prelude.{ℕ, ◌≡◌, List, Option, Some, IfSome, Result, Ok, Err, Bool, true, false, ⊤}
 use Rattle.clone_model.specs.Lines.{line_text, IsInRange}
 use Rattle.clone_model.specs.declared.line.Line.{Line}
-use Rattle.clone_model.specs.declared.line.Line.TheVariants.{Clone, Rows}
-use Rattle.clone_script.specs.Script.{IsScript, IsFirstBad}
+use Rattle.clone_model.specs.declared.line.Line.TheVariants.{Create, Begin, Put, Delete, Get, Undo, Commit, Set, Clean, Checkpoint, Lsn, Clone, Rows}
+use Rattle.clone_script.specs.Given.{Given}
+use Rattle.clone_script.specs.Script.{IsScript, IsFirstBad, Gives, GivesSize}
+use Rattle.clone_script.specs.declared.head.HeadLine.{HeadLine}
+use Rattle.clone_script.specs.declared.read.Script.{Script}
 use Rattle.clone_script.specs.declared.read.ReadRefusal.{ReadRefusal}
 use Rattle.clone_script.specs.declared.read.ReadRefusal.TheVariants.{BadLine, NoMemory}
 
--- the lines of the script, or the number of its first bad line. Want of memory is free.
-abbrev pub Reads : List ℕ → Result (Vec Line Global) ReadRefusal → Type 0
-Reads bytes (Ok lines) = IsScript bytes lines.items
+-- the script, or the number of its first bad line. Want of memory is free.
+abbrev pub Reads : List ℕ → Result Script ReadRefusal → Type 0
+Reads bytes (Ok script) = IsScript bytes script.config script.lines.items
 Reads bytes (Err (BadLine number)) = IsFirstBad bytes number
 Reads bytes (Err NoMemory) = ⊤
+
+-- whether a text gives something behind others
+abbrev pub Takes : Given → List ℕ → Given → Bool → Type 0
+Takes before text after true = Gives before text after
+Takes before text after false = (next : Given) → Gives before text next → ⊥
+
+-- whether a head line may stand behind others
+abbrev pub TakesSize : Given → HeadLine → Given → Bool → Type 0
+TakesSize before h after true = GivesSize before h after
+TakesSize before h after false = (next : Given) → GivesSize before h next → ⊥
 
 -- what reading a text answers: something in its ranges that has this text, and nothing else is so
 pub record Parses {X : Type 0} (InRange : X → Type 0) (text_of : X → List ℕ) (text : List ℕ)
@@ -24,10 +36,23 @@ pub record Parses {X : Type 0} (InRange : X → Type 0) (text_of : X → List �
 abbrev pub ParsesLine : List ℕ → Option Line → Type 0
 ParsesLine text result = Parses IsInRange line_text text result
 
+-- a line of the disk or of the log, or one without fields
+abbrev pub IsOfDisk : Line → Type 0
+IsOfDisk (Create table buckets) = ⊥
+IsOfDisk (Begin writer) = ⊥
+IsOfDisk (Put trx table key value) = ⊥
+IsOfDisk (Delete trx table key) = ⊥
+IsOfDisk (Get trx table key) = ⊥
+IsOfDisk (Undo trx) = ⊥
+IsOfDisk (Commit trx) = ⊥
+IsOfDisk (Set writer table key value) = ⊥
+IsOfDisk l = IsInRange l
+
 -- a line without fields
 abbrev pub IsBare : Line → Type 0
-IsBare l = (l ≡ Clone) ⊎ (l ≡ Rows)
-
--- the same of a line without fields
-abbrev pub ParsesBare : List ℕ → Option Line → Type 0
-ParsesBare text result = Parses IsBare line_text text result
+IsBare Clean = Unit {0}
+IsBare Checkpoint = Unit {0}
+IsBare Lsn = Unit {0}
+IsBare Clone = Unit {0}
+IsBare Rows = Unit {0}
+IsBare l = ⊥

@@ -1,7 +1,13 @@
--- A script: texts ended by line feeds, each of which is passed over or is that of a line.
-use Rattle.std.specs.Prelude.{ℕ, ◌≡◌, ◌+◌, ◌⊎◌, ◌==◌, List, [], ◌∷◌, ◌++◌, length, if◌then◌else◌}
+-- A script: texts ended by line feeds, each of which is passed over, is a head line, or is a line.
+use Rattle.std.specs.Prelude.{ℕ, ◌≡◌, ◌+◌, ◌==◌, List, [], ◌∷◌, ◌++◌, None, length, codes, if◌then◌else◌}
+use Rattle.std.specs.Fmt.{decimal}
+use Rattle.clone_model.specs.Config.{IsPoolSize, IsRingSize}
 use Rattle.clone_model.specs.Lines.{line_text, IsInRange}
+use Rattle.clone_model.specs.declared.config.Config.{Config}
 use Rattle.clone_model.specs.declared.line.Line.{Line}
+use Rattle.clone_script.specs.Given.{Given, nothing, with_pool, with_ring, with_line, config_of}
+use Rattle.clone_script.specs.declared.head.HeadLine.{HeadLine}
+use Rattle.clone_script.specs.declared.head.HeadLine.TheVariants.{Pool, Ring}
 
 abbrev pub line_feed : ℕ
 line_feed = 10
@@ -21,31 +27,59 @@ abbrev pub IsPassed : List ℕ → Type 0
 IsPassed [] = Unit {0}
 IsPassed (b ∷ text) = b ≡ 35
 
+-- each head line has exactly one text
+abbrev pub head_text : HeadLine → List ℕ
+head_text (Pool frames) = codes "pool " ++ decimal frames
+head_text (Ring bytes) = codes "ring " ++ decimal bytes
+
+abbrev pub IsHeadInRange : HeadLine → Type 0
+IsHeadInRange (Pool frames) = IsPoolSize frames
+IsHeadInRange (Ring bytes) = IsRingSize bytes
+
+-- the text is that of a head line in its range
+pub record IsHead (text : List ℕ) (h : HeadLine) : Type 0 where
+  pub same : text ≡ head_text h
+  pub range : IsHeadInRange h
+
 -- the text is that of a line in its ranges
 pub record IsLine (text : List ℕ) (l : Line) : Type 0 where
   pub same : text ≡ line_text l
   pub ranges : IsInRange l
 
--- Each of the texts is passed over or is that of a line, and these are the lines in order.
-abbrev pub Give : List (List ℕ) → List Line → Type 0
-Give [] lines = lines ≡ []
-Give (text ∷ texts) lines =
-    (IsPassed text × Give texts lines)
-    ⊎ ((l : Line) × (others : List Line) × IsLine text l × Give texts others × (lines ≡ l ∷ others))
+-- a head line gives its size, where no line and no size of its kind is given yet
+abbrev pub GivesSize : Given → HeadLine → Given → Type 0
+GivesSize before (Pool frames) after =
+    (before.lines ≡ []) × (before.pool ≡ None) × (after ≡ with_pool before frames)
+GivesSize before (Ring bytes) after =
+    (before.lines ≡ []) × (before.ring ≡ None) × (after ≡ with_ring before bytes)
 
--- the lines of a script
-abbrev pub IsScript : List ℕ → List Line → Type 0
-IsScript bytes lines = Give (texts_of bytes) lines
+-- what is given before a text, and what is given with it
+pub data Gives (before : Given) (text : List ℕ) (after : Given) : Type 0 where
+  passed : IsPassed text → after ≡ before → Gives before text after
+  size : (h : HeadLine) → IsHead text h → GivesSize before h after → Gives before text after
+  line : (l : Line) → IsLine text l → after ≡ with_line before l → Gives before text after
 
--- The text of this number, counted from 1, is the first outside the grammar: those before it give
--- lines, and it is neither passed over nor that of a line.
+-- the same of several texts, one behind the other
+abbrev pub Give : Given → List (List ℕ) → Given → Type 0
+Give before [] after = after ≡ before
+Give before (text ∷ texts) after =
+    (between : Given) × Gives before text between × Give between texts after
+
+-- the sizes and the lines of a script
+pub record IsScript (bytes : List ℕ) (config : Config) (lines : List Line) : Type 0 where
+  pub given : Given
+  pub texts : Give nothing (texts_of bytes) given
+  pub sizes : config ≡ config_of given
+  pub ordered : lines ≡ given.lines
+
+-- The text of this number, counted from 1, is the first outside the grammar: it gives nothing
+-- behind those before it.
 pub record IsFirstBad (bytes : List ℕ) (number : ℕ) : Type 0 where
   pub front : List (List ℕ)
   pub text : List ℕ
   pub behind : List (List ℕ)
   pub split : texts_of bytes ≡ front ++ text ∷ behind
   pub count : number ≡ length front + 1
-  pub before : List Line
-  pub good : Give front before
-  pub not_passed : IsPassed text → ⊥
-  pub no_line : (l : Line) → IsLine text l → ⊥
+  pub before : Given
+  pub good : Give nothing front before
+  pub bad : (after : Given) → Gives before text after → ⊥

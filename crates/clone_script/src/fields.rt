@@ -1,13 +1,16 @@
 ghost use Rattle.std.specs.Prelude.{ℕ, ◌≡◌, ◌≤◌, ◌<◌, ◌^◌, ◌∷◌, ◌++◌, List, Some, IfOk, IfSome, IsSomeAnd};
 ghost use Rattle.std.specs.Option.{SomeIff};
 ghost use Rattle.std.specs.Fmt.{decimal};
-ghost use Rattle.clone_model.specs.declared.line.TheConstants.{HIGHEST_TABLE, MOST_BUCKETS};
+ghost use Rattle.clone_model.specs.Config.{IsPoolSize, IsRingSize};
+ghost use Rattle.clone_model.specs.Lines.{IsCall};
+ghost use Rattle.clone_model.specs.declared.line.TheConstants.{HIGHEST_TABLE, MOST_BUCKETS, MOST_PAGES};
 ghost use Rattle.clone_script.specs.Fields.{IsRow, IsRowWithValue, row_text, row_with_value_text};
 ghost use Rattle.clone_script.specs.Reading.{Parses};
 ghost use Rattle.clone_script.specs.declared.fields.Row.{Row};
 
 use clone_model::{
-    BucketCount, ScriptValue, TableNumber, as_u32, leading_number, number_of, script_value_of,
+    BucketCount, HIGHEST_TABLE, LEAST_POOL, LEAST_RING, MOST_CALLS, MOST_PAGES, MOST_POOL,
+    MOST_RING, ScriptValue, TableNumber, as_u32, leading_number, number_of, script_value_of,
 };
 use std::alloc::{AllocError, Global};
 
@@ -104,4 +107,51 @@ pub fn small_number(text: &[u8]) -> Option<u32>
     ensures { Parses (λ n. n < 2 ^ 32) decimal text.now result }
 {
     as_u32(number_of(text)?)
+}
+
+/// The space of this number.
+pub fn space_number(number: u64) -> Option<u32>
+    ensures { SomeIff result (number ≤ HIGHEST_TABLE) number }
+{
+    let space = as_u32(number)?;
+    (space <= HIGHEST_TABLE).then_some(space)
+}
+
+/// The number of a page that the whole text shows.
+pub fn page_number(text: &[u8]) -> Option<u32>
+    ensures { Parses (λ page. page < MOST_PAGES) decimal text.now result }
+{
+    let page = small_number(text)?;
+    (page < MOST_PAGES).then_some(page)
+}
+
+/// The byte that the whole text shows in decimal digits.
+pub fn byte_of(text: &[u8]) -> Option<u8>
+    ensures { Parses (λ b. b < 256) decimal text.now result }
+{
+    u8::try_from(number_of(text)?).ok()
+}
+
+/// The number of a call that the whole text shows.
+pub fn call_of(text: &[u8]) -> Option<u32>
+    ensures { Parses IsCall decimal text.now result }
+{
+    let call = small_number(text)?;
+    (1..=MOST_CALLS).contains(&call).then_some(call)
+}
+
+/// The size of a pool that the whole text shows.
+pub fn pool_size(text: &[u8]) -> Option<u32>
+    ensures { Parses IsPoolSize decimal text.now result }
+{
+    let frames = small_number(text)?;
+    (LEAST_POOL..=MOST_POOL).contains(&frames).then_some(frames)
+}
+
+/// The size of a ring that the whole text shows.
+pub fn ring_size(text: &[u8]) -> Option<u64>
+    ensures { Parses IsRingSize decimal text.now result }
+{
+    let bytes = number_of(text)?;
+    (LEAST_RING..=MOST_RING).contains(&bytes).then_some(bytes)
 }

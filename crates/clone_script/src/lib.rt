@@ -1,15 +1,20 @@
-//! The reader of scripts: the lines of a script, or the number of the first text that is no line.
+//! The reader of scripts: the sizes and the lines of a script, or the number of the first text that
+//! is outside the grammar.
 //!
 //! A script is texts that line feeds end; the last may lack its line feed. An empty text and one
-//! that begins with `#` are passed over. Each other text is a line exactly where it is the one text
-//! of a line of `clone_model` whose numbers and whose value are in their ranges. So no other
-//! spelling is read: a word, one blank before each field, numbers in decimal digits with no zero in
-//! front, and values in lower-case hex digits or as a dash.
+//! that begins with `#` are passed over. Ahead of all lines there may be head lines, `pool N` and
+//! `ring N`, each at most once; they give the sizes of the donor's pool and ring, and what isn't
+//! given has its usual size. Each other text is a line exactly where it is the one text of a line of
+//! `clone_model` whose numbers and whose value are in their ranges. So no other spelling is read: a
+//! word, one blank before each field, numbers in decimal digits with no zero in front, and values in
+//! lower-case hex digits or as a dash.
 #![tactic(auto)]
 
+mod draft;
 mod fields;
+mod head;
 mod line;
 mod read;
 mod split;
 
-pub use read::{LONGEST_SCRIPT, ReadRefusal, read_script};
+pub use read::{LONGEST_SCRIPT, ReadRefusal, Script, read_script};

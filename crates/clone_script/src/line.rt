@@ -1,7 +1,11 @@
 ghost use Rattle.std.specs.Prelude.{◌++◌, IfOk, codes};
-ghost use Rattle.clone_script.specs.Reading.{ParsesLine, ParsesBare};
+ghost use Rattle.clone_model.specs.Lines.{line_text};
+ghost use Rattle.clone_script.specs.Reading.{Parses, ParsesLine, IsOfDisk, IsBare};
 
-use crate::fields::{bucket_count, read_row, read_row_with_value, small_number, table_number};
+use crate::fields::{
+    bucket_count, byte_of, call_of, page_number, read_row, read_row_with_value, small_number,
+    space_number, table_number,
+};
 use clone_model::{Line, leading_number, number_of, split_once};
 use std::alloc::{AllocError, Global};
 
@@ -33,13 +37,47 @@ pub fn parse_line(alloc: Global, text: &[u8]) -> Result<Option<Line>, AllocError
     if let Some(fields) = text.strip_prefix(b"set ") {
         return set(alloc, fields);
     }
-    Ok(bare_line(text))
+    Ok(disk_line(text))
+}
+
+/// The line of the disk or of the log that has this text, or the one without fields.
+fn disk_line(text: &[u8]) -> Option<Line>
+    ensures { Parses IsOfDisk line_text text.now result }
+{
+    if let Some(fields) = text.strip_prefix(b"flush ") {
+        return flush(fields);
+    }
+    if let Some(fields) = text.strip_prefix(b"half ") {
+        return half(fields);
+    }
+    if let Some(fields) = text.strip_prefix(b"land ") {
+        return land(fields);
+    }
+    if let Some(field) = text.strip_prefix(b"tear ") {
+        return tear(field);
+    }
+    if let Some(field) = text.strip_prefix(b"fail donor ") {
+        return fail_donor(field);
+    }
+    if let Some(field) = text.strip_prefix(b"fail recipient ") {
+        return fail_recipient(field);
+    }
+    bare_line(text)
 }
 
 /// The line without fields that has this text.
 fn bare_line(text: &[u8]) -> Option<Line>
-    ensures { ParsesBare text.now result }
+    ensures { Parses IsBare line_text text.now result }
 {
+    if text == b"clean".as_slice() {
+        return Some(Line::Clean);
+    }
+    if text == b"checkpoint".as_slice() {
+        return Some(Line::Checkpoint);
+    }
+    if text == b"lsn".as_slice() {
+        return Some(Line::Lsn);
+    }
     if text == b"clone".as_slice() {
         return Some(Line::Clone);
     }
@@ -136,4 +174,61 @@ fn set(alloc: Global, fields: &[u8]) -> Result<Option<Line>, AllocError>
         key: row.key,
         value,
     }))
+}
+
+/// The `flush` with these fields: a space and a page.
+fn flush(fields: &[u8]) -> Option<Line>
+    ensures { ParsesLine (codes "flush " ++ fields.now) result }
+{
+    let (space, page) = leading_number(fields)?;
+    Some(Line::Flush {
+        space: space_number(space)?,
+        page: page_number(page)?,
+    })
+}
+
+/// The `half` with these fields: a space and a page.
+fn half(fields: &[u8]) -> Option<Line>
+    ensures { ParsesLine (codes "half " ++ fields.now) result }
+{
+    let (space, page) = leading_number(fields)?;
+    Some(Line::Half {
+        space: space_number(space)?,
+        page: page_number(page)?,
+    })
+}
+
+/// The `land` with these fields: a space and a page.
+fn land(fields: &[u8]) -> Option<Line>
+    ensures { ParsesLine (codes "land " ++ fields.now) result }
+{
+    let (space, page) = leading_number(fields)?;
+    Some(Line::Land {
+        space: space_number(space)?,
+        page: page_number(page)?,
+    })
+}
+
+/// The `tear` with this field: a byte.
+fn tear(field: &[u8]) -> Option<Line>
+    ensures { ParsesLine (codes "tear " ++ field.now) result }
+{
+    let byte = byte_of(field)?;
+    Some(Line::Tear { byte })
+}
+
+/// The `fail donor` with this field: the number of a call.
+fn fail_donor(field: &[u8]) -> Option<Line>
+    ensures { ParsesLine (codes "fail donor " ++ field.now) result }
+{
+    let call = call_of(field)?;
+    Some(Line::FailDonor { call })
+}
+
+/// The `fail recipient` with this field: the number of a call.
+fn fail_recipient(field: &[u8]) -> Option<Line>
+    ensures { ParsesLine (codes "fail recipient " ++ field.now) result }
+{
+    let call = call_of(field)?;
+    Some(Line::FailRecipient { call })
 }

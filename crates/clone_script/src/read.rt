@@ -1,17 +1,26 @@
-ghost use Rattle.std.specs.Prelude.{◌≡◌, ◌↔◌, IsTrue};
-ghost use Rattle.clone_script.specs.Script.{IsPassed};
+ghost use Rattle.std.specs.Prelude.{◌≡◌, IfOk};
+ghost use Rattle.clone_model.specs.Config.{IsConfig};
 ghost use Rattle.clone_script.specs.Reading.{Reads};
 ghost use Rattle.clone_script.specs.declared.read.ReadRefusal.TheVariants.{NoMemory};
 
-use crate::line::parse_line;
+use crate::draft::Draft;
 use crate::split::first_text;
-use clone_model::Line;
+use clone_model::{Config, Line};
 use std::alloc::{AllocError, AllocFailed, Global};
 
 /// How many bytes a script may have.
 pub const LONGEST_SCRIPT: usize = 1_048_576;
 
-/// Why a script has no lines.
+/// What a script gives.
+#[derive(Debug, Drop)]
+pub struct Script {
+    /// How large the donor's pool and its ring are.
+    pub config: Config,
+    /// The lines, in order.
+    pub lines: Vec<Line>,
+}
+
+/// Why a script can't be read.
 #[derive(Clone, Copy, Debug, PartialEq, Eq)]
 pub enum ReadRefusal {
     /// The line of this number, counted from 1, is the first outside the grammar.
@@ -36,32 +45,23 @@ impl<T: Drop> From<AllocFailed<T>> for ReadRefusal {
     }
 }
 
-/// The lines of a script, in order. `BadLine` has the number of the first text that is neither
-/// passed over nor the text of a line. The texts that are passed over count, too.
-pub fn read_script(alloc: Global, bytes: &[u8]) -> Result<Vec<Line>, ReadRefusal>
-    ensures { Reads bytes.now result }
+/// Reads a script. `BadLine` has the number of the first text that is neither passed over, nor a
+/// head line that may stand there, nor the text of a line. The texts that are passed over count,
+/// too.
+pub fn read_script(alloc: Global, bytes: &[u8]) -> Result<Script, ReadRefusal>
+    ensures read { Reads bytes.now result }
+    ensures sizes { IfOk result (λ script. IsConfig script.config) }
 {
-    let mut lines = Vec::new(alloc);
+    let mut draft = Draft::new(alloc);
     let mut rest = bytes;
     let mut number = 0;
     while !rest.is_empty() {
         let (text, behind) = first_text(rest);
         number += 1;
         rest = behind;
-        if is_passed(text) {
-            continue;
-        }
-        let Some(line) = parse_line(alloc, text)? else {
+        if !draft.take(alloc, text)? {
             return Err(ReadRefusal::BadLine { line: number });
-        };
-        lines.push(line)?;
+        }
     }
-    Ok(lines)
-}
-
-/// Whether the text is empty or a comment.
-fn is_passed(text: &[u8]) -> bool
-    ensures { IsTrue result ↔ IsPassed text.now }
-{
-    matches!(text, [] | [b'#', ..])
+    Ok(draft.finish())
 }

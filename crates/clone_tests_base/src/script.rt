@@ -21,7 +21,7 @@ const GOOD: [(&[u8], usize); 7] = [
 ];
 
 /// Texts of lines, each of which is read and shown again.
-const LINES: [&str; 16] = [
+const LINES: [&str; 31] = [
     "create 1 1",
     "create 1000000 1024",
     "begin 0",
@@ -36,6 +36,21 @@ const LINES: [&str; 16] = [
     "get 4294967295 1000000 18446744073709551615",
     "undo 10",
     "commit 4294967295",
+    "flush 0 0",
+    "flush 1000000 65535",
+    "half 0 0",
+    "half 1000000 65535",
+    "land 0 0",
+    "land 1000000 65535",
+    "clean",
+    "checkpoint",
+    "lsn",
+    "tear 0",
+    "tear 255",
+    "fail donor 1",
+    "fail donor 1000000",
+    "fail recipient 1",
+    "fail recipient 1000000",
     "clone",
     "rows",
 ];
@@ -140,10 +155,186 @@ const BAD: [&[u8]; 96] = [
     b"get 3 1 07",
 ];
 
+/// Texts about pages and the log that are no lines.
+const BAD_OF_PAGES: [&[u8]; 66] = [
+    b"flush",
+    b"flush 1",
+    b"flush 1 3 5",
+    b"flush  1 3",
+    b"flush 1  3",
+    b"flush 1 3 ",
+    b" flush 1 3",
+    b"flush\t1 3",
+    b"flush 01 3",
+    b"flush 1 03",
+    b"flush 1000001 3",
+    b"flush 1 65536",
+    b"flush 4294967296 3",
+    b"flush 1 4294967296",
+    b"flush -1 3",
+    b"flush 1 -",
+    b"half",
+    b"half 1",
+    b"half 1 3 5",
+    b"half  1 3",
+    b"half 1  3",
+    b"half 1 3 ",
+    b" half 1 3",
+    b"half\t1 3",
+    b"half 01 3",
+    b"half 1 03",
+    b"half 1000001 3",
+    b"half 1 65536",
+    b"half 4294967296 3",
+    b"half 1 4294967296",
+    b"half -1 3",
+    b"half 1 -",
+    b"land",
+    b"land 1",
+    b"land 1 3 5",
+    b"land  1 3",
+    b"land 1  3",
+    b"land 1 3 ",
+    b" land 1 3",
+    b"land\t1 3",
+    b"land 01 3",
+    b"land 1 03",
+    b"land 1000001 3",
+    b"land 1 65536",
+    b"land 4294967296 3",
+    b"land 1 4294967296",
+    b"land -1 3",
+    b"land 1 -",
+    b" clean",
+    b"clean ",
+    b"clean 1",
+    b"cleans",
+    b"clea",
+    b"Clean",
+    b" checkpoint",
+    b"checkpoint ",
+    b"checkpoint 1",
+    b"checkpoints",
+    b"checkpoin",
+    b"Checkpoint",
+    b" lsn",
+    b"lsn ",
+    b"lsn 1",
+    b"lsns",
+    b"ls",
+    b"Lsn",
+];
+
+/// Texts of orders to disks that are no lines.
+const BAD_OF_ORDERS: [&[u8]; 40] = [
+    b"tear",
+    b"tear 1 2",
+    b"tear  1",
+    b" tear 1",
+    b"tear 1 ",
+    b"tear\t1",
+    b"tear 01",
+    b"tear 256",
+    b"tear 4294967296",
+    b"tear -1",
+    b"tear ff",
+    b"fail donor",
+    b"fail donor 1 2",
+    b"fail  donor 1",
+    b"fail donor  1",
+    b" fail donor 1",
+    b"fail donor 1 ",
+    b"fail\tdonor 1",
+    b"fail donor\t1",
+    b"fail donor 01",
+    b"fail donor 0",
+    b"fail donor 1000001",
+    b"fail donor 4294967297",
+    b"fail donor -1",
+    b"fail recipient",
+    b"fail recipient 1 2",
+    b"fail  recipient 1",
+    b"fail recipient  1",
+    b" fail recipient 1",
+    b"fail recipient 1 ",
+    b"fail\trecipient 1",
+    b"fail recipient\t1",
+    b"fail recipient 01",
+    b"fail recipient 0",
+    b"fail recipient 1000001",
+    b"fail recipient 4294967297",
+    b"fail recipient -1",
+    b"fail",
+    b"fail 1",
+    b"fail disk 1",
+];
+
+/// Scripts with the sizes of the pool and the ring, and the number of their lines.
+const GOOD_HEADS: [(&[u8], u32, u64, usize); 13] = [
+    (b"", 256, 1_048_576, 0),
+    (b"rows", 256, 1_048_576, 1),
+    (b"pool 16", 16, 1_048_576, 0),
+    (b"pool 4096\n", 4_096, 1_048_576, 0),
+    (b"ring 65536", 256, 65_536, 0),
+    (b"ring 16777216\n", 256, 16_777_216, 0),
+    (b"pool 17\nring 65537\n", 17, 65_537, 0),
+    (b"ring 65537\npool 17\n", 17, 65_537, 0),
+    (b"pool 4095\nrows", 4_095, 1_048_576, 1),
+    (b"ring 16777215\nclone\nrows\n", 256, 16_777_215, 2),
+    (
+        b"\n# sizes\npool 99\n\n#\nring 99999\n\n# lines\nrows\n",
+        99,
+        99_999,
+        1,
+    ),
+    (b"# pool 99\n#ring 99999\n", 256, 1_048_576, 0),
+    (b"pool 256\nring 1048576\nclone", 256, 1_048_576, 1),
+];
+
+/// Scripts with the number of the first text that is outside the grammar.
+const BAD_HEADS: [(&[u8], u64); 36] = [
+    (b"pool 15", 1),
+    (b"pool 4097", 1),
+    (b"pool 0", 1),
+    (b"pool 4294967552", 1),
+    (b"pool 18446744073709551872", 1),
+    (b"ring 65535", 1),
+    (b"ring 16777217", 1),
+    (b"ring 0", 1),
+    (b"ring 18446744073709617152", 1),
+    (b"pool", 1),
+    (b"pool ", 1),
+    (b"pool 16 1", 1),
+    (b"pool  16", 1),
+    (b" pool 16", 1),
+    (b"pool 16 ", 1),
+    (b"pool\t16", 1),
+    (b"pool 016", 1),
+    (b"pool -", 1),
+    (b"ring", 1),
+    (b"ring ", 1),
+    (b"ring 65536 1", 1),
+    (b"ring  65536", 1),
+    (b" ring 65536", 1),
+    (b"ring 65536 ", 1),
+    (b"ring\t65536", 1),
+    (b"ring 065536", 1),
+    (b"pool 16\npool 16", 2),
+    (b"ring 65536\nring 65537\nrows", 2),
+    (b"pool 16\nring 65536\npool 17\n", 3),
+    (b"ring 65536\n\npool 16\n# again\nring 65536\n", 5),
+    (b"rows\npool 16", 2),
+    (b"rows\nring 65536", 2),
+    (b"pool 16\nclone\nring 65536\n", 3),
+    (b"\n# head\nring 65536\n\nlsn\n\npool 16\nrow", 7),
+    (b"pool 16\nrow\nring 65536", 2),
+    (b"pool 16\npool 15\nrow", 2),
+];
+
 #[test]
 fn good_scripts(rt: HostRuntime) -> Result<(), ReadRefusal> {
     for (script, count) in GOOD {
-        assert_eq!(rt; read_script(rt.alloc(), script)?.len(), count);
+        assert_eq!(rt; read_script(rt.alloc(), script)?.lines.len(), count);
     }
     Ok(())
 }
@@ -158,7 +349,8 @@ fn lines_read_back(rt: HostRuntime) -> Result<(), ReadRefusal> {
 
 #[test]
 fn fields_of_a_put(rt: HostRuntime) -> Result<(), ReadRefusal> {
-    for line in &read_script(rt.alloc(), b"put 3 2 7 6869")? {
+    let script = read_script(rt.alloc(), b"put 3 2 7 6869")?;
+    for line in &script.lines {
         let Line::Put {
             trx,
             table,
@@ -183,6 +375,37 @@ fn bad_lines(rt: HostRuntime) {
 }
 
 #[test]
+fn bad_lines_of_pages(rt: HostRuntime) {
+    for text in BAD_OF_PAGES {
+        check_refused(&rt, text, 1);
+    }
+}
+
+#[test]
+fn bad_lines_of_orders(rt: HostRuntime) {
+    for text in BAD_OF_ORDERS {
+        check_refused(&rt, text, 1);
+    }
+}
+
+#[test]
+fn sizes_of_the_head(rt: HostRuntime) -> Result<(), ReadRefusal> {
+    for (bytes, pool, ring, count) in GOOD_HEADS {
+        let script = read_script(rt.alloc(), bytes)?;
+        assert_eq!(rt; (script.config.pool, script.config.ring), (pool, ring));
+        assert_eq!(rt; script.lines.len(), count);
+    }
+    Ok(())
+}
+
+#[test]
+fn bad_heads(rt: HostRuntime) {
+    for (script, number) in BAD_HEADS {
+        check_refused(&rt, script, number);
+    }
+}
+
+#[test]
 fn bad_lines_behind_others(rt: HostRuntime) {
     check_refused(&rt, b"\n# comment\n\nrow\n", 4);
     check_refused(&rt, b"create 1 4\n\nset 0 0 7 6869\nrow", 3);
@@ -203,9 +426,9 @@ fn longest_values(rt: HostRuntime) -> Result<(), ReadRefusal> {
 }
 
 fn check_line(rt: &(impl Abort + AllocGlobal), text: &str) -> Result<(), ReadRefusal> {
-    let lines = read_script(rt.alloc(), text.as_bytes())?;
-    assert_eq!(rt; lines.len(), 1);
-    for line in &lines {
+    let script = read_script(rt.alloc(), text.as_bytes())?;
+    assert_eq!(rt; script.lines.len(), 1);
+    for line in &script.lines {
         assert_eq!(rt; line_text(rt.alloc(), line)?.as_str(), text);
     }
     Ok(())

@@ -1,16 +1,25 @@
-use clone_model::{BucketCount, TableNumber, Value, push_value};
+ghost use Rattle.clone_model.specs.Config.{IsConfig};
+
+use clone_donor::{Donor, OpenRefusal};
+use clone_model::{BucketCount, Config, TableNumber, Value, push_value};
+use clone_outside::PageDisk;
 use clone_plain::{Cause, EngineRefusal, Undone};
-use clone_trx::Engine;
 use std::alloc::{AllocError, Global};
 use std::process::Abort;
 use std::test::Fail;
 
+mod beside;
 mod calls;
+mod drawn;
+mod flushed_walk;
+mod opening;
+mod pages;
 mod plain;
+mod silent;
 mod vectors;
 mod walk;
 
-/// A call of an engine.
+/// A call of a donor.
 #[derive(Clone, Copy)]
 pub enum Call<'a> {
     // a table and its buckets
@@ -40,70 +49,186 @@ pub enum Answer {
     Committed(u64),
 }
 
-/// An engine, each of whose calls answers, or names the cause against it. Want of memory is an
-/// error.
-#[derive(Drop)]
-pub struct Tried {
-    pub engine: Engine,
-    pub alloc: Global,
+/// A step of a flush.
+#[derive(Clone, Copy, Debug, PartialEq, Eq)]
+pub enum FlushStep {
+    Begin,
+    Half,
+    Land,
 }
 
-impl Tried {
-    pub fn new(alloc: Global) -> Result<Tried, AllocError> {
-        let engine = Engine::new(alloc)?;
-        Ok(Tried { engine, alloc })
-    }
+/// A page's space and its number there.
+pub type PageAt = (u32, u32);
 
-    pub fn answer(&mut self, call: Call) -> Result<Result<Answer, Cause>, Fail> {
-        let (alloc, engine) = (self.alloc, &mut self.engine);
-        let answer = match call {
-            Call::Create(table, buckets) => {
-                let table = TableNumber::new(table).ok_or("no number of a table")?;
-                let buckets = BucketCount::new(buckets).ok_or("no number of buckets")?;
-                engine
-                    .create(alloc, table, buckets)
-                    .map(|()| Answer::Created)
-            }
-            Call::Begin(writer, index) => engine.begin(alloc, writer, index).map(Answer::Begun),
-            Call::Put(trx, table, key, value) => engine
-                .put(alloc, trx, table, key, value)
-                .map(|()| Answer::Changed),
-            Call::Delete(trx, table, key) => engine
-                .delete(alloc, trx, table, key)
-                .map(|()| Answer::Changed),
-            Call::Get(trx, table, key) => engine.get(trx, table, key).map(Answer::Shown),
-            Call::Undo(trx) => engine.undo_one(alloc, trx).map(Answer::TakenBack),
-            Call::Commit(trx) => engine.commit(alloc, trx).map(Answer::Committed),
-        };
-        Ok(answered(answer)?)
-    }
+// A donor that has enough frames and enough room for its log.
+const ENOUGH: Config = Config {
+    pool: 256,
+    ring: 16_777_216,
+};
 
-    // Makes calls, each of which has this answer, in the words of a script.
-    pub fn expect(&mut self, rt: &impl Abort, steps: &[(Call, &str)]) -> Result<(), Fail> {
-        for (call, text) in steps {
-            let answer = self.answer(*call)?;
-            assert_eq!(rt; text_of(self.alloc, answer)?.as_str(), *text);
+/// A donor over an empty disk.
+pub fn opened<D: PageDisk + Drop>(alloc: Global, disk: D, config: Config) -> Result<Donor<D>, Fail>
+    requires config { IsConfig config }
+{
+    match Donor::open(alloc, disk, config) {
+        Ok(donor) => Ok(donor),
+        Err(refusal) => {
+            let OpenRefusal { cause: _, disk: _ } = refusal;
+            Err(Fail::from("not opened"))
         }
-        Ok(())
     }
 }
 
-// The answer as a script says it.
+/// Makes a call, which answers, or names the cause against it. Want of memory is an error.
+pub fn ask<D: PageDisk>(
+    alloc: Global,
+    donor: &mut Donor<D>,
+    call: Call,
+) -> Result<Result<Answer, Cause>, Fail> {
+    let answer = match call {
+        Call::Create(table, buckets) => {
+            let table = TableNumber::new(table).ok_or("no number of a table")?;
+            let buckets = BucketCount::new(buckets).ok_or("no number of buckets")?;
+            created(donor, table, buckets)
+        }
+        Call::Begin(writer, index) => begun(alloc, donor, writer, index),
+        Call::Put(trx, table, key, value) => put(donor, trx, table, key, value),
+        Call::Delete(trx, table, key) => deleted(donor, trx, table, key),
+        Call::Get(trx, table, key) => shown(donor, trx, table, key),
+        Call::Undo(trx) => taken_back(donor, trx),
+        Call::Commit(trx) => committed(donor, trx),
+    };
+    Ok(answered(answer)?)
+}
+
+fn created<D: PageDisk>(
+    donor: &mut Donor<D>,
+    table: TableNumber,
+    buckets: BucketCount,
+) -> Result<Answer, EngineRefusal> {
+    donor.create(table, buckets)?;
+    Ok(Answer::Created)
+}
+
+fn begun<D: PageDisk>(
+    alloc: Global,
+    donor: &mut Donor<D>,
+    writer: u32,
+    index: u64,
+) -> Result<Answer, EngineRefusal> {
+    let trx = donor.begin(alloc, writer, index)?;
+    Ok(Answer::Begun(trx))
+}
+
+fn put<D: PageDisk>(
+    donor: &mut Donor<D>,
+    trx: u32,
+    table: u32,
+    key: u64,
+    value: &[u8],
+) -> Result<Answer, EngineRefusal> {
+    donor.put(trx, table, key, value)?;
+    Ok(Answer::Changed)
+}
+
+fn deleted<D: PageDisk>(
+    donor: &mut Donor<D>,
+    trx: u32,
+    table: u32,
+    key: u64,
+) -> Result<Answer, EngineRefusal> {
+    donor.delete(trx, table, key)?;
+    Ok(Answer::Changed)
+}
+
+fn shown<D: PageDisk>(
+    donor: &mut Donor<D>,
+    trx: u32,
+    table: u32,
+    key: u64,
+) -> Result<Answer, EngineRefusal> {
+    let value = donor.get(trx, table, key)?;
+    Ok(Answer::Shown(value))
+}
+
+fn taken_back<D: PageDisk>(donor: &mut Donor<D>, trx: u32) -> Result<Answer, EngineRefusal> {
+    let undone = donor.undo_one(trx)?;
+    Ok(Answer::TakenBack(undone))
+}
+
+fn committed<D: PageDisk>(donor: &mut Donor<D>, trx: u32) -> Result<Answer, EngineRefusal> {
+    let position = donor.commit(trx)?;
+    Ok(Answer::Committed(position))
+}
+
+/// A step of a page's flush, or the cause against it. Want of memory is an error.
+pub fn flush<D: PageDisk>(
+    donor: &mut Donor<D>,
+    step: FlushStep,
+    page: PageAt,
+) -> Result<Result<(), Cause>, AllocError> {
+    let (space, number) = page;
+    answered(match step {
+        FlushStep::Begin => donor.flush_begin(space, number),
+        FlushStep::Half => donor.flush_half(space, number),
+        FlushStep::Land => donor.flush_land(space, number),
+    })
+}
+
+// Makes calls, each of which has this answer, in the words of a script.
+fn expect<D: PageDisk>(
+    rt: &impl Abort,
+    alloc: Global,
+    donor: &mut Donor<D>,
+    steps: &[(Call, &str)],
+) -> Result<(), Fail> {
+    for (call, text) in steps {
+        expect_text(rt, alloc, ask(alloc, donor, *call)?, text)?;
+    }
+    Ok(())
+}
+
+fn expect_text(
+    rt: &impl Abort,
+    alloc: Global,
+    answer: Result<Answer, Cause>,
+    text: &str,
+) -> Result<(), AllocError> {
+    let found = text_of(alloc, answer)?;
+    assert_eq!(rt; found.as_str(), text);
+    Ok(())
+}
+
+// An answer as a script says it.
 fn text_of(alloc: Global, answer: Result<Answer, Cause>) -> Result<String, AllocError> {
     match answer {
-        Ok(Answer::Created) => String::from_str(alloc, "created"),
-        Ok(Answer::Begun(trx)) => format!(in alloc; "trx {trx}"),
-        Ok(Answer::Changed) => String::from_str(alloc, "ok"),
-        Ok(Answer::Shown(None)) => String::from_str(alloc, "none"),
-        Ok(Answer::Shown(Some(value))) => {
-            let mut text = String::from_str(alloc, "value ")?;
-            push_value(&mut text, value.bytes())?;
-            Ok(text)
-        }
-        Ok(Answer::TakenBack(Undone::Left(left))) => format!(in alloc; "undone {left}"),
-        Ok(Answer::TakenBack(Undone::Ended)) => String::from_str(alloc, "ended"),
-        Ok(Answer::Committed(position)) => format!(in alloc; "committed {position}"),
+        Ok(answer) => answer_text(alloc, &answer),
         Err(cause) => format!(in alloc; "{cause}"),
+    }
+}
+
+fn answer_text(alloc: Global, answer: &Answer) -> Result<String, AllocError> {
+    match answer {
+        Answer::Created => String::from_str(alloc, "created"),
+        Answer::Begun(trx) => format!(in alloc; "trx {trx}"),
+        Answer::Changed => String::from_str(alloc, "ok"),
+        Answer::Shown(None) => String::from_str(alloc, "none"),
+        Answer::Shown(Some(value)) => shown_text(alloc, value),
+        Answer::TakenBack(undone) => undone_text(alloc, *undone),
+        Answer::Committed(position) => format!(in alloc; "committed {position}"),
+    }
+}
+
+fn shown_text(alloc: Global, value: &Value) -> Result<String, AllocError> {
+    let mut text = String::from_str(alloc, "value ")?;
+    push_value(&mut text, value.bytes())?;
+    Ok(text)
+}
+
+fn undone_text(alloc: Global, undone: Undone) -> Result<String, AllocError> {
+    match undone {
+        Undone::Left(left) => format!(in alloc; "undone {left}"),
+        Undone::Ended => String::from_str(alloc, "ended"),
     }
 }
 

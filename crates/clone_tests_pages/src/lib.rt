@@ -1,9 +1,7 @@
-//! The tests of what changes pages: mini-transactions, images, stores and recovery.
-//! They stand apart, since a crate with tests is proved twice.
+//! The tests of what changes pages: mini-transactions, rows, undo, overlays and recovery. They stand
+//! apart, since a crate with tests is proved twice.
 #![tactic(auto)]
 
-#[cfg(test)]
-mod image;
 #[cfg(test)]
 mod mtr;
 #[cfg(test)]
@@ -14,7 +12,5 @@ mod recover;
 mod row;
 #[cfg(test)]
 mod shadow;
-#[cfg(test)]
-mod store;
 #[cfg(test)]
 mod undo;

@@ -1,17 +1,12 @@
 -- Which cause there is against a call, and what it means that there is none.
-use Rattle.std.proofs.Common.{◌≡◌, ◌≢◌, ◌<◌, ◌≤◌, ◌⊎◌, ℕ, Bool, true, false, cond, length, Bor, Option, Some, None, refl, sym, ap, ◌∙◌, inl, inr, arith, eq-eqb, eqb-true, ◌==◌, not, is_some, option_copied, Result, Ok, Err, IsErrAnd, MatchResult, le-ltb}
-use Rattle.clone_trx.proofs.Common.{option_or, Commit, Cause, NoSuchTrx, NoSuchTable, RowLocked, ValueTooLong, UndoFull, Donor, changes_of, whether, no_trx, no_table, too_long, undo_full, row_locked, locked_by, VALUE_LIMIT, CHANGE_LIMIT, change_cause, IsLocked, changes_of_active}
+use Rattle.std.proofs.Common.{◌≡◌, ◌≢◌, ◌<◌, ◌⊎◌, ℕ, Bool, true, false, cond, length, Bor, Option, Some, None, refl, sym, ap, ◌∙◌, inl, inr, arith, eq-eqb, eqb-true, ◌==◌, not, is_some, option_copied}
+use Rattle.clone_trx.proofs.Common.{option_or, Commit, Cause, NoSuchTrx, NoSuchTable, RowLocked, Donor, changes_of, whether, no_trx, no_table, too_long, undo_full, row_locked, locked_by, CHANGE_LIMIT, change_cause, IsLocked, changes_of_active}
 use Rattle.std.specs.FinMap as finite
 
 -- what is borrowed of a map stands there
 pub copied_there : {X : Type 0} (o : Option (Bor X)) (there : Option X) → option_copied o ≡ there → is_some o ≡ true → (x : X) × (there ≡ Some x)
 copied_there None there same is = absurd (let e = is in cc)
 copied_there (Some x) there same is = (x.now, sym same)
-
--- a refusal that is passed on
-pub err_only : {X E : Type 0} (r : Result X E) (P : X → Type 0) (F Q : E → Type 0) → IsErrAnd r F → ((e : E) → F e → Q e) → MatchResult r P Q
-err_only (Ok x) P F Q told passes = absurd told
-err_only (Err e) P F Q told passes = passes e told
 
 pub not_equal : (a b : ℕ) → a ≢ b → (a == b) ≡ false
 not_equal a b other = at (a == b) refl
@@ -25,14 +20,11 @@ not_equal a b other = at (a == b) refl
 pub passed : {first rest : Option Cause} → first ≡ None → option_or first rest ≡ rest
 passed {first} {rest} none = ap (λ (o : Option Cause). option_or o rest) none
 
-pub stopped : {first : Option Cause} {cause : Cause} (rest : Option Cause) → first ≡ Some cause → option_or first rest ≡ Some cause
-stopped rest is = ap (λ (o : Option Cause). option_or o rest) is
-
-both_none : (a b : Option Cause) → option_or a b ≡ None → (a ≡ None) × (b ≡ None)
+pub both_none : (a b : Option Cause) → option_or a b ≡ None → (a ≡ None) × (b ≡ None)
 both_none None b none = (refl, none)
 both_none (Some cause) b none = absurd (let e = none in cc)
 
-is_not : (b : Bool) (cause : Cause) → whether b cause ≡ None → b ≡ false
+pub is_not : (b : Bool) (cause : Cause) → whether b cause ≡ None → b ≡ false
 is_not true cause none = absurd (let e = none in cc)
 is_not false cause none = refl
 
@@ -46,9 +38,6 @@ trx_there d trx commit is = ap (λ (o : Option Commit). whether (not (is_some o)
 pub table_there : (d : Donor) (table count : ℕ) → finite.get d.tables table ≡ Some count → no_table d table ≡ None
 table_there d table count is = ap (λ (o : Option ℕ). whether (not (is_some o)) NoSuchTable) is
 
-pub table_away : (d : Donor) (table : ℕ) → finite.get d.tables table ≡ None → no_table d table ≡ Some NoSuchTable
-table_away d table none = ap (λ (o : Option ℕ). whether (not (is_some o)) NoSuchTable) none
-
 -- the lock of a row is free, or it is held by the transaction
 pub own_or_free : (trx : ℕ) (o : Option ℕ) → locked_by trx o ≡ None → (o ≡ None) ⊎ (o ≡ Some trx)
 own_or_free trx None none = inl refl
@@ -59,33 +48,6 @@ own_or_free trx (Some holder) none = at (holder == trx) refl none
     at false other free = absurd (let e = free in cc)
 
 -- A change.
-
--- what is known once a transaction is found whose value isn't too long
-pub record Starts (d : Donor) (trx long : ℕ) (commit : Commit) : Type 0 where
-  pub is : finite.get d.active trx ≡ Some commit
-  pub short : long ≤ VALUE_LIMIT
-
--- and then the table, by how many buckets it has
-pub record Goes (d : Donor) (trx table long count : ℕ) (commit : Commit) : Type 0 where
-  pub starts : Starts d trx long commit
-  pub there : finite.get d.tables table ≡ Some count
-
-module _ {d : Donor} {trx long : ℕ} {commit : Commit} where
-  begun : {rest : Option Cause} → Starts d trx long commit → option_or (no_trx d trx) (option_or (too_long long) rest) ≡ rest
-  begun starts = passed (trx_there d trx commit starts.is) ∙ passed (ap (λ (b : Bool). whether b ValueTooLong) (le-ltb VALUE_LIMIT long starts.short))
-
-  full_by : Starts d trx long commit → (b : Bool) → (length commit.changes == CHANGE_LIMIT) ≡ b → undo_full d trx ≡ whether b UndoFull
-  full_by starts b is = ap (λ cs. whether (length cs == CHANGE_LIMIT) UndoFull) (changes_of_active d trx commit starts.is) ∙ ap (λ (b : Bool). whether b UndoFull) is
-
-  pub change_without_table : (table key : ℕ) → Starts d trx long commit → finite.get d.tables table ≡ None → change_cause d trx table key long ≡ Some NoSuchTable
-  change_without_table table key starts none = begun starts ∙ stopped _ (table_away d table none)
-
-  pub change_too_many : {table count : ℕ} (key : ℕ) → Goes d trx table long count commit → length commit.changes ≡ CHANGE_LIMIT → change_cause d trx table key long ≡ Some UndoFull
-  change_too_many {table} {count} key goes many = begun goes.starts ∙ passed (table_there d table count goes.there) ∙ stopped _ (full_by goes.starts true (eq-eqb (length commit.changes) CHANGE_LIMIT many))
-
-  -- with room for its undo record, only a lock may stand against it
-  pub change_by_lock : {table count : ℕ} (key : ℕ) → Goes d trx table long count commit → length commit.changes ≢ CHANGE_LIMIT → change_cause d trx table key long ≡ row_locked d trx table key
-  change_by_lock {table} {count} key goes few = begun goes.starts ∙ passed (table_there d table count goes.there) ∙ passed (full_by goes.starts false (not_equal (length commit.changes) CHANGE_LIMIT few))
 
 -- there is no cause against it: the transaction is open and has room, the table is there, and the row is free
 pub record MayChange (d : Donor) (trx table key : ℕ) : Type 0 where

@@ -1,13 +1,15 @@
--- An engine after a change that was made at its place, and after one that was taken away at once.
-use Rattle.std.proofs.Common.{◌≡◌, ◌≢◌, ◌<◌, ◌≤◌, ◌+◌, ◌-◌, ◌%◌, ◌==◌, ◌⊎◌, ℕ, Bool, true, false, List, [], ◌∷◌, ◌++◌, length, take, replicate, sym, ap, subst, ◌∙◌, arith, inl, inr, Option, Some, None, IfSome, MatchOption, if◌then◌else◌, unwrap_or, nat_cmp, length-append}
-use Rattle.clone_trx.proofs.Common.{nat_cmp-IsAntisymmetric, same_map, nat_cmp_total, take-append_seam, cases_eq, length-replicate, big_bytes, length-bytes_high_first, get-set_same, get-set_other, Change, Commit, Record, bound_key, slots, Finds, FindsFree, UndoEntry, IsEntry, record_page, records_of_change, Image, page_of, all_pages, first_lsn, all_pages-is, contents_of, is_unused, Donor, changes_of, change_cause, Changes, with_change, Opened, value_of, EngineState, page_number, keys_in, BindsKey, IsKept, Appends, AppendsChange, IsPlaceFor, Places, told, front_of, TakesLast, Pops}
+-- A change that was made at its place, and one that was taken away at once.
+use Rattle.std.proofs.Common.{◌≡◌, ◌≤◌, ◌-◌, ◌%◌, ◌==◌, ℕ, Bool, true, false, List, [], ◌∷◌, ◌++◌, length, take, replicate, sym, ap, subst, ◌∙◌, arith, inl, inr, Option, Some, None, IfSome, IsTrue, MatchOption, if◌then◌else◌, unwrap_or, nat_cmp, length-append}
+use Rattle.clone_trx.proofs.Common.{nat_cmp-IsAntisymmetric, same_map, nat_cmp_total, take-append_seam, cases_eq, length-replicate, big_bytes, length-bytes_high_first, get-set_same, get-set_other, Change, Commit, Record, UndoEntry, IsEntry, record_page, records_of_change, Image, page_of, all_pages, after_records, all_pages-is, contents_of, kind_of, is_unused, Donor, changes_of, Changes, with_change, Locks, Opened, value_of, page_number, IsKept, IsPlaceOn, IsPlaceFor, told, front_of, TakesLast, Pops}
 use Rattle.std.specs.FinMap as finite
 use Rattle.clone_row.specs.Slots as rows
-use Rattle.clone_trx.proofs.CauseLemmas.{MayChange, may_change}
-use Rattle.clone_trx.proofs.KeyPlaceLemmas.{bucket_page, may_take, on_page, free_slot}
+use Rattle.clone_buffer.specs.Buffered.{Buffered, image_of}
+use Rattle.clone_trx.specs.Calls.{is_new}
+use Rattle.clone_trx.proofs.CauseLemmas.{MayChange}
+use Rattle.clone_trx.proofs.KeyPlaceLemmas.{bucket_page, may_take}
 use Rattle.clone_trx.proofs.SoundChangeLemmas.{Puts}
 use Rattle.clone_trx.proofs.RowSlotLemmas.{MayTake}
-use Rattle.clone_trx.proofs.KeptLemmas.{PutKeeps, put_keeps}
+use Rattle.clone_trx.proofs.KeptLemmas.{change_of, put_keeps}
 
 -- a value whose slot has 80 bytes is short
 pub short_value : (key : ℕ) (value : Option (List ℕ)) → length (rows.image key value) ≡ 80 → IfSome value (λ v. length v ≤ 64)
@@ -24,24 +26,23 @@ pub made_by : (first : ℕ) (unused : Bool) → first ≡ (if unused then 0 else
 made_by first true is = ap (λ n. n == 0) is
 made_by first false is = ap (λ n. n == 0) is
 
--- A change that was made at its place.
-pub record IsMade (before after : EngineState) (trx : ℕ) (change : Change) (entry : UndoEntry) (unused fresh : Bool) (count long : ℕ) : Type 0 where
-  pub kept : IsKept before.donor before.image
-  pub no_cause : change_cause before.donor trx change.table change.key long ≡ None
-  pub place : IsPlaceFor before trx change.table change.key entry fresh count
-  pub eighty : length (rows.image change.key change.value) ≡ 80
-  pub unused_told : unused ≡ is_unused before.image 0 (record_page trx count)
-  pub donor : after.donor ≡ record before.donor { active = after.donor.active; locks = after.donor.locks }
-  pub active : IfSome (finite.get before.donor.active trx) (λ commit. after.donor.active ≡ finite.insert before.donor.active trx (with_change change commit))
-  pub locks : after.donor.locks ≡ finite.insert before.donor.locks (change.table, change.key) trx
-  pub appends : Appends (records_of_change unused fresh trx count entry (rows.image change.key change.value)) before after
+-- so it is by the page that was read
+pub first_made : (image : Image) (number first : ℕ) (page : List ℕ) → page_of image 0 number ≡ Some page → first ≡ (if is_new page then 0 else 1) → (first == 0) ≡ is_unused image 0 number
+first_made image number first page there is = made_by first (is_new page) is ∙ sym (ap (λ (p : List ℕ). kind_of p == 0) (all_pages-is image 0 number page there))
 
-module _ (before after : EngineState) (trx : ℕ) (change : Change) (entry : UndoEntry) (unused_page fresh : Bool) (count long : ℕ) (g : IsMade before after trx change entry unused_page fresh count long) where
-  abbrev d : Donor
-  d = before.donor
+-- A change that was made at its place, where all that was read is right.
+pub record IsMade (d after : Donor) (b : Buffered) (trx : ℕ) (change : Change) (entry : UndoEntry) (new_page is_new : Bool) (count : ℕ) : Type 0 where
+  pub right : IsTrue b.right
+  pub kept : IsKept d (image_of b)
+  pub may : MayChange d trx change.table change.key
+  pub place : IsPlaceFor d trx change b entry is_new count
+  pub short : IfSome change.value (λ v. length v ≤ 64)
+  pub new : new_page ≡ is_unused (image_of b) 0 (record_page trx count)
+  pub made : Changes d trx change after
 
-  abbrev may : MayChange d trx change.table change.key
-  may = may_change d trx change.table change.key long g.kept.sound.locked g.no_cause
+module _ (d after : Donor) (b : Buffered) (trx : ℕ) (change : Change) (entry : UndoEntry) (new_page is_new : Bool) (count : ℕ) (g : IsMade d after b trx change entry new_page is_new count) where
+  abbrev image : Image
+  image = image_of b
 
   abbrev bytes : List ℕ
   bytes = rows.image change.key change.value
@@ -49,96 +50,52 @@ module _ (before after : EngineState) (trx : ℕ) (change : Change) (entry : Und
   abbrev total : ℕ
   total = length (changes_of d trx)
 
-  abbrev e : UndoEntry
-  e = told d change.table change.key entry.slot (value_of d change.table change.key)
-
   abbrev number : ℕ
   number = page_number d change.table change.key
 
-  -- the donor makes a step of the plain donor
-  pub made_change : Changes d trx change after.donor
-  made_change = record {
-    commit = may.commit;
-    buckets = may.buckets;
-    was_active = may.was_active;
-    was_table = may.was_table;
-    is = g.donor ∙ (λ i. record d { active = (subst (λ (o : Option Commit). IfSome o (λ commit. after.donor.active ≡ finite.insert d.active trx (with_change change commit))) may.was_active g.active) i; locks = g.locks i });
-  }
+  number_is : number ≡ change.key % g.may.buckets
+  number_is = ap (λ o. change.key % unwrap_or o 0) g.may.was_table
 
-  -- Its page and its place there.
+  there : (page : List ℕ) × (page_of image change.table (change.key % g.may.buckets) ≡ Some page)
+  there = bucket_page g.kept change.table change.key g.may.buckets g.may.was_table
 
-  number_is : number ≡ change.key % may.buckets
-  number_is = ap (λ o. change.key % unwrap_or o 0) may.was_table
+  same_page : all_pages image change.table number ≡ there.0
+  same_page = ap (all_pages image change.table) number_is ∙ all_pages-is image change.table (change.key % g.may.buckets) there.0 there.1
 
-  there : (page : List ℕ) × (page_of before.image change.table (change.key % may.buckets) ≡ Some page)
-  there = bucket_page g.kept change.table change.key may.buckets may.was_table
+  on_page : IsPlaceOn change.key there.0 entry.slot
+  on_page = subst (λ (p : List ℕ). IsPlaceOn change.key p entry.slot) ((λ i. all_pages image (g.place.table i) (g.place.page i)) ∙ same_page) (g.place.place g.right)
 
-  same_page : all_pages before.image change.table number ≡ there.0
-  same_page = ap (all_pages before.image change.table) number_is ∙ all_pages-is before.image change.table (change.key % may.buckets) there.0 there.1
+  may_hold : MayTake (contents_of image) change.table (change.key % g.may.buckets) entry.slot change.key
+  may_hold = may_take d image change.table change.key g.may.buckets there.0 g.kept g.may.was_table there.1 entry.slot on_page
 
-  on_number : Places change.key (all_pages before.image change.table number) (Some entry.slot)
-  on_number = subst (λ (u : UndoEntry). Places change.key (all_pages before.image change.table u.page) (Some entry.slot)) g.place.told g.place.place
+  told_is : entry ≡ told d change.table change.key entry.slot (value_of d change.table change.key)
+  told_is = g.place.told g.right
 
-  places : Places change.key there.0 (Some entry.slot)
-  places = subst (λ (p : List ℕ). Places change.key p (Some entry.slot)) same_page on_number
-
-  may_hold : MayTake (contents_of before.image) change.table (change.key % may.buckets) entry.slot change.key
-  may_hold = may_take d before.image change.table change.key may.buckets there.0 g.kept may.was_table there.1 entry.slot places
-
-  puts : Puts d after.donor (contents_of before.image) trx change entry.slot
+  puts : Puts d after (contents_of image) trx change entry.slot
   puts = record {
-    made = made_change;
-    lock = may.lock;
-    room = may.few;
-    short = short_value change.key change.value g.eighty;
-    is_place = subst (λ (n : ℕ). MayTake (contents_of before.image) change.table n entry.slot change.key) (sym number_is) may_hold;
-    in_range = subst IsEntry g.place.told g.place.in_range;
+    made = g.made;
+    lock = g.may.lock;
+    room = g.may.few;
+    short = g.short;
+    is_place = subst (λ (n : ℕ). MayTake (contents_of image) change.table n entry.slot change.key) (sym number_is) may_hold;
+    in_range = subst IsEntry told_is g.place.in_range;
   }
 
-  -- What was written.
-
-  undo_told : unused_page ≡ is_unused before.image 0 (record_page trx total)
-  undo_told = g.unused_told ∙ ap (λ n. is_unused before.image 0 (record_page trx n)) g.place.count
-
-  row_told : fresh ≡ is_unused before.image change.table e.page
-  row_told = g.place.unused ∙ ap (λ (u : UndoEntry). is_unused before.image change.table u.page) g.place.told
-
-  same_records : records_of_change unused_page fresh trx count entry bytes ≡ records_of_change (is_unused before.image 0 (record_page trx total)) (is_unused before.image change.table e.page) trx total e bytes
-  same_records = λ i. records_of_change (undo_told i) (row_told i) trx (g.place.count i) (g.place.told i) bytes
-
-  -- the log grows by the records of the change
-  pub made_text : AppendsChange trx change before after
-  made_text = record { place = entry.slot; is_place = on_number; appends = subst (λ (records : List Record). Appends records before after) same_records g.appends }
-
-  keeps : PutKeeps after.donor before.image after.image change.table number entry.slot change.key
-  unfolding made_text
-  keeps =
-      subst (λ (image : Image). PutKeeps after.donor before.image image change.table number entry.slot change.key) (sym made_text.appends.image)
-      (put_keeps (first_lsn + length after.log) trx entry.slot d after.donor before.image change g.kept puts)
+  same_records : records_of_change new_page is_new trx count entry bytes ≡ change_of d image trx change entry.slot
+  same_records = λ i. records_of_change
+      ((g.new ∙ ap (λ n. is_unused image 0 (record_page trx n)) g.place.count) i)
+      ((g.place.unused g.right ∙ ap (λ (u : UndoEntry). is_unused image u.table u.page) told_is) i) trx (g.place.count i) (told_is i) bytes
 
   -- the pages are those of the donor after the change
-  pub made_kept : IsKept after.donor after.image
-  made_kept = keeps.kept
+  pub made_kept : (lsn : ℕ) → IsKept after (after_records lsn image (records_of_change new_page is_new trx count entry bytes))
+  made_kept lsn = subst (λ (records : List Record). IsKept after (after_records lsn image records)) (sym same_records) (put_keeps lsn trx entry.slot d after image change g.kept puts)
 
-  abbrev at : ℕ → Option ℕ
-  at j = keys_in before.image change.table (change.key % may.buckets) j
-
-  first_one : (at entry.slot ≡ Some change.key) ⊎ ((at entry.slot ≡ None) × ((j : ℕ) → at j ≢ Some change.key) × ((j : ℕ) → j < entry.slot → at j ≢ None))
-  first_one = by may_hold places.1
-    where
-      by : MayTake (contents_of before.image) change.table (change.key % may.buckets) entry.slot change.key → Finds change.key (slots there.0) (Some entry.slot) ⊎ (Finds change.key (slots there.0) None × FindsFree (slots there.0) (Some entry.slot)) → (at entry.slot ≡ Some change.key) ⊎ ((at entry.slot ≡ None) × ((j : ℕ) → at j ≢ Some change.key) × ((j : ℕ) → j < entry.slot → at j ≢ None))
-      by (inl bound) either = inl bound
-      by (inr new) (inl bound) = absurd (new.1 entry.slot (ap bound_key (on_page d before.image change.table change.key may.buckets there.0 g.kept may.was_table there.1 entry.slot) ∙ bound.1))
-      by (inr new) (inr free) = inr (ap bound_key new.0, new.1, λ j low none. free.1.2 j low (free_slot d before.image change.table change.key may.buckets there.0 g.kept may.was_table there.1 j none))
-
-  -- the row's key is bound to its place
-  pub made_keys : BindsKey change.table number change.key (keys_in before.image) (keys_in after.image)
-  made_keys = record {
-    place = entry.slot;
-    on_page = places.0;
-    first = subst (λ (n : ℕ). (keys_in before.image change.table n entry.slot ≡ Some change.key) ⊎ ((keys_in before.image change.table n entry.slot ≡ None) × ((j : ℕ) → keys_in before.image change.table n j ≢ Some change.key) × ((j : ℕ) → j < entry.slot → keys_in before.image change.table n j ≢ None))) (sym number_is) first_one;
-    is = keeps.keys;
-  }
+-- what joined the others of its transaction, with the row's lock, is a change
+pub made_change : (d : Donor) (trx : ℕ) (change : Change) (active : Opened) (locks : Locks) → MayChange d trx change.table change.key → IfSome (finite.get d.active trx) (λ c. active ≡ finite.insert d.active trx (with_change change c)) → locks ≡ finite.insert d.locks (change.table, change.key) trx
+    → Changes d trx change (record d { active = active; locks = locks })
+made_change d trx change active locks m joined locked =
+    let with_it : active ≡ finite.insert d.active trx (with_change change m.commit) = subst (λ (o : Option Commit). IfSome o (λ c. active ≡ finite.insert d.active trx (with_change change c))) m.was_active joined in
+    record { commit = m.commit; buckets = m.buckets; was_active = m.was_active; was_table = m.was_table; is = λ i. record d { active = with_it i; locks = locked i } }
 
 -- A change that joined those of its transaction and left them at once.
 

@@ -21,7 +21,6 @@ pub use Rattle.clone_image.specs.Rows.{HasRows}
 pub use Rattle.clone_contents.proofs.ChangeLemmas.{undo_is, undo_there, change_is, page_there}
 pub use Rattle.clone_contents.proofs.SameContents.{set_at-other, set_at-same, slot-same, cases_place, slot-other}
 pub use Rattle.clone_contents.specs.Records.{system_size}
-pub use Rattle.clone_store.specs.Stored.{Writes, Keeps, Stored}
 pub use Rattle.clone_plain.proofs.LockLemmas.{taken_locked, committed_locked, begun_locked, left_locked, changed_locked}
 pub use Rattle.clone_plain.proofs.ValueLemmas.{changes_of_active, own-set, others-set, others-removed, taken_value, own_value, SameOthers, after_changes_same, committed_other, committed_value, begun_value, left_value, after_changes-append, value_is, changed_value, changed_value_other, taken_value_other}
 pub use Rattle.clone_plain.specs.Causes.{change_cause, no_trx, whether, row_locked, least_unused, no_table, too_long, undo_full, locked_by, get_cause}
@@ -30,10 +29,8 @@ pub use Rattle.clone_plain.specs.Donor.{Locks, history}
 pub use Rattle.clone_plain.specs.Effects.{created, Gets}
 pub use Rattle.clone_plain.specs.declared.refusal.Cause.{Cause}
 pub use Rattle.clone_plain.specs.declared.refusal.Cause.TheVariants.{NoSuchTable, SpaceFull, NoSuchTrx, RowLocked, ValueTooLong, UndoFull}
-pub use Rattle.clone_trx.specs.Engine.{EngineState, page_number, donor_of}
-pub use Rattle.clone_trx.specs.Keys.{keys_in, BindsKey, Keys, full_cause, may_hold}
 pub use Rattle.clone_trx.specs.Locked.{holders_of, without, Lists, list_at, AreListed}
-pub use Rattle.clone_trx.specs.Opened.{front_of, TakesLast, Pops, opened_of}
-pub use Rattle.clone_trx.specs.Places.{IsPlaceFor, Places, told, state_of_row, held_value, HasValue}
+pub use Rattle.clone_trx.specs.Kept.{IsSafe, AreTables, Keeps, AreLoose, Has, IsHeld, IsPlaceFor, IsLast, IsLastRecord}
+pub use Rattle.clone_trx.specs.Opened.{donor_of, front_of, TakesLast, Pops, opened_of}
+pub use Rattle.clone_trx.specs.Places.{IsPlaceOn, page_number, place_in, told, state_of_row, held_value, HasValue}
 pub use Rattle.clone_trx.specs.Sound.{IsKept, StandsFor, IsSound, TellsChanges, TellsChange, IsUndoSlot, HoldsRows, Slots, HoldsTables, IsBound, HoldsUndo}
-pub use Rattle.clone_trx.specs.Written.{Appends, AppendsChange, AppendsTakingBack, AppendsBegin, AppendsCreate}

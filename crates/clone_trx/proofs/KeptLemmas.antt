@@ -1,6 +1,6 @@
 -- Each mini-transaction of the engine keeps its image formed, and what the plain donor is.
 use Rattle.std.proofs.Common.{◌≡◌, ◌≢◌, ℕ, ◌<◌, ◌≤◌, ◌+◌, ◌++◌, ◌^◌, List, [], ◌∷◌, length, refl, sym, ap, subst, ◌∙◌, arith, Option, Some, None, is_some}
-use Rattle.clone_trx.proofs.Common.{AllByRecursion, same_Some, Change, Commit, Record, UndoEntry, IsEntry, UndoSlot, header_page, record_page, capacity, records_of_begin, records_of_change, records_of_taking_back, records_of_end, Image, after_records, undo_slot_of, Contents, contents_of, set_at, told_value, HasContents, opening_records, create_records, commit_records, is_unused, change_is, undo_is, Donor, no_donor, changes_of, least_unused, TABLE_LIMIT, TRANSACTION_LIMIT, created, begun, TakesBack, Leaves, Commits, value_of, committed_rows, page_number, Keys, keys_in, told, IsSound, IsKept, IsUndoSlot, StandsFor}
+use Rattle.clone_trx.proofs.Common.{AllByRecursion, same_Some, Change, Commit, Record, UndoEntry, IsEntry, UndoSlot, header_page, record_page, capacity, records_of_begin, records_of_change, records_of_taking_back, records_of_end, Image, after_records, undo_slot_of, Contents, contents_of, HasContents, opening_records, create_records, commit_records, is_unused, change_is, undo_is, Donor, no_donor, changes_of, least_unused, TABLE_LIMIT, TRANSACTION_LIMIT, created, begun, TakesBack, Leaves, Commits, value_of, committed_rows, told, IsSound, IsKept, IsUndoSlot, StandsFor}
 use Rattle.std.specs.FinMap as finite
 use Rattle.clone_row.specs.Slots as rows
 use Rattle.clone_contents.proofs.OpeningLemmas.{opening_is}
@@ -9,7 +9,6 @@ use Rattle.clone_contents.proofs.UndoSlotLemmas.{begin_is, end_is}
 use Rattle.clone_contents.proofs.TakingBackLemmas.{taking_back_is}
 use Rattle.clone_contents.proofs.CommitLemmas.{commit_is}
 use Rattle.clone_trx.proofs.ScanLemmas.{least_free_is}
-use Rattle.clone_trx.proofs.RowSlotLemmas.{keys_of, set_keys, same_keys}
 use Rattle.clone_trx.proofs.UndoRecordLemmas.{own_slot, counted, in_range}
 use Rattle.clone_trx.proofs.TableLemmas.{created_sound}
 use Rattle.clone_trx.proofs.OpenTransactionLemmas.{begun_sound, left_sound}
@@ -17,36 +16,24 @@ use Rattle.clone_trx.proofs.CommitLemmas.{opened_sound, committed_sound}
 use Rattle.clone_trx.proofs.SoundChangeLemmas.{Puts, e, slot, may_change, put_sound, same_count}
 use Rattle.clone_trx.proofs.TakingBackLemmas.{may_take, count_is, taken_sound}
 
--- the pages keep what the donor is, and each place has the key that it had
-pub record Keeps (d : Donor) (image new : Image) : Type 0 where
-  pub kept : IsKept d new
-  pub keys : keys_in new ≡ keys_in image
-
 kept : {d : Donor} {image : Image} {c : Contents} → HasContents image c → IsSound d c → IsKept d image
 kept {d} has sound = record { formed = has.0; sound = subst (IsSound d) (sym has.1) sound }
-
-keeps : {d : Donor} {image new : Image} {c : Contents} → HasContents new c → IsSound d c → keys_of c ≡ keys_in image → Keeps d image new
-keeps has sound same = record { kept = kept has sound; keys = ap keys_of has.1 ∙ same }
 
 pub opening_keeps : (lsn : ℕ) → IsKept no_donor (after_records lsn finite.empty opening_records)
 opening_keeps lsn = kept (opening_is lsn) opened_sound
 
--- no place is bound to a key yet
-pub opening_keys : (lsn : ℕ) → keys_in (after_records lsn finite.empty opening_records) ≡ (λ table page place. None)
-opening_keys lsn = ap keys_of (opening_is lsn).1
-
 pub create_keeps : (lsn table buckets : ℕ) (d : Donor) (image : Image) → IsKept d image → finite.get d.tables table ≡ None → finite.len d.tables < TABLE_LIMIT → 1 ≤ table → table ≤ 1000000 → 1 ≤ buckets → buckets ≤ 1024
-    → Keeps (created table buckets d) image (after_records lsn image (create_records (finite.len d.tables) table buckets))
+    → IsKept (created table buckets d) (after_records lsn image (create_records (finite.len d.tables) table buckets))
 create_keeps lsn table buckets d image is none room low high some few =
     let used : table ≢ 0 = λ zero. omega (arith, zero, low) in
-    keeps (create_is image lsn (finite.len d.tables) table buckets is.formed record { room = room; used = low; low = high; free = is.sound.tables.spaces table used none })
-    (created_sound d (contents_of image) (finite.len d.tables) table buckets is.sound none (λ i. finite.len d.tables) room used low high some few) refl
+    kept (create_is image lsn (finite.len d.tables) table buckets is.formed record { room = room; used = low; low = high; free = is.sound.tables.spaces table used none })
+    (created_sound d (contents_of image) (finite.len d.tables) table buckets is.sound none (λ i. finite.len d.tables) room used low high some few)
 
 pub begin_keeps : (lsn trx writer index : ℕ) (d : Donor) (image : Image) → IsKept d image → least_unused d.active ≡ Some trx → writer < 2 ^ 32 → index < 2 ^ 64
-    → Keeps (begun trx writer index d) image (after_records lsn image (records_of_begin (is_unused image 0 (header_page trx)) trx writer index))
+    → IsKept (begun trx writer index d) (after_records lsn image (records_of_begin (is_unused image 0 (header_page trx)) trx writer index))
 begin_keeps lsn trx writer index d image is least writer_fits index_fits =
     let free = least_free_is d trx least in
-    keeps (begin_is image lsn trx writer index is.formed free.0 writer_fits index_fits) (begun_sound d (contents_of image) trx writer index free.0 free.1 is.sound) refl
+    kept (begin_is image lsn trx writer index is.formed free.0 writer_fits index_fits) (begun_sound d (contents_of image) trx writer index free.0 free.1 is.sound)
 
 -- the records of a change
 abbrev pub change_of : Donor → Image → ℕ → Change → ℕ → List Record
@@ -55,34 +42,23 @@ change_of d image trx change place =
     let entry = told d change.table change.key place (value_of d change.table change.key) in
     records_of_change (is_unused image 0 (record_page trx count)) (is_unused image entry.table entry.page) trx count entry (rows.image change.key change.value)
 
--- the key of the row is bound to the place
-abbrev pub with_key : ℕ → ℕ → ℕ → ℕ → Keys → Keys
-with_key table page place key keys = set_at table (set_at page (set_at place (Some key) (keys table page)) (keys table)) keys
-
-pub record PutKeeps (d : Donor) (image new : Image) (table page place key : ℕ) : Type 0 where
-  pub kept : IsKept d new
-  pub keys : keys_in new ≡ with_key table page place key (keys_in image)
-
 pub put_keeps : (lsn trx place : ℕ) (d after : Donor) (image : Image) (change : Change) → IsKept d image → Puts d after (contents_of image) trx change place
-    → PutKeeps after image (after_records lsn image (change_of d image trx change place)) change.table (page_number d change.table change.key) place change.key
+    → IsKept after (after_records lsn image (change_of d image trx change place))
 put_keeps lsn trx place d after image change is p =
     let c : Contents = contents_of image in
     let entry = e d after c trx change place is.sound p in
     let has = change_is image lsn trx (slot d after c trx change place is.sound p) entry change.value is.formed (may_change d after c trx change place is.sound p) in
-    subst (λ (n : ℕ). PutKeeps after image (after_records lsn image (records_of_change (is_unused image 0 (record_page trx n)) (is_unused image entry.table entry.page) trx n entry (rows.image change.key change.value))) change.table (page_number d change.table change.key) place change.key)
+    subst (λ (n : ℕ). IsKept after (after_records lsn image (records_of_change (is_unused image 0 (record_page trx n)) (is_unused image entry.table entry.page) trx n entry (rows.image change.key change.value))))
     (same_count d after c trx change place is.sound p)
-    (record {
-      kept = kept has (put_sound d after c trx change place is.sound p);
-      keys = ap keys_of has.1 ∙ set_keys c change.table (page_number d change.table change.key) place change.key change.value;
-    })
+    (kept has (put_sound d after c trx change place is.sound p))
 
 pub take_back_keeps : (lsn trx left : ℕ) (d after : Donor) (image : Image) (slot : UndoSlot) (front : List UndoEntry) (e : UndoEntry) → IsKept d image → TakesBack d trx left after → (contents_of image).undo trx ≡ Some slot → slot.records ≡ front ++ e ∷ []
-    → Keeps after image (after_records lsn image (records_of_taking_back trx (left + 1) e))
+    → IsKept after (after_records lsn image (records_of_taking_back trx (left + 1) e))
 take_back_keeps lsn trx left d after image slot front e is t used last =
     let c : Contents = contents_of image in
     let may = may_take d after c trx left slot front e is.sound t used last in
-    subst (λ (n : ℕ). Keeps after image (after_records lsn image (records_of_taking_back trx n e))) (count_is d after c trx left slot front e is.sound t used last)
-    (keeps (taking_back_is image lsn trx slot front e is.formed may) (taken_sound d after c trx left slot front e is.sound t used last) (same_keys c e.table e.page e.slot e.key (told_value e) may.bound))
+    subst (λ (n : ℕ). IsKept after (after_records lsn image (records_of_taking_back trx n e))) (count_is d after c trx left slot front e is.sound t used last)
+    (kept (taking_back_is image lsn trx slot front e is.formed may) (taken_sound d after c trx left slot front e is.sound t used last))
 
 -- the undo slot of an open transaction
 pub record InUse (d : Donor) (image : Image) (trx : ℕ) (commit : Commit) : Type 0 where
@@ -98,15 +74,15 @@ in_use d image trx commit is active =
 abbrev slot_used : {d : Donor} {image : Image} {trx : ℕ} {commit : Commit} → InUse d image trx commit → UndoSlot
 slot_used {commit = commit} u = record { writer = commit.writer; index = commit.index; records = u.own.records }
 
-pub leave_keeps : (lsn trx : ℕ) (d after : Donor) (image : Image) → IsKept d image → Leaves d trx after → Keeps after image (after_records lsn image (records_of_end trx))
+pub leave_keeps : (lsn trx : ℕ) (d after : Donor) (image : Image) → IsKept d image → Leaves d trx after → IsKept after (after_records lsn image (records_of_end trx))
 leave_keeps lsn trx d after image is l =
     let u = in_use d image trx l.commit is l.was_active in
-    keeps (end_is image lsn trx (slot_used u) is.formed u.small u.own.is) (left_sound d after (contents_of image) trx l is.sound) refl
+    kept (end_is image lsn trx (slot_used u) is.formed u.small u.own.is) (left_sound d after (contents_of image) trx l is.sound)
 
-pub commit_keeps : (lsn trx position : ℕ) (d after : Donor) (image : Image) → IsKept d image → Commits d trx position after → position < 2 ^ 64 → Keeps after image (after_records lsn image (commit_records trx position))
+pub commit_keeps : (lsn trx position : ℕ) (d after : Donor) (image : Image) → IsKept d image → Commits d trx position after → position < 2 ^ 64 → IsKept after (after_records lsn image (commit_records trx position))
 commit_keeps lsn trx position d after image is k fits =
     let u = in_use d image trx k.commit is k.was_active in
-    keeps (commit_is image lsn trx position (slot_used u) is.formed u.small u.own.is fits) (committed_sound d after (contents_of image) trx position k is.sound) refl
+    kept (commit_is image lsn trx position (slot_used u) is.formed u.small u.own.is fits) (committed_sound d after (contents_of image) trx position k is.sound)
 
 -- an undo slot has no more records than fit, each in its ranges
 pub record KnownRecords (slot : UndoSlot) : Type 0 where

@@ -1,46 +1,56 @@
--- The last record of an undo slot, as its page tells it.
-use Rattle.std.proofs.Common.{◌≡◌, ◌≤◌, ◌+◌, ◌-◌, ◌++◌, ℕ, List, [], ◌∷◌, length, take, sym, ap, subst, ◌∙◌, arith, Option, Some, None, unwrap_or}
-use Rattle.clone_trx.proofs.Common.{drop-nil, length_push, part, UndoEntry, IsEntry, entry_of, record_page, record_place, UndoSlot, entry_on, Image, page_of, system_pages, undo_slot_of}
-use Rattle.clone_undo.proofs.Effects as undo
+-- What an undo record tells of a row counts where it is one of the row, else it counts as one of an absent row.
+use Rattle.std.proofs.Common.{◌≡◌, ◌≤◌, ◌<◌, ◌^◌, ◌==◌, ◌&&◌, inl, inr, ℕ, Bool, true, false, List, length, refl, sym, ap, ◌∙◌, arith, None, nat_lt, nat_le, eq-eqb, eqb-true}
+use Rattle.std.proofs.lemmas.Bool.{and_parts, and_from, ltb-true, leb-true, lt-ltb, le-leb, cond_both, cond-true, cond-false, false_from_ne_true}
+use Rattle.std.proofs.lemmas.List.{nil_from_length}
+use Rattle.clone_page.specs.Slots.{slot_count}
+use Rattle.clone_trx.proofs.Common.{UndoEntry, IsEntry, IsBefore, VALUE_LIMIT, Donor, page_number, told}
+use Rattle.clone_trx.specs.Calls.{tells_before, tells_of, before_change}
 
--- no bytes tell of no record that is in range
-no_entry : (i : ℕ) → IsEntry (entry_on i []) → ⊥
-no_entry i is =
-    let nothing : part (record_place i) 96 [] ≡ [] = ap (λ (bytes : List ℕ). take 96 bytes) (drop-nil (record_place i)) in
-    let table : (entry_on i []).table ≡ 0 = ap (λ (bytes : List ℕ). (entry_of bytes).table) nothing in
-    omega (arith, is.place.0, table)
+before_is : (e : UndoEntry) → tells_before e ≡ true → IsBefore e.state e.value
+before_is e is = by (e.state == 1) refl
+  where
+    by : (b : Bool) → (e.state == 1) ≡ b → IsBefore e.state e.value
+    by true one = inl (eqb-true e.state 1 one, leb-true (length e.value) VALUE_LIMIT (sym (cond-true (e.state == 1) (nat_le (length e.value) VALUE_LIMIT) ((e.state == 2) && (length e.value == 0)) one) ∙ is))
+    by false other =
+        let absent = and_parts (e.state == 2) (length e.value == 0) (sym (cond-false (e.state == 1) (nat_le (length e.value) VALUE_LIMIT) ((e.state == 2) && (length e.value == 0)) other) ∙ is) in
+        inr (eqb-true e.state 2 absent.0, nil_from_length e.value (eqb-true (length e.value) 0 absent.1))
 
--- an undo slot that has so many records, and one at least, which is in range
-abbrev pub HasRecords : Image → ℕ → ℕ → Type 0
-HasRecords image trx count = (slot : UndoSlot) × (front : List UndoEntry) × (e : UndoEntry) × (undo_slot_of image trx ≡ Some slot) × (slot.records ≡ front ++ e ∷ []) × (count ≡ length slot.records) × IsEntry e
+is_before : (e : UndoEntry) → IsBefore e.state e.value → tells_before e ≡ true
+is_before e (inl present) = cond-true (e.state == 1) (nat_le (length e.value) VALUE_LIMIT) ((e.state == 2) && (length e.value == 0)) (eq-eqb e.state 1 present.0) ∙ le-leb (length e.value) VALUE_LIMIT present.1
+is_before e (inr absent) =
+    cond-false (e.state == 1) (nat_le (length e.value) VALUE_LIMIT) ((e.state == 2) && (length e.value == 0)) (ap (λ n. n == 1) absent.0)
+    ∙ and_from (e.state == 2) (length e.value == 0) (eq-eqb e.state 2 absent.0) (ap (λ (v : List ℕ). length v == 0) absent.1)
 
-module _ (image : Image) (trx count : ℕ) (has : HasRecords image trx count) where
-  abbrev last : UndoEntry
-  last = has.2
+-- an undo record is of this row
+pub record IsOf (d : Donor) (t k : ℕ) (e : UndoEntry) : Type 0 where
+  pub table : e.table ≡ t
+  pub page : e.page ≡ page_number d t k
+  pub key : e.key ≡ k
 
-  counted : count ≡ length has.1 + 1
-  counted = has.5 ∙ ap length has.4 ∙ length_push has.1 last
+module _ (d : Donor) (table key : ℕ) (e : UndoEntry) where
+  abbrev absent : UndoEntry
+  absent = told d table key 0 None
 
-  pub some : 1 ≤ count
-  some = omega (arith, counted)
+  of_row : tells_of d table key e ≡ true → IsOf d table key e × (e.slot < slot_count) × IsBefore e.state e.value
+  of_row is =
+      let t = and_parts (e.table == table) _ is in
+      let p = and_parts (e.page == page_number d table key) _ t.1 in
+      let s = and_parts (nat_lt e.slot slot_count) _ p.1 in
+      let k = and_parts (e.key == key) (tells_before e) s.1 in
+      (record { table = eqb-true e.table table t.0; page = eqb-true e.page (page_number d table key) p.0; key = eqb-true e.key key k.0 }, ltb-true e.slot slot_count s.0, before_is e k.1)
 
-  on_page : last ≡ entry_on (count - 1) (system_pages image (record_page trx (count - 1)))
-  on_page =
-      let before : length has.1 ≡ count - 1 = omega (arith, counted) in
-      subst (λ (n : ℕ). last ≡ entry_on n (system_pages image (record_page trx n))) before (undo.last_is trx (system_pages image) has.0 has.1 last has.3 has.4)
+  -- one of the row that is in its ranges counts
+  pub before_same : IsOf d table key e → IsEntry e → before_change d table key e ≡ e
+  before_same o is =
+      cond-true (tells_of d table key e) e absent
+      (and_from (e.table == table) _ (eq-eqb e.table table o.table) (and_from (e.page == page_number d table key) _ (eq-eqb e.page (page_number d table key) o.page)
+      (and_from (nat_lt e.slot slot_count) _ (lt-ltb e.slot slot_count is.place.3) (and_from (e.key == key) (tells_before e) (eq-eqb e.key key o.key) (is_before e is.before)))))
 
-  told_by : (number : ℕ) (found : Option (List ℕ)) → number ≡ record_page trx (count - 1) → page_of image 0 number ≡ found → last ≡ entry_on (count - 1) (unwrap_or found [])
-  told_by number found is there = on_page ∙ ap (λ (n : ℕ). entry_on (count - 1) (system_pages image n)) (sym is) ∙ ap (λ (o : Option (List ℕ)). entry_on (count - 1) (unwrap_or o [])) there
+  -- another doesn't
+  pub before_other : (IsOf d table key e → IsEntry e → ⊥) → 1 ≤ table → table ≤ 1000000 → page_number d table key < 65536 → key < 2 ^ 64 → before_change d table key e ≡ absent
+  before_other not low high small fits = cond-false (tells_of d table key e) e absent (false_from_ne_true (tells_of d table key e) (λ is.
+      let o = of_row is in
+      not o.0 (record { place = (omega (arith, low, o.0.table), omega (arith, high, o.0.table), omega (arith, small, o.0.page), o.1); before = o.2; key = omega (arith, fits, o.0.key) })))
 
-  -- its page is there
-  pub page_there : (number : ℕ) → number ≡ record_page trx (count - 1) → page_of image 0 number ≡ None → ⊥
-  page_there number is none = no_entry (count - 1) (subst IsEntry (told_by number None is none) has.6)
-
-  -- and tells it, in range
-  pub last_on : (number : ℕ) (page : List ℕ) → number ≡ record_page trx (count - 1) → page_of image 0 number ≡ Some page → IsEntry (entry_on (count - 1) page)
-  last_on number page is there = subst IsEntry (told_by number (Some page) is there) has.6
-
-  -- so what is read there is the last record
-  pub ends_with : (number : ℕ) (page : List ℕ) (e : UndoEntry) → number ≡ record_page trx (count - 1) → page_of image 0 number ≡ Some page → e ≡ entry_on (count - 1) page
-      → (slot : UndoSlot) × (front : List UndoEntry) × (undo_slot_of image trx ≡ Some slot) × (slot.records ≡ front ++ e ∷ [])
-  ends_with number page e is there read = (has.0, has.1, has.3, has.4 ∙ ap (λ (x : UndoEntry). has.1 ++ x ∷ []) (told_by number (Some page) is there ∙ sym read))
+  pub before_of : IsOf d table key (before_change d table key e)
+  before_of = cond_both (tells_of d table key e) e absent (IsOf d table key) (λ is. (of_row is).0) (λ is. record { table = refl; page = refl; key = refl })

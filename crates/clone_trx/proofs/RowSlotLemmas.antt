@@ -1,6 +1,6 @@
 -- The rows of the contents when one slot is set.
-use Rattle.std.proofs.Common.{◌≡◌, ◌%◌, ◌⊎◌, ℕ, Bool, true, false, cond, List, refl, sym, ap, ◌∙◌, inl, inr, Option, Some, None, ◌==◌}
-use Rattle.clone_trx.proofs.Common.{same_Some, row_slot, bound_key, unused, Contents, set_at, with_slot, cases_place, slot-same, slot-other, Donor, Keys, Slots, IsBound, HoldsRows, value_of, cases_row}
+use Rattle.std.proofs.Common.{◌≡◌, ◌%◌, ◌⊎◌, ℕ, List, refl, sym, ap, ◌∙◌, inl, inr, Option, Some, None}
+use Rattle.clone_trx.proofs.Common.{same_Some, row_slot, bound_key, unused, Contents, with_slot, cases_place, slot-same, slot-other, Donor, Slots, IsBound, HoldsRows, value_of, cases_row}
 use Rattle.std.specs.FinMap as finite
 
 pub bound-row_slot : (key : ℕ) (value : Option (List ℕ)) → bound_key (row_slot key value) ≡ Some key
@@ -113,31 +113,3 @@ module _ (d after : Donor) (c : Contents) (t p j key : ℕ) (g : SetsSlot d afte
 
   pub rows_set : HoldsRows after now
   rows_set = record { shown = shown; clean = clean; own = own; once = once; found = found }
-
--- The keys that places are bound to, once one slot is set.
-
-abbrev pub keys_of : Contents → Keys
-keys_of c = λ table page place. bound_key (c.slot table page place)
-
--- the slot was bound to the key already
-pub same_keys : (c : Contents) (t p j key : ℕ) (value : Option (List ℕ)) → IsBound c.slot t p j key → keys_of (with_slot t p j (row_slot key value) c) ≡ keys_of c
-same_keys c t p j key value bound = λ x u n i. at u n i (cases_place u n i t p j) x
-  where
-    at : (u n i : ℕ) → ((u ≡ t) × (n ≡ p) × (i ≡ j)) ⊎ (u ≡ t → n ≡ p → i ≡ j → ⊥) → keys_of (with_slot t p j (row_slot key value) c) u n i ≡ keys_of c u n i
-    at u n i (inl is) = ap bound_key (slot-same t p j u n i (row_slot key value) c is.0 is.1 is.2) ∙ bound-row_slot key value ∙ sym bound ∙ (λ x. keys_of c (sym is.0 x) (sym is.1 x) (sym is.2 x))
-    at u n i (inr other) = ap bound_key (slot-other t p j u n i (row_slot key value) c other)
-
-pub set_keys : (c : Contents) (t p j key : ℕ) (value : Option (List ℕ)) → keys_of (with_slot t p j (row_slot key value) c) ≡ set_at t (set_at p (set_at j (Some key) (keys_of c t p)) (keys_of c t)) (keys_of c)
-set_keys c t p j key value = λ x u n i. in_table (u == t) u n i x
-  where
-    in_place : (b : Bool) (i : ℕ) → bound_key (cond b (row_slot key value) (c.slot t p i)) ≡ cond b (Some key) (keys_of c t p i)
-    in_place true i = bound-row_slot key value
-    in_place false i = refl
-
-    on_page : (b : Bool) (n i : ℕ) → bound_key (cond b (set_at j (row_slot key value) (c.slot t p)) (c.slot t n) i) ≡ cond b (set_at j (Some key) (keys_of c t p)) (keys_of c t n) i
-    on_page true n i = in_place (i == j) i
-    on_page false n i = refl
-
-    in_table : (b : Bool) (u n i : ℕ) → bound_key (cond b (set_at p (set_at j (row_slot key value) (c.slot t p)) (c.slot t)) (c.slot u) n i) ≡ cond b (set_at p (set_at j (Some key) (keys_of c t p)) (keys_of c t)) (keys_of c u) n i
-    in_table true u n i = on_page (n == p) n i
-    in_table false u n i = refl

@@ -1,7 +1,8 @@
 -- The records of a begin and of a change: how long their spelling is, and those from the second on.
 use Rattle.std.proofs.Common.{◌≡◌, ◌≤◌, ◌+◌, ◌==◌, ℕ, zero, suc, Bool, true, false, List, [], ◌∷◌, ◌++◌, length, drop, replicate, ◌-◌, refl, ap, ◌∙◌, arith, if◌then◌else◌, length-append}
-use Rattle.clone_trx.proofs.Common.{AllByRecursion, length-replicate, big_bytes, Undo, Bucket, slot_at, record_spelling, spelling, longest, Record, Write, UndoEntry, entry_bytes, header_page, record_page, record_place, count_place, made_first, entry_record, count_record, row_record, records_of_begin, records_of_change, MakesNoPage}
+use Rattle.clone_trx.proofs.Common.{length-replicate, big_bytes, Undo, Bucket, slot_at, record_spelling, spelling, longest, Record, Write, UndoEntry, entry_bytes, header_page, record_page, record_place, count_place, made_first, entry_record, count_record, row_record, records_of_begin, records_of_change}
 use Rattle.clone_page.specs.declared.kind.PageKind.{PageKind}
+use Rattle.clone_trx.specs.Calls.{is_new}
 
 -- A transaction begins.
 
@@ -14,17 +15,14 @@ from_first : (unused : Bool) (trx writer index : ℕ) → drop (first unused) (r
 from_first true trx writer index = refl
 from_first false trx writer index = refl
 
-pub short_begin : (unused : Bool) (trx writer index : ℕ) → length (spelling (records_of_begin unused trx writer index)) ≤ longest
-short_begin true trx writer index = omega arith
-short_begin false trx writer index = omega arith
-
-pub makes_none : (unused : Bool) (trx writer index : ℕ) → AllByRecursion MakesNoPage (records_of_begin unused trx writer index)
-makes_none true trx writer index = (tt, (tt, tt))
-makes_none false trx writer index = (tt, tt)
-
 -- the records that are written, by where they begin
 pub written : (unused : Bool) (trx writer index from : ℕ) (records : List Record) → from ≡ first unused → records ≡ records_of_begin true trx writer index → drop from records ≡ records_of_begin unused trx writer index
 written unused trx writer index from records at are = ap (λ (n : ℕ). drop n records) at ∙ ap (drop (first unused)) are ∙ from_first unused trx writer index
+
+-- what is written on the page of an undo slot's header, by the page that was read
+pub begin_written : (page seen : List ℕ) (trx writer index from : ℕ) (records done : List Record) → seen ≡ page → from ≡ first (is_new seen) → records ≡ records_of_begin true trx writer index → done ≡ drop from records → done ≡ records_of_begin (is_new page) trx writer index
+begin_written page seen trx writer index from records done same at are is =
+    is ∙ written (is_new page) trx writer index from records (at ∙ ap (λ (p : List ℕ). first (is_new p)) same) are
 
 -- A row changes.
 
@@ -60,6 +58,13 @@ short_change unused row_unused s n e image short eighty =
   where
     bounded : {all records counted rows row entry image : ℕ} → row ≡ 13 + (image + 1) → rows ≤ 11 + row → counted ≡ 13 + (2 + rows) → records ≡ 13 + (entry + counted) → all ≤ 11 + records → entry ≤ 96 → image ≡ 80 → all ≤ longest
     bounded a b c d e f g = omega arith
+
+-- there is one at least
+pub some_change : (unused row_unused : Bool) (s n : ℕ) (e : UndoEntry) (image : List ℕ) → 1 ≤ length (records_of_change unused row_unused s n e image)
+some_change true true s n e image = omega arith
+some_change true false s n e image = omega arith
+some_change false true s n e image = omega arith
+some_change false false s n e image = omega arith
 
 -- the first record is left out where the page of the undo record is in use
 pub change_from : (first : ℕ) (row_unused : Bool) (s n : ℕ) (e : UndoEntry) (image : List ℕ) → first ≤ 1 → drop first (records_of_change true row_unused s n e image) ≡ records_of_change (first == 0) row_unused s n e image

@@ -1,13 +1,20 @@
 -- What a call has written, and what it leaves that was refused.
-use Rattle.std.proofs.Common.{◌≡◌, ◌+◌, ◌++◌, ◌∷◌, [], ℕ, true, false, List, length, ap, ◌∙◌, Option, None, Some, refl, OnOk, OnErr, is_some, Result, Ok, Err, is_err}
-use Rattle.clone_trx.proofs.Common.{Record, spelling, records_of_end, Image, after_records, first_lsn, Stored, Writes, Keeps, commit_records, position_record}
+use Rattle.std.proofs.Common.{◌≡◌, ◌++◌, ◌∷◌, [], ℕ, true, false, List, sym, ap, subst, ◌∙◌, Option, None, Some, refl, IsTrue, OnOk, OnErr, is_some, Result, Ok, Err, is_err}
+use Rattle.clone_trx.proofs.Common.{Record, records_of_end, after_records, commit_records, position_record, Donor, IsKept}
+use Rattle.clone_image.specs.Replay.{end_of}
+use Rattle.clone_law.specs.Since.{ends}
+use Rattle.clone_buffer.specs.Buffered.{Buffered, image_of}
+use Rattle.clone_buffer.specs.Writing as buffer
+use Rattle.clone_buffer.proofs.WrittenLemmas.{replayed-push}
 
--- what was written behind a log in which room was made
-pub kept_writes : (old kept new : Stored) (written records : List Record) → Keeps old kept → Writes written kept new → written ≡ records → Writes records old new
-kept_writes old kept new written records keeps writes is = record {
-  log = writes.log ∙ ap (λ (l : List ℕ). l ++ spelling written) keeps.log ∙ ap (λ (rs : List Record). old.log ++ spelling rs) is;
-  image = writes.image ∙ ap (λ (i : Image). after_records (first_lsn + length new.log) i written) keeps.image ∙ ap (λ (rs : List Record). after_records (first_lsn + length new.log) old.image rs) is;
-}
+-- the image once a mini-transaction was written
+pub written_image : (old new : Buffered) (records : List Record) → new ≡ buffer.written records old → image_of new ≡ after_records (end_of (ends old.log) records) (image_of old) records
+written_image old new records is = ap image_of is ∙ replayed-push old.log records (end_of (ends old.log) records) refl
+
+-- it keeps what the donor is, where the mini-transaction does so at any LSN
+pub written_kept : (after : Donor) (old new : Buffered) (records : List Record) → new ≡ buffer.written records old → (IsTrue old.right → (lsn : ℕ) → IsKept after (after_records lsn (image_of old) records)) → IsTrue new.right → IsKept after (image_of new)
+written_kept after old new records is keeps right =
+    subst (IsKept after) (sym (written_image old new records is)) (keeps (subst IsTrue (ap (λ (b : Buffered). b.right) is) right) (end_of (ends old.log) records))
 
 -- the records that are written
 pub commit_written : (trx position : ℕ) (first second : Record) → first ∷ [] ≡ records_of_end trx → second ≡ position_record position → first ∷ second ∷ [] ≡ commit_records trx position

@@ -1,8 +1,7 @@
-pub mod Engine
-pub mod Sound
-pub mod Keys
-pub mod Step
 pub mod Places
-pub mod Written
+pub mod Sound
+pub mod Kept
+pub mod Ways
+pub mod Calls
 pub mod Locked
 pub mod Opened

@@ -1,9 +1,11 @@
 -- The open transactions, and how the last change of one is taken away.
-use Rattle.std.specs.Prelude.{ℕ, ◌≡◌, ◌-◌, ◌++◌, List, length, take, None, MatchOption, option_to_list}
+use Rattle.std.specs.Prelude.{ℕ, ◌≡◌, ◌-◌, ◌++◌, List, [], length, take, None, MatchOption, option_to_list}
 use Rattle.std.specs.declared.option.Option.{Option}
 use Rattle.std.specs.FinMap as finite
+use Rattle.std.specs.Ordering.{nat_cmp}
 use Rattle.clone_model.specs.declared.change.Change.{Change}
 use Rattle.clone_model.specs.declared.change.Commit.{Commit}
+use Rattle.clone_plain.specs.Donor.{Donor, Locks}
 use Rattle.clone_plain.specs.Locked.{Opened}
 
 -- the open transactions that an ordered map lists
@@ -25,3 +27,8 @@ abbrev pub Pops : ℕ → Opened → Opened → Option Change → Type 0
 Pops trx old new last =
     MatchOption (finite.get old trx) ((last ≡ None) × (new ≡ old))
     (λ commit. TakesLast trx commit old new last)
+
+-- the donor of these parts, which drops no table
+abbrev pub donor_of : finite.FinMap nat_cmp ℕ → Opened → Locks → List Commit → Donor
+donor_of tables active locks binlog =
+    record { tables = tables; active = active; locks = locks; binlog = binlog; drops = [] }

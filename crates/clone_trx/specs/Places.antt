@@ -1,23 +1,44 @@
--- Where the row of a key goes on a page, what is found there.
-use Rattle.std.specs.Prelude.{ℕ, ◌≡◌, ◌<◌, ◌⊎◌, Bool, List, [], length, None, Some, MatchOption, unwrap_or, option_map, option_and_then}
+-- Where the row of a key goes on a page, what is found there, and what the undo record of a change
+-- tells.
+use Rattle.std.specs.Prelude.{ℕ, ◌≡◌, ◌<◌, ◌⊎◌, ◌==◌, ◌%◌, Bool, false, true, List, [], None, Some, unwrap_or, option_map, option_and_then}
 use Rattle.std.specs.declared.option.Option.{Option}
+use Rattle.std.specs.Option.{option_or}
+use Rattle.std.specs.List.{range_with_len, find}
+use Rattle.std.specs.FinMap as finite
 use Rattle.clone_page.specs.Slots.{slot_count}
-use Rattle.clone_row.specs.Slots.{slots, slot_in, row_in, Finds, FindsFree}
-use Rattle.clone_undo.specs.Entries.{UndoEntry, IsEntry}
-use Rattle.clone_image.specs.Image.{all_pages}
-use Rattle.clone_contents.specs.Steps.{is_unused}
-use Rattle.clone_plain.specs.Donor.{Donor, changes_of}
-use Rattle.clone_plain.specs.Locked.{value_of}
-use Rattle.clone_trx.specs.Engine.{EngineState, page_number}
+use Rattle.clone_row.specs.Slots.{Slot, unused, present, absent, damaged, slots, slot_in, row_in, bound_key, Finds, FindsFree}
+use Rattle.clone_undo.specs.Entries.{UndoEntry}
+use Rattle.clone_plain.specs.Donor.{Donor}
+
+-- the page of a row's bucket, by its number in the space of its table
+abbrev pub page_number : Donor → ℕ → ℕ → ℕ
+page_number d table key = key % unwrap_or (finite.get d.tables table) 0
+
+-- the key that a slot is bound to is this one
+abbrev pub is_key : ℕ → Option ℕ → Bool
+is_key key None = false
+is_key key (Some bound) = bound == key
+
+-- the slot was never used
+abbrev pub is_free : Slot → Bool
+is_free unused = true
+is_free (present key value) = false
+is_free (absent key) = false
+is_free damaged = false
 
 -- the slot for a key: the one that is bound to it, else the first that was never used, or none
 -- where there is neither
-abbrev pub Places : ℕ → List ℕ → Option ℕ → Type 0
-Places key page found =
-    MatchOption found (Finds key (slots page) None × FindsFree (slots page) None)
-    (λ j. (j < slot_count)
+unfoldable pub place_in : ℕ → List Slot → Option ℕ
+place_in key list =
+    option_or (find (λ j. is_key key (bound_key (slot_in list j))) (range_with_len 0 slot_count))
+    (find (λ j. is_free (slot_in list j)) (range_with_len 0 slot_count))
+
+-- a slot that is bound to a key, or else the first that was never used
+abbrev pub IsPlaceOn : ℕ → List ℕ → ℕ → Type 0
+IsPlaceOn key page j =
+    (j < slot_count)
     × (Finds key (slots page) (Some j)
-    ⊎ (Finds key (slots page) None × FindsFree (slots page) (Some j))))
+    ⊎ (Finds key (slots page) None × FindsFree (slots page) (Some j)))
 
 -- the value of the row that a slot holds, if it holds one
 abbrev pub held_value : List ℕ → ℕ → Option (List ℕ)
@@ -45,13 +66,3 @@ told d table key place value =
       key = key;
       value = unwrap_or value [];
     }
-
--- where a change of a row goes, for the transaction of this number: the place of its key, with what
--- its undo record tells, and how many changes the transaction has made
-pub record IsPlaceFor (s : EngineState) (trx table key : ℕ) (entry : UndoEntry) (fresh : Bool)
-    (made : ℕ) : Type 0 where
-  pub place : Places key (all_pages s.image table entry.page) (Some entry.slot)
-  pub told : entry ≡ told s.donor table key entry.slot (value_of s.donor table key)
-  pub in_range : IsEntry entry
-  pub unused : fresh ≡ is_unused s.image table entry.page
-  pub count : made ≡ length (changes_of s.donor trx)

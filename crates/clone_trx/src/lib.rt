@@ -1,13 +1,16 @@
-//! The engine of a donor: transactions over pages and the redo log that made them. Each call is a
-//! step of the plain donor.
+//! A donor's transactions, over pages in frames and the redo log that makes them. Each call is a
+//! step of the plain donor, and goes a way over pages: `specs/Ways.antt` says what a way is,
+//! `specs/Calls.antt` which way each call goes.
 #![tactic(auto)]
 
 mod active;
-mod engine;
+mod hold;
 mod locks;
+mod opening;
 mod place;
 mod records;
 mod tables;
-mod writing;
+mod transactions;
 
-pub use engine::Engine;
+pub use opening::{OpenRefusal, open};
+pub use transactions::{Transactions, kept_laws};

@@ -1,5 +1,8 @@
 use crate::trx::vectors::{NEXT_PAGE, ONE_ROW, TAKING_BACK};
-use crate::trx::{Answer, Call, Tried};
+use crate::trx::{Answer, Call, ENOUGH, ask, expect, opened};
+use clone_donor::Donor;
+use clone_memdisk::MemDisk;
+use std::alloc::{AllocError, Global};
 use std::process::Abort;
 use std::test::Fail;
 
@@ -256,47 +259,72 @@ fn nth(often: Often, n: u32) -> (Call<'static>, Answer) {
     }
 }
 
-fn repeat(rt: &impl Abort, tried: &mut Tried, often: (u32, Often)) -> Result<(), Fail> {
+fn repeat(
+    rt: &impl Abort,
+    alloc: Global,
+    donor: &mut Donor<MemDisk>,
+    often: (u32, Often),
+) -> Result<(), Fail> {
     let (times, often) = often;
     for n in 0..times {
-        let (call, answer) = nth(often, n);
-        assert_eq!(rt; tried.answer(call)?, Ok(answer));
+        let (call, expected) = nth(often, n);
+        let found = ask(alloc, donor, call)?;
+        assert!(rt; found == Ok(expected));
     }
     Ok(())
 }
 
-fn expect_log(rt: &impl Abort, tried: &Tried, log: Log) -> Result<(), Fail> {
+// The log of a donor.
+fn expect_log(rt: &impl Abort, alloc: Global, redo: &[u8], log: Log) -> Result<(), AllocError> {
     match log {
         Log::Any => Ok(()),
         Log::Long(length) => {
-            assert_eq!(rt; tried.engine.redo().len(), length);
+            assert_eq!(rt; redo.len(), length);
             Ok(())
         }
-        Log::Ends(at, parts) => expect_end(rt, tried, at, parts),
+        Log::Ends(at, parts) => expect_end(rt, alloc, redo.get(at..), parts),
     }
 }
 
-fn expect_end(rt: &impl Abort, tried: &Tried, at: usize, parts: &[&[u8]]) -> Result<(), Fail> {
-    let mut bytes = Vec::new(tried.alloc);
+// The end of a log.
+fn expect_end(
+    rt: &impl Abort,
+    alloc: Global,
+    end: Option<&[u8]>,
+    parts: &[&[u8]],
+) -> Result<(), AllocError> {
+    let mut bytes = Vec::new(alloc);
     for part in parts {
         bytes.extend_from_slice(part)?;
     }
-    assert_eq!(rt; tried.engine.redo().get(at..), Some(bytes.as_slice()));
+    assert!(rt; end == Some(bytes.as_slice()));
     Ok(())
 }
 
-fn walk_case(rt: &impl Abort, tried: &mut Tried, case: Case) -> Result<(), Fail> {
-    tried.expect(rt, case.first)?;
-    repeat(rt, tried, case.often)?;
-    tried.expect(rt, case.last)?;
-    expect_log(rt, tried, case.log)
+fn walk_case(
+    rt: &impl Abort,
+    alloc: Global,
+    donor: &mut Donor<MemDisk>,
+    case: Case,
+) -> Result<(), Fail> {
+    expect(rt, alloc, donor, case.first)?;
+    repeat(rt, alloc, donor, case.often)?;
+    expect(rt, alloc, donor, case.last)?;
+    Ok(expect_log(rt, alloc, donor.redo(), case.log)?)
+}
+
+// A case begins with a new donor.
+fn try_case(rt: &impl Abort, alloc: Global, case: Case) -> Result<(), Fail> {
+    let mut donor = opened(alloc, MemDisk::new(alloc), ENOUGH)?;
+    let walked = walk_case(rt, alloc, &mut donor, case);
+    let _disk = donor.into_disk();
+    walked
 }
 
 #[test]
 fn calls_and_their_answers(rt: HostRuntime) -> Result<(), Fail> {
     for case in CASES {
-        let mut tried = Tried::new(rt.alloc())?;
-        walk_case(&rt, &mut tried, case)?;
+        try_case(&rt, rt.alloc(), case)?;
     }
     Ok(())
 }

@@ -42,8 +42,26 @@ impl Plain {
         fold(alloc, self.history.as_slice())
     }
 
-    /// Makes a call.
+    /// Makes a call, if there is no cause against it.
     pub fn answer(&mut self, alloc: Global, call: Call) -> Result<Answer, EngineRefusal> {
+        self.check(call)?;
+        self.carry_out(alloc, call)
+    }
+
+    /// The first cause against a call, if there is one.
+    pub fn check(&self, call: Call) -> Result<(), Cause> {
+        match call {
+            Call::Create(table, _) => self.check_table(table),
+            Call::Begin(_, _) => self.check_number(),
+            Call::Put(trx, table, key, bytes) => self.check_change(trx, table, key, bytes.len()),
+            Call::Delete(trx, table, key) => self.check_change(trx, table, key, 0),
+            Call::Get(trx, table, key) => self.check_row(trx, table, key),
+            Call::Undo(trx) | Call::Commit(trx) => self.check_open(trx),
+        }
+    }
+
+    /// Makes a call, whatever the buckets have room for. There is no other cause against it.
+    pub fn carry_out(&mut self, alloc: Global, call: Call) -> Result<Answer, EngineRefusal> {
         match call {
             Call::Create(table, count) => {
                 self.create(alloc, table, count).map(|()| Answer::Created)
@@ -52,83 +70,45 @@ impl Plain {
             Call::Put(trx, table, key, bytes) => self
                 .put(alloc, trx, table, key, bytes)
                 .map(|()| Answer::Changed),
-            Call::Delete(trx, table, key) => self
-                .delete(alloc, trx, table, key)
-                .map(|()| Answer::Changed),
+            Call::Delete(trx, table, key) => {
+                let value = None;
+                self.change(alloc, trx, Change { table, key, value })?;
+                Ok(Answer::Changed)
+            }
             Call::Get(trx, table, key) => self.get(alloc, trx, table, key).map(Answer::Shown),
             Call::Undo(trx) => self.undo_one(trx).map(Answer::TakenBack),
             Call::Commit(trx) => self.commit(trx).map(Answer::Committed),
         }
     }
 
-    // Makes a table of so many buckets.
-    fn create(&mut self, alloc: Global, table: u32, count: u32) -> Result<(), EngineRefusal> {
+    fn check_table(&self, table: u32) -> Result<(), Cause> {
         if self.tables.contains_key(&table) {
-            return Err(Cause::TableExists.into());
+            return Err(Cause::TableExists);
         }
         if self.tables.len() == TABLE_LIMIT {
-            return Err(Cause::TooManyTables.into());
+            return Err(Cause::TooManyTables);
         }
-        let made = Table::new(alloc, count)?;
-        match self.tables.insert(table, made) {
-            Ok(_) => Ok(()),
-            Err(_) => Err(EngineRefusal::NoMemory),
-        }
-    }
-
-    // Begins a transaction, and answers its number.
-    fn begin(&mut self, alloc: Global, writer: u32, index: u64) -> Result<u32, EngineRefusal> {
-        for trx in 0..TRANSACTION_LIMIT {
-            if !self.active.contains_key(&trx) {
-                let changes = Changes::new(alloc);
-                let commit = Commit {
-                    writer,
-                    index,
-                    changes,
-                };
-                return match self.active.insert(trx, commit) {
-                    Ok(_) => Ok(trx),
-                    Err(_) => Err(EngineRefusal::NoMemory),
-                };
-            }
-        }
-        Err(Cause::TooManyTransactions.into())
-    }
-
-    // Gives a row its value and locks it.
-    fn put(
-        &mut self,
-        alloc: Global,
-        trx: u32,
-        table: u32,
-        key: u64,
-        bytes: &[u8],
-    ) -> Result<(), EngineRefusal> {
-        self.check(trx, table, key, bytes.len())?;
-        let Some(value) = Value::new(bytes) else {
-            return Err(Cause::ValueTooLong.into());
-        };
-        let value = Some(value);
-        self.change(alloc, trx, Change { table, key, value })?;
         Ok(())
     }
 
-    // Removes a row and locks it.
-    fn delete(
-        &mut self,
-        alloc: Global,
-        trx: u32,
-        table: u32,
-        key: u64,
-    ) -> Result<(), EngineRefusal> {
-        self.check(trx, table, key, 0)?;
-        let value = None;
-        self.change(alloc, trx, Change { table, key, value })?;
+    // Refuses where each transaction is open.
+    fn check_number(&self) -> Result<(), Cause> {
+        if self.least_free().is_none() {
+            return Err(Cause::TooManyTransactions);
+        }
+        Ok(())
+    }
+
+    // Refuses where the transaction isn't open.
+    fn check_open(&self, trx: u32) -> Result<(), Cause> {
+        if !self.active.contains_key(&trx) {
+            return Err(Cause::NoSuchTrx);
+        }
         Ok(())
     }
 
     // The first cause against a change whose value has so many bytes.
-    fn check(&self, trx: u32, table: u32, key: u64, length: usize) -> Result<(), Cause> {
+    fn check_change(&self, trx: u32, table: u32, key: u64, length: usize) -> Result<(), Cause> {
         let Some(commit) = self.active.get(&trx) else {
             return Err(Cause::NoSuchTrx);
         };
@@ -148,6 +128,15 @@ impl Plain {
         Ok(())
     }
 
+    // The first cause against a look at a row.
+    fn check_row(&self, trx: u32, table: u32, key: u64) -> Result<(), Cause> {
+        self.check_open(trx)?;
+        if !self.tables.contains_key(&table) {
+            return Err(Cause::NoSuchTable);
+        }
+        self.check_lock(trx, table, key)
+    }
+
     // Refuses where another transaction holds the row's lock.
     fn check_lock(&self, trx: u32, table: u32, key: u64) -> Result<(), Cause> {
         match self.locks.get(&(table, key)) {
@@ -156,7 +145,60 @@ impl Plain {
         }
     }
 
-    // Makes a change against which there is no cause. After a refusal nothing has changed.
+    // The least number of which no transaction is open.
+    fn least_free(&self) -> Option<u32> {
+        for trx in 0..TRANSACTION_LIMIT {
+            if !self.active.contains_key(&trx) {
+                return Some(trx);
+            }
+        }
+        None
+    }
+
+    // Makes a table of so many buckets.
+    fn create(&mut self, alloc: Global, table: u32, count: u32) -> Result<(), EngineRefusal> {
+        let made = Table::new(alloc, count)?;
+        match self.tables.insert(table, made) {
+            Ok(_) => Ok(()),
+            Err(_) => Err(EngineRefusal::NoMemory),
+        }
+    }
+
+    // Begins a transaction, and answers its number.
+    fn begin(&mut self, alloc: Global, writer: u32, index: u64) -> Result<u32, EngineRefusal> {
+        let Some(trx) = self.least_free() else {
+            return Err(Cause::TooManyTransactions.into());
+        };
+        let changes = Changes::new(alloc);
+        let commit = Commit {
+            writer,
+            index,
+            changes,
+        };
+        match self.active.insert(trx, commit) {
+            Ok(_) => Ok(trx),
+            Err(_) => Err(EngineRefusal::NoMemory),
+        }
+    }
+
+    // Gives a row its value and locks it.
+    fn put(
+        &mut self,
+        alloc: Global,
+        trx: u32,
+        table: u32,
+        key: u64,
+        bytes: &[u8],
+    ) -> Result<(), EngineRefusal> {
+        let Some(value) = Value::new(bytes) else {
+            return Err(Cause::ValueTooLong.into());
+        };
+        let value = Some(value);
+        self.change(alloc, trx, Change { table, key, value })?;
+        Ok(())
+    }
+
+    // Makes a change, and locks its row. After a refusal nothing has changed.
     fn change(&mut self, alloc: Global, trx: u32, change: Change) -> Result<(), AllocError> {
         let (table, key) = (change.table, change.key);
         if let Some(buckets) = self.tables.get_mut(&table) {
@@ -181,10 +223,6 @@ impl Plain {
         let Some(commit) = self.active.get(&trx) else {
             return Err(Cause::NoSuchTrx.into());
         };
-        if !self.tables.contains_key(&table) {
-            return Err(Cause::NoSuchTable.into());
-        }
-        self.check_lock(trx, table, key)?;
         let mut rows = self.rows(alloc)?;
         rows.apply(commit)?;
         Ok(rows.get(table, key))

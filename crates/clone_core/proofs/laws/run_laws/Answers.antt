@@ -1,14 +1,28 @@
-use Rattle.clone_core.proofs.RunLemmas.{run_commits, run_sets, run_stop, run_within}
+use Rattle.clone_plain.specs.Events.{to_donor, to_recipient}
+use Rattle.clone_core.proofs.OrderLemmas.{run_orders}
+use Rattle.clone_core.proofs.RunLemmas.{run_commits, run_sets, run_stop, run_within, run_tells, run_fault}
 use Rattle.clone_core.proofs.laws.run_laws.Goals as goal
 
 pub returns-clause-commits : goal.returns-clause-commits
 returns-clause-commits c = run_commits
 
 pub returns-clause-sets : goal.returns-clause-sets
-returns-clause-sets c = run_sets
+returns-clause-sets c s lines events t new run = run_sets s lines events t run
 
 pub returns-clause-stop : goal.returns-clause-stop
 returns-clause-stop c = run_stop
 
 pub returns-clause-within : goal.returns-clause-within
 returns-clause-within c = run_within
+
+pub returns-clause-donor_orders : goal.returns-clause-donor_orders
+returns-clause-donor_orders c = run_orders to_donor
+
+pub returns-clause-recipient_orders : goal.returns-clause-recipient_orders
+returns-clause-recipient_orders c = run_orders to_recipient
+
+pub returns-clause-tells : goal.returns-clause-tells
+returns-clause-tells c = run_tells
+
+pub returns-clause-fault : goal.returns-clause-fault
+returns-clause-fault c = run_fault

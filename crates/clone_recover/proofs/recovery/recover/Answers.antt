@@ -1,12 +1,42 @@
+use Rattle.std.proofs.Common.{◌∙◌, ap, refl, inl, inr, Some, Err}
 use Rattle.std.proofs.lemmas.Result.{err_from_is_err_and}
-use Rattle.clone_recover.proofs.Causes.{recovers, undo_cause}
+use Rattle.clone_recover.proofs.Faults.{disk_cause}
+use Rattle.clone_recover.proofs.Marks.{answers_again, answers_anew, marked_again, marked_anew, incomplete_cause, damage_cause}
 use Rattle.clone_recover.proofs.recovery.recover.Goals as goal
 
-pub returns-in_err-take_back_open-clause-cause : goal.returns-in_err-take_back_open-clause-cause
-returns-in_err-take_back_open-clause-cause c =
-    let p = err_from_is_err_and c.from_residual-in_err-take_back_open.result c.from_residual-in_err-take_back_open.ensures.1 in
-    rw (p.1, p.2) (undo_cause c.in_err-take_back_open.field-0.0 c.args.redo.now c.in_ok-image.image c.in_ok-image.ensures.image c.in_err-take_back_open.ensures.damage)
+pub returns-in-Some-Recovered-clause-ok : goal.returns-in-Some-Recovered-clause-ok
+returns-in-Some-Recovered-clause-ok g c =
+    answers_again (g.R.PageDisk.told c.args.disk.now) (g.R.PageDisk.told c.mark_of.new.disk) c.in_ok-end.field-0 c.in-Some-Recovered.end c.numbers_of.result c.in_ok-end.ensures.told
+    (c.in-Some-Recovered.is ∙ ap (λ mark. Some mark) c.in-Some-Recovered.field-0-is) c.in_ok-end.ensures.mark c.numbers_of.ensures.numbers
 
-pub returns-clause-image : goal.returns-clause-image
-returns-clause-image c =
-    recovers c.args.redo.now c.in_ok-image.image c.take_back_open.new.image c.in_ok-image.ensures.image c.in_ok-image.ensures.short c.in_ok-take_back_open.ensures.counts c.in_ok-take_back_open.ensures.ranges c.in_ok-take_back_open.ensures.recovered
+pub returns-in_ok-recover_from-in-Some-Complete-clause-ok : goal.returns-in_ok-recover_from-in-Some-Complete-clause-ok
+returns-in_ok-recover_from-in-Some-Complete-clause-ok g c =
+    answers_anew (g.R.PageDisk.told c.args.disk.now) (g.R.PageDisk.told c.mark_of.new.disk) (g.R.PageDisk.told c.recover_from.new.disk) c.in_ok-end.field-0 c.in-Some-Complete.end c.numbers_of-in-Some-Complete.result c.in_ok-end.ensures.told
+    (c.in-Some-Complete.is ∙ ap (λ mark. Some mark) c.in-Some-Complete.field-0-is) c.in_ok-end.ensures.mark c.numbers_of-in-Some-Complete.ensures.numbers c.in_ok-recover_from-in-Some-Complete.ensures.ok
+
+pub returns-in-Some-InProgress-clause-cause : goal.returns-in-Some-InProgress-clause-cause
+returns-in-Some-InProgress-clause-cause g c =
+    incomplete_cause (g.R.PageDisk.told c.args.disk.now) c.in_ok-end.field-0 _ refl (inl (_, c.in-Some-InProgress.is ∙ ap (λ mark. Some mark) c.in-Some-InProgress.field-0-is)) c.in_ok-end.ensures.mark
+
+pub returns-in-None-clause-cause : goal.returns-in-None-clause-cause
+returns-in-None-clause-cause g c = incomplete_cause (g.R.PageDisk.told c.args.disk.now) c.in_ok-end.field-0 _ refl (inr c.in-None.is) c.in_ok-end.ensures.mark
+
+pub returns-in_err-end-clause-cause : goal.returns-in_err-end-clause-cause
+returns-in_err-end-clause-cause g c =
+    let p = err_from_is_err_and c.from_residual.result c.from_residual.ensures.1 in
+    rw (p.1, p.2) (disk_cause (g.R.PageDisk.told c.args.disk.now) c.in_err-end.field-0.0 c.in_err-end.ensures.cause)
+
+pub returns-in_err-recover_from-in-Some-Complete-clause-cause : goal.returns-in_err-recover_from-in-Some-Complete-clause-cause
+returns-in_err-recover_from-in-Some-Complete-clause-cause g c =
+    let p = err_from_is_err_and c.from_residual-in_err-recover_from-in-Some-Complete.result c.from_residual-in_err-recover_from-in-Some-Complete.ensures.1 in
+    rw (p.1, p.2)
+    (damage_cause (g.R.PageDisk.told c.args.disk.now) (g.R.PageDisk.told c.mark_of.new.disk) c.in_ok-end.field-0 c.in-Some-Complete.end c.in_err-recover_from-in-Some-Complete.field-0.0 c.in_ok-end.ensures.told
+    (c.in-Some-Complete.is ∙ ap (λ mark. Some mark) c.in-Some-Complete.field-0-is) c.in_ok-end.ensures.mark c.in_err-recover_from-in-Some-Complete.ensures.cause (λ same. c.in_err-recover_from-in-Some-Complete.ensures.known (ap Err same)))
+
+pub returns-in-Some-Recovered-clause-marked : goal.returns-in-Some-Recovered-clause-marked
+returns-in-Some-Recovered-clause-marked g c =
+    marked_again (g.R.PageDisk.told c.args.disk.now) (g.R.PageDisk.told c.mark_of.new.disk) c.in_ok-end.field-0 c.in-Some-Recovered.end c.numbers_of.ensures.ranges c.in_ok-end.ensures.told
+    (c.in-Some-Recovered.is ∙ ap (λ mark. Some mark) c.in-Some-Recovered.field-0-is) c.in_ok-end.ensures.mark
+
+pub returns-in_ok-recover_from-in-Some-Complete-clause-marked : goal.returns-in_ok-recover_from-in-Some-Complete-clause-marked
+returns-in_ok-recover_from-in-Some-Complete-clause-marked g c = marked_anew (g.R.PageDisk.told c.recover_from.new.disk) c.in-Some-Complete.end c.numbers_of-in-Some-Complete.ensures.ranges c.in_ok-recover_from-in-Some-Complete.ensures.marked

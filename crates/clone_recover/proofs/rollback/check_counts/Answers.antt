@@ -1,6 +1,33 @@
-use Rattle.std.proofs.Common.{◌+◌, arith}
-use Rattle.clone_recover.proofs.Slots.{counts_more}
+use Rattle.std.proofs.Common.{◌≡◌, ◌+◌, ◌∙◌, suc, refl, arith}
+use Rattle.std.proofs.lemmas.Result.{err_from_is_err_and}
+use Rattle.clone_recover.specs.Damage.{CountsTooMany, HasTooMany}
+use Rattle.clone_undo.specs.Places.{slot_count}
+use Rattle.clone_recover.proofs.Counts.{fits_begin, fits_go_on, fits_end}
+use Rattle.clone_recover.proofs.Shown.{same_itself, same_twice, page_or_on}
 use Rattle.clone_recover.proofs.rollback.check_counts.Goals as goal
 
+pub loop-slot-init : goal.loop-slot-init
+loop-slot-init g c = record { shows = same_itself (g.R.PageDisk.told c.args.disk.now) c.args.overlay.now; fits = fits_begin (g.R.PageDisk.told c.args.disk.now) c.args.overlay.now; told = refl; later = omega arith; orders = refl }
+
 pub loop-slot-preserved : goal.loop-slot-preserved
-loop-slot-preserved c = counts_more c.loop-slot.slot (c.loop-slot.slot + 1) c.args.image.now (omega arith) c.in_ok-check_count.ensures.count c.loop-slot.invariant
+loop-slot-preserved g c = record {
+  shows = same_twice (g.R.PageDisk.told c.args.disk.now) (g.R.PageDisk.told c.loop-slot.disk) c.args.overlay.now c.loop-slot.overlay c.header_of.new.overlay c.loop-slot.invariant.told c.loop-slot.invariant.shows c.in_ok-header_of.ensures.shows;
+  fits =
+      let next : c.loop-slot.slot + 1 ≡ suc c.loop-slot.slot = omega arith in
+      fits_go_on (g.R.PageDisk.told c.args.disk.now) (g.R.PageDisk.told c.loop-slot.disk) c.loop-slot.slot (c.loop-slot.slot + 1) c.args.overlay.now c.loop-slot.overlay c.in_ok-header_of.field-0 c.loop-slot.invariant.told next c.loop-slot.invariant.shows c.in_ok-header_of.ensures.count c.in_ok-header_of.ensures.header c.loop-slot.invariant.fits;
+  told = c.in_ok-header_of.ensures.told ∙ c.loop-slot.invariant.told;
+  later = omega (arith, c.loop-slot.invariant.later, c.in_ok-header_of.ensures.later);
+  orders = c.in_ok-header_of.ensures.orders ∙ c.loop-slot.invariant.orders;
+}
+
+pub returns-in_err-header_of-clause-cause : goal.returns-in_err-header_of-clause-cause
+returns-in_err-header_of-clause-cause g c =
+    let p = err_from_is_err_and c.from_residual.result c.from_residual.ensures.1 in
+    rw (p.1, p.2)
+    (page_or_on (g.R.PageDisk.told c.args.disk.now) (g.R.PageDisk.told c.loop-slot.disk) c.args.overlay.now c.loop-slot.overlay (λ image. CountsTooMany image c.loop-slot.slot) HasTooMany c.in_err-header_of.field-0.0 c.loop-slot.invariant.told c.loop-slot.invariant.shows
+    (λ image page many. (c.loop-slot.slot, many)) c.in_err-header_of.ensures.cause)
+
+pub returns-clause-counts : goal.returns-clause-counts
+returns-clause-counts g c =
+    let e : c.loop-slot.slot ≡ slot_count = omega arith in
+    fits_end (g.R.PageDisk.told c.args.disk.now) c.loop-slot.slot c.args.overlay.now e c.loop-slot.invariant.fits

@@ -1,37 +1,43 @@
-use Rattle.std.proofs.Common.{◌≡◌, ◌+◌, suc, arith, refl}
+use Rattle.std.proofs.Common.{◌∙◌, ℕ, refl, ◌≡◌, ◌+◌, suc, arith, subst}
 use Rattle.std.proofs.lemmas.Result.{err_from_is_err_and}
 use Rattle.clone_undo.specs.Places.{slot_count}
-use Rattle.clone_image.specs.Recovered.{undo_slot_of}
-use Rattle.clone_recover.specs.Recovers.{IsSlotInRange}
-use Rattle.clone_recover.proofs.Causes.{first_damage}
-use Rattle.clone_recover.proofs.Slots.{taking_begins, taking_goes_on, taking_count, taking_fails, taking_ends}
+use Rattle.clone_image.specs.Recovered.{undo_slot_of, taken_back}
+use Rattle.clone_recover.specs.Undoing.{IsSlotInRange}
+use Rattle.clone_recover.specs.Damage.{ForImage, ShowsEdited, PageOrOn, IsBroken}
+use Rattle.clone_recover.proofs.Undone.{take_begins, take_goes_on, take_ends, take_sound, take_fails}
 use Rattle.clone_recover.proofs.rollback.take_back_all.Goals as goal
 
 pub loop-slot-init : goal.loop-slot-init
-loop-slot-init c = taking_begins c.args.image.now c.args.image.now refl
+loop-slot-init g c = record { taking = take_begins (g.R.PageDisk.told c.args.disk.now) c.args.overlay.now; told = refl; later = omega arith; orders = refl }
 
 pub loop-slot-preserved : goal.loop-slot-preserved
-loop-slot-preserved c =
-    let e : c.loop-slot.slot + 1 ≡ suc c.loop-slot.slot = omega arith in
-    taking_goes_on c.loop-slot.slot (c.loop-slot.slot + 1) c.args.image.now c.loop-slot.image c.take_back.new.image e c.in_ok-take_back.ensures.taken_back c.in_ok-take_back.ensures.ranges c.loop-slot.invariant
-
-pub returns-in_err-take_back-clause-damage : goal.returns-in_err-take_back-clause-damage
-returns-in_err-take_back-clause-damage c =
-    let p = err_from_is_err_and c.from_residual.result c.from_residual.ensures.1 in
-    rw (p.1, p.2)
-    (first_damage c.in_err-take_back.field-0.0 c.loop-slot.slot (IsSlotInRange (undo_slot_of c.loop-slot.image c.loop-slot.slot)) c.args.image.now
-    (λ out. taking_fails c.loop-slot.slot c.args.image.now c.loop-slot.image (omega arith) c.requires out c.loop-slot.invariant) c.in_err-take_back.ensures.damage)
-
-pub returns-in_err-take_back-clause-recovered : goal.returns-in_err-take_back-clause-recovered
-returns-in_err-take_back-clause-recovered c =
-    let p = err_from_is_err_and c.from_residual.result c.from_residual.ensures.1 in
-    rw p.1 tt
+loop-slot-preserved g c =
+    let s = c.loop-slot.slot in
+    let e : s + 1 ≡ suc s = omega arith in
+    record {
+      taking = take_goes_on (g.R.PageDisk.told c.args.disk.now) s (s + 1) c.args.overlay.now c.loop-slot.overlay c.take_back.new.overlay e c.loop-slot.invariant.taking
+          (subst (λ t. ShowsEdited t c.loop-slot.overlay c.take_back.new.overlay (λ image. taken_back image s (undo_slot_of image s))) c.loop-slot.invariant.told c.in_ok-take_back.ensures.taken_back)
+          (subst (λ t. ForImage t c.loop-slot.overlay (λ m image. IsSlotInRange (undo_slot_of image s))) c.loop-slot.invariant.told c.in_ok-take_back.ensures.ranges)
+          (subst (λ t. ForImage t c.loop-slot.overlay (λ m image. (page : ℕ) → IsBroken image s page → ⊥)) c.loop-slot.invariant.told c.in_ok-take_back.ensures.sound);
+      told = c.in_ok-take_back.ensures.told ∙ c.loop-slot.invariant.told;
+      later = omega (arith, c.loop-slot.invariant.later, c.in_ok-take_back.ensures.later);
+      orders = c.in_ok-take_back.ensures.orders ∙ c.loop-slot.invariant.orders;
+    }
 
 pub returns-clause-recovered : goal.returns-clause-recovered
-returns-clause-recovered c = let e : c.loop-slot.slot ≡ slot_count = omega arith in (taking_ends c.loop-slot.slot c.args.image.now c.loop-slot.image e c.loop-slot.invariant).0
+returns-clause-recovered g c =
+    let e : c.loop-slot.slot ≡ slot_count = omega arith in
+    take_ends (g.R.PageDisk.told c.args.disk.now) c.loop-slot.slot c.args.overlay.now c.loop-slot.overlay e c.loop-slot.invariant.taking
 
-pub returns-clause-ranges : goal.returns-clause-ranges
-returns-clause-ranges c = let e : c.loop-slot.slot ≡ slot_count = omega arith in (taking_ends c.loop-slot.slot c.args.image.now c.loop-slot.image e c.loop-slot.invariant).1
+pub returns-in_err-take_back-clause-cause : goal.returns-in_err-take_back-clause-cause
+returns-in_err-take_back-clause-cause g c =
+    let p = err_from_is_err_and c.from_residual.result c.from_residual.ensures.1 in
+    let e = c.in_err-take_back.field-0.0 in
+    rw (p.1, p.2)
+    (take_fails (g.R.PageDisk.told c.args.disk.now) c.loop-slot.slot c.args.overlay.now c.loop-slot.overlay e c.loop-slot.invariant.taking
+    (subst (λ t. PageOrOn t c.loop-slot.overlay (λ image. IsBroken image c.loop-slot.slot) e) c.loop-slot.invariant.told c.in_err-take_back.ensures.cause))
 
-pub take_back-requires : goal.take_back-requires
-take_back-requires c = record { slot = omega arith; count = taking_count c.loop-slot.slot c.args.image.now c.loop-slot.image (omega arith) c.requires c.loop-slot.invariant }
+pub returns-clause-sound : goal.returns-clause-sound
+returns-clause-sound g c =
+    let e : c.loop-slot.slot ≡ slot_count = omega arith in
+    take_sound (g.R.PageDisk.told c.args.disk.now) c.loop-slot.slot c.args.overlay.now c.loop-slot.overlay e c.loop-slot.invariant.taking

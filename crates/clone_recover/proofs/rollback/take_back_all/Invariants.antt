@@ -1,5 +1,12 @@
-use Rattle.clone_recover.proofs.Slots.{TakingBack}
+use Rattle.std.proofs.Common.{◌≡◌, ◌≤◌}
+use Rattle.clone_recover.proofs.Undone.{TakingOn}
 use Rattle.clone_recover.proofs.rollback.take_back_all.Given as goal
 
 abbrev pub invariant-loop-slot : goal.invariant-loop-slot
-invariant-loop-slot l = TakingBack l.slot l.fn.image l.image
+invariant-loop-slot g l =
+    record {
+      taking : TakingOn (g.R.PageDisk.told l.fn.disk) l.slot l.fn.overlay l.overlay;
+      told : g.R.PageDisk.told l.disk ≡ g.R.PageDisk.told l.fn.disk;
+      later : g.R.PageDisk.failures l.fn.disk ≤ g.R.PageDisk.failures l.disk;
+      orders : g.R.PageDisk.orders l.disk ≡ g.R.PageDisk.orders l.fn.disk;
+    }

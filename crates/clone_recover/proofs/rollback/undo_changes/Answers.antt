@@ -1,33 +1,49 @@
-use Rattle.std.proofs.Common.{◌≡◌, ◌-◌, ℕ, suc, arith, subst}
-use Rattle.std.specs.List.{AllByRecursion}
+use Rattle.std.proofs.Common.{◌∙◌, refl, ◌≡◌, ◌-◌, ℕ, suc, arith, subst}
 use Rattle.std.proofs.lemmas.Result.{err_from_is_err_and}
 use Rattle.clone_undo.specs.Entries.{IsEntry}
-use Rattle.clone_undo.specs.Places.{record_page}
-use Rattle.clone_undo.specs.Slots.{entry_on, entries}
-use Rattle.clone_image.specs.Recovered.{system_pages}
-use Rattle.clone_recover.proofs.Causes.{other_damage}
-use Rattle.clone_recover.proofs.Undoing.{Undoing, undoing_begins, undoing_goes_on, undoing_ranges, undoing_range}
+use Rattle.clone_image.specs.Recovered.{undone}
+use Rattle.clone_recover.specs.Damage.{ForImage, ShowsEdited, PageOrOn, IsUnsoundAt}
+use Rattle.clone_recover.specs.Undoing.{record_of}
+use Rattle.clone_recover.proofs.Undone.{half_begins, half_goes_on, half_edits, half_ranges, half_sound, half_fails}
 use Rattle.clone_recover.proofs.rollback.undo_changes.Goals as goal
 
 pub loop-number-init : goal.loop-number-init
-loop-number-init c = undoing_begins c.args.slot c.args.count c.args.image.now
+loop-number-init g c = record { half = half_begins (g.R.PageDisk.told c.args.disk.now) c.args.slot c.args.count c.args.overlay.now; told = refl; later = omega arith; orders = refl }
 
 pub loop-number-preserved : goal.loop-number-preserved
-loop-number-preserved c =
+loop-number-preserved g c =
     let n : ℕ = c.loop-number.number - 1 in
     let e : c.loop-number.number ≡ suc n = omega arith in
-    undoing_goes_on c.args.slot c.args.count n c.args.image.now c.loop-number.image c.undo_change.new.image c.in_ok-undo_change.ensures.undone c.in_ok-undo_change.ensures.range
-    (subst (λ (k : ℕ). Undoing c.args.slot c.args.count k c.args.image.now c.loop-number.image) e c.loop-number.invariant)
+    record {
+      half = half_goes_on (g.R.PageDisk.told c.args.disk.now) c.args.slot c.args.count c.loop-number.number n c.args.overlay.now c.loop-number.overlay c.undo_change.new.overlay e c.loop-number.invariant.half
+          (subst (λ t. ShowsEdited t c.loop-number.overlay c.undo_change.new.overlay (λ image. undone image (record_of image c.args.slot n))) c.loop-number.invariant.told c.in_ok-undo_change.ensures.undone)
+          (subst (λ t. ForImage t c.loop-number.overlay (λ m image. IsEntry (record_of image c.args.slot n))) c.loop-number.invariant.told c.in_ok-undo_change.ensures.range)
+          (subst (λ t. ForImage t c.loop-number.overlay (λ m image. (page : ℕ) → IsUnsoundAt image c.args.slot n page → ⊥)) c.loop-number.invariant.told c.in_ok-undo_change.ensures.sound);
+      told = c.in_ok-undo_change.ensures.told ∙ c.loop-number.invariant.told;
+      later = omega (arith, c.loop-number.invariant.later, c.in_ok-undo_change.ensures.later);
+      orders = c.in_ok-undo_change.ensures.orders ∙ c.loop-number.invariant.orders;
+    }
 
-pub returns-in_err-undo_change-clause-damage : goal.returns-in_err-undo_change-clause-damage
-returns-in_err-undo_change-clause-damage c =
-    let p = err_from_is_err_and c.from_residual.result c.from_residual.ensures.1 in
-    let n : ℕ = c.loop-number.number - 1 in
-    rw (p.1, p.2)
-    (other_damage c.in_err-undo_change.field-0.0 c.args.slot (IsEntry (entry_on n (system_pages c.loop-number.image (record_page c.args.slot n)))) (AllByRecursion IsEntry (entries c.args.slot (system_pages c.args.image.now) c.args.count))
-    (λ all. undoing_range c.args.slot c.args.count c.loop-number.number n c.args.image.now c.loop-number.image (omega arith) c.loop-number.invariant all) c.in_err-undo_change.ensures.damage)
+pub returns-clause-undone : goal.returns-clause-undone
+returns-clause-undone g c =
+    let e : c.loop-number.number ≡ 0 = omega arith in
+    half_edits (g.R.PageDisk.told c.args.disk.now) c.args.slot c.args.count c.loop-number.number c.args.overlay.now c.loop-number.overlay e c.loop-number.invariant.half
 
 pub returns-clause-ranges : goal.returns-clause-ranges
-returns-clause-ranges c =
+returns-clause-ranges g c =
     let e : c.loop-number.number ≡ 0 = omega arith in
-    undoing_ranges c.args.slot c.args.count c.args.image.now c.loop-number.image (subst (λ (k : ℕ). Undoing c.args.slot c.args.count k c.args.image.now c.loop-number.image) e c.loop-number.invariant)
+    half_ranges (g.R.PageDisk.told c.args.disk.now) c.args.slot c.args.count c.loop-number.number c.args.overlay.now c.loop-number.overlay e c.loop-number.invariant.half
+
+pub returns-in_err-undo_change-clause-cause : goal.returns-in_err-undo_change-clause-cause
+returns-in_err-undo_change-clause-cause g c =
+    let p = err_from_is_err_and c.from_residual.result c.from_residual.ensures.1 in
+    let n : ℕ = c.loop-number.number - 1 in
+    let e = c.in_err-undo_change.field-0.0 in
+    rw (p.1, p.2)
+    (half_fails (g.R.PageDisk.told c.args.disk.now) c.args.slot c.args.count c.loop-number.number n c.args.overlay.now c.loop-number.overlay e (omega arith) c.loop-number.invariant.half
+    (subst (λ t. PageOrOn t c.loop-number.overlay (λ image. IsUnsoundAt image c.args.slot n) e) c.loop-number.invariant.told c.in_err-undo_change.ensures.cause))
+
+pub returns-clause-sound : goal.returns-clause-sound
+returns-clause-sound g c =
+    let e : c.loop-number.number ≡ 0 = omega arith in
+    half_sound (g.R.PageDisk.told c.args.disk.now) c.args.slot c.args.count c.loop-number.number c.args.overlay.now c.loop-number.overlay e c.loop-number.invariant.half

@@ -30,7 +30,7 @@ impl Table {
     /// Whether the bucket of a key has no place for it.
     pub fn is_full_for(&self, key: u64) -> bool {
         match self.bucket_of(key) {
-            Some(bucket) => bucket.keys.len() == PLACES && !bucket.keys.contains(&key),
+            Some(bucket) => bucket.keys.len() >= PLACES && !bucket.keys.contains(&key),
             None => false,
         }
     }

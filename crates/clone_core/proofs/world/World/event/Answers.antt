@@ -1,29 +1,21 @@
-use Rattle.clone_core.proofs.LineLemmas.{line_breaks, shown_breaks}
+use Rattle.std.proofs.Common.{string_bytes}
+use Rattle.clone_core.proofs.LineLemmas.{line_breaks, notes_answer, tear_makes, fail_donor_makes, fail_recipient_makes}
 use Rattle.clone_core.proofs.world.World.event.Goals as goal
 
-pub returns-in-Create-clause-err : goal.returns-in-Create-clause-err
-returns-in-Create-clause-err c = line_breaks _ _ _ c.create_line.result c.create_line.ensures.err
+pub returns-in-Tear-clause-ok : goal.returns-in-Tear-clause-ok
+returns-in-Tear-clause-ok g c = notes_answer string_bytes _ _ c.args.line.now _ c.donor_order_line.result (tear_makes _ _ _ c.in-Tear.is) c.donor_order_line.ensures.ok
 
-pub returns-in-Begin-clause-err : goal.returns-in-Begin-clause-err
-returns-in-Begin-clause-err c = line_breaks _ _ _ c.begin_line.result c.begin_line.ensures.err
+pub returns-in-Tear-clause-err : goal.returns-in-Tear-clause-err
+returns-in-Tear-clause-err g c = line_breaks _ _ c.args.line.now c.donor_order_line.result c.donor_order_line.ensures.err
 
-pub returns-in-Put-clause-err : goal.returns-in-Put-clause-err
-returns-in-Put-clause-err c = line_breaks _ _ _ c.put_line.result c.put_line.ensures.err
+pub returns-in-FailDonor-clause-ok : goal.returns-in-FailDonor-clause-ok
+returns-in-FailDonor-clause-ok g c = notes_answer string_bytes _ _ c.args.line.now _ c.donor_order_line-in-FailDonor.result (fail_donor_makes _ _ _ c.from.result c.in-FailDonor.is c.from.ensures) c.donor_order_line-in-FailDonor.ensures.ok
 
-pub returns-in-Delete-clause-err : goal.returns-in-Delete-clause-err
-returns-in-Delete-clause-err c = line_breaks _ _ _ c.delete_line.result c.delete_line.ensures.err
+pub returns-in-FailDonor-clause-err : goal.returns-in-FailDonor-clause-err
+returns-in-FailDonor-clause-err g c = line_breaks _ _ c.args.line.now c.donor_order_line-in-FailDonor.result c.donor_order_line-in-FailDonor.ensures.err
 
-pub returns-in-Undo-clause-err : goal.returns-in-Undo-clause-err
-returns-in-Undo-clause-err c = line_breaks _ _ _ c.undo_line.result c.undo_line.ensures.err
+pub returns-in-FailRecipient-clause-ok : goal.returns-in-FailRecipient-clause-ok
+returns-in-FailRecipient-clause-ok g c = notes_answer string_bytes _ _ c.args.line.now _ c.recipient_order_line.result (fail_recipient_makes _ _ _ c.from-in-FailRecipient.result c.in-FailRecipient.is c.from-in-FailRecipient.ensures) c.recipient_order_line.ensures.ok
 
-pub returns-in-Commit-clause-err : goal.returns-in-Commit-clause-err
-returns-in-Commit-clause-err c = line_breaks _ _ _ c.commit_line.result c.commit_line.ensures.err
-
-pub returns-in-Clone-clause-err : goal.returns-in-Clone-clause-err
-returns-in-Clone-clause-err c = line_breaks _ _ _ c.clone_line.result c.clone_line.ensures.err
-
-pub returns-in-Get-clause-err : goal.returns-in-Get-clause-err
-returns-in-Get-clause-err c = shown_breaks _ _ c.get_line.result
-
-pub returns-in-Rows-clause-err : goal.returns-in-Rows-clause-err
-returns-in-Rows-clause-err c = shown_breaks _ _ c.rows_line.result
+pub returns-in-FailRecipient-clause-err : goal.returns-in-FailRecipient-clause-err
+returns-in-FailRecipient-clause-err g c = line_breaks _ _ c.args.line.now c.recipient_order_line.result c.recipient_order_line.ensures.err

@@ -1,10 +1,14 @@
-use Rattle.std.proofs.Common.{ap, option_map, string_bytes}
-use Rattle.clone_core.proofs.Common.{stop_of}
-use Rattle.clone_core.proofs.LineLemmas.{no_rows, rows_answers}
+use Rattle.std.proofs.Common.{refl, ap, string_bytes}
+use Rattle.clone_model.specs.declared.line.Line.TheVariants as lines
+use Rattle.clone_plain.specs.Events.{incomplete}
+use Rattle.clone_plain.specs.Runs.{not_there}
+use Rattle.clone_core.specs.Copied.{clone_of}
+use Rattle.clone_core.proofs.LineLemmas.{event_answers, same_breaks}
+use Rattle.clone_core.proofs.RowsLemmas.{never_cloned}
 use Rattle.clone_core.proofs.world.World.rows_line.Goals as goal
 
-pub returns-in-None : goal.returns-in-None
-returns-in-None c = no_rows string_bytes _ _ c.from_str.result c.self.view_is (ap (option_map stop_of) c.in-None.is) c.from_str.ensures.ok
+pub returns-in-None-clause-ok : goal.returns-in-None-clause-ok
+returns-in-None-clause-ok g c = event_answers string_bytes c.args.self.now c.args.self.now lines.Rows incomplete c.from_str.result (not_there refl) (never_cloned _ _ c.self.view_is (ap clone_of c.in-None.is)) c.from_str.ensures.ok
 
-pub returns-in-Some : goal.returns-in-Some
-returns-in-Some c = rows_answers string_bytes _ _ c.in-Some.copy c.rows_shown.result c.shown_is_the_map.ensures c.self.view_is (ap (option_map stop_of) c.in-Some.is) (c.self.invariant c.in-Some.copy c.in-Some.is) c.rows_shown.ensures
+pub returns-in-None-clause-err : goal.returns-in-None-clause-err
+returns-in-None-clause-err g c = same_breaks c.args.self.now lines.Rows c.from_str.result

@@ -1,0 +1,120 @@
+-- What a disk holds that a clone was laid on, before and after it is recovered.
+use Rattle.std.proofs.Common.{◌≡◌, ◌<◌, ◌^◌, ℕ, List, refl, sym, ap, subst, ◌∙◌, inl, inr, Some}
+use Rattle.std.specs.FinMap as finite
+use Rattle.clone_model.specs.History.{Row, Rows, fold, rows_in}
+use Rattle.clone_outside.specs.Disk.{DiskImage}
+use Rattle.clone_outside.specs.Mark.{IsEnd}
+use Rattle.clone_outside.specs.declared.mark.CloneEnd.{CloneEnd}
+use Rattle.clone_outside.specs.declared.mark.Mark.TheVariants as mark
+use Rattle.clone_mtr.specs.Spelling.{log_of}
+use Rattle.clone_mtr.specs.declared.record.Record.{Record}
+use Rattle.clone_image.specs.Image.{Image, page_of}
+use Rattle.clone_image.specs.Recovered.{recovered}
+use Rattle.clone_image.specs.Replay.{replayed}
+use Rattle.clone_image.specs.Rows.{HasRows}
+use Rattle.clone_image.proofs.Shown.{shown_map}
+use Rattle.clone_overlay.specs.Images.{image_of}
+use Rattle.clone_plain.specs.Donor.{Donor, history}
+use Rattle.clone_recover.specs.Damage.{NamesMissing, IsBroken}
+use Rattle.clone_recover.specs.Listing.{ListsRows}
+use Rattle.clone_recover.specs.Restores.{Answers, again, anew, HasMark, IsDamage, by_redo, by_header, by_dictionary, by_undo, IsIncomplete, unmarked, under_way, numbers_of}
+use Rattle.clone_recover.specs.declared.recovery.Recovered.{Recovered}
+use Rattle.clone_recover.specs.declared.refusal.Why.{Why}
+use Rattle.clone_trx.specs.Sound.{IsKept}
+use Rattle.clone_trx.proofs.RecoveredRowLemmas.{recovered_rows}
+use Rattle.clone_apply.specs.Copied.{copied}
+use Rattle.clone_apply.specs.Holds.{IsLeftBy, HoldsCopy, IsWholeLog}
+use Rattle.clone_apply.proofs.CopiedDisks.{quiet, none_misplaced}
+use Rattle.clone_apply.proofs.EndMarks.{OneEnd, not_both, not_under_way, recovered_not_under_way, one_complete, one_recovered, one_position, same_recovered}
+use Rattle.clone_apply.proofs.KeptImages.{none_missing, none_broken}
+use Rattle.clone_apply.proofs.LeftImages.{is_redo, left_is}
+
+same_numbers : (a b : CloneEnd) → a.lsn ≡ b.lsn → a.position ≡ b.position → numbers_of a ≡ numbers_of b
+same_numbers a b lsn position = λ i. record { lsn = lsn i; position = position i }
+
+-- A clone of a donor is laid on a disk that had no space.
+module _ (d : Donor) (log : List (List Record)) (end : CloneEnd) (m : DiskImage) (kept : IsKept d (replayed log)) (whole : IsWholeLog log end) (ranges : IsEnd end) (blank : m.spaces ≡ finite.empty) where
+  abbrev n : DiskImage
+  n = copied (log_of log) end m
+
+  abbrev rows : Rows
+  rows = fold (history d)
+
+  complete : HasMark n (mark.Complete end)
+  complete = refl
+
+  left_by : (k : DiskImage) (numbers : Recovered) → numbers.position < 2 ^ 64 → Answers n k numbers → IsLeftBy k numbers rows end.position
+  left_by k numbers fits (again e has is same) = absurd (not_both n end e complete has)
+  left_by k numbers fits (anew e has is restores) =
+      let r = restores (quiet (log_of log) end m blank) in
+      let one : OneEnd end e = one_complete n end e complete has in
+      let position : end.position ≡ e.position = one_position end e ranges.1 (subst (λ (x : Recovered). x.position < 2 ^ 64) is fits) one in
+      let left = left_is log end m blank whole e one r.left r.is_left in
+      record {
+        quiet = r.quiet;
+        has = subst (λ (i : Image). HasRows (page_of i) rows) (sym (r.image ∙ ap recovered left)) (recovered_rows d (replayed log) kept.formed kept.sound);
+        after = ap (λ (x : Recovered). x.position) is ∙ sym position;
+        end = end;
+        ranges = ranges;
+        mark = r.mark ∙ ap (λ (xs : List ℕ). Some xs) (sym (same_recovered end e one));
+        told = is ∙ sym (same_numbers end e one.lsn position);
+      }
+
+  never_damaged : (e : CloneEnd) (s p : ℕ) (why : Why) → OneEnd end e → IsDamage n e s p why → ⊥
+  never_damaged e s p why one (by_redo at none) = none (log, is_redo log end m blank whole e one)
+  never_damaged e s p why one (by_header space at has misplaced) = none_misplaced (log_of log) end m blank space at misplaced
+  never_damaged e s p why one (by_dictionary left l missing) = none_missing d (replayed log) kept (subst NamesMissing (left_is log end m blank whole e one left l) missing)
+  never_damaged e s p why one (by_undo at left l slot broken) = none_broken d (replayed log) kept slot at (subst (λ (i : Image). IsBroken i slot at) (left_is log end m blank whole e one left l) broken)
+
+  never_incomplete : IsIncomplete n → ⊥
+  never_incomplete (unmarked none) = none (mark.Complete end) ranges complete
+  never_incomplete (under_way session begun) = not_under_way n end session complete begun
+
+  pub copied_holds : HoldsCopy n rows end.position
+  copied_holds = record {
+    marked = record { end = end; ranges = ranges; after = refl; mark = inl complete };
+    recovers = left_by;
+    sound = λ s p why cause. never_damaged cause.0 s p why (one_complete n end cause.0 complete cause.1) (cause.2 (quiet (log_of log) end m blank));
+    complete = never_incomplete;
+  }
+
+-- A disk that was recovered.
+module _ (n : DiskImage) (numbers : Recovered) (rows : Rows) (position : ℕ) (r : IsLeftBy n numbers rows position) where
+  position_is : r.end.position ≡ position
+  position_is = ap (λ (x : Recovered). x.position) (sym r.told) ∙ r.after
+
+  left_again : (k : DiskImage) (next : Recovered) → next.position < 2 ^ 64 → Answers n k next → IsLeftBy k next rows position
+  left_again k next fits (again e has is same) =
+      let one : OneEnd r.end e = one_recovered n r.end e r.mark has in
+      let still : r.end.position ≡ e.position = one_position r.end e r.ranges.1 (subst (λ (x : Recovered). x.position < 2 ^ 64) is fits) one in
+      subst (λ (x : DiskImage). IsLeftBy x next rows position) (sym same) (record {
+        quiet = r.quiet;
+        has = r.has;
+        after = ap (λ (x : Recovered). x.position) is ∙ sym still ∙ position_is;
+        end = r.end;
+        ranges = r.ranges;
+        mark = r.mark;
+        told = is ∙ sym (same_numbers r.end e one.lsn still);
+      })
+  left_again k next fits (anew e has is restores) = absurd (not_both n e r.end has r.mark)
+
+  not_incomplete : IsIncomplete n → ⊥
+  not_incomplete (unmarked none) = none (mark.Recovered r.end) r.ranges r.mark
+  not_incomplete (under_way session begun) = recovered_not_under_way n r.end session r.mark begun
+
+  left_holds : HoldsCopy n rows position
+  left_holds = record {
+    marked = record { end = r.end; ranges = r.ranges; after = position_is; mark = inr r.mark };
+    recovers = left_again;
+    sound = λ s p why cause. not_both n cause.0 r.end cause.1 r.mark;
+    complete = not_incomplete;
+  }
+
+pub holds_again : (m n : DiskImage) (numbers : Recovered) (rows : Rows) (position : ℕ) → HoldsCopy m rows position → numbers.position < 2 ^ 64 → Answers m n numbers → HoldsCopy n rows position
+holds_again m n numbers rows position holds fits answers = left_holds n numbers rows position (holds.recovers n numbers fits answers)
+
+pub lists_copy : (m n : DiskImage) (numbers : Recovered) (rows : Rows) (position : ℕ) (list : List Row) → HoldsCopy m rows position → numbers.position < 2 ^ 64 → Answers m n numbers → ListsRows n list → list ≡ rows_in rows
+lists_copy m n numbers rows position list holds fits answers lists =
+    let r = holds.recovers n numbers fits answers in
+    let found = lists.rows r.quiet in
+    found.2 ∙ ap rows_in (shown_map (page_of (image_of n)) found.0 rows found.1 r.has.here r.has.there)

@@ -1,0 +1,218 @@
+-- What a `clean` does, page by page.
+use Rattle.std.proofs.Common.{◌≡◌, ◌<◌, ◌+◌, ◌^◌, ℕ, List, [], ◌∷◌, ◌++◌, length, refl, sym, ap, ◌∙◌, subst, arith, append_assoc, append-nil, length-append, Option, Some, None, Result, Ok, Err, IfOk, OnErr, IsErrAnd, codes, decimal, flat_map}
+use Rattle.std.proofs.lemmas.Grind.{flat_map-append}
+use Rattle.std.specs.declared.alloc.AllocError.{AllocError}
+use Rattle.std.specs.List.{AllByRecursion}
+use Rattle.clone_model.specs.declared.line.Line.TheVariants as lines
+use Rattle.clone_pool.specs.declared.frame.Frame.{Frame}
+use Rattle.clone_pool.specs.Frames.{frame_at}
+use Rattle.clone_flush.specs.Calls as flushes
+use Rattle.clone_plain.specs.declared.refusal.Cause.TheVariants as causes
+use Rattle.clone_plain.specs.declared.refusal.EngineRefusal.{EngineRefusal}
+use Rattle.clone_plain.specs.declared.refusal.EngineRefusal.TheVariants.{Because, NoMemory}
+use Rattle.clone_plain.specs.Answers.{Text, refusal_text}
+use Rattle.clone_plain.specs.Calls.{Done, did_flush_begin, did_flush_half, did_flush_land, did_oldest_dirty, done, refused, flush_begin, flush_half, flush_land, call_of}
+use Rattle.clone_plain.specs.Events.{Event, made, cleaned, event_text, said, Happens, Events}
+use Rattle.clone_plain.specs.Runs.{MakesClean, all_clean, not_flushed, flushed}
+use Rattle.clone_plain.specs.BreaksOff.{IsDone}
+use Rattle.clone_plain.proofs.RunLemmas.{Events-append}
+use Rattle.clone_donor.specs.Engine.{Engine}
+use Rattle.clone_core.specs.System.{SystemStep, donor_of}
+use Rattle.clone_core.specs.Lines.{State, Answers, BreaksOff}
+use Rattle.clone_core.specs.Called.{Called, SaysCause, CleansAll, StopsCleaning, Cleans}
+use Rattle.clone_core.proofs.LineLemmas.{refused_stays}
+use Rattle.clone_core.proofs.SetLemmas.{is_done, said-last, Events-split}
+use Rattle.clone_core.proofs.WaitingLemmas.{waiting, waiting-le, waits_for, one_fewer}
+
+abbrev pub frames_of : State → List Frame
+frames_of s = s.donor.donor.buffer.pool.frames
+
+-- an event that is a call that was carried out
+abbrev Did : State → Done → State → Type 0
+Did s d t = Happens donor_of SystemStep s (made (done d)) t
+
+-- each of these pages was flushed, and there are not too many left
+pub record Cleaning (s : State) (landed : ℕ) (u : State) : Type 0 where
+  pub pages : List (ℕ × ℕ)
+  pub count : landed ≡ length pages
+  pub happened : Events donor_of SystemStep s (flat_map flushed pages) u
+  pub few : landed + waiting (frames_of u) < 2 ^ 32
+
+pub clean_begins : (s : State) → length (frames_of s) < 2 ^ 32 → Cleaning s 0 s
+clean_begins s few = record { pages = []; count = refl; happened = refl; few = omega (arith, few, waiting-le (frames_of s)) }
+
+-- ---- one page
+
+-- one fewer page waits once a page was flushed
+pub fewer_wait : (u v w x t : State) (space page : ℕ) → Did u (did_oldest_dirty (Some (space, page))) v → Did v (did_flush_begin space page) w → Did w (did_flush_half space page) x → Did x (did_flush_land space page) t → waiting (frames_of t) + 1 ≡ waiting (frames_of u)
+fewer_wait u v w x t space page looks begins halves lands =
+    let began = begins.step.0.does.1.0 in
+    let halved = halves.step.0.does.1 in
+    let landed = lands.step.0.does.1 in
+    one_fewer (frames_of u) (frames_of v) (frames_of w) (frames_of x) (frames_of t) began.0 landed.1 (record { space = space; number = page })
+    (ap (λ (e : Engine). e.buffer.pool.frames) looks.step.0.1)
+    (ap (λ (s : flushes.State). s.buffer.pool.frames) began.3)
+    (ap (λ (s : flushes.State). s.buffer.pool.frames) halved.3)
+    (ap (λ (s : flushes.State). s.buffer.pool.frames) landed.3)
+    began.1.holder.within began.1.holder.holder (waits_for (frame_at (frames_of v) began.0) began.1.dirty began.2) landed.2.holder.within landed.2.holder.holder
+
+pub clean_goes : (s u v w x t : State) (landed space page : ℕ) → Cleaning s landed u → Did u (did_oldest_dirty (Some (space, page))) v → Did v (did_flush_begin space page) w → Did w (did_flush_half space page) x → Did x (did_flush_land space page) t → Cleaning s (landed + 1) t
+clean_goes s u v w x t landed space page is looks begins halves lands =
+    let P : List Event → Type 0 = λ es. Events donor_of SystemStep s es t in
+    let whole : flat_map flushed (is.pages ++ (space, page) ∷ []) ≡ flat_map flushed is.pages ++ flushed (space, page) = flat_map-append flushed is.pages ((space, page) ∷ []) in
+    record {
+      pages = is.pages ++ (space, page) ∷ [];
+      count = omega (arith, is.count, length-append is.pages ((space, page) ∷ []));
+      happened = subst P (sym whole) (Events-append donor_of SystemStep s (flat_map flushed is.pages) (flushed (space, page)) u t is.happened (v, looks, (w, begins, (x, halves, (t, lands, refl)))));
+      few = omega (arith, is.few, fewer_wait u v w x t space page looks begins halves lands);
+    }
+
+-- ---- the end
+
+clean_ends : (s u t : State) (landed : ℕ) → Cleaning s landed u → Did u (did_oldest_dirty None) t → Cleans s (Ok landed) t
+clean_ends s u t landed is looks = record {
+  pages = is.pages;
+  count = is.count;
+  happened = Events-append donor_of SystemStep s (flat_map flushed is.pages) (made (done (did_oldest_dirty None)) ∷ []) u t is.happened (t, looks, refl);
+}
+
+-- there is no dirty page where none was found
+pub no_page : (found : Option (ℕ × ℕ)) → ((page : ℕ × ℕ) → found ≡ Some page → ⊥) → found ≡ None
+no_page None none = refl
+no_page (Some page) none = absurd (none page refl)
+
+pub clean_ended : (s u t : State) (landed : ℕ) (found : Option (ℕ × ℕ)) → found ≡ None → Cleaning s landed u → Did u (did_oldest_dirty found) t → Cleans s (Ok landed) t
+clean_ended s u t landed found none is looks = let P : Option (ℕ × ℕ) → Type 0 = λ o. Did u (did_oldest_dirty o) t in clean_ends s u t landed is (subst P none looks)
+
+pages_done : (pages : List (ℕ × ℕ)) (rest : List Event) → AllByRecursion IsDone rest → AllByRecursion IsDone (flat_map flushed pages ++ rest)
+pages_done [] rest is = is
+pages_done (page ∷ pages) rest is = (is_done _, (is_done _, (is_done _, (is_done _, pages_done pages rest is))))
+
+front_done : (front rest : List Event) → AllByRecursion IsDone (front ++ rest) → AllByRecursion IsDone front
+front_done [] rest is = tt
+front_done (e ∷ front) rest is = (is.0, front_done front rest is.1)
+
+flushed_done : (page : ℕ × ℕ) → AllByRecursion IsDone (flushed page)
+flushed_done page = (is_done _, (is_done _, (is_done _, (is_done _, tt))))
+
+-- the calls before one of the flush of a page
+before_done : (pages : List (ℕ × ℕ)) (page : ℕ × ℕ) (front rest : List Event) (next : Done) → flushed page ≡ front ++ made (done next) ∷ rest → AllByRecursion IsDone (flat_map flushed pages ++ front)
+before_done pages page front rest next split = pages_done pages front (front_done front (made (done next) ∷ rest) (subst (AllByRecursion IsDone) split (flushed_done page)))
+
+-- a call of a flush wasn't carried out
+stops : (s u v t : State) (landed : ℕ) (page : ℕ × ℕ) (front rest : List Event) (next : Done) (did : Unit {0} → Done) (refusal : EngineRefusal) → Cleaning s landed u → flushed page ≡ front ++ made (done next) ∷ rest → Events donor_of SystemStep u front v
+    → Called v (call_of next) did (Err refusal) t → Cleans s (Err refusal) t
+stops s u v t landed page front rest next did (Because cause) is split before call = record {
+  pages = is.pages;
+  page = page;
+  front = front;
+  rest = rest;
+  next = next;
+  split = split;
+  happened = Events-append donor_of SystemStep s (flat_map flushed is.pages ++ front) (made (refused (call_of next) cause) ∷ []) v t (Events-append donor_of SystemStep s (flat_map flushed is.pages) front u v is.happened before) (t, call, refl);
+}
+stops s u v t landed page front rest next did NoMemory is split before call = record {
+  front = flat_map flushed is.pages ++ front;
+  next = made (refused (call_of next) causes.DiskFault);
+  rest = [];
+  makes = not_flushed is.pages page front rest next causes.DiskFault split refl;
+  carried = before_done is.pages page front rest next split;
+  then = v;
+  happened = Events-append donor_of SystemStep s (flat_map flushed is.pages) front u v is.happened before;
+  donor = call.donor;
+  begun = call.begun;
+}
+
+-- a refusal that is passed on
+passed_on : (s t : State) (refusal : EngineRefusal) (result : Result ℕ EngineRefusal) → IsErrAnd result (λ e. e ≡ refusal) → Cleans s (Err refusal) t → Cleans s result t
+passed_on s t refusal (Ok x) is cleans = absurd is
+passed_on s t refusal (Err e) is cleans = let P : EngineRefusal → Type 0 = λ r. Cleans s (Err r) t in subst P (sym is) cleans
+
+pub not_begun : (s u v t : State) (landed space page : ℕ) (refusal : EngineRefusal) (result : Result ℕ EngineRefusal) → Cleaning s landed u → Did u (did_oldest_dirty (Some (space, page))) v
+    → Called {X = Unit {0}} v (flush_begin space page) (λ _. did_flush_begin space page) (Err refusal) t → IsErrAnd result (λ e. e ≡ refusal) → Cleans s result t
+not_begun s u v t landed space page refusal result is looks call passed =
+    passed_on s t refusal result passed (stops s u v t landed (space, page) (made (done (did_oldest_dirty (Some (space, page)))) ∷ []) _ (did_flush_begin space page) (λ _. did_flush_begin space page) refusal is refl (v, looks, refl) call)
+
+pub not_halved : (s u v w t : State) (landed space page : ℕ) (refusal : EngineRefusal) (result : Result ℕ EngineRefusal) → Cleaning s landed u → Did u (did_oldest_dirty (Some (space, page))) v → Did v (did_flush_begin space page) w
+    → Called {X = Unit {0}} w (flush_half space page) (λ _. did_flush_half space page) (Err refusal) t → IsErrAnd result (λ e. e ≡ refusal) → Cleans s result t
+not_halved s u v w t landed space page refusal result is looks begins call passed =
+    passed_on s t refusal result passed (stops s u w t landed (space, page) (made (done (did_oldest_dirty (Some (space, page)))) ∷ made (done (did_flush_begin space page)) ∷ []) _ (did_flush_half space page) (λ _. did_flush_half space page) refusal is refl (v, looks, (w, begins, refl)) call)
+
+pub not_landed : (s u v w x t : State) (landed space page : ℕ) (refusal : EngineRefusal) (result : Result ℕ EngineRefusal) → Cleaning s landed u → Did u (did_oldest_dirty (Some (space, page))) v → Did v (did_flush_begin space page) w → Did w (did_flush_half space page) x
+    → Called {X = Unit {0}} x (flush_land space page) (λ _. did_flush_land space page) (Err refusal) t → IsErrAnd result (λ e. e ≡ refusal) → Cleans s result t
+not_landed s u v w x t landed space page refusal result is looks begins halves call passed =
+    passed_on s t refusal result passed (stops s u x t landed (space, page) (made (done (did_oldest_dirty (Some (space, page)))) ∷ made (done (did_flush_begin space page)) ∷ made (done (did_flush_half space page)) ∷ []) [] (did_flush_land space page) (λ _. did_flush_land space page) refusal is refl (v, looks, (w, begins, (x, halves, refl))) call)
+
+-- ---- the line
+
+-- the events of a `clean` that landed all
+whole_makes : (pages : List (ℕ × ℕ)) → MakesClean ((flat_map flushed pages ++ made (done (did_oldest_dirty None)) ∷ []) ++ cleaned (length pages) ∷ [])
+whole_makes pages = all_clean pages (append_assoc (flat_map flushed pages) (made (done (did_oldest_dirty None)) ∷ []) (cleaned (length pages) ∷ []))
+
+all_answers : (s t : State) (landed : ℕ) (text : Text) → CleansAll s landed t → text ≡ codes "cleaned " ++ decimal landed → Answers s lines.Clean text t
+all_answers s t landed text is says =
+    let front = flat_map flushed is.pages ++ made (done (did_oldest_dirty None)) ∷ [] in
+    let last = cleaned (length is.pages) in
+    let ends : Happens donor_of SystemStep t last t = record { step = refl; begun = refl; clone = refl; tells = refl; sees = λ _. tt } in
+    record {
+      events = front ++ last ∷ [];
+      step = (whole_makes is.pages, Events-append donor_of SystemStep s front (last ∷ []) t t is.happened (t, ends, refl));
+      is = says ∙ ap (λ n. codes "cleaned " ++ decimal n) is.count ∙ sym (said-last front last);
+    }
+
+pub clean_answers : {A : Type 0} (bytes : A → Text) (s t : State) (landed : ℕ) (result : Result A AllocError) → Cleans s (Ok landed) t → IfOk result (λ a. bytes a ≡ codes "cleaned " ++ decimal landed) → IfOk result (λ a. Answers s lines.Clean (bytes a) t)
+clean_answers bytes s t landed (Err e) is says = tt
+clean_answers bytes s t landed (Ok a) is says = all_answers s t landed (bytes a) is says
+
+pub clean_breaks : {A : Type 0} (s t : State) (landed : ℕ) (result : Result A AllocError) → Cleans s (Ok landed) t → OnErr result (BreaksOff s lines.Clean t)
+clean_breaks s t landed (Ok a) is = tt
+clean_breaks s t landed (Err e) is = record {
+  front = flat_map flushed is.pages ++ made (done (did_oldest_dirty None)) ∷ [];
+  next = cleaned (length is.pages);
+  rest = [];
+  makes = whole_makes is.pages;
+  carried = pages_done is.pages (made (done (did_oldest_dirty None)) ∷ []) (is_done _, tt);
+  then = t;
+  happened = is.happened;
+  donor = refl;
+  begun = refl;
+}
+
+refusal_answers : (s t : State) (refusal : EngineRefusal) (text : Text) → Cleans s (Err refusal) t → SaysCause refusal text → Answers s lines.Clean text t
+refusal_answers s t refusal text is says =
+    let P : EngineRefusal → Type 0 = λ r. Cleans s (Err r) t in
+    let at : StopsCleaning s says.cause t = subst P says.is is in
+    let last = made (refused (call_of at.next) says.cause) in
+    record {
+      events = flat_map flushed at.pages ++ at.front ++ last ∷ [];
+      step = (not_flushed at.pages at.page at.front at.rest at.next says.cause at.split refl, at.happened);
+      is = says.same ∙ sym (said-last (flat_map flushed at.pages ++ at.front) last);
+    }
+
+pub stop_answers : {A : Type 0} (bytes : A → Text) (s t : State) (refusal : EngineRefusal) (result : Result A AllocError) → Cleans s (Err refusal) t → IfOk result (λ a. SaysCause refusal (bytes a)) → IfOk result (λ a. Answers s lines.Clean (bytes a) t)
+stop_answers bytes s t refusal (Err e) is says = tt
+stop_answers bytes s t refusal (Ok a) is says = refusal_answers s t refusal (bytes a) is says
+
+stopped_breaks : (s t : State) (refusal : EngineRefusal) → Cleans s (Err refusal) t → BreaksOff s lines.Clean t
+stopped_breaks s t (Because cause) is =
+    let last = made (refused (call_of is.next) cause) in
+    let before = flat_map flushed is.pages ++ is.front in
+    let at = Events-split s before (last ∷ []) t is.happened in
+    let P : State → Type 0 = λ w. Happens donor_of SystemStep at.0 last w in
+    let stays = refused_stays at.0 t (call_of is.next) cause (subst P at.2.2 at.2.1) in
+    record {
+      front = before;
+      next = last;
+      rest = [];
+      makes = not_flushed is.pages is.page is.front is.rest is.next cause is.split refl;
+      carried = before_done is.pages is.page is.front is.rest is.next is.split;
+      then = at.0;
+      happened = at.1;
+      donor = stays.donor;
+      begun = stays.begun;
+    }
+stopped_breaks s t NoMemory is = is
+
+pub stop_breaks : {A : Type 0} (s t : State) (refusal : EngineRefusal) (result : Result A AllocError) → Cleans s (Err refusal) t → OnErr result (BreaksOff s lines.Clean t)
+stop_breaks s t refusal (Ok a) is = tt
+stop_breaks s t refusal (Err e) is = stopped_breaks s t refusal is

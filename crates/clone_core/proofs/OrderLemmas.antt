@@ -1,0 +1,192 @@
+-- Each disk gets the orders of the lines that are for it, and no others.
+use Rattle.std.proofs.Common.{◌≡◌, ℕ, List, [], ◌∷◌, ◌++◌, refl, sym, ap, ◌∙◌, subst, Option, None, Some, append_assoc, append-nil, filter_map, flat_map}
+use Rattle.std.specs.List.{AllByRecursion, cons_option}
+use Rattle.clone_outside.specs.declared.disk.DiskOrder.{DiskOrder}
+use Rattle.clone_model.specs.declared.line.Line.{Line}
+use Rattle.clone_model.specs.declared.line.Line.TheVariants as lines
+use Rattle.clone_plain.specs.Calls.{Call, call_of, refused}
+use Rattle.clone_plain.specs.Events.{Side, to_donor, to_recipient, Event, made, cleaned, completed, completed_before, broke, broke_before, showed, incomplete, hidden, damaged, ordered, Events}
+use Rattle.clone_plain.specs.Headline.{all_events, donor_order, recipient_order}
+use Rattle.clone_plain.specs.Runs.{Makes, MakesOne, MakesSet, not_begun, not_changed, set, MakesClean, all_clean, not_flushed, flushed, MakesClone, is_complete, was_complete, is_broken, was_broken, MakesRows, are_shown, not_there, not_read, not_sound}
+use Rattle.clone_donor.specs.Disks.{DiskState}
+use Rattle.clone_donor.specs.Engine.{Engine}
+use Rattle.clone_core.specs.System.{System, SystemStep, donor_of}
+use Rattle.clone_core.specs.Lines.{State, Runs}
+use Rattle.clone_core.proofs.StepLemmas.{made_visits}
+
+-- the disk of a side
+abbrev pub disk_of : Side → System → DiskState
+disk_of to_donor s = s.donor.disk
+disk_of to_recipient s = s.recipient
+
+-- the order that goes to a side, of one that goes to another
+abbrev order_for : Side → Side → DiskOrder → Option DiskOrder
+order_for to_donor to_donor order = Some order
+order_for to_donor to_recipient order = None
+order_for to_recipient to_donor order = None
+order_for to_recipient to_recipient order = Some order
+
+-- the order that an event gives to the disk of a side
+abbrev pub order_in : Side → Event → Option DiskOrder
+order_in side (made m) = None
+order_in side (cleaned landed) = None
+order_in side (completed position) = None
+order_in side (completed_before position) = None
+order_in side broke = None
+order_in side broke_before = None
+order_in side (showed rows) = None
+order_in side incomplete = None
+order_in side hidden = None
+order_in side (damaged space page why) = None
+order_in side (ordered to order) = order_for side to order
+
+-- the order that a line gives to it
+abbrev pub order_of : Side → Line → Option DiskOrder
+order_of to_donor line = donor_order line
+order_of to_recipient line = recipient_order line
+
+-- the disk got the order that there is
+abbrev pub Gets : Side → System → System → Option DiskOrder → Type 0
+Gets side s t order = (disk_of side t).orders ≡ (disk_of side s).orders ++ cons_option order []
+
+gets_none : (side : Side) (s t : System) → (disk_of side t).orders ≡ (disk_of side s).orders → Gets side s t None
+gets_none side s t same = same ∙ sym (append-nil (disk_of side s).orders)
+
+same_gets : (side : Side) (s t : System) → t ≡ s → Gets side s t None
+same_gets side s t is = gets_none side s t (ap (λ (w : System). (disk_of side w).orders) is)
+
+recipient_gets : (side : Side) (s t : System) → t.donor ≡ s.donor → t.recipient.orders ≡ s.recipient.orders → Gets side s t None
+recipient_gets to_donor s t donor orders = gets_none to_donor s t (ap (λ (e : Engine). e.disk.orders) donor)
+recipient_gets to_recipient s t donor orders = gets_none to_recipient s t orders
+
+made_gets : (side : Side) (s t : System) → t.donor.disk.orders ≡ s.donor.disk.orders → t.recipient ≡ s.recipient → Gets side s t None
+made_gets to_donor s t donor recipient = gets_none to_donor s t donor
+made_gets to_recipient s t donor recipient = gets_none to_recipient s t (ap (λ (d : DiskState). d.orders) recipient)
+
+donor_gets : (side : Side) (s t : System) (order : DiskOrder) → SystemStep s (ordered to_donor order) t → Gets side s t (order_for side to_donor order)
+donor_gets to_donor s t order is = ap (λ (w : System). w.donor.disk.orders) is
+donor_gets to_recipient s t order is = gets_none to_recipient s t (ap (λ (w : System). w.recipient.orders) is)
+
+for_recipient_gets : (side : Side) (s t : System) (order : DiskOrder) → SystemStep s (ordered to_recipient order) t → Gets side s t (order_for side to_recipient order)
+for_recipient_gets to_donor s t order is = gets_none to_donor s t (ap (λ (w : System). w.donor.disk.orders) is)
+for_recipient_gets to_recipient s t order is = ap (λ (w : System). w.recipient.orders) is
+
+event_gets : (side : Side) (s : System) (e : Event) (t : System) → SystemStep s e t → Gets side s t (order_in side e)
+event_gets side s (made m) t is = made_gets side s t (made_visits s.donor t.donor m is.0).orders is.1
+event_gets side s (cleaned landed) t is = same_gets side s t is
+event_gets side s (completed position) t is = recipient_gets side s t is.donor is.recipient.orders
+event_gets side s (completed_before position) t is = same_gets side s t is
+event_gets side s broke t is = recipient_gets side s t is.visits.donor is.visits.recipient.orders
+event_gets side s broke_before t is = same_gets side s t is
+event_gets side s (showed rows) t is = recipient_gets side s t is.donor is.recipient.orders
+event_gets side s incomplete t is = recipient_gets side s t is.donor is.recipient.orders
+event_gets side s hidden t is = recipient_gets side s t is.visits.donor is.visits.recipient.orders
+event_gets side s (damaged space page why) t is = recipient_gets side s t is.0.donor is.0.recipient.orders
+event_gets side s (ordered to_donor order) t is = donor_gets side s t order is
+event_gets side s (ordered to_recipient order) t is = for_recipient_gets side s t order is
+
+cons-append : {X : Type 0} (o : Option X) (xs : List X) → cons_option o xs ≡ cons_option o [] ++ xs
+cons-append None xs = refl
+cons-append (Some x) xs = refl
+
+-- what the disk got by events
+abbrev GetsAll : Side → State → State → List DiskOrder → Type 0
+GetsAll side s t orders = (disk_of side t.donor).orders ≡ (disk_of side s.donor).orders ++ orders
+
+gets_behind : (side : Side) (s u t : State) (first : Option DiskOrder) (rest : List DiskOrder) → Gets side s.donor u.donor first → GetsAll side u t rest → GetsAll side s t (cons_option first rest)
+gets_behind side s u t first rest one more =
+    more ∙ ap (λ os. os ++ rest) one ∙ append_assoc (disk_of side s.donor).orders (cons_option first []) rest ∙ ap (λ os. (disk_of side s.donor).orders ++ os) (sym (cons-append first rest))
+
+events_get : (side : Side) (s : State) (es : List Event) (t : State) → Events donor_of SystemStep s es t → GetsAll side s t (filter_map (order_in side) es)
+events_get side s [] t is = ap (λ (w : State). (disk_of side w.donor).orders) (sym is) ∙ sym (append-nil (disk_of side s.donor).orders)
+events_get side s (e ∷ es) t is = gets_behind side s is.0 t (order_in side e) (filter_map (order_in side) es) (event_gets side s.donor e is.0.donor is.1.step) (events_get side is.0 es t is.2)
+
+-- ---- the orders of a line
+
+abbrev NoOrder : Side → Event → Type 0
+NoOrder side e = order_in side e ≡ None
+
+none_in : (side : Side) (es : List Event) → AllByRecursion (NoOrder side) es → filter_map (order_in side) es ≡ []
+none_in side [] all = refl
+none_in side (e ∷ es) all = ap (λ o. cons_option o (filter_map (order_in side) es)) all.0 ∙ none_in side es all.1
+
+pages_none : (side : Side) (pages : List (ℕ × ℕ)) (rest : List Event) → AllByRecursion (NoOrder side) rest → AllByRecursion (NoOrder side) (flat_map flushed pages ++ rest)
+pages_none side [] rest is = is
+pages_none side (page ∷ pages) rest is = (refl, (refl, (refl, (refl, pages_none side pages rest is))))
+
+front_none : (side : Side) (front rest : List Event) (e : Event) → AllByRecursion (NoOrder side) (front ++ rest) → NoOrder side e → AllByRecursion (NoOrder side) (front ++ e ∷ [])
+front_none side [] rest e all is = (is, tt)
+front_none side (f ∷ front) rest e all is = (all.0, front_none side front rest e all.1 is)
+
+clean_none : (side : Side) (es : List Event) → MakesClean es → AllByRecursion (NoOrder side) es
+clean_none side es (all_clean pages is) = subst (AllByRecursion (NoOrder side)) (sym is) (pages_none side pages _ (refl, (refl, tt)))
+clean_none side es (not_flushed pages page front rest next cause split is) =
+    let last : Event = made (refused (call_of next) cause) in
+    let all = subst (AllByRecursion (NoOrder side)) split (refl, (refl, (refl, (refl, tt)))) in
+    subst (AllByRecursion (NoOrder side)) (sym (is ∙ append_assoc (flat_map flushed pages) front (last ∷ []))) (pages_none side pages (front ++ last ∷ []) (front_none side front (made _ ∷ rest) last all refl))
+
+set_none : (side : Side) (writer index table key : ℕ) (value : List ℕ) (es : List Event) → MakesSet writer index table key value es → filter_map (order_in side) es ≡ []
+set_none side writer index table key value es (not_begun cause is) = ap (filter_map (order_in side)) is
+set_none side writer index table key value es (not_changed trx cause is) = ap (filter_map (order_in side)) is
+set_none side writer index table key value es (set trx last commits is) = ap (filter_map (order_in side)) is
+
+call_none : (side : Side) (call : Call) (es : List Event) → MakesOne call es → filter_map (order_in side) es ≡ []
+call_none side call es is = ap (filter_map (order_in side)) is.2
+
+clone_none : (side : Side) (es : List Event) → MakesClone es → filter_map (order_in side) es ≡ []
+clone_none side es (is_complete n is) = ap (filter_map (order_in side)) is
+clone_none side es (was_complete n is) = ap (filter_map (order_in side)) is
+clone_none side es (is_broken is) = ap (filter_map (order_in side)) is
+clone_none side es (was_broken is) = ap (filter_map (order_in side)) is
+
+rows_none : (side : Side) (es : List Event) → MakesRows es → filter_map (order_in side) es ≡ []
+rows_none side es (are_shown rows is) = ap (filter_map (order_in side)) is
+rows_none side es (not_there is) = ap (filter_map (order_in side)) is
+rows_none side es (not_read is) = ap (filter_map (order_in side)) is
+rows_none side es (not_sound space page why is) = ap (filter_map (order_in side)) is
+
+-- the orders of a line's events are the line's
+abbrev OfLine : Side → Line → List Event → Type 0
+OfLine side line es = filter_map (order_in side) es ≡ cons_option (order_of side line) []
+
+no_order : (side : Side) (line : Line) (es : List Event) → donor_order line ≡ None → recipient_order line ≡ None → filter_map (order_in side) es ≡ [] → OfLine side line es
+no_order to_donor line es donor recipient is = is ∙ ap (λ o. cons_option o []) (sym donor)
+no_order to_recipient line es donor recipient is = is ∙ ap (λ o. cons_option o []) (sym recipient)
+
+to_donor_line : (side : Side) (line : Line) (order : DiskOrder) (es : List Event) → donor_order line ≡ Some order → recipient_order line ≡ None → es ≡ ordered to_donor order ∷ [] → OfLine side line es
+to_donor_line to_donor line order es donor recipient is = ap (filter_map (order_in to_donor)) is ∙ ap (λ o. cons_option o []) (sym donor)
+to_donor_line to_recipient line order es donor recipient is = ap (filter_map (order_in to_recipient)) is ∙ ap (λ o. cons_option o []) (sym recipient)
+
+to_recipient_line : (side : Side) (line : Line) (order : DiskOrder) (es : List Event) → donor_order line ≡ None → recipient_order line ≡ Some order → es ≡ ordered to_recipient order ∷ [] → OfLine side line es
+to_recipient_line to_donor line order es donor recipient is = ap (filter_map (order_in to_donor)) is ∙ ap (λ o. cons_option o []) (sym donor)
+to_recipient_line to_recipient line order es donor recipient is = ap (filter_map (order_in to_recipient)) is ∙ ap (λ o. cons_option o []) (sym recipient)
+
+line_orders : (side : Side) (next : ℕ → ℕ) (line : Line) (es : List Event) → Makes next line es → OfLine side line es
+line_orders side next (lines.Create table buckets) es is = no_order side _ es refl refl (call_none side _ es is)
+line_orders side next (lines.Begin writer) es is = no_order side _ es refl refl (call_none side _ es is)
+line_orders side next (lines.Put trx table key value) es is = no_order side _ es refl refl (call_none side _ es is)
+line_orders side next (lines.Delete trx table key) es is = no_order side _ es refl refl (call_none side _ es is)
+line_orders side next (lines.Get trx table key) es is = no_order side _ es refl refl (call_none side _ es is)
+line_orders side next (lines.Undo trx) es is = no_order side _ es refl refl (call_none side _ es is)
+line_orders side next (lines.Commit trx) es is = no_order side _ es refl refl (call_none side _ es is)
+line_orders side next (lines.Set writer table key value) es is = no_order side _ es refl refl (set_none side writer _ table key value es is)
+line_orders side next (lines.Flush space page) es is = no_order side _ es refl refl (call_none side _ es is)
+line_orders side next (lines.Half space page) es is = no_order side _ es refl refl (call_none side _ es is)
+line_orders side next (lines.Land space page) es is = no_order side _ es refl refl (call_none side _ es is)
+line_orders side next lines.Clean es is = no_order side _ es refl refl (none_in side es (clean_none side es is))
+line_orders side next lines.Checkpoint es is = no_order side _ es refl refl (call_none side _ es is)
+line_orders side next lines.Lsn es is = no_order side _ es refl refl (call_none side _ es is)
+line_orders side next (lines.Tear byte) es is = to_donor_line side _ _ es refl refl is
+line_orders side next (lines.FailDonor call) es is = to_donor_line side _ _ es refl refl is
+line_orders side next (lines.FailRecipient call) es is = to_recipient_line side _ _ es refl refl is
+line_orders side next lines.Clone es is = no_order side _ es refl refl (clone_none side es is)
+line_orders side next lines.Rows es is = no_order side _ es refl refl (rows_none side es is)
+
+-- THE ORDERS OF A RUN
+pub run_orders : (side : Side) (s : State) (ls : List Line) (events : List (List Event)) (t : State) → Runs s ls events t → (disk_of side t.donor).orders ≡ (disk_of side s.donor).orders ++ filter_map (order_of side) ls
+run_orders side s [] [] t run = ap (λ (w : State). (disk_of side w.donor).orders) (sym run) ∙ sym (append-nil (disk_of side s.donor).orders)
+run_orders side s [] (es ∷ more) t run = absurd run
+run_orders side s (l ∷ ls) [] t run = absurd run
+run_orders side s (l ∷ ls) (es ∷ more) t run =
+    let first : GetsAll side s run.0 (cons_option (order_of side l) []) = events_get side s es run.0 run.1.1 ∙ ap (λ os. (disk_of side s.donor).orders ++ os) (line_orders side _ l es run.1.0) in
+    gets_behind side s run.0 t (order_of side l) (filter_map (order_of side) ls) first (run_orders side run.0 ls more t run.2)

@@ -1,0 +1,12 @@
+use Rattle.std.proofs.Common.{refl, string_bytes}
+use Rattle.clone_model.specs.declared.line.Line.TheVariants as lines
+use Rattle.clone_plain.specs.Calls.{did_checkpoint, done}
+use Rattle.clone_plain.specs.Events.{made}
+use Rattle.clone_core.proofs.LineLemmas.{event_answers, stays_breaks, made_step}
+use Rattle.clone_core.proofs.world.World.checkpoint_line.Goals as goal
+
+pub returns-clause-ok : goal.returns-clause-ok
+returns-clause-ok g c = event_answers string_bytes c.args.self.now _ lines.Checkpoint (made (done (did_checkpoint c.checkpoint-lsn.result))) c.format.result (done (did_checkpoint c.checkpoint-lsn.result), refl, refl) c.checkpoint-lsn.ensures c.format.ensures.ok
+
+pub returns-clause-err : goal.returns-clause-err
+returns-clause-err g c = stays_breaks c.args.self.now _ lines.Checkpoint c.format.result (record { donor = (made_step _ _ _ c.checkpoint-lsn.ensures).1; begun = c.checkpoint-lsn.ensures.begun })

@@ -1,0 +1,23 @@
+-- A log that grows by a mini-transaction at most.
+use Rattle.std.specs.Prelude.{ℕ, ◌≡◌, ◌≤◌, ◌⊎◌, ◌+◌, ◌-◌, ◌++◌, ◌∷◌, [], List, length, drop}
+use Rattle.clone_mtr.specs.Spelling.{log_of}
+use Rattle.clone_mtr.specs.declared.record.Record.{Record}
+use Rattle.clone_image.specs.Replay.{first_lsn}
+use Rattle.clone_ring.specs.Window.{Window}
+use Rattle.clone_buffer.specs.Buffered.{Buffered}
+
+-- the log is the old one, or one mini-transaction stands behind it
+abbrev pub GrowsByOne : List (List Record) → List (List Record) → Type 0
+GrowsByOne old new = (new ≡ old) ⊎ ((records : List Record) × (new ≡ old ++ records ∷ []))
+
+-- The bytes are those of a log that has grown by one mini-transaction at most, and the ring has
+-- what stands behind them.
+pub record HasGrown (bytes : List ℕ) (b : Buffered) : Type 0 where
+  pub old : List (List Record)
+  pub bytes_of : bytes ≡ log_of old
+  pub grown : GrowsByOne old b.log
+  pub kept : b.ring.floor ≤ first_lsn + length bytes
+
+-- the bytes of the log from an LSN on
+abbrev pub bytes_from : ℕ → Window → List ℕ
+bytes_from lsn ring = drop (lsn - ring.floor) ring.bytes

@@ -1,0 +1,93 @@
+ghost use Rattle.std.specs.Prelude.{◌≡◌, Ok};
+ghost use Rattle.clone_plain.specs.Calls as call;
+ghost use Rattle.clone_plain.specs.Calls.{did_flush_begin, did_flush_half, did_flush_land, did_oldest_dirty, did_checkpoint, did_end};
+ghost use Rattle.clone_donor.specs.Steps.{Steps, answer_of, refusal_of};
+
+use crate::Donor;
+use clone_flush::FlushRefusal;
+use clone_outside::PageDisk;
+use clone_plain::{Cause, EngineRefusal};
+
+// The flushes and the checkpoint.
+impl<D: PageDisk> Donor<D> {
+    /// The flush of a page begins: its image is what will be written.
+    pub fn flush_begin(&mut self, space: u32, page: u32) -> Result<(), EngineRefusal>
+        ensures { Steps (call.flush_begin space page) self.old self.new
+            (answer_of (λ _. did_flush_begin space page) result) }
+    {
+        self.transactions.laws();
+        self.buffer.laws();
+        match self.flusher.begin(&mut self.buffer, space, page) {
+            Ok(()) => Ok(()),
+            Err(refusal) => Err(refused(refusal)),
+        }
+    }
+
+    /// Writes the first half of a page whose flush has begun.
+    pub fn flush_half(&mut self, space: u32, page: u32) -> Result<(), EngineRefusal>
+        ensures { Steps (call.flush_half space page) self.old self.new
+            (answer_of (λ _. did_flush_half space page) result) }
+    {
+        self.buffer.laws();
+        match self
+            .flusher
+            .half(&mut self.buffer, space, page, &mut self.disk)
+        {
+            Ok(()) => Ok(()),
+            Err(refusal) => Err(refused(refusal)),
+        }
+    }
+
+    /// Writes the second half of a page whose first half is written. The page is clean then, or
+    /// dirty from its first change after the flush began.
+    pub fn flush_land(&mut self, space: u32, page: u32) -> Result<(), EngineRefusal>
+        ensures { Steps (call.flush_land space page) self.old self.new
+            (answer_of (λ _. did_flush_land space page) result) }
+    {
+        self.buffer.laws();
+        match self
+            .flusher
+            .land(&mut self.buffer, space, page, &mut self.disk)
+        {
+            Ok(()) => Ok(()),
+            Err(refusal) => Err(refused(refusal)),
+        }
+    }
+
+    /// The dirty page to be flushed next, by its space and its number, or none where no dirty page
+    /// waits for that.
+    pub fn oldest_dirty(&self) -> Option<(u32, u32)>
+        ensures { Steps call.oldest_dirty self.now self.now (Ok (did_oldest_dirty result)) }
+    {
+        self.flusher.oldest_dirty(&self.buffer)
+    }
+
+    /// A checkpoint: the LSN at which the oldest change begins that isn't on the disk, or the log's
+    /// end where no page is dirty. The log below it may go.
+    pub fn checkpoint(&mut self) -> u64
+        ensures { Steps call.checkpoint self.old self.new (Ok (did_checkpoint result)) }
+    {
+        self.buffer.laws();
+        self.flusher.checkpoint(&mut self.buffer)
+    }
+
+    /// The LSN behind the log's last byte.
+    pub fn end(&self) -> u64
+        ensures { Steps call.end self.now self.now (Ok (did_end result)) }
+    {
+        self.buffer.end()
+    }
+}
+
+// Why a flush is refused, as a donor answers it.
+fn refused(refusal: FlushRefusal) -> EngineRefusal
+    ensures { result ≡ refusal_of refusal }
+{
+    match refusal {
+        FlushRefusal::NotDirty => Cause::NotDirty.into(),
+        FlushRefusal::InFlight => Cause::InFlight.into(),
+        FlushRefusal::NoFlush => Cause::NoFlush.into(),
+        FlushRefusal::DiskFault => Cause::DiskFault.into(),
+        FlushRefusal::NoMemory => EngineRefusal::NoMemory,
+    }
+}

@@ -1,0 +1,279 @@
+//! Runs over disks that aren't empty or that fail, and the lines that write pages.
+
+use super::{PLAINEST, PLAINEST_BINLOG, PLAINEST_OUT, Ran, source_of, words_of};
+use crate::run::clone_main;
+use clone_memdisk::MemDisk;
+use clone_model::rows_text;
+use clone_outside::{DiskOrder, MARK_SIZE, MemSink, PageDisk};
+use clone_recover::{RecoverRefusal, open_rows, recover};
+use std::alloc::{AllocError, Global};
+use std::process::Abort;
+use std::test::Fail;
+
+// A run of the script over these disks.
+fn run_on(
+    alloc: Global,
+    script: &str,
+    donor: MemDisk,
+    recipient: MemDisk,
+) -> Result<Ran, AllocError> {
+    let words = words_of(alloc, &["steps"])?;
+    let mut source = source_of(alloc, script.as_bytes())?;
+    let mut out = MemSink::new(alloc);
+    let mut binlog = MemSink::new(alloc);
+    let ended = clone_main(
+        alloc,
+        &words,
+        &mut source,
+        &mut out,
+        &mut binlog,
+        donor,
+        recipient,
+    );
+    Ok(Ran {
+        status: ended.status,
+        out,
+        binlog,
+        donor: ended.donor,
+        recipient: ended.recipient,
+    })
+}
+
+/// What stands against a run on one of its disks.
+#[derive(Clone, Copy)]
+enum Bad {
+    Nothing,
+    Space,
+    Mark,
+    Fails { call: u64 },
+}
+
+fn disk_with(rt: &impl Abort, alloc: Global, bad: Bad) -> Result<MemDisk, AllocError> {
+    let mut disk = MemDisk::new(alloc);
+    let laid = match bad {
+        Bad::Nothing => Ok(()),
+        Bad::Space => disk.create(7, 1),
+        Bad::Mark => disk.write_mark(&[0; MARK_SIZE]),
+        Bad::Fails { call } => {
+            disk.order(DiskOrder::FailAt { call })?;
+            Ok(())
+        }
+    };
+    assert_eq!(rt; laid, Ok(()));
+    Ok(disk)
+}
+
+/// What stands against the donor's disk and against the recipient's, and the status and the output
+/// of a run. The donor's disk is looked at by two calls, and so is the recipient's; opening looks
+/// at the donor's by two more and makes the system space by a fifth.
+const BAD_DISKS: [(Bad, Bad, u8, &str); 15] = [
+    (Bad::Space, Bad::Nothing, 9, "not empty\n"),
+    (Bad::Mark, Bad::Nothing, 9, "not empty\n"),
+    (Bad::Nothing, Bad::Space, 9, "not empty\n"),
+    (Bad::Nothing, Bad::Mark, 9, "not empty\n"),
+    (
+        Bad::Fails { call: 1 },
+        Bad::Nothing,
+        6,
+        "donor disk fault\n",
+    ),
+    (
+        Bad::Fails { call: 2 },
+        Bad::Nothing,
+        6,
+        "donor disk fault\n",
+    ),
+    (
+        Bad::Fails { call: 3 },
+        Bad::Nothing,
+        6,
+        "donor disk fault\n",
+    ),
+    (
+        Bad::Fails { call: 4 },
+        Bad::Nothing,
+        6,
+        "donor disk fault\n",
+    ),
+    (
+        Bad::Fails { call: 5 },
+        Bad::Nothing,
+        6,
+        "donor disk fault\n",
+    ),
+    (
+        Bad::Nothing,
+        Bad::Fails { call: 1 },
+        7,
+        "recipient disk fault\n",
+    ),
+    (
+        Bad::Nothing,
+        Bad::Fails { call: 2 },
+        7,
+        "recipient disk fault\n",
+    ),
+    // a fault is told before a disk that isn't empty, and the donor's before the recipient's
+    (
+        Bad::Space,
+        Bad::Fails { call: 1 },
+        7,
+        "recipient disk fault\n",
+    ),
+    (Bad::Fails { call: 1 }, Bad::Mark, 6, "donor disk fault\n"),
+    (
+        Bad::Fails { call: 1 },
+        Bad::Fails { call: 1 },
+        6,
+        "donor disk fault\n",
+    ),
+    (Bad::Fails { call: 5 }, Bad::Space, 9, "not empty\n"),
+];
+
+#[test]
+fn ends_at_disks_that_fail_or_are_not_empty(rt: HostRuntime) -> Result<(), Fail> {
+    for (donor, recipient, status, out) in BAD_DISKS {
+        let donor = disk_with(&rt, rt.alloc(), donor)?;
+        let recipient = disk_with(&rt, rt.alloc(), recipient)?;
+        run_on(rt.alloc(), PLAINEST, donor, recipient)?.expect(&rt, status, out, "");
+    }
+    Ok(())
+}
+
+/// Scripts with lines of the disks and the log, each with its status, its output and its binlog,
+/// and the rows that the recipient's disk recovers to, if it has a clone.
+const DISK_SCRIPTS: [(&str, u8, &str, &str, Option<&str>); 13] = [
+    // a transaction is open at the stop, and its page was flushed before
+    (
+        "create 1 4\nset 0 1 5 aa\nbegin 1\nput 0 1 5 bb\nlsn\nclean\nclone\ncommit 0\n",
+        0,
+        "created\ncommitted 1\ntrx 0\nok\nlsn 8821\ncleaned 3\ncomplete position 1\ncommitted 2\n",
+        "commit 0 0 1\n1 5 aa\ncommit 1 0 1\n1 5 bb\n",
+        Some("1 5 aa\n"),
+    ),
+    // a flush fails before the clone
+    (
+        "create 1 1\nset 0 1 1 aa\nflush 1 0\nfail donor 1\nhalf 1 0\nflush 0 0\nhalf 0 0\nland 0 0\nflush 0 1\nhalf 0 1\nland 0 1\ncheckpoint\ntear 255\nclone\nrows\n",
+        0,
+        "created\ncommitted 1\nbegun\nnoted\nrefused E17\nbegun\nhalf\nlanded\nbegun\nhalf\nlanded\ncheckpoint 8293\nnoted\ncomplete position 1\n1 1 aa\nrows 1\n",
+        "commit 0 0 1\n1 1 aa\n",
+        Some("1 1 aa\n"),
+    ),
+    // a page is changed while it is flushed
+    (
+        "create 1 1\nset 0 1 1 aa\nflush 1 0\nset 0 1 1 bb\nhalf 1 0\nland 1 0\nflush 0 0\nhalf 0 0\nland 0 0\nflush 0 1\nhalf 0 1\nland 0 1\ncheckpoint\nclone\nrows\n",
+        0,
+        "created\ncommitted 1\nbegun\ncommitted 2\nhalf\nlanded\nbegun\nhalf\nlanded\nbegun\nhalf\nlanded\ncheckpoint 8603\ncomplete position 2\n1 1 bb\nrows 1\n",
+        "commit 0 0 1\n1 1 aa\ncommit 0 1 1\n1 1 bb\n",
+        Some("1 1 bb\n"),
+    ),
+    // the log's end, behind opening, a table, a first row and a row in another bucket
+    (
+        "lsn\ncreate 1 4\nlsn\nset 0 1 1 aa\nlsn\nset 0 1 2 bb\nlsn\nclone\n",
+        0,
+        "lsn 8213\ncreated\nlsn 8252\ncommitted 1\nlsn 8573\ncommitted 2\nlsn 8883\ncomplete position 2\n",
+        "commit 0 0 1\n1 1 aa\ncommit 0 1 1\n1 2 bb\n",
+        Some("1 1 aa\n1 2 bb\n"),
+    ),
+    // opening leaves one dirty page
+    (
+        "clean\nclean\ncheckpoint\nflush 0 0\nflush 0 1\nhalf 0 0\nland 0 0\n",
+        0,
+        "cleaned 1\ncleaned 0\ncheckpoint 8213\nrefused E14\nrefused E14\nrefused E16\nrefused E16\n",
+        "",
+        None,
+    ),
+    // the refusals of a flush, in its order
+    (
+        "begin 0\ncreate 1 1\nput 0 1 1 aa\nflush 1 0\nland 1 0\nflush 1 0\nhalf 1 0\nhalf 1 0\nland 1 0\nland 1 0\nflush 1 0\nundo 0\nundo 0\n",
+        0,
+        "trx 0\ncreated\nok\nbegun\nrefused E16\nrefused E15\nhalf\nrefused E16\nlanded\nrefused E16\nrefused E14\nundone 0\nended\n",
+        "",
+        None,
+    ),
+    // the disk refuses a table, and a flush, which is repeated
+    (
+        "fail donor 1\ncreate 1 1\ncreate 1 1\nset 0 1 1 aa\nfail donor 1\nclean\nclean\nclean\nclone\n",
+        0,
+        "noted\nrefused E17\ncreated\ncommitted 1\nnoted\nrefused E17\ncleaned 3\ncleaned 0\ncomplete position 1\n",
+        "commit 0 0 1\n1 1 aa\n",
+        Some("1 1 aa\n"),
+    ),
+    // the recipient's disk fails in the clone
+    (
+        "create 1 4\nset 0 1 7 6869\nfail recipient 1\nclone\nrows\nclone\nset 0 1 8 aa\n",
+        7,
+        "created\ncommitted 1\nnoted\nrecipient disk fault\nincomplete\nrecipient disk fault\ncommitted 2\n",
+        "commit 0 0 1\n1 7 6869\ncommit 0 1 1\n1 8 aa\n",
+        None,
+    ),
+    // and in the rows, which are shown the next time
+    (
+        "create 1 4\nset 0 1 7 6869\nclone\nfail recipient 1\nrows\nrows\nclone\n",
+        7,
+        "created\ncommitted 1\ncomplete position 1\nnoted\nrecipient disk fault\n1 7 6869\nrows 1\ncomplete position 1\n",
+        PLAINEST_BINLOG,
+        Some("1 7 6869\n"),
+    ),
+    // a call that isn't made doesn't fail
+    (
+        "fail donor 1000000\nfail recipient 1000000\ntear 0\ncreate 1 4\nset 0 1 7 6869\nclone\nrows\n",
+        0,
+        "noted\nnoted\nnoted\ncreated\ncommitted 1\ncomplete position 1\n1 7 6869\nrows 1\n",
+        PLAINEST_BINLOG,
+        Some("1 7 6869\n"),
+    ),
+    // the least sizes
+    (
+        "pool 16\nring 65536\ncreate 1 4\nset 0 1 7 6869\nclone\nrows\n",
+        0,
+        PLAINEST_OUT,
+        PLAINEST_BINLOG,
+        Some("1 7 6869\n"),
+    ),
+    // the largest
+    (
+        "ring 16777216\npool 4096\ncreate 1 4\nset 0 1 7 6869\nclone\nrows\n",
+        0,
+        PLAINEST_OUT,
+        PLAINEST_BINLOG,
+        Some("1 7 6869\n"),
+    ),
+    // a clone of nothing
+    ("clone\n", 0, "complete position 0\n", "", Some("")),
+];
+
+#[test]
+fn carries_out_lines_of_disks(rt: HostRuntime) -> Result<(), Fail> {
+    for (script, status, out, binlog, rows) in DISK_SCRIPTS {
+        let (donor, recipient) = (MemDisk::new(rt.alloc()), MemDisk::new(rt.alloc()));
+        let ran = run_on(rt.alloc(), script, donor, recipient)?;
+        ran.expect(&rt, status, out, binlog);
+        expect_rows(&rt, rt.alloc(), ran, rows)?;
+    }
+    Ok(())
+}
+
+// The recipient's disk recovers to these rows, or has no clone.
+fn expect_rows(
+    rt: &impl Abort,
+    alloc: Global,
+    ran: Ran,
+    rows: Option<&str>,
+) -> Result<(), AllocError> {
+    let mut disk = ran.recipient;
+    let recovered = recover(alloc, &mut disk);
+    let Some(rows) = rows else {
+        assert_eq!(rt; recovered, Err(RecoverRefusal::Incomplete));
+        return Ok(());
+    };
+    assert!(rt; recovered.is_ok());
+    match open_rows(alloc, &mut disk) {
+        Ok(found) => {
+            let text = rows_text(alloc, &found)?;
+            assert_eq!(rt; text.as_str(), rows);
+        }
+        Err(_) => assert!(rt; false),
+    }
+    Ok(())
+}

@@ -1,0 +1,62 @@
+//! A scan of redo bytes for a record that names a space that is no table.
+ghost use Rattle.std.specs.Prelude.{◌≡◌, ◌≤◌, IfSome, true, false, length};
+ghost use Rattle.std.specs.List.{AllByRecursion};
+ghost use Rattle.clone_recover.specs.Reading.{named_space, IsOfTable};
+
+use clone_base::REDO_SPACE;
+use clone_mtr::Record;
+use clone_page::{u16_at, u32_at};
+
+/// Where the first record begins that names the redo's space or one behind it. The scan ends at the
+/// first byte that begins no whole record.
+pub fn first_foreign(bytes: &[u8]) -> Option<usize>
+    ensures { IfSome result (λ at. at ≤ length bytes.now) }
+{
+    let mut at = 0;
+    while let Some(length) = record_length(&bytes[at..]) {
+        if u32_at(bytes, at + 1) >= REDO_SPACE {
+            return Some(at);
+        }
+        at += length;
+    }
+    None
+}
+
+// How long the record at the front is, if a whole one stands there.
+fn record_length(bytes: &[u8]) -> Option<usize>
+    ensures most { IfSome result (λ long. long ≤ length bytes.now) }
+    ensures least { IfSome result (λ long. 5 ≤ long) }
+{
+    let length = match bytes.first()? {
+        1 => 11,
+        2 if bytes.len() >= 13 => 13 + u16_at(bytes, 11) as usize,
+        3 | 4 => 9,
+        5 => 5,
+        _ => return None,
+    };
+    if length > bytes.len() {
+        return None;
+    }
+    Some(length)
+}
+
+/// Whether one of the records names the redo's space or one behind it.
+pub fn names_foreign(records: &[Record]) -> bool
+    ensures no { result ≡ false → AllByRecursion IsOfTable records.now }
+    ensures yes { result ≡ true → AllByRecursion IsOfTable records.now → ⊥ }
+{
+    records.iter().any(|entry| space_of(entry) >= REDO_SPACE)
+}
+
+// The space that a record names.
+fn space_of(entry: &Record) -> u32
+    ensures { result ≡ named_space entry.now }
+{
+    match entry {
+        Record::Init { space, .. }
+        | Record::Write { space, .. }
+        | Record::Extend { space, .. }
+        | Record::Create { space, .. }
+        | Record::Drop { space } => *space,
+    }
+}

@@ -1,5 +1,0 @@
-use Rattle.clone_restore.proofs.Meeting.{settled_now}
-use Rattle.clone_restore.proofs.redo.settle.Goals as goal
-
-pub returns-clause-met : goal.returns-clause-met
-returns-clause-met c = settled_now c.args.space c.args.number c.args.meetings.now.items c.push.new.self.items c.args.older c.in_ok-push.ensures.items

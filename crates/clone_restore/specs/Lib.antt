@@ -1,9 +1,0 @@
-pub mod Refusals
-pub mod Reading
-pub mod Meetings
-pub mod Redo
-pub mod Damage
-pub mod Undoing
-pub mod Written
-pub mod Restores
-pub mod Listing

@@ -1,8 +1,0 @@
-use Rattle.std.proofs.Common.{drop}
-use Rattle.std.specs.List.{AllByRecursion}
-use Rattle.clone_mtr.specs.Records.{IsRecord}
-use Rattle.clone_store.proofs.store.all_known.Given as goal
-
--- those that are left are what lacks
-abbrev pub invariant-loop-entry : goal.invariant-loop-entry
-invariant-loop-entry l = AllByRecursion IsRecord (drop l.entry-index l.records) → AllByRecursion IsRecord l.records

@@ -1,0 +1,292 @@
+use crate::trx::drawn::{below, drawn_bytes, drawn_call};
+use crate::trx::pages::Pages;
+use crate::trx::plain::Plain;
+use crate::trx::{Answer, Call, FlushStep, PageAt, answered, ask, flush};
+use clone_base::FIRST_LSN;
+use clone_donor::Donor;
+use clone_model::Config;
+use clone_mtr::decode;
+use clone_outside::PageDisk;
+use clone_plain::Cause;
+use rand_pcg::Pcg32;
+use std::alloc::Global;
+use std::process::Abort;
+use std::test::Fail;
+
+/// So few frames and so little log that both are full now and then.
+pub const FEW: Config = Config {
+    pool: FRAMES,
+    ring: RING,
+};
+
+const FRAMES: u32 = 16;
+
+const RING: u64 = 65_536;
+
+// How many of the frames a call pins while it fetches another page.
+const PINS: usize = 2;
+
+// How many kinds of refusals there are, with those that don't come here.
+const KINDS: usize = 18;
+
+/// The plain donor and its plain dirty pages, which get the calls of a donor of few frames and
+/// little log.
+#[derive(Drop)]
+pub struct Beside {
+    plain: Plain,
+    pages: Pages,
+    // the last checkpoint
+    floor: u64,
+    // whether reads of the disk give what was written
+    is_told: bool,
+    // how often each kind of refusal came
+    refused: [u64; KINDS],
+    alloc: Global,
+}
+
+impl Beside {
+    /// Beside a donor that was opened, and of which nothing was asked.
+    pub fn new(alloc: Global, is_told: bool) -> Beside {
+        Beside {
+            plain: Plain::new(alloc),
+            pages: Pages::new(alloc),
+            floor: FIRST_LSN,
+            is_told,
+            refused: [0; KINDS],
+            alloc,
+        }
+    }
+
+    pub fn plain(&self) -> &Plain {
+        &self.plain
+    }
+
+    pub fn pages(&self) -> &Pages {
+        &self.pages
+    }
+
+    /// Reads what a call wrote to the log from there on, whose records change their pages. Whether
+    /// it is one mini-transaction or nothing.
+    pub fn read_log(&mut self, redo: &[u8], start: u64) -> Result<bool, Fail> {
+        let from = start.saturating_sub(FIRST_LSN) as usize;
+        let bytes = redo.get(from..).ok_or("no such place in the log")?;
+        if bytes.is_empty() {
+            return Ok(true);
+        }
+        let (mtr, length) = decode(self.alloc, bytes).ok().ok_or("no mini-transaction")?;
+        self.pages.note(mtr.records(), start)?;
+        Ok(length == bytes.len())
+    }
+
+    // A refusal of this kind comes.
+    fn count(&mut self, number: usize) {
+        if let Some(count) = self.refused.get_mut(number) {
+            *count = count.saturating_add(1);
+        }
+    }
+
+    /// Each of these kinds of refusals came, by their numbers: that of a cause, or 0 where the disk
+    /// failed in a step of a flush.
+    pub fn expect_refusals(&self, rt: &impl Abort, numbers: &[usize]) {
+        for number in numbers {
+            let count = self.refused.get(*number).copied();
+            assert!(rt; count.unwrap_or(0) > 0);
+        }
+    }
+
+    /// A call of the donor. It answers as the plain donor does, or it is refused where that may
+    /// be, and then nothing has changed.
+    pub fn call<D: PageDisk>(
+        &mut self,
+        rt: &impl Abort,
+        donor: &mut Donor<D>,
+        call: Call,
+    ) -> Result<(), Fail> {
+        let start = donor.end();
+        let answer = ask(self.alloc, donor, call)?;
+        let end = donor.end();
+        match answer {
+            Ok(answer) => {
+                self.expect_answer(rt, call, answer)?;
+                assert!(rt; self.read_log(donor.redo(), start)?);
+                assert!(rt; (start < end) == writes(call));
+            }
+            Err(cause) => {
+                assert!(rt; self.may_refuse(call, cause, end));
+                assert!(rt; end == start);
+                self.count(number_of(cause));
+            }
+        }
+        self.expect_oldest(rt, donor);
+        Ok(())
+    }
+
+    // The plain donor answers so too. Where the disk doesn't tell what was written, the value of a
+    // row is any.
+    fn expect_answer(&mut self, rt: &impl Abort, call: Call, found: Answer) -> Result<(), Fail> {
+        let cause = self.plain.check(call);
+        assert!(rt; cause.is_ok() || !self.is_told && is_behind_reads(cause));
+        let expected = answered(self.plain.carry_out(self.alloc, call))?;
+        if self.is_told || !matches!(&found, Answer::Shown(_)) {
+            assert!(rt; expected == Ok(found));
+        } else {
+            assert!(rt; expected.is_ok());
+        }
+        Ok(())
+    }
+
+    // Whether a call may be refused so, where the log ends there. A page is read only where the
+    // plain donor has no cause but a full bucket.
+    fn may_refuse(&self, call: Call, cause: Cause, end: u64) -> bool {
+        let plain = self.plain.check(call);
+        let reads = is_behind_reads(plain);
+        match cause {
+            Cause::LogFull { need, free } => {
+                let is_carried_out = plain.is_ok() || reads && !self.is_told;
+                is_carried_out && writes(call) && self.lacks_room(need, free, end)
+            }
+            Cause::PoolFull { frames } => {
+                let dirty = self.pages.len().saturating_add(PINS);
+                reads && frames == FRAMES && dirty >= FRAMES as usize
+            }
+            Cause::DiskFault => reads,
+            Cause::SpaceFull if !self.is_told => reads,
+            cause => plain == Err(cause),
+        }
+    }
+
+    // Whether so many bytes are free where the log ends there, and they are too few.
+    fn lacks_room(&self, need: u64, free: u64, end: u64) -> bool {
+        let kept = end.saturating_sub(self.floor);
+        free < need && free.saturating_add(kept) == RING
+    }
+
+    // The page to be flushed next is the plain one.
+    fn expect_oldest<D: PageDisk>(&self, rt: &impl Abort, donor: &Donor<D>) {
+        let found = donor.oldest_dirty();
+        assert!(rt; found == self.pages.oldest_dirty());
+    }
+
+    /// A step of a flush. It is carried out, or refused as the plain dirty pages say; or the disk
+    /// fails, and then the flush has failed.
+    pub fn flush<D: PageDisk>(
+        &mut self,
+        rt: &impl Abort,
+        donor: &mut Donor<D>,
+        step: FlushStep,
+        page: PageAt,
+    ) -> Result<(), Fail> {
+        let answer = flush(donor, step, page)?;
+        self.expect_flush(rt, step, page, answer);
+        self.expect_oldest(rt, donor);
+        Ok(())
+    }
+
+    fn expect_flush(
+        &mut self,
+        rt: &impl Abort,
+        step: FlushStep,
+        page: PageAt,
+        answer: Result<(), Cause>,
+    ) {
+        let expected = self.pages.check(step, page);
+        match answer {
+            Ok(()) => {
+                assert!(rt; expected.is_ok());
+                self.pages.carry_out(step, page);
+            }
+            Err(Cause::DiskFault) => {
+                // the image is written from the second step on
+                assert!(rt; expected.is_ok() && step != FlushStep::Begin);
+                self.pages.fail(page);
+                self.count(0);
+            }
+            Err(cause) => {
+                assert!(rt; expected == Err(cause));
+                self.count(number_of(cause));
+            }
+        }
+    }
+
+    /// A checkpoint, below which the log goes.
+    pub fn checkpoint<D: PageDisk>(&mut self, rt: &impl Abort, donor: &mut Donor<D>) {
+        let lsn = donor.checkpoint();
+        assert!(rt; lsn == self.pages.checkpoint(donor.end()));
+        self.floor = lsn;
+    }
+
+    /// A call that is drawn: of the donor, of a flush, or a checkpoint.
+    pub fn step<D: PageDisk>(
+        &mut self,
+        rt: &impl Abort,
+        donor: &mut Donor<D>,
+        words: &mut Pcg32,
+        call: u64,
+    ) -> Result<(), Fail> {
+        match below(words, 20) {
+            0..=2 => self.drawn_flush(rt, donor, words, FlushStep::Begin),
+            3 | 4 => self.drawn_flush(rt, donor, words, FlushStep::Half),
+            5 | 6 => self.drawn_flush(rt, donor, words, FlushStep::Land),
+            7 if takes_checkpoints(call) => {
+                self.checkpoint(rt, donor);
+                Ok(())
+            }
+            _ => {
+                let bytes = drawn_bytes(words);
+                self.call(rt, donor, drawn_call(words, call, &bytes))
+            }
+        }
+    }
+
+    // Mostly a step that can be carried out.
+    fn drawn_flush<D: PageDisk>(
+        &mut self,
+        rt: &impl Abort,
+        donor: &mut Donor<D>,
+        words: &mut Pcg32,
+        step: FlushStep,
+    ) -> Result<(), Fail> {
+        let drawn = (below(words, 4), below(words, 4));
+        let mut page = drawn;
+        if below(words, 8) > 0 {
+            page = self.pages.next(step).unwrap_or(drawn);
+        }
+        self.flush(rt, donor, step, page)
+    }
+}
+
+// Of each two thousand of calls only the last take checkpoints, so that the log is full before.
+fn takes_checkpoints(call: u64) -> bool {
+    call % 2_000 >= 1_500
+}
+
+// Whether a plain cause stands behind the reads of pages, as no cause does: the bucket is full.
+fn is_behind_reads(cause: Result<(), Cause>) -> bool {
+    cause.is_ok() || cause == Err(Cause::SpaceFull)
+}
+
+// Whether the call writes to the log where it isn't refused.
+fn writes(call: Call) -> bool {
+    !matches!(call, Call::Get(_, _, _))
+}
+
+// The number of a refusal.
+fn number_of(cause: Cause) -> usize {
+    match cause {
+        Cause::NoSuchTrx => 1,
+        Cause::NoSuchTable => 2,
+        Cause::TableExists => 3,
+        Cause::RowLocked { .. } => 4,
+        Cause::ValueTooLong => 5,
+        Cause::UndoFull => 6,
+        Cause::SpaceFull => 7,
+        Cause::LogFull { .. } => 8,
+        Cause::PoolFull { .. } => 9,
+        Cause::TooManyTransactions => 10,
+        Cause::TooManyTables => 11,
+        Cause::NotDirty => 14,
+        Cause::InFlight => 15,
+        Cause::NoFlush => 16,
+        Cause::DiskFault => 17,
+    }
+}

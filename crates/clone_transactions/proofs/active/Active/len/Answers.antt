@@ -1,7 +1,0 @@
-use Rattle.std.proofs.Common.{◌∙◌, sym, ap}
-use Rattle.clone_transactions.proofs.Common.{nat_cmp_total, Opened, len_listed}
-use Rattle.std.specs.FinMap as finite
-use Rattle.clone_transactions.proofs.active.Active.len.Goals as goal
-
-pub returns : goal.returns
-returns c = c.len.ensures.len ∙ sym (len_listed nat_cmp_total c.self.inside.commits c.len.ensures.ordered) ∙ ap (λ (d : Opened). finite.len d) c.self.view_is

@@ -1,7 +1,0 @@
-pub mod Places
-pub mod Sound
-pub mod Kept
-pub mod Ways
-pub mod Calls
-pub mod Locked
-pub mod Opened

@@ -1,0 +1,57 @@
+-- A page that is held stays held, while other pages are brought into frames and pinned.
+use Rattle.std.proofs.Common.{◌≡◌, ◌≢◌, ◌<◌, ◌&&◌, not, ◌⊎◌, inl, inr, ℕ, Bool, false, List, length, sym, ap, subst, ◌∙◌, arith}
+use Rattle.std.proofs.lemmas.Bool.{cases_eq}
+use Rattle.std.proofs.lemmas.List.{get_or-set_same, get_or-set_other}
+use Rattle.clone_pool.specs.declared.frame.Frame.{Frame}
+use Rattle.clone_pool.specs.declared.frame.PageName.{PageName}
+use Rattle.clone_pool.specs.Frames.{no_frame, frame_at, name_of, may_go, is_dirty, pinned}
+use Rattle.clone_pool.specs.Pool.{Frames, IsPool, IsHolder, KeepsInUse, with_frame}
+use Rattle.clone_pool.proofs.PoolLemmas.{holder_is}
+use Rattle.clone_buffer.specs.Buffered.{Buffered}
+use Rattle.clone_trx.specs.Ways.{held}
+use Rattle.clone_trx.proofs.CauseLemmas.{not_equal}
+use Rattle.clone_trx.specs.Kept.{Has}
+
+-- each pinned frame keeps its page, and stays pinned
+abbrev pub KeepsPinned : List Frame → List Frame → Type 0
+KeepsPinned old new = (at : ℕ) → 0 < (frame_at old at).pins → (name_of (frame_at new at) ≡ name_of (frame_at old at)) × (0 < (frame_at new at).pins)
+
+pub keeps_has : (old new : Frames) (page : PageName) (at : ℕ) → IsPool new → KeepsPinned old.frames new.frames → Has page at old.frames → Has page at new.frames
+keeps_has old new page at q keeps has =
+    let k = keeps at has.pinned in
+    record { holder = holder_is new q page at (q.once page at (k.0 ∙ has.holder.name)); pinned = k.1 }
+
+-- a frame that is pinned may not go
+stays : (f : Frame) → 0 < f.pins → may_go f ≡ false
+stays f some = ap (λ (b : Bool). b && not (is_dirty f)) (not_equal f.pins 0 (λ none. omega (arith, some, none)))
+
+pub fetch_keeps : (old new : List Frame) → KeepsInUse old new → KeepsPinned old new
+fetch_keeps old new keeps at some =
+    let is = keeps at (stays (frame_at old at) some) in
+    (ap name_of is, omega (arith, some, ap (λ (f : Frame). f.pins) is))
+
+-- a frame gets a pin more
+pub pin_keeps : (v : Frames) (at : ℕ) → at < length v.frames → KeepsPinned v.frames (with_frame at pinned v).frames
+pin_keeps v at low other some = by (cases_eq other at)
+  where
+    here : frame_at (with_frame at pinned v).frames at ≡ pinned (frame_at v.frames at)
+    here = get_or-set_same v.frames at (pinned (frame_at v.frames at)) no_frame low
+
+    by : (other ≡ at) ⊎ (other ≢ at) → (name_of (frame_at (with_frame at pinned v).frames other) ≡ name_of (frame_at v.frames other)) × (0 < (frame_at (with_frame at pinned v).frames other).pins)
+    by (inl is) = subst (λ (x : ℕ). (name_of (frame_at (with_frame at pinned v).frames x) ≡ name_of (frame_at v.frames x)) × (0 < (frame_at (with_frame at pinned v).frames x).pins)) (sym is) (ap name_of here, omega (arith, ap (λ (f : Frame). f.pins) here))
+    by (inr apart) =
+        let same = get_or-set_other v.frames at other (pinned (frame_at v.frames at)) no_frame apart in
+        (ap name_of same, omega (arith, some, ap (λ (f : Frame). f.pins) same))
+
+-- the frame that is pinned holds its page
+pub pinned_has : (v : Frames) (page : PageName) (at : ℕ) → IsPool (with_frame at pinned v) → IsHolder page v.frames at → Has page at (with_frame at pinned v).frames
+pinned_has v page at q h =
+    let here = get_or-set_same v.frames at (pinned (frame_at v.frames at)) no_frame h.within in
+    record { holder = holder_is (with_frame at pinned v) q page at (q.once page at (ap name_of here ∙ h.name)); pinned = omega (arith, ap (λ (f : Frame). f.pins) here) }
+
+-- so is each that was held before
+pub still_has : (old next new : Buffered) (at : ℕ) → KeepsInUse old.pool.frames next.pool.frames → at < length next.pool.frames → new ≡ held at next → IsPool next.pool → IsPool new.pool → (page : PageName) (b : ℕ) → Has page b old.pool.frames → Has page b new.pool.frames
+still_has old next new at keeps low is p q page b has =
+    subst (λ (v : Buffered). Has page b v.pool.frames) (sym is)
+    (keeps_has next.pool (held at next).pool page b (subst (λ (v : Buffered). IsPool v.pool) is q) (pin_keeps next.pool at low)
+    (keeps_has old.pool next.pool page b p (fetch_keeps old.pool.frames next.pool.frames keeps) has))

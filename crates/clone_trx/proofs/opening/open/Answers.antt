@@ -1,0 +1,57 @@
+use Rattle.std.proofs.Common.{◌≡◌, ◌+◌, ℕ, List, [], ◌∷◌, Option, slice_get, option_and_then, sym, ap, subst, ◌∙◌, length, nat_cmp, IsTrue}
+use Rattle.clone_outside.specs.Disk.{ForTold, Steps, with_created}
+use Rattle.clone_page.specs.declared.kind.PageKind.TheVariants.{System}
+use Rattle.clone_mtr.specs.declared.record.Record.TheVariants.{Init}
+use Rattle.clone_image.specs.Replay.{replayed}
+use Rattle.clone_ring.specs.Window.{end_of}
+use Rattle.clone_buffer.specs.Buffered.{Buffered, image_of}
+use Rattle.clone_buffer.specs.OnePage.{unflushed}
+use Rattle.clone_buffer.specs.Writing.{Creates, HasMade}
+use Rattle.clone_trx.specs.Calls.{system_page}
+use Rattle.clone_trx.proofs.Common.{get-empty, Record, page_of, spelling, opening_records, system_size, Donor, no_donor, IsKept, AreLoose}
+use Rattle.clone_trx.proofs.Common as common
+use Rattle.clone_trx.proofs.KeptLemmas.{opening_keeps}
+use Rattle.clone_trx.proofs.NewSpaceLemmas.{has_made}
+use Rattle.clone_trx.proofs.OpenLemmas.{is_taken, left_loose, opens, stands_first}
+use Rattle.clone_trx.proofs.PinLemmas.{SamePins, records_pins}
+use Rattle.clone_trx.proofs.WriteLemmas.{written_kept}
+use Rattle.clone_trx.proofs.opening.open.Goals as goal
+
+pub fresh-requires-clause-absent : goal.fresh-requires-clause-absent
+fresh-requires-clause-absent g c = λ _. ap (λ (log : List (List Record)). page_of (replayed log) 0 0) c.in_ok-buffer.ensures.log
+    ∙ ap (λ (o : Option (List (List ℕ))). option_and_then (λ pages. slice_get pages 0) o) (get-empty nat_cmp 0)
+
+pub write_space_held-requires-clause-creates : goal.write_space_held-requires-clause-creates
+write_space_held-requires-clause-creates g c = λ right.
+    let v : Buffered = c.fresh.new.self in
+    let first : Buffered = c.in_ok-buffer.buffer in
+    let none : v.log ≡ [] = ap (λ (b : Buffered). b.log) c.in-Ok-fresh.ensures.same ∙ c.in_ok-buffer.ensures.log in
+    let taken = is_taken c.args.frames c.in-Ok-fresh.at (system_page 0) first.pool v.pool (ap (λ p. p.frames) c.in_ok-buffer.ensures.pool) c.in-Ok-fresh.ensures.answer in
+    subst (λ (rs : List Record). Creates v rs) (sym c.opening.ensures) (opens v c.in-Ok-fresh.at c.laws.ensures.buffer none taken c.in-Ok-fresh.ensures.held right)
+
+pub returns-clause-kept : goal.returns-clause-kept
+returns-clause-kept g c =
+    let v : Buffered = c.fresh.new.self in
+    let w : Buffered = c.write_space_held.new.buffer in
+    let first : Buffered = c.in_ok-buffer.buffer in
+    let none : v.log ≡ [] = ap (λ (b : Buffered). b.log) c.in-Ok-fresh.ensures.same ∙ c.in_ok-buffer.ensures.log in
+    let taken = is_taken c.args.frames c.in-Ok-fresh.at (system_page 0) first.pool v.pool (ap (λ p. p.frames) c.in_ok-buffer.ensures.pool) c.in-Ok-fresh.ensures.answer in
+    let same : SamePins v.pool.frames w.pool.frames = subst (λ (b : Buffered). SamePins v.pool.frames b.pool.frames) (sym c.write_space_held.ensures.written)
+    (records_pins c.opening.result (end_of v.ring) (end_of v.ring + length (spelling c.opening.result)) v.pool) in
+    let kept : IsTrue w.right → IsKept no_donor (image_of w) = written_kept no_donor v w c.opening.result c.write_space_held.ensures.written
+    (λ right lsn.
+    let P : List (List Record) × List Record → Type 0 = λ p. IsKept no_donor (common.after_records lsn (replayed p.0) p.1) in
+    subst P (λ i. (sym none i, sym c.opening.ensures i)) (opening_keeps lsn)) in
+    record {
+      loose = subst (λ (b : Buffered). AreLoose b.pool.frames) (sym c.unpin.ensures.unpinned) (left_loose (system_page 0) c.in-Ok-fresh.at v.pool w.pool taken same);
+      kept = λ right. subst (λ (p : Donor × Buffered). IsKept p.0 (image_of p.1)) (λ i. (sym c.in_ok-transactions.ensures i, sym c.unpin.ensures.unpinned i))
+          (kept (subst (λ (b : Buffered). IsTrue b.right) c.unpin.ensures.unpinned right));
+    }
+
+pub returns-clause-stands : goal.returns-clause-stands
+returns-clause-stands g c = λ _.
+    let before = g.D.PageDisk.told c.args.disk.now in
+    let after = g.D.PageDisk.told c.create.new.self in
+    let step : Steps before after (λ m. with_created m 0 system_size) = c.in-Ok.ensures.created in
+    let made = subst (λ (rs : List Record). ForTold after (HasMade rs)) (sym c.opening.ensures) (has_made before after 0 system_size (Init 0 0 System ∷ []) step) in
+    c.unpin.ensures.stands unflushed after (c.write_space_held.ensures.stands after made unflushed (c.in-Ok-fresh.ensures.stands unflushed after (stands_first c.in_ok-buffer.buffer after c.in_ok-buffer.ensures.log c.in_ok-buffer.ensures.stands)))

@@ -1,0 +1,35 @@
+use Rattle.std.proofs.Common.{◌≡◌, ◌≢◌, ℕ, None, sym, ap, subst, ◌∙◌, IsTrue}
+use Rattle.std.specs.FinMap as finite
+use Rattle.clone_buffer.specs.Buffered.{Buffered, image_of}
+use Rattle.clone_trx.specs.Calls.{create_way}
+use Rattle.clone_trx.specs.Ways.{Goes, Makes, Carries}
+use Rattle.clone_trx.proofs.Common.{create_records, Donor, created, IsKept, TABLE_LIMIT}
+use Rattle.clone_trx.proofs.CreateLemmas.{no_cause, create_goes, create_answers}
+use Rattle.clone_trx.proofs.PinLemmas.{still_loose}
+use Rattle.clone_trx.proofs.WriteLemmas.{is_none}
+use Rattle.clone_trx.proofs.transactions.Transactions.create.Goals as goal
+
+goes : (g : _) (c : goal.After-release g) → Goes (create_way c.args.self.now c.args.table c.args.buckets) c.args.buffer.now c.release.new.buffer c.create_held-created.result
+goes g c =
+    let d = c.args.self.now in
+    let mid : Buffered = c.hold.new.buffer in
+    let last : Buffered = c.create_held-created.new.buffer in
+    create_goes d c.args.table c.args.buckets c.in_ok-at.at c.args.buffer.now mid last c.release.new.buffer c.create_held-created.result c.in_ok-at.ensures.held
+    (subst (λ (p : ℕ × ℕ). Makes (create_records (finite.len d.tables) p.0 p.1) mid last c.create_held-created.result) (λ i. (c.get-table.ensures.value i, c.get-buckets.ensures.value i)) c.create_held-created.ensures.written)
+    c.release.ensures.is
+
+pub returns-clause-answer : goal.returns-clause-answer
+returns-clause-answer g c =
+    let d = c.args.self.now in
+    let none : finite.get d.tables c.args.table ≡ None =
+    ap (λ (e : Donor). finite.get e.tables c.args.table) (sym c.self.view_is) ∙ ap (finite.get c.self.inside.tables) (sym c.get-table.ensures.value) ∙ sym c.get.ensures ∙ is_none c.get.result (sym c.is_some.ensures ∙ c.if-is_some.false) in
+    let len : c.len.result ≡ finite.len d.tables = c.len.ensures ∙ ap (λ (e : Donor). finite.len e.tables) c.self.view_is in
+    let other : finite.len d.tables ≢ TABLE_LIMIT = λ full. c.if-len-eq-TABLE_LIMIT.false (len ∙ full) in
+    create_answers d c.create_held-created.new.self c.args.table c.args.buckets c.args.buffer.now c.release.new.buffer c.create_held-created.result (no_cause d c.args.table none other) (goes g c)
+    (subst (λ (p : ℕ × ℕ). Carries d c.create_held-created.new.self c.create_held-created.result (λ _. c.create_held-created.new.self ≡ created p.0 p.1 d)) (λ i. (c.get-table.ensures.value i, c.get-buckets.ensures.value i)) c.create_held-created.ensures.donor)
+
+pub returns-clause-kept : goal.returns-clause-kept
+returns-clause-kept g c = record {
+  loose = still_loose (create_way c.args.self.now c.args.table c.args.buckets) c.args.buffer.now c.release.new.buffer c.create_held-created.result (goes g c) c.requires.kept.loose;
+  kept = λ after. subst (λ (v : Buffered). IsKept c.create_held-created.new.self (image_of v)) (sym c.release.ensures.is) (c.create_held-created.ensures.kept (subst (λ (v : Buffered). IsTrue v.right) c.release.ensures.is after));
+}

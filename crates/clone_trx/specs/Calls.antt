@@ -1,0 +1,110 @@
+-- The way of each call: which pages it reads, in their order, and what it writes.
+use Rattle.std.specs.Prelude.{ℕ, ◌==◌, ◌&&◌, ◌-◌, ◌+◌, nat_lt, nat_le, Bool, if◌then◌else◌, List, length, None, Some, unwrap_or, slice_get}
+use Rattle.std.specs.declared.option.Option.{Option}
+use Rattle.std.specs.FinMap as finite
+use Rattle.clone_base.specs.declared.limits.TheConstants.{VALUE_LIMIT}
+use Rattle.clone_model.specs.declared.change.Change.{Change}
+use Rattle.clone_page.specs.Header.{kind_of}
+use Rattle.clone_page.specs.Slots.{slot_count}
+use Rattle.clone_pool.specs.declared.frame.PageName.{PageName}
+use Rattle.clone_row.specs.Slots as rows
+use Rattle.clone_row.specs.Slots.{slots}
+use Rattle.clone_undo.specs.Entries.{UndoEntry}
+use Rattle.clone_undo.specs.Places.{header_page, record_page}
+use Rattle.clone_undo.specs.Slots.{entry_on}
+use Rattle.clone_undo.specs.Changes.{records_of_begin, records_of_change, records_of_taking_back, records_of_end}
+use Rattle.clone_contents.specs.Records.{create_records, commit_records}
+use Rattle.clone_plain.specs.declared.refusal.Cause.TheVariants.{SpaceFull}
+use Rattle.clone_plain.specs.Causes.{least_unused}
+use Rattle.clone_plain.specs.Donor.{Donor, changes_of}
+use Rattle.clone_trx.specs.Places.{place_in, held_value, told, page_number}
+use Rattle.clone_trx.specs.Ways.{Way, reads, stops, writes, makes, ends}
+
+-- the page of a row's bucket
+abbrev pub bucket_page : Donor → ℕ → ℕ → PageName
+bucket_page d table key = record { space = table; number = page_number d table key }
+
+-- a page of the system space
+abbrev pub system_page : ℕ → PageName
+system_page number = record { space = 0; number = number }
+
+-- a page was never used
+abbrev pub is_new : List ℕ → Bool
+is_new page = kind_of page == 0
+
+-- A new table takes the least free entry of the dictionary, which is behind those of the tables
+-- that are there.
+abbrev pub create_way : Donor → ℕ → ℕ → Way
+create_way d table buckets =
+    reads (system_page 0) (λ page. makes (create_records (finite.len d.tables) table buckets))
+
+-- A transaction that begins takes its undo slot. The slot's first page is made first where it is
+-- new.
+abbrev pub begin_way : Donor → ℕ → ℕ → Way
+begin_way d writer index =
+    let trx = unwrap_or (least_unused d.active) 0 in
+    reads (system_page (header_page trx))
+    (λ page. writes (records_of_begin (is_new page) trx writer index))
+
+-- The row of a key goes to the slot of its bucket's page that is bound to the key, else to the
+-- first that was never used. A change writes its undo record, the new count of its undo slot, and
+-- the row's slot.
+abbrev pub change_at : Donor → ℕ → Change → List ℕ → Option ℕ → Way
+change_at d trx change row None = stops SpaceFull
+change_at d trx change row (Some place) =
+    let count = length (changes_of d trx) in
+    let before = told d change.table change.key place (held_value row place) in
+    reads (system_page (header_page trx)) (λ header. reads (system_page (record_page trx count))
+    (λ page. writes (records_of_change (is_new page) (is_new row) trx count before
+    (rows.image change.key change.value))))
+
+abbrev pub change_way : Donor → ℕ → Change → Way
+change_way d trx change =
+    reads (bucket_page d change.table change.key)
+    (λ row. change_at d trx change row (place_in change.key (slots row)))
+
+-- only the page of the row's bucket is read
+abbrev pub get_way : Donor → ℕ → ℕ → Way
+get_way d table key = reads (bucket_page d table key) (λ row. ends)
+
+-- the undo record tells of a row that was present, or absent
+abbrev pub tells_before : UndoEntry → Bool
+tells_before e =
+    if e.state == 1 then nat_le (length e.value) VALUE_LIMIT
+    else (e.state == 2) && (length e.value == 0)
+
+-- the undo record is one of this row
+abbrev pub tells_of : Donor → ℕ → ℕ → UndoEntry → Bool
+tells_of d table key e =
+    (e.table == table) && ((e.page == page_number d table key)
+    && (nat_lt e.slot slot_count && ((e.key == key) && tells_before e)))
+
+-- what was before a change of a row, by its undo record. One that isn't of the row counts as if it
+-- told of an absent row in the first slot.
+abbrev pub before_change : Donor → ℕ → ℕ → UndoEntry → UndoEntry
+before_change d table key e = if tells_of d table key e then e else told d table key 0 None
+
+-- The last change is taken back by its undo record, or a transaction without changes gives its undo
+-- slot back.
+abbrev pub undo_last : Donor → ℕ → Option Change → Way
+undo_last d trx None = writes (records_of_end trx)
+undo_last d trx (Some change) =
+    let count = length (changes_of d trx) in
+    reads (system_page (record_page trx (count - 1)))
+    (λ page. reads (bucket_page d change.table change.key) (λ row. writes (records_of_taking_back
+    trx count (before_change d change.table change.key (entry_on (count - 1) page)))))
+
+-- the last change of a transaction, if it has one
+abbrev pub last_change : Donor → ℕ → Option Change
+last_change d trx = slice_get (changes_of d trx) (length (changes_of d trx) - 1)
+
+-- the first page of the undo slot is read before that
+abbrev pub undo_way : Donor → ℕ → Way
+undo_way d trx =
+    reads (system_page (header_page trx)) (λ header. undo_last d trx (last_change d trx))
+
+-- A commit gives the undo slot back, and writes the new number of commits.
+abbrev pub commit_way : Donor → ℕ → Way
+commit_way d trx =
+    reads (system_page (header_page trx))
+    (λ header. reads (system_page 0) (λ page. writes (commit_records trx (length d.binlog + 1))))

@@ -1,0 +1,147 @@
+ghost use Rattle.std.specs.Prelude.{◌≡◌, ◌<◌, ◌≤◌, ◌%◌, ℕ, [], None, Some, length, option_map, unwrap_or, IfOk, OnOk, IfSome, IsTrue, MatchResult};
+ghost use Rattle.std.specs.Option.{option_copied};
+ghost use Rattle.std.specs.List.{AllByRecursion};
+ghost use Rattle.std.specs.FinMap as finite;
+ghost use Rattle.clone_base.specs.declared.limits.TheConstants.{TRANSACTION_LIMIT};
+ghost use Rattle.clone_outside.specs.Causes.{Rose};
+ghost use Rattle.clone_undo.specs.Entries.{IsEntry};
+ghost use Rattle.clone_undo.specs.Places.{capacity};
+ghost use Rattle.clone_undo.specs.Slots.{UndoSlot};
+ghost use Rattle.clone_model.specs.History.{fold};
+ghost use Rattle.clone_image.specs.Image.{Image, page_of};
+ghost use Rattle.clone_image.specs.Recovered.{recovered, undo_slot_of};
+ghost use Rattle.clone_image.specs.Rows.{HasRows};
+ghost use Rattle.clone_buffer.specs.Buffered.{Buffered, image_of};
+ghost use Rattle.clone_plain.specs.Donor.{Donor, no_donor, history};
+ghost use Rattle.clone_plain.specs.Causes.{create_cause, begin_cause, row_locked, least_unused};
+ghost use Rattle.clone_plain.specs.Effects.{created, Begins};
+ghost use Rattle.clone_plain.specs.declared.refusal.Cause.TheVariants.{DiskFault};
+ghost use Rattle.clone_plain.specs.declared.refusal.EngineRefusal.TheVariants.{Because};
+ghost use Rattle.clone_trx.specs.Calls.{create_way, begin_way};
+ghost use Rattle.clone_trx.specs.Sound.{IsKept};
+ghost use Rattle.clone_trx.specs.Kept.{IsSafe, Keeps};
+ghost use Rattle.clone_trx.specs.Ways.{Answers, StaysStanding};
+
+mod change;
+mod creating;
+mod ending;
+mod getting;
+mod starting;
+mod undoing;
+
+use crate::active::Active;
+use crate::locks::Locks;
+use crate::tables::Tables;
+use clone_buffer::Buffer;
+use clone_model::{Binlog, BucketCount, Commit, TableNumber};
+use clone_outside::PageDisk;
+use clone_plain::{Cause, EngineRefusal, TABLE_LIMIT};
+use std::alloc::{AllocError, Global};
+use std::marker::Model;
+
+/// A donor's tables, open transactions, locks and binlog. The rows stand on the pages of a buffer,
+/// which each call is given. Between calls no frame is pinned.
+#[derive(Drop)]
+pub struct Transactions {
+    tables: Tables,
+    active: Active,
+    locks: Locks,
+    // with room for the commit of each open transaction
+    binlog: Binlog,
+}
+
+impl Model for Transactions {
+    ghost use Rattle.std.specs.Prelude.{◌≤◌};
+    ghost use Rattle.std.specs.FinMap as finite;
+    ghost use Rattle.clone_plain.specs.Donor.{Donor, donor_code};
+    ghost use Rattle.clone_trx.specs.Opened.{donor_of};
+    ghost use Rattle.clone_trx.specs.Kept.{IsSafe};
+
+    ghost Value = { Donor };
+
+    ghost coded = { donor_code };
+
+    ghost view = { λ t. donor_of t.tables t.active t.locks t.binlog.commits };
+
+    ghost invariant = { λ t. IsSafe (donor_of t.tables t.active t.locks t.binlog.commits)
+        × (finite.len t.active ≤ t.binlog.room) };
+}
+
+impl Transactions {
+    /// No table and no transaction.
+    pub(crate) fn new(alloc: Global) -> Result<Transactions, AllocError>
+        ensures { IfOk result (λ transactions. transactions ≡ no_donor) }
+    {
+        Ok(Transactions {
+            tables: Tables::new(alloc),
+            active: Active::new(alloc),
+            locks: Locks::new(alloc)?,
+            binlog: Binlog::new(alloc),
+        })
+    }
+
+    /// The commits in their order.
+    pub fn binlog(&self) -> &Binlog
+        ensures { result.now.commits ≡ self.now.binlog }
+    {
+        &self.binlog
+    }
+
+    /// The open transaction of this number, as the commit that it would be, or none where none is
+    /// open.
+    pub fn transaction(&self, trx: u32) -> Option<&Commit>
+        ensures { option_copied result ≡ finite.get self.now.active trx }
+    {
+        self.active.get(trx)
+    }
+
+    /// The number that the next transaction gets: the least of which none is open, if there is one
+    /// below 64.
+    pub fn next_number(&self) -> Option<u32>
+        ensures { result ≡ least_unused self.now.active }
+    {
+        self.active.least_free()
+    }
+
+    /// What holds between calls, whatever the pages are. No table was dropped.
+    pub fn laws(&self)
+        ensures safe { IsSafe self.now }
+        ensures drops { self.now.drops ≡ [] }
+    {
+        let _ = &self.tables;
+    }
+
+    // The page of a row's bucket, by its number, or none where no table has this number.
+    fn bucket_of(&self, table: u32, key: u64) -> Option<u32>
+        ensures number { result
+            ≡ option_map (λ count. key % count) (finite.get self.now.tables table) }
+    {
+        let buckets = self.tables.get(table)?;
+        Some((key % buckets as u64) as u32)
+    }
+
+    // Refuses where another transaction holds the row's lock.
+    fn check_lock(&self, trx: u32, table: u32, key: u64) -> Result<(), Cause>
+        ensures { MatchResult result (λ _. row_locked self.now trx table key ≡ None)
+            (λ cause. row_locked self.now trx table key ≡ Some cause) }
+    {
+        match self.locks.holder(table, key) {
+            Some(holder) if holder != trx => Err(Cause::RowLocked { holder }),
+            _ => Ok(()),
+        }
+    }
+}
+
+/// What an image that keeps a donor tells: its rows, once the changes of every open transaction are
+/// taken back, are those that the history leaves; no undo slot has more records than fit, and each
+/// is in its ranges.
+pub fn kept_laws()
+    ensures rows { (d : Donor) (image : Image) → IsKept d image
+        → HasRows (page_of (recovered image)) (fold (history d)) }
+    ensures in_range { (d : Donor) (image : Image) (s : ℕ) (slot : UndoSlot) → IsKept d image
+        → s < TRANSACTION_LIMIT → undo_slot_of image s ≡ Some slot
+        → AllByRecursion IsEntry slot.records }
+    ensures counts { (d : Donor) (image : Image) (s : ℕ) (slot : UndoSlot) → IsKept d image
+        → s < TRANSACTION_LIMIT → undo_slot_of image s ≡ Some slot
+        → length slot.records ≤ capacity }
+{}

@@ -1,0 +1,369 @@
+ghost use Rattle.std.specs.Prelude.{Err, IsTrue, MatchResult, None, Some, length, true, ◌==◌, ◌≡◌, ◌≤◌};
+ghost use Rattle.std.specs.declared.option.Option.{Option};
+ghost use Rattle.std.specs.List.{AllByRecursion};
+ghost use Rattle.clone_outside.specs.Causes.{Rose};
+ghost use Rattle.clone_outside.specs.Disk.{DiskImage};
+ghost use Rattle.clone_mtr.specs.Spelling.{longest, spelling};
+ghost use Rattle.clone_row.specs.Slots.{slots};
+ghost use Rattle.clone_undo.specs.Places.{header_page, record_page};
+ghost use Rattle.clone_undo.specs.Changes.{records_of_change};
+ghost use Rattle.clone_image.specs.Image.{EditsPages};
+ghost use Rattle.clone_contents.specs.Steps.{is_unused};
+ghost use Rattle.clone_buffer.specs.Buffered.{image_of};
+ghost use Rattle.clone_buffer.specs.Writing.{HasFrame, IsOnPage};
+ghost use Rattle.clone_plain.specs.Causes.{change_cause};
+ghost use Rattle.clone_plain.specs.Effects.{Changes, delete_of, put_of};
+ghost use Rattle.clone_plain.specs.declared.refusal.Cause.TheVariants.{DiskFault};
+ghost use Rattle.clone_plain.specs.declared.refusal.EngineRefusal.TheVariants.{Because};
+ghost use Rattle.clone_trx.specs.Calls.{bucket_page, change_at, change_way, is_new, system_page};
+ghost use Rattle.clone_trx.specs.Ways.{Answers, Carries, Goes, PinsAtMost, StaysStanding, Writes, page_in, reads, writes};
+ghost use Rattle.clone_trx.specs.Kept.{Has, IsHeld, IsPlaceFor, Keeps, MayChange};
+ghost use Rattle.clone_trx.specs.Sound.{IsKept};
+ghost use Rattle.clone_trx.specs.Places.{page_number, place_in};
+ghost use Rattle.clone_row.specs.Slots as rows;
+
+use crate::Transactions;
+use crate::hold::{check_room, first_record, hold, records_from, release, write_held};
+use crate::place::{before_on, place_of};
+use clone_buffer::Buffer;
+use clone_model::{Change, Value};
+use clone_mtr::Record;
+use clone_outside::PageDisk;
+use clone_plain::{CHANGE_LIMIT, Cause, EngineRefusal, VALUE_LIMIT};
+use clone_row::slot_image;
+use clone_undo::{UndoRecord, change_records, first_change_records, header_page, record_page};
+
+// Where a change of a row goes.
+#[derive(Drop)]
+struct Place {
+    // the row's slot, and what it holds
+    entry: UndoRecord,
+    // whether the page of the row is new
+    is_new: bool,
+    // how many changes the transaction has made
+    count: u16,
+}
+
+impl Transactions {
+    /// Gives a row its value and locks it. The causes for which it is refused, in their order: no
+    /// such transaction, a value above 64 bytes, no such table, 160 changes, the lock of another
+    /// transaction, no frame for the row's page, a full bucket, no frame for the undo pages, no
+    /// room in the log.
+    pub fn put<D: PageDisk>(
+        &mut self,
+        buffer: &mut Buffer,
+        trx: u32,
+        table: u32,
+        key: u64,
+        value: &[u8],
+        disk: &mut D,
+    ) -> Result<(), EngineRefusal>
+        requires kept { Keeps self.old buffer.old }
+        ensures answer { Answers (change_cause self.old trx table key (length value.now))
+            (change_way self.old trx (put_of table key value.now))
+            self.old self.new buffer.old buffer.new result
+            (λ _. Changes self.old trx (put_of table key value.now) self.new) }
+        ensures kept { Keeps self.new buffer.new }
+        ensures fault { result ≡ Err (Because DiskFault)
+            → Rose (D.failures disk.old) (D.failures disk.new) }
+        ensures later { D.failures disk.old ≤ D.failures disk.new }
+        ensures told { D.told disk.new ≡ D.told disk.old }
+        ensures orders { D.orders disk.new ≡ D.orders disk.old }
+        ensures stands { StaysStanding buffer.old buffer.new (D.told disk.old) (D.told disk.new) }
+    {
+        let bucket = self.check_change(trx, table, key, value.len())?;
+        let Some(value) = Value::new(value) else {
+            unreachable!();
+        };
+        let change = Change {
+            table,
+            key,
+            value: Some(value),
+        };
+        self.change(buffer, trx, change, bucket, disk)
+    }
+
+    /// Removes a row and locks it. An absent row may be removed. The causes are those of `put`, but
+    /// for the value.
+    pub fn delete<D: PageDisk>(
+        &mut self,
+        buffer: &mut Buffer,
+        trx: u32,
+        table: u32,
+        key: u64,
+        disk: &mut D,
+    ) -> Result<(), EngineRefusal>
+        requires kept { Keeps self.old buffer.old }
+        ensures answer { Answers (change_cause self.old trx table key 0)
+            (change_way self.old trx (delete_of table key))
+            self.old self.new buffer.old buffer.new result
+            (λ _. Changes self.old trx (delete_of table key) self.new) }
+        ensures kept { Keeps self.new buffer.new }
+        ensures fault { result ≡ Err (Because DiskFault)
+            → Rose (D.failures disk.old) (D.failures disk.new) }
+        ensures later { D.failures disk.old ≤ D.failures disk.new }
+        ensures told { D.told disk.new ≡ D.told disk.old }
+        ensures orders { D.orders disk.new ≡ D.orders disk.old }
+        ensures stands { StaysStanding buffer.old buffer.new (D.told disk.old) (D.told disk.new) }
+    {
+        let bucket = self.check_change(trx, table, key, 0)?;
+        let change = Change {
+            table,
+            key,
+            value: None,
+        };
+        self.change(buffer, trx, change, bucket, disk)
+    }
+
+    // The page of the row's bucket, or the first cause of the plain donor against a change of it
+    // whose value has so many bytes.
+    fn check_change(&self, trx: u32, table: u32, key: u64, long: usize) -> Result<u32, Cause>
+        ensures { MatchResult result
+            (λ bucket. (change_cause self.now trx table key long ≡ None)
+            × (bucket ≡ page_number self.now table key))
+            (λ cause. change_cause self.now trx table key long ≡ Some cause) }
+    {
+        let Some(commit) = self.active.get(trx) else {
+            return Err(Cause::NoSuchTrx);
+        };
+        if long > VALUE_LIMIT {
+            return Err(Cause::ValueTooLong);
+        }
+        let Some(bucket) = self.bucket_of(table, key) else {
+            return Err(Cause::NoSuchTable);
+        };
+        if commit.changes.len() == CHANGE_LIMIT {
+            return Err(Cause::UndoFull);
+        }
+        self.check_lock(trx, table, key)?;
+        Ok(bucket)
+    }
+
+    // Makes a change against which there is no cause of the plain donor.
+    fn change<D: PageDisk>(
+        &mut self,
+        buffer: &mut Buffer,
+        trx: u32,
+        change: Change,
+        bucket: u32,
+        disk: &mut D,
+    ) -> Result<(), EngineRefusal>
+        requires cause { MayChange self.old trx change }
+        requires bucket { bucket ≡ page_number self.old change.table change.key }
+        requires kept { Keeps self.old buffer.old }
+        ensures way { Goes (change_way self.old trx change) buffer.old buffer.new result }
+        ensures donor { Carries self.old self.new result
+            (λ _. Changes self.old trx change self.new) }
+        ensures kept { Keeps self.new buffer.new }
+        ensures fault { result ≡ Err (Because DiskFault)
+            → Rose (D.failures disk.old) (D.failures disk.new) }
+        ensures later { D.failures disk.old ≤ D.failures disk.new }
+        ensures told { D.told disk.new ≡ D.told disk.old }
+        ensures orders { D.orders disk.new ≡ D.orders disk.old }
+        ensures stands { StaysStanding buffer.old buffer.new (D.told disk.old) (D.told disk.new) }
+    {
+        let at = hold(buffer, disk, change.table, bucket)?;
+        let changed = self.change_on(buffer, trx, change, bucket, at, disk);
+        release(buffer, at);
+        changed
+    }
+
+    // Makes a change, with the row's page held.
+    fn change_on<D: PageDisk>(
+        &mut self,
+        buffer: &mut Buffer,
+        trx: u32,
+        change: Change,
+        bucket: u32,
+        at: u32,
+        disk: &mut D,
+    ) -> Result<(), EngineRefusal>
+        requires cause { MayChange self.old trx change }
+        requires bucket { bucket ≡ page_number self.old change.table change.key }
+        requires kept { IsTrue buffer.old.right → IsKept self.old (image_of buffer.old) }
+        requires row { Has (bucket_page self.old change.table change.key) at
+            buffer.old.pool.frames }
+        requires pins { PinsAtMost 1 buffer.old.pool.frames }
+        ensures way { Goes (change_at self.old trx change (page_in at buffer.old)
+            (place_in change.key (slots (page_in at buffer.old)))) buffer.old buffer.new result }
+        ensures donor { Carries self.old self.new result
+            (λ _. Changes self.old trx change self.new) }
+        ensures kept { IsTrue buffer.new.right → IsKept self.new (image_of buffer.new) }
+        ensures fault { result ≡ Err (Because DiskFault)
+            → Rose (D.failures disk.old) (D.failures disk.new) }
+        ensures later { D.failures disk.old ≤ D.failures disk.new }
+        ensures told { D.told disk.new ≡ D.told disk.old }
+        ensures orders { D.orders disk.new ≡ D.orders disk.old }
+        ensures stands { StaysStanding buffer.old buffer.new (D.told disk.old) (D.told disk.new) }
+    {
+        self.laws();
+        buffer.laws();
+        let Some(commit) = self.active.get(trx) else {
+            unreachable!();
+        };
+        let count = commit.changes.len() as u16;
+        let page = buffer.frame(at);
+        let Some(slot) = place_of(page, change.key) else {
+            return Err(Cause::SpaceFull.into());
+        };
+        let before = before_on(page, slot);
+        let place = Place {
+            entry: UndoRecord::new(change.table, bucket, slot, change.key, before),
+            is_new: page.kind() == 0,
+            count,
+        };
+        let header = hold(buffer, disk, 0, header_page(trx))?;
+        let changed = self.change_in(buffer, trx, change, &place, disk);
+        release(buffer, header);
+        changed
+    }
+
+    // Makes a change at its place, with the row's page and the first page of the undo slot held.
+    fn change_in<D: PageDisk>(
+        &mut self,
+        buffer: &mut Buffer,
+        trx: u32,
+        change: Change,
+        place: &Place,
+        disk: &mut D,
+    ) -> Result<(), EngineRefusal>
+        requires cause { MayChange self.old trx change }
+        requires place { IsPlaceFor self.old trx change buffer.old place.now.entry
+            place.now.is_new place.now.count }
+        requires kept { IsTrue buffer.old.right → IsKept self.old (image_of buffer.old) }
+        requires row { IsHeld (bucket_page self.old change.table change.key)
+            buffer.old.pool.frames }
+        requires header { IsHeld (system_page (header_page trx)) buffer.old.pool.frames }
+        requires pins { PinsAtMost 2 buffer.old.pool.frames }
+        ensures way { Goes (reads (system_page (record_page trx place.now.count))
+            (λ page. writes (records_of_change (is_new page) place.now.is_new trx place.now.count
+            place.now.entry (rows.image change.key change.value)))) buffer.old buffer.new result }
+        ensures donor { Carries self.old self.new result
+            (λ _. Changes self.old trx change self.new) }
+        ensures kept { IsTrue buffer.new.right → IsKept self.new (image_of buffer.new) }
+        ensures fault { result ≡ Err (Because DiskFault)
+            → Rose (D.failures disk.old) (D.failures disk.new) }
+        ensures later { D.failures disk.old ≤ D.failures disk.new }
+        ensures told { D.told disk.new ≡ D.told disk.old }
+        ensures orders { D.orders disk.new ≡ D.orders disk.old }
+        ensures stands { StaysStanding buffer.old buffer.new (D.told disk.old) (D.told disk.new) }
+    {
+        self.laws();
+        let at = hold(buffer, disk, 0, record_page(trx, place.count as usize))?;
+        let first = first_record(buffer.frame(at));
+        let changed = self.change_held(buffer, trx, change, place, first);
+        release(buffer, at);
+        changed
+    }
+
+    // Makes a change, with all its pages held. The first record makes the page of the undo record,
+    // and is left out where that page is in use.
+    fn change_held(
+        &mut self,
+        buffer: &mut Buffer,
+        trx: u32,
+        change: Change,
+        place: &Place,
+        first: usize,
+    ) -> Result<(), EngineRefusal>
+        requires cause { MayChange self.old trx change }
+        requires place { IsPlaceFor self.old trx change buffer.old place.now.entry
+            place.now.is_new place.now.count }
+        requires first { first ≤ 1 }
+        requires new { IsTrue buffer.old.right → (first == 0)
+            ≡ is_unused (image_of buffer.old) 0 (record_page trx place.now.count) }
+        requires kept { IsTrue buffer.old.right → IsKept self.old (image_of buffer.old) }
+        requires row { IsHeld (bucket_page self.old change.table change.key)
+            buffer.old.pool.frames }
+        requires header { IsHeld (system_page (header_page trx)) buffer.old.pool.frames }
+        requires undo { IsHeld (system_page (record_page trx place.now.count))
+            buffer.old.pool.frames }
+        ensures written { Writes (records_of_change (first == 0) place.now.is_new trx
+            place.now.count place.now.entry (rows.image change.key change.value)) buffer.old
+            buffer.new result }
+        ensures donor { Carries self.old self.new result
+            (λ _. Changes self.old trx change self.new) }
+        ensures kept { IsTrue buffer.new.right → IsKept self.new (image_of buffer.new) }
+        ensures stands { (told : Option DiskImage) → StaysStanding buffer.old buffer.new told told }
+    {
+        self.laws();
+        let image = slot_image(change.key, change.value.as_ref());
+        if place.is_new {
+            let records = first_change_records(trx, place.count, &place.entry, &image);
+            self.change_by(buffer, trx, change, place, &records, first)
+        } else {
+            let records = change_records(trx, place.count, &place.entry, &image);
+            self.change_by(buffer, trx, change, place, &records, first)
+        }
+    }
+
+    // Makes a change by the records that make the page of the undo record, too, from the first or
+    // the second on.
+    fn change_by(
+        &mut self,
+        buffer: &mut Buffer,
+        trx: u32,
+        change: Change,
+        place: &Place,
+        records: &[Record],
+        first: usize,
+    ) -> Result<(), EngineRefusal>
+        requires cause { MayChange self.old trx change }
+        requires place { IsPlaceFor self.old trx change buffer.old place.now.entry
+            place.now.is_new place.now.count }
+        requires records { records.now ≡ records_of_change true place.now.is_new trx place.now.count
+            place.now.entry (rows.image change.key change.value) }
+        requires image { length (rows.image change.key change.value) ≡ 80 }
+        requires first { first ≤ 1 }
+        requires new { IsTrue buffer.old.right → (first == 0)
+            ≡ is_unused (image_of buffer.old) 0 (record_page trx place.now.count) }
+        requires kept { IsTrue buffer.old.right → IsKept self.old (image_of buffer.old) }
+        requires row { IsHeld (bucket_page self.old change.table change.key)
+            buffer.old.pool.frames }
+        requires header { IsHeld (system_page (header_page trx)) buffer.old.pool.frames }
+        requires undo { IsHeld (system_page (record_page trx place.now.count))
+            buffer.old.pool.frames }
+        ensures written { Writes (records_of_change (first == 0) place.now.is_new trx
+            place.now.count place.now.entry (rows.image change.key change.value)) buffer.old
+            buffer.new result }
+        ensures donor { Carries self.old self.new result
+            (λ _. Changes self.old trx change self.new) }
+        ensures kept { IsTrue buffer.new.right → IsKept self.new (image_of buffer.new) }
+        ensures stands { (told : Option DiskImage) → StaysStanding buffer.old buffer.new told told }
+    {
+        // an old value has at most 64 bytes, so the records fit one mini-transaction
+        place.entry.value();
+        self.write_change(buffer, trx, change, records_from(records, first))
+    }
+
+    // Writes the records of a change, if the log has room for them.
+    fn write_change(
+        &mut self,
+        buffer: &mut Buffer,
+        trx: u32,
+        change: Change,
+        records: &[Record],
+    ) -> Result<(), EngineRefusal>
+        requires cause { MayChange self.old trx change }
+        requires some { 1 ≤ length records.now }
+        requires short { length (spelling records.now) ≤ longest }
+        requires edits { AllByRecursion EditsPages records.now }
+        requires framed { AllByRecursion (HasFrame buffer.old.pool.frames) records.now }
+        requires there { IsTrue buffer.old.right
+            → AllByRecursion (IsOnPage (image_of buffer.old)) records.now }
+        ensures written { Writes records.now buffer.old buffer.new result }
+        ensures donor { Carries self.old self.new result
+            (λ _. Changes self.old trx change self.new) }
+        ensures stands { (told : Option DiskImage) → StaysStanding buffer.old buffer.new told told }
+    {
+        check_room(buffer, records)?;
+        let (table, key) = (change.table, change.key);
+        self.active.push(trx, change)?;
+        if self.locks.lock(trx, table, key).is_err() {
+            let _ = self.active.pop(trx);
+            return Err(EngineRefusal::NoMemory);
+        }
+        write_held(buffer, records);
+        Ok(())
+    }
+}

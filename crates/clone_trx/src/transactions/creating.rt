@@ -1,0 +1,111 @@
+ghost use Rattle.std.specs.Prelude.{Err, IsTrue, None, OnErr, OnOk, ◌≡◌, ◌≤◌};
+ghost use Rattle.clone_outside.specs.Causes.{Rose};
+ghost use Rattle.clone_outside.specs.Disk.{IsBeforeOrAfter, Steps, with_created};
+ghost use Rattle.clone_model.specs.declared.line.TheConstants.{HIGHEST_TABLE, MOST_BUCKETS};
+ghost use Rattle.clone_contents.specs.Records.{create_records};
+ghost use Rattle.clone_buffer.specs.Buffered.{image_of};
+ghost use Rattle.clone_plain.specs.Causes.{create_cause};
+ghost use Rattle.clone_plain.specs.Effects.{created};
+ghost use Rattle.clone_plain.specs.declared.refusal.Cause.TheVariants.{DiskFault};
+ghost use Rattle.clone_plain.specs.declared.refusal.EngineRefusal.TheVariants.{Because};
+ghost use Rattle.clone_trx.specs.Calls.{create_way, system_page};
+ghost use Rattle.clone_trx.specs.Ways.{Answers, Carries, Makes, StaysStanding};
+ghost use Rattle.clone_trx.specs.Kept.{HasNoFresh, IsHeld, Keeps};
+ghost use Rattle.clone_trx.specs.Sound.{IsKept};
+ghost use Rattle.std.specs.FinMap as finite;
+
+use crate::Transactions;
+use crate::hold::{check_room, hold, refused_by, release, write_space_held};
+use crate::records::creation;
+use clone_buffer::Buffer;
+use clone_model::{BucketCount, TableNumber};
+use clone_outside::PageDisk;
+use clone_plain::{Cause, EngineRefusal, TABLE_LIMIT};
+
+impl Transactions {
+    /// Makes an empty table. Refused where a table has this number, where 62 tables are there,
+    /// where there is no frame for the system page, where the log has no room, and where the disk
+    /// fails; then a file of the table's number may stay.
+    pub fn create<D: PageDisk>(
+        &mut self,
+        buffer: &mut Buffer,
+        table: TableNumber,
+        buckets: BucketCount,
+        disk: &mut D,
+    ) -> Result<(), EngineRefusal>
+        requires kept { Keeps self.old buffer.old }
+        ensures answer { Answers (create_cause self.old table) (create_way self.old table buckets)
+            self.old self.new buffer.old buffer.new result
+            (λ _. self.new ≡ created table buckets self.old) }
+        ensures kept { Keeps self.new buffer.new }
+        ensures fault { result ≡ Err (Because DiskFault)
+            → Rose (D.failures disk.old) (D.failures disk.new) }
+        ensures later { D.failures disk.old ≤ D.failures disk.new }
+        ensures orders { D.orders disk.new ≡ D.orders disk.old }
+        ensures made { OnOk result (Steps (D.told disk.old) (D.told disk.new)
+            (λ m. with_created m table buckets)) }
+        ensures left { result ≡ Err (Because DiskFault)
+            → IsBeforeOrAfter (D.told disk.old) (D.told disk.new)
+            (λ m. with_created m table buckets) }
+        ensures same { (result ≡ Err (Because DiskFault) → ⊥)
+            → OnErr result (D.told disk.new ≡ D.told disk.old) }
+        ensures stands { StaysStanding buffer.old buffer.new (D.told disk.old) (D.told disk.new) }
+    {
+        let (table, buckets) = (table.get(), buckets.get());
+        if self.tables.get(table).is_some() {
+            return Err(Cause::TableExists.into());
+        }
+        if self.tables.len() == TABLE_LIMIT {
+            return Err(Cause::TooManyTables.into());
+        }
+        let at = hold(buffer, disk, 0, 0)?;
+        buffer.laws();
+        let created = self.create_held(buffer, table, buckets, disk);
+        release(buffer, at);
+        created
+    }
+
+    // Makes a table, with the system page held. There is no cause of the plain donor against it.
+    fn create_held<D: PageDisk>(
+        &mut self,
+        buffer: &mut Buffer,
+        table: u32,
+        buckets: u32,
+        disk: &mut D,
+    ) -> Result<(), EngineRefusal>
+        requires cause { create_cause self.old table ≡ None }
+        requires table { (1 ≤ table) × (table ≤ HIGHEST_TABLE) }
+        requires buckets { (1 ≤ buckets) × (buckets ≤ MOST_BUCKETS) }
+        requires kept { IsTrue buffer.old.right → IsKept self.old (image_of buffer.old) }
+        requires held { IsHeld (system_page 0) buffer.old.pool.frames }
+        requires fresh { HasNoFresh table buffer.old.pool.frames }
+        ensures written { Makes (create_records (finite.len self.old.tables) table buckets)
+            buffer.old buffer.new result }
+        ensures donor { Carries self.old self.new result
+            (λ _. self.new ≡ created table buckets self.old) }
+        ensures kept { IsTrue buffer.new.right → IsKept self.new (image_of buffer.new) }
+        ensures fault { result ≡ Err (Because DiskFault)
+            → Rose (D.failures disk.old) (D.failures disk.new) }
+        ensures later { D.failures disk.old ≤ D.failures disk.new }
+        ensures orders { D.orders disk.new ≡ D.orders disk.old }
+        ensures made { OnOk result (Steps (D.told disk.old) (D.told disk.new)
+            (λ m. with_created m table buckets)) }
+        ensures left { result ≡ Err (Because DiskFault)
+            → IsBeforeOrAfter (D.told disk.old) (D.told disk.new)
+            (λ m. with_created m table buckets) }
+        ensures same { (result ≡ Err (Because DiskFault) → ⊥)
+            → OnErr result (D.told disk.new ≡ D.told disk.old) }
+        ensures stands { StaysStanding buffer.old buffer.new (D.told disk.old) (D.told disk.new) }
+    {
+        buffer.laws();
+        let records = creation(self.tables.len(), table, buckets);
+        check_room(buffer, &records)?;
+        self.tables.insert(table, buckets)?;
+        if let Err(refusal) = disk.create(table, buckets) {
+            self.tables.remove(table);
+            return Err(refused_by(refusal));
+        }
+        write_space_held(buffer, &records);
+        Ok(())
+    }
+}

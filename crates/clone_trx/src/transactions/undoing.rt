@@ -1,0 +1,249 @@
+ghost use Rattle.std.specs.Prelude.{Err, IsSome, IsTrue, None, ◌-◌, ◌<◌, ◌≡◌, ◌≢◌, ◌≤◌};
+ghost use Rattle.std.specs.declared.option.Option.{Option};
+ghost use Rattle.clone_outside.specs.Causes.{Rose};
+ghost use Rattle.clone_outside.specs.Disk.{DiskImage};
+ghost use Rattle.clone_undo.specs.Places.{capacity, header_page, record_page};
+ghost use Rattle.clone_undo.specs.Slots.{entry_on};
+ghost use Rattle.clone_undo.specs.Changes.{records_of_end, records_of_taking_back};
+ghost use Rattle.clone_buffer.specs.Buffered.{image_of};
+ghost use Rattle.clone_plain.specs.Causes.{no_trx};
+ghost use Rattle.clone_plain.specs.Effects.{Undoes};
+ghost use Rattle.clone_plain.specs.declared.refusal.Cause.TheVariants.{DiskFault};
+ghost use Rattle.clone_plain.specs.declared.refusal.EngineRefusal.TheVariants.{Because, NoMemory};
+ghost use Rattle.clone_trx.specs.Calls.{before_change, bucket_page, last_change, system_page, undo_last, undo_way};
+ghost use Rattle.clone_trx.specs.Ways.{Answers, Carries, Goes, PinsAtMost, StaysStanding, Writes, reads, writes};
+ghost use Rattle.clone_trx.specs.Kept.{IsHeld, IsLast, IsLastRecord, Keeps};
+ghost use Rattle.clone_trx.specs.Sound.{IsKept};
+ghost use Rattle.clone_trx.specs.Places.{page_number};
+ghost use Rattle.std.specs.FinMap as finite;
+
+use crate::Transactions;
+use crate::hold::{check_room, hold, release, write_held};
+use clone_buffer::Buffer;
+use clone_model::Change;
+use clone_outside::PageDisk;
+use clone_page::Page;
+use clone_plain::{Cause, EngineRefusal, Undone};
+use clone_undo::{
+    Before, UndoRecord, end_record, header_page, last_record, record_page, take_back_records,
+};
+
+impl Transactions {
+    /// Takes the last change of a transaction back and answers how many are left. The locks stay.
+    /// Where it has no change, it ends without a commit. Refused where no open transaction has this
+    /// number, where there is no frame for a page, and where the log has no room. It takes no
+    /// memory.
+    pub fn undo_one<D: PageDisk>(
+        &mut self,
+        buffer: &mut Buffer,
+        trx: u32,
+        disk: &mut D,
+    ) -> Result<Undone, EngineRefusal>
+        requires kept { Keeps self.old buffer.old }
+        ensures answer { Answers (no_trx self.old trx) (undo_way self.old trx)
+            self.old self.new buffer.old buffer.new result
+            (λ undone. Undoes self.old trx undone self.new) }
+        ensures memory { result ≢ Err NoMemory }
+        ensures kept { Keeps self.new buffer.new }
+        ensures fault { result ≡ Err (Because DiskFault)
+            → Rose (D.failures disk.old) (D.failures disk.new) }
+        ensures later { D.failures disk.old ≤ D.failures disk.new }
+        ensures told { D.told disk.new ≡ D.told disk.old }
+        ensures orders { D.orders disk.new ≡ D.orders disk.old }
+        ensures stands { StaysStanding buffer.old buffer.new (D.told disk.old) (D.told disk.new) }
+    {
+        if self.active.get(trx).is_none() {
+            return Err(Cause::NoSuchTrx.into());
+        }
+        self.laws();
+        let header = hold(buffer, disk, 0, header_page(trx))?;
+        let undone = self.undo_last(buffer, trx, disk);
+        release(buffer, header);
+        undone
+    }
+
+    // Takes the last change back or ends a transaction without changes, with the first page of its
+    // undo slot held.
+    fn undo_last<D: PageDisk>(
+        &mut self,
+        buffer: &mut Buffer,
+        trx: u32,
+        disk: &mut D,
+    ) -> Result<Undone, EngineRefusal>
+        requires cause { no_trx self.old trx ≡ None }
+        requires kept { IsTrue buffer.old.right → IsKept self.old (image_of buffer.old) }
+        requires header { IsHeld (system_page (header_page trx)) buffer.old.pool.frames }
+        requires pins { PinsAtMost 1 buffer.old.pool.frames }
+        ensures way { Goes (undo_last self.old trx (last_change self.old trx)) buffer.old buffer.new
+            result }
+        ensures donor { Carries self.old self.new result
+            (λ undone. Undoes self.old trx undone self.new) }
+        ensures memory { result ≢ Err NoMemory }
+        ensures kept { IsTrue buffer.new.right → IsKept self.new (image_of buffer.new) }
+        ensures fault { result ≡ Err (Because DiskFault)
+            → Rose (D.failures disk.old) (D.failures disk.new) }
+        ensures later { D.failures disk.old ≤ D.failures disk.new }
+        ensures told { D.told disk.new ≡ D.told disk.old }
+        ensures orders { D.orders disk.new ≡ D.orders disk.old }
+        ensures stands { StaysStanding buffer.old buffer.new (D.told disk.old) (D.told disk.new) }
+    {
+        let Some(commit) = self.active.get(trx) else {
+            unreachable!();
+        };
+        let count = commit.changes.len() as u16;
+        match commit.changes.as_slice().last().map(row_of) {
+            Some((table, key)) => self.undo_in(buffer, trx, count, table, key, disk),
+            None => self.end_held(buffer, trx),
+        }
+    }
+
+    // Ends a transaction without changes, with the first page of its undo slot held.
+    fn end_held(&mut self, buffer: &mut Buffer, trx: u32) -> Result<Undone, EngineRefusal>
+        requires active { IsSome (finite.get self.old.active trx) }
+        requires nothing { last_change self.old trx ≡ None }
+        requires kept { IsTrue buffer.old.right → IsKept self.old (image_of buffer.old) }
+        requires header { IsHeld (system_page (header_page trx)) buffer.old.pool.frames }
+        ensures written { Writes (records_of_end trx) buffer.old buffer.new result }
+        ensures donor { Carries self.old self.new result
+            (λ undone. Undoes self.old trx undone self.new) }
+        ensures memory { result ≢ Err NoMemory }
+        ensures kept { IsTrue buffer.new.right → IsKept self.new (image_of buffer.new) }
+        ensures stands { (told : Option DiskImage) → StaysStanding buffer.old buffer.new told told }
+    {
+        self.laws();
+        let records = [end_record(trx)];
+        check_room(buffer, &records)?;
+        let _ = self.active.remove(trx);
+        self.locks.release(trx);
+        write_held(buffer, &records);
+        Ok(Undone::Ended)
+    }
+
+    // Takes the last of so many changes back, which was of this row, with the first page of the
+    // undo slot held.
+    fn undo_in<D: PageDisk>(
+        &mut self,
+        buffer: &mut Buffer,
+        trx: u32,
+        count: u16,
+        table: u32,
+        key: u64,
+        disk: &mut D,
+    ) -> Result<Undone, EngineRefusal>
+        requires last { IsLast self.old trx count table key }
+        requires kept { IsTrue buffer.old.right → IsKept self.old (image_of buffer.old) }
+        requires header { IsHeld (system_page (header_page trx)) buffer.old.pool.frames }
+        requires pins { PinsAtMost 1 buffer.old.pool.frames }
+        ensures way { Goes (undo_last self.old trx (last_change self.old trx)) buffer.old buffer.new
+            result }
+        ensures donor { Carries self.old self.new result
+            (λ undone. Undoes self.old trx undone self.new) }
+        ensures memory { result ≢ Err NoMemory }
+        ensures kept { IsTrue buffer.new.right → IsKept self.new (image_of buffer.new) }
+        ensures fault { result ≡ Err (Because DiskFault)
+            → Rose (D.failures disk.old) (D.failures disk.new) }
+        ensures later { D.failures disk.old ≤ D.failures disk.new }
+        ensures told { D.told disk.new ≡ D.told disk.old }
+        ensures orders { D.orders disk.new ≡ D.orders disk.old }
+        ensures stands { StaysStanding buffer.old buffer.new (D.told disk.old) (D.told disk.new) }
+    {
+        self.laws();
+        let at = hold(buffer, disk, 0, record_page(trx, count as usize - 1))?;
+        let entry = self.entry_of(buffer.frame(at), count, table, key);
+        let undone = self.undo_on(buffer, trx, count, &entry, disk);
+        release(buffer, at);
+        undone
+    }
+
+    // What the undo record of the last of so many changes tells of the row. One that isn't of this
+    // row counts as if it told of an absent row in the first slot: no page that was read as it was
+    // written has one.
+    fn entry_of(&self, page: &Page, count: u16, table: u32, key: u64) -> UndoRecord
+        requires table { IsSome (finite.get self.now.tables table) }
+        requires count { (0 < count) × (count ≤ capacity) }
+        ensures { result ≡ before_change self.now table key (entry_on (count - 1) page.now) }
+    {
+        self.laws();
+        let Some(bucket) = self.bucket_of(table, key) else {
+            unreachable!();
+        };
+        match last_record(page, count) {
+            Some(entry) if entry.table() == table && entry.page() == bucket && entry.key() == key =>
+                { entry }
+            _ => UndoRecord::new(table, bucket, 0, key, Before::Absent),
+        }
+    }
+
+    // Takes the last of so many changes back by its undo record, with the undo pages held.
+    fn undo_on<D: PageDisk>(
+        &mut self,
+        buffer: &mut Buffer,
+        trx: u32,
+        count: u16,
+        entry: &UndoRecord,
+        disk: &mut D,
+    ) -> Result<Undone, EngineRefusal>
+        requires last { IsLast self.old trx count entry.now.table entry.now.key }
+        requires page { entry.now.page ≡ page_number self.old entry.now.table entry.now.key }
+        requires told { IsTrue buffer.old.right → IsLastRecord (image_of buffer.old) trx entry.now }
+        requires kept { IsTrue buffer.old.right → IsKept self.old (image_of buffer.old) }
+        requires header { IsHeld (system_page (header_page trx)) buffer.old.pool.frames }
+        requires pins { PinsAtMost 2 buffer.old.pool.frames }
+        ensures way { Goes (reads (bucket_page self.old entry.now.table entry.now.key)
+            (λ row. writes (records_of_taking_back trx count entry.now))) buffer.old buffer.new
+            result }
+        ensures donor { Carries self.old self.new result
+            (λ undone. Undoes self.old trx undone self.new) }
+        ensures memory { result ≢ Err NoMemory }
+        ensures kept { IsTrue buffer.new.right → IsKept self.new (image_of buffer.new) }
+        ensures fault { result ≡ Err (Because DiskFault)
+            → Rose (D.failures disk.old) (D.failures disk.new) }
+        ensures later { D.failures disk.old ≤ D.failures disk.new }
+        ensures told { D.told disk.new ≡ D.told disk.old }
+        ensures orders { D.orders disk.new ≡ D.orders disk.old }
+        ensures stands { StaysStanding buffer.old buffer.new (D.told disk.old) (D.told disk.new) }
+    {
+        self.laws();
+        let at = hold(buffer, disk, entry.table(), entry.page())?;
+        let undone = self.undo_held(buffer, trx, count, entry);
+        release(buffer, at);
+        undone
+    }
+
+    // Takes the last of so many changes back, with all its pages held.
+    fn undo_held(
+        &mut self,
+        buffer: &mut Buffer,
+        trx: u32,
+        count: u16,
+        entry: &UndoRecord,
+    ) -> Result<Undone, EngineRefusal>
+        requires last { IsLast self.old trx count entry.now.table entry.now.key }
+        requires told { IsTrue buffer.old.right → IsLastRecord (image_of buffer.old) trx entry.now }
+        requires kept { IsTrue buffer.old.right → IsKept self.old (image_of buffer.old) }
+        requires header { IsHeld (system_page (header_page trx)) buffer.old.pool.frames }
+        requires row { IsHeld (record { space = entry.now.table; number = entry.now.page })
+            buffer.old.pool.frames }
+        ensures written { Writes (records_of_taking_back trx count entry.now) buffer.old buffer.new
+            result }
+        ensures donor { Carries self.old self.new result
+            (λ undone. Undoes self.old trx undone self.new) }
+        ensures memory { result ≢ Err NoMemory }
+        ensures kept { IsTrue buffer.new.right → IsKept self.new (image_of buffer.new) }
+        ensures stands { (told : Option DiskImage) → StaysStanding buffer.old buffer.new told told }
+    {
+        self.laws();
+        let records = take_back_records(trx, count, entry);
+        check_room(buffer, &records)?;
+        let _ = self.active.pop(trx);
+        write_held(buffer, &records);
+        Ok(Undone::Left(count - 1))
+    }
+}
+
+// The row of a change.
+fn row_of(change: &Change) -> (u32, u64)
+    ensures { result ≡ (change.now.table, change.now.key) }
+{
+    (change.table, change.key)
+}
