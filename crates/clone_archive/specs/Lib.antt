@@ -1,0 +1,2 @@
+pub mod Archived
+pub mod Row
