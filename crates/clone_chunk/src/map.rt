@@ -85,12 +85,23 @@ impl ChunkMap {
         ensures unchanged { OnFalse result (self.new.states ≡ self.old.states) }
         ensures room { self.new.room ≡ self.old.room }
     {
-        if !is_claimed_by(&self.states, task, chunk as usize) {
+        if !self.is_claimed_by(task, chunk) {
             return false;
         }
         self.states[chunk as usize] = Chunk::Finished;
         self.left -= 1;
         true
+    }
+
+    /// Whether this task has claimed the chunk and hasn't finished it.
+    pub fn is_claimed_by(&self, task: u8, chunk: u32) -> bool
+        ensures { IsTrue result ↔
+            (slice_get self.now.states chunk ≡ Some (Chunk.Claimed task)) }
+    {
+        match self.states.get(chunk as usize) {
+            Some(Chunk::Claimed { task: by }) => *by == task,
+            _ => false,
+        }
     }
 
     /// Whether a chunk is finished. One that isn't there is not.
@@ -149,15 +160,6 @@ fn first_free(states: &[Chunk]) -> Option<usize>
     ensures { result ≡ position is_free states.now }
 {
     states.iter().position(|state| matches!(state, Chunk::Free))
-}
-
-fn is_claimed_by(states: &[Chunk], task: u8, chunk: usize) -> bool
-    ensures { IsTrue result ↔ (slice_get states.now chunk ≡ Some (Chunk.Claimed task)) }
-{
-    match states.get(chunk) {
-        Some(Chunk::Claimed { task: by }) => *by == task,
-        _ => false,
-    }
 }
 
 // Marks the chunks from 0 on as finished where they have their bit, and as free elsewhere.

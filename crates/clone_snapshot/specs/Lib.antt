@@ -1,0 +1,3 @@
+pub mod StageLists
+pub mod Snaps
+pub mod Blocks
