@@ -1,0 +1,11 @@
+pub mod PlaceLemmas
+pub mod LaidLemmas
+pub mod SpaceLemmas
+pub mod HalfLemmas
+pub mod FaultLemmas
+pub mod SizeLemmas
+pub mod LayingLemmas
+pub mod RedoLemmas
+pub mod PageLemmas
+pub mod BlockLemmas
+pub mod RoomLemmas

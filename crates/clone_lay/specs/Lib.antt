@@ -1,0 +1,5 @@
+pub mod Faults
+pub mod Laid
+pub mod Marked
+pub mod Redo
+pub mod Sized

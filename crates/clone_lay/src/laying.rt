@@ -1,0 +1,163 @@
+ghost use Rattle.std.specs.Prelude.{◌≡◌, ◌<◌, ◌≤◌, ◌+◌, ◌-◌, ◌*◌, ◌%◌, ◌^◌, OnOk, OnErr, is_some, length};
+ghost use Rattle.std.specs.FinMap as finite;
+ghost use Rattle.clone_base.specs.declared.limits.TheConstants.{LSN_LIMIT, PAGE_SIZE, REDO_SPACE};
+ghost use Rattle.clone_outside.specs.Causes.{HasCause};
+ghost use Rattle.clone_outside.specs.Disk.{ForTold, IsBeforeOrAfter, Steps, with_page};
+ghost use Rattle.clone_lay.specs.Faults.{ChangesOnly};
+ghost use Rattle.clone_lay.specs.Laid.{with_room, laid_page, whole};
+ghost use Rattle.clone_lay.specs.Redo.{filled, redo_page, laid_redo};
+ghost use Rattle.clone_lay.specs.Sized.{AreSizes};
+
+use crate::Sizes;
+use clone_base::{PAGE_SIZE, REDO_SPACE};
+use clone_outside::{PageDisk, Refusal};
+
+/// How many bytes a block of redo has. The last one may have fewer.
+pub const REDO_BLOCK: usize = 4 * PAGE_SIZE;
+
+/// Sees to it that a space has at least so many pages. A space that isn't there is made, and one
+/// with fewer pages is extended, by pages of zero bytes. Before pages that follow one another this
+/// spares an extension for each of them. After an error the copy is to be given up, since the sizes
+/// may be behind.
+pub fn make_room<R: PageDisk>(
+    disk: &mut R,
+    sizes: &mut Sizes,
+    space: u32,
+    pages: u32,
+) -> Result<(), Refusal>
+    requires { ForTold (R.told disk.old) (AreSizes sizes.old) }
+    ensures ok { OnOk result (Steps (R.told disk.old) (R.told disk.new) (with_room space pages)) }
+    ensures sizes { OnOk result (ForTold (R.told disk.new) (AreSizes sizes.new)) }
+    ensures partial { OnErr result
+        (IsBeforeOrAfter (R.told disk.old) (R.told disk.new) (with_room space pages)) }
+    ensures cause { HasCause (R.failures disk.old) (R.failures disk.new) result }
+    ensures tells { is_some (R.told disk.new) ≡ is_some (R.told disk.old) }
+    ensures orders { R.orders disk.new ≡ R.orders disk.old }
+{
+    if sizes.has_room(space, pages) {
+        return Ok(());
+    }
+    grow(disk, sizes, space, pages)?;
+    sizes.set(space, pages)?;
+    Ok(())
+}
+
+// Makes a space of so many pages, or extends it where it is there.
+fn grow<R: PageDisk>(disk: &mut R, sizes: &Sizes, space: u32, pages: u32) -> Result<(), Refusal>
+    requires { ForTold (R.told disk.old) (AreSizes sizes.now) }
+    ensures ok { OnOk result (Steps (R.told disk.old) (R.told disk.new) (with_room space pages)) }
+    ensures partial { OnErr result
+        (IsBeforeOrAfter (R.told disk.old) (R.told disk.new) (with_room space pages)) }
+    ensures cause { HasCause (R.failures disk.old) (R.failures disk.new) result }
+    ensures tells { is_some (R.told disk.new) ≡ is_some (R.told disk.old) }
+    ensures orders { R.orders disk.new ≡ R.orders disk.old }
+{
+    match sizes.pages(space) {
+        Some(_) => disk.extend(space, pages),
+        None => disk.create(space, pages),
+    }
+}
+
+/// Lays a page at its place. A page past the end of its space, or of a space that isn't there, is
+/// written after room was made for it. After an error the copy is to be given up.
+pub fn lay_page<R: PageDisk>(
+    disk: &mut R,
+    sizes: &mut Sizes,
+    space: u32,
+    number: u32,
+    page: &[u8; PAGE_SIZE],
+) -> Result<(), Refusal>
+    requires sizes { ForTold (R.told disk.old) (AreSizes sizes.old) }
+    requires within { number < 2 ^ 32 - 1 }
+    ensures ok { OnOk result
+        (Steps (R.told disk.old) (R.told disk.new) (laid_page space number page.now)) }
+    ensures sizes { OnOk result (ForTold (R.told disk.new) (AreSizes sizes.new)) }
+    ensures partial { OnErr result (ChangesOnly space (R.told disk.old) (R.told disk.new)) }
+    ensures cause { HasCause (R.failures disk.old) (R.failures disk.new) result }
+    ensures tells { is_some (R.told disk.new) ≡ is_some (R.told disk.old) }
+    ensures orders { R.orders disk.new ≡ R.orders disk.old }
+{
+    make_room(disk, sizes, space, number + 1)?;
+    write_whole(disk, space, number, page)
+}
+
+/// Lays redo bytes from an LSN on, in the redo's space at their distance from the checkpoint. Zero
+/// bytes fill the page of the last of them. After an error the copy is to be given up.
+pub fn lay_redo<R: PageDisk>(
+    disk: &mut R,
+    sizes: &mut Sizes,
+    checkpoint: u64,
+    from: u64,
+    bytes: &[u8],
+) -> Result<(), Refusal>
+    requires sizes { ForTold (R.told disk.old) (AreSizes sizes.old) }
+    requires behind { checkpoint ≤ from }
+    requires whole { (from - checkpoint) % PAGE_SIZE ≡ 0 }
+    requires within { from + length bytes.now ≤ LSN_LIMIT }
+    ensures ok { OnOk result
+        (Steps (R.told disk.old) (R.told disk.new) (laid_redo (from - checkpoint) bytes.now)) }
+    ensures sizes { OnOk result (ForTold (R.told disk.new) (AreSizes sizes.new)) }
+    ensures partial { OnErr result (ChangesOnly REDO_SPACE (R.told disk.old) (R.told disk.new)) }
+    ensures cause { HasCause (R.failures disk.old) (R.failures disk.new) result }
+    ensures tells { is_some (R.told disk.new) ≡ is_some (R.told disk.old) }
+    ensures orders { R.orders disk.new ≡ R.orders disk.old }
+{
+    let first = ((from - checkpoint) / PAGE_SIZE as u64) as u32;
+    let count = bytes.len().div_ceil(PAGE_SIZE) as u32;
+    make_room(disk, sizes, REDO_SPACE, first + count)?;
+    for number in 0..count {
+        write_redo_page(disk, first, bytes, number)?;
+    }
+    Ok(())
+}
+
+// Writes the page of this number among those of redo bytes, the first of which stands at `first`.
+fn write_redo_page<R: PageDisk>(
+    disk: &mut R,
+    first: u32,
+    bytes: &[u8],
+    number: u32,
+) -> Result<(), Refusal>
+    requires within { PAGE_SIZE * number ≤ length bytes.now }
+    requires fits { first + number < 2 ^ 32 }
+    ensures ok { OnOk result (Steps (R.told disk.old) (R.told disk.new)
+        (λ m. with_page m REDO_SPACE (first + number) (λ _. whole (redo_page bytes.now number)))) }
+    ensures partial { OnErr result (ChangesOnly REDO_SPACE (R.told disk.old) (R.told disk.new)) }
+    ensures cause { HasCause (R.failures disk.old) (R.failures disk.new) result }
+    ensures tells { is_some (R.told disk.new) ≡ is_some (R.told disk.old) }
+    ensures orders { R.orders disk.new ≡ R.orders disk.old }
+{
+    let rest = &bytes[PAGE_SIZE * number as usize..];
+    match rest.first_chunk() {
+        Some(page) => write_whole(disk, REDO_SPACE, first + number, page),
+        None => write_whole(disk, REDO_SPACE, first + number, &fill(rest)),
+    }
+}
+
+// A page that begins with these bytes, and has zero bytes behind them.
+fn fill(bytes: &[u8]) -> [u8; PAGE_SIZE]
+    requires { length bytes.now ≤ PAGE_SIZE }
+    ensures { result ≡ filled bytes.now }
+{
+    let mut page = [0; PAGE_SIZE];
+    page[..bytes.len()].copy_from_slice(bytes);
+    page
+}
+
+// Writes both halves of a page.
+fn write_whole<R: PageDisk>(
+    disk: &mut R,
+    space: u32,
+    number: u32,
+    page: &[u8; PAGE_SIZE],
+) -> Result<(), Refusal>
+    ensures ok { OnOk result (Steps (R.told disk.old) (R.told disk.new)
+        (λ m. with_page m space number (λ _. whole page.now))) }
+    ensures partial { OnErr result (ChangesOnly space (R.told disk.old) (R.told disk.new)) }
+    ensures cause { HasCause (R.failures disk.old) (R.failures disk.new) result }
+    ensures tells { is_some (R.told disk.new) ≡ is_some (R.told disk.old) }
+    ensures orders { R.orders disk.new ≡ R.orders disk.old }
+{
+    disk.write_half(space, number, page)?;
+    disk.write_rest(space, number, page)
+}
