@@ -1,0 +1,4 @@
+pub mod SessionLemmas
+pub mod StopLemmas
+pub mod ArchiveLemmas
+pub mod PartLemmas

@@ -1,0 +1,5 @@
+pub mod Cloning
+pub mod CloneCauses
+pub mod CauseTexts
+pub mod Effects
+pub mod CloneCalls

@@ -1,0 +1,165 @@
+ghost use Rattle.std.specs.Prelude.{◌≡◌, None, Some, MatchResult};
+ghost use Rattle.clone_session.specs.CloneCauses.{session_of, stale, other_stage, not_claimed};
+ghost use Rattle.clone_session.specs.CloneCauses.{hello_cause, standing_cause, claim_cause};
+ghost use Rattle.clone_session.specs.CloneCauses.{block_cause, acknowledgement_cause, exit_cause};
+ghost use Rattle.clone_session.specs.CloneCauses.{is_acknowledged, donor_stage, archive_behind};
+ghost use Rattle.clone_session.specs.declared.refusal.CloneCause.TheVariants.{NoSuchSession};
+
+use crate::limits::{MOST_TASKS, VERSION};
+use crate::session::Session;
+use crate::{Caller, CloneCause, Cloning, Hello};
+use clone_base::PAGE_SIZE;
+use clone_chunk::Stage;
+
+// What is against a call, as its first cause.
+impl Cloning {
+    // The session of this number.
+    pub(crate) fn session_of(&self, number: u64) -> Result<&Session, CloneCause>
+        ensures { MatchResult result (λ s. session_of self.now number ≡ Some s.now)
+            (λ cause. (session_of self.now number ≡ None) × (cause ≡ NoSuchSession)) }
+    {
+        match &self.session {
+            Some(session) if session.number == number => Ok(session),
+            _ => Err(CloneCause::NoSuchSession),
+        }
+    }
+
+    // Of the beginning of a session.
+    pub(crate) fn check_hello(&self, hello: &Hello) -> Result<(), CloneCause>
+        ensures { MatchResult result (λ _. hello_cause self.now hello.now ≡ None)
+            (λ cause. hello_cause self.now hello.now ≡ Some cause) }
+    {
+        if hello.version != VERSION {
+            return Err(CloneCause::VersionMismatch {
+                theirs: hello.version,
+            });
+        }
+        if hello.page_size != PAGE_SIZE as u32 {
+            return Err(CloneCause::PageSizeMismatch {
+                theirs: hello.page_size,
+            });
+        }
+        if hello.compress {
+            return Err(CloneCause::CompressionRefused);
+        }
+        if hello.tasks == 0 || MOST_TASKS < hello.tasks {
+            return Err(CloneCause::TasksOutOfRange { tasks: hello.tasks });
+        }
+        check_standing(&self.session, hello)
+    }
+
+    // Of a claim.
+    pub(crate) fn check_claim(&self, caller: Caller, stage: u8) -> Result<(), CloneCause>
+        ensures { MatchResult result (λ _. claim_cause self.now caller stage ≡ None)
+            (λ cause. claim_cause self.now caller stage ≡ Some cause) }
+    {
+        let session = self.session_of(caller.session)?;
+        check_incarnation(session, caller.incarnation)?;
+        check_stage(session, stage)
+    }
+
+    // Of an acknowledgement, where there are so many commits.
+    pub(crate) fn check_acknowledgement(
+        &self,
+        caller: Caller,
+        stage: u8,
+        floor: u64,
+        position: u64,
+    ) -> Result<(), CloneCause>
+        ensures { MatchResult result
+            (λ _. acknowledgement_cause self.now caller stage floor position ≡ None)
+            (λ cause. acknowledgement_cause self.now caller stage floor position ≡ Some cause) }
+    {
+        let session = self.session_of(caller.session)?;
+        check_incarnation(session, caller.incarnation)?;
+        let donor = session.stage_number();
+        if !is_acknowledged(session, stage) {
+            return Err(CloneCause::StageMismatch {
+                donor,
+                recipient: stage,
+            });
+        }
+        let count = session.snapshot.left();
+        if stage == donor && count != 0 {
+            return Err(CloneCause::ChunksLeft { count });
+        }
+        if stage == 2 && donor == 2 && position < floor {
+            return Err(CloneCause::FloorAhead { floor, position });
+        }
+        Ok(())
+    }
+
+    // Of an exit.
+    pub(crate) fn check_exit(&self, caller: Caller) -> Result<(), CloneCause>
+        ensures { MatchResult result (λ _. exit_cause self.now caller ≡ None)
+            (λ cause. exit_cause self.now caller ≡ Some cause) }
+    {
+        let session = self.session_of(caller.session)?;
+        check_incarnation(session, caller.incarnation)
+    }
+}
+
+// What the session that stands has against the beginning of one.
+fn check_standing(session: &Option<Session>, hello: &Hello) -> Result<(), CloneCause>
+    ensures { MatchResult result (λ _. standing_cause session.now hello.now ≡ None)
+        (λ cause. standing_cause session.now hello.now ≡ Some cause) }
+{
+    let Some(session) = session else {
+        return Ok(());
+    };
+    if session.number != hello.session {
+        return Err(CloneCause::Busy {
+            session: session.number,
+        });
+    }
+    if hello.incarnation <= session.incarnation {
+        return Err(CloneCause::Stale {
+            incarnation: session.incarnation,
+        });
+    }
+    let donor = session.stage_number();
+    if donor != 1 {
+        return Err(CloneCause::StageMismatch {
+            donor,
+            recipient: 1,
+        });
+    }
+    Ok(())
+}
+
+// Whether an incarnation is over.
+pub(crate) fn check_incarnation(session: &Session, incarnation: u32) -> Result<(), CloneCause>
+    ensures { MatchResult result (λ _. stale session.now incarnation ≡ None)
+        (λ cause. stale session.now incarnation ≡ Some cause) }
+{
+    if incarnation < session.incarnation {
+        return Err(CloneCause::Stale {
+            incarnation: session.incarnation,
+        });
+    }
+    Ok(())
+}
+
+// Whether the donor is in another stage.
+pub(crate) fn check_stage(session: &Session, stage: u8) -> Result<(), CloneCause>
+    ensures { MatchResult result (λ _. other_stage session.now stage ≡ None)
+        (λ cause. other_stage session.now stage ≡ Some cause) }
+{
+    let donor = session.stage_number();
+    if stage != donor {
+        return Err(CloneCause::StageMismatch {
+            donor,
+            recipient: stage,
+        });
+    }
+    Ok(())
+}
+
+// Whether a stage may be acknowledged: one in which something is copied, the donor's or the one
+// before it.
+fn is_acknowledged(session: &Session, stage: u8) -> bool
+    ensures { result ≡ is_acknowledged session.now stage }
+{
+    let donor = session.stage_number();
+    matches!(stage, 1..=3) && (stage == donor || stage + 1 == donor)
+}

@@ -1,0 +1,24 @@
+//! The clone that a donor gives: the session, its stage with the chunks, the pages that are
+//! tracked, the redo that is archived, and the last stop. Nothing here knows of pages in frames or
+//! of a disk: what a call needs of these it is given.
+#![tactic(auto)]
+
+mod caller;
+mod causes;
+mod cloning;
+mod copying;
+mod ending;
+mod info;
+mod keeping;
+mod limits;
+mod refusal;
+mod session;
+mod starting;
+
+pub use caller::{Caller, Hello};
+pub use cloning::Cloning;
+pub use copying::BlockWork;
+pub use ending::Moment;
+pub use info::{SpaceList, StageInfo, Stop};
+pub use limits::{MOST_TASKS, VERSION};
+pub use refusal::{CloneCause, CloneRefusal};
