@@ -1,7 +1,7 @@
 -- The words that the lemmas of this crate share.
 pub use Rattle.clone_buffer.specs.Buffered.{IsBuffer, Buffered, Shows, Shown}
 pub use Rattle.clone_buffer.specs.Keeping.{IsKept, IsKeptPage}
-pub use Rattle.clone_buffer.specs.OnePage.{has_space, frame_in, Flushes, flight_of, disk_standing, is_open, engine_with, frame_of}
+pub use Rattle.clone_buffer.specs.OnePage.{has_space, frame_in, Beside, Copies, flight_of, disk_standing, is_open, engine_with, frame_of}
 pub use Rattle.clone_buffer.specs.Writing.{IsOnPage, Creates, written, any_names, after_records, MakesSpace, Writes, HasFrame}
 pub use Rattle.clone_image.proofs.Images.{page_of-made, page_of-elsewhere, page_of-edited_same, page_of-past}
 pub use Rattle.clone_image.proofs.Redoing.{replayed_is_redone}
@@ -9,9 +9,9 @@ pub use Rattle.clone_image.specs.Image.{EditsPages, Image}
 pub use Rattle.clone_image.specs.Redone.{stands, past_end, redone, Standing, no_space}
 pub use Rattle.clone_image.specs.Replay.{first_lsn, IsSpelled, replayed}
 pub use Rattle.clone_law.proofs.AppendLemmas.{suits_unnamed}
-pub use Rattle.clone_law.proofs.EventLemmas.{engine_kept}
-pub use Rattle.clone_law.specs.Machine.{Engine, HasSpace}
-pub use Rattle.clone_law.specs.Rule.{EngineRule}
+pub use Rattle.clone_law.proofs.EventLemmas.{kept as rule_kept}
+pub use Rattle.clone_law.specs.Machine.{Copy, Engine, HasSpace, World}
+pub use Rattle.clone_law.specs.Rule.{CopyRule, Rule}
 pub use Rattle.clone_law.specs.Since.{ends, Suits}
 pub use Rattle.clone_law.specs.Touches.{passes, names, resets, touches, passes_by, edits}
 pub use Rattle.clone_mtr.specs.Effects.{effect}

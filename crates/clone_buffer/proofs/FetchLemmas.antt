@@ -1,6 +1,6 @@
 -- A buffer stays kept, whatever a fetch does.
 use Rattle.std.proofs.Common.{◌≡◌, ◌<◌, ◌^◌, ◌&&◌, ℕ, Bool, true, false, List, not, set, refl, sym, ap, subst, ◌∙◌, Option, Some, None, Ok, Err, Result, IsSome, IsTrue, is_some, MatchOption}
-use Rattle.clone_buffer.proofs.Common.{false≢true, get_or-set_same, DiskImage, ForTold, GivesQuiet, Image, replayed, ends, Frame, PageName, FetchRefusal, no_frame, frame_at, holder, touched, next_use, Frames, IsPool, IsVictim, used, State, Buffered, Shows, Flushes, frame_in, frame_of, IsKeptPage, IsKept}
+use Rattle.clone_buffer.proofs.Common.{false≢true, get_or-set_same, DiskImage, ForTold, GivesQuiet, Image, replayed, ends, Frame, PageName, FetchRefusal, no_frame, frame_at, holder, touched, next_use, Frames, IsPool, IsVictim, used, State, Buffered, Shows, Beside, frame_in, frame_of, IsKeptPage, IsKept}
 use Rattle.std.proofs.lemmas.Bool.{and_from}
 use Rattle.std.proofs.lemmas.Slice.Eq.{bytes_eq-Decides}
 use Rattle.clone_image.specs.Image.{page_of}
@@ -33,12 +33,12 @@ some_page : (o : Option (List ℕ)) → IsSome o → (page : List ℕ) × (o ≡
 some_page None there = absurd (false≢true there)
 some_page (Some page) there = (page, refl)
 
-module _ (v : Buffered) (flushes : Flushes) (m : DiskImage) (new : Frames) (target : PageName) (p : IsPool v.pool) (q : IsPool new) (k : IsKept v flushes m) where
+module _ (v : Buffered) (beside : Beside) (m : DiskImage) (new : Frames) (target : PageName) (p : IsPool v.pool) (q : IsPool new) (k : IsKept v beside m) where
   abbrev was : ℕ → Frame
   was at = frame_at v.pool.frames at
 
   abbrev Kept : ℕ → ℕ → Option Frame → Type 0
-  Kept s n frame = IsKeptPage v.log flushes m s n frame
+  Kept s n frame = IsKeptPage v.log beside m s n frame
 
   -- each page is kept in its frame
   abbrev AllKept : Type 0
@@ -48,11 +48,11 @@ module _ (v : Buffered) (flushes : Flushes) (m : DiskImage) (new : Frames) (targ
   hit at held is s n =
       let f : Frame = touched (next_use v.pool.uses) (was at) in
       let to = set_becomes v.pool.frames new.frames at f (holder_name v.pool.frames target at held).0 (ap (λ (w : Frames). w.frames) is) in
-      held_on v.pool new at p q f to (Kept s n) (Kept s n) (record { space = s; number = n }) refl (λ _ had. like_page v.log flushes m s n (was at) (was at).pins (next_use v.pool.uses) had) (λ _ o had. had) (k.page s n)
+      held_on v.pool new at p q f to (Kept s n) (Kept s n) (record { space = s; number = n }) refl (λ _ had. like_page v.log beside m s n (was at) (was at).pins (next_use v.pool.uses) had) (λ _ o had. had) (k.page s n)
 
   -- the page that makes place, if it has one
   pub makes_place : (at : ℕ) → may_go (was at) ≡ true → (s n : ℕ) → Kept s n (counted (was at)) → Kept s n None
-  makes_place at go s n had = lost_page v.log flushes m s n (was at) (victim_clean v.pool at go) (victim_idle v.pool at p go) had
+  makes_place at go s n had = lost_page v.log beside m s n (was at) (victim_clean v.pool at go) (victim_idle v.pool at p go) had
 
   filled_page : (at : ℕ) → holder v.pool.frames target ≡ None → IsVictim v.pool.frames at → Fills target at v.pool new → ends v.log < 2 ^ 64
       → page_of (replayed v.log) target.space target.number ≡ Some (frame_at new.frames at).page → GivesQuiet m target.space target.number (frame_at new.frames at).page → AllKept
@@ -72,7 +72,7 @@ module _ (v : Buffered) (flushes : Flushes) (m : DiskImage) (new : Frames) (targ
 
       here : target ≡ record { space = s; number = n } → Kept s n None → Kept s n (Some f)
       here same = subst (λ (w : PageName). Kept w.space w.number None → Kept w.space w.number (Some f)) same
-          (read_page v.log flushes m target.space target.number f (victim_clean v.pool at victim.free) (victim_idle v.pool at p victim.free)
+          (read_page v.log beside m target.space target.number f (victim_clean v.pool at victim.free) (victim_idle v.pool at p victim.free)
           (stands_there v.log target.space target.number fills.bytes small (page ∙ ap Some bytes)) (subst (GivesQuiet m target.space target.number) bytes quiet))
 
   emptied_page : (at : ℕ) (bytes : List ℕ) → IsVictim v.pool.frames at → new.frames ≡ set v.pool.frames at (emptied bytes (was at)) → AllKept
@@ -111,39 +111,39 @@ module _ (v : Buffered) (flushes : Flushes) (m : DiskImage) (new : Frames) (targ
       by None none f =
           let page = some_page (page_of image target.space target.number) there in
           let bare : Kept target.space target.number None = subst (λ (o : Option ℕ). Kept target.space target.number (frame_in v.pool.frames o)) none (k.page target.space target.number) in
-          page.1 ∙ ap Some (sym (read_bytes v.log flushes m target.space target.number page.0 (frame_at new.frames at).page bare (stands_there v.log target.space target.number page.0 small page.1) (read none)))
+          page.1 ∙ ap Some (sym (read_bytes v.log beside m target.space target.number page.0 (frame_at new.frames at).page bare (stands_there v.log target.space target.number page.0 small page.1) (read none)))
 
 -- what was read keeps the flag where it is the page
 is_read : (bytes : List ℕ) (found : Option (List ℕ)) → found ≡ Some bytes → IsTrue (is_page bytes found)
 is_read bytes found is = subst (λ (f : Option (List ℕ)). IsTrue (is_page bytes f)) (sym is) ((bytes_eq-Decides bytes bytes).1 refl)
 
-module _ (v : Buffered) (flushes : Flushes) (told now : Option DiskImage) (new : Frames) (result : Result ℕ FetchRefusal) (space number : ℕ) where
+module _ (v : Buffered) (beside : Beside) (told now : Option DiskImage) (new : Frames) (result : Result ℕ FetchRefusal) (space number : ℕ) where
   abbrev goal : PageName
   goal = record { space = space; number = number }
 
   -- a buffer over a disk stands after a fetch
   pub stands_fetched : (at : ℕ) (bytes : List ℕ) (a : State) → IsPool v.pool → IsPool new → Fetches goal v.pool new result → ends v.log < 2 ^ 64 → (IsTrue v.right → IsSome (page_of (replayed v.log) space number)) → (IsTrue v.right → Shows (replayed v.log) v.pool.frames) → result ≡ Ok at → now ≡ told
       → (holder v.pool.frames goal ≡ None → ForTold told (λ m. GivesQuiet m space number (frame_at new.frames at).page)) → bytes ≡ (frame_at new.frames at).page
-      → a ≡ record { log = v.log; right = v.right && is_page bytes (page_of (replayed v.log) space number) } → Stands v flushes told → Stands (record { log = a.log; right = a.right; ring = v.ring; pool = new }) flushes now
-  stands_fetched at bytes a p q f small there shows ok same read is_bytes is st = subst (Stands _ flushes) (sym same) (by told read st)
+      → a ≡ record { log = v.log; right = v.right && is_page bytes (page_of (replayed v.log) space number) } → Stands v beside told → Stands (record { log = a.log; right = a.right; ring = v.ring; pool = new }) beside now
+  stands_fetched at bytes a p q f small there shows ok same read is_bytes is st = subst (Stands _ beside) (sym same) (by told read st)
     where
-      by : (t : Option DiskImage) → (holder v.pool.frames goal ≡ None → ForTold t (λ m. GivesQuiet m space number (frame_at new.frames at).page)) → Stands v flushes t → Stands (record { log = a.log; right = a.right; ring = v.ring; pool = new }) flushes t
+      by : (t : Option DiskImage) → (holder v.pool.frames goal ≡ None → ForTold t (λ m. GivesQuiet m space number (frame_at new.frames at).page)) → Stands v beside t → Stands (record { log = a.log; right = a.right; ring = v.ring; pool = new }) beside t
       by None read st = tt
       by (Some m) read k =
-          let page : page_of (replayed v.log) space number ≡ Some (frame_at new.frames at).page = fetched_page v flushes m new goal p q k result at f small (there k.right) (shows k.right) ok read in
+          let page : page_of (replayed v.log) space number ≡ Some (frame_at new.frames at).page = fetched_page v beside m new goal p q k result at f small (there k.right) (shows k.right) ok read in
           let right : IsTrue (v.right && is_page bytes (page_of (replayed v.log) space number)) = and_from v.right _ k.right (is_read bytes _ (page ∙ ap Some (sym is_bytes))) in
           let P : ℕ → Type 0 = λ b. page_of (replayed v.log) space number ≡ Some (frame_at new.frames b).page in
           let Q : ℕ → Type 0 = λ b. GivesQuiet m space number (frame_at new.frames b).page in
-          subst (λ (t : State). IsKept (record { log = t.log; right = t.right; ring = v.ring; pool = new }) flushes m) (sym is)
-          (record { right = right; page = kept_fetched v flushes m new goal p q k result f small (λ b answer. subst P (one_answer at b result ok answer) page) (λ b answer miss. subst Q (one_answer at b result ok answer) (read miss)) })
+          subst (λ (t : State). IsKept (record { log = t.log; right = t.right; ring = v.ring; pool = new }) beside m) (sym is)
+          (record { right = right; page = kept_fetched v beside m new goal p q k result f small (λ b answer. subst P (one_answer at b result ok answer) page) (λ b answer miss. subst Q (one_answer at b result ok answer) (read miss)) })
 
   -- and where it is refused
-  pub stands_refused : (e : FetchRefusal) → IsPool v.pool → IsPool new → Fetches goal v.pool new result → ends v.log < 2 ^ 64 → result ≡ Err e → now ≡ told → Stands v flushes told → Stands (record { log = v.log; right = v.right; ring = v.ring; pool = new }) flushes now
-  stands_refused e p q f small err same st = subst (Stands _ flushes) (sym same) (by told st)
+  pub stands_refused : (e : FetchRefusal) → IsPool v.pool → IsPool new → Fetches goal v.pool new result → ends v.log < 2 ^ 64 → result ≡ Err e → now ≡ told → Stands v beside told → Stands (record { log = v.log; right = v.right; ring = v.ring; pool = new }) beside now
+  stands_refused e p q f small err same st = subst (Stands _ beside) (sym same) (by told st)
     where
       no_answer : (b : ℕ) → result ≡ Ok b → ⊥
       no_answer b answer = let both : Err e ≡ Ok b = sym err ∙ answer in absurd (cc)
 
-      by : (t : Option DiskImage) → Stands v flushes t → Stands (record { log = v.log; right = v.right; ring = v.ring; pool = new }) flushes t
+      by : (t : Option DiskImage) → Stands v beside t → Stands (record { log = v.log; right = v.right; ring = v.ring; pool = new }) beside t
       by None st = tt
-      by (Some m) k = record { right = k.right; page = kept_fetched v flushes m new goal p q k result f small (λ b answer. absurd (no_answer b answer)) (λ b answer miss. absurd (no_answer b answer)) }
+      by (Some m) k = record { right = k.right; page = kept_fetched v beside m new goal p q k result f small (λ b answer. absurd (no_answer b answer)) (λ b answer miss. absurd (no_answer b answer)) }

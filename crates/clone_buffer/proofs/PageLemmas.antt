@@ -1,18 +1,31 @@
 -- One page that is kept stays so, whatever a call does to it.
 use Rattle.std.proofs.Common.{◌≡◌, ◌↔◌, ◌&&◌, ◌++◌, ℕ, Bool, true, false, List, [], ◌∷◌, slice_get, refl, sym, ap, subst, ◌∙◌, Option, Some, None, option_and_then, unwrap_or, IsSome, IfSome, IsTrue, if◌then◌else◌}
-use Rattle.clone_buffer.proofs.Common.{false≢true, true≢false, DiskImage, GivesQuiet, Record, Standing, no_space, past_end, stands, redone, ends, Suits, EngineRule, Engine, HasSpace, engine_kept, Frame, Flush, is_fresh, noted, is_begun, Flushes, is_open, has_space, flight_of, engine_with, IsKeptPage}
+use Rattle.clone_buffer.proofs.Common.{false≢true, true≢false, DiskImage, GivesQuiet, Record, Standing, no_space, past_end, stands, redone, ends, Suits, Rule, CopyRule, Copy, Engine, World, HasSpace, rule_kept, Frame, Flush, is_fresh, noted, is_begun, Beside, is_open, has_space, flight_of, engine_with, IsKeptPage}
 use Rattle.std.specs.FinMap as finite
 use Rattle.clone_outside.specs.Disk.{page_of}
 use Rattle.clone_outside.specs.declared.disk.Held.{Held}
 use Rattle.clone_law.specs.Touches.{Lax}
-use Rattle.clone_law.specs.Machine.{World, Idle, Passed, Changed, Fetched, Evicted, Stands, first_of, dirtied}
+use Rattle.clone_law.specs.Machine.{Flight, Idle, Untracked, Tracked, Copied, Stopped, Passed, Changed, Fetched, Evicted, Stands, first_of, dirtied}
 use Rattle.clone_pool.specs.declared.frame.Flush.TheVariants as flush
 use Rattle.clone_buffer.specs.OnePage.{standing_at, standing_in}
 use Rattle.clone_buffer.proofs.FrameLemmas.{counted}
 
--- the page without a clone
-abbrev pub world : Engine → World
-world e = record { engine = e; copy = Idle }
+-- the page in the donor, and in a clone
+abbrev pub world : Copy → Engine → World
+world copy e = record { engine = e; copy = copy }
+
+-- they keep the rule
+abbrev pub Ruled : ℕ → ℕ → Copy → Engine → Type 0
+Ruled space number copy e = Rule space number (world copy e)
+
+-- what a clone has keeps its part of the rule, whatever the disk has of the page, unless a write is opened or a flush begins
+pub copy_stays : (space number : ℕ) (e : Engine) (disk : Standing) (writing : Bool) (flight : Option Flight) (copy : Copy) → (e.writing ≡ false → writing ≡ false) → (e.flight ≡ None → flight ≡ None) → CopyRule space number e copy
+    → CopyRule space number (record e { disk = disk; writing = writing; flight = flight }) copy
+copy_stays space number e disk writing flight Idle closed grounded rule = tt
+copy_stays space number e disk writing flight (Untracked starts) closed grounded rule = (closed rule.0, grounded rule.1, rule.2)
+copy_stays space number e disk writing flight Tracked closed grounded rule = tt
+copy_stays space number e disk writing flight (Copied base starts) closed grounded rule = rule
+copy_stays space number e disk writing flight (Stopped base log starts) closed grounded rule = rule
 
 not_open : (b : Bool) → (b ≡ true → ⊥) → b ≡ false
 not_open true never = absurd (never refl)
@@ -60,90 +73,93 @@ quiet_bytes (Some pages) number page bytes is closed gives = at (slice_get pages
         let shut : held.writing ≡ false = sym (ap is_open some) ∙ closed in
         said shut ∙ stands_same held.bytes page same
 
-module _ (log : List (List Record)) (flushes : Flushes) (m : DiskImage) (space number : ℕ) where
+module _ (log : List (List Record)) (beside : Beside) (m : DiskImage) (space number : ℕ) where
+  abbrev copy : Copy
+  copy = beside.copy space number
+
   -- whatever a frame's pins and its last use are
-  pub like_page : (f : Frame) (pins last_use : ℕ) → IsKeptPage log flushes m space number (counted f) → IsKeptPage log flushes m space number (counted (record f { pins = pins; last_use = last_use }))
+  pub like_page : (f : Frame) (pins last_use : ℕ) → IsKeptPage log beside m space number (counted f) → IsKeptPage log beside m space number (counted (record f { pins = pins; last_use = last_use }))
   like_page f pins last_use k = by (is_fresh f.content) k
     where
-      by : (b : Bool) → IsKeptPage log flushes m space number (if b then None else Some f) → IsKeptPage log flushes m space number (if b then None else Some (record f { pins = pins; last_use = last_use }))
+      by : (b : Bool) → IsKeptPage log beside m space number (if b then None else Some f) → IsKeptPage log beside m space number (if b then None else Some (record f { pins = pins; last_use = last_use }))
       by true k = k
       by false k = record { rule = k.rule; dirty = k.dirty; flights = k.flights }
 
   -- a clean page lost its frame
-  lost : (f : Frame) → IsKeptPage log flushes m space number (Some (record f { oldest = None; flush = flush.Idle })) → IsKeptPage log flushes m space number None
+  lost : (f : Frame) → IsKeptPage log beside m space number (Some (record f { oldest = None; flush = flush.Idle })) → IsKeptPage log beside m space number None
   lost f k =
-      let e : Engine = engine_with log flushes m space number (Some (record f { oldest = None; flush = flush.Idle })) in
+      let e : Engine = engine_with log beside m space number (Some (record f { oldest = None; flush = flush.Idle })) in
       let closed : e.writing ≡ false = not_open e.writing (λ t. absurd (false≢true (k.dirty t))) in
       record {
-        rule = engine_kept space number (world e) Evicted k.rule (closed, refl, refl);
+        rule = rule_kept space number (world copy e) Evicted k.rule (closed, refl, refl);
         dirty = λ t. absurd (true≢false (sym t ∙ closed));
         flights = k.flights;
       }
 
-  pub lost_page : (f : Frame) → f.oldest ≡ None → f.flush ≡ flush.Idle → IsKeptPage log flushes m space number (counted f) → IsKeptPage log flushes m space number None
+  pub lost_page : (f : Frame) → f.oldest ≡ None → f.flush ≡ flush.Idle → IsKeptPage log beside m space number (counted f) → IsKeptPage log beside m space number None
   lost_page f clean idle k = by (is_fresh f.content) k
     where
-      by : (b : Bool) → IsKeptPage log flushes m space number (if b then None else Some f) → IsKeptPage log flushes m space number None
+      by : (b : Bool) → IsKeptPage log beside m space number (if b then None else Some f) → IsKeptPage log beside m space number None
       by true k = k
       by false k =
           let same : f ≡ record f { oldest = None; flush = flush.Idle } = λ i. record f { oldest = clean i; flush = idle i } in
-          lost f (subst (λ (g : Frame). IsKeptPage log flushes m space number (Some g)) same k)
+          lost f (subst (λ (g : Frame). IsKeptPage log beside m space number (Some g)) same k)
 
-  on_disk : (page : List ℕ) → IsKeptPage log flushes m space number None → redone space number log ≡ stands page → (standing_in (finite.get m.spaces space) number ≡ stands page) × (is_open (page_of m space number) ≡ false)
+  on_disk : (page : List ℕ) → IsKeptPage log beside m space number None → redone space number log ≡ stands page → (standing_in (finite.get m.spaces space) number ≡ stands page) × (is_open (page_of m space number) ≡ false)
   on_disk page k is =
-      let closed = k.rule.bare.0 in
+      let closed = k.rule.engine.bare.0 in
       let has : HasSpace (redone space number log) = subst HasSpace (sym is) tt in
       let opened : (is_open (page_of m space number) && true) ≡ false = sym (ap (λ (s : Standing). is_open (page_of m space number) && has_space s) is) ∙ closed in
-      (lax_stands _ page (subst (λ (s : Standing). Lax (standing_in (finite.get m.spaces space) number) s) is (k.rule.quiet closed has)), shut (is_open (page_of m space number)) opened)
+      (lax_stands _ page (subst (λ (s : Standing). Lax (standing_in (finite.get m.spaces space) number) s) is (k.rule.engine.quiet closed has)), shut (is_open (page_of m space number)) opened)
 
   -- what a read of a page gives that has no frame
-  pub read_bytes : (page bytes : List ℕ) → IsKeptPage log flushes m space number None → redone space number log ≡ stands page → GivesQuiet m space number bytes → bytes ≡ page
+  pub read_bytes : (page bytes : List ℕ) → IsKeptPage log beside m space number None → redone space number log ≡ stands page → GivesQuiet m space number bytes → bytes ≡ page
   read_bytes page bytes k is gives =
       let disk = on_disk page k is in
       quiet_bytes (finite.get m.spaces space) number page bytes disk.0 disk.1 gives
 
   -- a page was read into a frame
-  read_into : (f : Frame) → IsKeptPage log flushes m space number None → redone space number log ≡ stands f.page → GivesQuiet m space number f.page → IsKeptPage log flushes m space number (Some (record f { oldest = None; flush = flush.Idle }))
+  read_into : (f : Frame) → IsKeptPage log beside m space number None → redone space number log ≡ stands f.page → GivesQuiet m space number f.page → IsKeptPage log beside m space number (Some (record f { oldest = None; flush = flush.Idle }))
   read_into f k is gives =
       let disk = on_disk f.page k is in
-      let closed = k.rule.bare.0 in
+      let closed = k.rule.engine.bare.0 in
       record {
-        rule = engine_kept space number (world (engine_with log flushes m space number None)) (Fetched f.page) k.rule (refl, disk.0, subst Stands (sym is) tt);
+        rule = rule_kept space number (world copy (engine_with log beside m space number None)) (Fetched f.page) k.rule (refl, disk.0, subst Stands (sym is) tt);
         dirty = λ t. absurd (true≢false (sym t ∙ closed));
         flights = k.flights;
       }
 
-  pub read_page : (f : Frame) → f.oldest ≡ None → f.flush ≡ flush.Idle → redone space number log ≡ stands f.page → GivesQuiet m space number f.page → IsKeptPage log flushes m space number None → IsKeptPage log flushes m space number (Some f)
+  pub read_page : (f : Frame) → f.oldest ≡ None → f.flush ≡ flush.Idle → redone space number log ≡ stands f.page → GivesQuiet m space number f.page → IsKeptPage log beside m space number None → IsKeptPage log beside m space number (Some f)
   read_page f clean idle is gives k =
       let same : f ≡ record f { oldest = None; flush = flush.Idle } = λ i. record f { oldest = clean i; flush = idle i } in
-      subst (λ (g : Frame). IsKeptPage log flushes m space number (Some g)) (sym same) (read_into f k is gives)
+      subst (λ (g : Frame). IsKeptPage log beside m space number (Some g)) (sym same) (read_into f k is gives)
 
   -- a mini-transaction left the page
-  pub passed_page : (records : List Record) (frame : Option Frame) → Suits space number log records → redone space number (log ++ records ∷ []) ≡ redone space number log → IsKeptPage log flushes m space number frame → IsKeptPage (log ++ records ∷ []) flushes m space number frame
+  pub passed_page : (records : List Record) (frame : Option Frame) → Suits space number log records → redone space number (log ++ records ∷ []) ≡ redone space number log → IsKeptPage log beside m space number frame → IsKeptPage (log ++ records ∷ []) beside m space number frame
   passed_page records frame suits same k =
-      let e : Engine = engine_with log flushes m space number frame in
+      let e : Engine = engine_with log beside m space number frame in
       let writes : Standing → Bool = λ s. is_open (page_of m space number) && has_space s in
-      let new : record e { log = log ++ records ∷ [] } ≡ engine_with (log ++ records ∷ []) flushes m space number frame = λ i. record e { log = log ++ records ∷ []; writing = writes (sym same i) } in
+      let new : record e { log = log ++ records ∷ [] } ≡ engine_with (log ++ records ∷ []) beside m space number frame = λ i. record e { log = log ++ records ∷ []; writing = writes (sym same i) } in
       record {
-        rule = subst (EngineRule space number) new (engine_kept space number (world e) (Passed records) k.rule (suits, same));
+        rule = subst (Ruled space number copy) new (rule_kept space number (world copy e) (Passed records) k.rule (suits, same));
         dirty = λ t. k.dirty (sym (ap writes same) ∙ t);
         flights = k.flights;
       }
 
   -- a mini-transaction changed the page in its frame
   pub changed_page : (records : List Record) (f g : Frame) → Suits space number log records → redone space number log ≡ stands f.page → redone space number (log ++ records ∷ []) ≡ stands g.page
-      → g.oldest ≡ Some (unwrap_or f.oldest (ends log)) → g.flush ≡ noted (ends log) f.flush → IsKeptPage log flushes m space number (Some f) → IsKeptPage (log ++ records ∷ []) flushes m space number (Some g)
+      → g.oldest ≡ Some (unwrap_or f.oldest (ends log)) → g.flush ≡ noted (ends log) f.flush → IsKeptPage log beside m space number (Some f) → IsKeptPage (log ++ records ∷ []) beside m space number (Some g)
   changed_page records f g suits is becomes oldest flush_is k =
-      let e : Engine = engine_with log flushes m space number (Some f) in
+      let e : Engine = engine_with log beside m space number (Some f) in
       let writes : Standing → Bool = λ s. is_open (page_of m space number) && has_space s in
-      let writing : e.writing ≡ (engine_with (log ++ records ∷ []) flushes m space number (Some g)).writing = ap writes is ∙ sym (ap writes becomes) in
-      let image : Option (List ℕ) = flushes.image space number in
+      let writing : e.writing ≡ (engine_with (log ++ records ∷ []) beside m space number (Some g)).writing = ap writes is ∙ sym (ap writes becomes) in
+      let image : Option (List ℕ) = beside.image space number in
       let dirty : first_of (ends log) f.oldest ≡ g.oldest = first_is (ends log) f.oldest ∙ sym oldest in
       let flown : dirtied (ends log) (flight_of f.flush image) ≡ flight_of g.flush image = flown_on (ends log) f.flush image ∙ sym (ap (λ (x : Flush). flight_of x image) flush_is) in
-      let new : record e { log = log ++ records ∷ []; frame = Some g.page; oldest = first_of (ends log) f.oldest; flight = dirtied (ends log) (flight_of f.flush image) } ≡ engine_with (log ++ records ∷ []) flushes m space number (Some g) =
+      let new : record e { log = log ++ records ∷ []; frame = Some g.page; oldest = first_of (ends log) f.oldest; flight = dirtied (ends log) (flight_of f.flush image) } ≡ engine_with (log ++ records ∷ []) beside m space number (Some g) =
       λ i. record e { log = log ++ records ∷ []; writing = writing i; frame = Some g.page; oldest = dirty i; flight = flown i } in
       record {
-        rule = subst (EngineRule space number) new (engine_kept space number (world e) (Changed records g.page) k.rule (suits, becomes, subst HasSpace (sym is) tt));
+        rule = subst (Ruled space number copy) new (rule_kept space number (world copy e) (Changed records g.page) k.rule (suits, becomes, subst HasSpace (sym is) tt));
         dirty = λ t. subst IsSome (sym oldest) refl;
         flights = subst (λ (x : Flush). IsTrue (is_begun x) ↔ IsSome image) (sym flush_is) (begun_on (ends log) f.flush (λ x. IsTrue x ↔ IsSome image) k.flights);
       }

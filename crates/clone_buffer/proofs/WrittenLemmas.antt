@@ -1,6 +1,6 @@
 -- A buffer once a mini-transaction was written.
 use Rattle.std.proofs.Common.{◌≡◌, ◌≢◌, ◌<◌, ◌≤◌, ◌+◌, ◌-◌, ◌^◌, ◌⊎◌, inl, inr, ℕ, Bool, true, false, List, [], ◌∷◌, ◌++◌, length, drop, refl, sym, ap, subst, ◌∙◌, arith, Option, Some, None, Ok, Err, Result, IsSome, IsTrue, if◌then◌else◌, unwrap_or, replicate}
-use Rattle.clone_buffer.proofs.Common.{cases_eq, cases_lt, false≢true, length-append, AllByRecursion, DiskImage, zero_page, Record, spelling, log_of, Image, EditsPages, first_lsn, replayed, IsSpelled, stands, redone, page_of-made, page_of-past, page_of-elsewhere, ends, touches, resets, suits_unnamed, free_in, LogFull, Frame, Content, Unused, Fresh, PageName, frame_at, name_of, is_fresh, holder, noted, Frames, IsPool, Buffered, IsBuffer, Shown, Shows, Flushes, frame_in, frame_of, IsKeptPage, IsKept, after_records, HasFrame, IsOnPage, any_names, written, Writes, Creates, MakesSpace}
+use Rattle.clone_buffer.proofs.Common.{cases_eq, cases_lt, false≢true, length-append, AllByRecursion, DiskImage, zero_page, Record, spelling, log_of, Image, EditsPages, first_lsn, replayed, IsSpelled, stands, redone, page_of-made, page_of-past, page_of-elsewhere, ends, touches, resets, suits_unnamed, free_in, LogFull, Frame, Content, Unused, Fresh, PageName, frame_at, name_of, is_fresh, holder, noted, Frames, IsPool, Buffered, IsBuffer, Shown, Shows, Beside, frame_in, frame_of, IsKeptPage, IsKept, after_records, HasFrame, IsOnPage, any_names, written, Writes, Creates, MakesSpace}
 use Rattle.std.proofs.lemmas.List.{length-drop, drop-append-le}
 use Rattle.std.specs.FinMap as finite
 use Rattle.clone_mtr.specs.declared.record.Record.TheVariants as record_is
@@ -50,7 +50,7 @@ pub some_of : (o : Option ℕ) → IsSome o → (at : ℕ) × (o ≡ Some at)
 some_of None there = absurd (false≢true there)
 some_of (Some at) there = (at, refl)
 
-module _ (v : Buffered) (flushes : Flushes) (m : DiskImage) (records : List Record) (p : IsPool v.pool) (b : IsBuffer v) (after : IsBuffer (written records v)) (k : IsKept v flushes m) where
+module _ (v : Buffered) (beside : Beside) (m : DiskImage) (records : List Record) (p : IsPool v.pool) (b : IsBuffer v) (after : IsBuffer (written records v)) (k : IsKept v beside m) where
   abbrev start : ℕ
   start = ring.end_of v.ring
 
@@ -76,10 +76,10 @@ module _ (v : Buffered) (flushes : Flushes) (m : DiskImage) (records : List Reco
       same (Some at) is = ap (λ (f : Frame). if is_fresh f.content then None else Some f) (frame-after records start end v.pool (record { space = space; number = number }) at is ∙ (changed_is (record { space = space; number = number }) records start end (frame_at v.pool.frames at)).0 miss)
 
   -- a page that no record names
-  pub passed : (space number : ℕ) → any_names (record { space = space; number = number }) records ≡ false → PassesBy (end_of (ends v.log) records) space number records → IsKeptPage longer flushes m space number (frame_of new.frames space number)
+  pub passed : (space number : ℕ) → any_names (record { space = space; number = number }) records ≡ false → PassesBy (end_of (ends v.log) records) space number records → IsKeptPage longer beside m space number (frame_of new.frames space number)
   passed space number miss by =
-      subst (IsKeptPage longer flushes m space number) (sym (frame_of-passed space number miss))
-      (passed_page v.log flushes m space number records (frame_of v.pool.frames space number) (suits_unnamed space number v.log records small by.unnamed) (others_pass space number v.log records by.passing) (k.page space number))
+      subst (IsKeptPage longer beside m space number) (sym (frame_of-passed space number miss))
+      (passed_page v.log beside m space number records (frame_of v.pool.frames space number) (suits_unnamed space number v.log records small by.unnamed) (others_pass space number v.log records by.passing) (k.page space number))
 
   -- the frame of a page that a record names, and the page
   pub renewed_frame : (space number at : ℕ) → holder v.pool.frames (record { space = space; number = number }) ≡ Some at
@@ -97,7 +97,7 @@ module _ (v : Buffered) (flushes : Flushes) (m : DiskImage) (records : List Reco
 
   -- a page that a record names and that is there
   pub renewed : (space number : ℕ) → any_names (record { space = space; number = number }) records ≡ true → resets (touches (end_of (ends v.log) records) space number records) ≡ false → IsSome (holder v.pool.frames (record { space = space; number = number })) → IsSome (page_of (replayed v.log) space number)
-      → IsKeptPage longer flushes m space number (frame_of new.frames space number)
+      → IsKeptPage longer beside m space number (frame_of new.frames space number)
   renewed space number hits calm framed on =
       let page : PageName = record { space = space; number = number } in
       let held = some_of (holder v.pool.frames page) framed in
@@ -111,16 +111,16 @@ module _ (v : Buffered) (flushes : Flushes) (m : DiskImage) (records : List Reco
       let was : page_of (replayed v.log) space number ≡ Some f.page = shown_held (replayed v.log) f.page page f.content (b.shows k.right at) name old in
       let stood : redone space number v.log ≡ stands f.page = stands_there v.log space number f.page (omega (arith, small)) was in
       let had : frame_of v.pool.frames space number ≡ Some f = ap (frame_in v.pool.frames) held.1 ∙ frame_in-old v.pool.frames at old in
-      subst (IsKeptPage longer flushes m space number) (sym new_frame.0)
-      (changed_page v.log flushes m space number records f g (suits_there space number v.log records f.page small stood calm) stood new_frame.1
+      subst (IsKeptPage longer beside m space number) (sym new_frame.0)
+      (changed_page v.log beside m space number records f g (suits_there space number v.log records f.page small stood calm) stood new_frame.1
       (ap (λ (g : Frame). g.oldest) is ∙ ap (λ (s : ℕ). Some (unwrap_or f.oldest s)) b.end) (ap (λ (g : Frame). g.flush) is ∙ ap (λ (s : ℕ). noted s f.flush) b.end)
-      (subst (IsKeptPage v.log flushes m space number) had (k.page space number)))
+      (subst (IsKeptPage v.log beside m space number) had (k.page space number)))
 
   -- records that change pages that are there
-  pub kept_written : AllByRecursion EditsPages records → AllByRecursion (HasFrame v.pool.frames) records → AllByRecursion (IsOnPage (replayed v.log)) records → IsKept (written records v) flushes m
+  pub kept_written : AllByRecursion EditsPages records → AllByRecursion (HasFrame v.pool.frames) records → AllByRecursion (IsOnPage (replayed v.log)) records → IsKept (written records v) beside m
   kept_written edits framed there = record { right = k.right; page = λ space number. by space number (any_names (record { space = space; number = number }) records) refl }
     where
-      by : (space number : ℕ) (t : Bool) → any_names (record { space = space; number = number }) records ≡ t → IsKeptPage longer flushes m space number (frame_of new.frames space number)
+      by : (space number : ℕ) (t : Bool) → any_names (record { space = space; number = number }) records ≡ t → IsKeptPage longer beside m space number (frame_of new.frames space number)
       by space number false is = passed space number is (passes_all (end_of (ends v.log) records) space number records edits is)
       by space number true is =
           renewed space number is (resets_none (end_of (ends v.log) records) space number records edits) (of_named (λ n. IsSome (holder v.pool.frames n)) (record { space = space; number = number }) records is framed) (of_named (λ n. IsSome (page_of (replayed v.log) n.space n.number)) (record { space = space; number = number }) records is there)
@@ -167,16 +167,16 @@ shows_created v (record_is.Create space pages ∷ rest) p behind makes right sho
 shows_created v other p behind makes right shows = absurd makes
 
 -- a buffer over a disk stands, whatever a write answers, if what is written then is kept
-pub stands_result : (v w : Buffered) (flushes : Flushes) (told : Option DiskImage) (records : List Record) (result : Result ℕ LogFull) → Writes records v w result
-    → (length (spelling records) ≤ free_in v.ring → Stands v flushes told → Stands (written records v) flushes told) → Stands v flushes told → Stands w flushes told
-stands_result v w flushes told records (Ok lsn) writes kept st = subst (λ (u : Buffered). Stands u flushes told) (sym writes.1) (kept writes.0 st)
-stands_result v w flushes told records (Err full) writes kept st = subst (λ (u : Buffered). Stands u flushes told) (sym writes.2) st
+pub stands_result : (v w : Buffered) (beside : Beside) (told : Option DiskImage) (records : List Record) (result : Result ℕ LogFull) → Writes records v w result
+    → (length (spelling records) ≤ free_in v.ring → Stands v beside told → Stands (written records v) beside told) → Stands v beside told → Stands w beside told
+stands_result v w beside told records (Ok lsn) writes kept st = subst (λ (u : Buffered). Stands u beside told) (sym writes.1) (kept writes.0 st)
+stands_result v w beside told records (Err full) writes kept st = subst (λ (u : Buffered). Stands u beside told) (sym writes.2) st
 
-pub stands_written : (v w : Buffered) (flushes : Flushes) (told : Option DiskImage) (records : List Record) (result : Result ℕ LogFull) → IsPool v.pool → IsBuffer v → IsSpelled records → AllByRecursion EditsPages records → AllByRecursion (HasFrame v.pool.frames) records
-    → (IsTrue v.right → AllByRecursion (IsOnPage (replayed v.log)) records) → Writes records v w result → Stands v flushes told → Stands w flushes told
-stands_written v w flushes told records result p b spelled edits frames there writes st = stands_result v w flushes told records result writes (λ room. stands_by v (written records v) flushes told (kept room)) st
+pub stands_written : (v w : Buffered) (beside : Beside) (told : Option DiskImage) (records : List Record) (result : Result ℕ LogFull) → IsPool v.pool → IsBuffer v → IsSpelled records → AllByRecursion EditsPages records → AllByRecursion (HasFrame v.pool.frames) records
+    → (IsTrue v.right → AllByRecursion (IsOnPage (replayed v.log)) records) → Writes records v w result → Stands v beside told → Stands w beside told
+stands_written v w beside told records result p b spelled edits frames there writes st = stands_result v w beside told records result writes (λ room. stands_by v (written records v) beside told (kept room)) st
   where
-    kept : length (spelling records) ≤ free_in v.ring → (m : DiskImage) → IsKept v flushes m → IsKept (written records v) flushes m
+    kept : length (spelling records) ≤ free_in v.ring → (m : DiskImage) → IsKept v beside m → IsKept (written records v) beside m
     kept room m k =
         let after = IsBuffer-written v records b spelled room (λ t. shows_written v records p (sym (ap (λ n. n + length (spelling records)) b.end)) edits (there t) (b.shows t)) in
-        kept_written v flushes m records p b after k edits frames (there k.right)
+        kept_written v beside m records p b after k edits frames (there k.right)

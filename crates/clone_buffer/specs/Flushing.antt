@@ -1,4 +1,4 @@
--- What a flush does to the page of one frame, and to what flushes keep beside a buffer.
+-- What a flush does to the page of one frame, and to what is kept beside a buffer.
 use Rattle.std.specs.Prelude.{ℕ, ◌≡◌, ◌≤◌, ◌⊎◌, true, false, List, take, None, Some, IsSome, if◌then◌else◌}
 use Rattle.std.specs.declared.option.Option.{Option}
 use Rattle.clone_outside.specs.Disk as disk
@@ -6,23 +6,36 @@ use Rattle.clone_outside.specs.Disk.{DiskImage}
 use Rattle.clone_outside.specs.declared.disk.Held.{Held}
 use Rattle.clone_outside.specs.declared.disk.TheConstants.{HALF_PAGE}
 use Rattle.clone_law.specs.Since.{ends}
+use Rattle.clone_law.specs.Machine.{noted}
 use Rattle.clone_pool.specs.declared.frame.Frame.{Frame}
 use Rattle.clone_pool.specs.declared.frame.PageName.{PageName}
 use Rattle.clone_pool.specs.Index.{is_name_of}
 use Rattle.clone_pool.specs.Frames.{frame_at, name_of, is_waiting, IsInFlight, begun, landed, failed}
 use Rattle.clone_pool.specs.Pool.{IsPool, AreClean, IsOldest, with_frame}
 use Rattle.clone_buffer.specs.Buffered.{Buffered}
-use Rattle.clone_buffer.specs.OnePage.{Flushes}
+use Rattle.clone_buffer.specs.OnePage.{Beside, Copies}
 use Rattle.clone_buffer.specs.Keeping.{IsKept}
 
 -- the image of the page that is on its way to the disk, or none any more
-abbrev pub with_image : PageName → Option (List ℕ) → Flushes → Flushes
-with_image page image flushes = record flushes {
+abbrev pub with_image : PageName → Option (List ℕ) → Beside → Beside
+with_image page image beside = record beside {
   image = λ space number.
       if is_name_of page (Some (record { space = space; number = number }))
       then image
-      else flushes.image space number;
+      else beside.image space number;
 }
+
+-- a clone's tracker has noted the page
+abbrev pub with_noted : PageName → Copies → Copies
+with_noted page copies = λ space number.
+    if is_name_of page (Some (record { space = space; number = number }))
+    then noted (copies space number)
+    else copies space number
+
+-- the page's flush has begun with this image, and a clone's tracker has noted it
+abbrev pub with_begun : PageName → List ℕ → Beside → Beside
+with_begun page image beside =
+    record (with_image page (Some image) beside) { copy = with_noted page beside.copy }
 
 -- the frame with this number has become another one
 abbrev pub with_change : ℕ → (Frame → Frame) → Buffered → Buffered
@@ -34,36 +47,36 @@ pub record Changes (v : Buffered) (page : PageName) (at : ℕ) (change : Frame �
   pub new : IsPool (with_frame at change v.pool)
   pub name : name_of (frame_at v.pool.frames at) ≡ Some page
 
--- a flush of a page begins: its image is what the frame has then
+-- a flush of a page begins: its image is what the frame has then, and a clone's tracker notes it
 abbrev pub BeginKeeps : Type 0
 BeginKeeps =
-    (v : Buffered) (flushes : Flushes) (m : DiskImage) (page : PageName) (at : ℕ)
+    (v : Buffered) (beside : Beside) (m : DiskImage) (page : PageName) (at : ℕ)
     → Changes v page at begun → is_waiting (frame_at v.pool.frames at) ≡ true
-    → IsKept v flushes m
+    → IsKept v beside m
     → IsKept (with_change at begun v)
-    (with_image page (Some (frame_at v.pool.frames at).page) flushes) m
+    (with_begun page (frame_at v.pool.frames at).page beside) m
 
 -- while a flush of a page is under way, its write may be opened, over any bytes
 abbrev pub OpenKeeps : Type 0
 OpenKeeps =
-    (v : Buffered) (flushes : Flushes) (m : DiskImage) (page : PageName) (at : ℕ)
+    (v : Buffered) (beside : Beside) (m : DiskImage) (page : PageName) (at : ℕ)
     (edit : Held → Held)
     → IsPool v.pool → name_of (frame_at v.pool.frames at) ≡ Some page
     → IsInFlight (frame_at v.pool.frames at)
     → IsSome (disk.page_of m page.space page.number) → ((held : Held) → (edit held).writing ≡ true)
-    → IsKept v flushes m → IsKept v flushes (disk.with_page m page.space page.number edit)
+    → IsKept v beside m → IsKept v beside (disk.with_page m page.space page.number edit)
 
 -- the write that closes makes the disk's page the image, and the flush lands
 abbrev pub LandKeeps : Type 0
 LandKeeps =
-    (v : Buffered) (flushes : Flushes) (m : DiskImage) (page : PageName) (at : ℕ) (image : List ℕ)
+    (v : Buffered) (beside : Beside) (m : DiskImage) (page : PageName) (at : ℕ) (image : List ℕ)
     (held : Held) (edit : Held → Held)
     → Changes v page at landed → IsInFlight (frame_at v.pool.frames at)
-    → flushes.image page.space page.number ≡ Some image
+    → beside.image page.space page.number ≡ Some image
     → disk.page_of m page.space page.number ≡ Some held
     → edit held ≡ record { bytes = image; writing = false }
-    → IsKept v flushes m
-    → IsKept (with_change at landed v) (with_image page None flushes)
+    → IsKept v beside m
+    → IsKept (with_change at landed v) (with_image page None beside)
     (disk.with_page m page.space page.number edit)
 
 -- the rest of an image makes the disk's page the image, where its first half is there
@@ -75,9 +88,9 @@ RestLands =
 -- a flush fails, whatever the disk has of the page
 abbrev pub FailKeeps : Type 0
 FailKeeps =
-    (v : Buffered) (flushes : Flushes) (m : DiskImage) (page : PageName) (at : ℕ)
+    (v : Buffered) (beside : Beside) (m : DiskImage) (page : PageName) (at : ℕ)
     → Changes v page at failed → IsInFlight (frame_at v.pool.frames at)
-    → IsKept v flushes m → IsKept (with_change at failed v) (with_image page None flushes) m
+    → IsKept v beside m → IsKept (with_change at failed v) (with_image page None beside) m
 
 -- the oldest change that isn't on the disk begins there, or there is none and the log ends there
 abbrev pub IsReached : Buffered → ℕ → Type 0
@@ -86,6 +99,6 @@ IsReached v lsn = IsOldest v.pool.frames lsn ⊎ (AreClean v.pool.frames × (lsn
 -- the checkpoint rises as far as all is on the disk, at most to the log's end
 abbrev pub CheckpointKeeps : Type 0
 CheckpointKeeps =
-    (v : Buffered) (flushes : Flushes) (m : DiskImage) (lsn : ℕ) → IsPool v.pool → IsReached v lsn
-    → IsKept v flushes m → (flushes.checkpoint ≤ lsn) × (lsn ≤ ends v.log)
-    × IsKept v (record flushes { checkpoint = lsn }) m
+    (v : Buffered) (beside : Beside) (m : DiskImage) (lsn : ℕ) → IsPool v.pool → IsReached v lsn
+    → IsKept v beside m → (beside.checkpoint ≤ lsn) × (lsn ≤ ends v.log)
+    × IsKept v (record beside { checkpoint = lsn }) m

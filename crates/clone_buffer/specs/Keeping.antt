@@ -6,31 +6,31 @@ use Rattle.clone_mtr.specs.declared.record.Record.{Record}
 use Rattle.clone_image.specs.Redone.{stands, redone, redone_from}
 use Rattle.clone_law.specs.Since.{ends}
 use Rattle.clone_law.specs.Machine.{HasSpace}
-use Rattle.clone_law.specs.Rule.{EngineRule}
+use Rattle.clone_law.specs.Rule.{CopyRule, Rule}
 use Rattle.clone_pool.specs.declared.frame.Frame.{Frame}
 use Rattle.clone_pool.specs.Frames.{is_begun}
 use Rattle.clone_buffer.specs.Buffered.{Buffered}
-use Rattle.clone_buffer.specs.OnePage.{Flushes, engine_with, frame_of, flush_in, disk_standing, is_open}
+use Rattle.clone_buffer.specs.OnePage.{Beside, Copies, engine_with, engine_of, world_with, world_of, frame_of, flush_in, disk_standing, is_open}
 
 -- What the log, the disk, its frame and its flush have of one page.
-pub record IsKeptPage (log : List (List Record)) (flushes : Flushes) (m : DiskImage)
+pub record IsKeptPage (log : List (List Record)) (beside : Beside) (m : DiskImage)
     (space number : ℕ) (frame : Option Frame) : Type 0 where
-  -- they keep the rule of one page
-  pub rule : EngineRule space number (engine_with log flushes m space number frame)
+  -- with what a clone has of it they keep the rule of one page
+  pub rule : Rule space number (world_with log beside m space number frame)
   -- where its space is there, it is dirty while its write is open
-  pub dirty : (engine_with log flushes m space number frame).writing ≡ true
-      → IsSome (engine_with log flushes m space number frame).oldest
+  pub dirty : (engine_with log beside m space number frame).writing ≡ true
+      → IsSome (engine_with log beside m space number frame).oldest
   -- its flush has begun exactly where there is an image of it
-  pub flights : IsTrue (is_begun (flush_in frame)) ↔ IsSome (flushes.image space number)
+  pub flights : IsTrue (is_begun (flush_in frame)) ↔ IsSome (beside.image space number)
 
 -- What was read was right, and each page is kept.
-pub record IsKept (v : Buffered) (flushes : Flushes) (m : DiskImage) : Type 0 where
+pub record IsKept (v : Buffered) (beside : Beside) (m : DiskImage) : Type 0 where
   pub right : IsTrue v.right
   pub page : (space number : ℕ)
-      → IsKeptPage v.log flushes m space number (frame_of v.pool.frames space number)
+      → IsKeptPage v.log beside m space number (frame_of v.pool.frames space number)
 
-abbrev pub Stands : Buffered → Flushes → Option DiskImage → Type 0
-Stands v flushes told = ForTold told (IsKept v flushes)
+abbrev pub Stands : Buffered → Beside → Option DiskImage → Type 0
+Stands v beside told = ForTold told (IsKept v beside)
 
 -- DISK PAGE WITH ITS REDO IS THE FRAME
 pub record DiskIsFrames (v : Buffered) (m : DiskImage) : Type 0 where
@@ -48,3 +48,17 @@ pub record DiskIsFrames (v : Buffered) (m : DiskImage) : Type 0 where
   pub open_framed : (space number : ℕ) → is_open (page_of m space number) ≡ true
       → HasSpace (redone space number v.log)
       → (frame : Frame) × ((frame_of v.pool.frames space number ≡ Some frame) × IsSome frame.oldest)
+
+-- EACH PAGE KEEPS THE RULE, with what a clone has of it.
+abbrev pub CopyKept : Type 0
+CopyKept =
+    (v : Buffered) (beside : Beside) (m : DiskImage) (space number : ℕ) → IsKept v beside m
+    → Rule space number (world_of v beside m space number)
+
+-- whatever else a clone has of each page, if it keeps the rule
+abbrev pub CopyKeeps : Type 0
+CopyKeeps =
+    (v : Buffered) (beside : Beside) (m : DiskImage) (copies : Copies) → IsKept v beside m
+    → ((space number : ℕ)
+    → CopyRule space number (engine_of v beside m space number) (copies space number))
+    → IsKept v (record beside { copy = copies }) m

@@ -7,22 +7,36 @@ use Rattle.clone_outside.specs.declared.disk.Held.{Held}
 use Rattle.clone_mtr.specs.declared.record.Record.{Record}
 use Rattle.clone_image.specs.Replay.{first_lsn}
 use Rattle.clone_image.specs.Redone.{Standing, no_space, past_end, stands, redone}
-use Rattle.clone_law.specs.Machine.{Engine, Flight}
+use Rattle.clone_law.specs.Machine as machine
+use Rattle.clone_law.specs.Machine.{Copy, Engine, Flight, NoFiles, World}
 use Rattle.clone_pool.specs.declared.frame.Frame.{Frame}
 use Rattle.clone_pool.specs.declared.frame.Flush.{Flush}
 use Rattle.clone_pool.specs.declared.frame.Flush.TheVariants.{Idle, Begun, Failed}
 use Rattle.clone_pool.specs.Frames.{frame_at, holder, is_fresh}
 use Rattle.clone_buffer.specs.Buffered.{Buffered}
 
--- what flushes keep beside a buffer: the last checkpoint, and the image of each page that is on its
--- way to the disk
-pub record Flushes : Type 0 where
+-- what a clone has of each page
+abbrev pub Copies : Type 0
+Copies = ℕ → ℕ → Copy
+
+-- no clone is under way
+abbrev pub no_copies : Copies
+no_copies = λ space number. machine.Idle
+
+-- no clone is in its FILE COPY
+abbrev pub NoFileCopy : Copies → Type 0
+NoFileCopy copies = (space number : ℕ) → NoFiles (copies space number)
+
+-- what is kept beside a buffer: the last checkpoint, the image of each page on its way to the disk,
+-- and what a clone has of each page
+pub record Beside : Type 0 where
   pub checkpoint : ℕ
   pub image : ℕ → ℕ → Option (List ℕ)
+  pub copy : Copies
 
--- no checkpoint since the log began, and no flush
-abbrev pub unflushed : Flushes
-unflushed = record { checkpoint = first_lsn; image = λ space number. None }
+-- no checkpoint since the log began, no flush, and no clone
+abbrev pub at_rest : Beside
+at_rest = record { checkpoint = first_lsn; image = λ space number. None; copy = no_copies }
 
 -- how a page stands on the disk
 abbrev pub standing_at : Option Held → Standing
@@ -74,17 +88,28 @@ flight_of (Begun later) image = option_map (λ bytes. record { image = bytes; la
 flight_of Failed image = None
 
 -- the page as the log, the disk, its frame and its flush have it
-abbrev pub engine_with : List (List Record) → Flushes → DiskImage → ℕ → ℕ → Option Frame → Engine
-engine_with log flushes m space number frame = record {
+abbrev pub engine_with : List (List Record) → Beside → DiskImage → ℕ → ℕ → Option Frame → Engine
+engine_with log beside m space number frame = record {
   log = log;
-  checkpoint = flushes.checkpoint;
+  checkpoint = beside.checkpoint;
   disk = disk_standing m space number;
   writing = is_open (page_of m space number) && has_space (redone space number log);
   frame = bytes_in frame;
   oldest = oldest_in frame;
-  flight = flight_of (flush_in frame) (flushes.image space number);
+  flight = flight_of (flush_in frame) (beside.image space number);
 }
 
-abbrev pub engine_of : Buffered → Flushes → DiskImage → ℕ → ℕ → Engine
-engine_of v flushes m space number =
-    engine_with v.log flushes m space number (frame_of v.pool.frames space number)
+abbrev pub engine_of : Buffered → Beside → DiskImage → ℕ → ℕ → Engine
+engine_of v beside m space number =
+    engine_with v.log beside m space number (frame_of v.pool.frames space number)
+
+-- the page in the donor, and in a clone
+abbrev pub world_with : List (List Record) → Beside → DiskImage → ℕ → ℕ → Option Frame → World
+world_with log beside m space number frame = record {
+  engine = engine_with log beside m space number frame;
+  copy = beside.copy space number;
+}
+
+abbrev pub world_of : Buffered → Beside → DiskImage → ℕ → ℕ → World
+world_of v beside m space number =
+    world_with v.log beside m space number (frame_of v.pool.frames space number)

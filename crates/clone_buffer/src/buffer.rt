@@ -4,6 +4,7 @@ ghost use Rattle.clone_outside.specs.Causes.{Rose};
 ghost use Rattle.clone_buffer.specs.Writing.{after_records, changed_at, named_frame};
 ghost use Rattle.std.specs.List.{AllByRecursion};
 ghost use Rattle.clone_buffer.specs.Flushing.{BeginKeeps, OpenKeeps, LandKeeps, RestLands, FailKeeps, CheckpointKeeps, with_change};
+ghost use Rattle.clone_buffer.specs.Keeping.{CopyKept, CopyKeeps};
 ghost use Rattle.clone_mtr.specs.Records.{IsRecord};
 ghost use Rattle.clone_mtr.specs.Spelling.{spelling, Spells, longest, log_of};
 ghost use Rattle.clone_ring.specs.Window.{empty, end_of, free_in, raised};
@@ -62,7 +63,7 @@ impl Buffer {
     ghost use Rattle.clone_outside.specs.Disk.{DiskImage, ForTold, blank};
     ghost use Rattle.clone_buffer.specs.Writing.{HasFrame, IsOnPage, Creates, HasMade, Writes, written};
     ghost use Rattle.clone_buffer.specs.Buffered.{image_of, IsBuffer, Shows};
-    ghost use Rattle.clone_buffer.specs.OnePage.{Flushes, unflushed};
+    ghost use Rattle.clone_buffer.specs.OnePage.{Beside, NoFileCopy, at_rest};
     ghost use Rattle.clone_buffer.specs.Keeping.{IsKept, Stands, DiskIsFrames};
 
     /// So many frames without pages, and an empty log in a ring of so many bytes.
@@ -72,7 +73,7 @@ impl Buffer {
         ensures ring { IfOk result (λ b. b.ring ≡ empty ring) }
         ensures pool { IfOk result
             (λ b. b.pool ≡ record { frames = replicate frames no_frame; uses = 0 }) }
-        ensures stands { IfOk result (λ b. Stands b unflushed (Some blank)) }
+        ensures stands { IfOk result (λ b. Stands b at_rest (Some blank)) }
     {
         Ok(Buffer {
             pool: Pool::new(alloc, frames)?,
@@ -112,8 +113,8 @@ impl Buffer {
         ensures later { D.failures disk.old ≤ D.failures disk.new }
         ensures disk { D.told disk.new ≡ D.told disk.old }
         ensures orders { D.orders disk.new ≡ D.orders disk.old }
-        ensures stands { (flushes : Flushes) → Stands self.old flushes (D.told disk.old)
-            → Stands self.new flushes (D.told disk.new) }
+        ensures stands { (beside : Beside) → Stands self.old beside (D.told disk.old)
+            → Stands self.new beside (D.told disk.new) }
     {
         self.pool.laws();
         let fetched = self.pool.fetch(disk, space, number);
@@ -142,8 +143,8 @@ impl Buffer {
         ensures held { IfOk result
             (IsHolder (record { space = space; number = number }) self.new.pool.frames) }
         ensures same { self.new ≡ record self.old { pool = self.new.pool } }
-        ensures stands { (flushes : Flushes) (told : Option DiskImage)
-            → Stands self.old flushes told → Stands self.new flushes told }
+        ensures stands { (beside : Beside) (told : Option DiskImage)
+            → Stands self.old beside told → Stands self.new beside told }
     {
         self.pool.laws();
         let taken = self.pool.fresh(space, number);
@@ -177,8 +178,8 @@ impl Buffer {
         requires holds { HoldsPage (frame_at self.old.pool.frames at) }
         requires room { HasPinRoom (frame_at self.old.pool.frames at) }
         ensures pinned { self.new ≡ record self.old { pool = with_frame at pinned self.old.pool } }
-        ensures stands { (flushes : Flushes) (told : Option DiskImage)
-            → Stands self.old flushes told → Stands self.new flushes told }
+        ensures stands { (beside : Beside) (told : Option DiskImage)
+            → Stands self.old beside told → Stands self.new beside told }
     {
         self.pool.laws();
         self.pool.pin(at);
@@ -191,8 +192,8 @@ impl Buffer {
         requires pinned { 0 < (frame_at self.old.pool.frames at).pins }
         ensures unpinned { self.new
             ≡ record self.old { pool = with_frame at unpinned self.old.pool } }
-        ensures stands { (flushes : Flushes) (told : Option DiskImage)
-            → Stands self.old flushes told → Stands self.new flushes told }
+        ensures stands { (beside : Beside) (told : Option DiskImage)
+            → Stands self.old beside told → Stands self.new beside told }
     {
         self.pool.laws();
         self.pool.unpin(at);
@@ -212,8 +213,8 @@ impl Buffer {
         requires there { IsTrue self.old.right
             → AllByRecursion (IsOnPage (image_of self.old)) records.now }
         ensures written { Writes records.now self.old self.new result }
-        ensures stands { (flushes : Flushes) (told : Option DiskImage)
-            → Stands self.old flushes told → Stands self.new flushes told }
+        ensures stands { (beside : Beside) (told : Option DiskImage)
+            → Stands self.old beside told → Stands self.new beside told }
     {
         self.pool.laws();
         self.append(records)
@@ -230,9 +231,9 @@ impl Buffer {
         requires short { length (spelling records.now) ≤ longest }
         requires creates { IsTrue self.old.right → Creates self.old records.now }
         ensures written { Writes records.now self.old self.new result }
-        ensures stands { (flushes : Flushes) (told : Option DiskImage)
-            → Stands self.old flushes told → ForTold told (HasMade records.now)
-            → Stands self.new flushes told }
+        ensures stands { (beside : Beside) (told : Option DiskImage) → NoFileCopy beside.copy
+            → Stands self.old beside told → ForTold told (HasMade records.now)
+            → Stands self.new beside told }
     {
         self.pool.laws();
         self.append(records)
@@ -338,6 +339,13 @@ impl Buffer {
         self.ring.end()
     }
 
+    /// The log from its floor on.
+    pub fn ring(&self) -> &Ring
+        ensures { result.now ≡ self.now.ring }
+    {
+        &self.ring
+    }
+
     /// The LSN of the first byte of the log that is kept.
     pub fn floor(&self) -> u64
         ensures { result ≡ self.now.ring.floor }
@@ -360,8 +368,8 @@ impl Buffer {
         requires above { self.old.ring.floor ≤ lsn }
         requires within { lsn ≤ end_of self.old.ring }
         ensures floor { self.new ≡ record self.old { ring = raised lsn self.old.ring } }
-        ensures stands { (flushes : Flushes) (told : Option DiskImage)
-            → Stands self.old flushes told → Stands self.new flushes told }
+        ensures stands { (beside : Beside) (told : Option DiskImage)
+            → Stands self.old beside told → Stands self.new beside told }
     {
         self.ring.raise_floor(lsn);
     }
@@ -386,7 +394,7 @@ impl Buffer {
 
     /// Where the buffer stands over a disk, the disk's page with its redo is the frame.
     pub fn disk_laws(&self)
-        ensures { (flushes : Flushes) (m : DiskImage) → IsKept self.now flushes m
+        ensures { (beside : Beside) (m : DiskImage) → IsKept self.now beside m
             → DiskIsFrames self.now m }
     {
         let _ = &self.pool;
@@ -402,6 +410,13 @@ pub fn flush_laws()
     ensures rest { RestLands }
     ensures fails { FailKeeps }
     ensures checkpoint { CheckpointKeeps }
+{}
+
+/// A buffer that is kept over a disk, beside what a clone has of each page: each page keeps the
+/// rule, and the buffer is kept beside whatever else keeps it.
+pub fn copy_laws()
+    ensures kept { CopyKept }
+    ensures keeps { CopyKeeps }
 {}
 
 // Each record changes the frame of the page that it names.

@@ -4,6 +4,7 @@ use Rattle.std.specs.FinMap as finite
 use Rattle.std.specs.Option.{option_or}
 use Rattle.clone_outside.specs.Disk.{DiskImage, Steps, IsBeforeOrAfter, with_created}
 use Rattle.clone_buffer.specs.Buffered.{Buffered, IsBuffer}
+use Rattle.clone_buffer.specs.OnePage.{Copies, NoFileCopy}
 use Rattle.clone_flush.specs.Flights.{Flights}
 use Rattle.clone_base.specs.declared.limits.TheConstants.{TABLE_LIMIT}
 use Rattle.clone_plain.specs.Causes.{create_cause, whether}
@@ -16,12 +17,12 @@ use Rattle.clone_plain.specs.declared.refusal.EngineRefusal.TheVariants.{Because
 use Rattle.clone_trx.proofs.CreateLemmas.{may_create}
 use Rattle.clone_trx.specs.Calls.{create_way}
 use Rattle.clone_trx.specs.Kept.{Keeps, IsSafe}
-use Rattle.clone_trx.specs.Ways.{Answers, StaysStanding}
+use Rattle.clone_trx.specs.Ways.{Answers, StaysOutsideFiles}
 use Rattle.clone_donor.specs.Disks.{DiskState}
-use Rattle.clone_donor.specs.Engine.{IsEngine, HasFiles}
+use Rattle.clone_donor.specs.Engine.{IsEngine, HasFiles, StandsBeside}
 use Rattle.clone_donor.proofs.CallLemmas.{create_grows}
 use Rattle.clone_donor.proofs.DiskLemmas.{step_tells, either_tells}
-use Rattle.clone_donor.proofs.EngineLemmas.{engine, still_engine, made_engine}
+use Rattle.clone_donor.proofs.EngineLemmas.{engine, still_engine, still_copies, made_engine, made_copies}
 use Rattle.clone_donor.proofs.FileLemmas.{space_left, space_made}
 use Rattle.clone_donor.proofs.WayLemmas.{Grows}
 
@@ -82,27 +83,47 @@ module _ (d e : Donor) (old new : Buffered) (f : Flights) (k l : DiskState) (tab
         by (Ok x) is = step_tells k.told l.told made (subst (λ (r : Result X EngineRefusal). OnOk r (Steps k.told l.told made)) is on.made_is)
         by (Err refusal) is = either_tells k.told l.told made (told_left refusal is)
 
-    module _ (is : IsEngine (engine d old f k)) (b : IsBuffer old) (safe : IsSafe d) (low : 1 ≤ table) (high : table ≤ 1000000) (keeps : Keeps e new) (stays : StaysStanding old new k.told l.told)
+    module _ (is : IsEngine (engine d old f k)) (b : IsBuffer old) (safe : IsSafe d) (low : 1 ≤ table) (high : table ≤ 1000000) (keeps : Keeps e new) (stays : StaysOutsideFiles old new k.told l.told)
         (answer : Answers (create_cause d table) (create_way d table buckets) d e old new result (λ _. e ≡ created table buckets d)) where
       grows : Grows old new
       grows = create_grows d e old new table buckets result high answer
 
-      -- A TABLE WAS MADE, or wasn't
-      pub created_engine : IsEngine (engine e new f l)
-      created_engine = by (create_cause d table) refl answer
+      -- A TABLE WAS MADE, or a file of it, or nothing
+
+      record IsMade : Type 0 where
+        none : finite.get d.tables table ≡ None
+        step : Steps k.told l.told made
+        files : (m : DiskImage) → HasFiles d m → HasFiles e (made m)
+
+      outcome : ((l.told ≡ k.told) × (e ≡ d)) ⊎ IsMade
+      outcome = by (create_cause d table) refl answer
         where
-          still : l.told ≡ k.told → e ≡ d → IsEngine (engine e new f l)
-          still told same = still_engine d e old new f k l is keeps grows stays told (ap (λ (x : Donor). x.tables) same)
+          left : finite.get d.tables table ≡ None → e ≡ d → IsBeforeOrAfter k.told l.told made → ((l.told ≡ k.told) × (e ≡ d)) ⊎ IsMade
+          left none same (inl told) = inl (told, same)
+          left none same (inr step) = inr (record { none = none; step = step; files = λ m files. subst (λ (x : Donor). HasFiles x (made m)) (sym same) (space_left m table buckets d low none files) })
 
-          left : finite.get d.tables table ≡ None → e ≡ d → IsBeforeOrAfter k.told l.told made → IsEngine (engine e new f l)
-          left none same (inl told) = still told same
-          left none same (inr step) = made_engine d e old new f k l is keeps grows stays table buckets b low none (λ m files. subst (λ (x : Donor). HasFiles x (made m)) (sym same) (space_left m table buckets d low none files)) step
-
-          goes : finite.get d.tables table ≡ None → (r : Result X EngineRefusal) → result ≡ r → Answers None (create_way d table buckets) d e old new r (λ _. e ≡ created table buckets d) → IsEngine (engine e new f l)
-          goes none (Ok x) is_ok a = made_engine d e old new f k l is keeps grows stays table buckets b low none (λ m files. subst (λ (x : Donor). HasFiles x (made m)) (sym a.1) (space_made m table buckets d low files))
-              (subst (λ (r : Result X EngineRefusal). OnOk r (Steps k.told l.told made)) is_ok on.made_is)
+          goes : finite.get d.tables table ≡ None → (r : Result X EngineRefusal) → result ≡ r → Answers None (create_way d table buckets) d e old new r (λ _. e ≡ created table buckets d) → ((l.told ≡ k.told) × (e ≡ d)) ⊎ IsMade
+          goes none (Ok x) is_ok a = inr (record {
+            none = none;
+            step = subst (λ (r : Result X EngineRefusal). OnOk r (Steps k.told l.told made)) is_ok on.made_is;
+            files = λ m files. subst (λ (x : Donor). HasFiles x (made m)) (sym a.1) (space_made m table buckets d low files);
+          })
           goes none (Err refusal) is_err a = left none a.1 (told_left refusal is_err)
 
-          by : (cause : Option Cause) → create_cause d table ≡ cause → Answers cause (create_way d table buckets) d e old new result (λ _. e ≡ created table buckets d) → IsEngine (engine e new f l)
-          by (Some cause) some a = still (told_same (Because cause) a.0 (λ e. plain_cause d table cause some (cc))) a.1
+          by : (cause : Option Cause) → create_cause d table ≡ cause → Answers cause (create_way d table buckets) d e old new result (λ _. e ≡ created table buckets d) → ((l.told ≡ k.told) × (e ≡ d)) ⊎ IsMade
+          by (Some cause) some a = inl (told_same (Because cause) a.0 (λ e. plain_cause d table cause some (cc)), a.1)
           by None none a = goes (may_create d table safe.tables.few none).0 result refl a
+
+      pub created_engine : IsEngine (engine e new f l)
+      created_engine = by outcome
+        where
+          by : ((l.told ≡ k.told) × (e ≡ d)) ⊎ IsMade → IsEngine (engine e new f l)
+          by (inl o) = still_engine d e old new f k l is keeps grows stays o.0 (ap (λ (x : Donor). x.tables) o.1)
+          by (inr o) = made_engine d e old new f k l is keeps grows stays table buckets b low o.none o.step o.files
+
+      pub created_copies : (copies : Copies) → NoFileCopy copies → StandsBeside (engine d old f k) copies → StandsBeside (engine e new f l) copies
+      created_copies = by outcome
+        where
+          by : ((l.told ≡ k.told) × (e ≡ d)) ⊎ IsMade → (copies : Copies) → NoFileCopy copies → StandsBeside (engine d old f k) copies → StandsBeside (engine e new f l) copies
+          by (inl o) = still_copies d e old new f k l is keeps grows stays o.0
+          by (inr o) = made_copies d e old new f k l is keeps grows stays table buckets b low o.none o.step

@@ -13,8 +13,8 @@ use Rattle.clone_contents.specs.Records.{opening_records, system_size}
 use Rattle.clone_overlay.specs.Images.{redo_space}
 use Rattle.clone_buffer.specs.Buffered.{Buffered}
 use Rattle.clone_buffer.specs.Keeping.{IsKept, Stands}
-use Rattle.clone_buffer.specs.OnePage.{Flushes, unflushed}
-use Rattle.clone_flush.specs.Flights.{Flights, StandsFlown, IsFlown, flushes_of}
+use Rattle.clone_buffer.specs.OnePage.{Beside, at_rest, no_copies}
+use Rattle.clone_flush.specs.Flights.{Flights, StandsFlown, IsFlown, beside_of}
 use Rattle.clone_flush.specs.declared.flusher.PageWrite.{PageWrite}
 use Rattle.clone_flush.proofs.FlightLemmas.{told_stepped}
 use Rattle.clone_recover.specs.Reading.{AreOfTables}
@@ -33,15 +33,16 @@ module _ (b : Buffered) (f : Flights) (writes : f.writes ≡ finite.empty) (chec
   none : (page : ℕ × ℕ) → finite.get f.writes page ≡ None
   none page = ap (λ (w : finite.FinMap row_cmp PageWrite). finite.get w page) writes ∙ get-empty row_cmp page
 
-  same : unflushed ≡ flushes_of f
+  same : at_rest ≡ beside_of f no_copies
   same = λ i. record {
     checkpoint = sym checkpoint i;
     image = λ space number. sym (ap (λ (o : Option PageWrite). option_map (λ (w : PageWrite). w.image) o) (none (space, number))) i;
+    copy = no_copies;
   }
 
-  pub first_flown : (told : Option DiskImage) → b.ring.floor ≡ first_lsn → Stands b unflushed told → StandsFlown b f told
-  first_flown told floor = for_told (IsKept b unflushed) (IsFlown b f) told (λ m k. record {
-    kept = subst (λ (flushes : Flushes). IsKept b flushes m) same k;
+  pub first_flown : (told : Option DiskImage) → b.ring.floor ≡ first_lsn → Stands b at_rest told → StandsFlown b f no_copies told
+  first_flown told floor = for_told (IsKept b at_rest) (IsFlown b f no_copies) told (λ m k. record {
+    kept = subst (λ (beside : Beside). IsKept b beside m) same k;
     there = λ page w is. absurd (let e = sym (none (page.space, page.number)) ∙ is in cc);
     floor = omega (arith, floor, checkpoint);
   })
@@ -53,7 +54,7 @@ pub first_tables : AreOfTables (opening_records ∷ [])
 first_tables = ((system, (system, tt)), tt)
 
 -- A DONOR IS OPENED
-pub opened_engine : (d : Donor) (b : Buffered) (f : Flights) (before : Option DiskImage) (k : DiskState) → d ≡ no_donor → b.log ≡ opening_records ∷ [] → Keeps d b → b.ring.floor ≡ first_lsn → Stands b unflushed k.told → f.writes ≡ finite.empty → f.checkpoint ≡ first_lsn
+pub opened_engine : (d : Donor) (b : Buffered) (f : Flights) (before : Option DiskImage) (k : DiskState) → d ≡ no_donor → b.log ≡ opening_records ∷ [] → Keeps d b → b.ring.floor ≡ first_lsn → Stands b at_rest k.told → f.writes ≡ finite.empty → f.checkpoint ≡ first_lsn
     → Steps before k.told (λ m. with_created m 0 system_size) → IsEngine (engine d b f k)
 opened_engine d b f before k donor log keeps floor stands writes checkpoint made = record {
   keeps = keeps;

@@ -13,7 +13,7 @@ use Rattle.clone_pool.specs.Pool.{IsPool}
 use Rattle.clone_buffer.specs.Buffered.{Buffered, IsBuffer, image_of}
 use Rattle.clone_buffer.specs.Flushing.{with_change}
 use Rattle.clone_buffer.specs.Keeping as buffer
-use Rattle.clone_buffer.specs.OnePage.{Flushes, frame_in, frame_of, flush_in}
+use Rattle.clone_buffer.specs.OnePage.{Beside, frame_in, frame_of, flush_in}
 use Rattle.clone_buffer.proofs.FrameLemmas.{holder_name}
 use Rattle.clone_buffer.proofs.ShownLemmas.{shown_held}
 use Rattle.clone_flush.specs.Calls.{HasDirty}
@@ -59,9 +59,9 @@ in_image b page is right h =
     (f.page, shown_held (image_of b) f.page page f.content (is.shows right h.at) h.name h.old)
 
 -- a page on its way to the disk is none of a table that isn't there
-pub flies_elsewhere : (d : Donor) (b : Buffered) (flushes : Flushes) (m : DiskImage) (table : ℕ) (page : PageName) → IsBuffer b → buffer.IsKept b flushes m → IsKept d (image_of b) → 1 ≤ table → finite.get d.tables table ≡ None
-    → IsSome (flushes.image page.space page.number) → page.space ≢ table
-flies_elsewhere d b flushes m table page is k kept low none flies =
+pub flies_elsewhere : (d : Donor) (b : Buffered) (beside : Beside) (m : DiskImage) (table : ℕ) (page : PageName) → IsBuffer b → buffer.IsKept b beside m → IsKept d (image_of b) → 1 ≤ table → finite.get d.tables table ≡ None
+    → IsSome (beside.image page.space page.number) → page.space ≢ table
+flies_elsewhere d b beside m table page is k kept low none flies =
     let found = in_image b page is k.right (flying_held b.pool.frames page ((k.page page.space page.number).flights.1 flies)) in
     unheld (image_of b) table page found.0 (no_space d (image_of b) table kept low none) found.1
 

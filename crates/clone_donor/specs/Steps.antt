@@ -7,7 +7,8 @@ use Rattle.clone_pool.specs.Frames.{frame_at, name_of}
 use Rattle.clone_pool.specs.Pool.{AreNotWaiting, IsNextToFlush}
 use Rattle.clone_buffer.specs.Buffered.{Buffered}
 use Rattle.clone_buffer.specs.Flushing.{IsReached}
-use Rattle.clone_flush.specs.Calls.{Begins, Halves, Lands, checked}
+use Rattle.clone_buffer.specs.OnePage.{Copies, NoFileCopy}
+use Rattle.clone_flush.specs.Calls.{Begins, Halves, Lands, after_begin, checked}
 use Rattle.clone_flush.specs.declared.refusal.FlushRefusal.{FlushRefusal}
 use Rattle.clone_flush.specs.declared.refusal.FlushRefusal.TheVariants as flush
 use Rattle.clone_plain.specs.Donor.{Donor}
@@ -19,7 +20,7 @@ use Rattle.clone_plain.specs.declared.refusal.EngineRefusal.TheVariants.{Because
 use Rattle.clone_trx.specs.Calls.{create_way, begin_way, change_way, get_way, undo_way, commit_way}
 use Rattle.clone_trx.specs.Ways.{Way, ends, Answers}
 use Rattle.clone_donor.specs.Disks.{DiskState, Visits}
-use Rattle.clone_donor.specs.Engine.{Engine, state_of}
+use Rattle.clone_donor.specs.Engine.{Engine, StandsBeside, state_of}
 
 -- what a call answered, as the call that was carried out or why it wasn't
 abbrev pub answer_of : {X : Type 0} → (X → Done) → Result X EngineRefusal
@@ -106,7 +107,7 @@ IsOldestDirty b (Some page) =
 -- a checkpoint is taken at an LSN
 pub record Checks (s t : Engine) (lsn : ℕ) : Type 0 where
   pub reached : IsReached s.buffer lsn
-  pub state : state_of t ≡ checked lsn (state_of s)
+  pub state : state_of t ≡ checked lsn None (state_of s)
   pub donor : t.donor ≡ s.donor
   pub disk : t.disk ≡ s.disk
 
@@ -146,6 +147,16 @@ Steps oldest_dirty s t answer = AnswersWith answer (Looks s t)
 Steps checkpoint s t answer = AnswersWith answer (ChecksAt s t)
 Steps end s t answer = AnswersWith answer (Ends s t)
 Steps call s t answer = Transacts call s t answer
+
+-- WHAT A CLONE HAS of each page goes on beside the pages. The tracker notes a page whose flush
+-- begins. A table may be made while no clone is in its file copy.
+abbrev pub KeepsCopies : Call → Engine → Engine → Result Done EngineRefusal → Type 0
+KeepsCopies (create table buckets) s t answer =
+    (copies : Copies) → NoFileCopy copies → StandsBeside s copies → StandsBeside t copies
+KeepsCopies (flush_begin space page) s t answer =
+    (copies : Copies) → StandsBeside s copies
+    → StandsBeside t (after_begin (record { space = space; number = page }) answer copies)
+KeepsCopies call s t answer = (copies : Copies) → StandsBeside s copies → StandsBeside t copies
 
 -- A call that was made, with its answer, is a step of the engine.
 abbrev pub EngineStep : Engine → Made → Engine → Type 0

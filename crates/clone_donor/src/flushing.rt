@@ -1,7 +1,7 @@
 ghost use Rattle.std.specs.Prelude.{◌≡◌, Ok};
 ghost use Rattle.clone_plain.specs.Calls as call;
 ghost use Rattle.clone_plain.specs.Calls.{did_flush_begin, did_flush_half, did_flush_land, did_oldest_dirty, did_checkpoint, did_end};
-ghost use Rattle.clone_donor.specs.Steps.{Steps, answer_of, refusal_of};
+ghost use Rattle.clone_donor.specs.Steps.{KeepsCopies, Steps, answer_of, refusal_of};
 
 use crate::Donor;
 use clone_flush::FlushRefusal;
@@ -10,9 +10,12 @@ use clone_plain::{Cause, EngineRefusal};
 
 // The flushes and the checkpoint.
 impl<D: PageDisk> Donor<D> {
-    /// The flush of a page begins: its image is what will be written.
+    /// The flush of a page begins: its image is what will be written, and the tracker of a clone
+    /// that is in its file copy notes the page.
     pub fn flush_begin(&mut self, space: u32, page: u32) -> Result<(), EngineRefusal>
-        ensures { Steps (call.flush_begin space page) self.old self.new
+        ensures step { Steps (call.flush_begin space page) self.old self.new
+            (answer_of (λ _. did_flush_begin space page) result) }
+        ensures copies { KeepsCopies (call.flush_begin space page) self.old self.new
             (answer_of (λ _. did_flush_begin space page) result) }
     {
         self.transactions.laws();
@@ -25,7 +28,9 @@ impl<D: PageDisk> Donor<D> {
 
     /// Writes the first half of a page whose flush has begun.
     pub fn flush_half(&mut self, space: u32, page: u32) -> Result<(), EngineRefusal>
-        ensures { Steps (call.flush_half space page) self.old self.new
+        ensures step { Steps (call.flush_half space page) self.old self.new
+            (answer_of (λ _. did_flush_half space page) result) }
+        ensures copies { KeepsCopies (call.flush_half space page) self.old self.new
             (answer_of (λ _. did_flush_half space page) result) }
     {
         self.buffer.laws();
@@ -41,7 +46,9 @@ impl<D: PageDisk> Donor<D> {
     /// Writes the second half of a page whose first half is written. The page is clean then, or
     /// dirty from its first change after the flush began.
     pub fn flush_land(&mut self, space: u32, page: u32) -> Result<(), EngineRefusal>
-        ensures { Steps (call.flush_land space page) self.old self.new
+        ensures step { Steps (call.flush_land space page) self.old self.new
+            (answer_of (λ _. did_flush_land space page) result) }
+        ensures copies { KeepsCopies (call.flush_land space page) self.old self.new
             (answer_of (λ _. did_flush_land space page) result) }
     {
         self.buffer.laws();
@@ -65,10 +72,12 @@ impl<D: PageDisk> Donor<D> {
     /// A checkpoint: the LSN at which the oldest change begins that isn't on the disk, or the log's
     /// end where no page is dirty. The log below it may go.
     pub fn checkpoint(&mut self) -> u64
-        ensures { Steps call.checkpoint self.old self.new (Ok (did_checkpoint result)) }
+        ensures step { Steps call.checkpoint self.old self.new (Ok (did_checkpoint result)) }
+        ensures copies { KeepsCopies call.checkpoint self.old self.new
+            (Ok (did_checkpoint result)) }
     {
         self.buffer.laws();
-        self.flusher.checkpoint(&mut self.buffer)
+        self.flusher.checkpoint(&mut self.buffer, None)
     }
 
     /// The LSN behind the log's last byte.

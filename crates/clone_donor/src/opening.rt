@@ -6,7 +6,7 @@ ghost use Rattle.clone_mtr.specs.Spelling.{log_of};
 ghost use Rattle.clone_image.specs.Replay.{first_lsn};
 ghost use Rattle.clone_contents.specs.Records.{opening_records, system_size};
 ghost use Rattle.clone_buffer.specs.Keeping.{Stands};
-ghost use Rattle.clone_buffer.specs.OnePage.{unflushed};
+ghost use Rattle.clone_buffer.specs.OnePage.{at_rest};
 ghost use Rattle.clone_plain.specs.Donor.{no_donor};
 ghost use Rattle.clone_trx.specs.Kept.{Keeps};
 ghost use Rattle.clone_donor.specs.Disks.{Visits};
@@ -90,7 +90,7 @@ fn parts<D: PageDisk>(
     ensures bytes { IfOk result (λ parts. parts.2.bytes ≡ log_of parts.1.log) }
     ensures kept { IfOk result (λ parts. Keeps parts.0 parts.1) }
     ensures floor { IfOk result (λ parts. parts.1.ring.floor ≡ first_lsn) }
-    ensures stands { IfOk result (λ parts. Stands parts.1 unflushed (D.told disk.new)) }
+    ensures stands { IfOk result (λ parts. Stands parts.1 at_rest (D.told disk.new)) }
     ensures empty { OnOk result (ForTold (D.told disk.old) (λ m. m ≡ blank)) }
     ensures made { OnOk result (Steps (D.told disk.old) (D.told disk.new)
         (λ m. with_created m 0 system_size)) }

@@ -7,7 +7,7 @@ ghost use Rattle.clone_mtr.specs.declared.writing.TheConstants.{LONGEST_MTR};
 ghost use Rattle.clone_plain.specs.Calls as call;
 ghost use Rattle.clone_plain.specs.Calls.{did_create, did_begin, did_put, did_delete, did_get, did_undo_one, did_commit};
 ghost use Rattle.clone_donor.specs.Growth.{HasGrown, bytes_from};
-ghost use Rattle.clone_donor.specs.Steps.{Steps, answer_of};
+ghost use Rattle.clone_donor.specs.Steps.{KeepsCopies, Steps, answer_of};
 
 use crate::Donor;
 use crate::log::Log;
@@ -23,7 +23,9 @@ use std::alloc::Global;
 impl<D: PageDisk> Donor<D> {
     /// Makes an empty table.
     pub fn create(&mut self, table: TableNumber, buckets: BucketCount) -> Result<(), EngineRefusal>
-        ensures { Steps (call.create table buckets) self.old self.new
+        ensures step { Steps (call.create table buckets) self.old self.new
+            (answer_of (λ _. did_create table buckets) result) }
+        ensures copies { KeepsCopies (call.create table buckets) self.old self.new
             (answer_of (λ _. did_create table buckets) result) }
     {
         self.log.reserve(LONGEST_MTR)?;
@@ -41,7 +43,9 @@ impl<D: PageDisk> Donor<D> {
     /// Begins a transaction of a writer, which is its transaction of this index, and answers the
     /// transaction's number.
     pub fn begin(&mut self, alloc: Global, writer: u32, index: u64) -> Result<u32, EngineRefusal>
-        ensures { Steps (call.begin writer index) self.old self.new
+        ensures step { Steps (call.begin writer index) self.old self.new
+            (answer_of (λ trx. did_begin writer index trx) result) }
+        ensures copies { KeepsCopies (call.begin writer index) self.old self.new
             (answer_of (λ trx. did_begin writer index trx) result) }
     {
         self.log.reserve(LONGEST_MTR)?;
@@ -55,7 +59,9 @@ impl<D: PageDisk> Donor<D> {
 
     /// Gives a row its value, and locks it.
     pub fn put(&mut self, trx: u32, table: u32, key: u64, value: &[u8]) -> Result<(), EngineRefusal>
-        ensures { Steps (call.put trx table key value.now) self.old self.new
+        ensures step { Steps (call.put trx table key value.now) self.old self.new
+            (answer_of (λ _. did_put trx table key value.now) result) }
+        ensures copies { KeepsCopies (call.put trx table key value.now) self.old self.new
             (answer_of (λ _. did_put trx table key value.now) result) }
     {
         self.log.reserve(LONGEST_MTR)?;
@@ -70,7 +76,9 @@ impl<D: PageDisk> Donor<D> {
 
     /// Removes a row, and locks it.
     pub fn delete(&mut self, trx: u32, table: u32, key: u64) -> Result<(), EngineRefusal>
-        ensures { Steps (call.delete trx table key) self.old self.new
+        ensures step { Steps (call.delete trx table key) self.old self.new
+            (answer_of (λ _. did_delete trx table key) result) }
+        ensures copies { KeepsCopies (call.delete trx table key) self.old self.new
             (answer_of (λ _. did_delete trx table key) result) }
     {
         self.log.reserve(LONGEST_MTR)?;
@@ -85,7 +93,9 @@ impl<D: PageDisk> Donor<D> {
 
     /// The value of a row. This takes no memory, and writes nothing.
     pub fn get(&mut self, trx: u32, table: u32, key: u64) -> Result<Option<Value>, EngineRefusal>
-        ensures { Steps (call.get trx table key) self.old self.new
+        ensures step { Steps (call.get trx table key) self.old self.new
+            (answer_of (λ value. did_get trx table key value) result) }
+        ensures copies { KeepsCopies (call.get trx table key) self.old self.new
             (answer_of (λ value. did_get trx table key value) result) }
     {
         self.transactions
@@ -94,7 +104,9 @@ impl<D: PageDisk> Donor<D> {
 
     /// Takes the last change of a transaction back, or ends a transaction without changes.
     pub fn undo_one(&mut self, trx: u32) -> Result<Undone, EngineRefusal>
-        ensures { Steps (call.undo_one trx) self.old self.new
+        ensures step { Steps (call.undo_one trx) self.old self.new
+            (answer_of (λ undone. did_undo_one trx undone) result) }
+        ensures copies { KeepsCopies (call.undo_one trx) self.old self.new
             (answer_of (λ undone. did_undo_one trx undone) result) }
     {
         self.log.reserve(LONGEST_MTR)?;
@@ -109,7 +121,9 @@ impl<D: PageDisk> Donor<D> {
 
     /// Commits a transaction, and answers the new number of commits.
     pub fn commit(&mut self, trx: u32) -> Result<u64, EngineRefusal>
-        ensures { Steps (call.commit trx) self.old self.new
+        ensures step { Steps (call.commit trx) self.old self.new
+            (answer_of (λ position. did_commit trx position) result) }
+        ensures copies { KeepsCopies (call.commit trx) self.old self.new
             (answer_of (λ position. did_commit trx position) result) }
     {
         self.log.reserve(LONGEST_MTR)?;

@@ -1,5 +1,5 @@
 -- What the calls of a flush do to a buffer, the writes under way, and the disk.
-use Rattle.std.specs.Prelude.{ℕ, ◌≡◌, ◌&&◌, nat_lt, nat_le, if◌then◌else◌, Bool, false, true, Some, Result, Ok, Err}
+use Rattle.std.specs.Prelude.{ℕ, ◌≡◌, ◌&&◌, nat_lt, nat_le, min, max, if◌then◌else◌, Bool, false, true, Some, None, Result, Ok, Err}
 use Rattle.std.specs.declared.option.Option.{Option}
 use Rattle.std.specs.FinMap as finite
 use Rattle.clone_outside.specs.Disk.{DiskImage, Opens, Steps, with_page, half_written, rest_written}
@@ -8,7 +8,8 @@ use Rattle.clone_pool.specs.Frames.{frame_at, is_dirty, is_begun, IsInFlight, be
 use Rattle.clone_pool.specs.Pool.{IsHolder}
 use Rattle.clone_ring.specs.Window.{Window, end_of, raised}
 use Rattle.clone_buffer.specs.Buffered.{Buffered}
-use Rattle.clone_buffer.specs.Flushing.{with_change}
+use Rattle.clone_buffer.specs.Flushing.{with_change, with_noted}
+use Rattle.clone_buffer.specs.OnePage.{Copies}
 use Rattle.clone_flush.specs.Flights.{Flights, write_of}
 use Rattle.clone_flush.specs.declared.flusher.PageWrite.{PageWrite}
 use Rattle.clone_flush.specs.declared.refusal.FlushRefusal.{FlushRefusal}
@@ -58,6 +59,11 @@ Begins page old new (Ok _) =
       flights = with_write page (new_write at old.buffer) old.flights;
     })
 Begins page old new (Err refusal) = RefusesBegin refusal page old new
+
+-- what a clone has of each page then: its tracker has noted the page whose flush began
+abbrev pub after_begin : {X Y : Type 0} → PageName → Result X Y → Copies → Copies
+after_begin page (Ok _) copies = with_noted page copies
+after_begin page (Err _) copies = copies
 
 -- a flush of the page is under way, and its first half is written or not
 pub record IsUnderWay (page : PageName) (halved : Bool) (old : State) (w : PageWrite)
@@ -118,9 +124,23 @@ abbrev pub floored : ℕ → Window → Window
 floored lsn ring =
     if nat_lt ring.floor lsn && nat_le lsn (end_of ring) then raised lsn ring else ring
 
--- A CHECKPOINT at an LSN. The log below it goes.
-abbrev pub checked : ℕ → State → State
-checked lsn old = record {
-  buffer = record old.buffer { ring = floored lsn old.buffer.ring };
+-- The log is needed from the checkpoint on, and from another LSN on where one is given.
+abbrev pub needed_from : ℕ → Option ℕ → ℕ
+needed_from checkpoint None = checkpoint
+needed_from checkpoint (Some kept) = min checkpoint kept
+
+-- The log below goes.
+abbrev pub settled : ℕ → Option ℕ → Buffered → Buffered
+settled checkpoint kept_from b =
+    record b { ring = floored (needed_from checkpoint kept_from) b.ring }
+
+-- A CHECKPOINT at an LSN
+abbrev pub checked : ℕ → Option ℕ → State → State
+checked lsn kept_from old = record {
+  buffer = settled lsn kept_from old.buffer;
   flights = record old.flights { checkpoint = lsn };
 }
+
+-- the LSN nearest to this one from the log's floor to its end
+abbrev pub nearest_in : Window → ℕ → ℕ
+nearest_in ring lsn = max (min lsn (end_of ring)) ring.floor

@@ -9,7 +9,7 @@ use Rattle.clone_outside.specs.declared.disk.Held.{Held}
 use Rattle.clone_outside.specs.declared.disk.TheConstants.{HALF_PAGE}
 use Rattle.clone_model.specs.Keys.{row_cmp}
 use Rattle.clone_buffer.specs.Buffered.{Buffered}
-use Rattle.clone_buffer.specs.OnePage.{Flushes}
+use Rattle.clone_buffer.specs.OnePage.{Beside, Copies}
 use Rattle.clone_buffer.specs.Keeping.{IsKept}
 use Rattle.clone_pool.specs.declared.frame.PageName.{PageName}
 use Rattle.clone_flush.specs.declared.flusher.PageWrite.{PageWrite}
@@ -42,11 +42,12 @@ flights_code =
 abbrev pub write_of : Flights → PageName → Option PageWrite
 write_of f page = finite.get f.writes (page.space, page.number)
 
--- what a buffer is kept with
-abbrev pub flushes_of : Flights → Flushes
-flushes_of f = record {
+-- what a buffer is kept with, where a clone has this of each page
+abbrev pub beside_of : Flights → Copies → Beside
+beside_of f copies = record {
   checkpoint = f.checkpoint;
   image = λ space number. option_map (λ w. w.image) (finite.get f.writes (space, number));
+  copy = copies;
 }
 
 -- the page is there on the disk, with the image's first half where that was written
@@ -55,13 +56,14 @@ IsOnDisk w None = ⊥
 IsOnDisk w (Some held) =
     w.halved ≡ true → take HALF_PAGE held.bytes ≡ take HALF_PAGE w.image
 
--- How the writes stand to a disk that tells what it holds: the buffer is kept over it, each page
--- that is on its way is there, and so is the log from the checkpoint on.
-pub record IsFlown (b : Buffered) (f : Flights) (m : DiskImage) : Type 0 where
-  pub kept : IsKept b (flushes_of f) m
+-- How the writes stand to a disk that tells what it holds, and to what a clone has of each page:
+-- the buffer is kept, each page that is on its way is there, and so is the log from the checkpoint
+-- on.
+pub record IsFlown (b : Buffered) (f : Flights) (copies : Copies) (m : DiskImage) : Type 0 where
+  pub kept : IsKept b (beside_of f copies) m
   pub there : (page : PageName) (w : PageWrite) → write_of f page ≡ Some w
       → IsOnDisk w (disk.page_of m page.space page.number)
   pub floor : b.ring.floor ≤ f.checkpoint
 
-abbrev pub StandsFlown : Buffered → Flights → Option DiskImage → Type 0
-StandsFlown b f told = ForTold told (IsFlown b f)
+abbrev pub StandsFlown : Buffered → Flights → Copies → Option DiskImage → Type 0
+StandsFlown b f copies told = ForTold told (IsFlown b f copies)

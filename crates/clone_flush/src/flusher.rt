@@ -9,8 +9,10 @@ ghost use Rattle.std.specs.declared.option.Option.{Option};
 ghost use Rattle.clone_pool.specs.Frames.{frame_at, name_of, IsInFlight, is_begun};
 ghost use Rattle.clone_pool.specs.Pool.{AreNotWaiting, IsHolder, IsNextToFlush};
 ghost use Rattle.clone_pool.specs.declared.frame.PageName.{PageName};
+ghost use Rattle.clone_ring.specs.Window.{end_of};
+ghost use Rattle.clone_buffer.specs.OnePage.{Copies};
 ghost use Rattle.clone_buffer.specs.Flushing.{IsReached};
-ghost use Rattle.clone_flush.specs.Calls.{HasDirty, Begins, RefusesBegin, Halves, Lands, IsUnderWay, after_failure, checked, floored, with_write, without_write};
+ghost use Rattle.clone_flush.specs.Calls.{HasDirty, Begins, RefusesBegin, Halves, Lands, IsUnderWay, after_begin, after_failure, checked, floored, settled, needed_from, nearest_in, with_write, without_write};
 ghost use Rattle.clone_flush.specs.Flights.{Flights, StandsFlown, write_of, writes_of};
 ghost use Rattle.clone_flush.specs.declared.flusher.PageWrite.{PageWrite};
 
@@ -72,8 +74,9 @@ impl Flusher {
         self.checkpoint
     }
 
-    /// The flush of a page begins: its image is what will be written. Refused where the page isn't
-    /// dirty, and where a flush of it has begun. This takes memory for the image.
+    /// The flush of a page begins: its image is what will be written, and the tracker of a clone
+    /// that is in its file copy notes the page. Refused where the page isn't dirty, and where a
+    /// flush of it has begun. This takes memory for the image.
     pub fn begin(
         &mut self,
         buffer: &mut Buffer,
@@ -83,9 +86,11 @@ impl Flusher {
         ensures begins { Begins (record { space = space; number = number })
             (record { buffer = buffer.old; flights = self.old })
             (record { buffer = buffer.new; flights = self.new }) result }
-        ensures stands { (told : Option DiskImage) → StandsFlown buffer.old self.old told
+        ensures stands { (copies : Copies) (told : Option DiskImage)
+            → StandsFlown buffer.old self.old copies told
             → ForTold told (λ m. IsSome (page_of m space number))
-            → StandsFlown buffer.new self.new told }
+            → StandsFlown buffer.new self.new
+            (after_begin (record { space = space; number = number }) result copies) told }
     {
         let at = waiting(buffer, space, number)?;
         let write = PageWrite {
@@ -169,8 +174,9 @@ impl Flusher {
         ensures failed { record { buffer = buffer.new; flights = self.new } ≡ after_failure
             (record { space = space; number = number }) at
             (record { buffer = buffer.old; flights = self.old }) }
-        ensures stands { (before after : Option DiskImage) → Opens space number before after
-            → StandsFlown buffer.old self.old before → StandsFlown buffer.new self.new after }
+        ensures stands { (copies : Copies) (before after : Option DiskImage)
+            → Opens space number before after → StandsFlown buffer.old self.old copies before
+            → StandsFlown buffer.new self.new copies after }
     {
         buffer.laws();
         self.forget(space, number);
@@ -196,8 +202,9 @@ impl Flusher {
             → Rose (D.failures disk.old) (D.failures disk.new) }
         ensures later { D.failures disk.old ≤ D.failures disk.new }
         ensures orders { D.orders disk.new ≡ D.orders disk.old }
-        ensures stands { StandsFlown buffer.old self.old (D.told disk.old)
-            → StandsFlown buffer.new self.new (D.told disk.new) }
+        ensures stands { (copies : Copies)
+            → StandsFlown buffer.old self.old copies (D.told disk.old)
+            → StandsFlown buffer.new self.new copies (D.told disk.new) }
     {
         buffer.laws();
         let at = self.under_way(buffer, space, number, false)?;
@@ -232,7 +239,8 @@ impl Flusher {
             (record { buffer = buffer.old; flights = self.old })
             (record { buffer = buffer.new; flights = self.new })
             (D.told disk.old) (D.told disk.new) result }
-        ensures image { OnOk result (StandsFlown buffer.old self.old (D.told disk.old)
+        ensures image { OnOk result ((copies : Copies)
+            → StandsFlown buffer.old self.old copies (D.told disk.old)
             → ForTold (D.told disk.new) (λ m. (w : PageWrite)
             → write_of self.old (record { space = space; number = number }) ≡ Some w
             → page_of m space number ≡ Some (record { bytes = w.image; writing = false }))) }
@@ -240,8 +248,9 @@ impl Flusher {
             → Rose (D.failures disk.old) (D.failures disk.new) }
         ensures later { D.failures disk.old ≤ D.failures disk.new }
         ensures orders { D.orders disk.new ≡ D.orders disk.old }
-        ensures stands { StandsFlown buffer.old self.old (D.told disk.old)
-            → StandsFlown buffer.new self.new (D.told disk.new) }
+        ensures stands { (copies : Copies)
+            → StandsFlown buffer.old self.old copies (D.told disk.old)
+            → StandsFlown buffer.new self.new copies (D.told disk.new) }
     {
         buffer.laws();
         let at = self.under_way(buffer, space, number, true)?;
@@ -279,21 +288,53 @@ impl Flusher {
     }
 
     /// A checkpoint: the LSN at which the oldest change begins that isn't on the disk, or the log's
-    /// end where no page is dirty. The log below it may go.
-    pub fn checkpoint(&mut self, buffer: &mut Buffer) -> u64
+    /// end where no page is dirty. The log below it goes, but for what is kept from an LSN on.
+    pub fn checkpoint(&mut self, buffer: &mut Buffer, kept_from: Option<u64>) -> u64
         ensures reached { IsReached buffer.old result }
-        ensures checked { record { buffer = buffer.new; flights = self.new } ≡ checked result
-            (record { buffer = buffer.old; flights = self.old }) }
-        ensures floor { (told : Option DiskImage) → StandsFlown buffer.old self.old told
-            → ForTold told (λ m. buffer.new.ring.floor ≡ result) }
-        ensures stands { (told : Option DiskImage) → StandsFlown buffer.old self.old told
-            → StandsFlown buffer.new self.new told }
+        ensures checked { record { buffer = buffer.new; flights = self.new }
+            ≡ checked result kept_from (record { buffer = buffer.old; flights = self.old }) }
+        ensures floor { (copies : Copies) (told : Option DiskImage)
+            → StandsFlown buffer.old self.old copies told
+            → IfSome kept_from (λ kept. buffer.old.ring.floor ≤ kept)
+            → ForTold told (λ m. buffer.new.ring.floor ≡ needed_from result kept_from) }
+        ensures stands { (copies : Copies) (told : Option DiskImage)
+            → StandsFlown buffer.old self.old copies told
+            → StandsFlown buffer.new self.new copies told }
     {
         buffer.laws();
-        let lsn = reached(buffer);
-        let_go(buffer, lsn);
-        self.checkpoint = lsn;
-        lsn
+        self.checkpoint = reached(buffer);
+        self.settle_floor(buffer, kept_from);
+        self.checkpoint
+    }
+
+    /// Lets the log below the last checkpoint go, but for what is kept from an LSN on.
+    pub fn settle_floor(&self, buffer: &mut Buffer, kept_from: Option<u64>)
+        ensures settled { buffer.new ≡ settled self.now.checkpoint kept_from buffer.old }
+        ensures floor { (copies : Copies) (told : Option DiskImage)
+            → StandsFlown buffer.old self.now copies told
+            → IfSome kept_from (λ kept. buffer.old.ring.floor ≤ kept)
+            → ForTold told
+            (λ m. buffer.new.ring.floor ≡ needed_from self.now.checkpoint kept_from) }
+        ensures stands { (copies : Copies) (told : Option DiskImage)
+            → StandsFlown buffer.old self.now copies told
+            → StandsFlown buffer.new self.now copies told }
+    {
+        buffer.laws();
+        let_go(buffer, needed_from(self.checkpoint, kept_from));
+    }
+
+    /// Where redo of the pages on the disk starts: at the last checkpoint, or at the LSN nearest to
+    /// it that the log has.
+    pub fn start_within(&self, buffer: &Buffer) -> u64
+        ensures nearest { result ≡ nearest_in buffer.now.ring self.now.checkpoint }
+        ensures above { buffer.now.ring.floor ≤ result }
+        ensures below { result ≤ end_of buffer.now.ring }
+        ensures checkpoint { (copies : Copies) (told : Option DiskImage)
+            → StandsFlown buffer.now self.now copies told
+            → ForTold told (λ m. result ≡ self.now.checkpoint) }
+    {
+        buffer.laws();
+        self.checkpoint.min(buffer.end()).max(buffer.floor())
     }
 }
 
@@ -325,6 +366,16 @@ fn let_go(buffer: &mut Buffer, lsn: u64)
 {
     if buffer.floor() < lsn && lsn <= buffer.end() {
         buffer.raise_floor(lsn);
+    }
+}
+
+// The LSN from which on the log is needed, where it is also kept from another one on.
+fn needed_from(checkpoint: u64, kept_from: Option<u64>) -> u64
+    ensures { result ≡ needed_from checkpoint kept_from }
+{
+    match kept_from {
+        Some(kept) => checkpoint.min(kept),
+        None => checkpoint,
     }
 }
 

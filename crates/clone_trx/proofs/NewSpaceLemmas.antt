@@ -14,28 +14,35 @@ use Rattle.clone_image.proofs.Redoing.{replayed_is_redone}
 use Rattle.clone_image.specs.Redone as image
 use Rattle.clone_image.specs.Redone.{Standing, no_space, redone}
 use Rattle.clone_law.specs.Machine.{Engine, HasSpace}
-use Rattle.clone_law.specs.Rule.{EngineRule, Bare}
+use Rattle.clone_law.specs.Rule.{Rule, Bare}
 use Rattle.clone_pool.specs.declared.frame.Frame.{Frame}
 use Rattle.clone_buffer.specs.Buffered.{Buffered, IsBuffer, image_of}
-use Rattle.clone_buffer.specs.OnePage.{Flushes, frame_of, bytes_in, oldest_in, flush_in, flight_of, standing_in, is_open, has_space}
+use Rattle.clone_buffer.specs.OnePage.{Beside, engine_with, frame_of, bytes_in, oldest_in, flush_in, flight_of, standing_in, is_open, has_space}
 use Rattle.clone_buffer.specs.Keeping.{IsKept, IsKeptPage, Stands}
 use Rattle.clone_buffer.specs.Writing.{HasMade}
+use Rattle.clone_buffer.proofs.PageLemmas.{world, copy_stays}
 use Rattle.clone_trx.specs.Ways.{StaysStanding}
 
-module _ (log : List (List Record)) (flushes : Flushes) (m n : DiskImage) (space number : ℕ) (frame : Option Frame) where
+module _ (log : List (List Record)) (beside : Beside) (m n : DiskImage) (space number : ℕ) (frame : Option Frame) where
   -- a page of a space that the log doesn't have may stand on the disk in any way
-  pub off_log : redone space number log ≡ no_space → IsKeptPage log flushes m space number frame → IsKeptPage log flushes n space number frame
+  pub off_log : redone space number log ≡ no_space → IsKeptPage log beside m space number frame → IsKeptPage log beside n space number frame
   off_log none k = record {
-    rule = record {
-      fits = k.rule.fits;
-      framed = k.rule.framed;
-      quiet = λ _ has. absurd (subst HasSpace none has);
-      flying = k.rule.flying;
-      order = k.rule.order;
-      bare = subst (λ (w : Bool). Bare (bytes_in frame) w (oldest_in frame) (flight_of (flush_in frame) (flushes.image space number))) (shut m ∙ sym (shut n)) k.rule.bare;
-      low = k.rule.low;
-      aligned = k.rule.aligned;
-    };
+    rule =
+        let r = k.rule.engine in
+        let e : Engine = engine_with log beside n space number frame in
+        record {
+          engine = record {
+            fits = r.fits;
+            framed = r.framed;
+            quiet = λ _ has. absurd (subst HasSpace none has);
+            flying = r.flying;
+            order = r.order;
+            bare = subst (λ (w : Bool). Bare (bytes_in frame) w (oldest_in frame) (flight_of (flush_in frame) (beside.image space number))) (shut m ∙ sym (shut n)) r.bare;
+            low = r.low;
+            aligned = r.aligned;
+          };
+          copy = copy_stays space number (engine_with log beside m space number frame) e.disk e.writing e.flight (beside.copy space number) (λ _. shut n) (λ grounded. grounded) k.rule.copy;
+        };
     dirty = λ t. absurd (false≢true (sym (shut n) ∙ t));
     flights = k.flights;
   }
@@ -46,18 +53,18 @@ module _ (log : List (List Record)) (flushes : Flushes) (m n : DiskImage) (space
   abbrev engine : Option (List Held) → Engine
   engine o = record {
     log = log;
-    checkpoint = flushes.checkpoint;
+    checkpoint = beside.checkpoint;
     disk = standing_in o number;
     writing = is_open (option_and_then (λ pages. slice_get pages number) o) && has_space (redone space number log);
     frame = bytes_in frame;
     oldest = oldest_in frame;
-    flight = flight_of (flush_in frame) (flushes.image space number);
+    flight = flight_of (flush_in frame) (beside.image space number);
   }
 
   -- a page of a space that stands as before
-  same_space : finite.get n.spaces space ≡ finite.get m.spaces space → IsKeptPage log flushes m space number frame → IsKeptPage log flushes n space number frame
+  same_space : finite.get n.spaces space ≡ finite.get m.spaces space → IsKeptPage log beside m space number frame → IsKeptPage log beside n space number frame
   same_space is k = record {
-    rule = subst (λ (o : Option (List Held)). EngineRule space number (engine o)) (sym is) k.rule;
+    rule = subst (λ (o : Option (List Held)). Rule space number (world (beside.copy space number) (engine o))) (sym is) k.rule;
     dirty = subst (λ (o : Option (List Held)). (engine o).writing ≡ true → IsSome (oldest_in frame)) (sym is) k.dirty;
     flights = k.flights;
   }
@@ -67,29 +74,29 @@ module _ (v : Buffered) (space count : ℕ) (b : IsBuffer v) (absent : IsTrue v.
   off : (number : ℕ) → IsTrue v.right → redone space number v.log ≡ no_space
   off number right = let below = b.below in sym (replayed_is_redone v.log space number (omega (arith, below))) ∙ ap (λ (o : Option (List (List ℕ))). image.standing_in o number) (absent right)
 
-  kept : (flushes : Flushes) (m : DiskImage) → IsKept v flushes m → IsKept v flushes (with_created m space count)
-  kept flushes m k = record { right = k.right; page = λ s n. by s n (cases_eq s space) (k.page s n) }
+  kept : (beside : Beside) (m : DiskImage) → IsKept v beside m → IsKept v beside (with_created m space count)
+  kept beside m k = record { right = k.right; page = λ s n. by s n (cases_eq s space) (k.page s n) }
     where
-      by : (s n : ℕ) → (s ≡ space) ⊎ (s ≢ space) → IsKeptPage v.log flushes m s n (frame_of v.pool.frames s n) → IsKeptPage v.log flushes (with_created m space count) s n (frame_of v.pool.frames s n)
-      by s n (inl same) page = off_log v.log flushes m (with_created m space count) s n (frame_of v.pool.frames s n) (ap (λ (x : ℕ). redone x n v.log) same ∙ off n k.right) page
-      by s n (inr other) page = same_space v.log flushes m (with_created m space count) s n (frame_of v.pool.frames s n) (get-put_other m.spaces space s (replicate count zero_page) other) page
+      by : (s n : ℕ) → (s ≡ space) ⊎ (s ≢ space) → IsKeptPage v.log beside m s n (frame_of v.pool.frames s n) → IsKeptPage v.log beside (with_created m space count) s n (frame_of v.pool.frames s n)
+      by s n (inl same) page = off_log v.log beside m (with_created m space count) s n (frame_of v.pool.frames s n) (ap (λ (x : ℕ). redone x n v.log) same ∙ off n k.right) page
+      by s n (inr other) page = same_space v.log beside m (with_created m space count) s n (frame_of v.pool.frames s n) (get-put_other m.spaces space s (replicate count zero_page) other) page
 
   -- the disk has made the space
   pub disk_made : (before after : Option DiskImage) → Steps before after (λ m. with_created m space count) → StaysStanding v v before after
-  disk_made before after step = λ flushes st. subst (λ (t : Option DiskImage). Stands v flushes t) (sym step) (by flushes before st)
+  disk_made before after step = λ beside st. subst (λ (t : Option DiskImage). Stands v beside t) (sym step) (by beside before st)
     where
-      by : (flushes : Flushes) (t : Option DiskImage) → Stands v flushes t → Stands v flushes (option_map (λ m. with_created m space count) t)
-      by flushes None st = tt
-      by flushes (Some m) k = kept flushes m k
+      by : (beside : Beside) (t : Option DiskImage) → Stands v beside t → Stands v beside (option_map (λ m. with_created m space count) t)
+      by beside None st = tt
+      by beside (Some m) k = kept beside m k
 
   -- or it has failed, and may have made the space or not
   pub disk_failed : (before after : Option DiskImage) (refusal : Refusal) → (refusal ≡ Fault → IsBeforeOrAfter before after (λ m. with_created m space count)) → (refusal ≡ NoMemory → after ≡ before) → StaysStanding v v before after
   disk_failed before after Fault fault memory = by (fault refl)
     where
       by : IsBeforeOrAfter before after (λ m. with_created m space count) → StaysStanding v v before after
-      by (inl same) = λ flushes st. subst (λ (t : Option DiskImage). Stands v flushes t) (sym same) st
+      by (inl same) = λ beside st. subst (λ (t : Option DiskImage). Stands v beside t) (sym same) st
       by (inr step) = disk_made before after step
-  disk_failed before after NoMemory fault memory = λ flushes st. subst (λ (t : Option DiskImage). Stands v flushes t) (sym (memory refl)) st
+  disk_failed before after NoMemory fault memory = λ beside st. subst (λ (t : Option DiskImage). Stands v beside t) (sym (memory refl)) st
 
 -- it has the space then
 pub has_made : (before after : Option DiskImage) (table buckets : ℕ) (rest : List Record) → Steps before after (λ m. with_created m table buckets) → ForTold after (HasMade (Create table buckets ∷ rest))

@@ -19,7 +19,7 @@ use Rattle.clone_pool.specs.Pool.{Frames, Freshens, TakesFrame, IsHolder, used, 
 use Rattle.clone_buffer.proofs.FrameLemmas.{holder_name, no_name}
 use Rattle.clone_buffer.specs.Buffered.{Buffered, IsBuffer, Shown, image_of}
 use Rattle.clone_buffer.specs.Keeping.{IsKept, Stands}
-use Rattle.clone_buffer.specs.OnePage.{unflushed, frame_of}
+use Rattle.clone_buffer.specs.OnePage.{at_rest, frame_of}
 use Rattle.clone_buffer.specs.Writing.{Creates, any_names}
 use Rattle.clone_trx.proofs.Common.{get-empty, Record, Image, opening_records, system_size, AreLoose}
 use Rattle.clone_trx.specs.Calls.{system_page}
@@ -103,9 +103,9 @@ opens v at b none taken holds right =
     }
 
 -- over an empty log a buffer stands whatever the disk holds
-pub stands_first : (v : Buffered) (told : Option DiskImage) → v.log ≡ [] → IsKept v unflushed blank → Stands v unflushed told
+pub stands_first : (v : Buffered) (told : Option DiskImage) → v.log ≡ [] → IsKept v at_rest blank → Stands v at_rest told
 stands_first v None none k = tt
 stands_first v (Some m) none k = record {
   right = k.right;
-  page = λ space number. off_log v.log unflushed blank m space number (frame_of v.pool.frames space number) (ap (redone space number) none) (k.page space number);
+  page = λ space number. off_log v.log at_rest blank m space number (frame_of v.pool.frames space number) (ap (redone space number) none) (k.page space number);
 }

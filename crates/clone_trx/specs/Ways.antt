@@ -14,7 +14,7 @@ use Rattle.clone_pool.specs.Frames.{frame_at, pinned, unpinned}
 use Rattle.clone_pool.specs.Pool.{Fetches, with_frame}
 use Rattle.clone_buffer.specs.Buffered.{Buffered, image_of}
 use Rattle.clone_buffer.specs.Writing.{written}
-use Rattle.clone_buffer.specs.OnePage.{Flushes}
+use Rattle.clone_buffer.specs.OnePage.{Beside, NoFileCopy}
 use Rattle.clone_buffer.specs.Keeping.{Stands}
 use Rattle.clone_plain.specs.Donor.{Donor}
 use Rattle.clone_plain.specs.declared.refusal.Cause.{Cause}
@@ -134,4 +134,9 @@ PinsAtMost most frames = (at : ℕ) → (frame_at frames at).pins ≤ most
 -- over a disk that tells what it holds, a buffer that stood stands
 abbrev pub StaysStanding : Buffered → Buffered → Option DiskImage → Option DiskImage → Type 0
 StaysStanding old new before after =
-    (flushes : Flushes) → Stands old flushes before → Stands new flushes after
+    (beside : Beside) → Stands old beside before → Stands new beside after
+
+-- so does one that is beside no file copy of a clone
+abbrev pub StaysOutsideFiles : Buffered → Buffered → Option DiskImage → Option DiskImage → Type 0
+StaysOutsideFiles old new before after =
+    (beside : Beside) → NoFileCopy beside.copy → Stands old beside before → Stands new beside after

@@ -14,7 +14,7 @@ ghost use Rattle.clone_plain.specs.declared.refusal.Cause.{Cause};
 ghost use Rattle.clone_plain.specs.declared.refusal.Cause.TheVariants.{DiskFault};
 ghost use Rattle.clone_trx.specs.Calls.{is_new};
 ghost use Rattle.clone_trx.specs.Kept.{Has};
-ghost use Rattle.clone_trx.specs.Ways.{HasRoom, Holds, IsFull, MissesBy, PinsAtMost, StaysStanding, let_go, page_in};
+ghost use Rattle.clone_trx.specs.Ways.{HasRoom, Holds, IsFull, MissesBy, PinsAtMost, StaysOutsideFiles, StaysStanding, let_go, page_in};
 
 use clone_buffer::Buffer;
 use clone_mtr::Record;
@@ -123,7 +123,7 @@ pub fn write_space_held(buffer: &mut Buffer, records: &[Record])
     requires creates { IsTrue buffer.old.right → Creates buffer.old records.now }
     ensures written { buffer.new ≡ written records.now buffer.old }
     ensures stands { (told : Option DiskImage) → ForTold told (HasMade records.now)
-        → StaysStanding buffer.old buffer.new told told }
+        → StaysOutsideFiles buffer.old buffer.new told told }
 {
     match buffer.write_space(records) {
         Ok(_) => {}

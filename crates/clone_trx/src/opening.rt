@@ -5,7 +5,7 @@ ghost use Rattle.clone_outside.specs.Disk.{ForTold, Steps, with_created};
 ghost use Rattle.clone_mtr.specs.Spelling.{spelling};
 ghost use Rattle.clone_contents.specs.Records.{opening_records, system_size};
 ghost use Rattle.clone_image.specs.Replay.{first_lsn};
-ghost use Rattle.clone_buffer.specs.OnePage.{unflushed};
+ghost use Rattle.clone_buffer.specs.OnePage.{at_rest};
 ghost use Rattle.clone_buffer.specs.Keeping.{Stands};
 ghost use Rattle.clone_plain.specs.Donor.{no_donor};
 ghost use Rattle.clone_trx.specs.Kept.{Keeps};
@@ -61,7 +61,7 @@ pub fn open<D: PageDisk>(
         (Steps (D.told disk.old) (D.told disk.new) (λ m. with_created m 0 system_size)) }
     ensures ring { IfOk result (λ opened. opened.1.ring.floor ≡ first_lsn) }
     ensures stands { ForTold (D.told disk.old) (λ m. m.spaces ≡ finite.empty)
-        → IfOk result (λ opened. Stands opened.1 unflushed (D.told disk.new)) }
+        → IfOk result (λ opened. Stands opened.1 at_rest (D.told disk.new)) }
 {
     let mut buffer = Buffer::new(alloc, frames, ring)?;
     let transactions = Transactions::new(alloc)?;

@@ -9,7 +9,7 @@ ghost use Rattle.clone_plain.specs.Effects.{created};
 ghost use Rattle.clone_plain.specs.declared.refusal.Cause.TheVariants.{DiskFault};
 ghost use Rattle.clone_plain.specs.declared.refusal.EngineRefusal.TheVariants.{Because};
 ghost use Rattle.clone_trx.specs.Calls.{create_way, system_page};
-ghost use Rattle.clone_trx.specs.Ways.{Answers, Carries, Makes, StaysStanding};
+ghost use Rattle.clone_trx.specs.Ways.{Answers, Carries, Makes, StaysOutsideFiles};
 ghost use Rattle.clone_trx.specs.Kept.{HasNoFresh, IsHeld, Keeps};
 ghost use Rattle.clone_trx.specs.Sound.{IsKept};
 ghost use Rattle.std.specs.FinMap as finite;
@@ -49,7 +49,8 @@ impl Transactions {
             (λ m. with_created m table buckets) }
         ensures same { (result ≡ Err (Because DiskFault) → ⊥)
             → OnErr result (D.told disk.new ≡ D.told disk.old) }
-        ensures stands { StaysStanding buffer.old buffer.new (D.told disk.old) (D.told disk.new) }
+        ensures stands { StaysOutsideFiles buffer.old buffer.new
+            (D.told disk.old) (D.told disk.new) }
     {
         let (table, buckets) = (table.get(), buckets.get());
         if self.tables.get(table).is_some() {
@@ -95,7 +96,8 @@ impl Transactions {
             (λ m. with_created m table buckets) }
         ensures same { (result ≡ Err (Because DiskFault) → ⊥)
             → OnErr result (D.told disk.new ≡ D.told disk.old) }
-        ensures stands { StaysStanding buffer.old buffer.new (D.told disk.old) (D.told disk.new) }
+        ensures stands { StaysOutsideFiles buffer.old buffer.new
+            (D.told disk.old) (D.told disk.new) }
     {
         buffer.laws();
         let records = creation(self.tables.len(), table, buckets);

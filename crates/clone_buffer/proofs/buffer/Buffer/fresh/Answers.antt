@@ -8,5 +8,5 @@ pub returns-clause-stands : goal.returns-clause-stands
 returns-clause-stands c =
     let i = c.self.inside in
     let v : Buffered = record { log = i.shadow.state.log; right = i.shadow.state.right; ring = i.ring; pool = i.pool } in
-    λ flushes told st. stands_fresh v c.fresh-taken.new.self flushes (record { space = c.args.space; number = c.args.number }) c.laws.ensures c.laws-2.ensures told c.fresh-taken.result c.fresh-taken.ensures.answer
-    (subst (λ (s : Buffered). Stands s flushes told) (sym c.self.view_is) st)
+    λ beside told st. stands_fresh v c.fresh-taken.new.self beside (record { space = c.args.space; number = c.args.number }) c.laws.ensures c.laws-2.ensures told c.fresh-taken.result c.fresh-taken.ensures.answer
+    (subst (λ (s : Buffered). Stands s beside told) (sym c.self.view_is) st)

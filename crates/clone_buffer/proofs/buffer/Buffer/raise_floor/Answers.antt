@@ -8,4 +8,4 @@ pub returns-clause-stands : goal.returns-clause-stands
 returns-clause-stands c =
     let i = c.self.inside in
     let v : Buffered = record { log = i.shadow.state.log; right = i.shadow.state.right; ring = i.ring; pool = i.pool } in
-    λ flushes told st. stands_raised v flushes told c.raise_floor.new.self (subst (λ (s : Buffered). Stands s flushes told) (sym c.self.view_is) st)
+    λ beside told st. stands_raised v beside told c.raise_floor.new.self (subst (λ (s : Buffered). Stands s beside told) (sym c.self.view_is) st)

@@ -9,5 +9,5 @@ returns-clause-stands c =
     let i = c.self.inside in
     let v : Buffered = record { log = i.shadow.state.log; right = i.shadow.state.right; ring = i.ring; pool = i.pool } in
     let holds = subst (λ (s : Buffered). HoldsPage (frame_at s.pool.frames c.args.at)) (sym c.self.view_is) c.requires.holds in
-    λ flushes told st. subst (λ (w : Frames). Stands (record v { pool = w }) flushes told) (sym c.unpin.ensures)
-    (stands_unpinned v flushes told c.args.at c.laws.ensures (within i.pool.frames c.args.at holds) (subst IsPool c.unpin.ensures c.laws-2.ensures) (subst (λ (s : Buffered). Stands s flushes told) (sym c.self.view_is) st))
+    λ beside told st. subst (λ (w : Frames). Stands (record v { pool = w }) beside told) (sym c.unpin.ensures)
+    (stands_unpinned v beside told c.args.at c.laws.ensures (within i.pool.frames c.args.at holds) (subst IsPool c.unpin.ensures c.laws-2.ensures) (subst (λ (s : Buffered). Stands s beside told) (sym c.self.view_is) st))

@@ -14,4 +14,4 @@ pub returns-clause-stands : goal.returns-clause-stands
 returns-clause-stands c =
     let pool = subst (λ (s : Buffered). IsPool s.pool) c.self.view_is c.laws.ensures in
     let buffer = subst IsBuffer c.self.view_is c.self.invariant in
-    λ flushes told st. stands_written c.args.self.now c.append.new.self flushes told c.args.records.now c.append.result pool buffer c.append.ensures.spelled c.requires.edits c.requires.framed c.requires.there c.append.ensures.written st
+    λ beside told st. stands_written c.args.self.now c.append.new.self beside told c.args.records.now c.append.result pool buffer c.append.ensures.spelled c.requires.edits c.requires.framed c.requires.there c.append.ensures.written st

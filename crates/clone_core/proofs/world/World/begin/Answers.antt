@@ -12,7 +12,7 @@ restore-requires g c =
     ap is_some there
 
 pub invariant_of-self-then-is_err : goal.invariant_of-self-then-is_err
-invariant_of-self-then-is_err g c = call_kept _ _ (begin c.args.writer c.unwrap_or.result) (λ trx. did_begin c.args.writer c.unwrap_or.result trx) c.begin-begun.result _ _ (λ _. refl) c.begin-begun.ensures c.self.invariant
+invariant_of-self-then-is_err g c = call_kept _ _ (begin c.args.writer c.unwrap_or.result) (λ trx. did_begin c.args.writer c.unwrap_or.result trx) c.begin-begun.result _ _ (λ _. refl) c.begin-begun.ensures.step c.self.invariant
 
 pub invariant_of-self-else-is_err : goal.invariant_of-self-else-is_err
-invariant_of-self-else-is_err g c = call_kept _ _ (begin c.args.writer c.unwrap_or.result) (λ trx. did_begin c.args.writer c.unwrap_or.result trx) c.begin-begun.result _ _ (λ _. refl) c.begin-begun.ensures c.self.invariant
+invariant_of-self-else-is_err g c = call_kept _ _ (begin c.args.writer c.unwrap_or.result) (λ trx. did_begin c.args.writer c.unwrap_or.result trx) c.begin-begun.result _ _ (λ _. refl) c.begin-begun.ensures.step c.self.invariant

@@ -17,8 +17,8 @@ returns-clause-stands c =
     let page : PageName = record { space = c.args.space; number = c.args.number } in
     let w = held_there (write_of f page) c.requires.write in
     let changes = changes_at b c.fail_flush.new.self page at failed c.laws.ensures.pool c.fail_flush.ensures c.laws-2.ensures.pool c.requires.holder.name in
-    λ before after opens st.
-    subst (λ (x : Buffered). StandsFlown x c.forget.new.self after) (sym c.fail_flush.ensures)
-    (subst (λ (x : Flights). StandsFlown (with_change at failed b) x after) (sym c.forget.ensures)
-    (told_stepped (IsFlown b f) (IsFlown (with_change at failed b) (without_write page f)) before after (λ m. with_page m page.space page.number (opened opens.0)) opens.1
-    (λ m k. flown_failed b f m page at k w.0 w.1 c.laws.ensures.pool c.requires.holder.name c.requires.flight opens.0 changes) st))
+    λ copies before after opens st.
+    subst (λ (x : Buffered). StandsFlown x c.forget.new.self copies after) (sym c.fail_flush.ensures)
+    (subst (λ (x : Flights). StandsFlown (with_change at failed b) x copies after) (sym c.forget.ensures)
+    (told_stepped (IsFlown b f copies) (IsFlown (with_change at failed b) (without_write page f) copies) before after (λ m. with_page m page.space page.number (opened opens.0)) opens.1
+    (λ m k. flown_failed b f copies m page at k w.0 w.1 c.laws.ensures.pool c.requires.holder.name c.requires.flight opens.0 changes) st))

@@ -21,10 +21,10 @@ returns-in-Ok-clause-stands g c =
     let is : write_of f page ≡ Some w = sym c.in-Some.ensures in
     let u = c.in_ok-at.ensures.ok.1 in
     let low : HALF_PAGE ≤ length w.image = omega (arith, ap length c.bytes.ensures.value, c.bytes.ensures.long) in
-    λ st. subst (λ (x : Flights). StandsFlown b x after) (sym (c.halve.ensures w is))
-    (told_stepped (IsFlown b f) (IsFlown b (with_write page (record w { halved = true }) f)) before after (λ m. with_page m page.space page.number (half_written w.image))
+    λ copies st. subst (λ (x : Flights). StandsFlown b x copies after) (sym (c.halve.ensures w is))
+    (told_stepped (IsFlown b f copies) (IsFlown b (with_write page (record w { halved = true }) f) copies) before after (λ m. with_page m page.space page.number (half_written w.image))
     (subst (λ (image : List ℕ). Steps before after (λ m. with_page m page.space page.number (half_written image))) c.bytes.ensures.value c.in-Ok.ensures.written)
-    (λ m k. flown_halved b f m page c.in_ok-at.at k w is c.laws.ensures.pool u.holder.name u.flight low) st)
+    (λ m k. flown_halved b f copies m page c.in_ok-at.at k w is c.laws.ensures.pool u.holder.name u.flight low) st)
 
 pub returns-in-Err-Fault-clause-stands : goal.returns-in-Err-Fault-clause-stands
-returns-in-Err-Fault-clause-stands g c = λ st. c.fail.ensures.stands (g.D.PageDisk.told c.args.disk.now) (g.D.PageDisk.told c.write_half.new.self) (c.in-Err-Fault.ensures.fault (ap (λ (r : Refusal). Err r) c.in-Err-Fault.field-0-is)) st
+returns-in-Err-Fault-clause-stands g c = λ copies st. c.fail.ensures.stands copies (g.D.PageDisk.told c.args.disk.now) (g.D.PageDisk.told c.write_half.new.self) (c.in-Err-Fault.ensures.fault (ap (λ (r : Refusal). Err r) c.in-Err-Fault.field-0-is)) st

@@ -21,9 +21,9 @@ returns-in-Ok-clause-image g c =
     let w : PageWrite = c.in_ok-at.ensures.ok.0 in
     let u = c.in_ok-at.ensures.ok.1 in
     let same : c.bytes.result.now ≡ w.image = c.bytes.ensures.value ∙ ap (λ (x : PageWrite). x.image) (same_write (write_of f page) c.in-Some.write.now w c.in-Some.ensures u.write) in
-    told_stepped (IsFlown b f) (λ m. (v : PageWrite) → write_of f page ≡ Some v → page_of m page.space page.number ≡ Some (record { bytes = v.image; writing = false })) before after (λ m. with_page m page.space page.number (rest_written w.image))
+    λ copies. told_stepped (IsFlown b f copies) (λ m. (v : PageWrite) → write_of f page ≡ Some v → page_of m page.space page.number ≡ Some (record { bytes = v.image; writing = false })) before after (λ m. with_page m page.space page.number (rest_written w.image))
     (subst (λ (image : List ℕ). Steps before after (λ m. with_page m page.space page.number (rest_written image))) same c.in-Ok.ensures.written)
-    (λ m k v is. landed_there b f m page c.in_ok-at.at k w u.write c.laws.ensures.pool u.holder.name u.flight u.halved_is
+    (λ m k v is. landed_there b f copies m page c.in_ok-at.at k w u.write c.laws.ensures.pool u.holder.name u.flight u.halved_is
     ∙ ap (λ (x : PageWrite). Some (record { bytes = x.image; writing = false })) (same_write (write_of f page) w v (sym u.write) is))
 
 pub returns-in-Ok-clause-stands : goal.returns-in-Ok-clause-stands
@@ -38,11 +38,11 @@ returns-in-Ok-clause-stands g c =
     let u = c.in_ok-at.ensures.ok.1 in
     let same : c.bytes.result.now ≡ w.image = c.bytes.ensures.value ∙ ap (λ (x : PageWrite). x.image) (same_write (write_of f page) c.in-Some.write.now w c.in-Some.ensures u.write) in
     let changes = changes_at b c.land_flush.new.self page at landed c.laws.ensures.pool c.land_flush.ensures c.laws-in-Ok.ensures.pool u.holder.name in
-    λ st. subst (λ (x : Buffered). StandsFlown x c.forget.new.self after) (sym c.land_flush.ensures)
-    (subst (λ (x : Flights). StandsFlown (with_change at landed b) x after) (sym c.forget.ensures)
-    (told_stepped (IsFlown b f) (IsFlown (with_change at landed b) (without_write page f)) before after (λ m. with_page m page.space page.number (rest_written w.image))
+    λ copies st. subst (λ (x : Buffered). StandsFlown x c.forget.new.self copies after) (sym c.land_flush.ensures)
+    (subst (λ (x : Flights). StandsFlown (with_change at landed b) x copies after) (sym c.forget.ensures)
+    (told_stepped (IsFlown b f copies) (IsFlown (with_change at landed b) (without_write page f) copies) before after (λ m. with_page m page.space page.number (rest_written w.image))
     (subst (λ (image : List ℕ). Steps before after (λ m. with_page m page.space page.number (rest_written image))) same c.in-Ok.ensures.written)
-    (λ m k. flown_landed b f m page at k w u.write c.laws.ensures.pool u.holder.name u.flight u.halved_is changes) st))
+    (λ m k. flown_landed b f copies m page at k w u.write c.laws.ensures.pool u.holder.name u.flight u.halved_is changes) st))
 
 pub returns-in-Err-Fault-clause-stands : goal.returns-in-Err-Fault-clause-stands
-returns-in-Err-Fault-clause-stands g c = λ st. c.fail.ensures.stands (g.D.PageDisk.told c.args.disk.now) (g.D.PageDisk.told c.write_rest.new.self) (c.in-Err-Fault.ensures.fault (ap (λ (r : Refusal). Err r) c.in-Err-Fault.field-0-is)) st
+returns-in-Err-Fault-clause-stands g c = λ copies st. c.fail.ensures.stands copies (g.D.PageDisk.told c.args.disk.now) (g.D.PageDisk.told c.write_rest.new.self) (c.in-Err-Fault.ensures.fault (ap (λ (r : Refusal). Err r) c.in-Err-Fault.field-0-is)) st

@@ -43,8 +43,8 @@ pub returns-in-Err-clause-stands : goal.returns-in-Err-clause-stands
 returns-in-Err-clause-stands g c =
     let safe : IsSafe c.args.self.now = subst IsSafe c.self.view_is c.self.invariant.0 in
     let may = may_create c.args.self.now c.args.table safe.tables.few c.requires.cause in
-    disk_failed c.args.buffer.now c.args.table c.args.buckets c.laws.ensures.buffer (λ right. no_space c.args.self.now (image_of c.args.buffer.now) c.args.table (c.requires.kept right) c.requires.table.0 may.0)
-    (g.D.PageDisk.told c.args.disk.now) (g.D.PageDisk.told c.create.new.self) c.in-Err.refusal (λ is. c.in-Err.ensures.fault (ap Err is)) (λ is. c.in-Err.ensures.memory (ap Err is))
+    λ beside _. disk_failed c.args.buffer.now c.args.table c.args.buckets c.laws.ensures.buffer (λ right. no_space c.args.self.now (image_of c.args.buffer.now) c.args.table (c.requires.kept right) c.requires.table.0 may.0)
+    (g.D.PageDisk.told c.args.disk.now) (g.D.PageDisk.told c.create.new.self) c.in-Err.refusal (λ is. c.in-Err.ensures.fault (ap Err is)) (λ is. c.in-Err.ensures.memory (ap Err is)) beside
 
 -- Else the table is made.
 
@@ -90,12 +90,12 @@ returns-clause-kept g c =
     (create_keeps lsn c.args.table c.args.buckets d (image_of old) (c.requires.kept right) may.0 may.1 c.requires.table.0 c.requires.table.1 c.requires.buckets.0 c.requires.buckets.1))
 
 pub returns-clause-stands : goal.returns-clause-stands
-returns-clause-stands g c = λ flushes st.
+returns-clause-stands g c = λ beside calm st.
     let before = g.D.PageDisk.told c.args.disk.now in
     let after = g.D.PageDisk.told c.create.new.self in
     let safe : IsSafe c.args.self.now = subst IsSafe c.self.view_is c.self.invariant.0 in
     let may = may_create c.args.self.now c.args.table safe.tables.few c.requires.cause in
     let step : Steps before after (λ m. with_created m c.args.table c.args.buckets) = c.in_default.ensures.created in
-    let stood = disk_made c.args.buffer.now c.args.table c.args.buckets c.laws.ensures.buffer (λ right. no_space c.args.self.now (image_of c.args.buffer.now) c.args.table (c.requires.kept right) c.requires.table.0 may.0) before after step flushes st in
+    let stood = disk_made c.args.buffer.now c.args.table c.args.buckets c.laws.ensures.buffer (λ right. no_space c.args.self.now (image_of c.args.buffer.now) c.args.table (c.requires.kept right) c.requires.table.0 may.0) before after step beside st in
     c.write_space_held.ensures.stands after
-    (subst (λ (rs : List Record). ForTold after (HasMade rs)) (sym (records g c)) (has_made before after c.args.table c.args.buckets (Write 0 0 record { offset = entry_at (finite.len c.args.self.now.tables); bytes = entry c.args.table c.args.buckets c.args.buckets } ∷ []) step)) flushes stood
+    (subst (λ (rs : List Record). ForTold after (HasMade rs)) (sym (records g c)) (has_made before after c.args.table c.args.buckets (Write 0 0 record { offset = entry_at (finite.len c.args.self.now.tables); bytes = entry c.args.table c.args.buckets c.args.buckets } ∷ []) step)) beside calm stood
