@@ -1,11 +1,16 @@
-//! The tests of the crates at the bottom: values and texts, chunks, pages, and what lies outside.
+//! The tests of the crates at the bottom: values and texts, chunks and blocks, pages, and what lies
+//! outside.
 //! They stand apart, since a crate with tests is proved twice.
 #![tactic(auto)]
 
 #[cfg(test)]
+mod archive;
+#[cfg(test)]
 mod bytes;
 #[cfg(test)]
 mod chunk;
+#[cfg(test)]
+mod lay;
 #[cfg(test)]
 mod memdisk;
 #[cfg(test)]
@@ -18,3 +23,7 @@ mod page;
 mod ring;
 #[cfg(test)]
 mod script;
+#[cfg(test)]
+mod snapshot;
+#[cfg(test)]
+mod track;
