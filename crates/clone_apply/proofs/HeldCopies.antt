@@ -10,32 +10,37 @@ use Rattle.clone_mtr.specs.Spelling.{log_of}
 use Rattle.clone_mtr.specs.declared.record.Record.{Record}
 use Rattle.clone_image.specs.Image.{Image, page_of}
 use Rattle.clone_image.specs.Recovered.{recovered}
+use Rattle.clone_image.specs.Redone.{standing_of}
 use Rattle.clone_image.specs.Replay.{replayed}
 use Rattle.clone_image.specs.Rows.{HasRows}
 use Rattle.clone_image.proofs.Shown.{shown_map}
 use Rattle.clone_overlay.specs.Images.{image_of}
+use Rattle.clone_overlay.specs.Shown.{IsMisplaced}
+use Rattle.clone_overlay.proofs.Showing.{page_stands}
 use Rattle.clone_plain.specs.Donor.{Donor, history}
-use Rattle.clone_recover.specs.Damage.{NamesMissing, IsBroken}
 use Rattle.clone_recover.specs.Listing.{ListsRows}
-use Rattle.clone_recover.specs.Restores.{Answers, again, anew, HasMark, IsDamage, by_redo, by_header, by_dictionary, by_undo, IsIncomplete, unmarked, under_way, numbers_of}
+use Rattle.clone_recover.specs.Restores.{IsLeft, Answers, again, anew, HasMark, IsDamage, by_redo, by_header, by_dictionary, by_undo, IsIncomplete, unmarked, under_way, numbers_of}
 use Rattle.clone_recover.specs.declared.recovery.Recovered.{Recovered}
 use Rattle.clone_recover.specs.declared.refusal.Why.{Why}
 use Rattle.clone_trx.specs.Sound.{IsKept}
-use Rattle.clone_trx.proofs.RecoveredRowLemmas.{recovered_rows}
-use Rattle.clone_apply.specs.Copied.{copied}
+use Rattle.clone_trx.proofs.RecoveredRowLemmas.{recovered_rows, can_take_back}
+use Rattle.clone_apply.specs.Copied.{held_redo, with_redo, completed, copied}
 use Rattle.clone_apply.specs.Holds.{IsLeftBy, HoldsCopy, IsWholeLog}
-use Rattle.clone_apply.proofs.CopiedDisks.{quiet, none_misplaced}
+use Rattle.clone_apply.specs.Staged.{IsLogTo, IsStaged}
+use Rattle.clone_apply.proofs.AlikeImages.{missing_alike, broken_alike}
+use Rattle.clone_apply.proofs.CopiedDisks.{copied_staged}
 use Rattle.clone_apply.proofs.EndMarks.{OneEnd, not_both, not_under_way, recovered_not_under_way, one_complete, one_recovered, one_position, same_recovered}
 use Rattle.clone_apply.proofs.KeptImages.{none_missing, none_broken}
-use Rattle.clone_apply.proofs.LeftImages.{is_redo, left_is}
+use Rattle.clone_apply.proofs.PlacedPages.{page_placed}
+use Rattle.clone_apply.proofs.StagedImages.{is_redo, pages, left_alike, left_rows}
 
 same_numbers : (a b : CloneEnd) → a.lsn ≡ b.lsn → a.position ≡ b.position → numbers_of a ≡ numbers_of b
 same_numbers a b lsn position = λ i. record { lsn = lsn i; position = position i }
 
--- A clone of a donor is laid on a disk that had no space.
-module _ (d : Donor) (log : List (List Record)) (end : CloneEnd) (m : DiskImage) (kept : IsKept d (replayed log)) (whole : IsWholeLog log end) (ranges : IsEnd end) (blank : m.spaces ≡ finite.empty) where
+-- A clone of a donor is laid on a disk in stages.
+module _ (d : Donor) (log : List (List Record)) (end : CloneEnd) (m : DiskImage) (kept : IsKept d (replayed log)) (to : IsLogTo end log) (ranges : IsEnd end) (staged : IsStaged end.checkpoint log m) where
   abbrev n : DiskImage
-  n = copied (log_of log) end m
+  n = completed end m
 
   abbrev rows : Rows
   rows = fold (history d)
@@ -43,16 +48,18 @@ module _ (d : Donor) (log : List (List Record)) (end : CloneEnd) (m : DiskImage)
   complete : HasMark n (mark.Complete end)
   complete = refl
 
+  recovered_has : (e : CloneEnd) → OneEnd end e → (left : Image) → IsLeft n e left → HasRows (page_of (recovered left)) rows
+  recovered_has e one left l = left_rows log end m to staged e one left l kept.formed.size rows (can_take_back d (replayed log) kept.formed kept.sound) (recovered_rows d (replayed log) kept.formed kept.sound)
+
   left_by : (k : DiskImage) (numbers : Recovered) → numbers.position < 2 ^ 64 → Answers n k numbers → IsLeftBy k numbers rows end.position
   left_by k numbers fits (again e has is same) = absurd (not_both n end e complete has)
   left_by k numbers fits (anew e has is restores) =
-      let r = restores (quiet (log_of log) end m blank) in
+      let r = restores staged.quiet in
       let one : OneEnd end e = one_complete n end e complete has in
       let position : end.position ≡ e.position = one_position end e ranges.1 (subst (λ (x : Recovered). x.position < 2 ^ 64) is fits) one in
-      let left = left_is log end m blank whole e one r.left r.is_left in
       record {
         quiet = r.quiet;
-        has = subst (λ (i : Image). HasRows (page_of i) rows) (sym (r.image ∙ ap recovered left)) (recovered_rows d (replayed log) kept.formed kept.sound);
+        has = subst (λ (i : Image). HasRows (page_of i) rows) (sym r.image) (recovered_has e one r.left r.is_left);
         after = ap (λ (x : Recovered). x.position) is ∙ sym position;
         end = end;
         ranges = ranges;
@@ -60,23 +67,33 @@ module _ (d : Donor) (log : List (List Record)) (end : CloneEnd) (m : DiskImage)
         told = is ∙ sym (same_numbers end e one.lsn position);
       }
 
+  none_misplaced : (s p : ℕ) → IsMisplaced s p (image_of m) → ⊥
+  none_misplaced s p is = is.against (page_placed s p (standing_of (image_of m) s p) is.page (sym (page_stands (image_of m) s p) ∙ is.there) (staged.placed s p))
+
   never_damaged : (e : CloneEnd) (s p : ℕ) (why : Why) → OneEnd end e → IsDamage n e s p why → ⊥
-  never_damaged e s p why one (by_redo at none) = none (log, is_redo log end m blank whole e one)
-  never_damaged e s p why one (by_header space at has misplaced) = none_misplaced (log_of log) end m blank space at misplaced
-  never_damaged e s p why one (by_dictionary left l missing) = none_missing d (replayed log) kept (subst NamesMissing (left_is log end m blank whole e one left l) missing)
-  never_damaged e s p why one (by_undo at left l slot broken) = none_broken d (replayed log) kept slot at (subst (λ (i : Image). IsBroken i slot at) (left_is log end m blank whole e one left l) broken)
+  never_damaged e s p why one (by_redo at none) = none (staged.begin.behind, is_redo log end m to staged e one)
+  never_damaged e s p why one (by_header space at has misplaced) = none_misplaced space at misplaced
+  never_damaged e s p why one (by_dictionary left l missing) =
+      none_missing d (replayed log) kept (missing_alike left (replayed log) (left_alike log end m to staged e one left l kept.formed.size) (pages log end m to staged e one left l kept.formed.size) missing)
+  never_damaged e s p why one (by_undo at left l slot broken) =
+      none_broken d (replayed log) kept slot at (broken_alike left (replayed log) (left_alike log end m to staged e one left l kept.formed.size) slot at broken)
 
   never_incomplete : IsIncomplete n → ⊥
   never_incomplete (unmarked none) = none (mark.Complete end) ranges complete
   never_incomplete (under_way session begun) = not_under_way n end session complete begun
 
-  pub copied_holds : HoldsCopy n rows end.position
-  copied_holds = record {
+  pub staged_holds : HoldsCopy n rows end.position
+  staged_holds = record {
     marked = record { end = end; ranges = ranges; after = refl; mark = inl complete };
     recovers = left_by;
-    sound = λ s p why cause. never_damaged cause.0 s p why (one_complete n end cause.0 complete cause.1) (cause.2 (quiet (log_of log) end m blank));
+    sound = λ s p why cause. never_damaged cause.0 s p why (one_complete n end cause.0 complete cause.1) (cause.2 staged.quiet);
     complete = never_incomplete;
   }
+
+-- It is laid at once on a disk that had no space.
+pub copied_holds : (d : Donor) (log : List (List Record)) (end : CloneEnd) (m : DiskImage) → IsKept d (replayed log) → IsWholeLog log end → IsEnd end → m.spaces ≡ finite.empty → HoldsCopy (copied (log_of log) end m) (fold (history d)) end.position
+copied_holds d log end m kept whole ranges blank =
+    staged_holds d log end (with_redo m (held_redo (log_of log))) kept (record { each = whole.each; tables = whole.tables; stop = whole.whole }) ranges (copied_staged log end m whole blank)
 
 -- A disk that was recovered.
 module _ (n : DiskImage) (numbers : Recovered) (rows : Rows) (position : ℕ) (r : IsLeftBy n numbers rows position) where

@@ -2,6 +2,9 @@ pub mod RedoPages
 pub mod CopiedDisks
 pub mod BegunCopies
 pub mod EndMarks
-pub mod LeftImages
+pub mod PlacedPages
+pub mod AbsentPages
+pub mod StagedImages
+pub mod AlikeImages
 pub mod KeptImages
 pub mod HeldCopies

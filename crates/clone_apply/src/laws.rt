@@ -1,4 +1,4 @@
-ghost use Rattle.std.specs.Prelude.{◌≡◌, ◌<◌, ◌^◌, ℕ, List};
+ghost use Rattle.std.specs.Prelude.{◌≡◌, ◌<◌, ◌^◌, ◌++◌, ◌∷◌, ℕ, List, []};
 ghost use Rattle.std.specs.FinMap as finite;
 ghost use Rattle.clone_model.specs.History.{Row, Rows, fold, rows_in};
 ghost use Rattle.clone_outside.specs.Disk.{DiskImage};
@@ -6,26 +6,48 @@ ghost use Rattle.clone_outside.specs.Mark.{IsEnd};
 ghost use Rattle.clone_outside.specs.declared.mark.CloneEnd.{CloneEnd};
 ghost use Rattle.clone_mtr.specs.declared.record.Record.{Record};
 ghost use Rattle.clone_mtr.specs.Spelling.{log_of};
+ghost use Rattle.clone_image.specs.Redone.{Standing, redone};
 ghost use Rattle.clone_image.specs.Replay.{replayed};
+ghost use Rattle.clone_law.specs.Since.{AllFit, Since};
+ghost use Rattle.clone_law.specs.Starts.{Gives};
 ghost use Rattle.clone_plain.specs.Donor.{Donor, history};
 ghost use Rattle.clone_recover.specs.Listing.{ListsRows};
 ghost use Rattle.clone_recover.specs.Restores.{Answers};
 ghost use Rattle.clone_recover.specs.declared.recovery.Recovered.{Recovered};
 ghost use Rattle.clone_trx.specs.Sound.{IsKept};
-ghost use Rattle.clone_apply.specs.Copied.{copied};
+ghost use Rattle.clone_apply.specs.Copied.{completed, copied};
 ghost use Rattle.clone_apply.specs.Holds.{HoldsCopy, IsWholeLog};
+ghost use Rattle.clone_apply.specs.Staged.{IsLogTo, IsPlaced, IsStaged, WasPlaced};
 
 /// What a disk that a clone was laid on holds. A blank disk with the whole log of a donor holds the
-/// rows of the donor's history. A disk that is recovered holds the same clone as before, and the
-/// rows that are listed of it are the clone's.
+/// rows of the donor's history. So does a disk that was laid in stages, if redo by the log from the
+/// checkpoint on makes each page what it is at the stop. A disk that is recovered holds the same
+/// clone as before, and the rows that are listed of it are the clone's.
 pub fn holds_laws()
     ensures copied { (d : Donor) (log : List (List Record)) (end : CloneEnd) (m : DiskImage)
         → IsKept d (replayed log) → IsWholeLog log end → IsEnd end → m.spaces ≡ finite.empty
         → HoldsCopy (copied (log_of log) end m) (fold (history d)) end.position }
+    ensures staged { (d : Donor) (log : List (List Record)) (end : CloneEnd) (m : DiskImage)
+        → IsKept d (replayed log) → IsLogTo end log → IsEnd end → IsStaged end.checkpoint log m
+        → HoldsCopy (completed end m) (fold (history d)) end.position }
     ensures again { (m n : DiskImage) (numbers : Recovered) (rows : Rows) (position : ℕ)
         → HoldsCopy m rows position → numbers.position < 2 ^ 64 → Answers m n numbers
         → HoldsCopy n rows position }
     ensures listed { (m n : DiskImage) (numbers : Recovered) (rows : Rows) (position : ℕ)
         (list : List Row) → HoldsCopy m rows position → numbers.position < 2 ^ 64
         → Answers m n numbers → ListsRows n list → list ≡ rows_in rows }
+{}
+
+/// A page as it was at a moment of the donor's log may be laid, where that isn't before the base:
+/// redo by the log from the base on makes it what the page is, and it may stand at its place.
+pub fn start_laws()
+    ensures since { (space number base : ℕ) (page : Standing) (log : List (List Record))
+        → AllFit space number log → WasPlaced space number log → Since space number base page log
+        → Gives space number base log page × IsPlaced space number page }
+
+    // What was so at each moment stays so with each one that comes.
+    ensures begins { (space number : ℕ) → WasPlaced space number [] }
+    ensures longer { (space number : ℕ) (log : List (List Record)) (m : List Record)
+        → WasPlaced space number log → IsPlaced space number (redone space number (log ++ m ∷ []))
+        → WasPlaced space number (log ++ m ∷ []) }
 {}

@@ -6,4 +6,4 @@ mod copying;
 mod laws;
 
 pub use copying::write_copy;
-pub use laws::holds_laws;
+pub use laws::{holds_laws, start_laws};

@@ -114,17 +114,17 @@ none_records : (end s n : ℕ) (p : Redoing) (rs : List Record) → redo_space �
 none_records end s n p [] high of none = none
 none_records end s n p (r ∷ rs) high of none = none_records end s n (redone_by end s n p r) rs high of.1 (none_by end s n p r high of.0 none)
 
-none_log : (start s n : ℕ) (p : Standing) (mtrs : List (List Record)) → redo_space ≤ s → AreOfTables mtrs → p ≡ no_space → redone_from start s n p mtrs ≡ no_space
+pub none_log : (start s n : ℕ) (p : Standing) (mtrs : List (List Record)) → redo_space ≤ s → AreOfTables mtrs → p ≡ no_space → redone_from start s n p mtrs ≡ no_space
 none_log start s n p [] high of none = none
 none_log start s n p (mtr ∷ mtrs) high of none =
     none_log (end_of start mtr) s n (redone_records (end_of start mtr) s n (record { standing = p; counts = None }) mtr).standing mtrs high of.1
     (none_records (end_of start mtr) s n (record { standing = p; counts = None }) mtr high of.0 none)
 
 -- no page of such a space
-abbrev HasNone : Image → Type 0
+abbrev pub HasNone : Image → Type 0
 HasNone image = (s n : ℕ) → redo_space ≤ s → standing_of image s n ≡ no_space
 
-base_none : (m : DiskImage) → HasNone (image_of m)
+pub base_none : (m : DiskImage) → HasNone (image_of m)
 base_none m s n high =
     ap (λ o. standing_in o n) (get_image m s ∙ ap (λ (b : Bool). cond b (option_map bytes_of (finite.get m.spaces s)) None) (le-ltb s redo_space high))
 

@@ -1,7 +1,8 @@
 -- Recovery gives the rows of the history: it takes changes back, as a transaction does itself.
 use Rattle.std.proofs.Common.{◌≡◌, ◌<◌, ◌≤◌, ◌++◌, ℕ, zero, suc, List, [], ◌∷◌, length, refl, sym, ap, subst, ◌∙◌, arith, inl, inr, Option, Some, None, is_some, append-nil, append_assoc}
-use Rattle.clone_trx.proofs.Common.{option_map_or, cases_eq, Rows, after_changes, Change, Commit, present, row_slot, bound_key, UndoEntry, UndoSlot, Image, page_of, undo_slot_of, HasRows, Contents, contents_of, undone, with_undo, IsFormed, set_at-other, undo_is, Donor, changes_of, TakesBack, HoldsTables, HoldsRows, IsUndoSlot, StandsFor, IsSound, TellsChange, TellsChanges, committed_rows, IsLocked, value_of, changes_by, SameOthers, after_changes-append, changes_of_active, own-set, others-set, value_is, taken_locked}
+use Rattle.clone_trx.proofs.Common.{option_map_or, cases_eq, AllByRecursion, header_page, page_there, Rows, after_change, after_changes, Change, Commit, present, row_slot, bound_key, UndoEntry, UndoSlot, Image, page_of, undo_slot_of, HasRows, Contents, contents_of, undone, with_undo, IsFormed, set_at-other, undo_is, Donor, changes_of, TakesBack, HoldsTables, HoldsRows, IsUndoSlot, StandsFor, IsSound, TellsChange, TellsChanges, committed_rows, IsLocked, value_of, changes_by, SameOthers, after_changes-append, changes_of_active, own-set, others-set, value_is, taken_locked}
 use Rattle.clone_image.specs.Recovered.{taken_back_below, recovered}
+use Rattle.clone_law.specs.Alike.{IsThere, AreThere, CanTakeBack}
 use Rattle.std.specs.FinMap as finite
 use Rattle.clone_image.specs.Recovered as images
 use Rattle.clone_contents.specs.Rows.{IsRowIn}
@@ -224,3 +225,21 @@ module _ (d : Donor) (first now : Image) (is : IsTakenBack d first 64 now) where
 pub recovered_rows : (d : Donor) (image : Image) → IsFormed image → IsSound d (contents_of image) → HasRows (page_of (recovered image)) (committed_rows d)
 unfolding recovered
 recovered_rows d image formed sound = rows_are d image (taken_back_below 64 image) (taken d image formed sound 64 (omega arith))
+
+-- the rows that undo records tell of are there
+rows_there : (d : Donor) (now : Image) (old : Rows) (cs : List Change) (es : List UndoEntry) → IsShown d (contents_of now) → TellsChanges (contents_of now).slot old cs es → AllByRecursion (λ e. IsThere now e.table e.page) es
+rows_there d now old [] [] shown tells = tt
+rows_there d now old [] (e ∷ es) shown tells = absurd tells
+rows_there d now old (c ∷ cs) [] shown tells = absurd tells
+rows_there d now old (c ∷ cs) (e ∷ es) shown tells =
+    (page_there now e.table e.page (bound_there d (contents_of now) e shown.tables shown.rows tells.0.bound), rows_there d now (after_change old c) cs es shown tells.1)
+
+-- taking back names only pages that are there
+pub can_take_back : (d : Donor) (image : Image) → IsFormed image → IsSound d (contents_of image) → CanTakeBack image
+can_take_back d image formed sound = λ s low. at s low (taken_back_below s image) (taken d image formed sound s (omega (arith, low))) (finite.get d.active s) (sound.undo s low)
+  where
+    at : (s : ℕ) → s < 64 → (now : Image) → IsTakenBack d image s now → (o : Option Commit) → StandsFor d (contents_of image).slot o ((contents_of image).undo s) → AreThere now s (undo_slot_of now s)
+    at s low now is None free = subst (AreThere now s) (sym (sym (undo_is now s low) ∙ is.undo s (omega arith) ∙ free)) tt
+    at s low now is (Some commit) own =
+        subst (AreThere now s) (sym (sym (undo_is now s low) ∙ is.undo s (omega arith) ∙ own.is))
+        (page_there now 0 (header_page s) (257, is.formed.size, omega (arith, low)), rows_there is.donor now (committed_rows d) commit.changes own.records is.shown (tells_on (contents_of image).slot (contents_of now).slot (committed_rows d) commit.changes own.records is.keeps own.tells))
