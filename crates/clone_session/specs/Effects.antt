@@ -60,10 +60,6 @@ reopened hello s c = record c {
   session = Some (record s { incarnation = hello.incarnation; snap = begun s.snap.list });
 }
 
-abbrev pub after_hello : Hello → List (ℕ × ℕ) → List (ℕ × ℕ) → Cloning → Cloning
-after_hello hello spaces in_flight c =
-    option_map_or (λ s. reopened hello s c) c.session (opened hello spaces in_flight c)
-
 -- the page's write counts as open, where pages are tracked
 abbrev pub with_noted : ℕ × ℕ → Cloning → Cloning
 with_noted page c = record c {

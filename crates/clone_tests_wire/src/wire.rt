@@ -180,94 +180,119 @@ fn vectors() -> [Vector<'static>; 14] {
     ]
 }
 
-fn frames(alloc: Global) -> Result<[Frame; 14], AllocError> {
+// The frames of commands.
+fn commands(alloc: Global) -> Result<Vec<Frame>, AllocError> {
+    let mut finished = Bitmap::new(alloc, 6)?;
+    finished.set(0);
+    finished.set(2);
+    Ok(Vec::from_array(
+        alloc,
+        [
+            Frame::Init {
+                attempt: ATTEMPT,
+                version: 1,
+                page_size: 4096,
+                compressed: false,
+                tasks: 1,
+            },
+            Frame::Attach {
+                attempt: ATTEMPT,
+                task: 3,
+            },
+            Frame::Reinit {
+                attempt: ATTEMPT,
+                stage: CopyStage::FileCopy,
+                finished,
+            },
+            Frame::Execute {
+                stage: CopyStage::FileCopy,
+            },
+            Frame::Ack {
+                stage: CopyStage::FileCopy,
+                floor: 0,
+            },
+            Frame::Exit,
+        ],
+    )?)
+}
+
+fn stage(plan: StagePlan) -> Frame {
+    Frame::Stage {
+        attempt: ATTEMPT,
+        plan,
+    }
+}
+
+// What is told of each stage.
+fn stages(alloc: Global) -> Result<Vec<Frame>, AllocError> {
     let mut spaces = Spaces::new(alloc);
     spaces.push(SpaceSize {
         space: 0,
         pages: 257,
     })?;
     spaces.push(SpaceSize { space: 1, pages: 4 })?;
-    let mut finished = Bitmap::new(alloc, 6)?;
-    finished.set(0);
-    finished.set(2);
-    Ok([
-        Frame::Init {
-            attempt: ATTEMPT,
-            version: 1,
-            page_size: 4096,
-            compressed: false,
-            tasks: 1,
-        },
-        Frame::Attach {
-            attempt: ATTEMPT,
-            task: 3,
-        },
-        Frame::Reinit {
-            attempt: ATTEMPT,
-            stage: CopyStage::FileCopy,
-            finished,
-        },
-        Frame::Execute {
-            stage: CopyStage::FileCopy,
-        },
-        Frame::Ack {
-            stage: CopyStage::FileCopy,
-            floor: 0,
-        },
-        Frame::Exit,
-        Frame::Stage {
-            attempt: ATTEMPT,
-            plan: StagePlan::FileCopy { chunks: 6, spaces },
-        },
-        Frame::Stage {
-            attempt: ATTEMPT,
-            plan: StagePlan::PageCopy {
+    Ok(Vec::from_array(
+        alloc,
+        [
+            stage(StagePlan::FileCopy { chunks: 6, spaces }),
+            stage(StagePlan::PageCopy {
                 chunks: 1,
                 position: 5,
-            },
-        },
-        Frame::Stage {
-            attempt: ATTEMPT,
-            plan: StagePlan::RedoCopy {
+            }),
+            stage(StagePlan::RedoCopy {
                 chunks: 1,
                 checkpoint: 8192,
                 lsn: 8573,
                 position: 1,
-            },
-        },
-        Frame::Stage {
-            attempt: ATTEMPT,
-            plan: StagePlan::Done {
+            }),
+            stage(StagePlan::Done {
                 checkpoint: 8192,
                 lsn: 8573,
                 position: 1,
+            }),
+        ],
+    )?)
+}
+
+// The other answers, without blocks of pages.
+fn others(alloc: Global) -> Result<Vec<Frame>, AllocError> {
+    Ok(Vec::from_array(
+        alloc,
+        [
+            Frame::Redo {
+                attempt: ATTEMPT,
+                chunk: 2,
+                block: 1,
+                from: 8192,
+                bytes: RedoBytes::new(alloc, &[7, 8, 9])?,
             },
-        },
-        Frame::Redo {
-            attempt: ATTEMPT,
-            chunk: 2,
-            block: 1,
-            from: 8192,
-            bytes: RedoBytes::new(alloc, &[7, 8, 9])?,
-        },
-        Frame::End {
-            attempt: ATTEMPT,
-            stage: CopyStage::PageCopy,
-        },
-        Frame::Refused {
-            refusal: Refusal::ChunksLeft { count: 3 },
-        },
-        Frame::Refused {
-            refusal: Refusal::NoSuchSession,
-        },
-    ])
+            Frame::End {
+                attempt: ATTEMPT,
+                stage: CopyStage::PageCopy,
+            },
+            Frame::Refused {
+                refusal: Refusal::ChunksLeft { count: 3 },
+            },
+            Frame::Refused {
+                refusal: Refusal::NoSuchSession,
+            },
+        ],
+    )?)
+}
+
+// The frames of `vectors`, in its order.
+fn frames(alloc: Global) -> Result<Vec<Frame>, AllocError> {
+    let mut list = commands(alloc)?;
+    list.append(&mut stages(alloc)?)?;
+    list.append(&mut others(alloc)?)?;
+    Ok(list)
 }
 
 // Each frame has its spelling, and the spelling is read as a frame of that spelling.
 #[test]
 fn spells(rt: HostRuntime) -> Result<(), Fail> {
     let alloc = rt.alloc();
-    let list = Vec::from_array(alloc, frames(alloc)?)?;
+    let list = frames(alloc)?;
     for (frame, vector) in list.iter().zip(vectors()) {
         let text = encode(alloc, frame)?;
         assert_eq!(rt; text.as_slice(), vector.bytes);
