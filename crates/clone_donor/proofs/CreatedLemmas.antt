@@ -11,7 +11,7 @@ use Rattle.clone_plain.specs.Causes.{create_cause, whether}
 use Rattle.clone_plain.specs.Donor.{Donor}
 use Rattle.clone_plain.specs.Effects.{created}
 use Rattle.clone_plain.specs.declared.refusal.Cause.{Cause}
-use Rattle.clone_plain.specs.declared.refusal.Cause.TheVariants.{NoSuchTrx, NoSuchTable, TableExists, RowLocked, ValueTooLong, UndoFull, SpaceFull, LogFull, PoolFull, TooManyTransactions, TooManyTables, NotDirty, InFlight, NoFlush, DiskFault}
+use Rattle.clone_plain.specs.declared.refusal.Cause.TheVariants.{NoSuchTrx, NoSuchTable, TableExists, RowLocked, ValueTooLong, UndoFull, SpaceFull, LogFull, PoolFull, TooManyTransactions, TooManyTables, CloneRunning, NotDirty, InFlight, NoFlush, DiskFault}
 use Rattle.clone_plain.specs.declared.refusal.EngineRefusal.{EngineRefusal}
 use Rattle.clone_plain.specs.declared.refusal.EngineRefusal.TheVariants.{Because, NoMemory}
 use Rattle.clone_trx.proofs.CreateLemmas.{may_create}
@@ -39,6 +39,7 @@ is_fault (LogFull need free) = inr (λ e. cc)
 is_fault (PoolFull frames) = inr (λ e. cc)
 is_fault TooManyTransactions = inr (λ e. cc)
 is_fault TooManyTables = inr (λ e. cc)
+is_fault (CloneRunning session) = inr (λ e. cc)
 is_fault NotDirty = inr (λ e. cc)
 is_fault InFlight = inr (λ e. cc)
 is_fault NoFlush = inr (λ e. cc)

@@ -5,7 +5,7 @@ use Rattle.std.specs.Fmt.{decimal}
 use Rattle.clone_model.specs.History.{Row}
 use Rattle.clone_model.specs.Texts.{rows_text, value_text}
 use Rattle.clone_plain.specs.declared.refusal.Cause.{Cause}
-use Rattle.clone_plain.specs.declared.refusal.Cause.TheVariants.{NoSuchTrx, NoSuchTable, TableExists, RowLocked, ValueTooLong, UndoFull, SpaceFull, LogFull, PoolFull, TooManyTransactions, TooManyTables, NotDirty, InFlight, NoFlush, DiskFault}
+use Rattle.clone_plain.specs.declared.refusal.Cause.TheVariants.{NoSuchTrx, NoSuchTable, TableExists, RowLocked, ValueTooLong, UndoFull, SpaceFull, LogFull, PoolFull, TooManyTransactions, TooManyTables, CloneRunning, NotDirty, InFlight, NoFlush, DiskFault}
 use Rattle.clone_plain.specs.declared.refusal.Undone.{Undone}
 use Rattle.clone_plain.specs.declared.refusal.Undone.TheVariants.{Left, Ended}
 use Rattle.clone_plain.specs.Calls.{Done, did_create, did_begin, did_put, did_delete, did_get, did_undo_one, did_commit, did_flush_begin, did_flush_half, did_flush_land, did_oldest_dirty, did_checkpoint, did_end, Made, done, refused}
@@ -26,6 +26,7 @@ refusal_text (LogFull need free) = codes "refused E8 " ++ decimal need ++ codes 
 refusal_text (PoolFull frames) = codes "refused E9 " ++ decimal frames
 refusal_text TooManyTransactions = codes "refused E10"
 refusal_text TooManyTables = codes "refused E11"
+refusal_text (CloneRunning session) = codes "refused E12 " ++ decimal session
 refusal_text NotDirty = codes "refused E14"
 refusal_text InFlight = codes "refused E15"
 refusal_text NoFlush = codes "refused E16"

@@ -3,7 +3,7 @@
 use Rattle.std.specs.Prelude.{ℕ, ◌≡◌, ◌⊎◌, Bool, true, false, List, length, None, Some}
 use Rattle.std.specs.declared.option.Option.{Option}
 use Rattle.clone_plain.specs.declared.refusal.Cause.{Cause}
-use Rattle.clone_plain.specs.declared.refusal.Cause.TheVariants.{NoSuchTrx, NoSuchTable, TableExists, RowLocked, ValueTooLong, UndoFull, SpaceFull, LogFull, PoolFull, TooManyTransactions, TooManyTables, NotDirty, InFlight, NoFlush, DiskFault}
+use Rattle.clone_plain.specs.declared.refusal.Cause.TheVariants.{NoSuchTrx, NoSuchTable, TableExists, RowLocked, ValueTooLong, UndoFull, SpaceFull, LogFull, PoolFull, TooManyTransactions, TooManyTables, CloneRunning, NotDirty, InFlight, NoFlush, DiskFault}
 use Rattle.clone_plain.specs.declared.refusal.Undone.{Undone}
 use Rattle.clone_plain.specs.Donor.{Donor}
 use Rattle.clone_plain.specs.Causes.{create_cause, begin_cause, change_cause, get_cause, no_trx}
@@ -99,8 +99,8 @@ Does d (did_oldest_dirty page) after = after ≡ d
 Does d (did_checkpoint lsn) after = after ≡ d
 Does d (did_end lsn) after = after ≡ d
 
--- a cause that the plain donor doesn't know: a page, the log or the pool is full, a page isn't at
--- this step of a flush, or the disk failed
+-- a cause that the plain donor doesn't know: a page, the log or the pool is full, a clone runs, a
+-- page isn't at this step of a flush, or the disk failed
 abbrev pub is_below : Cause → Bool
 is_below NoSuchTrx = false
 is_below NoSuchTable = false
@@ -113,6 +113,7 @@ is_below (LogFull need free) = true
 is_below (PoolFull frames) = true
 is_below TooManyTransactions = false
 is_below TooManyTables = false
+is_below (CloneRunning session) = true
 is_below NotDirty = true
 is_below InFlight = true
 is_below NoFlush = true

@@ -37,6 +37,11 @@ pub enum Cause {
     TooManyTransactions,
     /// E11: 62 tables are there.
     TooManyTables,
+    /// E12: a session of a clone stands, so no table is made.
+    CloneRunning {
+        /// Its number.
+        session: u64,
+    },
     /// E14: the page isn't dirty.
     NotDirty,
     /// E15: a flush of the page has begun, and has neither landed nor failed.
@@ -67,6 +72,7 @@ impl fmt::Display for Cause {
             Cause::PoolFull { frames } => write!(f, "refused E9 {frames}"),
             Cause::TooManyTransactions => f.write_str("refused E10"),
             Cause::TooManyTables => f.write_str("refused E11"),
+            Cause::CloneRunning { session } => write!(f, "refused E12 {session}"),
             Cause::NotDirty => f.write_str("refused E14"),
             Cause::InFlight => f.write_str("refused E15"),
             Cause::NoFlush => f.write_str("refused E16"),

@@ -2,7 +2,7 @@ use clone_plain::Cause;
 use std::test::Fail;
 
 /// Each refusal with its text.
-const REFUSALS: [(Cause, &str); 14] = [
+const REFUSALS: [(Cause, &str); 15] = [
     (Cause::NoSuchTrx, "refused E1"),
     (Cause::NoSuchTable, "refused E2"),
     (Cause::TableExists, "refused E3"),
@@ -25,6 +25,7 @@ const REFUSALS: [(Cause, &str); 14] = [
     (Cause::PoolFull { frames: 16 }, "refused E9 16"),
     (Cause::TooManyTransactions, "refused E10"),
     (Cause::TooManyTables, "refused E11"),
+    (Cause::CloneRunning { session: 3 }, "refused E12 3"),
     (Cause::DiskFault, "refused E17"),
 ];
 

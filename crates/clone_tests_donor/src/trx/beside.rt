@@ -284,6 +284,7 @@ fn number_of(cause: Cause) -> usize {
         Cause::PoolFull { .. } => 9,
         Cause::TooManyTransactions => 10,
         Cause::TooManyTables => 11,
+        Cause::CloneRunning { .. } => 12,
         Cause::NotDirty => 14,
         Cause::InFlight => 15,
         Cause::NoFlush => 16,
