@@ -29,7 +29,7 @@ header_kind image s slot formed small is =
 
 -- the page of an undo slot's header
 pub header_stands : (image : Image) (s : ℕ) (slot : UndoSlot) → IsFormed image → s < 64 → undo_slot_of image s ≡ Some slot → IsOfPlace 0 (header_page s) (all_pages image 0 (header_page s))
-header_stands image s slot formed small is = undo_page image (header_page s) formed (omega (arith, small)) (header_kind image s slot formed small is)
+header_stands image s slot formed small is = undo_page image (header_page s) formed (λ z. omega (arith, z)) (omega (arith, small)) (header_kind image s slot formed small is)
 
 module _ (image : Image) (lsn s : ℕ) (slot : UndoSlot) (e : UndoEntry) (value : Option (List ℕ)) (formed : IsFormed image) (may : MayChange (contents_of image) s slot e value) where
   abbrev pages : ℕ → ℕ → List ℕ
@@ -78,7 +78,7 @@ module _ (image : Image) (lsn s : ℕ) (slot : UndoSlot) (e : UndoEntry) (value 
   fits : FitAll lsn written pages
   fits =
       change_fits unused row_unused lsn s count e bytes pages may.in_range eighty (header_stands image s slot formed may.small used)
-      (λ made. undo_page image (record_page s count) formed (omega (arith, may.room, may.small)) (used_kind 2 (pages 0 (record_page s count)) record_kind made))
+      (λ made. undo_page image (record_page s count) formed (λ z. omega (arith, z)) (omega (arith, may.room, may.small)) (used_kind 2 (pages 0 (record_page s count)) record_kind made))
       (λ made. table_page image e.table e.page found.0 formed in_table found.1 (used_kind 3 found.0 (formed.tables e.table e.page found.0 in_table found.1) (sym told ∙ made)))
 
   stay : (t m : ℕ) → (t ≡ 0 → m ≡ 0) → (t ≡ e.table → m ≡ e.page → ⊥) → after lsn written pages t m ≡ pages t m

@@ -32,7 +32,8 @@ row_allowed j bytes within eighty = (omega (arith, eighty), inr (omega arith, om
 
 row_fits : (row_unused : Bool) (lsn : ℕ) (e : UndoEntry) (bytes : List ℕ) (pages : ℕ → ℕ → List ℕ) → IsEntry e → length bytes ≡ 80 → (row_unused ≡ false → IsOfPlace e.table e.page (pages e.table e.page)) → FitAll lsn (made_first row_unused e.table e.page Bucket ++ row_record e bytes ∷ []) pages
 row_fits true lsn e bytes pages is eighty row =
-    let made : FitsOn (Init e.table e.page Bucket) pages = (λ zero. absurd (omega (arith, zero, is.place.0)), λ behind. refl) in
+    let in_table : e.table ≢ 0 = λ zero. omega (arith, zero, is.place.0) in
+    let made : FitsOn (Init e.table e.page Bucket) pages = (λ zero. absurd (in_table zero), λ zero. absurd (in_table zero), λ behind. refl) in
     (made, ((row_allowed e.slot bytes is.place.3 eighty, made_stands lsn e.table e.page Bucket pages made), tt))
 row_fits false lsn e bytes pages is eighty row = ((row_allowed e.slot bytes is.place.3 eighty, row refl), tt)
 
@@ -52,7 +53,7 @@ written_fits row_unused lsn s n e bytes pages is eighty header place row =
 pub change_fits : (unused row_unused : Bool) (lsn s n : ℕ) (e : UndoEntry) (bytes : List ℕ) (pages : ℕ → ℕ → List ℕ) → IsEntry e → length bytes ≡ 80 → IsOfPlace 0 (header_page s) (pages 0 (header_page s))
     → (unused ≡ false → IsOfPlace 0 (record_page s n) (pages 0 (record_page s n))) → (row_unused ≡ false → IsOfPlace e.table e.page (pages e.table e.page)) → FitAll lsn (records_of_change unused row_unused s n e bytes) pages
 change_fits true row_unused lsn s n e bytes pages is eighty header place row =
-    let made : FitsOn (Init 0 (record_page s n) Undo) pages = (λ zero behind. refl, λ behind. absurd (behind refl)) in
+    let made : FitsOn (Init 0 (record_page s n) Undo) pages = (λ zero first. omega (arith, first), λ zero behind. refl, λ behind. absurd (behind refl)) in
     let init : Record = Init 0 (record_page s n) Undo in (
       made,
       written_fits row_unused lsn s n e bytes (after_record lsn init pages) is eighty (stays lsn init pages 0 (header_page s) made header) (made_stands lsn 0 (record_page s n) Undo pages made) (λ used. stays lsn init pages e.table e.page made (row used)),

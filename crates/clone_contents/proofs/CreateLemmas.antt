@@ -1,6 +1,6 @@
 -- A table is made, for the contents: its space is made, and it is named in the dictionary.
 use Rattle.std.proofs.Common.{◌≡◌, ◌≢◌, ◌<◌, ◌≤◌, ◌+◌, ◌*◌, ◌⊎◌, ℕ, cond, eqb, List, [], ◌∷◌, length, get_or, replicate, take, refl, sym, ap, subst, ◌∙◌, arith, inl, inr, Option, Some, None, unwrap_or, option_map, option_and_then, slice_get, slice_index, nat_lt}
-use Rattle.clone_contents.proofs.Common.{drop-nil, cases_eq, cases_lt, get_or-replicate, length-replicate, same_Some, slice_get_within, slice_get-get_or, put_at, field, entry_at, entry, entry_space, position_at, zero_page, slot, entry_space-put_entry_same, entry_space-put_entry_other, field-put_at_other, Write, unused, slots, slot_in, slot_in-slots, slot_in-past, slot_of-unused, slots-zero, Image, page_of, all_pages, after_records, get-put_same, get-put_other, page_of-elsewhere, Contents, contents_of, set_at, IsFormed, IsOrUnused, HasContents, create_records, MayCreate, created}
+use Rattle.clone_contents.proofs.Common.{drop-nil, cases_eq, cases_lt, get_or-replicate, length-replicate, same_Some, slice_get_within, slice_get-get_or, put_at, field, entry_at, entry, entry_space, position_at, kind_of, zero_page, slot, entry_space-put_entry_same, entry_space-put_entry_other, field-put_at_other, Write, unused, slots, slot_in, slot_in-slots, slot_in-past, slot_of-unused, slots-zero, Image, page_of, all_pages, after_records, get-put_same, get-put_other, page_of-elsewhere, Contents, contents_of, set_at, IsFormed, IsOrUnused, HasContents, create_records, MayCreate, created}
 use Rattle.std.specs.FinMap as finite
 use Rattle.clone_undo.proofs.Effects as undo
 use Rattle.clone_contents.proofs.SameContents.{set_at-same, set_at-other, same_contents}
@@ -70,6 +70,7 @@ module _ (image : Image) (table buckets : ℕ) (formed : IsFormed image) (behind
         | inr other ↦ formed.whole t n page (sym (others t n other) ∙ is)
       ];
       size = ap (option_map length) (get-put_other image table 0 (replicate buckets zero_page) system_other) ∙ formed.size;
+      system = ap kind_of (all_others 0 0 system_other) ∙ formed.system;
       undo = λ n first within. subst (IsOrUnused 2) (sym (all_others 0 n system_other)) (formed.undo n first within);
       tables = λ t n page first is. elim (cases_eq t table) [
         | inl same ↦ inr (zeros t n page same is)

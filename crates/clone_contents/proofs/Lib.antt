@@ -13,6 +13,7 @@ pub mod UndoSlotLemmas
 pub mod SystemLemmas
 pub mod CreateLemmas
 pub mod OpeningLemmas
+pub mod PlacedLemmas
 pub mod CommitLemmas
 pub mod FindLemmas
 pub mod RowLemmas

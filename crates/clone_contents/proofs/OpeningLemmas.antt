@@ -1,6 +1,6 @@
 -- What opening leaves, for the contents.
 use Rattle.std.proofs.Common.{◌≡◌, ◌≢◌, ◌<◌, ◌≤◌, ◌⊎◌, ℕ, Bool, true, false, cond, eqb, List, length, replicate, refl, sym, ap, ◌∙◌, arith, inl, inr, Option, Some, None, option_map, nat_lt, nat_cmp, eq-eqb, le-ltb}
-use Rattle.clone_contents.proofs.Common.{cases_eq, cases_lt, drop-replicate, take-replicate, length-replicate, same_Some, part, field, entry_space, position_at, zero_page, initialised, header, trailer, System, entry_space-initialised, field-part, part-zeros, length-initialised, unused, slots, slot_in, header_page, UndoSlot, active_of, slot-free, Image, page_of, all_pages, page_count, after_records, undo_slot_of, get-put_same, get-put_other, page_of-edited_same, page_of-edited_other, page_of-made, all_pages-is, page_count-edited, contents_of, set_at, IsFormed, HasContents, opening_records, opened}
+use Rattle.clone_contents.proofs.Common.{cases_eq, cases_lt, drop-replicate, take-replicate, length-replicate, same_Some, part, field, entry_space, position_at, kind_of, kind_of-initialised, zero_page, initialised, header, trailer, System, entry_space-initialised, field-part, part-zeros, length-initialised, unused, slots, slot_in, header_page, UndoSlot, active_of, slot-free, Image, page_of, all_pages, page_count, after_records, undo_slot_of, get-put_same, get-put_other, page_of-edited_same, page_of-edited_other, page_of-made, all_pages-is, page_count-edited, contents_of, set_at, IsFormed, HasContents, opening_records, opened}
 use Rattle.std.specs.FinMap as finite
 use Rattle.std.specs.FinMap.{get-empty}
 use Rattle.clone_contents.proofs.SameContents.{set_at-same, set_at-other, same_contents}
@@ -49,10 +49,14 @@ module _ (lsn : ℕ) where
   zero_there : (n : ℕ) → n ≢ 0 → n < 257 → all_pages new 0 n ≡ zero_page
   zero_there n behind within = all_pages-is new 0 n zero_page (others 0 n (λ z m. behind m) ∙ page_of-made none 0 257 n within)
 
+  page_now : all_pages new 0 0 ≡ first
+  page_now = all_pages-is new 0 0 first system_is
+
   new_formed : IsFormed new
   new_formed = record {
     whole = λ t n page is. whole t n page is (cases_eq t 0) (cases_eq n 0);
     size = size_is 0 ∙ set_at-same 0 0 (Some 257) (λ s. None) refl;
+    system = ap kind_of page_now ∙ kind_of-initialised 0 0 System lsn;
     undo = λ n behind within. inr (zero_there n behind within);
     tables = λ t n page behind is. absurd (let e = sym is ∙ nothing t n behind in cc);
   }
@@ -61,9 +65,6 @@ module _ (lsn : ℕ) where
       whole t n page is (inr behind) second = absurd (let e = sym is ∙ nothing t n behind in cc)
       whole t n page is (inl zero) (inl it) = ap length (same_Some page first (sym is ∙ (λ i. page_of new (zero i) (it i)) ∙ system_is)) ∙ length-initialised 0 0 System lsn
       whole t n page is (inl zero) (inr apart) = ap length (made_zeros none 0 257 n page (ap (λ m. page_of space m n) (sym zero) ∙ sym (others t n (λ z m. apart m)) ∙ is)) ∙ length-replicate {A = ℕ} 4096 0
-
-  page_now : all_pages new 0 0 ≡ first
-  page_now = all_pages-is new 0 0 first system_is
 
   named_is : (j : ℕ) → (j < 62) ⊎ (62 ≤ j) → (contents_of new).named j ≡ 0
   named_is j (inl low) = named_on new j low ∙ ap (entry_space j) page_now ∙ entry_space-initialised j 0 0 System lsn low

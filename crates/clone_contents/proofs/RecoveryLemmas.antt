@@ -51,6 +51,9 @@ module _ (image : Image) (space number at : ℕ) (piece : List ℕ) (g : PutsOn 
       by (inl a) (inr b) = inr (others t n (λ x y. b y))
       by (inr a) second = inr (others t n (λ x y. a x))
 
+  system_page : all_pages put 0 0 ≡ all_pages image 0 0
+  system_page = all_others 0 0 (λ x y. g.apart (sym x) (sym y))
+
   pub put_formed : IsFormed put
   put_formed = record {
     whole = λ t n page is. elim (either t n) [
@@ -58,6 +61,7 @@ module _ (image : Image) (space number at : ℕ) (piece : List ℕ) (g : PutsOn 
       | inr same ↦ g.formed.whole t n page (sym same ∙ is)
     ];
     size = page_count-edited image space number 0 (put_at at piece) ∙ g.formed.size;
+    system = ap kind_of system_page ∙ g.formed.system;
     undo = λ n behind within. elim (either 0 n) [
       | inl own ↦ inl (ap kind_of own.1 ∙ kind ∙ g.system (sym own.0))
       | inr same ↦ subst (IsOrUnused 2) (sym (ap (λ (o : Option (List ℕ)). unwrap_or o []) same)) (g.formed.undo n behind within)
@@ -67,9 +71,6 @@ module _ (image : Image) (space number at : ℕ) (piece : List ℕ) (g : PutsOn 
       | inr same ↦ g.formed.tables t n page behind (sym same ∙ is)
     ];
   }
-
-  system_page : all_pages put 0 0 ≡ all_pages image 0 0
-  system_page = all_others 0 0 (λ x y. g.apart (sym x) (sym y))
 
   -- contents of which the slots and the undo slots are these
   pub put_contents : (c : Contents) → ((j : ℕ) → (contents_of image).named j ≡ c.named j) → ((s : ℕ) → (contents_of image).size s ≡ c.size s) → (contents_of image).position ≡ c.position

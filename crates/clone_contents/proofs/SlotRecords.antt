@@ -1,6 +1,6 @@
 -- Mini-transactions that change one undo slot, and at most one row slot.
 use Rattle.std.proofs.Common.{◌≡◌, ◌≢◌, ◌<◌, ◌≤◌, ◌⊎◌, ◌==◌, ℕ, Bool, cond, ltb, List, [], length, set, sym, ap, ◌∙◌, arith, inl, inr, Option, Some, None, IfSome, unwrap_or, lt-ltb, le-ltb}
-use Rattle.clone_contents.proofs.Common.{AllByRecursion, cases_eq, cases_lt, field, entry_space, position_at, kind_of, Record, Slot, unused, slots, row_slot, UndoEntry, IsEntry, UndoSlot, undo_slot, after, after_row, Image, page_of, all_pages, after_records, EditsPages, undo_slot_of, all_pages-is, records_counts, contents_of, with_slot, with_undo, set_at, IsFormed, HasContents}
+use Rattle.clone_contents.proofs.Common.{AllByRecursion, cases_eq, cases_lt, field, entry_space, position_at, kind_of, Record, Slot, slots, row_slot, UndoEntry, IsEntry, UndoSlot, undo_slot, after, after_row, Image, page_of, all_pages, after_records, EditsPages, undo_slot_of, all_pages-is, records_counts, contents_of, with_slot, with_undo, set_at, IsFormed, HasContents}
 use Rattle.clone_row.specs.Slots as rows
 use Rattle.clone_contents.proofs.SameContents.{set_at-same, set_at-other, same_contents}
 use Rattle.clone_contents.proofs.RowSlots.{slots_same, slot_set}

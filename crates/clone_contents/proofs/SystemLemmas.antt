@@ -45,7 +45,7 @@ module _ (image : Image) (lsn at : ℕ) (piece : List ℕ) (formed : IsFormed im
   -- the dictionary and the position are those of the new page
   pub system_written : (names : ℕ → ℕ) (position : ℕ) → ((j : ℕ) → j < 62 → entry_space j put ≡ names j) → ((j : ℕ) → 62 ≤ j → names j ≡ 0) → field position_at 8 put ≡ position → HasContents new (record (contents_of image) { named = names; position = position })
   system_written names position within past is = (
-    formed_after lsn image write formed ((allowed, record { whole = system_long image formed; system = λ z behind. absurd (behind refl); table = λ behind. absurd (behind refl) }), tt),
+    formed_after lsn image write formed ((allowed, record { whole = system_long image formed; system = λ z first. formed.system; undo = λ z behind. absurd (behind refl); table = λ behind. absurd (behind refl) }), tt),
     same_contents (contents_of new) (record (contents_of image) { named = names; position = position })
         (λ j. elim (cases_lt j 62) [
           | inl low ↦ named_on new j low ∙ ap (entry_space j) now ∙ entry_space-with_lsn j lsn put low long ∙ within j low

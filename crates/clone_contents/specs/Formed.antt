@@ -12,6 +12,7 @@ IsOrUnused kind page = (kind_of page ≡ kind) ⊎ (page ≡ zero_page)
 pub record IsFormed (image : Image) : Type 0 where
   pub whole : AreWholePages image
   pub size : page_count image 0 ≡ Some system_size
+  pub system : kind_of (all_pages image 0 0) ≡ 1
   pub undo : (number : ℕ) → number ≢ 0 → number < system_size
       → IsOrUnused 2 (all_pages image 0 number)
   pub tables : (table number : ℕ) (page : List ℕ) → table ≢ 0

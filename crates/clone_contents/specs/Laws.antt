@@ -1,9 +1,12 @@
 -- The laws of contents: what each mini-transaction, each edit of recovery and each look-up says of
--- a formed image.
-use Rattle.std.specs.Prelude.{ℕ, ◌≡◌, ◌≢◌, ◌<◌, ◌^◌, List, length, None, Some}
+-- a formed image, and where its pages stand.
+use Rattle.std.specs.Prelude.{ℕ, ◌≡◌, ◌≢◌, ◌<◌, ◌+◌, ◌^◌, List, [], ◌∷◌, ◌++◌, length, None, Some}
 use Rattle.std.specs.declared.option.Option.{Option}
+use Rattle.std.specs.List.{AllByRecursion}
 use Rattle.std.specs.FinMap as finite
 use Rattle.clone_model.specs.History.{Row}
+use Rattle.clone_mtr.specs.declared.record.Record.{Record}
+use Rattle.clone_mtr.specs.Spelling.{log_of}
 use Rattle.clone_row.specs.Slots as rows
 use Rattle.clone_row.specs.Slots.{slots, slot_in, Finds, FindsFree}
 use Rattle.clone_undo.specs.Entries.{UndoEntry}
@@ -12,10 +15,12 @@ use Rattle.clone_undo.specs.Slots.{UndoSlot}
 use Rattle.clone_undo.specs.Changes.{records_of_begin, records_of_change, records_of_taking_back, records_of_end}
 use Rattle.clone_image.specs.Image.{Image, page_of, after_records}
 use Rattle.clone_image.specs.Recovered as recovered
+use Rattle.clone_image.specs.Replay.{first_lsn, replayed, IsSpelled}
 use Rattle.clone_image.specs.Rows.{IsRow}
 use Rattle.clone_contents.specs.Contents.{contents_of, undone, with_undo}
 use Rattle.clone_contents.specs.Finding.{FindsIn, FindsFreeIn}
 use Rattle.clone_contents.specs.Formed.{IsFormed, HasContents}
+use Rattle.clone_contents.specs.Placed.{WasPlaced}
 use Rattle.clone_contents.specs.Records.{opening_records, create_records, commit_records}
 use Rattle.clone_contents.specs.Rows.{IsRowIn}
 use Rattle.clone_contents.specs.Steps.{is_unused, opened, MayCreate, created, MayBegin, begun, MayChange, changed, MayTakeBack, taken_back, ended, committed, MayUndo}
@@ -116,3 +121,18 @@ FreeFound =
     (image : Image) (table number : ℕ) (page : List ℕ) (found : Option ℕ) → table ≢ 0
     → page_of image table number ≡ Some page
     → FindsFree (slots page) found → FindsFreeIn (contents_of image) table number found
+
+-- Where pages stand.
+
+-- before the first mini-transaction no page is there
+abbrev pub PlacedFirst : Type 0
+PlacedFirst = (space number : ℕ) → WasPlaced space number []
+
+-- with one more mini-transaction that leaves a formed image, the page was at its place at each
+-- moment still
+abbrev pub PlacedLonger : Type 0
+PlacedLonger =
+    (log : List (List Record)) (m : List Record) → AllByRecursion IsSpelled log → IsSpelled m
+    → first_lsn + length (log_of (log ++ m ∷ [])) < 2 ^ 64
+    → IsFormed (replayed (log ++ m ∷ []))
+    → (space number : ℕ) → WasPlaced space number log → WasPlaced space number (log ++ m ∷ [])

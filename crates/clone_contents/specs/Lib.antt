@@ -1,5 +1,6 @@
 pub mod Contents
 pub mod Formed
+pub mod Placed
 pub mod Records
 pub mod Steps
 pub mod Rows

@@ -1,6 +1,7 @@
 ghost use Rattle.clone_contents.specs.Laws.{OpeningLaw, CreateLaw, BeginLaw, ChangeLaw};
 ghost use Rattle.clone_contents.specs.Laws.{TakingBackLaw, EndLaw, CommitLaw, UndoingLaw, FreeingLaw};
 ghost use Rattle.clone_contents.specs.Laws.{RowsShown, RowsContained, SlotsContained, KeysFound, FreeFound};
+ghost use Rattle.clone_contents.specs.Laws.{PlacedFirst, PlacedLonger};
 
 /// What opening leaves: a system space of 257 pages, no table, no undo slot in use, and no commit.
 pub fn opening_law()
@@ -64,4 +65,11 @@ pub fn find_laws()
     ensures slot { SlotsContained }
     ensures bound { KeysFound }
     ensures free { FreeFound }
+{}
+
+/// At each moment of a log of mini-transactions that leave formed images, each page isn't there, is
+/// zero, or is well formed at its place. So it is before the log, and stays with each that comes.
+pub fn placed_laws()
+    ensures begins { PlacedFirst }
+    ensures grows { PlacedLonger }
 {}

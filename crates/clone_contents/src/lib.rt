@@ -6,7 +6,7 @@ mod laws;
 
 pub use laws::{
     begin_law, change_law, commit_law, create_law, end_law, find_laws, freeing_law, opening_law,
-    rows_law, taking_back_law, undoing_law,
+    placed_laws, rows_law, taking_back_law, undoing_law,
 };
 
 /// How many pages the system space has: the system page, and four for each of 64 undo slots.
