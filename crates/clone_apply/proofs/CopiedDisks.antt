@@ -17,6 +17,7 @@ use Rattle.clone_mtr.specs.declared.record.Record.{Record}
 use Rattle.clone_mtr.proofs.Spellings.{spelling_some}
 use Rattle.clone_image.specs.Redone.{no_space, redone, redone_from, standing_in, standing_of}
 use Rattle.clone_image.specs.Replay.{first_lsn}
+use Rattle.clone_contents.specs.Placed.{IsPlaced}
 use Rattle.clone_law.specs.Starts.{Gives}
 use Rattle.clone_law.proofs.TouchLemmas.{Lax-same}
 use Rattle.clone_overlay.specs.Images.{redo_space, bytes_of, image_of, IsQuiet}
@@ -26,7 +27,7 @@ use Rattle.clone_recover.specs.Reading.{joined, redo_of}
 use Rattle.clone_recover.specs.Written.{whole_written}
 use Rattle.clone_apply.specs.Copied.{page_count, redo_page, held_redo, with_redo}
 use Rattle.clone_apply.specs.Holds.{IsWholeLog}
-use Rattle.clone_apply.specs.Staged.{IsPlaced, IsStaged}
+use Rattle.clone_apply.specs.Staged.{IsStaged}
 use Rattle.clone_apply.proofs.RedoPages.{first_bytes}
 
 -- a page that no write is open of, if there is one

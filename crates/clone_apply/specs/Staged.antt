@@ -1,17 +1,17 @@
 -- A recipient's disk on which a clone was laid in stages, and the donor's log at the stop.
-use Rattle.std.specs.Prelude.{ℕ, ◌≡◌, ◌<◌, List, ◌++◌, length, None}
+use Rattle.std.specs.Prelude.{ℕ, ◌≡◌, ◌<◌, List, length, None}
 use Rattle.std.specs.List.{AllByRecursion}
 use Rattle.clone_outside.specs.Disk.{DiskImage}
 use Rattle.clone_outside.specs.declared.mark.CloneEnd.{CloneEnd}
 use Rattle.clone_mtr.specs.declared.record.Record.{Record}
 use Rattle.clone_mtr.specs.Spelling.{log_of}
 use Rattle.clone_image.specs.Image.{page_of}
-use Rattle.clone_image.specs.Redone.{Standing, no_space, past_end, stands, redone, standing_of}
+use Rattle.clone_image.specs.Redone.{standing_of}
 use Rattle.clone_image.specs.Replay.{IsSpelled, replayed}
+use Rattle.clone_contents.specs.Placed.{IsPlaced}
 use Rattle.clone_law.specs.Since.{ends, IsAt}
 use Rattle.clone_law.specs.Starts.{Gives}
 use Rattle.clone_overlay.specs.Images.{redo_space, image_of, IsQuiet}
-use Rattle.clone_overlay.specs.Shown.{IsPage}
 use Rattle.clone_recover.specs.Reading.{AreOfTables, redo_of}
 
 -- The log ends where the clone does. It has the spellings of mini-transactions that name tables and
@@ -20,18 +20,6 @@ pub record IsLogTo (end : CloneEnd) (log : List (List Record)) : Type 0 where
   pub each : AllByRecursion IsSpelled log
   pub tables : AreOfTables log
   pub stop : end.lsn ≡ ends log
-
--- the page isn't there, or may stand at its place
-abbrev pub IsPlaced : ℕ → ℕ → Standing → Type 0
-IsPlaced space number no_space = Unit {0}
-IsPlaced space number past_end = Unit {0}
-IsPlaced space number (stands page) = IsPage space number page
-
--- so it was at each moment of the log
-abbrev pub WasPlaced : ℕ → ℕ → List (List Record) → Type 0
-WasPlaced space number log =
-    (front rest : List (List Record)) → log ≡ front ++ rest
-    → IsPlaced space number (redone space number front)
 
 -- What is on a disk once the stages of a clone were laid, with the redo from a base on.
 pub record IsStaged (base : ℕ) (log : List (List Record)) (m : DiskImage) : Type 0 where

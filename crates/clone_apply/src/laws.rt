@@ -1,4 +1,4 @@
-ghost use Rattle.std.specs.Prelude.{◌≡◌, ◌<◌, ◌^◌, ◌++◌, ◌∷◌, ℕ, List, []};
+ghost use Rattle.std.specs.Prelude.{◌≡◌, ◌<◌, ◌^◌, ℕ, List};
 ghost use Rattle.std.specs.FinMap as finite;
 ghost use Rattle.clone_model.specs.History.{Row, Rows, fold, rows_in};
 ghost use Rattle.clone_outside.specs.Disk.{DiskImage};
@@ -6,8 +6,9 @@ ghost use Rattle.clone_outside.specs.Mark.{IsEnd};
 ghost use Rattle.clone_outside.specs.declared.mark.CloneEnd.{CloneEnd};
 ghost use Rattle.clone_mtr.specs.declared.record.Record.{Record};
 ghost use Rattle.clone_mtr.specs.Spelling.{log_of};
-ghost use Rattle.clone_image.specs.Redone.{Standing, redone};
+ghost use Rattle.clone_image.specs.Redone.{Standing};
 ghost use Rattle.clone_image.specs.Replay.{replayed};
+ghost use Rattle.clone_contents.specs.Placed.{IsPlaced, WasPlaced};
 ghost use Rattle.clone_law.specs.Since.{AllFit, Since};
 ghost use Rattle.clone_law.specs.Starts.{Gives};
 ghost use Rattle.clone_plain.specs.Donor.{Donor, history};
@@ -17,7 +18,7 @@ ghost use Rattle.clone_recover.specs.declared.recovery.Recovered.{Recovered};
 ghost use Rattle.clone_trx.specs.Sound.{IsKept};
 ghost use Rattle.clone_apply.specs.Copied.{completed, copied};
 ghost use Rattle.clone_apply.specs.Holds.{HoldsCopy, IsWholeLog};
-ghost use Rattle.clone_apply.specs.Staged.{IsLogTo, IsPlaced, IsStaged, WasPlaced};
+ghost use Rattle.clone_apply.specs.Staged.{IsLogTo, IsStaged};
 
 /// What a disk that a clone was laid on holds. A blank disk with the whole log of a donor holds the
 /// rows of the donor's history. So does a disk that was laid in stages, if redo by the log from the
@@ -44,10 +45,4 @@ pub fn start_laws()
     ensures since { (space number base : ℕ) (page : Standing) (log : List (List Record))
         → AllFit space number log → WasPlaced space number log → Since space number base page log
         → Gives space number base log page × IsPlaced space number page }
-
-    // What was so at each moment stays so with each one that comes.
-    ensures begins { (space number : ℕ) → WasPlaced space number [] }
-    ensures longer { (space number : ℕ) (log : List (List Record)) (m : List Record)
-        → WasPlaced space number log → IsPlaced space number (redone space number (log ++ m ∷ []))
-        → WasPlaced space number (log ++ m ∷ []) }
 {}
