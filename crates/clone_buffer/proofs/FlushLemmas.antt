@@ -16,7 +16,7 @@ use Rattle.clone_law.specs.Machine as machine
 use Rattle.clone_law.specs.Machine.{Flight, Begun, Half, Landed, Checkpointed, AtMost}
 use Rattle.clone_law.proofs.ExampleLemmas.{at_end}
 use Rattle.clone_pool.specs.declared.frame.Flush.TheVariants as flush
-use Rattle.clone_pool.specs.Frames.{is_dirty, begun, landed, failed}
+use Rattle.clone_pool.specs.Frames.{is_dirty, counts_as_open, begun, landed, failed}
 use Rattle.clone_pool.specs.Pool.{IsFrame}
 use Rattle.clone_buffer.specs.OnePage.{standing_at, standing_in, oldest_in, flush_in, world_with}
 use Rattle.clone_buffer.specs.Flushing.{with_image, with_begun, with_noted, with_change, Changes, BeginKeeps, OpenKeeps, LandKeeps, RestLands, FailKeeps, CheckpointKeeps}
@@ -136,6 +136,7 @@ undisturbed log beside beside' m m' s n frame point same disks k =
     record {
       rule = subst (Rule s n) new k.rule;
       dirty = λ t. k.dirty (sym (ap writes disks.0) ∙ t);
+      opened = λ t. k.opened (sym (ap writes disks.0) ∙ t);
       flights = subst (λ (x : Option (List ℕ)). IsTrue (is_begun (flush_in frame)) ↔ IsSome x) (sym same.0) k.flights;
     }
 
@@ -159,6 +160,11 @@ begun_later : (x : Flush) → is_begun x ≡ true → (later : Option ℕ) × (x
 begun_later flush.Idle is = absurd (false≢true is)
 begun_later (flush.Begun later) is = (later, refl)
 begun_later flush.Failed is = absurd (false≢true is)
+
+begun_counts : (x : Flush) → is_begun x ≡ true → counts_as_open x ≡ true
+begun_counts flush.Idle is = absurd (false≢true is)
+begun_counts (flush.Begun later) is = refl
+begun_counts flush.Failed is = absurd (false≢true is)
 
 flown : (x : Flush) (image : Option (List ℕ)) → is_begun x ≡ true → IsSome image → (i : Flight) × (flight_of x image ≡ Some i)
 flown flush.Idle image is there = absurd (false≢true is)
@@ -188,6 +194,7 @@ module _ (log : List (List Record)) (beside : Beside) (m : DiskImage) (page : Pa
       record {
         rule = subst (Rule page.space page.number) (λ i. world (sym (noted_this page beside.copy) i) (record (engine f) { flight = flight_of (flush.Begun None) (sym image i) })) (rule_kept page.space page.number (world copy (engine f)) (Begun f.page) k.rule refl);
         dirty = k.dirty;
+        opened = λ t. refl;
         flights = (λ t. subst IsSome (sym image) refl, λ t. refl);
       }
 
@@ -200,6 +207,7 @@ module _ (log : List (List Record)) (beside : Beside) (m : DiskImage) (page : Pa
         rule = subst (Ruled page.space page.number copy) (λ i. record (engine f) { disk = sym now.1 i; writing = writing i })
             (rule_kept page.space page.number (world copy (engine f)) (Half (stands (edit held).bytes)) k.rule (flown f.flush (beside.image page.space page.number) flies (k.flights.0 flies)));
         dirty = λ t. dirty;
+        opened = λ t. begun_counts f.flush flies;
         flights = k.flights;
       }
 
@@ -216,6 +224,7 @@ module _ (log : List (List Record)) (beside : Beside) (m : DiskImage) (page : Pa
       record {
         rule = subst (Ruled page.space page.number copy) (λ i. record (engine g) { disk = bytes i; writing = sym closed i; oldest = later; flight = None }) (subst (Ruled page.space page.number copy) flies (rule_kept page.space page.number (world copy (engine g)) Landed k.rule tt));
         dirty = λ t. absurd (true≢false (sym t ∙ closed));
+        opened = λ t. absurd (true≢false (sym t ∙ closed));
         flights = subst (λ (x : Option (List ℕ)). IsTrue false ↔ IsSome x) (sym none) (λ t. t, λ t. t);
       }
 
@@ -225,6 +234,7 @@ module _ (log : List (List Record)) (beside : Beside) (m : DiskImage) (page : Pa
         let r = k.rule.engine in
         record { engine = record { fits = r.fits; framed = r.framed; quiet = r.quiet; flying = tt; order = tt; bare = tt; low = r.low; aligned = r.aligned }; copy = copy_stays page.space page.number (engine f) (engine f).disk (engine f).writing None copy (λ closed. closed) (λ _. refl) k.rule.copy };
     dirty = k.dirty;
+    opened = λ t. refl;
     flights = subst (λ (x : Option (List ℕ)). IsTrue false ↔ IsSome x) (sym (image_this page None beside)) (λ t. t, λ t. t);
   }
 
@@ -343,6 +353,7 @@ module _ (v : Buffered) (beside : Beside) (m : DiskImage) (lsn : ℕ) (k : IsKep
           record {
             rule = rule_kept s n (world (beside.copy s n) (engine_with v.log beside m s n frame)) (Checkpointed lsn) had.rule (low s n frame refl had, at);
             dirty = had.dirty;
+            opened = had.opened;
             flights = had.flights;
           }
 

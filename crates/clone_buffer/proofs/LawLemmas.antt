@@ -30,6 +30,7 @@ blank_page space number =
     record {
       rule = subst (λ (o : Option (List held.Held)). Rule space number (w o)) (sym none) (nothing_kept space number);
       dirty = λ t. absurd (false≢true (sym (ap open_in none) ∙ t));
+      opened = λ t. absurd (false≢true (sym (ap open_in none) ∙ t));
       flights = (λ t. t, λ t. t);
     }
 
@@ -79,5 +80,5 @@ copy_kept v beside m space number k = (k.page space number).rule
 pub copy_keeps : CopyKeeps
 copy_keeps v beside m copies k all = record {
   right = k.right;
-  page = λ space number. record { rule = record { engine = (k.page space number).rule.engine; copy = all space number }; dirty = (k.page space number).dirty; flights = (k.page space number).flights };
+  page = λ space number. record { rule = record { engine = (k.page space number).rule.engine; copy = all space number }; dirty = (k.page space number).dirty; opened = (k.page space number).opened; flights = (k.page space number).flights };
 }

@@ -9,3 +9,4 @@ pub mod WrittenLemmas
 pub mod SpaceLemmas
 pub mod FlushLemmas
 pub mod LawLemmas
+pub mod ReadLemmas

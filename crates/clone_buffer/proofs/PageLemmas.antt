@@ -7,6 +7,7 @@ use Rattle.clone_outside.specs.declared.disk.Held.{Held}
 use Rattle.clone_law.specs.Touches.{Lax}
 use Rattle.clone_law.specs.Machine.{Flight, Idle, Untracked, Tracked, Copied, Stopped, Passed, Changed, Fetched, Evicted, Stands, first_of, dirtied}
 use Rattle.clone_pool.specs.declared.frame.Flush.TheVariants as flush
+use Rattle.clone_pool.specs.Frames.{counts_as_open}
 use Rattle.clone_buffer.specs.OnePage.{standing_at, standing_in}
 use Rattle.clone_buffer.proofs.FrameLemmas.{counted}
 
@@ -54,6 +55,11 @@ flown_on at (flush.Begun None) (Some bytes) = refl
 flown_on at (flush.Begun (Some later)) (Some bytes) = refl
 flown_on at flush.Failed image = refl
 
+counted_on : (at : ℕ) (f : Flush) → counts_as_open (noted at f) ≡ counts_as_open f
+counted_on at flush.Idle = refl
+counted_on at (flush.Begun later) = refl
+counted_on at flush.Failed = refl
+
 begun_on : (at : ℕ) (f : Flush) (P : Bool → Type 0) → P (is_begun f) → P (is_begun (noted at f))
 begun_on at flush.Idle P p = p
 begun_on at (flush.Begun later) P p = p
@@ -83,7 +89,7 @@ module _ (log : List (List Record)) (beside : Beside) (m : DiskImage) (space num
     where
       by : (b : Bool) → IsKeptPage log beside m space number (if b then None else Some f) → IsKeptPage log beside m space number (if b then None else Some (record f { pins = pins; last_use = last_use }))
       by true k = k
-      by false k = record { rule = k.rule; dirty = k.dirty; flights = k.flights }
+      by false k = record { rule = k.rule; dirty = k.dirty; opened = k.opened; flights = k.flights }
 
   -- a clean page lost its frame
   lost : (f : Frame) → IsKeptPage log beside m space number (Some (record f { oldest = None; flush = flush.Idle })) → IsKeptPage log beside m space number None
@@ -93,6 +99,7 @@ module _ (log : List (List Record)) (beside : Beside) (m : DiskImage) (space num
       record {
         rule = rule_kept space number (world copy e) Evicted k.rule (closed, refl, refl);
         dirty = λ t. absurd (true≢false (sym t ∙ closed));
+        opened = λ t. absurd (true≢false (sym t ∙ closed));
         flights = k.flights;
       }
 
@@ -105,7 +112,7 @@ module _ (log : List (List Record)) (beside : Beside) (m : DiskImage) (space num
           let same : f ≡ record f { oldest = None; flush = flush.Idle } = λ i. record f { oldest = clean i; flush = idle i } in
           lost f (subst (λ (g : Frame). IsKeptPage log beside m space number (Some g)) same k)
 
-  on_disk : (page : List ℕ) → IsKeptPage log beside m space number None → redone space number log ≡ stands page → (standing_in (finite.get m.spaces space) number ≡ stands page) × (is_open (page_of m space number) ≡ false)
+  pub on_disk : (page : List ℕ) → IsKeptPage log beside m space number None → redone space number log ≡ stands page → (standing_in (finite.get m.spaces space) number ≡ stands page) × (is_open (page_of m space number) ≡ false)
   on_disk page k is =
       let closed = k.rule.engine.bare.0 in
       let has : HasSpace (redone space number log) = subst HasSpace (sym is) tt in
@@ -126,6 +133,7 @@ module _ (log : List (List Record)) (beside : Beside) (m : DiskImage) (space num
       record {
         rule = rule_kept space number (world copy (engine_with log beside m space number None)) (Fetched f.page) k.rule (refl, disk.0, subst Stands (sym is) tt);
         dirty = λ t. absurd (true≢false (sym t ∙ closed));
+        opened = λ t. absurd (true≢false (sym t ∙ closed));
         flights = k.flights;
       }
 
@@ -143,6 +151,7 @@ module _ (log : List (List Record)) (beside : Beside) (m : DiskImage) (space num
       record {
         rule = subst (Ruled space number copy) new (rule_kept space number (world copy e) (Passed records) k.rule (suits, same));
         dirty = λ t. k.dirty (sym (ap writes same) ∙ t);
+        opened = λ t. k.opened (sym (ap writes same) ∙ t);
         flights = k.flights;
       }
 
@@ -161,5 +170,6 @@ module _ (log : List (List Record)) (beside : Beside) (m : DiskImage) (space num
       record {
         rule = subst (Ruled space number copy) new (rule_kept space number (world copy e) (Changed records g.page) k.rule (suits, becomes, subst HasSpace (sym is) tt));
         dirty = λ t. subst IsSome (sym oldest) refl;
+        opened = λ t. ap counts_as_open flush_is ∙ counted_on (ends log) f.flush ∙ k.opened (writing ∙ t);
         flights = subst (λ (x : Flush). IsTrue (is_begun x) ↔ IsSome image) (sym flush_is) (begun_on (ends log) f.flush (λ x. IsTrue x ↔ IsSome image) k.flights);
       }

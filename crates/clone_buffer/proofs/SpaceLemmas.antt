@@ -69,6 +69,7 @@ module _ (log : List (List Record)) (beside : Beside) (m : DiskImage) (space num
       record {
         rule = subst (λ (c : Copy). Ruled space number c (engine_with longer beside m space number None)) (created_calm (redone space number longer) copy calm) (subst (Ruled space number (created (redone space number longer) copy)) new (rule_kept space number (world copy e) (Created records) k.rule suits));
         dirty = λ t. absurd (false≢true (shut ∙ t));
+        opened = λ t. absurd (false≢true (shut ∙ t));
         flights = k.flights;
       }
 
@@ -84,6 +85,7 @@ module _ (log : List (List Record)) (beside : Beside) (m : DiskImage) (space num
       record {
         rule = subst (Ruled space number copy) new (rule_kept space number (world copy e) (Opened records g.page) k.rule (suits, is, absent, calm));
         dirty = λ t. absurd (false≢true (shut ∙ t));
+        opened = λ t. absurd (false≢true (shut ∙ t));
         flights = subst (λ (x : Flush). IsTrue (is_begun x) ↔ IsSome (beside.image space number)) (sym idle) k.flights;
       }
 

@@ -8,7 +8,7 @@ use Rattle.clone_law.specs.Since.{ends}
 use Rattle.clone_law.specs.Machine.{HasSpace}
 use Rattle.clone_law.specs.Rule.{CopyRule, Rule}
 use Rattle.clone_pool.specs.declared.frame.Frame.{Frame}
-use Rattle.clone_pool.specs.Frames.{is_begun}
+use Rattle.clone_pool.specs.Frames.{is_begun, counts_as_open}
 use Rattle.clone_buffer.specs.Buffered.{Buffered}
 use Rattle.clone_buffer.specs.OnePage.{Beside, Copies, engine_with, engine_of, world_with, world_of, frame_of, flush_in, disk_standing, is_open}
 
@@ -17,9 +17,12 @@ pub record IsKeptPage (log : List (List Record)) (beside : Beside) (m : DiskImag
     (space number : ℕ) (frame : Option Frame) : Type 0 where
   -- with what a clone has of it they keep the rule of one page
   pub rule : Rule space number (world_with log beside m space number frame)
-  -- where its space is there, it is dirty while its write is open
+  -- where its space is there, it is dirty while its write is open, and a flush of it has begun and
+  -- not landed
   pub dirty : (engine_with log beside m space number frame).writing ≡ true
       → IsSome (engine_with log beside m space number frame).oldest
+  pub opened : (engine_with log beside m space number frame).writing ≡ true
+      → counts_as_open (flush_in frame) ≡ true
   -- its flush has begun exactly where there is an image of it
   pub flights : IsTrue (is_begun (flush_in frame)) ↔ IsSome (beside.image space number)
 

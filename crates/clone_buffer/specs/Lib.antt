@@ -1,5 +1,6 @@
 pub mod Buffered
 pub mod OnePage
 pub mod Keeping
+pub mod Reading
 pub mod Writing
 pub mod Flushing

@@ -1,10 +1,11 @@
-ghost use Rattle.std.specs.Prelude.{◌≡◌, ◌<◌, ◌≤◌, ◌+◌, ◌-◌, ◌^◌, ◌↔◌, ℕ, true, [], None, Some, IfOk, IfNone, IfSome, OnOk, OnErr, IfErr, IsSome, IsTrue, length, take, drop, replicate};
+ghost use Rattle.std.specs.Prelude.{◌≡◌, ◌≢◌, ◌<◌, ◌≤◌, ◌+◌, ◌-◌, ◌^◌, ◌↔◌, ℕ, true, [], None, Some, IfOk, IfNone, IfSome, IsOk, OnOk, OnErr, IfErr, IsSome, IsTrue, length, option_copied, take, drop, replicate};
 ghost use Rattle.std.specs.Option.{ForSome};
 ghost use Rattle.clone_outside.specs.Causes.{Rose};
 ghost use Rattle.clone_buffer.specs.Writing.{after_records, changed_at, named_frame};
 ghost use Rattle.std.specs.List.{AllByRecursion};
 ghost use Rattle.clone_buffer.specs.Flushing.{BeginKeeps, OpenKeeps, LandKeeps, RestLands, FailKeeps, CheckpointKeeps, with_change};
 ghost use Rattle.clone_buffer.specs.Keeping.{CopyKept, CopyKeeps};
+ghost use Rattle.clone_buffer.specs.Reading.{FileReadAllowed};
 ghost use Rattle.clone_mtr.specs.Records.{IsRecord};
 ghost use Rattle.clone_mtr.specs.Spelling.{spelling, Spells, longest, log_of};
 ghost use Rattle.clone_ring.specs.Window.{empty, end_of, free_in, raised};
@@ -13,10 +14,11 @@ ghost use Rattle.clone_image.specs.Replay.{Replays, IsSpelled};
 ghost use Rattle.clone_pool.specs.Frames.{no_frame, frame_at, holder, HoldsPage, IsInFlight, is_waiting, page_changed, pinned, unpinned, begun, landed, failed};
 ghost use Rattle.clone_pool.specs.declared.frame.Content.TheVariants.{Held};
 ghost use Rattle.clone_pool.specs.declared.frame.PageName.{PageName};
-ghost use Rattle.clone_pool.specs.Pool.{IsPool, Fetches, Freshens, IsHolder, KeepsOthers, KeepsInUse, AreClean, IsOldest, HasPinRoom, with_frame, AreNotWaiting, IsNextToFlush};
+ghost use Rattle.clone_pool.specs.Pool.{IsPool, Fetches, Freshens, IsHolder, KeepsOthers, KeepsInUse, AreClean, IsOldest, HasPinRoom, with_frame, AreNotWaiting, AreOpenPages, IsNextToFlush};
 
+use clone_base::PAGE_SIZE;
 use clone_mtr::{LONGEST_MTR, Record, encode_into, spelling_length};
-use clone_outside::PageDisk;
+use clone_outside::{PageDisk, Refusal};
 use clone_page::Page;
 use clone_pool::{FetchRefusal, Frame, PageName, Pool};
 use clone_ring::{LogFull, Ring};
@@ -25,7 +27,7 @@ use std::alloc::{AllocError, Global};
 use std::marker::Model;
 
 /// The pages of a donor in frames, and the redo log from its floor on. After it is made no call
-/// takes memory.
+/// but `open_pages` takes memory.
 ///
 /// Contracts speak of the whole log and of the pages that it makes. `right` says that each page
 /// that was read so far was the one that the log made by then: as long as it holds, each frame has
@@ -63,8 +65,9 @@ impl Buffer {
     ghost use Rattle.clone_outside.specs.Disk.{DiskImage, ForTold, blank};
     ghost use Rattle.clone_buffer.specs.Writing.{HasFrame, IsOnPage, Creates, HasMade, Writes, written};
     ghost use Rattle.clone_buffer.specs.Buffered.{image_of, IsBuffer, Shows};
-    ghost use Rattle.clone_buffer.specs.OnePage.{Beside, NoFileCopy, at_rest};
+    ghost use Rattle.clone_buffer.specs.OnePage.{Beside, NoFileCopy, at_rest, bytes_in, frame_of};
     ghost use Rattle.clone_buffer.specs.Keeping.{IsKept, Stands, DiskIsFrames};
+    ghost use Rattle.clone_buffer.specs.Reading.{OthersAreClosed, ReadsLatest};
 
     /// So many frames without pages, and an empty log in a ring of so many bytes.
     pub fn new(alloc: Global, frames: u32, ring: u64) -> Result<Buffer, AllocError>
@@ -171,6 +174,49 @@ impl Buffer {
             → page_of (image_of self.now) name.space name.number ≡ Some result.now }
     {
         self.pool.frame(at)
+    }
+
+    /// A page as its frame has it, if it has one. A new page that no change made doesn't count. It
+    /// counts as no use of the frame.
+    pub fn page(&self, space: u32, number: u32) -> Option<&Page>
+        ensures page { option_copied result
+            ≡ bytes_in (frame_of self.now.pool.frames space number) }
+        ensures shown { IfSome result (λ page. IsTrue self.now.right
+            → page_of (image_of self.now) space number ≡ Some page.now) }
+    {
+        let at = self.find(space, number)?;
+        let frame = self.pool.state(at);
+        if frame.is_new() {
+            return None;
+        }
+        Some(&frame.page)
+    }
+
+    /// Reads a page as it is now: as its frame has it, if it has one, and else as the disk has it.
+    /// The page takes no frame, and it counts as no use of one. The error is `Fault`.
+    pub fn read_latest<D: PageDisk>(
+        &self,
+        disk: &mut D,
+        space: u32,
+        number: u32,
+        into: &mut [u8; PAGE_SIZE],
+    ) -> Result<(), Refusal>
+        ensures frame { IfSome (bytes_in (frame_of self.now.pool.frames space number))
+            (λ bytes. IsOk result × (into.new ≡ bytes)) }
+        ensures latest { OnOk result
+            (ReadsLatest self.now (D.told disk.old) space number into.new) }
+        ensures fault { OnErr result (Rose (D.failures disk.old) (D.failures disk.new)) }
+        ensures memory { result ≢ Err Refusal.NoMemory }
+        ensures later { D.failures disk.old ≤ D.failures disk.new }
+        ensures disk { D.told disk.new ≡ D.told disk.old }
+        ensures orders { D.orders disk.new ≡ D.orders disk.old }
+    {
+        if let Some(page) = self.page(space, number) {
+            *into = *page.bytes();
+            return Ok(());
+        }
+        self.laws();
+        disk.read_page(space, number, into)
     }
 
     /// Keeps the page in its frame until it is unpinned as often.
@@ -325,6 +371,17 @@ impl Buffer {
         self.pool.next_to_flush()
     }
 
+    /// The pages whose write counts as open, since a flush of each has begun and not landed: each
+    /// once, by its space and its number there, in ascending order. Over a disk that tells
+    /// what it holds each other page is closed.
+    pub fn open_pages(&self, alloc: Global) -> Result<Vec<(u32, u32)>, AllocError>
+        ensures open { IfOk result (λ pages. AreOpenPages self.now.pool.frames pages.items) }
+        ensures closed { IfOk result (λ pages. (beside : Beside) (m : DiskImage)
+            → IsKept self.now beside m → OthersAreClosed self.now beside m pages.items) }
+    {
+        self.pool.open_pages(alloc)
+    }
+
     /// How many bytes the log may grow by before its floor rises.
     pub fn free(&self) -> u64
         ensures { result ≡ free_in self.now.ring }
@@ -417,6 +474,11 @@ pub fn flush_laws()
 pub fn copy_laws()
     ensures kept { CopyKept }
     ensures keeps { CopyKeeps }
+{}
+
+/// What a disk gives of a page is a read that the law of the page allows.
+pub fn read_laws()
+    ensures file { FileReadAllowed }
 {}
 
 // Each record changes the frame of the page that it names.

@@ -3,7 +3,7 @@
 
 mod buffer;
 
-pub use buffer::{Buffer, copy_laws, flush_laws};
+pub use buffer::{Buffer, copy_laws, flush_laws, read_laws};
 
 #[cfg(test)]
 mod tests;

@@ -13,8 +13,8 @@ use Rattle.clone_plain.specs.Events.{made, counted, Sees, Happens}
 use Rattle.clone_plain.proofs.BinlogLemmas.{Adds, adds_none, made_adds}
 use Rattle.clone_plain.proofs.StopLemmas.{before_stop-longer}
 use Rattle.clone_apply.specs.Holds.{HoldsCopy}
-use Rattle.clone_donor.specs.Engine.{Engine, IsEngine}
-use Rattle.clone_donor.specs.Steps.{Steps, EngineStep, answer_of}
+use Rattle.clone_engine.specs.Engine.{Engine, IsEngine}
+use Rattle.clone_engine.specs.Steps.{Steps, EngineStep, answer_of}
 use Rattle.clone_core.specs.System.{SystemStep, donor_of, tell}
 use Rattle.clone_core.specs.Lines.{State}
 use Rattle.clone_core.specs.Called.{Stays, Called}

@@ -16,7 +16,7 @@ use Rattle.clone_plain.specs.Events.{Event, made, cleaned, event_text, said, Hap
 use Rattle.clone_plain.specs.Runs.{MakesClean, all_clean, not_flushed, flushed}
 use Rattle.clone_plain.specs.BreaksOff.{IsDone}
 use Rattle.clone_plain.proofs.RunLemmas.{Events-append}
-use Rattle.clone_donor.specs.Engine.{Engine}
+use Rattle.clone_engine.specs.Engine.{Engine}
 use Rattle.clone_core.specs.System.{SystemStep, donor_of}
 use Rattle.clone_core.specs.Lines.{State, Answers, BreaksOff}
 use Rattle.clone_core.specs.Called.{Called, SaysCause, CleansAll, StopsCleaning, Cleans}

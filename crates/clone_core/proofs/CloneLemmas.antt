@@ -23,7 +23,7 @@ use Rattle.clone_recover.specs.Restores.{ForStep}
 use Rattle.clone_trx.specs.Sound.{IsKept}
 use Rattle.clone_apply.specs.Copied.{copied, IsPartial}
 use Rattle.clone_apply.specs.Holds.{HoldsCopy, IsWholeLog}
-use Rattle.clone_donor.specs.Disks.{DiskState, Visits}
+use Rattle.clone_engine.specs.Disks.{DiskState, Visits}
 use Rattle.clone_core.specs.System.{SystemStep, tell}
 use Rattle.clone_core.specs.Called.{Stays}
 use Rattle.clone_core.specs.declared.world.Copied.{Copied}

@@ -3,7 +3,7 @@ use Rattle.std.proofs.Common.{◌≡◌, ◌⊎◌, inl, inr, ◌≤◌, ℕ, Li
 use Rattle.clone_outside.specs.Causes.{Rose}
 use Rattle.clone_plain.specs.World.{Clone, no_clone}
 use Rattle.clone_plain.specs.Events.{to_donor, to_recipient, Event, made, cleaned, completed, completed_before, broke, broke_before, showed, incomplete, hidden, damaged, ordered, Happens, Events}
-use Rattle.clone_donor.specs.Disks.{DiskState}
+use Rattle.clone_engine.specs.Disks.{DiskState}
 use Rattle.clone_core.specs.System.{System, SystemStep, donor_of}
 use Rattle.clone_core.specs.Lines.{State}
 

@@ -8,8 +8,8 @@ use Rattle.clone_plain.specs.Calls.{Call, call_of, refused}
 use Rattle.clone_plain.specs.Events.{Side, to_donor, to_recipient, Event, made, cleaned, completed, completed_before, broke, broke_before, showed, incomplete, hidden, damaged, ordered, Events}
 use Rattle.clone_plain.specs.Headline.{all_events, donor_order, recipient_order}
 use Rattle.clone_plain.specs.Runs.{Makes, MakesOne, MakesSet, not_begun, not_changed, set, MakesClean, all_clean, not_flushed, flushed, MakesClone, is_complete, was_complete, is_broken, was_broken, MakesRows, are_shown, not_there, not_read, not_sound}
-use Rattle.clone_donor.specs.Disks.{DiskState}
-use Rattle.clone_donor.specs.Engine.{Engine}
+use Rattle.clone_engine.specs.Disks.{DiskState}
+use Rattle.clone_engine.specs.Engine.{Engine}
 use Rattle.clone_core.specs.System.{System, SystemStep, donor_of}
 use Rattle.clone_core.specs.Lines.{State, Runs}
 use Rattle.clone_core.proofs.StepLemmas.{made_visits}

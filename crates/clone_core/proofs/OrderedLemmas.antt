@@ -7,8 +7,8 @@ use Rattle.clone_plain.specs.Donor.{Donor}
 use Rattle.clone_plain.specs.World.{Clone}
 use Rattle.clone_plain.specs.Events.{to_donor, to_recipient, ordered}
 use Rattle.clone_plain.proofs.BinlogLemmas.{adds_none}
-use Rattle.clone_donor.specs.Disks.{DiskState, Orders, with_order}
-use Rattle.clone_donor.specs.Engine.{Engine}
+use Rattle.clone_engine.specs.Disks.{DiskState, Orders, with_order}
+use Rattle.clone_engine.specs.Engine.{Engine}
 use Rattle.clone_core.specs.System.{tell}
 use Rattle.clone_core.specs.Lines.{State}
 use Rattle.clone_core.specs.Called.{Notes}

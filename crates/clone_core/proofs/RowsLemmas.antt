@@ -15,7 +15,7 @@ use Rattle.clone_recover.specs.declared.refusal.Why.{Why}
 use Rattle.clone_recover.specs.declared.refusal.RecoverRefusal.{RecoverRefusal}
 use Rattle.clone_recover.specs.declared.refusal.RecoverRefusal.TheVariants.{Incomplete, Damaged, DiskFault, NoMemory}
 use Rattle.clone_apply.specs.Holds.{HoldsCopy}
-use Rattle.clone_donor.specs.Disks.{DiskState, Visits}
+use Rattle.clone_engine.specs.Disks.{DiskState, Visits}
 use Rattle.clone_core.specs.declared.world.Copied.{Copied}
 use Rattle.clone_core.specs.System.{SystemStep, donor_of, tell}
 use Rattle.clone_core.specs.Lines.{State}

@@ -17,9 +17,9 @@ use Rattle.clone_flush.specs.declared.refusal.FlushRefusal.{FlushRefusal}
 use Rattle.clone_flush.specs.declared.refusal.FlushRefusal.TheVariants as flush
 use Rattle.clone_pool.specs.declared.pool.FetchRefusal.{FetchRefusal}
 use Rattle.clone_pool.specs.declared.pool.FetchRefusal.TheVariants as fetch
-use Rattle.clone_donor.specs.Disks.{DiskState, Visits}
-use Rattle.clone_donor.specs.Engine.{Engine}
-use Rattle.clone_donor.specs.Steps.{Steps, EngineStep, AnswersWith, Looks, Ends, ChecksAt, Flushes, AnswersFlush, Transacts, Did, way_of, refusal_of}
+use Rattle.clone_engine.specs.Disks.{DiskState, Visits}
+use Rattle.clone_engine.specs.Engine.{Engine}
+use Rattle.clone_engine.specs.Steps.{Steps, EngineStep, AnswersWith, Looks, Ends, ChecksAt, Flushes, AnswersFlush, Transacts, Did, way_of, refusal_of}
 use Rattle.clone_core.specs.System.{System, SystemStep, donor_of}
 
 -- whatever is read, the way stops for a cause below alone

@@ -8,7 +8,7 @@ use Rattle.clone_plain.specs.Events.{Event, said}
 use Rattle.clone_plain.specs.Events as plain_events
 use Rattle.clone_plain.specs.Runs as plain
 use Rattle.clone_plain.specs.BreaksOff as broken
-use Rattle.clone_donor.specs.Opened.{IsOpened}
+use Rattle.clone_engine.specs.Opened.{IsOpened}
 use Rattle.clone_core.specs.System.{System, SystemStep, donor_of, tell}
 
 -- a donor and the disk of a recipient, the indexes of writers, and the clone

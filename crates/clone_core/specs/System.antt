@@ -9,9 +9,9 @@ use Rattle.clone_recover.specs.declared.refusal.RecoverRefusal.TheVariants.{Dama
 use Rattle.clone_plain.specs.Donor.{Donor}
 use Rattle.clone_plain.specs.Answers.{Text}
 use Rattle.clone_plain.specs.Events.{to_donor, to_recipient, Event, made, cleaned, completed, completed_before, broke, broke_before, showed, incomplete, hidden, damaged, ordered}
-use Rattle.clone_donor.specs.Disks.{DiskState, Visits, with_order}
-use Rattle.clone_donor.specs.Engine.{Engine}
-use Rattle.clone_donor.specs.Steps.{EngineStep}
+use Rattle.clone_engine.specs.Disks.{DiskState, Visits, with_order}
+use Rattle.clone_engine.specs.Engine.{Engine}
+use Rattle.clone_engine.specs.Steps.{EngineStep}
 
 pub record System : Type 0 where
   pub donor : Engine

@@ -2,7 +2,7 @@ ghost use Rattle.std.specs.Prelude.{◌≡◌, ◌^◌, ◌-◌, ◌⊎◌, ◌�
 ghost use Rattle.std.specs.String.{string_bytes};
 ghost use Rattle.clone_outside.specs.Disk.{ForTold, blank};
 ghost use Rattle.clone_plain.specs.World.{IsWithin};
-ghost use Rattle.clone_donor.specs.Opened.{IsOpened};
+ghost use Rattle.clone_engine.specs.Opened.{IsOpened};
 ghost use Rattle.clone_core.specs.System.{donor_of};
 ghost use Rattle.clone_core.specs.Lines.{Answers, BreaksOff, IsNew};
 ghost use Rattle.clone_core.specs.Copied.{HoldsClone};

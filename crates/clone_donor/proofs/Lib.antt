@@ -1,12 +1,2 @@
-pub mod WayLemmas
-pub mod AnswerLemmas
-pub mod TableRecordLemmas
 pub mod LogLemmas
-pub mod FileLemmas
-pub mod PageLemmas
-pub mod DiskLemmas
-pub mod EngineLemmas
-pub mod CallLemmas
-pub mod CreatedLemmas
 pub mod FlushLemmas
-pub mod OpenLemmas

@@ -9,8 +9,8 @@ use Rattle.clone_image.proofs.Logs.{log_of-push}
 use Rattle.clone_image.specs.Replay.{first_lsn, IsSpelled}
 use Rattle.clone_ring.specs.Window.{end_of}
 use Rattle.clone_buffer.specs.Buffered.{Buffered, IsBuffer}
-use Rattle.clone_donor.specs.Growth.{GrowsByOne, HasGrown, bytes_from}
-use Rattle.clone_donor.proofs.WayLemmas.{Grows}
+use Rattle.clone_engine.specs.Growth.{GrowsByOne, KeepsRing}
+use Rattle.clone_donor.specs.Growth.{HasGrown, bytes_from}
 
 All-last : {X : Type 0} (P : X → Type 0) (xs : List X) (x : X) → AllByRecursion P (xs ++ x ∷ []) → P x
 All-last P [] x all = all.0
@@ -70,8 +70,8 @@ module _ (bytes : List ℕ) (b : Buffered) (is : IsBuffer b) (grown : HasGrown b
       let as_many : length k.rest ≡ count = omega (arith, is, k.end) in
       k.text ∙ ap (λ (xs : List ℕ). bytes ++ xs) (sym (take-length k.rest) ∙ ap (λ n. take n k.rest) as_many ∙ ap (λ (xs : List ℕ). take count xs) (sym k.in_ring))
 
--- a log that a way leaves has grown so
-pub has_grown : (bytes kept : List ℕ) (old new : Buffered) → IsBuffer old → kept ≡ log_of old.log → bytes ≡ kept → Grows old new → HasGrown bytes new
-has_grown bytes kept old new is log same g =
+-- a log that a call leaves has grown so
+pub has_grown : (bytes kept : List ℕ) (old new : Buffered) → IsBuffer old → kept ≡ log_of old.log → bytes ≡ kept → GrowsByOne old.log new.log → KeepsRing old.ring new.ring → HasGrown bytes new
+has_grown bytes kept old new is log same grown ring =
     let long : length bytes ≡ length (log_of old.log) = ap length (same ∙ log) in
-    record { old = old.log; bytes_of = same ∙ log; grown = g.log; kept = omega (arith, long, is.end, g.floor) }
+    record { old = old.log; bytes_of = same ∙ log; grown = grown; kept = omega (arith, long, is.end, ring.floor) }

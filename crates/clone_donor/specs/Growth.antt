@@ -1,14 +1,16 @@
--- A log that grows by a mini-transaction at most.
-use Rattle.std.specs.Prelude.{ℕ, ◌≡◌, ◌≤◌, ◌⊎◌, ◌+◌, ◌-◌, ◌++◌, ◌∷◌, [], List, length, drop}
+-- The bytes of a log that grows by a mini-transaction at most.
+use Rattle.std.specs.Prelude.{ℕ, ◌≡◌, ◌≤◌, ◌+◌, ◌-◌, List, length, drop}
 use Rattle.clone_mtr.specs.Spelling.{log_of}
 use Rattle.clone_mtr.specs.declared.record.Record.{Record}
 use Rattle.clone_image.specs.Replay.{first_lsn}
 use Rattle.clone_ring.specs.Window.{Window}
 use Rattle.clone_buffer.specs.Buffered.{Buffered}
+use Rattle.clone_engine.specs.Engine.{Engine}
+use Rattle.clone_engine.specs.Growth.{GrowsByOne}
 
--- the log is the old one, or one mini-transaction stands behind it
-abbrev pub GrowsByOne : List (List Record) → List (List Record) → Type 0
-GrowsByOne old new = (new ≡ old) ⊎ ((records : List Record) × (new ≡ old ++ records ∷ []))
+-- the bytes of the log are these
+abbrev pub IsLogOf : Engine → List ℕ → Type 0
+IsLogOf e bytes = bytes ≡ log_of e.buffer.log
 
 -- The bytes are those of a log that has grown by one mini-transaction at most, and the ring has
 -- what stands behind them.

@@ -1,5 +1,4 @@
-//! The state of a donor. Between calls no frame is pinned, the pages stand over the disk where that
-//! tells what it holds, and the bytes of the whole log are kept.
+//! The state of a donor: that of its engine. Between calls the bytes of the whole log are kept.
 ghost use Rattle.std.specs.Prelude.{◌≡◌, ◌<◌, ◌^◌, [], length, option_copied};
 ghost use Rattle.std.specs.List.{AllByRecursion};
 ghost use Rattle.std.specs.FinMap as finite;
@@ -10,66 +9,34 @@ ghost use Rattle.clone_law.specs.Since.{ends};
 ghost use Rattle.clone_ring.specs.Window.{end_of};
 ghost use Rattle.clone_plain.specs.Causes.{least_unused};
 ghost use Rattle.clone_trx.specs.Kept.{IsSafe};
-ghost use Rattle.clone_donor.specs.Disks.{Orders};
-ghost use Rattle.clone_donor.specs.Engine.{IsEngine};
+ghost use Rattle.clone_engine.specs.Disks.{Orders};
+ghost use Rattle.clone_engine.specs.Engine.{IsEngine};
 
 use crate::log::Log;
-use clone_buffer::Buffer;
-use clone_flush::Flusher;
+use clone_engine::Engine;
 use clone_model::{Binlog, Commit};
 use clone_outside::{DiskOrder, PageDisk};
-use clone_trx::Transactions;
 use std::alloc::AllocError;
 use std::marker::Model;
 
-/// A donor over a disk: its transactions, its pages in frames with the redo log behind them, its
-/// flushes, and the bytes of the whole log.
+/// A donor over a disk: its engine, and the bytes of the whole log.
 pub struct Donor<D: PageDisk> {
-    pub(crate) transactions: Transactions,
-    pub(crate) buffer: Buffer,
-    pub(crate) flusher: Flusher,
+    pub(crate) engine: Engine<D>,
     pub(crate) log: Log,
-    pub(crate) disk: D,
 }
 
 impl<D: PageDisk> Model for Donor<D> {
-    ghost use Rattle.clone_donor.specs.Codes.{engine_code};
-    ghost use Rattle.clone_donor.specs.Engine.{Engine, IsEngine, IsLogOf};
+    ghost use Rattle.clone_engine.specs.Codes.{engine_code};
+    ghost use Rattle.clone_engine.specs.Engine.{Engine};
+    ghost use Rattle.clone_donor.specs.Growth.{IsLogOf};
 
     ghost Value = { Engine };
 
     ghost coded = { engine_code };
 
-    ghost view = { λ d. record {
-      donor = d.transactions;
-      buffer = d.buffer;
-      flights = d.flusher;
-      disk = record {
-        told = D.told d.disk;
-        failures = D.failures d.disk;
-        orders = D.orders d.disk;
-      };
-    } };
+    ghost view = { λ d. d.engine };
 
-    ghost invariant = { λ d. IsEngine (record {
-      donor = d.transactions;
-      buffer = d.buffer;
-      flights = d.flusher;
-      disk = record {
-        told = D.told d.disk;
-        failures = D.failures d.disk;
-        orders = D.orders d.disk;
-      };
-    }) × IsLogOf (record {
-      donor = d.transactions;
-      buffer = d.buffer;
-      flights = d.flusher;
-      disk = record {
-        told = D.told d.disk;
-        failures = D.failures d.disk;
-        orders = D.orders d.disk;
-      };
-    }) d.log.bytes };
+    ghost invariant = { λ d. IsLogOf d.engine d.log.bytes };
 }
 
 impl<D: PageDisk> Donor<D> {
@@ -77,7 +44,7 @@ impl<D: PageDisk> Donor<D> {
     pub fn binlog(&self) -> &Binlog
         ensures { result.now.commits ≡ self.now.donor.binlog }
     {
-        self.transactions.binlog()
+        self.engine.binlog()
     }
 
     /// The open transaction of this number, as the commit that it would be, or none where none is
@@ -85,7 +52,7 @@ impl<D: PageDisk> Donor<D> {
     pub fn transaction(&self, trx: u32) -> Option<&Commit>
         ensures { option_copied result ≡ finite.get self.now.donor.active trx }
     {
-        self.transactions.transaction(trx)
+        self.engine.transaction(trx)
     }
 
     /// The number that the next transaction gets: the least of which none is open, if there is one
@@ -93,7 +60,7 @@ impl<D: PageDisk> Donor<D> {
     pub fn next_number(&self) -> Option<u32>
         ensures { result ≡ least_unused self.now.donor.active }
     {
-        self.transactions.next_number()
+        self.engine.next_number()
     }
 
     /// The bytes of the redo log, from its first one on.
@@ -108,7 +75,7 @@ impl<D: PageDisk> Donor<D> {
         ensures disk { Orders order self.old.disk self.new.disk result }
         ensures same { self.new ≡ record self.old { disk = self.new.disk } }
     {
-        self.disk.order(order)
+        self.engine.order(order)
     }
 
     /// Gives the disk back.
@@ -117,14 +84,8 @@ impl<D: PageDisk> Donor<D> {
         ensures failures { D.failures result ≡ self.disk.failures }
         ensures orders { D.orders result ≡ self.disk.orders }
     {
-        let Donor {
-            transactions: _,
-            buffer: _,
-            flusher: _,
-            log: _,
-            disk,
-        } = self;
-        disk
+        let Donor { engine, log: _ } = self;
+        engine.into_disk()
     }
 
     /// What holds of every donor. No table was dropped.
@@ -137,7 +98,6 @@ impl<D: PageDisk> Donor<D> {
         ensures end { end_of self.now.buffer.ring ≡ ends self.now.buffer.log }
         ensures few { length self.now.buffer.pool.frames < 2 ^ 32 }
     {
-        self.transactions.laws();
-        self.buffer.laws();
+        self.engine.laws();
     }
 }

@@ -1,12 +1,11 @@
-ghost use Rattle.std.specs.Prelude.{◌≡◌, Ok};
+ghost use Rattle.std.specs.Prelude.{None, Ok};
 ghost use Rattle.clone_plain.specs.Calls as call;
 ghost use Rattle.clone_plain.specs.Calls.{did_flush_begin, did_flush_half, did_flush_land, did_oldest_dirty, did_checkpoint, did_end};
-ghost use Rattle.clone_donor.specs.Steps.{KeepsCopies, Steps, answer_of, refusal_of};
+ghost use Rattle.clone_engine.specs.Steps.{Checks, KeepsCopies, Steps, answer_of};
 
 use crate::Donor;
-use clone_flush::FlushRefusal;
 use clone_outside::PageDisk;
-use clone_plain::{Cause, EngineRefusal};
+use clone_plain::EngineRefusal;
 
 // The flushes and the checkpoint.
 impl<D: PageDisk> Donor<D> {
@@ -18,12 +17,7 @@ impl<D: PageDisk> Donor<D> {
         ensures copies { KeepsCopies (call.flush_begin space page) self.old self.new
             (answer_of (λ _. did_flush_begin space page) result) }
     {
-        self.transactions.laws();
-        self.buffer.laws();
-        match self.flusher.begin(&mut self.buffer, space, page) {
-            Ok(()) => Ok(()),
-            Err(refusal) => Err(refused(refusal)),
-        }
+        self.engine.flush_begin(space, page)
     }
 
     /// Writes the first half of a page whose flush has begun.
@@ -33,14 +27,7 @@ impl<D: PageDisk> Donor<D> {
         ensures copies { KeepsCopies (call.flush_half space page) self.old self.new
             (answer_of (λ _. did_flush_half space page) result) }
     {
-        self.buffer.laws();
-        match self
-            .flusher
-            .half(&mut self.buffer, space, page, &mut self.disk)
-        {
-            Ok(()) => Ok(()),
-            Err(refusal) => Err(refused(refusal)),
-        }
+        self.engine.flush_half(space, page)
     }
 
     /// Writes the second half of a page whose first half is written. The page is clean then, or
@@ -51,14 +38,7 @@ impl<D: PageDisk> Donor<D> {
         ensures copies { KeepsCopies (call.flush_land space page) self.old self.new
             (answer_of (λ _. did_flush_land space page) result) }
     {
-        self.buffer.laws();
-        match self
-            .flusher
-            .land(&mut self.buffer, space, page, &mut self.disk)
-        {
-            Ok(()) => Ok(()),
-            Err(refusal) => Err(refused(refusal)),
-        }
+        self.engine.flush_land(space, page)
     }
 
     /// The dirty page to be flushed next, by its space and its number, or none where no dirty page
@@ -66,37 +46,24 @@ impl<D: PageDisk> Donor<D> {
     pub fn oldest_dirty(&self) -> Option<(u32, u32)>
         ensures { Steps call.oldest_dirty self.now self.now (Ok (did_oldest_dirty result)) }
     {
-        self.flusher.oldest_dirty(&self.buffer)
+        self.engine.oldest_dirty()
     }
 
     /// A checkpoint: the LSN at which the oldest change begins that isn't on the disk, or the log's
     /// end where no page is dirty. The log below it may go.
     pub fn checkpoint(&mut self) -> u64
         ensures step { Steps call.checkpoint self.old self.new (Ok (did_checkpoint result)) }
+        ensures checks { Checks None self.old self.new result }
         ensures copies { KeepsCopies call.checkpoint self.old self.new
             (Ok (did_checkpoint result)) }
     {
-        self.buffer.laws();
-        self.flusher.checkpoint(&mut self.buffer, None)
+        self.engine.checkpoint(None)
     }
 
     /// The LSN behind the log's last byte.
     pub fn end(&self) -> u64
         ensures { Steps call.end self.now self.now (Ok (did_end result)) }
     {
-        self.buffer.end()
-    }
-}
-
-// Why a flush is refused, as a donor answers it.
-fn refused(refusal: FlushRefusal) -> EngineRefusal
-    ensures { result ≡ refusal_of refusal }
-{
-    match refusal {
-        FlushRefusal::NotDirty => Cause::NotDirty.into(),
-        FlushRefusal::InFlight => Cause::InFlight.into(),
-        FlushRefusal::NoFlush => Cause::NoFlush.into(),
-        FlushRefusal::DiskFault => Cause::DiskFault.into(),
-        FlushRefusal::NoMemory => EngineRefusal::NoMemory,
+        self.engine.end()
     }
 }

@@ -1,6 +1,5 @@
-//! A donor: transactions over a buffer, flushes and checkpoints, and the disk under them, in one
-//! state. It keeps the bytes of the whole redo log, too, from which clones are made until they are
-//! made in stages.
+//! A donor: an engine over a disk, and the bytes of its whole redo log, from which clones are made
+//! until they are made in stages.
 #![tactic(auto)]
 
 mod donor;
@@ -9,5 +8,5 @@ mod log;
 mod opening;
 mod serving;
 
+pub use clone_engine::{OpenCause, OpenRefusal, is_empty};
 pub use donor::Donor;
-pub use opening::{OpenCause, OpenRefusal, is_empty};

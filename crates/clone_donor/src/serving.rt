@@ -7,12 +7,12 @@ ghost use Rattle.clone_mtr.specs.declared.writing.TheConstants.{LONGEST_MTR};
 ghost use Rattle.clone_plain.specs.Calls as call;
 ghost use Rattle.clone_plain.specs.Calls.{did_create, did_begin, did_put, did_delete, did_get, did_undo_one, did_commit};
 ghost use Rattle.clone_donor.specs.Growth.{HasGrown, bytes_from};
-ghost use Rattle.clone_donor.specs.Steps.{KeepsCopies, Steps, answer_of};
+ghost use Rattle.clone_engine.specs.Steps.{KeepsCopies, Steps, answer_of};
 
 use crate::Donor;
 use crate::log::Log;
 use clone_base::FIRST_LSN;
-use clone_buffer::Buffer;
+use clone_engine::Engine;
 use clone_model::{BucketCount, TableNumber, Value};
 use clone_mtr::LONGEST_MTR;
 use clone_outside::PageDisk;
@@ -29,14 +29,9 @@ impl<D: PageDisk> Donor<D> {
             (answer_of (λ _. did_create table buckets) result) }
     {
         self.log.reserve(LONGEST_MTR)?;
-        self.transactions.laws();
-        self.buffer.laws();
-        // a table's number is in its range
-        table.get();
-        let created = self
-            .transactions
-            .create(&mut self.buffer, table, buckets, &mut self.disk);
-        keep_log(&mut self.log, &self.buffer);
+        self.engine.laws();
+        let created = self.engine.create(table, buckets);
+        keep_log(&mut self.log, &self.engine);
         created
     }
 
@@ -49,11 +44,9 @@ impl<D: PageDisk> Donor<D> {
             (answer_of (λ trx. did_begin writer index trx) result) }
     {
         self.log.reserve(LONGEST_MTR)?;
-        self.buffer.laws();
-        let begun = self
-            .transactions
-            .begin(alloc, &mut self.buffer, writer, index, &mut self.disk);
-        keep_log(&mut self.log, &self.buffer);
+        self.engine.laws();
+        let begun = self.engine.begin(alloc, writer, index);
+        keep_log(&mut self.log, &self.engine);
         begun
     }
 
@@ -65,12 +58,9 @@ impl<D: PageDisk> Donor<D> {
             (answer_of (λ _. did_put trx table key value.now) result) }
     {
         self.log.reserve(LONGEST_MTR)?;
-        self.transactions.laws();
-        self.buffer.laws();
-        let changed = self
-            .transactions
-            .put(&mut self.buffer, trx, table, key, value, &mut self.disk);
-        keep_log(&mut self.log, &self.buffer);
+        self.engine.laws();
+        let changed = self.engine.put(trx, table, key, value);
+        keep_log(&mut self.log, &self.engine);
         changed
     }
 
@@ -82,12 +72,9 @@ impl<D: PageDisk> Donor<D> {
             (answer_of (λ _. did_delete trx table key) result) }
     {
         self.log.reserve(LONGEST_MTR)?;
-        self.transactions.laws();
-        self.buffer.laws();
-        let changed = self
-            .transactions
-            .delete(&mut self.buffer, trx, table, key, &mut self.disk);
-        keep_log(&mut self.log, &self.buffer);
+        self.engine.laws();
+        let changed = self.engine.delete(trx, table, key);
+        keep_log(&mut self.log, &self.engine);
         changed
     }
 
@@ -98,8 +85,7 @@ impl<D: PageDisk> Donor<D> {
         ensures copies { KeepsCopies (call.get trx table key) self.old self.new
             (answer_of (λ value. did_get trx table key value) result) }
     {
-        self.transactions
-            .get(&mut self.buffer, trx, table, key, &mut self.disk)
+        self.engine.get(trx, table, key)
     }
 
     /// Takes the last change of a transaction back, or ends a transaction without changes.
@@ -110,12 +96,9 @@ impl<D: PageDisk> Donor<D> {
             (answer_of (λ undone. did_undo_one trx undone) result) }
     {
         self.log.reserve(LONGEST_MTR)?;
-        self.transactions.laws();
-        self.buffer.laws();
-        let undone = self
-            .transactions
-            .undo_one(&mut self.buffer, trx, &mut self.disk);
-        keep_log(&mut self.log, &self.buffer);
+        self.engine.laws();
+        let undone = self.engine.undo_one(trx);
+        keep_log(&mut self.log, &self.engine);
         undone
     }
 
@@ -127,39 +110,37 @@ impl<D: PageDisk> Donor<D> {
             (answer_of (λ position. did_commit trx position) result) }
     {
         self.log.reserve(LONGEST_MTR)?;
-        self.buffer.laws();
-        let committed = self
-            .transactions
-            .commit(&mut self.buffer, trx, &mut self.disk);
-        keep_log(&mut self.log, &self.buffer);
+        self.engine.laws();
+        let committed = self.engine.commit(trx);
+        keep_log(&mut self.log, &self.engine);
         committed
     }
 }
 
 // Keeps the bytes that were written to the log since, which are at most those of one
 // mini-transaction.
-pub(crate) fn keep_log(log: &mut Log, buffer: &Buffer)
+pub(crate) fn keep_log<D: PageDisk>(log: &mut Log, engine: &Engine<D>)
     requires room { LONGEST_MTR ≤ log.old.room }
-    requires grown { HasGrown log.old.bytes buffer.now }
-    ensures { log.new.bytes ≡ log_of buffer.now.log }
+    requires grown { HasGrown log.old.bytes engine.now.buffer }
+    ensures { log.new.bytes ≡ log_of engine.now.buffer.log }
 {
-    let count = count_behind(log, buffer);
+    let count = count_behind(log, engine);
     let from = FIRST_LSN + log.len() as u64;
     let mut bytes = [0; LONGEST_MTR];
-    buffer.read_log(from, &mut bytes[..count]);
+    engine.ring().read(from, &mut bytes[..count]);
     log.extend_within(&bytes[..count]);
 }
 
 // How many bytes of the log stand behind those that are kept.
-fn count_behind(log: &Log, buffer: &Buffer) -> usize
-    requires grown { HasGrown log.now.bytes buffer.now }
+fn count_behind<D: PageDisk>(log: &Log, engine: &Engine<D>) -> usize
+    requires grown { HasGrown log.now.bytes engine.now.buffer }
     ensures short { result ≤ LONGEST_MTR }
-    ensures kept { buffer.now.ring.floor ≤ first_lsn + length log.now.bytes }
-    ensures end { first_lsn + length log.now.bytes + result ≡ end_of buffer.now.ring }
-    ensures below { end_of buffer.now.ring < LSN_LIMIT }
-    ensures text { log_of buffer.now.log ≡ log.now.bytes
-        ++ take result (bytes_from (first_lsn + length log.now.bytes) buffer.now.ring) }
+    ensures kept { engine.now.buffer.ring.floor ≤ first_lsn + length log.now.bytes }
+    ensures end { first_lsn + length log.now.bytes + result ≡ end_of engine.now.buffer.ring }
+    ensures below { end_of engine.now.buffer.ring < LSN_LIMIT }
+    ensures text { log_of engine.now.buffer.log ≡ log.now.bytes
+        ++ take result (bytes_from (first_lsn + length log.now.bytes) engine.now.buffer.ring) }
 {
-    buffer.laws();
-    (buffer.end() - (FIRST_LSN + log.len() as u64)) as usize
+    engine.laws();
+    (engine.end() - (FIRST_LSN + log.len() as u64)) as usize
 }

@@ -5,3 +5,4 @@ pub mod FrameLemmas
 pub mod PoolLemmas
 pub mod OrderLemmas
 pub mod ChainLemmas
+pub mod OpenLemmas

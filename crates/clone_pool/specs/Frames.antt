@@ -1,5 +1,5 @@
 -- Frames, and what becomes of one.
-use Rattle.std.specs.Prelude.{◌≡◌, ℕ, ◌==◌, ◌&&◌, ◌+◌, ◌-◌, ◌^◌, Bool, true, false, IsSome, List, map, None, Some, is_some, not, min, get_or, if◌then◌else◌, unwrap_or}
+use Rattle.std.specs.Prelude.{◌≡◌, ℕ, ◌==◌, ◌&&◌, ◌+◌, ◌-◌, ◌^◌, Bool, true, false, IsSome, List, map, None, Some, is_some, not, min, get_or, if◌then◌else◌, option_map, unwrap_or}
 use Rattle.std.specs.declared.option.Option.{Option}
 use Rattle.clone_page.specs.Header.{zero_page}
 use Rattle.clone_mtr.specs.Effects.{effect}
@@ -61,6 +61,19 @@ is_waiting f = is_dirty f && not (is_begun f.flush)
 
 abbrev pub IsInFlight : Frame → Type 0
 IsInFlight f = is_begun f.flush ≡ true
+
+-- the write of a page counts as open from the beginning of a flush until one lands
+abbrev pub counts_as_open : Flush → Bool
+counts_as_open Idle = false
+counts_as_open (Begun later) = true
+counts_as_open Failed = true
+
+-- the page of a frame, by its space and its number there, if its write counts as open
+abbrev pub open_page : Frame → Option (ℕ × ℕ)
+open_page f =
+    if counts_as_open f.flush
+    then option_map (λ (name : PageName). (name.space, name.number)) (name_of f)
+    else None
 
 -- the number of the next use, which stays at the last number but one
 abbrev pub next_use : ℕ → ℕ

@@ -1,5 +1,9 @@
 -- What contracts see of a pool, and what its calls do to it.
-use Rattle.std.specs.Prelude.{ℕ, ◌≡◌, ◌<◌, ◌≤◌, ◌^◌, ◌-◌, true, false, List, length, Some, None, Result, Ok, Err, MatchOption, slice_set, unwrap_or}
+use Rattle.std.specs.Prelude.{ℕ, ◌≡◌, ◌↔◌, ◌<◌, ◌≤◌, ◌^◌, ◌-◌, true, false, List, length, Some, None, Result, Ok, Err, MatchOption, slice_set, unwrap_or}
+use Rattle.std.specs.declared.cmp.Ordering.{Ordering}
+use Rattle.std.specs.Ordering.{nat_cmp, ordering_then}
+use Rattle.std.specs.List.{Contains}
+use Rattle.std.specs.List.Sorted.{IsStrictlySortedBy}
 use Rattle.clone_pool.specs.declared.frame.Frame.{Frame}
 use Rattle.clone_pool.specs.declared.frame.Flush.TheVariants.{Idle}
 use Rattle.clone_pool.specs.declared.frame.PageName.{PageName}
@@ -7,7 +11,7 @@ use Rattle.clone_pool.specs.declared.orders.Orders.{Orders}
 use Rattle.clone_pool.specs.declared.pool.FetchRefusal.{FetchRefusal}
 use Rattle.clone_pool.specs.declared.pool.FetchRefusal.TheVariants.{PoolFull, DiskFault}
 use Rattle.clone_pool.specs.declared.tournament.TheConstants.{NO_NUMBER}
-use Rattle.clone_pool.specs.Frames.{frame_at, name_of, is_fresh, holder, may_go, is_dirty, is_waiting, later_in, next_use, touched, filled, emptied, freshened, pinned}
+use Rattle.clone_pool.specs.Frames.{frame_at, name_of, is_fresh, holder, may_go, is_dirty, is_waiting, open_page, later_in, next_use, touched, filled, emptied, freshened, pinned}
 use Rattle.clone_pool.specs.Orders.{orders_of, age_rank}
 use Rattle.clone_pool.specs.Tournament.{is_before}
 
@@ -86,6 +90,16 @@ pub record IsNextToFlush (frames : List Frame) (at : ℕ) : Type 0 where
   pub waits : is_waiting (frame_at frames at) ≡ true
   pub first : (other : ℕ) → other < length frames → is_waiting (frame_at frames other) ≡ true
       → is_before (age_rank (frame_at frames other)) (age_rank (frame_at frames at)) ≡ false
+
+-- pages in the order of their spaces, and then of their numbers there
+abbrev pub page_cmp : ℕ × ℕ → ℕ × ℕ → Ordering
+page_cmp a b = ordering_then (nat_cmp a.0 b.0) (nat_cmp a.1 b.1)
+
+-- the pages whose write counts as open, each once, in ascending order
+pub record AreOpenPages (frames : List Frame) (pages : List (ℕ × ℕ)) : Type 0 where
+  pub ascending : IsStrictlySortedBy page_cmp pages
+  pub exact : (page : ℕ × ℕ)
+      → Contains pages page ↔ ((at : ℕ) × (open_page (frame_at frames at) ≡ Some page))
 
 -- the frame has the page, whatever its bytes are, and that was a use
 pub record Fills (page : PageName) (at : ℕ) (old new : Frames) : Type 0 where

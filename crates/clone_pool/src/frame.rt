@@ -1,6 +1,6 @@
 ghost use Rattle.std.specs.Prelude.{◌≡◌, ◌<◌, ◌-◌, ◌^◌};
 ghost use Rattle.clone_pool.specs.Index.{is_same};
-ghost use Rattle.clone_pool.specs.Frames.{no_frame, name_of, is_dirty, may_go, is_waiting, is_begun, is_fresh, made, noted, later_in, touched, pinned, unpinned, freshened, changed, begun, landed, failed, discarded};
+ghost use Rattle.clone_pool.specs.Frames.{no_frame, name_of, is_dirty, may_go, is_waiting, is_begun, is_fresh, counts_as_open, open_page, made, noted, later_in, touched, pinned, unpinned, freshened, changed, begun, landed, failed, discarded};
 
 use clone_mtr::Record;
 use clone_page::Page;
@@ -97,6 +97,34 @@ impl Frame {
         ensures { result ≡ is_begun self.now.flush }
     {
         is_begun(self.flush)
+    }
+
+    /// Whether its page is a new one that no change has made yet.
+    pub fn is_new(&self) -> bool
+        ensures { result ≡ is_fresh self.now.content }
+    {
+        is_fresh(self.content)
+    }
+
+    /// Whether the write of its page counts as open: a flush has begun, and has not landed since.
+    pub fn counts_as_open(&self) -> bool
+        ensures { result ≡ counts_as_open self.now.flush }
+    {
+        match self.flush {
+            Flush::Idle => false,
+            Flush::Begun { .. } | Flush::Failed => true,
+        }
+    }
+
+    // Its page, by the space and the number there, if the write of the page counts as open.
+    pub(crate) fn open_page(&self) -> Option<(u32, u32)>
+        ensures { result ≡ open_page self.now }
+    {
+        if !self.counts_as_open() {
+            return None;
+        }
+        let name = self.name()?;
+        Some((name.space, name.number))
     }
 
     // Whether it may make place for another page.

@@ -1,8 +1,9 @@
 ghost use Rattle.std.specs.Prelude.{◌≡◌, ◌<◌, ◌≤◌, ◌-◌, ◌^◌, ℕ, None, true, false, IfOk, IfErr, IfNone, IfSome, OnOk, OnErr, length, replicate, slice_set};
 ghost use Rattle.std.specs.Option.{ForSome};
+ghost use Rattle.std.specs.List.{filter_map};
 ghost use Rattle.clone_outside.specs.Causes.{Rose};
 ghost use Rattle.clone_outside.specs.Disk.{ForTold, GivesQuiet};
-ghost use Rattle.clone_pool.specs.Frames.{no_frame, frame_at, name_of, holder, HoldsPage, IsInFlight, is_dirty, is_waiting, page_changed, emptied, filled, pinned, unpinned, changed, begun, landed, failed, discarded, next_use};
+ghost use Rattle.clone_pool.specs.Frames.{no_frame, frame_at, name_of, holder, HoldsPage, IsInFlight, is_dirty, is_waiting, open_page, page_changed, emptied, filled, pinned, unpinned, changed, begun, landed, failed, discarded, next_use};
 
 use crate::orders::Orders;
 use crate::tournament::NO_NUMBER;
@@ -26,8 +27,8 @@ pub enum FetchRefusal {
 // The number of a use behind which uses are no longer counted.
 const LAST_USE: u64 = NO_NUMBER - 1;
 
-/// Pages in frames. After it is made no call takes memory, and each takes no more steps than the
-/// number of frames has binary digits.
+/// Pages in frames. After it is made no call but `open_pages` takes memory, and each other call
+/// takes no more steps than the number of frames has binary digits.
 #[derive(Drop)]
 pub struct Pool {
     frames: Vec<Frame>,
@@ -46,7 +47,7 @@ impl Model for Pool {
 }
 
 impl Pool {
-    ghost use Rattle.clone_pool.specs.Pool.{Frames, IsPool, Fetches, Freshens, Fills, Empties, IsVictim, AreKept, AreClean, IsOldest, AreNotWaiting, IsNextToFlush, IsHolder, KeepsInUse, KeepsOthers, HasPinRoom, used, with_frame, with_fresh};
+    ghost use Rattle.clone_pool.specs.Pool.{Frames, IsPool, Fetches, Freshens, Fills, Empties, IsVictim, AreKept, AreClean, IsOldest, AreNotWaiting, AreOpenPages, IsNextToFlush, IsHolder, KeepsInUse, KeepsOthers, HasPinRoom, used, with_frame, with_fresh};
 
     /// So many frames without pages. This makes all that the pool keeps.
     pub fn new(alloc: Global, count: u32) -> Result<Pool, AllocError>
@@ -269,6 +270,16 @@ impl Pool {
         }
     }
 
+    /// The pages whose write counts as open, since a flush of each has begun and not landed: each
+    /// once, by its space and its number there, in ascending order.
+    pub fn open_pages(&self, alloc: Global) -> Result<Vec<(u32, u32)>, AllocError>
+        ensures { IfOk result (λ pages. AreOpenPages self.now.frames pages.items) }
+    {
+        let mut pages = open_pages(alloc, &self.frames)?;
+        pages.sort_unstable();
+        Ok(pages)
+    }
+
     /// Gives up the page in a frame, which isn't pinned, with all that was changed of it.
     pub fn discard(&mut self, at: u32)
         requires holds { HoldsPage (frame_at self.old.frames at) }
@@ -360,6 +371,16 @@ impl Pool {
         self.uses = number;
         Ok(())
     }
+}
+
+// The pages whose write counts as open, in the order of their frames.
+fn open_pages(alloc: Global, frames: &[Frame]) -> Result<Vec<(u32, u32)>, AllocError>
+    ensures { IfOk result (λ pages. pages.items ≡ filter_map open_page frames.now) }
+{
+    frames
+        .iter()
+        .filter_map(|frame| frame.open_page())
+        .collect(alloc)
 }
 
 // Reads a page into a frame that is then in its use of this number.

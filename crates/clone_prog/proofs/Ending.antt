@@ -3,8 +3,8 @@ use Rattle.std.proofs.Common.{◌≡◌, ◌≤◌, ℕ, Bool, true, false, List
 use Rattle.std.proofs.lemmas.List.{append-nil}
 use Rattle.std.specs.Fmt.{decimal}
 use Rattle.std.specs.declared.option.Option.{Option}
-use Rattle.clone_outside.specs.Causes.{Rose, raised}
-use Rattle.clone_outside.specs.Bytes.{IsSpent, appended, prepended}
+use Rattle.clone_outside.specs.Causes.{Rose}
+use Rattle.clone_outside.specs.Bytes.{appended}
 use Rattle.clone_outside.specs.Disk.{DiskImage}
 use Rattle.clone_outside.specs.declared.disk.DiskOrder.{DiskOrder}
 use Rattle.clone_model.specs.Texts.{ended, binlog_text}
@@ -15,7 +15,7 @@ use Rattle.clone_plain.specs.Events.{Event, recipient_fault}
 use Rattle.clone_plain.specs.Headline.{AreCommits, AreSets, ShowsStop, all_events, donor_order, recipient_order}
 use Rattle.clone_plain.specs.Runs.{output}
 use Rattle.clone_plain.specs.World.{no_clone}
-use Rattle.clone_donor.specs.Disks.{DiskState, Visits}
+use Rattle.clone_engine.specs.Disks.{DiskState, Visits}
 use Rattle.clone_core.specs.System.{donor_of}
 use Rattle.clone_core.specs.Lines.{State, IsNew, Runs}
 use Rattle.clone_core.specs.Copied.{HoldsClone}
@@ -25,7 +25,7 @@ use Rattle.clone_prog.specs.declared.run.Unready.{Unready}
 use Rattle.clone_prog.specs.declared.run.Unready.TheVariants as unready
 use Rattle.clone_prog.specs.declared.status.Status.{Status}
 use Rattle.clone_prog.specs.declared.status.Status.TheVariants.{Done, Memory, Usage, BadLine, SourceFault, SinkFault, DonorFault, RecipientFault, NotEmpty, TooLong}
-use Rattle.clone_prog.specs.Carrying.{AnsweredAll, Finished, Stopped, in_lines, in_binlog}
+use Rattle.clone_prog.specs.Carrying.{AnsweredAll, Stopped, in_lines, in_binlog}
 use Rattle.clone_prog.specs.Ended.{EndsLines}
 use Rattle.clone_prog.specs.Looking.{IsUnread, IsUnready}
 use Rattle.clone_prog.specs.Saying.{Says, SaysUnread, SaysUnready}

@@ -1,6 +1,6 @@
 -- How far a run has come: what was carried out, and what of its answers was written.
-use Rattle.std.proofs.Common.{◌≡◌, ℕ, ◌+◌, ◌<◌, ◌≤◌, List, [], ◌∷◌, ◌++◌, length, take, get_or, refl, sym, ap, ◌∙◌, subst, Some, None, Result, Ok, Err, OnOk, OnErr, IsErrOf, IsErrAnd, append_assoc, arith}
-use Rattle.std.proofs.lemmas.List.{take_more, append-nil, take_all, length-take}
+use Rattle.std.proofs.Common.{◌≡◌, ℕ, ◌+◌, ◌<◌, ◌≤◌, List, [], ◌∷◌, ◌++◌, length, take, get_or, refl, sym, ap, ◌∙◌, subst, Some, None, Result, Ok, Err, OnOk, OnErr, IsErrOf, IsErrAnd, append_assoc}
+use Rattle.std.proofs.lemmas.List.{take_more, append-nil, take_all}
 use Rattle.std.proofs.Math.Seq.{take-length, take-append-add}
 use Rattle.std.specs.declared.option.Option.{Option}
 use Rattle.clone_outside.specs.Bytes.{appended, TakesSome}

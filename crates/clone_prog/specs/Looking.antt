@@ -3,11 +3,11 @@ use Rattle.std.specs.Prelude.{ℕ, ◌⊎◌, List, ⊤}
 use Rattle.clone_outside.specs.Causes.{Rose}
 use Rattle.clone_outside.specs.Disk.{ForTold}
 use Rattle.clone_script.specs.Script.{IsFirstBad}
-use Rattle.clone_donor.specs.Disks.{DiskState, Visits}
-use Rattle.clone_donor.specs.Opened.{IsNotEmpty}
+use Rattle.clone_engine.specs.Disks.{DiskState, Visits}
+use Rattle.clone_engine.specs.Opened.{IsNotEmpty}
 use Rattle.clone_prog.specs.Main.{End, GaveAll, GaveTooMuch, IsCommand, Looks}
-use Rattle.clone_donor.specs.declared.opening.OpenCause.{OpenCause}
-use Rattle.clone_donor.specs.declared.opening.OpenCause.TheVariants as opening
+use Rattle.clone_engine.specs.declared.opening.OpenCause.{OpenCause}
+use Rattle.clone_engine.specs.declared.opening.OpenCause.TheVariants as opening
 use Rattle.clone_prog.specs.declared.reading.Unread.{Unread}
 use Rattle.clone_prog.specs.declared.reading.Unread.TheVariants as unread
 use Rattle.clone_prog.specs.declared.run.Unready.{Unready}

@@ -16,8 +16,8 @@ use Rattle.clone_plain.specs.Events.{Event, recipient_fault}
 use Rattle.clone_plain.specs.Runs.{output}
 use Rattle.clone_plain.specs.World.{no_clone}
 use Rattle.clone_plain.specs.Headline.{AreCommits, AreSets, ShowsStop, all_events, donor_order, recipient_order}
-use Rattle.clone_donor.specs.Disks.{DiskState, Visits}
-use Rattle.clone_donor.specs.Opened.{IsNotEmpty}
+use Rattle.clone_engine.specs.Disks.{DiskState, Visits}
+use Rattle.clone_engine.specs.Opened.{IsNotEmpty}
 use Rattle.clone_core.specs.System.{donor_of}
 use Rattle.clone_core.specs.Lines.{State, IsNew, Runs}
 use Rattle.clone_core.specs.Copied.{HoldsClone}

@@ -15,6 +15,7 @@ mod flushed_walk;
 mod opening;
 mod pages;
 mod plain;
+mod reads;
 mod silent;
 mod vectors;
 mod walk;

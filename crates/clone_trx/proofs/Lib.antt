@@ -31,3 +31,4 @@ pub mod CreateLemmas
 pub mod BeginLemmas
 pub mod OpenLemmas
 pub mod FoundPlaceLemmas
+pub mod SpaceLemmas

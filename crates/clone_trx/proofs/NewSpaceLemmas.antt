@@ -16,6 +16,7 @@ use Rattle.clone_image.specs.Redone.{Standing, no_space, redone}
 use Rattle.clone_law.specs.Machine.{Engine, HasSpace}
 use Rattle.clone_law.specs.Rule.{Rule, Bare}
 use Rattle.clone_pool.specs.declared.frame.Frame.{Frame}
+use Rattle.clone_pool.specs.Frames.{counts_as_open}
 use Rattle.clone_buffer.specs.Buffered.{Buffered, IsBuffer, image_of}
 use Rattle.clone_buffer.specs.OnePage.{Beside, engine_with, frame_of, bytes_in, oldest_in, flush_in, flight_of, standing_in, is_open, has_space}
 use Rattle.clone_buffer.specs.Keeping.{IsKept, IsKeptPage, Stands}
@@ -44,6 +45,7 @@ module _ (log : List (List Record)) (beside : Beside) (m n : DiskImage) (space n
           copy = copy_stays space number (engine_with log beside m space number frame) e.disk e.writing e.flight (beside.copy space number) (λ _. shut n) (λ grounded. grounded) k.rule.copy;
         };
     dirty = λ t. absurd (false≢true (sym (shut n) ∙ t));
+    opened = λ t. absurd (false≢true (sym (shut n) ∙ t));
     flights = k.flights;
   }
     where
@@ -66,6 +68,7 @@ module _ (log : List (List Record)) (beside : Beside) (m n : DiskImage) (space n
   same_space is k = record {
     rule = subst (λ (o : Option (List Held)). Rule space number (world (beside.copy space number) (engine o))) (sym is) k.rule;
     dirty = subst (λ (o : Option (List Held)). (engine o).writing ≡ true → IsSome (oldest_in frame)) (sym is) k.dirty;
+    opened = subst (λ (o : Option (List Held)). (engine o).writing ≡ true → counts_as_open (flush_in frame) ≡ true) (sym is) k.opened;
     flights = k.flights;
   }
 

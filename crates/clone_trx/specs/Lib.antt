@@ -5,3 +5,4 @@ pub mod Ways
 pub mod Calls
 pub mod Locked
 pub mod Opened
+pub mod Spaces

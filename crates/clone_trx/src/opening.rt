@@ -60,6 +60,7 @@ pub fn open<D: PageDisk>(
     ensures made { OnOk result
         (Steps (D.told disk.old) (D.told disk.new) (λ m. with_created m 0 system_size)) }
     ensures ring { IfOk result (λ opened. opened.1.ring.floor ≡ first_lsn) }
+    ensures size { IfOk result (λ opened. opened.1.ring.size ≡ ring) }
     ensures stands { ForTold (D.told disk.old) (λ m. m.spaces ≡ finite.empty)
         → IfOk result (λ opened. Stands opened.1 at_rest (D.told disk.new)) }
 {

@@ -1,4 +1,4 @@
-ghost use Rattle.std.specs.Prelude.{◌≡◌, ◌<◌, ◌≤◌, ◌%◌, ℕ, [], None, Some, length, option_map, unwrap_or, IfOk, OnOk, IfSome, IsTrue, MatchResult};
+ghost use Rattle.std.specs.Prelude.{◌≡◌, ◌<◌, ◌≤◌, ◌%◌, ℕ, [], None, Some, length, option_map, unwrap_or, IfOk, OnOk, IfSome, IsSome, IsTrue, MatchResult};
 ghost use Rattle.std.specs.Option.{option_copied};
 ghost use Rattle.std.specs.List.{AllByRecursion};
 ghost use Rattle.std.specs.FinMap as finite;
@@ -20,6 +20,7 @@ ghost use Rattle.clone_plain.specs.declared.refusal.EngineRefusal.TheVariants.{B
 ghost use Rattle.clone_trx.specs.Calls.{create_way, begin_way};
 ghost use Rattle.clone_trx.specs.Sound.{IsKept};
 ghost use Rattle.clone_trx.specs.Kept.{IsSafe, Keeps};
+ghost use Rattle.clone_trx.specs.Spaces.{IsPageOf, spaces_of};
 ghost use Rattle.clone_trx.specs.Ways.{Answers, StaysStanding};
 
 mod change;
@@ -33,6 +34,7 @@ use crate::active::Active;
 use crate::locks::Locks;
 use crate::tables::Tables;
 use clone_buffer::Buffer;
+use clone_contents::SYSTEM_PAGES;
 use clone_model::{Binlog, BucketCount, Commit, TableNumber};
 use clone_outside::PageDisk;
 use clone_plain::{Cause, EngineRefusal, TABLE_LIMIT};
@@ -103,6 +105,15 @@ impl Transactions {
         self.active.least_free()
     }
 
+    /// The system space and then the tables in ascending order, each with its number of pages.
+    pub fn spaces(&self, alloc: Global) -> Result<Vec<(u32, u32)>, AllocError>
+        ensures { IfOk result (λ spaces. spaces.items ≡ spaces_of self.now) }
+    {
+        let mut spaces = self.tables.list(alloc)?;
+        spaces.insert(0, (0, SYSTEM_PAGES))?;
+        Ok(spaces)
+    }
+
     /// What holds between calls, whatever the pages are. No table was dropped.
     pub fn laws(&self)
         ensures safe { IsSafe self.now }
@@ -134,7 +145,7 @@ impl Transactions {
 
 /// What an image that keeps a donor tells: its rows, once the changes of every open transaction are
 /// taken back, are those that the history leaves; no undo slot has more records than fit, and each
-/// is in its ranges.
+/// is in its ranges. It has each page of the donor's spaces.
 pub fn kept_laws()
     ensures rows { (d : Donor) (image : Image) → IsKept d image
         → HasRows (page_of (recovered image)) (fold (history d)) }
@@ -144,4 +155,6 @@ pub fn kept_laws()
     ensures counts { (d : Donor) (image : Image) (s : ℕ) (slot : UndoSlot) → IsKept d image
         → s < TRANSACTION_LIMIT → undo_slot_of image s ≡ Some slot
         → length slot.records ≤ capacity }
+    ensures pages { (d : Donor) (image : Image) (space number : ℕ) → IsKept d image
+        → IsPageOf d space number → IsSome (page_of image space number) }
 {}

@@ -1,4 +1,4 @@
-use Rattle.std.proofs.Common.{◌<◌, ◌^◌, arith}
+use Rattle.std.proofs.Common.{arith}
 use Rattle.clone_core.proofs.RecoveredLemmas.{recovered_shows, recovered_cause, recovered_same}
 use Rattle.clone_core.proofs.rows.recovered_rows.Goals as goal
 

@@ -1,4 +1,4 @@
-use Rattle.std.proofs.Common.{◌<◌, ℕ, length, ap, subst, arith}
+use Rattle.std.proofs.Common.{◌<◌, length, ap, arith}
 use Rattle.clone_core.specs.Lines.{State}
 use Rattle.clone_core.proofs.WaitingLemmas.{waiting}
 use Rattle.clone_core.proofs.CleanLemmas.{frames_of, clean_begins, clean_goes, clean_ended, no_page, fewer_wait, not_begun, not_halved, not_landed}

@@ -1,39 +1,7 @@
-use Rattle.std.proofs.Common.{sym, ap, subst, ◌∙◌, Result}
+use Rattle.std.proofs.Common.{sym, ap, ◌∙◌}
 use Rattle.clone_mtr.specs.Spelling.{log_of}
-use Rattle.clone_pool.specs.declared.frame.PageName.{PageName}
-use Rattle.clone_buffer.specs.OnePage.{Copies}
-use Rattle.clone_flush.specs.Calls.{after_begin}
-use Rattle.clone_flush.specs.Flights.{StandsFlown}
-use Rattle.clone_flush.specs.declared.refusal.FlushRefusal.{FlushRefusal}
-use Rattle.clone_plain.specs.Calls.{did_flush_begin}
-use Rattle.clone_plain.specs.declared.refusal.EngineRefusal.{EngineRefusal}
-use Rattle.clone_donor.specs.Engine.{Engine, StandsBeside}
-use Rattle.clone_donor.specs.Steps.{answer_of}
-use Rattle.clone_donor.proofs.FlushLemmas.{begun_engine}
+use Rattle.clone_donor.proofs.FlushLemmas.{begin_log}
 use Rattle.clone_donor.proofs.donor.Donor.flush_begin.Goals as goal
-use Rattle.clone_donor.proofs.donor.Donor.flush_begin.Goals.{in-Ok, in-Err}
 
 pub invariant_of-self : goal.invariant_of-self
-invariant_of-self g c =
-    let old = c.self.inside in
-    let new = c.begin.new in
-    let r = begun_engine old.transactions (record { buffer = old.buffer; flights = old.flusher }) (record { buffer = new.buffer; flights = new.self }) _ (record { space = c.args.space; number = c.args.page }) c.begin.result
-    c.laws-2.ensures.pool c.laws-2.ensures.buffer c.self.invariant.0 c.begin.ensures.begins c.begin.ensures.stands in
-    (r.engine_is, c.self.invariant.1 ∙ ap log_of (sym r.log))
-
-pub returns-clause-copies : goal.returns-clause-copies
-returns-clause-copies g c =
-    let old = c.self.inside in
-    let new = c.begin.new in
-    let page : PageName = record { space = c.args.space; number = c.args.page } in
-    let r = begun_engine old.transactions (record { buffer = old.buffer; flights = old.flusher }) (record { buffer = new.buffer; flights = new.self }) _ page c.begin.result
-    c.laws-2.ensures.pool c.laws-2.ensures.buffer c.self.invariant.0 c.begin.ensures.begins c.begin.ensures.stands in
-    λ copies st.
-    let noted = r.copies copies (subst (λ (s : Engine). StandsBeside s copies) (sym c.self.view_is) st) in
-    let by = λ (answer : Result (Unit {0}) FlushRefusal). after_begin page answer copies in
-    let to = λ (answer : Result (Unit {0}) EngineRefusal). after_begin page (answer_of (λ x. did_flush_begin c.args.space c.args.page) answer) copies in
-    let stands = λ (others : Copies). StandsFlown new.buffer new.self others (g.D.PageDisk.told old.disk) in
-    elim c.match-begin.branch [
-      | in-Ok w ↦ subst stands (ap by w.in-Ok.is ∙ sym (ap to w.result-is)) noted
-      | in-Err w ↦ subst stands (ap by w.in-Err.is ∙ sym (ap to w.result-is)) noted
-    ]
+invariant_of-self g c = c.self.invariant ∙ ap log_of (sym (begin_log c.args.space c.args.page c.self.inside.engine c.flush_begin.new.self _ c.flush_begin.ensures.step))

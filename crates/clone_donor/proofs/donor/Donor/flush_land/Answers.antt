@@ -1,15 +1,7 @@
 use Rattle.std.proofs.Common.{sym, ap, ◌∙◌}
 use Rattle.clone_mtr.specs.Spelling.{log_of}
-use Rattle.clone_buffer.specs.OnePage.{no_copies}
-use Rattle.clone_flush.specs.Calls.{State}
-use Rattle.clone_donor.proofs.FlushLemmas.{landed_is, written_engine}
+use Rattle.clone_donor.proofs.FlushLemmas.{land_log}
 use Rattle.clone_donor.proofs.donor.Donor.flush_land.Goals as goal
 
 pub invariant_of-self : goal.invariant_of-self
-invariant_of-self g c =
-    let old = c.self.inside in
-    let new = c.land.new in
-    let s : State = record { buffer = old.buffer; flights = old.flusher } in
-    let t : State = record { buffer = new.buffer; flights = new.self } in
-    let w = landed_is old.transactions (record { space = c.args.space; number = c.args.page }) s t (g.D.PageDisk.told old.disk) (g.D.PageDisk.told new.disk) c.land.result c.land.ensures.lands in
-    (written_engine old.transactions s t _ _ c.self.invariant.0 w (c.land.ensures.stands no_copies c.self.invariant.0.stands), c.self.invariant.1 ∙ ap log_of (sym w.log))
+invariant_of-self g c = c.self.invariant ∙ ap log_of (sym (land_log c.args.space c.args.page c.self.inside.engine c.flush_land.new.self _ c.flush_land.ensures.step))

@@ -1,0 +1,92 @@
+-- The answer of a call of transactions, as the call that was carried out or why it wasn't.
+use Rattle.std.proofs.Common.{◌≡◌, inl, inr, List, refl, sym, ap, ◌∙◌, Option, None, Some, Result, Ok, Err, IsOk}
+use Rattle.clone_mtr.specs.declared.record.Record.{Record}
+use Rattle.clone_buffer.specs.Buffered.{Buffered}
+use Rattle.clone_outside.specs.Causes.{Rose}
+use Rattle.clone_plain.specs.Calls.{Call, Done, cause_of}
+use Rattle.clone_plain.specs.Donor.{Donor}
+use Rattle.clone_plain.specs.declared.refusal.Cause.{Cause}
+use Rattle.clone_plain.specs.declared.refusal.Cause.TheVariants.{DiskFault}
+use Rattle.clone_plain.specs.declared.refusal.EngineRefusal.{EngineRefusal}
+use Rattle.clone_plain.specs.declared.refusal.EngineRefusal.TheVariants.{Because, NoMemory}
+use Rattle.clone_trx.specs.Ways.{Way, reads, stops, writes, makes, ends, Goes, Writes, Carries, Answers, held, page_in}
+use Rattle.clone_engine.specs.Disks.{Visits}
+use Rattle.clone_engine.specs.Engine.{Engine}
+use Rattle.clone_engine.specs.Steps as steps
+use Rattle.clone_engine.specs.Steps.{answer_of, way_of, Did, Wants, Transacts}
+
+module _ {X : Type 0} (did : X → Done) where
+  -- the answer is a refusal exactly where the call was refused for it
+  pub same_refusal : (result : Result X EngineRefusal) (e : EngineRefusal) → answer_of did result ≡ Err e → result ≡ Err e
+  same_refusal (Ok x) e is = absurd (let e = is in cc)
+  same_refusal (Err refusal) e is = let same : refusal ≡ e = cc in ap (λ (r : EngineRefusal). Err r) same
+
+  refused : (result : Result X EngineRefusal) (e : EngineRefusal) → result ≡ Err e → answer_of did result ≡ Err e
+  refused (Ok x) e is = absurd (let e = is in cc)
+  refused (Err refusal) e is = let same : refusal ≡ e = cc in ap (λ (r : EngineRefusal). Err r) same
+
+  wrote : (records : List Record) (old new : Buffered) (result : Result X EngineRefusal) → Writes records old new result → Writes records old new (answer_of did result)
+  wrote records old new (Ok x) w = w
+  wrote records old new (Err (Because cause)) w = w
+  wrote records old new (Err NoMemory) w = w
+
+  was_ok : (result : Result X EngineRefusal) → IsOk result → IsOk (answer_of did result)
+  was_ok (Ok x) is = is
+  was_ok (Err refusal) is = is
+
+  -- THE WAY IS GONE
+  goes_to : (w : Way) (old new : Buffered) (result : Result X EngineRefusal) → Goes w old new result → Goes w old new (answer_of did result)
+  goes_to (reads page rest) old new result (inl miss) = inl (miss.0, refused result (Because miss.0) miss.1, miss.2)
+  goes_to (reads page rest) old new result (inr on) = inr (on.0, on.1, on.2, on.3, goes_to (rest (page_in on.0 on.1)) (held on.0 on.1) on.2 result on.4, on.5)
+  goes_to (stops cause) old new result stopped = (refused result (Because cause) stopped.0, stopped.1)
+  goes_to (writes records) old new result w = wrote records old new result w
+  goes_to (makes records) old new result (inl w) = inl (wrote records old new result w)
+  goes_to (makes records) old new result (inr failed) = inr (failed.0, refused result _ failed.1, failed.2)
+  goes_to ends old new result ended = (was_ok result ended.0, ended.1)
+
+  carries_to : (d e : Donor) (result : Result X EngineRefusal) (Does : X → Type 0) (Did : Done → Type 0) → ((x : X) → Does x → Did (did x)) → Carries d e result Does → Carries d e (answer_of did result) Did
+  carries_to d e (Ok x) Does Did to does = to x does
+  carries_to d e (Err refusal) Does Did to same = same
+
+  pub answers_to : (cause : Option Cause) (w : Way) (d e : Donor) (old new : Buffered) (result : Result X EngineRefusal) (Does : X → Type 0) (Did : Done → Type 0) → ((x : X) → Does x → Did (did x)) → Answers cause w d e old new result Does
+      → Answers cause w d e old new (answer_of did result) Did
+  answers_to (Some cause) w d e old new result Does Did to a = (refused result (Because cause) a.0, a.1, a.2)
+  answers_to None w d e old new result Does Did to a = (goes_to w old new result a.0, carries_to d e result Does Did to a.1)
+
+-- a way that wants memory writes nothing
+memory_same : {X : Type 0} (records : List Record) (old new : Buffered) (result : Result X EngineRefusal) → result ≡ Err NoMemory → Writes records old new result → new ≡ old
+memory_same records old new (Ok x) is w = absurd (let e = is in cc)
+memory_same records old new (Err (Because cause)) is w = w.1
+memory_same records old new (Err NoMemory) is w = w.1
+
+memory_log : {X : Type 0} (w : Way) (old new : Buffered) (result : Result X EngineRefusal) → result ≡ Err NoMemory → Goes w old new result → new.log ≡ old.log
+memory_log (reads page rest) old new result is (inl miss) = absurd (let e = sym miss.1 ∙ is in cc)
+memory_log (reads page rest) old new result is (inr on) = ap (λ (b : Buffered). b.log) on.5 ∙ memory_log (rest (page_in on.0 on.1)) (held on.0 on.1) on.2 result is on.4 ∙ on.3.log
+memory_log (stops cause) old new result is stopped = ap (λ (b : Buffered). b.log) stopped.1
+memory_log (writes records) old new result is w = ap (λ (b : Buffered). b.log) (memory_same records old new result is w)
+memory_log (makes records) old new result is (inl w) = ap (λ (b : Buffered). b.log) (memory_same records old new result is w)
+memory_log (makes records) old new result is (inr failed) = ap (λ (b : Buffered). b.log) failed.2
+memory_log ends old new result is ended = ap (λ (b : Buffered). b.log) ended.1
+
+-- what a call does that wants memory
+wants : {X : Type 0} (cause : Option Cause) (w : Way) (s t : Engine) (Does : X → Type 0) → t.flights ≡ s.flights → Answers cause w s.donor t.donor s.buffer t.buffer (Err NoMemory) Does → Wants s t
+wants (Some cause) w s t Does flights a = record { donor = a.1; log = ap (λ (b : Buffered). b.log) a.2; flights = flights }
+wants None w s t Does flights a = record { donor = a.1; log = memory_log w s.buffer t.buffer (Err NoMemory) refl a.0; flights = flights }
+
+module _ {X : Type 0} (did : X → Done) (call : Call) (s t : Engine) (result : Result X EngineRefusal) (Does : X → Type 0) (to : (x : X) → Does x → Did call s t (did x)) where
+  pub goes_of : t.flights ≡ s.flights → Answers (cause_of s.donor call) (way_of s.donor call) s.donor t.donor s.buffer t.buffer result Does → steps.Goes call s t (answer_of did result)
+  goes_of flights a = by result a
+    where
+      by : (r : Result X EngineRefusal) → Answers (cause_of s.donor call) (way_of s.donor call) s.donor t.donor s.buffer t.buffer r Does → steps.Goes call s t (answer_of did r)
+      by (Ok x) a = answers_to did (cause_of s.donor call) (way_of s.donor call) s.donor t.donor s.buffer t.buffer (Ok x) Does (Did call s t) to a
+      by (Err (Because cause)) a = answers_to did (cause_of s.donor call) (way_of s.donor call) s.donor t.donor s.buffer t.buffer (Err (Because cause)) Does (Did call s t) to a
+      by (Err NoMemory) a = wants (cause_of s.donor call) (way_of s.donor call) s t Does flights a
+
+  -- THE STEP OF A CALL OF TRANSACTIONS
+  pub transacts : t.flights ≡ s.flights → Answers (cause_of s.donor call) (way_of s.donor call) s.donor t.donor s.buffer t.buffer result Does → Visits s.disk t.disk → (result ≡ Err (Because DiskFault) → Rose s.disk.failures t.disk.failures)
+      → Transacts call s t (answer_of did result)
+  transacts flights a visits fault = record {
+    goes = goes_of flights a;
+    flights = flights;
+    disk = record { visits = visits; fault = λ is. fault (same_refusal did result (Because DiskFault) is) };
+  }

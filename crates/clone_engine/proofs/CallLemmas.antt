@@ -1,0 +1,70 @@
+-- What each call of transactions leaves of the log and of the tables, by its answer.
+use Rattle.std.proofs.Common.{◌≡◌, ◌≤◌, inl, inr, ℕ, ap, ◌∙◌, Option, Some, None, Result}
+use Rattle.clone_model.specs.declared.change.Change.{Change}
+use Rattle.clone_buffer.specs.Buffered.{Buffered}
+use Rattle.clone_plain.specs.Causes.{create_cause, begin_cause, change_cause, get_cause, no_trx}
+use Rattle.clone_plain.specs.Donor.{Donor}
+use Rattle.clone_plain.specs.Effects.{created, Begins, Changes, Undoes, Commits}
+use Rattle.clone_plain.specs.declared.refusal.Cause.{Cause}
+use Rattle.clone_plain.specs.declared.refusal.EngineRefusal.{EngineRefusal}
+use Rattle.clone_plain.specs.declared.refusal.Undone.{Undone}
+use Rattle.clone_plain.specs.declared.refusal.Undone.TheVariants.{Left, Ended}
+use Rattle.clone_trx.specs.Calls.{create_way, begin_way, change_way, get_way, undo_way, commit_way}
+use Rattle.clone_trx.specs.Kept.{IsSafe}
+use Rattle.clone_trx.specs.Ways.{Answers, Goes}
+use Rattle.clone_engine.proofs.EngineLemmas.{answers_grow, answers_tables}
+use Rattle.clone_engine.proofs.TableRecordLemmas.{create_tables, begin_tables, change_way_tables, may_change_table, get_tables, undo_tables, commit_tables}
+use Rattle.clone_engine.proofs.WayLemmas.{Grows}
+
+-- the log has grown by records of tables, and the tables are those of before
+pub record Leaves (d e : Donor) (old new : Buffered) : Type 0 where
+  pub grows : Grows old new
+  pub tables : e.tables ≡ d.tables
+
+module _ (d e : Donor) (old new : Buffered) where
+  pub create_grows : {X : Type 0} (table buckets : ℕ) (result : Result X EngineRefusal) → table ≤ 1000000 → Answers (create_cause d table) (create_way d table buckets) d e old new result (λ _. e ≡ created table buckets d) → Grows old new
+  create_grows table buckets result high a = answers_grow (create_cause d table) (create_way d table buckets) d e old new result (λ _. e ≡ created table buckets d) (λ _. create_tables d table buckets high) a
+
+  pub begin_leaves : (writer index : ℕ) (result : Result ℕ EngineRefusal) → Answers (begin_cause d) (begin_way d writer index) d e old new result (λ trx. Begins d writer index trx e) → Leaves d e old new
+  begin_leaves writer index result a = record {
+    grows = answers_grow (begin_cause d) (begin_way d writer index) d e old new result (λ trx. Begins d writer index trx e) (λ _. begin_tables d writer index) a;
+    tables = answers_tables (begin_cause d) (begin_way d writer index) d e old new result (λ trx. Begins d writer index trx e) (λ trx does. ap (λ (x : Donor). x.tables) does.1) a;
+  }
+
+  pub change_leaves : {X : Type 0} (trx long : ℕ) (change : Change) (result : Result X EngineRefusal) → IsSafe d → Answers (change_cause d trx change.table change.key long) (change_way d trx change) d e old new result (λ _. Changes d trx change e) → Leaves d e old new
+  change_leaves trx long change result safe a = record {
+    grows = answers_grow (change_cause d trx change.table change.key long) (change_way d trx change) d e old new result (λ _. Changes d trx change e)
+        (λ none. change_way_tables d trx change (may_change_table d trx change.table change.key long safe none)) a;
+    tables = answers_tables (change_cause d trx change.table change.key long) (change_way d trx change) d e old new result (λ _. Changes d trx change e) (λ _ does. ap (λ (x : Donor). x.tables) does.is) a;
+  }
+
+  undone_tables : (trx : ℕ) (undone : Undone) → Undoes d trx undone e → e.tables ≡ d.tables
+  undone_tables trx (Left left) does = ap (λ (x : Donor). x.tables) does.is
+  undone_tables trx Ended does = ap (λ (x : Donor). x.tables) does.is
+
+  pub undo_leaves : (trx : ℕ) (result : Result Undone EngineRefusal) → IsSafe d → Answers (no_trx d trx) (undo_way d trx) d e old new result (λ undone. Undoes d trx undone e) → Leaves d e old new
+  undo_leaves trx result safe a = record {
+    grows = answers_grow (no_trx d trx) (undo_way d trx) d e old new result (λ undone. Undoes d trx undone e) (λ _. undo_tables d trx safe) a;
+    tables = answers_tables (no_trx d trx) (undo_way d trx) d e old new result (λ undone. Undoes d trx undone e) (undone_tables trx) a;
+  }
+
+  pub commit_leaves : (trx : ℕ) (result : Result ℕ EngineRefusal) → Answers (no_trx d trx) (commit_way d trx) d e old new result (λ position. Commits d trx position e) → Leaves d e old new
+  commit_leaves trx result a = record {
+    grows = answers_grow (no_trx d trx) (commit_way d trx) d e old new result (λ position. Commits d trx position e) (λ _. commit_tables d trx) a;
+    tables = answers_tables (no_trx d trx) (commit_way d trx) d e old new result (λ position. Commits d trx position e) (λ position does. ap (λ (x : Donor). x.tables) does.is) a;
+  }
+
+-- what only reads leaves the log
+pub get_log : {X : Type 0} (d : Donor) (trx table key : ℕ) (old new : Buffered) (result : Result X EngineRefusal) (Does : X → Type 0) → Answers (get_cause d trx table key) (get_way d table key) d d old new result Does → new.log ≡ old.log
+get_log d trx table key old new result Does a = by (get_cause d trx table key) a
+  where
+    goes : Goes (get_way d table key) old new result → new.log ≡ old.log
+    goes (inl miss) = ap (λ (b : Buffered). b.log) miss.2.same
+    goes (inr on) = ap (λ (b : Buffered). b.log) on.5 ∙ ap (λ (b : Buffered). b.log) on.4.1 ∙ on.3.log
+
+    by : (cause : Option Cause) → Answers cause (get_way d table key) d d old new result Does → new.log ≡ old.log
+    by (Some cause) a = ap (λ (b : Buffered). b.log) a.2
+    by None a = goes a.0
+
+pub get_grows : {X : Type 0} (d : Donor) (trx table key : ℕ) (old new : Buffered) (result : Result X EngineRefusal) (Does : X → Type 0) → Answers (get_cause d trx table key) (get_way d table key) d d old new result Does → Grows old new
+get_grows d trx table key old new result Does a = answers_grow (get_cause d trx table key) (get_way d table key) d d old new result Does (λ _. get_tables d table key) a

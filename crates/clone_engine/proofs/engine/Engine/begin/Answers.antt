@@ -1,0 +1,61 @@
+use Rattle.std.proofs.Common.{ℕ, refl, sym, ap, subst, is_some}
+use Rattle.clone_plain.specs.Calls as call
+use Rattle.clone_plain.specs.Donor.{Donor}
+use Rattle.clone_plain.specs.Calls.{did_begin}
+use Rattle.clone_plain.specs.Effects.{Begins}
+use Rattle.clone_engine.specs.Growth.{GrowsByOne, KeepsRing}
+use Rattle.clone_engine.specs.Engine.{Engine, StandsBeside}
+use Rattle.clone_engine.specs.Steps.{Transacts, answer_of}
+use Rattle.clone_engine.proofs.AnswerLemmas.{transacts}
+use Rattle.clone_engine.proofs.CallLemmas.{begin_leaves}
+use Rattle.clone_flush.specs.Flights.{beside_of}
+use Rattle.clone_engine.proofs.DiskLemmas.{stays_flown}
+use Rattle.clone_engine.proofs.EngineLemmas.{engine, still_engine}
+use Rattle.clone_engine.proofs.engine.Engine.begin.Goals as goal
+
+pub invariant_of-self : goal.invariant_of-self
+invariant_of-self g c =
+    let old = c.self.inside in
+    let new = c.begin.new in
+    let is = c.begin.ensures in
+    let l = begin_leaves old.transactions new.self old.buffer new.buffer c.args.writer c.args.index c.begin.result is.answer in
+    still_engine old.transactions new.self old.buffer new.buffer old.flusher _ _ c.self.invariant is.kept l.grows (λ beside _. is.stands beside) is.told l.tables
+
+pub returns-clause-step : goal.returns-clause-step
+returns-clause-step g c =
+    let old = c.self.inside in
+    let new = c.begin.new in
+    let is = c.begin.ensures in
+    let d : Donor = old.transactions in
+    let e : Donor = new.self in
+    let call = call.begin c.args.writer c.args.index in
+    let did = λ (trx : ℕ). did_begin c.args.writer c.args.index trx in
+    let s : Engine = engine d old.buffer old.flusher (record { told = g.D.PageDisk.told old.disk; failures = g.D.PageDisk.failures old.disk; orders = g.D.PageDisk.orders old.disk }) in
+    let t : Engine = engine e new.buffer old.flusher (record { told = g.D.PageDisk.told new.disk; failures = g.D.PageDisk.failures new.disk; orders = g.D.PageDisk.orders new.disk }) in
+    subst (λ (s : Engine). Transacts call s t (answer_of did c.begin.result)) c.self.view_is
+    (transacts did call s t c.begin.result (λ (trx : ℕ). Begins d c.args.writer c.args.index trx e) (λ x does. record { is = refl; does = does; sees = tt }) refl is.answer
+    (record { later = is.later; orders = is.orders; tells = ap is_some is.told }) is.fault)
+
+pub returns-clause-copies : goal.returns-clause-copies
+returns-clause-copies g c =
+    let old = c.self.inside in
+    let new = c.begin.new in
+    let is = c.begin.ensures in
+    let l = begin_leaves old.transactions new.self old.buffer new.buffer c.args.writer c.args.index c.begin.result is.answer in
+    λ copies st. stays_flown old.flusher copies old.buffer new.buffer _ _ is.told (is.stands (beside_of old.flusher copies)) l.grows.floor (subst (λ (s : Engine). StandsBeside s copies) (sym c.self.view_is) st)
+
+pub returns-clause-ring : goal.returns-clause-ring
+returns-clause-ring g c =
+    let old = c.self.inside in
+    let new = c.begin.new in
+    let is = c.begin.ensures in
+    let l = begin_leaves old.transactions new.self old.buffer new.buffer c.args.writer c.args.index c.begin.result is.answer in
+    subst (λ (s : Engine). KeepsRing s.buffer.ring new.buffer.ring) c.self.view_is l.grows.ring
+
+pub returns-clause-log : goal.returns-clause-log
+returns-clause-log g c =
+    let old = c.self.inside in
+    let new = c.begin.new in
+    let is = c.begin.ensures in
+    let l = begin_leaves old.transactions new.self old.buffer new.buffer c.args.writer c.args.index c.begin.result is.answer in
+    subst (λ (s : Engine). GrowsByOne s.buffer.log new.buffer.log) c.self.view_is l.grows.log

@@ -1,0 +1,111 @@
+-- How the state of a donor is stored.
+use Rattle.std.specs.Prelude.{ℕ, Bool, true, false, ◌≡◌, List, None, Some, refl}
+use Rattle.std.specs.declared.option.Option.{Option}
+use Rattle.std.specs.Coded.{Coded, code_by, coded×, coded_ℕ, coded_bool, coded_list, coded_option}
+use Rattle.clone_outside.specs.Disk.{DiskImage}
+use Rattle.clone_outside.specs.declared.disk.DiskOrder.{DiskOrder}
+use Rattle.clone_memdisk.specs.Stored.{image_code, order_code}
+use Rattle.clone_mtr.specs.declared.record.Record.{Record}
+use Rattle.clone_ring.specs.Window.{Window, window_code}
+use Rattle.clone_pool.specs.declared.frame.Content.{Content}
+use Rattle.clone_pool.specs.declared.frame.Content.TheVariants as content
+use Rattle.clone_pool.specs.declared.frame.Flush.{Flush}
+use Rattle.clone_pool.specs.declared.frame.Flush.TheVariants as flush
+use Rattle.clone_pool.specs.declared.frame.Frame.{Frame}
+use Rattle.clone_pool.specs.declared.frame.PageName.{PageName}
+use Rattle.clone_pool.specs.Pool.{Frames}
+use Rattle.clone_shadow.specs.Codes.{record_code}
+use Rattle.clone_buffer.specs.Buffered.{Buffered}
+use Rattle.clone_flush.specs.Flights.{Flights, flights_code}
+use Rattle.clone_plain.specs.Donor.{Donor, donor_code}
+use Rattle.clone_engine.specs.Disks.{DiskState}
+use Rattle.clone_engine.specs.Engine.{Engine}
+
+abbrev pub name_code : Coded PageName
+name_code =
+    code_by (ℕ × ℕ) (coded× coded_ℕ coded_ℕ) (λ n. (n.space, n.number))
+    (λ p. record { space = p.0; number = p.1 }) (λ _. refl)
+
+-- what a frame holds: nothing, or a page that is new or not
+abbrev pub content_parts : Content → Option (Bool × PageName)
+content_parts content.Unused = None
+content_parts (content.Fresh name) = Some (true, name)
+content_parts (content.Held name) = Some (false, name)
+
+abbrev pub content_of_parts : Option (Bool × PageName) → Content
+content_of_parts None = content.Unused
+content_of_parts (Some (true, name)) = content.Fresh name
+content_of_parts (Some (false, name)) = content.Held name
+
+pub content_back : (c : Content) → content_of_parts (content_parts c) ≡ c
+content_back content.Unused = refl
+content_back (content.Fresh name) = refl
+content_back (content.Held name) = refl
+
+abbrev pub content_code : Coded Content
+content_code =
+    code_by (Option (Bool × PageName)) (coded_option (coded× coded_bool name_code)) content_parts
+    content_of_parts content_back
+
+-- a flush: none, one that failed, or one that has begun
+abbrev pub flush_parts : Flush → Option (Option (Option ℕ))
+flush_parts flush.Idle = None
+flush_parts (flush.Begun later) = Some (Some later)
+flush_parts flush.Failed = Some None
+
+abbrev pub flush_of_parts : Option (Option (Option ℕ)) → Flush
+flush_of_parts None = flush.Idle
+flush_of_parts (Some None) = flush.Failed
+flush_of_parts (Some (Some later)) = flush.Begun later
+
+pub flush_back : (f : Flush) → flush_of_parts (flush_parts f) ≡ f
+flush_back flush.Idle = refl
+flush_back (flush.Begun later) = refl
+flush_back flush.Failed = refl
+
+abbrev pub flush_code : Coded Flush
+flush_code =
+    code_by (Option (Option (Option ℕ))) (coded_option (coded_option (coded_option coded_ℕ)))
+    flush_parts flush_of_parts flush_back
+
+abbrev pub frame_code : Coded Frame
+frame_code =
+    code_by (Content × (List ℕ × (Option ℕ × (Flush × (ℕ × ℕ)))))
+    (coded× content_code (coded× (coded_list coded_ℕ)
+    (coded× (coded_option coded_ℕ) (coded× flush_code (coded× coded_ℕ coded_ℕ)))))
+    (λ f. (f.content, (f.page, (f.oldest, (f.flush, (f.pins, f.last_use))))))
+    (λ p. record {
+      content = p.0;
+      page = p.1.0;
+      oldest = p.1.1.0;
+      flush = p.1.1.1.0;
+      pins = p.1.1.1.1.0;
+      last_use = p.1.1.1.1.1;
+    }) (λ _. refl)
+
+abbrev pub frames_code : Coded Frames
+frames_code =
+    code_by (List Frame × ℕ) (coded× (coded_list frame_code) coded_ℕ) (λ v. (v.frames, v.uses))
+    (λ p. record { frames = p.0; uses = p.1 }) (λ _. refl)
+
+abbrev pub buffer_code : Coded Buffered
+buffer_code =
+    code_by (List (List Record) × (Bool × (Window × Frames)))
+    (coded× (coded_list (coded_list record_code)) (coded× coded_bool
+    (coded× window_code frames_code)))
+    (λ b. (b.log, (b.right, (b.ring, b.pool))))
+    (λ p. record { log = p.0; right = p.1.0; ring = p.1.1.0; pool = p.1.1.1 }) (λ _. refl)
+
+abbrev pub disk_code : Coded DiskState
+disk_code =
+    code_by (Option DiskImage × (ℕ × List DiskOrder))
+    (coded× (coded_option image_code) (coded× coded_ℕ (coded_list order_code)))
+    (λ d. (d.told, (d.failures, d.orders)))
+    (λ p. record { told = p.0; failures = p.1.0; orders = p.1.1 }) (λ _. refl)
+
+abbrev pub engine_code : Coded Engine
+engine_code =
+    code_by (Donor × (Buffered × (Flights × DiskState)))
+    (coded× donor_code (coded× buffer_code (coded× flights_code disk_code)))
+    (λ e. (e.donor, (e.buffer, (e.flights, e.disk))))
+    (λ p. record { donor = p.0; buffer = p.1.0; flights = p.1.1.0; disk = p.1.1.1 }) (λ _. refl)

@@ -1,0 +1,165 @@
+-- What the calls of a donor do, by what they answer.
+use Rattle.std.specs.Prelude.{ℕ, ◌≡◌, None, Some, IsTrue, Result, Ok, Err}
+use Rattle.std.specs.declared.option.Option.{Option}
+use Rattle.clone_outside.specs.Causes.{Rose}
+use Rattle.clone_ring.specs.Window.{end_of}
+use Rattle.clone_pool.specs.Frames.{frame_at, name_of}
+use Rattle.clone_pool.specs.Pool.{AreNotWaiting, IsNextToFlush}
+use Rattle.clone_buffer.specs.Buffered.{Buffered}
+use Rattle.clone_buffer.specs.Flushing.{IsReached}
+use Rattle.clone_buffer.specs.OnePage.{Copies, NoFileCopy}
+use Rattle.clone_flush.specs.Calls.{Begins, Halves, Lands, after_begin, checked}
+use Rattle.clone_flush.specs.declared.refusal.FlushRefusal.{FlushRefusal}
+use Rattle.clone_flush.specs.declared.refusal.FlushRefusal.TheVariants as flush
+use Rattle.clone_plain.specs.Donor.{Donor}
+use Rattle.clone_plain.specs.Effects.{Gets, put_of, delete_of}
+use Rattle.clone_plain.specs.Calls.{Call, create, begin, put, delete, get, undo_one, commit, flush_begin, flush_half, flush_land, oldest_dirty, checkpoint, end, Done, did_get, did_flush_begin, did_flush_half, did_flush_land, did_oldest_dirty, did_checkpoint, did_end, Made, done, refused, call_of, cause_of, Does}
+use Rattle.clone_plain.specs.declared.refusal.Cause.TheVariants as cause
+use Rattle.clone_plain.specs.declared.refusal.EngineRefusal.{EngineRefusal}
+use Rattle.clone_plain.specs.declared.refusal.EngineRefusal.TheVariants.{Because, NoMemory}
+use Rattle.clone_trx.specs.Calls.{create_way, begin_way, change_way, get_way, undo_way, commit_way}
+use Rattle.clone_trx.specs.Ways.{Way, ends, Answers}
+use Rattle.clone_engine.specs.Disks.{DiskState, Visits}
+use Rattle.clone_engine.specs.Engine.{Engine, StandsBeside, state_of}
+
+-- what a call answered, as the call that was carried out or why it wasn't
+abbrev pub answer_of : {X : Type 0} → (X → Done) → Result X EngineRefusal
+    → Result Done EngineRefusal
+answer_of did (Ok x) = Ok (did x)
+answer_of did (Err refusal) = Err refusal
+
+-- the way over pages of a call of transactions
+abbrev pub way_of : Donor → Call → Way
+way_of d (create table buckets) = create_way d table buckets
+way_of d (begin writer index) = begin_way d writer index
+way_of d (put trx table key value) = change_way d trx (put_of table key value)
+way_of d (delete trx table key) = change_way d trx (delete_of table key)
+way_of d (get trx table key) = get_way d table key
+way_of d (undo_one trx) = undo_way d trx
+way_of d (commit trx) = commit_way d trx
+way_of d call = ends
+
+-- a disk over a call: it fails only where its count rose
+pub record Serves (old new : DiskState) (answer : Result Done EngineRefusal) : Type 0 where
+  pub visits : Visits old new
+  pub fault : answer ≡ Err (Because cause.DiskFault) → Rose old.failures new.failures
+
+-- where what was read was right, a row's value is the plain donor's
+abbrev pub Sees : Donor → Buffered → Done → Type 0
+Sees d after (did_get trx table key value) = IsTrue after.right → Gets d trx table key value
+Sees d after did = Unit {0}
+
+-- this call was carried out, and did what it is for
+pub record Did (call : Call) (s t : Engine) (did : Done) : Type 0 where
+  pub is : call_of did ≡ call
+  pub does : Does s.donor did t.donor
+  pub sees : Sees s.donor t.buffer did
+
+-- nothing but frames has changed, for want of memory
+pub record Wants (s t : Engine) : Type 0 where
+  pub donor : t.donor ≡ s.donor
+  pub log : t.buffer.log ≡ s.buffer.log
+  pub flights : t.flights ≡ s.flights
+
+-- A CALL OF TRANSACTIONS goes its way. Want of memory is free.
+abbrev pub Goes : Call → Engine → Engine → Result Done EngineRefusal → Type 0
+Goes call s t (Err NoMemory) = Wants s t
+Goes call s t answer =
+    Answers (cause_of s.donor call) (way_of s.donor call) s.donor t.donor s.buffer t.buffer answer
+    (Did call s t)
+
+pub record Transacts (call : Call) (s t : Engine) (answer : Result Done EngineRefusal)
+    : Type 0 where
+  pub goes : Goes call s t answer
+  pub flights : t.flights ≡ s.flights
+  pub disk : Serves s.disk t.disk answer
+
+-- why a flush is refused, as the donor answers it
+abbrev pub refusal_of : FlushRefusal → EngineRefusal
+refusal_of flush.NotDirty = Because cause.NotDirty
+refusal_of flush.InFlight = Because cause.InFlight
+refusal_of flush.NoFlush = Because cause.NoFlush
+refusal_of flush.DiskFault = Because cause.DiskFault
+refusal_of flush.NoMemory = NoMemory
+
+-- a flush answered so
+abbrev pub AnswersFlush : Done → (Result (Unit {0}) FlushRefusal → Type 0)
+    → Result Done EngineRefusal → Type 0
+AnswersFlush did Flushes (Ok x) = (x ≡ did) × Flushes (Ok tt)
+AnswersFlush did Flushes (Err e) =
+    (refusal : FlushRefusal) × (e ≡ refusal_of refusal) × Flushes (Err refusal)
+
+-- A CALL OF A FLUSH
+pub record Flushes (did : Done) (s t : Engine) (answer : Result Done EngineRefusal)
+    (Does : Result (Unit {0}) FlushRefusal → Type 0) : Type 0 where
+  pub does : AnswersFlush did Does answer
+  pub donor : t.donor ≡ s.donor
+  pub disk : Serves s.disk t.disk answer
+
+-- the oldest dirty page that waits for its flush, or none where no page does
+abbrev pub IsOldestDirty : Buffered → Option (ℕ × ℕ) → Type 0
+IsOldestDirty b None = AreNotWaiting b.pool.frames
+IsOldestDirty b (Some page) =
+    (at : ℕ) × IsNextToFlush b.pool.frames at
+    × (name_of (frame_at b.pool.frames at)
+    ≡ Some (record { space = page.0; number = page.1 }))
+
+-- a checkpoint is taken at an LSN, and the log is kept from another one on where that is given
+pub record Checks (kept_from : Option ℕ) (s t : Engine) (lsn : ℕ) : Type 0 where
+  pub reached : IsReached s.buffer lsn
+  pub state : state_of t ≡ checked lsn kept_from (state_of s)
+  pub donor : t.donor ≡ s.donor
+  pub disk : t.disk ≡ s.disk
+
+-- what a call that is never refused answers
+abbrev pub AnswersWith : Result Done EngineRefusal → (Done → Type 0) → Type 0
+AnswersWith (Ok did) P = P did
+AnswersWith (Err refusal) P = ⊥
+
+-- a look for the oldest dirty page, a checkpoint, and the log's end
+abbrev pub Looks : Engine → Engine → Done → Type 0
+Looks s t (did_oldest_dirty page) = IsOldestDirty s.buffer page × (t ≡ s)
+Looks s t did = ⊥
+
+abbrev pub Ends : Engine → Engine → Done → Type 0
+Ends s t (did_end lsn) = (lsn ≡ end_of s.buffer.ring) × (t ≡ s)
+Ends s t did = ⊥
+
+-- a checkpoint that keeps no more of the log
+abbrev pub ChecksAt : Engine → Engine → Done → Type 0
+ChecksAt s t (did_checkpoint lsn) = Checks None s t lsn
+ChecksAt s t did = ⊥
+
+-- THE STEP OF A CALL, by what it answers
+abbrev pub Steps : Call → Engine → Engine → Result Done EngineRefusal → Type 0
+Steps (flush_begin space page) s t answer =
+    Flushes (did_flush_begin space page) s t answer
+    (λ r. Begins (record { space = space; number = page }) (state_of s) (state_of t) r
+    × (t.disk ≡ s.disk))
+Steps (flush_half space page) s t answer =
+    Flushes (did_flush_half space page) s t answer
+    (Halves (record { space = space; number = page }) (state_of s) (state_of t)
+    s.disk.told t.disk.told)
+Steps (flush_land space page) s t answer =
+    Flushes (did_flush_land space page) s t answer
+    (Lands (record { space = space; number = page }) (state_of s) (state_of t)
+    s.disk.told t.disk.told)
+Steps oldest_dirty s t answer = AnswersWith answer (Looks s t)
+Steps checkpoint s t answer = AnswersWith answer (ChecksAt s t)
+Steps end s t answer = AnswersWith answer (Ends s t)
+Steps call s t answer = Transacts call s t answer
+
+-- WHAT A CLONE HAS of each page goes on beside the pages. The tracker notes a page whose flush
+-- begins. A table may be made while no clone is in its file copy.
+abbrev pub KeepsCopies : Call → Engine → Engine → Result Done EngineRefusal → Type 0
+KeepsCopies (create table buckets) s t answer =
+    (copies : Copies) → NoFileCopy copies → StandsBeside s copies → StandsBeside t copies
+KeepsCopies (flush_begin space page) s t answer =
+    (copies : Copies) → StandsBeside s copies
+    → StandsBeside t (after_begin (record { space = space; number = page }) answer copies)
+KeepsCopies call s t answer = (copies : Copies) → StandsBeside s copies → StandsBeside t copies
+
+-- A call that was made, with its answer, is a step of the engine.
+abbrev pub EngineStep : Engine → Made → Engine → Type 0
+EngineStep s (done did) t = Steps (call_of did) s t (Ok did)
+EngineStep s (refused call cause) t = Steps call s t (Err (Because cause))

@@ -1,0 +1,123 @@
+ghost use Rattle.std.specs.Prelude.{◌≡◌, ◌≢◌, Err};
+ghost use Rattle.clone_plain.specs.Calls as call;
+ghost use Rattle.clone_plain.specs.Calls.{did_create, did_begin, did_put, did_delete, did_get, did_undo_one, did_commit};
+ghost use Rattle.clone_plain.specs.declared.refusal.EngineRefusal.TheVariants.{NoMemory};
+ghost use Rattle.clone_engine.specs.Growth.{GrowsByOne, KeepsRing};
+ghost use Rattle.clone_engine.specs.Steps.{KeepsCopies, Steps, answer_of};
+
+use crate::Engine;
+use clone_model::{BucketCount, TableNumber, Value};
+use clone_outside::PageDisk;
+use clone_plain::{EngineRefusal, Undone};
+use std::alloc::Global;
+
+// The calls of transactions.
+impl<D: PageDisk> Engine<D> {
+    /// Makes an empty table.
+    pub fn create(&mut self, table: TableNumber, buckets: BucketCount) -> Result<(), EngineRefusal>
+        ensures step { Steps (call.create table buckets) self.old self.new
+            (answer_of (λ _. did_create table buckets) result) }
+        ensures copies { KeepsCopies (call.create table buckets) self.old self.new
+            (answer_of (λ _. did_create table buckets) result) }
+        ensures log { GrowsByOne self.old.buffer.log self.new.buffer.log }
+        ensures ring { KeepsRing self.old.buffer.ring self.new.buffer.ring }
+    {
+        self.transactions.laws();
+        self.buffer.laws();
+        // a table's number is in its range
+        table.get();
+        self.transactions
+            .create(&mut self.buffer, table, buckets, &mut self.disk)
+    }
+
+    /// Begins a transaction of a writer, which is its transaction of this index, and answers the
+    /// transaction's number.
+    pub fn begin(&mut self, alloc: Global, writer: u32, index: u64) -> Result<u32, EngineRefusal>
+        ensures step { Steps (call.begin writer index) self.old self.new
+            (answer_of (λ trx. did_begin writer index trx) result) }
+        ensures copies { KeepsCopies (call.begin writer index) self.old self.new
+            (answer_of (λ trx. did_begin writer index trx) result) }
+        ensures log { GrowsByOne self.old.buffer.log self.new.buffer.log }
+        ensures ring { KeepsRing self.old.buffer.ring self.new.buffer.ring }
+    {
+        self.buffer.laws();
+        self.transactions
+            .begin(alloc, &mut self.buffer, writer, index, &mut self.disk)
+    }
+
+    /// Gives a row its value, and locks it.
+    pub fn put(&mut self, trx: u32, table: u32, key: u64, value: &[u8]) -> Result<(), EngineRefusal>
+        ensures step { Steps (call.put trx table key value.now) self.old self.new
+            (answer_of (λ _. did_put trx table key value.now) result) }
+        ensures copies { KeepsCopies (call.put trx table key value.now) self.old self.new
+            (answer_of (λ _. did_put trx table key value.now) result) }
+        ensures log { GrowsByOne self.old.buffer.log self.new.buffer.log }
+        ensures ring { KeepsRing self.old.buffer.ring self.new.buffer.ring }
+    {
+        self.transactions.laws();
+        self.buffer.laws();
+        self.transactions
+            .put(&mut self.buffer, trx, table, key, value, &mut self.disk)
+    }
+
+    /// Removes a row, and locks it.
+    pub fn delete(&mut self, trx: u32, table: u32, key: u64) -> Result<(), EngineRefusal>
+        ensures step { Steps (call.delete trx table key) self.old self.new
+            (answer_of (λ _. did_delete trx table key) result) }
+        ensures copies { KeepsCopies (call.delete trx table key) self.old self.new
+            (answer_of (λ _. did_delete trx table key) result) }
+        ensures log { GrowsByOne self.old.buffer.log self.new.buffer.log }
+        ensures ring { KeepsRing self.old.buffer.ring self.new.buffer.ring }
+    {
+        self.transactions.laws();
+        self.buffer.laws();
+        self.transactions
+            .delete(&mut self.buffer, trx, table, key, &mut self.disk)
+    }
+
+    /// The value of a row. This takes no memory, and writes nothing.
+    pub fn get(&mut self, trx: u32, table: u32, key: u64) -> Result<Option<Value>, EngineRefusal>
+        ensures step { Steps (call.get trx table key) self.old self.new
+            (answer_of (λ value. did_get trx table key value) result) }
+        ensures copies { KeepsCopies (call.get trx table key) self.old self.new
+            (answer_of (λ value. did_get trx table key value) result) }
+        ensures log { self.new.buffer.log ≡ self.old.buffer.log }
+        ensures ring { KeepsRing self.old.buffer.ring self.new.buffer.ring }
+        ensures memory { result ≢ Err NoMemory }
+    {
+        self.transactions
+            .get(&mut self.buffer, trx, table, key, &mut self.disk)
+    }
+
+    /// Takes the last change of a transaction back, or ends a transaction without changes. This
+    /// takes no memory.
+    pub fn undo_one(&mut self, trx: u32) -> Result<Undone, EngineRefusal>
+        ensures step { Steps (call.undo_one trx) self.old self.new
+            (answer_of (λ undone. did_undo_one trx undone) result) }
+        ensures copies { KeepsCopies (call.undo_one trx) self.old self.new
+            (answer_of (λ undone. did_undo_one trx undone) result) }
+        ensures log { GrowsByOne self.old.buffer.log self.new.buffer.log }
+        ensures ring { KeepsRing self.old.buffer.ring self.new.buffer.ring }
+        ensures memory { result ≢ Err NoMemory }
+    {
+        self.transactions.laws();
+        self.buffer.laws();
+        self.transactions
+            .undo_one(&mut self.buffer, trx, &mut self.disk)
+    }
+
+    /// Commits a transaction, and answers the new number of commits. This takes no memory.
+    pub fn commit(&mut self, trx: u32) -> Result<u64, EngineRefusal>
+        ensures step { Steps (call.commit trx) self.old self.new
+            (answer_of (λ position. did_commit trx position) result) }
+        ensures copies { KeepsCopies (call.commit trx) self.old self.new
+            (answer_of (λ position. did_commit trx position) result) }
+        ensures log { GrowsByOne self.old.buffer.log self.new.buffer.log }
+        ensures ring { KeepsRing self.old.buffer.ring self.new.buffer.ring }
+        ensures memory { result ≢ Err NoMemory }
+    {
+        self.buffer.laws();
+        self.transactions
+            .commit(&mut self.buffer, trx, &mut self.disk)
+    }
+}
