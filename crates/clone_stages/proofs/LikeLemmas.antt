@@ -42,7 +42,7 @@ module _ (d : Donor) (c : Cloning) (same : Like c d.cloning) where
 
 -- a call of a clone was refused, or took nothing
 pub refuses : (d : Donor) (c : Cloning) → Becomes c d.cloning → Acts act.Refuse d (record { engine = d.engine; cloning = c })
-refuses d c is = record { does = (is, record { same = refl; later = omega arith }); taken = like_taken d c (like c d.cloning is) }
+refuses d c is = record { does = (is, refl); taken = like_taken d c (like c d.cloning is) }
 
 pub refuses_same : (d : Donor) (c : Cloning) → c ≡ d.cloning → Acts act.Refuse d (record { engine = d.engine; cloning = c })
 refuses_same d c is = refuses d c (ap aside is)

@@ -33,8 +33,10 @@ pub data Act : Type 0 where
   Leave : Act
   -- so much more of the log is archived at most, and then it is archived up to there
   Archive : ℕ → Option ℕ → Act
-  -- a call of a clone is refused, or takes nothing
+  -- a call of a clone is refused, or no memory is there for it
   Refuse : Act
+  -- a block isn't answered, and the disk may have failed
+  Miss : Act
 
 -- the orders of the disk alone have changed
 pub record OnlyOrders (d t : Donor) : Type 0 where
@@ -55,7 +57,8 @@ Does Leave d t = Becomes t.cloning (left d.cloning) × Settles d t
 Does (Archive limit reached) d t =
     Archives {E = Unit {0}} limit d.engine.buffer.ring d.cloning t.cloning (Ok reached)
     × Settles d t
-Does Refuse d t = Becomes t.cloning d.cloning × OnlyVisits d.engine t.engine
+Does Refuse d t = Becomes t.cloning d.cloning × (t.engine ≡ d.engine)
+Does Miss d t = (t.cloning ≡ d.cloning) × OnlyVisits d.engine t.engine
 
 -- what is taken then
 abbrev pub after_act : Act → Donor → Donor → Taken → Taken
@@ -68,6 +71,7 @@ after_act (Ack caller stage info) d t taken = taken_after d stage taken
 after_act Leave d t taken = nothing
 after_act (Archive limit reached) d t taken = taken
 after_act Refuse d t taken = taken
+after_act Miss d t taken = taken
 
 -- AN ACT, and what is taken goes on beside the pages.
 pub record Acts (act : Act) (d t : Donor) : Type 0 where

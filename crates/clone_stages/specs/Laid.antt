@@ -1,5 +1,5 @@
 -- A requester's disk on which what was taken of a donor is laid.
-use Rattle.std.specs.Prelude.{ℕ, ◌≡◌, ◌<◌, ◌+◌, None, Some, length}
+use Rattle.std.specs.Prelude.{ℕ, ◌≡◌, ◌<◌, ◌≤◌, None, Some, length}
 use Rattle.clone_outside.specs.Disk.{DiskImage}
 use Rattle.clone_outside.specs.declared.mark.CloneEnd.{CloneEnd}
 use Rattle.clone_contents.specs.Records.{system_size}
@@ -24,7 +24,7 @@ use Rattle.clone_stages.specs.Taken.{Taken}
 pub record IsLaid (taken : Taken) (a : Archived) (m : DiskImage) : Type 0 where
   pub starts : (space number : ℕ) → space < redo_space
       → HasStart (taken.copies space number) (standing_of (image_of m) space number)
-  pub short : (number : ℕ) → system_size < number + 1 → page_of (image_of m) 0 number ≡ None
+  pub short : (number : ℕ) → system_size ≤ number → page_of (image_of m) 0 number ≡ None
   pub redo : redo_of m (length a.bytes) ≡ a.bytes
   pub quiet : IsQuiet m
 

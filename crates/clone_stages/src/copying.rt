@@ -1,12 +1,10 @@
-ghost use Rattle.std.specs.Prelude.{◌≡◌, Err, MatchResult, OnErr, OnOk};
-ghost use Rattle.clone_outside.specs.Disk.{ForTold};
-ghost use Rattle.clone_ring.specs.Window.{end_of};
+ghost use Rattle.std.specs.Prelude.{◌≡◌, Err, MatchResult};
 ghost use Rattle.clone_session.specs.CloneCauses.{abandon_cause, acknowledgement_cause, exit_cause, hello_cause};
-ghost use Rattle.clone_session.specs.CloneCalls.{Claims, Decided, InFiles, IsMoment};
+ghost use Rattle.clone_session.specs.CloneCalls.{Decided, InFiles, IsMoment};
 ghost use Rattle.clone_session.specs.declared.refusal.CloneRefusal.TheVariants.{NoMemory};
 ghost use Rattle.clone_stages.specs.Acts as act;
 ghost use Rattle.clone_stages.specs.Acts.{Acts};
-ghost use Rattle.clone_stages.specs.Copying.{Acks, Begins, Settles, moment_of};
+ghost use Rattle.clone_stages.specs.Copying.{Acks, Begins, moment_of};
 
 use crate::Donor;
 use clone_outside::PageDisk;

@@ -54,6 +54,7 @@ impl<D: PageDisk> Donor<D> {
         ensures opened { IfOk result (λ d. IsOpened d.engine) }
         ensures checkpoint { IfOk result (λ d. d.engine.flights.checkpoint ≡ first_lsn) }
         ensures idle { IfOk result (λ d. d.cloning.session ≡ None) }
+        ensures stop { IfOk result (λ d. d.cloning.stop ≡ None) }
         ensures taken { IfOk result (λ d. IsTaken d nothing) }
         ensures empty { IfOk result (λ _. ForTold (D.told disk) (λ m. m ≡ blank)) }
         ensures visits { IfOk result (λ d. Visits (record {

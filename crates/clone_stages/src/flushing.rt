@@ -1,4 +1,4 @@
-ghost use Rattle.std.specs.Prelude.{◌≡◌, Ok};
+ghost use Rattle.std.specs.Prelude.{Ok};
 ghost use Rattle.clone_archive.specs.Archived.{kept_from};
 ghost use Rattle.clone_plain.specs.Calls as call;
 ghost use Rattle.clone_plain.specs.Calls.{did_flush_begin, did_flush_half, did_flush_land, did_oldest_dirty, did_checkpoint};

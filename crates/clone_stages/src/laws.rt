@@ -1,4 +1,4 @@
-ghost use Rattle.std.specs.Prelude.{◌≡◌, IsSome, List};
+ghost use Rattle.std.specs.Prelude.{IsSome, List};
 ghost use Rattle.clone_outside.specs.Disk.{DiskImage};
 ghost use Rattle.clone_outside.specs.Mark.{IsEnd};
 ghost use Rattle.clone_outside.specs.declared.mark.CloneEnd.{CloneEnd};

@@ -41,7 +41,7 @@ impl<D: PageDisk> Donor<D> {
             × RefusesBlock caller stage chunk number self.old self.new refusal) }
         ensures acts { MatchResult result
             (λ last. Acts (act.Give caller chunk number into.new last) self.old self.new)
-            (λ _. Acts act.Refuse self.old self.new) }
+            (λ _. Acts act.Miss self.old self.new) }
     {
         let work = self.cloning.block(caller, stage, chunk, number)?;
         self.cloning.laws();

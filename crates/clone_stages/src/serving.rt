@@ -1,4 +1,4 @@
-ghost use Rattle.std.specs.Prelude.{◌≡◌, ◌≢◌, Err};
+ghost use Rattle.std.specs.Prelude.{◌≢◌, Err};
 ghost use Rattle.clone_plain.specs.Calls as call;
 ghost use Rattle.clone_plain.specs.Calls.{did_create, did_begin, did_put, did_delete, did_get, did_undo_one, did_commit};
 ghost use Rattle.clone_plain.specs.declared.refusal.EngineRefusal.TheVariants.{NoMemory};
