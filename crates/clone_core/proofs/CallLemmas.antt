@@ -8,10 +8,10 @@ use Rattle.clone_plain.specs.declared.refusal.EngineRefusal.TheVariants.{Because
 use Rattle.clone_plain.specs.Donor.{Donor}
 use Rattle.clone_plain.specs.Effects.{Gets}
 use Rattle.clone_plain.specs.Calls.{Call, begin, get, Done, did_begin, did_get, Made, done, refused, call_of}
-use Rattle.clone_plain.specs.World.{Stop, Clone, IsSure, index_in, before_stop}
-use Rattle.clone_plain.specs.Events.{made, counted, Sees, Happens}
-use Rattle.clone_plain.proofs.BinlogLemmas.{Adds, adds_none, made_adds}
-use Rattle.clone_plain.proofs.StopLemmas.{before_stop-longer}
+use Rattle.clone_events.specs.World.{Stop, Clone, IsSure, index_in, before_stop}
+use Rattle.clone_events.specs.Events.{made, counted, Sees, Happens}
+use Rattle.clone_events.proofs.BinlogLemmas.{Adds, adds_none, made_adds}
+use Rattle.clone_events.proofs.StopLemmas.{before_stop-longer}
 use Rattle.clone_apply.specs.Holds.{HoldsCopy}
 use Rattle.clone_engine.specs.Engine.{Engine, IsEngine}
 use Rattle.clone_engine.specs.Steps.{Steps, EngineStep, answer_of}

@@ -12,10 +12,10 @@ use Rattle.clone_plain.specs.declared.refusal.EngineRefusal.{EngineRefusal}
 use Rattle.clone_plain.specs.declared.refusal.EngineRefusal.TheVariants.{Because, NoMemory}
 use Rattle.clone_plain.specs.Answers.{Text, refusal_text}
 use Rattle.clone_plain.specs.Calls.{Done, did_flush_begin, did_flush_half, did_flush_land, did_oldest_dirty, done, refused, flush_begin, flush_half, flush_land, call_of}
-use Rattle.clone_plain.specs.Events.{Event, made, cleaned, event_text, said, Happens, Events}
-use Rattle.clone_plain.specs.Runs.{MakesClean, all_clean, not_flushed, flushed}
-use Rattle.clone_plain.specs.BreaksOff.{IsDone}
-use Rattle.clone_plain.proofs.RunLemmas.{Events-append}
+use Rattle.clone_events.specs.Events.{Event, made, cleaned, event_text, said, Happens, Events}
+use Rattle.clone_events.specs.Runs.{MakesClean, all_clean, not_flushed, flushed}
+use Rattle.clone_events.specs.BreaksOff.{IsDone}
+use Rattle.clone_events.proofs.RunLemmas.{Events-append}
 use Rattle.clone_engine.specs.Engine.{Engine}
 use Rattle.clone_core.specs.System.{SystemStep, donor_of}
 use Rattle.clone_core.specs.Lines.{State, Answers, BreaksOff}

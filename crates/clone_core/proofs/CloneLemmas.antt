@@ -13,10 +13,10 @@ use Rattle.clone_mtr.specs.declared.record.Record.{Record}
 use Rattle.clone_mtr.specs.Spelling.{log_of}
 use Rattle.clone_image.specs.Replay.{replayed}
 use Rattle.clone_plain.specs.Donor.{Donor, history}
-use Rattle.clone_plain.specs.World.{Stop, Clone, IsSure, no_clone, stop_now, before_stop}
-use Rattle.clone_plain.specs.Events.{completed, completed_before, broke, broke_before, complete_text, recipient_fault, Happens}
+use Rattle.clone_events.specs.World.{Stop, Clone, IsSure, no_clone, stop_now, before_stop}
+use Rattle.clone_events.specs.Events.{completed, completed_before, broke, broke_before, complete_text, recipient_fault, Happens}
 use Rattle.clone_plain.specs.Answers.{Text}
-use Rattle.clone_plain.specs.Runs.{is_complete, is_broken}
+use Rattle.clone_events.specs.Runs.{is_complete, is_broken}
 use Rattle.clone_model.specs.declared.line.Line.TheVariants as lines
 use Rattle.std.proofs.lemmas.Option.{same_Some}
 use Rattle.clone_recover.specs.Restores.{ForStep}

@@ -1,8 +1,8 @@
 -- A fault of the recipient's disk that was answered is in its count.
 use Rattle.std.proofs.Common.{◌≡◌, ◌⊎◌, inl, inr, ◌≤◌, ℕ, List, [], ◌∷◌, Bool, true, false, refl, sym, ap, ◌∙◌, subst, arith}
 use Rattle.clone_outside.specs.Causes.{Rose}
-use Rattle.clone_plain.specs.World.{Clone, no_clone}
-use Rattle.clone_plain.specs.Events.{to_donor, to_recipient, Event, made, cleaned, completed, completed_before, broke, broke_before, showed, incomplete, hidden, damaged, ordered, Happens, Events}
+use Rattle.clone_events.specs.World.{Clone, no_clone}
+use Rattle.clone_events.specs.Events.{to_donor, to_recipient, Event, made, cleaned, completed, completed_before, broke, broke_before, showed, incomplete, hidden, damaged, ordered, Happens, Events}
 use Rattle.clone_engine.specs.Disks.{DiskState}
 use Rattle.clone_core.specs.System.{System, SystemStep, donor_of}
 use Rattle.clone_core.specs.Lines.{State}

@@ -12,10 +12,10 @@ use Rattle.clone_plain.specs.Calls.{Call, create, begin, put, delete, get, undo_
 use Rattle.clone_plain.specs.declared.refusal.Undone.{Undone}
 use Rattle.clone_plain.specs.Donor.{Donor}
 use Rattle.clone_plain.specs.Effects.{Undoes}
-use Rattle.clone_plain.specs.World.{index_in}
-use Rattle.clone_plain.specs.Events.{to_donor, to_recipient, Event, made, incomplete, ordered, event_text, Happens}
+use Rattle.clone_events.specs.World.{index_in}
+use Rattle.clone_events.specs.Events.{to_donor, to_recipient, Event, made, incomplete, ordered, event_text, Happens}
 use Rattle.clone_outside.specs.declared.disk.DiskOrder.TheVariants as orders
-use Rattle.clone_plain.specs.Runs.{Makes, MakesOne, not_begun, all_clean, is_broken, not_there}
+use Rattle.clone_events.specs.Runs.{Makes, MakesOne, not_begun, all_clean, is_broken, not_there}
 use Rattle.clone_core.specs.System.{SystemStep, donor_of}
 use Rattle.clone_core.specs.Lines.{State, Answers, BreaksOff}
 use Rattle.clone_core.specs.Called.{Stays, Called, SaysCause, Notes}

@@ -5,9 +5,9 @@ use Rattle.clone_outside.specs.declared.disk.DiskOrder.{DiskOrder}
 use Rattle.clone_model.specs.declared.line.Line.{Line}
 use Rattle.clone_model.specs.declared.line.Line.TheVariants as lines
 use Rattle.clone_plain.specs.Calls.{Call, call_of, refused}
-use Rattle.clone_plain.specs.Events.{Side, to_donor, to_recipient, Event, made, cleaned, completed, completed_before, broke, broke_before, showed, incomplete, hidden, damaged, ordered, Events}
-use Rattle.clone_plain.specs.Headline.{all_events, donor_order, recipient_order}
-use Rattle.clone_plain.specs.Runs.{Makes, MakesOne, MakesSet, not_begun, not_changed, set, MakesClean, all_clean, not_flushed, flushed, MakesClone, is_complete, was_complete, is_broken, was_broken, MakesRows, are_shown, not_there, not_read, not_sound}
+use Rattle.clone_events.specs.Events.{Side, to_donor, to_recipient, Event, made, cleaned, completed, completed_before, broke, broke_before, showed, incomplete, hidden, damaged, ordered, Events}
+use Rattle.clone_events.specs.Headline.{all_events, donor_order, recipient_order}
+use Rattle.clone_events.specs.Runs.{Makes, MakesOne, MakesSet, not_begun, not_changed, set, MakesClean, all_clean, not_flushed, flushed, MakesClone, is_complete, was_complete, is_broken, was_broken, MakesRows, are_shown, not_there, not_read, not_sound}
 use Rattle.clone_engine.specs.Disks.{DiskState}
 use Rattle.clone_engine.specs.Engine.{Engine}
 use Rattle.clone_core.specs.System.{System, SystemStep, donor_of}

@@ -4,9 +4,9 @@ use Rattle.clone_outside.specs.Disk.{DiskImage}
 use Rattle.clone_outside.specs.declared.disk.DiskOrder.{DiskOrder}
 use Rattle.clone_plain.specs.Answers.{Text}
 use Rattle.clone_plain.specs.Donor.{Donor}
-use Rattle.clone_plain.specs.World.{Clone}
-use Rattle.clone_plain.specs.Events.{to_donor, to_recipient, ordered}
-use Rattle.clone_plain.proofs.BinlogLemmas.{adds_none}
+use Rattle.clone_events.specs.World.{Clone}
+use Rattle.clone_events.specs.Events.{to_donor, to_recipient, ordered}
+use Rattle.clone_events.proofs.BinlogLemmas.{adds_none}
 use Rattle.clone_engine.specs.Disks.{DiskState, Orders, with_order}
 use Rattle.clone_engine.specs.Engine.{Engine}
 use Rattle.clone_core.specs.System.{tell}

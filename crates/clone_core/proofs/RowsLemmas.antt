@@ -6,8 +6,8 @@ use Rattle.clone_outside.specs.Causes.{Rose}
 use Rattle.clone_outside.specs.Disk.{DiskImage, ForTold}
 use Rattle.clone_model.specs.History.{Row, Rows, fold, rows_in}
 use Rattle.clone_plain.specs.Donor.{Donor}
-use Rattle.clone_plain.specs.World.{Stop, Clone, IsSure, no_clone, before_stop}
-use Rattle.clone_plain.specs.Events.{showed, incomplete, hidden, damaged, Happens}
+use Rattle.clone_events.specs.World.{Stop, Clone, IsSure, no_clone, before_stop}
+use Rattle.clone_events.specs.Events.{showed, incomplete, hidden, damaged, Happens}
 use Rattle.clone_recover.specs.Listing.{ListsRows}
 use Rattle.clone_recover.specs.Restores.{Answers, again, anew, ForStep, IsCause}
 use Rattle.clone_recover.specs.declared.recovery.Recovered.{Recovered}

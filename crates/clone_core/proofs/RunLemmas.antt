@@ -3,15 +3,15 @@ use Rattle.std.proofs.Common.{◌≡◌, ◌≤◌, ◌⊎◌, ℕ, List, [], �
 use Rattle.clone_outside.specs.Causes.{Rose}
 use Rattle.clone_model.specs.declared.line.Line.{Line}
 use Rattle.clone_plain.specs.Donor.{Donor}
-use Rattle.clone_plain.specs.Events.{Event}
-use Rattle.clone_plain.specs.Headline.{AreCommits, AreSets, ShowsStop, all_events}
-use Rattle.clone_plain.specs.World.{Stop, Clone, IsWithin, no_clone, opened}
+use Rattle.clone_events.specs.Events.{Event}
+use Rattle.clone_events.specs.Headline.{AreCommits, AreSets, ShowsStop, all_events}
+use Rattle.clone_events.specs.World.{Stop, Clone, IsWithin, no_clone, opened}
 use Rattle.std.specs.declared.option.Option.{Option}
-use Rattle.clone_plain.proofs.BinlogLemmas.{events_add, are_commits}
-use Rattle.clone_plain.proofs.ReachedLemmas.{Runs-IsWithin}
-use Rattle.clone_plain.proofs.RunLemmas.{Runs-Events, Runs-tells}
-use Rattle.clone_plain.proofs.SetLemmas.{are_sets}
-use Rattle.clone_plain.proofs.StopLemmas.{IsStop, shows_stop}
+use Rattle.clone_events.proofs.BinlogLemmas.{events_add, are_commits}
+use Rattle.clone_events.proofs.ReachedLemmas.{Runs-IsWithin}
+use Rattle.clone_events.proofs.RunLemmas.{Runs-Events, Runs-tells}
+use Rattle.clone_events.proofs.SetLemmas.{are_sets}
+use Rattle.clone_events.proofs.StopLemmas.{IsStop, shows_stop}
 use Rattle.clone_core.specs.System.{SystemStep, donor_of}
 use Rattle.clone_core.specs.Lines.{State, IsNew, Runs}
 use Rattle.clone_core.proofs.StepLemmas.{refines}

@@ -8,10 +8,10 @@ use Rattle.clone_plain.specs.declared.refusal.EngineRefusal.TheVariants.{Because
 use Rattle.clone_plain.specs.Answers.{Text}
 use Rattle.clone_plain.specs.Donor.{Donor}
 use Rattle.clone_plain.specs.Calls.{begin, put, commit, Done, did_begin, did_put, did_commit, done, refused}
-use Rattle.clone_plain.specs.World.{index_in}
-use Rattle.clone_plain.specs.Events.{Event, made, event_text, said, Happens, Events}
-use Rattle.clone_plain.specs.Runs.{not_begun, not_changed, set}
-use Rattle.clone_plain.specs.BreaksOff.{IsDone}
+use Rattle.clone_events.specs.World.{index_in}
+use Rattle.clone_events.specs.Events.{Event, made, event_text, said, Happens, Events}
+use Rattle.clone_events.specs.Runs.{not_begun, not_changed, set}
+use Rattle.clone_events.specs.BreaksOff.{IsDone}
 use Rattle.clone_core.specs.System.{SystemStep, donor_of}
 use Rattle.clone_core.specs.Lines.{State, Answers, BreaksOff}
 use Rattle.clone_core.specs.Called.{Called, SaysCause, RefusesSet, Sets}

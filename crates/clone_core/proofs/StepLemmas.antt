@@ -9,7 +9,7 @@ use Rattle.clone_plain.specs.declared.refusal.EngineRefusal.TheVariants.{Because
 use Rattle.clone_plain.specs.Donor.{Donor}
 use Rattle.clone_plain.specs.Effects.{put_of, delete_of}
 use Rattle.clone_plain.specs.Calls.{Call, create, begin, put, delete, get, undo_one, commit, flush_begin, flush_half, flush_land, oldest_dirty, checkpoint, end, Done, did_create, did_begin, did_put, did_delete, did_get, did_undo_one, did_commit, did_flush_begin, did_flush_half, did_flush_land, did_oldest_dirty, did_checkpoint, did_end, Made, done, refused, call_of, cause_of, is_below, PlainStep}
-use Rattle.clone_plain.specs.Events.{to_donor, to_recipient, Event, made, cleaned, completed, completed_before, broke, broke_before, showed, incomplete, hidden, damaged, ordered, PlainEvent}
+use Rattle.clone_events.specs.Events.{to_donor, to_recipient, Event, made, cleaned, completed, completed_before, broke, broke_before, showed, incomplete, hidden, damaged, ordered, PlainEvent}
 use Rattle.clone_trx.specs.Ways.{Way, reads, stops, writes, makes, ends, Goes, Writes, Misses, Answers, held, page_in}
 use Rattle.clone_trx.specs.Ways as ways
 use Rattle.clone_trx.specs.Calls.{undo_last, change_at}

@@ -10,10 +10,10 @@ use Rattle.clone_plain.specs.declared.refusal.EngineRefusal.{EngineRefusal}
 use Rattle.clone_plain.specs.declared.refusal.EngineRefusal.TheVariants.{Because, NoMemory}
 use Rattle.clone_plain.specs.Answers.{Text, refusal_text}
 use Rattle.clone_plain.specs.Calls.{Call, Done, did_oldest_dirty, done, refused, call_of}
-use Rattle.clone_plain.specs.World.{index_in}
-use Rattle.clone_plain.specs.Events.{Event, event_text, made, said, Happens}
-use Rattle.clone_plain.specs.Runs.{MakesSet, flushed}
-use Rattle.clone_plain.specs.BreaksOff.{IsDone}
+use Rattle.clone_events.specs.World.{index_in}
+use Rattle.clone_events.specs.Events.{Event, event_text, made, said, Happens}
+use Rattle.clone_events.specs.Runs.{MakesSet, flushed}
+use Rattle.clone_events.specs.BreaksOff.{IsDone}
 use Rattle.clone_core.specs.System.{SystemStep, donor_of}
 use Rattle.clone_core.specs.Lines.{State, Events, BreaksOff}
 

@@ -4,7 +4,7 @@ use Rattle.std.specs.declared.option.Option.{Option}
 use Rattle.std.specs.FinMap as finite
 use Rattle.std.specs.Ordering.{nat_cmp}
 use Rattle.std.specs.Coded.{Coded, code_by, coded×, coded_ℕ, coded_bool, coded_option}
-use Rattle.clone_plain.specs.World.{Stop, Clone}
+use Rattle.clone_events.specs.World.{Stop, Clone}
 use Rattle.clone_engine.specs.Disks.{DiskState}
 use Rattle.clone_engine.specs.Codes.{disk_code, engine_code}
 use Rattle.clone_engine.specs.Engine.{Engine}

@@ -6,7 +6,7 @@ use Rattle.clone_model.specs.History.{fold}
 use Rattle.clone_recover.specs.Restores.{IsRecoveredDisk}
 use Rattle.clone_apply.specs.Holds.{HoldsCopy}
 use Rattle.clone_plain.specs.Donor.{Donor}
-use Rattle.clone_plain.specs.World.{Stop, Clone, IsSure, before_stop, no_clone}
+use Rattle.clone_events.specs.World.{Stop, Clone, IsSure, before_stop, no_clone}
 use Rattle.clone_core.specs.declared.world.Copied.{Copied}
 
 -- a clone that ended, as the world keeps it

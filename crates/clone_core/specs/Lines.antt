@@ -3,11 +3,11 @@ use Rattle.std.specs.Prelude.{◌≡◌, List}
 use Rattle.std.specs.FinMap as finite
 use Rattle.clone_model.specs.declared.line.Line.{Line}
 use Rattle.clone_plain.specs.Answers.{Text}
-use Rattle.clone_plain.specs.World.{World, no_clone}
-use Rattle.clone_plain.specs.Events.{Event, said}
-use Rattle.clone_plain.specs.Events as plain_events
-use Rattle.clone_plain.specs.Runs as plain
-use Rattle.clone_plain.specs.BreaksOff as broken
+use Rattle.clone_events.specs.World.{World, no_clone}
+use Rattle.clone_events.specs.Events.{Event, said}
+use Rattle.clone_events.specs.Events as plain_events
+use Rattle.clone_events.specs.Runs as plain
+use Rattle.clone_events.specs.BreaksOff as broken
 use Rattle.clone_engine.specs.Opened.{IsOpened}
 use Rattle.clone_core.specs.System.{System, SystemStep, donor_of, tell}
 

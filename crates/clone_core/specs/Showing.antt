@@ -11,8 +11,8 @@ use Rattle.clone_recover.specs.Restores.{Answers}
 use Rattle.clone_recover.specs.declared.recovery.Recovered.{Recovered}
 use Rattle.clone_recover.specs.declared.refusal.RecoverRefusal.{RecoverRefusal}
 use Rattle.clone_recover.specs.declared.refusal.RecoverRefusal.TheVariants.{Incomplete, Damaged, DiskFault, NoMemory}
-use Rattle.clone_plain.specs.World.{stop_now}
-use Rattle.clone_plain.specs.Events.{Happens, completed, broke, showed, incomplete, hidden, damaged}
+use Rattle.clone_events.specs.World.{stop_now}
+use Rattle.clone_events.specs.Events.{Happens, completed, broke, showed, incomplete, hidden, damaged}
 use Rattle.clone_core.specs.System.{SystemStep, donor_of, why_text}
 use Rattle.clone_core.specs.Lines.{State}
 use Rattle.clone_core.specs.Called.{Stays}

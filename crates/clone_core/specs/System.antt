@@ -8,7 +8,7 @@ use Rattle.clone_recover.specs.declared.refusal.Why.TheVariants.{Header, Redo, D
 use Rattle.clone_recover.specs.declared.refusal.RecoverRefusal.TheVariants.{Damaged}
 use Rattle.clone_plain.specs.Donor.{Donor}
 use Rattle.clone_plain.specs.Answers.{Text}
-use Rattle.clone_plain.specs.Events.{to_donor, to_recipient, Event, made, cleaned, completed, completed_before, broke, broke_before, showed, incomplete, hidden, damaged, ordered}
+use Rattle.clone_events.specs.Events.{to_donor, to_recipient, Event, made, cleaned, completed, completed_before, broke, broke_before, showed, incomplete, hidden, damaged, ordered}
 use Rattle.clone_engine.specs.Disks.{DiskState, Visits, with_order}
 use Rattle.clone_engine.specs.Engine.{Engine}
 use Rattle.clone_engine.specs.Steps.{EngineStep}

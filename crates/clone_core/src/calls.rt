@@ -1,7 +1,7 @@
 ghost use Rattle.std.specs.Prelude.{◌^◌, ◌-◌, Ok};
 ghost use Rattle.clone_plain.specs.Calls as call;
 ghost use Rattle.clone_plain.specs.Calls.{did_create, did_begin, did_put, did_delete, did_get, did_undo_one, did_commit, did_flush_begin, did_flush_half, did_flush_land, did_oldest_dirty, did_checkpoint, did_end};
-ghost use Rattle.clone_plain.specs.World.{index_in, IsWithin};
+ghost use Rattle.clone_events.specs.World.{index_in, IsWithin};
 ghost use Rattle.clone_core.specs.System.{donor_of};
 ghost use Rattle.clone_core.specs.Called.{Called};
 

@@ -2,9 +2,9 @@ ghost use Rattle.std.specs.Prelude.{◌≡◌, ◌≤◌, ◌⊎◌, ◌++◌, �
 ghost use Rattle.std.specs.List.{filter_map};
 ghost use Rattle.clone_outside.specs.Causes.{Rose};
 ghost use Rattle.clone_model.specs.declared.line.Line.{Line};
-ghost use Rattle.clone_plain.specs.Events.{Event};
-ghost use Rattle.clone_plain.specs.Headline.{AreCommits, AreSets, ShowsStop, all_events, donor_order, recipient_order};
-ghost use Rattle.clone_plain.specs.World.{IsWithin, no_clone};
+ghost use Rattle.clone_events.specs.Events.{Event};
+ghost use Rattle.clone_events.specs.Headline.{AreCommits, AreSets, ShowsStop, all_events, donor_order, recipient_order};
+ghost use Rattle.clone_events.specs.World.{IsWithin, no_clone};
 ghost use Rattle.clone_core.specs.System.{donor_of};
 ghost use Rattle.clone_core.specs.Lines.{State, IsNew, Runs};
 

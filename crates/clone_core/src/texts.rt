@@ -6,7 +6,7 @@ ghost use Rattle.clone_plain.specs.Donor as plain;
 ghost use Rattle.clone_plain.specs.Causes.{least_unused};
 ghost use Rattle.clone_plain.specs.Effects.{Undoes};
 ghost use Rattle.clone_plain.specs.Answers.{undone_answer, rows_answer, value_answer};
-ghost use Rattle.clone_plain.specs.Events.{complete_text, damaged, event_text, recipient_fault};
+ghost use Rattle.clone_events.specs.Events.{complete_text, damaged, event_text, recipient_fault};
 ghost use Rattle.clone_core.specs.System.{why_text};
 ghost use Rattle.clone_core.specs.Called.{SaysCause};
 

@@ -1,7 +1,7 @@
 ghost use Rattle.std.specs.Prelude.{◌≡◌, ◌^◌, ◌-◌, ◌⊎◌, ◌↔◌, IfOk, OnErr, IsTrue, true};
 ghost use Rattle.std.specs.String.{string_bytes};
 ghost use Rattle.clone_outside.specs.Disk.{ForTold, blank};
-ghost use Rattle.clone_plain.specs.World.{IsWithin};
+ghost use Rattle.clone_events.specs.World.{IsWithin};
 ghost use Rattle.clone_engine.specs.Opened.{IsOpened};
 ghost use Rattle.clone_core.specs.System.{donor_of};
 ghost use Rattle.clone_core.specs.Lines.{Answers, BreaksOff, IsNew};

@@ -1,24 +1,17 @@
 -- The words that the lemmas of this crate share.
 pub use Rattle.std.proofs.lemmas.Bool.{cases_eq}
-pub use Rattle.std.proofs.lemmas.List.{length_push, take-append-le}
-pub use Rattle.std.proofs.lemmas.Option.{none-some, same_Some, slice_get_within, slice_get-get_or}
+pub use Rattle.std.proofs.lemmas.List.{length_push}
+pub use Rattle.std.proofs.lemmas.Option.{none-some, same_Some, slice_get_within}
 pub use Rattle.std.specs.Cmp.{nat_cmp_total}
-pub use Rattle.std.specs.FinMap.{nat_cmp-IsAntisymmetric, get-empty, FinMap, get, get-insert}
-pub use Rattle.std.specs.List.{cons_option, range_with_len, AllByRecursion}
+pub use Rattle.std.specs.FinMap.{nat_cmp-IsAntisymmetric, get-empty}
+pub use Rattle.std.specs.List.{range_with_len, AllByRecursion}
 pub use Rattle.std.specs.Ordering.{eq_by_cmp}
 pub use Rattle.clone_base.proofs.MapEntries.{get-set_same, get-set_other, cases_held, get-removed_same, cases_row, cases_pushed, slice_get-pushed_front, ties, apart, get-removed_other, slice_get-pushed_last}
 pub use Rattle.clone_model.proofs.RowMaps.{row_cmp_total, row_cmp_exact, get-set_or_remove}
-pub use Rattle.clone_model.specs.History.{Drops, Rows, fold, history_of, after_change, after_changes}
+pub use Rattle.clone_model.specs.History.{Drops, Rows, fold, after_change, after_changes}
 pub use Rattle.clone_model.specs.declared.change.Change.{Change}
 pub use Rattle.clone_model.specs.declared.change.Commit.{Commit}
-pub use Rattle.clone_model.specs.declared.line.Line.{Line}
-pub use Rattle.clone_plain.specs.Calls.{Made, PlainStep, did_begin, did_put, did_commit, done, did_create, did_delete, did_get, did_undo_one, did_flush_begin, did_flush_half, did_flush_land, did_oldest_dirty, did_checkpoint, did_end, refused, Done, Call, Does, call_of, commit, made_call, begin, put}
 pub use Rattle.clone_base.specs.declared.limits.TheConstants.{TRANSACTION_LIMIT, CHANGE_LIMIT}
 pub use Rattle.clone_plain.specs.Donor.{Donor, changes_of, no_donor}
-pub use Rattle.clone_plain.specs.Effects.{begun, with_change, Changes, TakesBack, Leaves, Commits, Undoes, Releases, put_of}
-pub use Rattle.clone_plain.specs.Events.{Event, made, cleaned, completed, completed_before, broke, broke_before, showed, incomplete, hidden, damaged, ordered, Events, PlainEvent, Happens, counted, said}
-pub use Rattle.clone_plain.specs.Headline.{committed_at, AreCommits, IsSet, AreSets, ShowsStop, all_events}
+pub use Rattle.clone_plain.specs.Effects.{begun, with_change, Changes, TakesBack, Leaves, Commits, Releases}
 pub use Rattle.clone_plain.specs.Locked.{IsLocked, Opened, AreFew, changes_by, committed_rows, value_of}
-pub use Rattle.clone_plain.specs.Runs.{MakesSet, Runs, not_begun, not_changed, set, MakesClean, all_clean, not_flushed, flushed, MakesClone, is_complete, was_complete, is_broken, was_broken, MakesRows, are_shown, not_there, not_read, not_sound, LineStep, Makes, MakesOne, output}
-pub use Rattle.clone_plain.specs.World.{World, Stop, Clone, IsSure, no_clone, opened, index_in, IsWithin, stop_now, before_stop}
-pub use Rattle.clone_plain.specs.declared.refusal.Cause.{Cause}

@@ -1,10 +1,4 @@
 pub mod Common
-pub mod RunLemmas
-pub mod BinlogLemmas
-pub mod StopLemmas
-mod LineLemmas
-pub mod SetLemmas
-pub mod ReachedLemmas
 pub mod OpenLemmas
 pub mod ValueLemmas
 pub mod LockLemmas

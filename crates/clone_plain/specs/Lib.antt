@@ -3,9 +3,4 @@ pub mod Causes
 pub mod Effects
 pub mod Calls
 pub mod Answers
-pub mod World
-pub mod Events
-pub mod Runs
-pub mod BreaksOff
-pub mod Headline
 pub mod Locked

@@ -9,9 +9,9 @@ use Rattle.clone_outside.specs.declared.Refusal.{Refusal}
 use Rattle.clone_outside.specs.declared.Refusal.TheVariants.{Fault, NoMemory}
 use Rattle.clone_model.specs.Texts.{ended, binlog_text}
 use Rattle.clone_model.specs.declared.line.Line.{Line}
-use Rattle.clone_plain.specs.Events.{Event, said}
-use Rattle.clone_plain.specs.Runs.{output}
-use Rattle.clone_plain.proofs.RunLemmas.{output-push, Runs-push}
+use Rattle.clone_events.specs.Events.{Event, said}
+use Rattle.clone_events.specs.Runs.{output}
+use Rattle.clone_events.proofs.RunLemmas.{output-push, Runs-push}
 use Rattle.clone_core.specs.System.{SystemStep, donor_of}
 use Rattle.clone_core.specs.Lines.{State, Runs}
 use Rattle.clone_prog.specs.Carrying.{Answered, AnsweredAll, AnsweredSome, Finished, StoppedAtLine, in_it, behind_it}

@@ -5,8 +5,8 @@ use Rattle.clone_outside.specs.Bytes.{appended, TakesSome}
 use Rattle.clone_model.specs.Texts.{ended, binlog_text}
 use Rattle.clone_model.specs.declared.line.Line.{Line}
 use Rattle.clone_plain.specs.Answers.{Text}
-use Rattle.clone_plain.specs.Events.{Event}
-use Rattle.clone_plain.specs.Runs.{output}
+use Rattle.clone_events.specs.Events.{Event}
+use Rattle.clone_events.specs.Runs.{output}
 use Rattle.clone_core.specs.System.{donor_of}
 use Rattle.clone_core.specs.Lines.{State, Answers, BreaksOff, Runs}
 

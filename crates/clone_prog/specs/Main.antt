@@ -12,10 +12,10 @@ use Rattle.clone_model.specs.Texts.{ended, binlog_text}
 use Rattle.clone_model.specs.declared.config.Config.{Config}
 use Rattle.clone_model.specs.declared.line.Line.{Line}
 use Rattle.clone_plain.specs.Answers.{Text}
-use Rattle.clone_plain.specs.Events.{Event, recipient_fault}
-use Rattle.clone_plain.specs.Runs.{output}
-use Rattle.clone_plain.specs.World.{no_clone}
-use Rattle.clone_plain.specs.Headline.{AreCommits, AreSets, ShowsStop, all_events, donor_order, recipient_order}
+use Rattle.clone_events.specs.Events.{Event, recipient_fault}
+use Rattle.clone_events.specs.Runs.{output}
+use Rattle.clone_events.specs.World.{no_clone}
+use Rattle.clone_events.specs.Headline.{AreCommits, AreSets, ShowsStop, all_events, donor_order, recipient_order}
 use Rattle.clone_engine.specs.Disks.{DiskState, Visits}
 use Rattle.clone_engine.specs.Opened.{IsNotEmpty}
 use Rattle.clone_core.specs.System.{donor_of}

@@ -4,7 +4,7 @@ use Rattle.std.specs.Fmt.{decimal}
 use Rattle.std.specs.declared.option.Option.{Option}
 use Rattle.clone_outside.specs.Causes.{Rose}
 use Rattle.clone_model.specs.Texts.{ended}
-use Rattle.clone_plain.specs.Events.{recipient_fault}
+use Rattle.clone_events.specs.Events.{recipient_fault}
 use Rattle.clone_outside.specs.Bytes.{appended, TakesSome}
 use Rattle.clone_prog.specs.declared.status.Status.{Status}
 use Rattle.clone_prog.specs.declared.status.Status.TheVariants.{Memory, Usage, BadLine, SourceFault, SinkFault, DonorFault, RecipientFault, NotEmpty, TooLong}

@@ -7,7 +7,7 @@ ghost use Rattle.clone_engine.specs.Disks.{Visits};
 ghost use Rattle.clone_engine.specs.Opened.{IsNotEmpty};
 ghost use Rattle.clone_model.specs.Config.{IsConfig};
 ghost use Rattle.clone_model.specs.Texts.{ended};
-ghost use Rattle.clone_plain.specs.World.{IsWithin};
+ghost use Rattle.clone_events.specs.World.{IsWithin};
 ghost use Rattle.clone_core.specs.System.{donor_of};
 ghost use Rattle.clone_core.specs.Lines.{IsNew};
 ghost use Rattle.clone_prog.specs.Carrying.{Answered, AnsweredAll, AnsweredSome, Finished, Stopped, StoppedAtLine};

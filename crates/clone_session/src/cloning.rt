@@ -3,7 +3,10 @@
 //! copy of redo that ends a ring's size behind what is archived, so that the stop takes no memory.
 ghost use Rattle.std.specs.Prelude.{◌≡◌, ◌≤◌, None, option_map};
 ghost use Rattle.clone_model.specs.declared.config.TheConstants.{MOST_RING};
+ghost use Rattle.std.specs.Option.{ForSome};
 ghost use Rattle.clone_archive.specs.Archived as archived;
+ghost use Rattle.clone_archive.specs.Archived.{IsArchived};
+ghost use Rattle.clone_snapshot.specs.Snaps.{IsSnap};
 ghost use Rattle.clone_session.specs.Cloning.{IsCloning};
 
 use crate::info::Stop;
@@ -102,5 +105,17 @@ impl Cloning {
         ensures { IsCloning self.now }
     {
         let _ = &self.session;
+    }
+
+    /// What holds of the archive and of the chunks of every clone.
+    pub fn part_laws(&self)
+        ensures archive { ForSome self.now.archive IsArchived }
+        ensures chunks { ForSome self.now.session
+            (λ s. IsSnap s.snap.list s.snap.chunks s.snap.room) }
+    {
+        self.archive.laws();
+        if let Some(session) = &self.session {
+            session.snapshot.laws();
+        }
     }
 }

@@ -2,14 +2,19 @@
 //! log's, and what a session copies is the donor's.
 ghost use Rattle.std.specs.Prelude.{◌≡◌, ◌≤◌, IfErr, IfOk, None, is_some, length, option_copied, option_map};
 ghost use Rattle.std.specs.FinMap as finite;
+ghost use Rattle.std.specs.Option.{ForSome};
 ghost use Rattle.clone_outside.specs.Causes.{Rose};
 ghost use Rattle.clone_outside.specs.Disk.{ForTold, blank};
 ghost use Rattle.clone_model.specs.Config.{IsConfig};
 ghost use Rattle.clone_image.specs.Replay.{first_lsn};
+ghost use Rattle.clone_archive.specs.Archived.{IsArchived};
 ghost use Rattle.clone_ring.specs.Window.{end_of};
+ghost use Rattle.clone_snapshot.specs.Snaps.{IsSnap};
 ghost use Rattle.clone_plain.specs.Causes.{least_unused};
+ghost use Rattle.clone_trx.specs.Kept.{IsSafe};
 ghost use Rattle.clone_session.specs.Cloning.{IsCloning, Session};
 ghost use Rattle.clone_engine.specs.Disks.{Orders, Visits};
+ghost use Rattle.clone_engine.specs.Engine.{IsEngine};
 ghost use Rattle.clone_engine.specs.Opened.{IsNotEmpty, IsOpened};
 ghost use Rattle.clone_engine.specs.declared.opening.OpenCause.TheVariants as causes;
 ghost use Rattle.clone_stages.specs.Acts as act;
@@ -155,8 +160,15 @@ impl<D: PageDisk> Donor<D> {
     /// What holds of every donor.
     pub fn laws(&self)
         ensures donor { IsDonor self.now }
+        ensures engine { IsEngine self.now.engine }
+        ensures safe { IsSafe self.now.engine.donor }
         ensures cloning { IsCloning self.now.cloning }
+        ensures archive { ForSome self.now.cloning.archive IsArchived }
+        ensures chunks { ForSome self.now.cloning.session
+            (λ s. IsSnap s.snap.list s.snap.chunks s.snap.room) }
     {
+        self.engine.laws();
         self.cloning.laws();
+        self.cloning.part_laws();
     }
 }

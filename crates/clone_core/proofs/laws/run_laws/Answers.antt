@@ -1,4 +1,4 @@
-use Rattle.clone_plain.specs.Events.{to_donor, to_recipient}
+use Rattle.clone_events.specs.Events.{to_donor, to_recipient}
 use Rattle.clone_core.proofs.OrderLemmas.{run_orders}
 use Rattle.clone_core.proofs.RunLemmas.{run_commits, run_sets, run_stop, run_within, run_tells, run_fault}
 use Rattle.clone_core.proofs.laws.run_laws.Goals as goal

@@ -2,7 +2,7 @@ use Rattle.std.proofs.Common.{refl, ap, ◌∙◌, string_bytes}
 use Rattle.clone_model.specs.declared.line.Line.TheVariants as lines
 use Rattle.clone_plain.specs.Calls.{begin, did_begin}
 use Rattle.clone_plain.specs.Causes.{least_unused}
-use Rattle.clone_plain.specs.World.{index_in}
+use Rattle.clone_events.specs.World.{index_in}
 use Rattle.clone_core.specs.System.{donor_of}
 use Rattle.clone_core.specs.Lines.{State}
 use Rattle.clone_core.proofs.LineLemmas.{same_breaks, call_answers, call_breaks, made_step}

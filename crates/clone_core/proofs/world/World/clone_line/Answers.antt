@@ -1,7 +1,7 @@
 use Rattle.std.proofs.Common.{refl, ap, string_bytes}
 use Rattle.clone_model.specs.declared.line.Line.TheVariants as lines
-use Rattle.clone_plain.specs.Events.{broke_before, completed_before}
-use Rattle.clone_plain.specs.Runs.{was_broken, was_complete}
+use Rattle.clone_events.specs.Events.{broke_before, completed_before}
+use Rattle.clone_events.specs.Runs.{was_broken, was_complete}
 use Rattle.clone_core.specs.Copied.{clone_of}
 use Rattle.clone_core.proofs.LineLemmas.{event_answers, same_breaks}
 use Rattle.clone_core.proofs.CloneLemmas.{broken_again, whole_again}

@@ -2,7 +2,7 @@ use Rattle.std.proofs.Common.{refl, ap, string_bytes}
 use Rattle.clone_model.specs.declared.line.Line.TheVariants as lines
 use Rattle.clone_plain.specs.Answers.{value_answer}
 use Rattle.clone_plain.specs.Calls.{get, did_get, done}
-use Rattle.clone_plain.specs.Events.{made}
+use Rattle.clone_events.specs.Events.{made}
 use Rattle.clone_core.proofs.LineLemmas.{event_answers, stays_breaks, got_stays, refusal_answers, refusal_breaks, said_is}
 use Rattle.clone_core.proofs.world.World.get_line.Goals as goal
 

@@ -1,8 +1,8 @@
 use Rattle.std.proofs.Common.{refl, ap, ◌∙◌, string_bytes, Err}
 use Rattle.clone_model.specs.declared.line.Line.TheVariants as lines
 use Rattle.clone_plain.specs.Answers.{rows_answer}
-use Rattle.clone_plain.specs.Events.{showed, incomplete, hidden, damaged}
-use Rattle.clone_plain.specs.Runs.{are_shown, not_there, not_read, not_sound}
+use Rattle.clone_events.specs.Events.{showed, incomplete, hidden, damaged}
+use Rattle.clone_events.specs.Runs.{are_shown, not_there, not_read, not_sound}
 use Rattle.clone_recover.specs.declared.refusal.RecoverRefusal.{RecoverRefusal}
 use Rattle.clone_recover.specs.declared.refusal.RecoverRefusal.TheVariants.{Incomplete, Damaged, DiskFault}
 use Rattle.clone_core.specs.System.{why_text}

@@ -1,12 +1,12 @@
 -- The commit of a `set` is of its writer, and has its one change.
 use Rattle.std.proofs.Common.{◌≡◌, ℕ, ◌+◌, ◌-◌, ◌<◌, List, [], ◌∷◌, ◌++◌, length, sym, ap, ◌∙◌, subst, arith, length-append, append_assoc, Some, slice_get, filter_map}
-use Rattle.clone_plain.proofs.Common.{nat_cmp_total, nat_cmp-IsAntisymmetric, get-set_same, same_Some, slice_get-get_or, Change, Commit, Line, Donor, begun, put_of, with_change, Changes, did_begin, did_put, did_commit, Made, done, PlainStep, World, Event, made, PlainEvent, Happens, Events, MakesSet, not_begun, not_changed, set, Runs, committed_at, IsSet, AreSets}
+use Rattle.clone_events.proofs.Common.{nat_cmp_total, nat_cmp-IsAntisymmetric, get-set_same, same_Some, slice_get-get_or, Change, Commit, Line, Donor, begun, put_of, with_change, Changes, did_begin, did_put, did_commit, Made, done, PlainStep, World, Event, made, PlainEvent, Happens, Events, MakesSet, not_begun, not_changed, set, Runs, committed_at, IsSet, AreSets}
 use Rattle.std.specs.FinMap as finite
 use Rattle.std.proofs.Math.Seq.{get_or-append_seam}
 use Rattle.clone_model.specs.declared.line.Line.TheVariants as lines
-use Rattle.clone_plain.proofs.BinlogLemmas.{events_add}
-use Rattle.clone_plain.proofs.LineLemmas.{CommitMade, was_refused, was_done, commit_made}
-use Rattle.clone_plain.proofs.RunLemmas.{Runs-Events}
+use Rattle.clone_events.proofs.BinlogLemmas.{events_add}
+use Rattle.clone_events.proofs.LineLemmas.{CommitMade, was_refused, was_done, commit_made}
+use Rattle.clone_events.proofs.RunLemmas.{Runs-Events}
 
 -- the commit of a transaction that began and made one change
 one_change : (d e f : Donor) (trx writer index : ℕ) (change : Change) (commit : Commit) → e ≡ begun trx writer index d → Changes e trx change f → finite.get f.active trx ≡ Some commit → commit ≡ record { writer = writer; index = index; changes = change ∷ [] }

@@ -1,6 +1,6 @@
 -- What events add to the binlog: a commit each time that one is answered, and nothing else.
 use Rattle.std.proofs.Common.{◌≡◌, ℕ, ◌+◌, List, [], ◌∷◌, ◌++◌, length, refl, sym, ap, ◌∙◌, subst, zero, suc, zero-add, add-zero, arith, append_assoc, length-append, Option, Some, None, append-nil, filter_map}
-use Rattle.clone_plain.proofs.Common.{cons_option, range_with_len, Commit, Donor, Undoes, Done, did_create, did_begin, did_put, did_delete, did_get, did_undo_one, did_commit, did_flush_begin, did_flush_half, did_flush_land, did_oldest_dirty, did_checkpoint, did_end, Made, done, refused, Does, PlainStep, World, Event, made, cleaned, completed, completed_before, broke, broke_before, showed, incomplete, hidden, damaged, ordered, PlainEvent, Happens, Events, committed_at, AreCommits}
+use Rattle.clone_events.proofs.Common.{cons_option, range_with_len, Commit, Donor, Undoes, Done, did_create, did_begin, did_put, did_delete, did_get, did_undo_one, did_commit, did_flush_begin, did_flush_half, did_flush_land, did_oldest_dirty, did_checkpoint, did_end, Made, done, refused, Does, PlainStep, World, Event, made, cleaned, completed, completed_before, broke, broke_before, showed, incomplete, hidden, damaged, ordered, PlainEvent, Happens, Events, committed_at, AreCommits}
 use Rattle.clone_plain.specs.declared.refusal.Undone.{Undone}
 use Rattle.clone_plain.specs.declared.refusal.Undone.TheVariants.{Left, Ended}
 

@@ -1,11 +1,11 @@
 -- A line adds at most one commit, and at most one transaction of each writer.
 use Rattle.std.proofs.Common.{◌≡◌, ℕ, ◌+◌, ◌≤◌, List, [], ◌∷◌, length, Bool, true, false, cond, refl, sym, ap, ◌∙◌, subst, arith, length-append, Option, Some, None, unwrap_or, inl, inr, ◌⊎◌, filter_map, nat_cmp}
-use Rattle.clone_plain.proofs.Common.{cons_option, AllByRecursion, FinMap, get, get-empty, get-insert, eq_by_cmp, Line, Cause, Donor, Call, begin, put, Done, did_create, did_begin, did_put, did_delete, did_get, did_undo_one, did_commit, did_flush_begin, did_flush_half, did_flush_land, did_oldest_dirty, did_checkpoint, did_end, Made, done, refused, World, opened, index_in, IsWithin, Event, made, cleaned, completed, completed_before, broke, broke_before, showed, incomplete, hidden, damaged, ordered, PlainEvent, counted, Happens, Events, MakesSet, not_begun, not_changed, set, LineStep, Runs, committed_at}
+use Rattle.clone_events.proofs.Common.{cons_option, AllByRecursion, FinMap, get, get-empty, get-insert, eq_by_cmp, Line, Cause, Donor, Call, begin, put, Done, did_create, did_begin, did_put, did_delete, did_get, did_undo_one, did_commit, did_flush_begin, did_flush_half, did_flush_land, did_oldest_dirty, did_checkpoint, did_end, Made, done, refused, World, opened, index_in, IsWithin, Event, made, cleaned, completed, completed_before, broke, broke_before, showed, incomplete, hidden, damaged, ordered, PlainEvent, counted, Happens, Events, MakesSet, not_begun, not_changed, set, LineStep, Runs, committed_at}
 use Rattle.std.specs.FinMap.{insert}
 use Rattle.std.proofs.lemmas.Cmp.{nat_cmp_total}
 use Rattle.std.proofs.lemmas.List.FromFn.{length-range_with_len}
-use Rattle.clone_plain.proofs.BinlogLemmas.{events_add}
-use Rattle.clone_plain.proofs.LineLemmas.{IsQuiet, Shape, one, sets, quiet, shape, CommitMade, was_refused, was_done, commit_made}
+use Rattle.clone_events.proofs.BinlogLemmas.{events_add}
+use Rattle.clone_events.proofs.LineLemmas.{IsQuiet, Shape, one, sets, quiet, shape, CommitMade, was_refused, was_done, commit_made}
 
 abbrev Begun : Type 0
 Begun = FinMap nat_cmp ℕ

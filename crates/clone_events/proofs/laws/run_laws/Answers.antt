@@ -1,11 +1,11 @@
 use Rattle.std.proofs.Common.{refl}
-use Rattle.clone_plain.proofs.Common.{PlainEvent, no_donor, all_events, opened}
-use Rattle.clone_plain.proofs.BinlogLemmas.{events_add, are_commits}
-use Rattle.clone_plain.proofs.ReachedLemmas.{Runs-IsWithin}
-use Rattle.clone_plain.proofs.RunLemmas.{Runs-Events, Runs-tells}
-use Rattle.clone_plain.proofs.SetLemmas.{are_sets}
-use Rattle.clone_plain.proofs.StopLemmas.{shows_stop}
-use Rattle.clone_plain.proofs.laws.run_laws.Goals as goal
+use Rattle.clone_events.proofs.Common.{PlainEvent, no_donor, all_events, opened}
+use Rattle.clone_events.proofs.BinlogLemmas.{events_add, are_commits}
+use Rattle.clone_events.proofs.ReachedLemmas.{Runs-IsWithin}
+use Rattle.clone_events.proofs.RunLemmas.{Runs-Events, Runs-tells}
+use Rattle.clone_events.proofs.SetLemmas.{are_sets}
+use Rattle.clone_events.proofs.StopLemmas.{shows_stop}
+use Rattle.clone_events.proofs.laws.run_laws.Goals as goal
 
 pub returns-clause-commits : goal.returns-clause-commits
 returns-clause-commits c lines events t tells run = are_commits no_donor t.donor (all_events events) refl (events_add (λ d. d) PlainEvent (λ d e event step. step) (opened no_donor tells) (all_events events) t (Runs-Events (λ d. d) PlainEvent (opened no_donor tells) lines events t run))

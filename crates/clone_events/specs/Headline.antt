@@ -10,8 +10,8 @@ use Rattle.clone_plain.specs.Effects.{put_of}
 use Rattle.clone_plain.specs.Calls.{did_commit, done}
 use Rattle.clone_outside.specs.declared.disk.DiskOrder.{DiskOrder}
 use Rattle.clone_outside.specs.declared.disk.DiskOrder.TheVariants as order
-use Rattle.clone_plain.specs.World.{Stop, Clone, IsSure}
-use Rattle.clone_plain.specs.Events.{Event, made, cleaned, completed, completed_before, broke, broke_before, showed, incomplete, hidden, damaged, ordered}
+use Rattle.clone_events.specs.World.{Stop, Clone, IsSure}
+use Rattle.clone_events.specs.Events.{Event, made, cleaned, completed, completed_before, broke, broke_before, showed, incomplete, hidden, damaged, ordered}
 
 -- the events of lines, one after the other
 abbrev pub all_events : List (List Event) → List Event

@@ -1,10 +1,10 @@
 ghost use Rattle.std.specs.Prelude.{◌≡◌, ◌≤◌, ◌++◌, Bool, ℕ, List, length};
 ghost use Rattle.clone_model.specs.declared.line.Line.{Line};
 ghost use Rattle.clone_plain.specs.Donor.{Donor, no_donor};
-ghost use Rattle.clone_plain.specs.Events.{Event, PlainEvent};
-ghost use Rattle.clone_plain.specs.Headline.{AreCommits, AreSets, ShowsStop, all_events};
-ghost use Rattle.clone_plain.specs.Runs.{Runs};
-ghost use Rattle.clone_plain.specs.World.{World, IsWithin, no_clone, opened};
+ghost use Rattle.clone_events.specs.Events.{Event, PlainEvent};
+ghost use Rattle.clone_events.specs.Headline.{AreCommits, AreSets, ShowsStop, all_events};
+ghost use Rattle.clone_events.specs.Runs.{Runs};
+ghost use Rattle.clone_events.specs.World.{World, IsWithin, no_clone, opened};
 
 /// Each run of the plain donor from the beginning: its binlog has a commit for each position that
 /// was answered, that of a `set` with its one change; the rows shown are those of the stop, where

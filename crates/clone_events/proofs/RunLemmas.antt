@@ -1,6 +1,6 @@
 -- Runs join, and so do events and what they write.
 use Rattle.std.proofs.Common.{◌≡◌, List, [], ◌∷◌, ◌++◌, refl, sym, ap, ◌∙◌, subst, append_assoc, append-nil, flat_map}
-use Rattle.clone_plain.proofs.Common.{Line, Donor, World, Event, said, Events, LineStep, Runs, output}
+use Rattle.clone_events.proofs.Common.{Line, Donor, World, Event, said, Events, LineStep, Runs, output}
 use Rattle.clone_model.specs.Texts.{ended}
 
 module _ {D : Type 0} (plain : D → Donor) (Step : D → Event → D → Type 0) where

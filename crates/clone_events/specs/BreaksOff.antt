@@ -4,9 +4,9 @@ use Rattle.std.specs.List.{AllByRecursion}
 use Rattle.clone_model.specs.declared.line.Line.{Line}
 use Rattle.clone_plain.specs.Donor.{Donor}
 use Rattle.clone_plain.specs.Calls.{Done, done}
-use Rattle.clone_plain.specs.World.{World, index_in}
-use Rattle.clone_plain.specs.Events.{Event, made, Events}
-use Rattle.clone_plain.specs.Runs.{Makes}
+use Rattle.clone_events.specs.World.{World, index_in}
+use Rattle.clone_events.specs.Events.{Event, made, Events}
+use Rattle.clone_events.specs.Runs.{Makes}
 
 -- a call was carried out, against which there was no cause
 abbrev pub IsDone : Event → Type 0

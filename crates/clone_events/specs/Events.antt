@@ -11,7 +11,7 @@ use Rattle.clone_plain.specs.Donor.{Donor}
 use Rattle.clone_plain.specs.Effects.{Gets}
 use Rattle.clone_plain.specs.Calls.{did_begin, did_get, Made, done, PlainStep}
 use Rattle.clone_plain.specs.Answers.{Text, made_text, rows_answer}
-use Rattle.clone_plain.specs.World.{World, Stop, Clone, IsSure, index_in, stop_now, before_stop}
+use Rattle.clone_events.specs.World.{World, Stop, Clone, IsSure, index_in, stop_now, before_stop}
 
 -- the two sides of a clone
 pub data Side : Type 0 where

@@ -1,7 +1,7 @@
 -- What events show of a clone is what the history before its stop leaves, however long the history becomes.
 use Rattle.std.proofs.Common.{◌≡◌, ℕ, ◌≤◌, List, [], ◌∷◌, length, take, Bool, sym, ap, ◌∙◌, subst, arith, length-append, Option, Some, None, MatchOption}
-use Rattle.clone_plain.proofs.Common.{take-append-le, Rows, Drops, fold, history_of, Commit, Donor, World, Stop, Clone, IsSure, stop_now, before_stop, Event, made, cleaned, completed, completed_before, broke, broke_before, showed, incomplete, hidden, damaged, ordered, PlainEvent, Happens, Events, ShowsStop}
-use Rattle.clone_plain.proofs.BinlogLemmas.{Adds, event_adds, events_add}
+use Rattle.clone_events.proofs.Common.{take-append-le, Rows, Drops, fold, history_of, Commit, Donor, World, Stop, Clone, IsSure, stop_now, before_stop, Event, made, cleaned, completed, completed_before, broke, broke_before, showed, incomplete, hidden, damaged, ordered, PlainEvent, Happens, Events, ShowsStop}
+use Rattle.clone_events.proofs.BinlogLemmas.{Adds, event_adds, events_add}
 
 -- a stop lies within what there is
 abbrev pub IsStop : Option Stop → Donor → Type 0
