@@ -7,4 +7,6 @@ mod plain;
 #[cfg(test)]
 mod staged;
 #[cfg(test)]
+mod staged_walk;
+#[cfg(test)]
 mod trx;

@@ -10,11 +10,11 @@ use std::test::Fail;
 
 mod beside;
 mod calls;
-mod drawn;
+pub mod drawn;
 mod flushed_walk;
 mod opening;
 mod pages;
-mod plain;
+pub mod plain;
 mod reads;
 mod silent;
 mod vectors;
@@ -233,8 +233,8 @@ fn undone_text(alloc: Global, undone: Undone) -> Result<String, AllocError> {
     }
 }
 
-// What a call answered, or the cause against it.
-fn answered<T: Drop>(answer: Result<T, EngineRefusal>) -> Result<Result<T, Cause>, AllocError> {
+/// What a call answered, or the cause against it.
+pub fn answered<T: Drop>(answer: Result<T, EngineRefusal>) -> Result<Result<T, Cause>, AllocError> {
     match answer {
         Ok(answer) => Ok(Ok(answer)),
         Err(EngineRefusal::Because(cause)) => Ok(Err(cause)),

@@ -1,0 +1,87 @@
+-- A session has begun, and room is made for its files: they are being copied.
+use Rattle.std.proofs.Common.{◌≡◌, ℕ, List, Option, None, Some, IsTrue, is_some, sym, ap, subst, ◌∙◌}
+use Rattle.std.specs.Prelude.{option_map, replicate}
+use Rattle.std.specs.FinMap as finite
+use Rattle.clone_base.specs.declared.limits.TheConstants.{REDO_SPACE}
+use Rattle.clone_outside.specs.Disk.{DiskImage, ForTold, Steps, blank}
+use Rattle.clone_outside.specs.declared.mark.Mark.TheVariants.{InProgress}
+use Rattle.clone_buffer.specs.OnePage.{Copies, no_copies}
+use Rattle.clone_flush.specs.Flights.{IsFlown}
+use Rattle.clone_lay.specs.Laid.{pages_in}
+use Rattle.clone_lay.specs.Marked.{marked}
+use Rattle.clone_lay.specs.Sized.{AreSizes, PageCounts}
+use Rattle.clone_chunk.specs.declared.chunk.Chunk.{Chunk}
+use Rattle.clone_chunk.specs.declared.chunk.Chunk.TheVariants.{Free}
+use Rattle.clone_chunk.specs.Stages.{stage_number}
+use Rattle.clone_snapshot.specs.StageLists.{Files, StageList, chunk_count, stage_of}
+use Rattle.clone_trx.specs.Kept.{IsSafe}
+use Rattle.clone_trx.specs.Spaces.{spaces_of}
+use Rattle.clone_session.specs.declared.info.StageInfo.{StageInfo}
+use Rattle.clone_engine.specs.Engine.{Engine, IsEngine}
+use Rattle.clone_engine.proofs.DiskLemmas.{for_told}
+use Rattle.clone_stages.specs.Copies.{first_copies}
+use Rattle.clone_stages.specs.Donor.{Donor}
+use Rattle.clone_request.specs.declared.requester.TheConstants.{SESSION}
+use Rattle.clone_request.specs.Copying.{HasBegun, IsCopying, StartsAt}
+use Rattle.clone_request.specs.Laying.{KeepsMark, with_rooms}
+use Rattle.clone_request.specs.Requester.{HoldsListed, HoldsStage}
+use Rattle.clone_request.specs.Waiting.{AreSettled, HoldsPages, WaitsForPage}
+use Rattle.clone_request.proofs.FileLemmas.{files_begin, files_beside_redo}
+use Rattle.clone_request.proofs.StepLemmas.{mark_stays}
+use Rattle.clone_request.proofs.WaitLemmas.{first_settled}
+
+module _ (d : Donor) (info : StageInfo) (begun : HasBegun d info) where
+  abbrev files : List (ℕ × ℕ)
+  files = spaces_of d.engine.donor
+
+  -- what stands on the disk with its rooms
+  begun_holds : (m : DiskImage) → IsEngine d.engine → IsSafe d.engine.donor → IsTrue d.engine.buffer.right → m ≡ marked (InProgress SESSION) blank
+      → HoldsStage begun.session.snap.list begun.session.snap.chunks None begun.taken d.cloning.archive (with_rooms info.spaces m)
+  begun_holds m engine safe right is = record {
+    pages = subst (λ (l : StageList). HoldsPages (WaitsForPage l begun.session.snap.chunks None) begun.taken.copies (with_rooms info.spaces m)) (sym begun.list)
+        (subst (λ (cs : List Chunk). HoldsPages (WaitsForPage (Files files) cs None) begun.taken.copies (with_rooms info.spaces m)) (sym chunks_are)
+        (subst (λ (copies : Copies). HoldsPages first copies (with_rooms info.spaces m)) (sym begun.copies)
+        (subst (λ (spaces : List (ℕ × ℕ)). HoldsPages first copied (with_rooms spaces m)) (sym begun.spaces) (files_begin d.engine d.cloning.tracking.pages m engine safe right empty))));
+    redo = subst (λ (l : StageList). HoldsListed l begun.session.snap.chunks None begun.taken.stop d.cloning.archive (with_rooms info.spaces m)) (sym begun.list)
+        (ap (λ (spaces : List (ℕ × ℕ)). pages_in (with_rooms spaces m) REDO_SPACE) begun.spaces ∙ files_beside_redo d.engine.donor m safe empty);
+  }
+    where
+      empty : m.spaces ≡ finite.empty
+      empty = ap (λ (x : DiskImage). x.spaces) is
+
+      copied : Copies
+      copied = first_copies d.cloning.tracking.pages d.engine.buffer.log
+
+      first : ℕ → ℕ → Type 0
+      first = WaitsForPage (Files files) (replicate (chunk_count (Files files)) Free) None
+
+      chunks_are : begun.session.snap.chunks ≡ replicate (chunk_count (Files files)) Free
+      chunks_are = begun.chunks ∙ ap (λ (l : StageList). replicate (chunk_count l) Free) begun.list
+
+  begun_told : (told now : Option DiskImage) → IsEngine d.engine → IsSafe d.engine.donor → IsTrue d.engine.buffer.right → ForTold told (λ m. m ≡ marked (InProgress SESSION) blank) → Steps told now (with_rooms info.spaces)
+      → ForTold now (HoldsStage begun.session.snap.list begun.session.snap.chunks None begun.taken d.cloning.archive)
+  begun_told None now engine safe right is steps = subst (λ (o : Option DiskImage). ForTold o (HoldsStage begun.session.snap.list begun.session.snap.chunks None begun.taken d.cloning.archive)) (sym steps) tt
+  begun_told (Some m) now engine safe right is steps = subst (λ (o : Option DiskImage). ForTold o (HoldsStage begun.session.snap.list begun.session.snap.chunks None begun.taken d.cloning.archive)) (sym steps) (begun_holds m engine safe right is)
+
+  pub begun_copying : (told now : Option DiskImage) (kept : PageCounts) → IsEngine d.engine → IsSafe d.engine.donor → ForTold told (λ m. m ≡ marked (InProgress SESSION) blank) → is_some now ≡ is_some told → KeepsMark told now
+      → Steps told now (with_rooms info.spaces) → ForTold now (AreSizes kept) → IsCopying d now kept 1 info.checkpoint None None
+  begun_copying told now kept engine safe is tells keeps steps sizes = record {
+    session = begun.session;
+    taken = begun.taken;
+    in_stage = record {
+      session = begun.stands;
+      own = begun.own;
+      settled = subst (λ (cs : List Chunk). AreSettled cs None) (sym begun.chunks) (first_settled begun.session.snap.list);
+      is = begun.is;
+      early = λ low. begun.stop;
+      disk = for_told (IsFlown d.engine.buffer d.engine.flights no_copies) (λ _. ForTold now (HoldsStage begun.session.snap.list begun.session.snap.chunks None begun.taken d.cloning.archive)) d.engine.disk.told
+          (λ x flown. begun_told told now engine safe flown.kept.right is steps) engine.stands;
+      mark = mark_stays (λ o. o ≡ (marked (InProgress SESSION) blank).mark) told now tells keeps
+          (for_told (λ m. m ≡ marked (InProgress SESSION) blank) (λ m. m.mark ≡ (marked (InProgress SESSION) blank).mark) told (λ m same. ap (λ (x : DiskImage). x.mark) same) is);
+      sized = sizes;
+    };
+    works = λ w none. absurd (cc);
+    stage_is = ap (λ (l : StageList). stage_number (stage_of l)) begun.list;
+    starts = subst (λ (l : StageList). StartsAt l info.checkpoint) (sym begun.list) tt;
+    at = ap (option_map (λ (e : Engine). e.donor)) begun.stop;
+  }

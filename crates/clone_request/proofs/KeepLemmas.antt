@@ -1,0 +1,255 @@
+-- A clone stays under way while other calls are made on the donor.
+use Rattle.std.proofs.Common.{◌≡◌, ◌≤◌, ◌<◌, ◌+◌, ◌-◌, ◌∙◌, ℕ, List, length, All, Option, None, Some, Result, Ok, Err, option_map, is_some, refl, sym, ap, subst, arith}
+use Rattle.std.proofs.lemmas.List.{length-append}
+use Rattle.std.specs.Prelude.{take, drop}
+use Rattle.clone_outside.specs.Disk.{DiskImage, ForTold}
+use Rattle.clone_archive.specs.Archived.{Archived, archived_of, next_count}
+use Rattle.clone_chunk.specs.declared.chunk.Chunk.{Chunk}
+use Rattle.clone_chunk.specs.declared.chunk.Chunk.TheVariants.{Finished}
+use Rattle.clone_snapshot.specs.StageLists as lists
+use Rattle.clone_snapshot.specs.StageLists.{StageList}
+use Rattle.clone_plain.specs.Calls.{Call, create, begin, put, delete, get, undo_one, commit, flush_begin, flush_half, flush_land, oldest_dirty, checkpoint, end, Done, did_oldest_dirty, did_checkpoint, did_end}
+use Rattle.clone_plain.specs.Donor as plain
+use Rattle.clone_plain.specs.declared.refusal.EngineRefusal.{EngineRefusal}
+use Rattle.clone_session.specs.Cloning.{Cloning, Session}
+use Rattle.clone_session.specs.CloneCalls.{Archives, archived_on}
+use Rattle.clone_session.specs.CloneCauses.{donor_stage}
+use Rattle.clone_session.specs.Effects.{Becomes}
+use Rattle.clone_engine.specs.Disks.{DiskState}
+use Rattle.clone_engine.specs.Engine.{Engine}
+use Rattle.clone_engine.specs.Steps.{Ends, Looks}
+use Rattle.clone_engine.proofs.DiskLemmas.{for_told}
+use Rattle.clone_stages.specs.Acts as act
+use Rattle.clone_stages.specs.Acts.{Act, Acts, Does, after_act}
+use Rattle.clone_stages.specs.Donor.{Donor}
+use Rattle.clone_stages.specs.Serving.{AnswersCall, Creates, Serves, ServesAs, noted_by, taken_by}
+use Rattle.clone_stages.specs.Taken.{IsTaken, Taken}
+use Rattle.clone_stages.proofs.ToldLemmas.{told_stays}
+use Rattle.clone_request.specs.Advancing.{IsOutside}
+use Rattle.clone_request.specs.Requester.{HoldsListed, HoldsStage, IsBegun, IsCopied, IsInStage, IsStopOf, IsUnderWay, Requester, redo_from}
+use Rattle.clone_request.specs.Waiting.{AreSettled, HoldsPages, InWork, WaitsForPage, WaitsForRedo}
+use Rattle.clone_request.proofs.RedoLemmas.{redo_weaker}
+use Rattle.clone_request.proofs.StageLemmas.{called_holds}
+
+-- a session without its room
+abbrev bare : Session → Session
+bare s = record s { snap = record s.snap { room = 0 } }
+
+-- an archive has got more bytes, if any
+abbrev Grows : Option Archived → Option Archived → Type 0
+Grows None None = Unit {0}
+Grows None (Some b) = ⊥
+Grows (Some a) None = ⊥
+Grows (Some a) (Some b) = length a.bytes ≤ length b.bytes
+
+grows_same : (a b : Option Archived) → b ≡ a → Grows a b
+grows_same a b is = subst (Grows a) (sym is) (self a)
+  where
+    self : (o : Option Archived) → Grows o o
+    self None = tt
+    self (Some a) = omega arith
+
+-- What an act leaves of a clone: the session but for its room, the last stop, and the archive.
+record Leaves (old new : Cloning) : Type 0 where
+  session : option_map bare new.session ≡ option_map bare old.session
+  archive : Grows old.archive new.archive
+  stop : new.stop ≡ old.stop
+
+leaves_becomes : (old new : Cloning) → Becomes new old → Leaves old new
+leaves_becomes old new is = record {
+  session = ap (λ (c : Cloning). c.session) is;
+  archive = grows_same old.archive new.archive (ap (λ (c : Cloning). c.archive) is);
+  stop = ap (λ (c : Cloning). c.stop) is;
+}
+
+leaves_same : (old new : Cloning) → new ≡ old → Leaves old new
+leaves_same old new is = record {
+  session = ap (λ (c : Cloning). option_map bare c.session) is;
+  archive = grows_same old.archive new.archive (ap (λ (c : Cloning). c.archive) is);
+  stop = ap (λ (c : Cloning). c.stop) is;
+}
+
+-- a page that is noted leaves the rest
+leaves_noted : (call : Call) (answer : Result Done EngineRefusal) (old new : Cloning) → Becomes new (noted_by call answer old) → Leaves old new
+leaves_noted (flush_begin space page) (Ok did) old new is = record {
+  session = ap (λ (c : Cloning). c.session) is;
+  archive = grows_same old.archive new.archive (ap (λ (c : Cloning). c.archive) is);
+  stop = ap (λ (c : Cloning). c.stop) is;
+}
+leaves_noted call answer old new is = leaves_becomes old new is
+
+-- Each call leaves whether the disk tells what it holds.
+abbrev Tells : Engine → Engine → Type 0
+Tells s t = is_some t.disk.told ≡ is_some s.disk.told
+
+looks : (s t : Engine) (did : Done) → Looks s t did → t ≡ s
+looks s t (did_oldest_dirty page) is = is.1
+looks s t did is = absurd is
+
+ends : (s t : Engine) (did : Done) → Ends s t did → t ≡ s
+ends s t (did_end lsn) is = is.1
+ends s t did is = absurd is
+
+same_tells : (s t : Engine) → t ≡ s → Tells s t
+same_tells s t is = ap (λ (e : Engine). is_some e.disk.told) is
+
+steps_tells : (call : Call) (d : Donor) (e : Engine) (answer : Result Done EngineRefusal) → ServesAs call d e answer → Tells d.engine e
+steps_tells (create table buckets) d e answer steps = steps.disk.visits.tells
+steps_tells (begin writer index) d e answer steps = steps.disk.visits.tells
+steps_tells (put trx table key value) d e answer steps = steps.disk.visits.tells
+steps_tells (delete trx table key) d e answer steps = steps.disk.visits.tells
+steps_tells (get trx table key) d e answer steps = steps.disk.visits.tells
+steps_tells (undo_one trx) d e answer steps = steps.disk.visits.tells
+steps_tells (commit trx) d e answer steps = steps.disk.visits.tells
+steps_tells (flush_begin space page) d e answer steps = steps.disk.visits.tells
+steps_tells (flush_half space page) d e answer steps = steps.disk.visits.tells
+steps_tells (flush_land space page) d e answer steps = steps.disk.visits.tells
+steps_tells oldest_dirty d e (Ok did) steps = same_tells d.engine e (looks d.engine e did steps)
+steps_tells oldest_dirty d e (Err refusal) steps = absurd steps
+steps_tells checkpoint d e (Ok (did_checkpoint lsn)) steps = ap (λ (k : DiskState). is_some k.told) steps.disk
+steps_tells checkpoint d e answer steps = absurd steps
+steps_tells end d e (Ok did) steps = same_tells d.engine e (ends d.engine e did steps)
+steps_tells end d e (Err refusal) steps = absurd steps
+
+-- WHAT AN ACT THAT NO REQUESTER MAKES LEAVES of the donor
+module _ (d t : Donor) where
+  record Spares : Type 0 where
+    leaves : Leaves d.cloning t.cloning
+    tells : Tells d.engine t.engine
+
+  serves : (call : Call) (answer : Result Done EngineRefusal) → Serves call d t answer → Spares
+  serves call answer did = record { leaves = leaves_noted call answer d.cloning t.cloning did.cloning; tells = steps_tells call d t.engine answer did.steps }
+
+  creates : (o : Option Session) (table buckets : ℕ) (answer : Result Done EngineRefusal) → Creates o table buckets d t answer → Spares
+  creates None table buckets answer did = serves (create table buckets) answer did
+  creates (Some s) table buckets answer did = record {
+    leaves = leaves_same d.cloning t.cloning (ap (λ (x : Donor). x.cloning) did.1);
+    tells = same_tells d.engine t.engine (ap (λ (x : Donor). x.engine) did.1);
+  }
+
+  calls : (call : Call) (answer : Result Done EngineRefusal) → AnswersCall call d t answer → Spares
+  calls (create table buckets) answer did = creates d.cloning.session table buckets answer did
+  calls call answer did = serves call answer did
+
+  archives : (limit : ℕ) (reached : Option ℕ) → Archives {E = Unit {0}} limit d.engine.buffer.ring d.cloning t.cloning (Ok reached) → Leaves d.cloning t.cloning
+  archives limit None did = leaves_same d.cloning t.cloning did.1
+  archives limit (Some lsn) (a, stands, becomes, rest) = record {
+    session = ap (λ (c : Cloning). c.session) becomes;
+    archive = subst (λ (o : Option Archived). Grows d.cloning.archive o) (sym (ap (λ (c : Cloning). c.archive) becomes)) (subst (λ (o : Option Archived). Grows o (Some (archived_on limit d.engine.buffer.ring a))) (sym stands) longer);
+    stop = ap (λ (c : Cloning). c.stop) becomes;
+  }
+    where
+      more : List ℕ
+      more = take (next_count limit a d.engine.buffer.ring) (drop (archived_of a - d.engine.buffer.ring.floor) d.engine.buffer.ring.bytes)
+
+      longer : length a.bytes ≤ length (archived_on limit d.engine.buffer.ring a).bytes
+      longer = omega (arith, length-append a.bytes more)
+
+  spares : (a : Act) → IsOutside a → Does a d t → Spares
+  spares (act.Calls call answer) outside did = calls call answer did
+  spares act.Orders outside did = record {
+    leaves = leaves_same d.cloning t.cloning (ap (λ (x : Donor). x.cloning) did.same);
+    tells = ap (λ (x : Donor). is_some x.engine.disk.told) did.same ∙ ap is_some did.told;
+  }
+  spares (act.Archive limit reached) outside did = record { leaves = archives limit reached did.0; tells = ap (λ (e : Engine). is_some e.disk.told) did.1 }
+  spares act.Refuse outside did = record { leaves = leaves_becomes d.cloning t.cloning did.0; tells = same_tells d.engine t.engine did.1 }
+  spares act.Miss outside did = record { leaves = leaves_same d.cloning t.cloning did.0; tells = ap (λ (e : Engine). is_some e.disk.told) did.1.same }
+  spares a outside did = absurd outside
+
+-- What was taken then: what a disk holds of it counts still.
+record Follows (taken news : Taken) : Type 1 where
+  stop : news.stop ≡ taken.stop
+  holds : (waits : ℕ → ℕ → Type 0) (m : DiskImage) → HoldsPages waits taken.copies m → HoldsPages waits news.copies m
+
+follows_same : (taken : Taken) → Follows taken taken
+follows_same taken = record { stop = refl; holds = λ waits m held. held }
+
+call_stop : (call : Call) (answer : Result Done EngineRefusal) (taken : Taken) → (taken_by call answer taken).stop ≡ taken.stop
+call_stop (flush_begin space page) answer taken = refl
+call_stop call answer taken = refl
+
+follows : (a : Act) (d t : Donor) (taken : Taken) → IsOutside a → Follows taken (after_act a d t taken)
+follows (act.Calls call answer) d t taken outside = record { stop = call_stop call answer taken; holds = called_holds call answer taken }
+follows act.Orders d t taken outside = follows_same taken
+follows (act.Archive limit reached) d t taken outside = follows_same taken
+follows act.Refuse d t taken outside = follows_same taken
+follows act.Miss d t taken outside = follows_same taken
+follows a d t taken outside = absurd outside
+
+-- The redo that is laid stays so, as more of it is archived.
+redo_grows : (list : StageList) (chunks : List Chunk) (work : Option InWork) (at : Option Engine) (a b : Option Archived) (m : DiskImage) → Grows a b → HoldsListed list chunks work at a m → HoldsListed list chunks work at b m
+redo_grows (lists.Redo start until) chunks work (Some at) (Some a) (Some b) m grows held =
+    redo_weaker (λ distance. WaitsForRedo (lists.Redo start until) chunks work (start + distance)) (λ distance. WaitsForRedo (lists.Redo start until) chunks work (start + distance)) (redo_from start at) (length a.bytes) (length b.bytes) m grows (λ distance waiting. waiting) held
+redo_grows (lists.Redo start until) chunks work (Some at) None (Some b) m grows held = absurd grows
+redo_grows (lists.Redo start until) chunks work (Some at) (Some a) None m grows held = absurd grows
+redo_grows list chunks work at a b m grows held = held
+
+-- a session that is there is there but for its room
+as_before : (o : Option Session) (s : Session) → option_map bare o ≡ Some (bare s) → (u : Session) × (o ≡ Some u) × (bare u ≡ bare s)
+as_before None s is = absurd (cc)
+as_before (Some u) s is = (u, refl, (let both : Some (bare u) ≡ Some (bare s) = is in cc))
+
+none_before : (o : Option Session) → option_map bare o ≡ None → o ≡ None
+none_before None is = refl
+none_before (Some u) is = absurd (cc)
+
+module _ (d t : Donor) (r : Requester) (told : Option DiskImage) (stop : Option plain.Donor) (spared : Spares d t)
+    (after : Taken → Taken) (now : (taken : Taken) → IsTaken d taken → IsTaken t (after taken)) (follows : (taken : Taken) → Follows taken (after taken)) where
+  begun_kept : IsBegun d told → IsBegun t told
+  begun_kept begun = record {
+    taken = after begun.taken;
+    is = now begun.taken begun.is;
+    session = none_before t.cloning.session (spared.leaves.session ∙ ap (option_map bare) begun.session);
+    disk = begun.disk;
+  }
+
+  module _ (s u : Session) (is : t.cloning.session ≡ Some u) (same : bare u ≡ bare s) (taken : Taken) where
+    -- what is laid counts still
+    laid_kept : (m : DiskImage) → HoldsStage s.snap.list s.snap.chunks None taken d.cloning.archive m → HoldsStage u.snap.list u.snap.chunks None (after taken) t.cloning.archive m
+    laid_kept m held =
+        subst (λ (x : Session). HoldsStage x.snap.list x.snap.chunks None (after taken) t.cloning.archive m) (sym same) (record {
+          pages = (follows taken).holds (WaitsForPage s.snap.list s.snap.chunks None) m held.pages;
+          redo = subst (λ (o : Option Engine). HoldsListed s.snap.list s.snap.chunks None o t.cloning.archive m) (sym (follows taken).stop) (redo_grows s.snap.list s.snap.chunks None taken.stop d.cloning.archive t.cloning.archive m spared.leaves.archive held.redo);
+        })
+
+    stage_kept : IsInStage d s None taken r.sizes told → IsInStage t u None (after taken) r.sizes told
+    stage_kept stage = record {
+      session = is;
+      own = record {
+        number = ap (λ (x : Session). x.number) same ∙ stage.own.number;
+        incarnation = ap (λ (x : Session). x.incarnation) same ∙ stage.own.incarnation;
+        tasks = ap (λ (x : Session). x.tasks) same ∙ stage.own.tasks;
+      };
+      settled = subst (λ (x : Session). AreSettled x.snap.chunks None) (sym same) stage.settled;
+      is = now taken stage.is;
+      early = λ below. (follows taken).stop ∙ stage.early (subst (λ (x : Session). donor_stage x < 3) same below);
+      disk = told_stays (ForTold told (HoldsStage s.snap.list s.snap.chunks None taken d.cloning.archive)) (ForTold told (HoldsStage u.snap.list u.snap.chunks None (after taken) t.cloning.archive)) d.engine.disk.told t.engine.disk.told spared.tells
+          (for_told (HoldsStage s.snap.list s.snap.chunks None taken d.cloning.archive) (HoldsStage u.snap.list u.snap.chunks None (after taken) t.cloning.archive) told laid_kept) stage.disk;
+      mark = stage.mark;
+      sized = stage.sized;
+    }
+
+  copied_kept : IsCopied d r told stop → IsCopied t r told stop
+  copied_kept copied =
+      let (u, is, same) = as_before t.cloning.session copied.session (spared.leaves.session ∙ ap (option_map bare) copied.in_stage.session) in
+      record {
+        taken = after copied.taken;
+        session = u;
+        in_stage = stage_kept copied.session u is same copied.taken copied.in_stage;
+        finished = subst (λ (x : Session). All (λ chunk. chunk ≡ Finished) x.snap.chunks) (sym same) copied.finished;
+        stage = ap donor_stage same ∙ copied.stage;
+        last = copied.last;
+        at = ap (option_map (λ (e : Engine). e.donor)) (follows copied.taken).stop ∙ copied.at;
+      }
+
+  way_kept : IsUnderWay d r told stop → IsUnderWay t r told stop
+  way_kept way = record {
+    begun = λ none. let (begun, sizes, no_stop) = way.begun none in (begun_kept begun, sizes, no_stop);
+    copied = λ some. copied_kept (way.copied some);
+    stopped = subst (IsStopOf stop) (sym spared.leaves.stop) way.stopped;
+  }
+
+-- A CLONE STAYS UNDER WAY.
+pub keeps : (act : Act) (d t : Donor) (r : Requester) (told : Option DiskImage) (stop : Option plain.Donor) → IsOutside act → Acts act d t → IsUnderWay d r told stop → IsUnderWay t r told stop
+keeps act d t r told stop outside acts way =
+    way_kept d t r told stop (spares d t act outside acts.does) (after_act act d t) acts.taken (λ taken. follows act d t taken outside) way

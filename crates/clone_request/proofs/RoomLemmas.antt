@@ -1,0 +1,101 @@
+-- A disk on which room was made for files: each of their pages is a zero page.
+use Rattle.std.proofs.Common.{◌≡◌, ◌<◌, ◌≢◌, ◌∷◌, ◌∙◌, ◌==◌, ◌&&◌, [], ℕ, zero, suc, Bool, false, List, length, get_or, None, Some, refl, sym, ap, subst, arith, slice_get}
+use Rattle.std.specs.Prelude.{nat_lt, unwrap_or, option_and_then, IfSome}
+use Rattle.std.specs.declared.option.Option.{Option}
+use Rattle.std.specs.FinMap as finite
+use Rattle.std.specs.FinMap.{get-empty}
+use Rattle.std.specs.List.{All, Contains}
+use Rattle.std.specs.Ordering.{nat_cmp}
+use Rattle.std.proofs.lemmas.Bool.{le-ltb}
+use Rattle.clone_base.specs.declared.limits.TheConstants.{REDO_SPACE}
+use Rattle.clone_outside.specs.Disk as disk
+use Rattle.clone_outside.specs.Disk.{DiskImage, Spaces, extended}
+use Rattle.clone_outside.specs.declared.disk.Held.{Held}
+use Rattle.clone_contents.specs.Records.{system_size}
+use Rattle.clone_image.specs.Redone.{Standing, no_space, past_end, standing_of}
+use Rattle.clone_law.specs.Touches.{Lax}
+use Rattle.clone_overlay.specs.Images.{redo_space, image_of, IsQuiet}
+use Rattle.clone_lay.specs.Laid.{pages_in, standing, with_room}
+use Rattle.clone_lay.proofs.PageLemmas.{room_place}
+use Rattle.clone_lay.proofs.SpaceLemmas.{get_there, get_here}
+use Rattle.clone_request.specs.Laying.{with_rooms}
+use Rattle.clone_request.proofs.StandingLemmas.{IsShort, given_lax, held_standing, lax_same, lax_trans, short_from, space_standing, standing_low, standing_still}
+
+blank_there : (m : DiskImage) → m.spaces ≡ finite.empty → (s : ℕ) → finite.get m.spaces s ≡ None
+blank_there m empty s = ap (λ (x : Spaces). finite.get x s) empty ∙ get-empty nat_cmp s
+
+blank_standing : (m : DiskImage) (s n : ℕ) → m.spaces ≡ finite.empty → s < redo_space → standing_of (image_of m) s n ≡ no_space
+blank_standing m s n empty low = standing_low m s n low ∙ ap (λ (o : Option (List Held)). space_standing o n) (blank_there m empty s)
+
+room_lax : (m : DiskImage) (space count s n : ℕ) → s < redo_space → Lax (standing_of (image_of (with_room space count m)) s n) (standing_of (image_of m) s n)
+room_lax m space count s n low =
+    given_lax m space (extended count (pages_in m space)) s n (space == s && nat_lt n count) low (room_place m space count s n)
+
+rooms_lax : (spaces : List (ℕ × ℕ)) (m : DiskImage) (s n : ℕ) → s < redo_space → Lax (standing_of (image_of (with_rooms spaces m)) s n) (standing_of (image_of m) s n)
+rooms_lax [] m s n low = lax_same (standing_of (image_of m) s n)
+rooms_lax (space ∷ spaces) m s n low =
+    let next = with_room space.0 space.1 m in
+    lax_trans (standing_of (image_of (with_rooms spaces next)) s n) (standing_of (image_of next) s n) (standing_of (image_of m) s n) (rooms_lax spaces next s n low) (room_lax m space.0 space.1 s n low)
+
+-- no page that isn't zero stands on the disk
+pub rooms_standing : (spaces : List (ℕ × ℕ)) (m : DiskImage) → m.spaces ≡ finite.empty → (s n : ℕ) → s < redo_space → Lax (standing_of (image_of (with_rooms spaces m)) s n) no_space
+rooms_standing spaces m empty s n low = subst (Lax (standing_of (image_of (with_rooms spaces m)) s n)) (blank_standing m s n empty low) (rooms_lax spaces m s n low)
+
+held_past : (o : Option Held) → Lax (held_standing o) no_space → Lax (held_standing o) past_end
+held_past None lax = tt
+held_past (Some held) lax = lax
+
+-- where there is no page, a space that gets room has one of zero bytes, or none past its end
+room_past : (m : DiskImage) (s count n : ℕ) → s < redo_space → Lax (standing_of (image_of m) s n) no_space → Lax (standing_of (image_of (with_room s count m)) s n) past_end
+room_past m s count n low before =
+    let now = standing_low (with_room s count m) s n low ∙ ap (λ (o : Option (List Held)). space_standing o n) (get_here m s (extended count (pages_in m s))) in
+    let lax = lax_trans (standing_of (image_of (with_room s count m)) s n) (standing_of (image_of m) s n) no_space (room_lax m s count s n low) before in
+    subst (λ (v : Standing). Lax v past_end) (sym now) (held_past (slice_get (extended count (pages_in m s)) n) (subst (λ (v : Standing). Lax v no_space) now lax))
+
+listed_past : (spaces : List (ℕ × ℕ)) (m : DiskImage) (s size n : ℕ) → s < redo_space → Lax (standing_of (image_of m) s n) no_space → (place : ℕ) → place < length spaces → get_or spaces place (s, size) ≡ (s, size) → Lax (standing_of (image_of (with_rooms spaces m)) s n) past_end
+listed_past [] m s size n low before place within is = absurd (omega (arith, within))
+listed_past (space ∷ spaces) m s size n low before zero within is =
+    let next = with_room space.0 space.1 m in
+    lax_trans (standing_of (image_of (with_rooms spaces next)) s n) (standing_of (image_of next) s n) past_end (rooms_lax spaces next s n low)
+    (subst (λ (x : ℕ). Lax (standing_of (image_of (with_room x space.1 m)) s n) past_end) (sym (ap (λ (p : ℕ × ℕ). p.0) is)) (room_past m s space.1 n low before))
+listed_past (space ∷ spaces) m s size n low before (suc place) within is =
+    let next = with_room space.0 space.1 m in
+    listed_past spaces next s size n low (lax_trans (standing_of (image_of next) s n) (standing_of (image_of m) s n) no_space (room_lax m space.0 space.1 s n low) before) place (omega (arith, within)) is
+
+-- and a space that is listed is there
+pub rooms_past : (spaces : List (ℕ × ℕ)) (m : DiskImage) (s size n : ℕ) → m.spaces ≡ finite.empty → s < redo_space → Contains spaces (s, size) → Lax (standing_of (image_of (with_rooms spaces m)) s n) past_end
+rooms_past spaces m s size n empty low listed =
+    listed_past spaces m s size n low (subst (λ (v : Standing). Lax v no_space) (sym (blank_standing m s n empty low)) tt) listed.0 listed.1 listed.2
+
+-- a space that isn't listed stays
+rooms_beside : (spaces : List (ℕ × ℕ)) (m : DiskImage) (q : ℕ) → All (λ (t : ℕ × ℕ). t.0 ≢ q) spaces → finite.get (with_rooms spaces m).spaces q ≡ finite.get m.spaces q
+rooms_beside [] m q others = refl
+rooms_beside (space ∷ spaces) m q others =
+    rooms_beside spaces (with_room space.0 space.1 m) q (λ i d less. others (suc i) d (omega (arith, less)))
+    ∙ get_there m space.0 q (extended space.1 (pages_in m space.0)) (λ same. others 0 space (omega arith) (sym same))
+
+-- the system space has its pages and no others
+pub rooms_short : (tables : List (ℕ × ℕ)) (m : DiskImage) → m.spaces ≡ finite.empty → All (λ (t : ℕ × ℕ). t.0 ≢ 0) tables → IsShort (with_rooms ((0, system_size) ∷ tables) m)
+rooms_short tables m empty others number past =
+    short_from (with_rooms tables (with_room 0 system_size m)) number
+    (ap at_number (rooms_beside tables (with_room 0 system_size m) 0 others)
+    ∙ room_place m 0 system_size 0 number
+    ∙ ap (λ (b : Bool). standing None (disk.page_of m 0 number) b) (le-ltb number system_size past)
+    ∙ ap (λ (o : Option (List Held)). standing None (at_number o) false) (blank_there m empty 0))
+  where
+    at_number : Option (List Held) → Option Held
+    at_number o = option_and_then (λ (ps : List Held). slice_get ps number) o
+
+rooms_still : (spaces : List (ℕ × ℕ)) (m : DiskImage) → IsQuiet m → IsQuiet (with_rooms spaces m)
+rooms_still [] m quiet = quiet
+rooms_still (space ∷ spaces) m quiet =
+    rooms_still spaces (with_room space.0 space.1 m) (λ s n. subst (λ (o : Option Held). IfSome o (λ held. held.writing ≡ false)) (sym (room_place m space.0 space.1 s n)) (standing_still None (disk.page_of m s n) _ (quiet s n)))
+
+pub rooms_quiet : (spaces : List (ℕ × ℕ)) (m : DiskImage) → m.spaces ≡ finite.empty → IsQuiet (with_rooms spaces m)
+rooms_quiet spaces m empty =
+    rooms_still spaces m (λ s n. subst (λ (o : Option (List Held)). IfSome (option_and_then (λ (ps : List Held). slice_get ps n) o) (λ held. held.writing ≡ false)) (sym (blank_there m empty s)) tt)
+
+pub rooms_beside_redo : (spaces : List (ℕ × ℕ)) (m : DiskImage) → m.spaces ≡ finite.empty → All (λ (t : ℕ × ℕ). t.0 < redo_space) spaces → pages_in (with_rooms spaces m) REDO_SPACE ≡ []
+rooms_beside_redo spaces m empty low =
+    ap (λ (o : Option (List Held)). unwrap_or o [])
+    (rooms_beside spaces m REDO_SPACE (λ i d less is. absurd (omega (arith, low i d less, is))) ∙ blank_there m empty REDO_SPACE)

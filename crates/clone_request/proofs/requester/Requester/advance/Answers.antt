@@ -1,0 +1,103 @@
+use Rattle.std.proofs.Common.{◌≡◌, ◌≤◌, ◌+◌, ℕ, None, Option, inl, refl, sym, ap, subst, ◌∙◌, arith}
+use Rattle.clone_chunk.specs.declared.stage.Stage.{Stage}
+use Rattle.clone_chunk.specs.Stages.{stage_number}
+use Rattle.clone_lay.specs.Sized.{PageCounts}
+use Rattle.clone_request.specs.Advancing.{stop_at}
+use Rattle.clone_plain.specs.Donor as plain
+use Rattle.clone_request.specs.Copying.{IsCopying}
+use Rattle.clone_request.specs.Reading.{stop_after_ack}
+use Rattle.clone_request.specs.Requester.{IsUnderWay, Requester}
+use Rattle.clone_request.proofs.AdvanceLemmas.{asked_begins, asked_copies, asked_done, copied_low, asked_ready, asked_sizes, completes_leaves, fails_unfinished, leaves_failed, way_unfinished}
+use Rattle.clone_request.proofs.requester.Requester.advance.Goals as goal
+use Rattle.clone_request.proofs.requester.Requester.advance.Goals.{in-FileCopy+in_ok-make_rooms-in-FileCopy, in-PageCopy}
+
+pub returns-in-Done-clause-leaves : goal.returns-in-Done-clause-leaves
+returns-in-Done-clause-leaves g c = λ stop way.
+    let d = c.args.donor.now in
+    let r = c.args.self.now in
+    let told = g.R.PageDisk.told c.args.disk.now in
+    let asked = asked_done r d c.ask.new.donor told stop c.in_ok-info.info (c.in_ok-info.ensures.asks told stop way) c.in-Done.is in
+    completes_leaves d c.ask.new.donor c.complete.new.donor r c.complete.new.self told (g.R.PageDisk.told c.complete.new.disk) stop c.complete.result c.in_ok-info.ensures.lends asked.0 c.complete.ensures.tells
+    (way_unfinished d r told stop way) (c.complete.ensures.completes stop asked.1 asked.2)
+
+pub make_rooms-requires : goal.make_rooms-requires
+make_rooms-requires g c =
+    let told = g.R.PageDisk.told c.args.disk.now in
+    let stop = c.requires.under_way.0 in
+    record { sizes = asked_sizes c.args.self.now c.args.donor.now c.ask.new.donor told stop c.in_ok-info.info (c.in_ok-info.ensures.asks told stop c.requires.under_way.1) c.in-FileCopy.is }
+
+pub copy_stage-requires : goal.copy_stage-requires
+copy_stage-requires g c =
+    let told = g.R.PageDisk.told c.args.disk.now in
+    let stop = c.requires.under_way.0 in
+    let info = c.in_ok-info.info in
+    let r = c.args.self.now in
+    let asks = c.in_ok-info.ensures.asks told stop c.requires.under_way.1 in
+    let at : Option plain.Donor = stop_after_ack r.stages c.args.donor.now stop in
+    elim c.match-info.branch [
+      | in-FileCopy+in_ok-make_rooms-in-FileCopy w ↦
+          let e = w.in_ok-make_rooms-in-FileCopy.ensures in
+          let now = g.R.PageDisk.told w.make_rooms.new.disk in
+          let is = asked_begins r c.args.donor.now c.ask.new.donor told now w.make_rooms.new.self.sizes stop info c.laws.ensures.engine c.laws.ensures.safe asks w.in-FileCopy.is e.tells e.mark e.ok e.sizes in
+          record {
+            copying = (
+              at,
+              subst (λ (disk : g.row.R.Denot). IsCopying c.ask.new.donor (g.R.PageDisk.told disk) c.match-info.self.sizes (stage_number info.stage) info.checkpoint None at) (sym w.disk-is)
+                  (subst (λ (s : Requester). IsCopying c.ask.new.donor now s.sizes (stage_number info.stage) info.checkpoint None at) (sym w.self-is) is),
+            );
+          }
+      | in-PageCopy w ↦
+          let is = asked_copies r c.args.donor.now c.ask.new.donor told stop info asks w.in-PageCopy.is in
+          record {
+            copying = (
+              at,
+              subst (λ (disk : g.row.R.Denot). IsCopying c.ask.new.donor (g.R.PageDisk.told disk) c.match-info.self.sizes (stage_number info.stage) info.checkpoint None at) (sym w.disk-is)
+                  (subst (λ (s : Requester). IsCopying c.ask.new.donor told s.sizes (stage_number info.stage) info.checkpoint None at) (sym w.self-is) is),
+            );
+          }
+    ]
+
+pub returns-clause-leaves : goal.returns-clause-leaves
+returns-clause-leaves g c = λ stop way.
+    let d = c.args.donor.now in
+    let t = c.ask.new.donor in
+    let u = c.copy_stage.new.donor in
+    let r = c.args.self.now in
+    let info = c.in_ok-info.info in
+    let told = g.R.PageDisk.told c.args.disk.now in
+    let end = g.R.PageDisk.told c.copy_stage.new.disk in
+    let sizes = c.copy_stage.new.self.sizes in
+    let asks = c.in_ok-info.ensures.asks told stop way in
+    let at : Option plain.Donor = stop_after_ack r.stages d stop in
+    let Begun : Type 0 = IsCopying t (g.R.PageDisk.told c.match-info.disk) c.match-info.self.sizes (stage_number info.stage) info.checkpoint None at × (stage_number info.stage ≤ 3) × (c.match-info.self.stages ≡ r.stages) in
+    let begun : Begun = elim c.match-info.branch [
+      | in-FileCopy+in_ok-make_rooms-in-FileCopy w ↦
+          let e = w.in_ok-make_rooms-in-FileCopy.ensures in
+          let now = g.R.PageDisk.told w.make_rooms.new.disk in
+          let is = asked_begins r d t told now w.make_rooms.new.self.sizes stop info c.laws.ensures.engine c.laws.ensures.safe asks w.in-FileCopy.is e.tells e.mark e.ok e.sizes in (
+            subst (λ (disk : g.row.R.Denot). IsCopying t (g.R.PageDisk.told disk) c.match-info.self.sizes (stage_number info.stage) info.checkpoint None at) (sym w.disk-is)
+                (subst (λ (s : Requester). IsCopying t now s.sizes (stage_number info.stage) info.checkpoint None at) (sym w.self-is) is),
+            subst (λ (s : Stage). stage_number s ≤ 3) (sym w.in-FileCopy.is) (omega arith),
+            ap (λ (s : Requester). s.stages) w.self-is ∙ e.stages,
+          )
+      | in-PageCopy w ↦
+          let is = asked_copies r d t told stop info asks w.in-PageCopy.is in (
+            subst (λ (disk : g.row.R.Denot). IsCopying t (g.R.PageDisk.told disk) c.match-info.self.sizes (stage_number info.stage) info.checkpoint None at) (sym w.disk-is)
+                (subst (λ (s : Requester). IsCopying t told s.sizes (stage_number info.stage) info.checkpoint None at) (sym w.self-is) is),
+            copied_low info.stage w.in-PageCopy.is,
+            ap (λ (s : Requester). s.stages) w.self-is,
+          )
+    ] in
+    let e = c.in_ok-copy_stage.ensures in
+    let ready = asked_ready r d t u told end sizes stop info asks begun.1 e.stop (e.copied at begun.0) in
+    let counted : c.self.inside.stages ≡ r.stages = ap (λ (s : Requester). s.stages) c.self.view_is ∙ e.stages ∙ begun.2 in
+    let sized : c.self.inside.sizes ≡ sizes = ap (λ (s : Requester). s.sizes) c.self.view_is in
+    let Left : ℕ → PageCounts → Type 0 = λ n kept. (n + 1 ≤ 3) × IsUnderWay u (record { sizes = kept; stages = n + 1 }) end (stop_at (n + 1) d stop) in
+    let left : Left c.self.inside.stages c.self.inside.sizes = subst (λ (n : ℕ). Left n c.self.inside.sizes) (sym counted) (subst (Left r.stages) (sym sized) ready) in
+    (ap (λ (n : ℕ). n + 1) counted, left.0, refl, left.1)
+
+pub returns-in_err-info-clause-leaves : goal.returns-in_err-info-clause-leaves
+returns-in_err-info-clause-leaves g c = λ stop way.
+    let told = g.R.PageDisk.told c.args.disk.now in
+    leaves_failed c.args.self.now c.args.self.now c.args.donor.now c.ask.new.donor stop c.from_residual.result told _ c.from_residual.ensures.1
+    (fails_unfinished c.args.donor.now c.ask.new.donor told stop stop (inl refl) (c.in_err-info.ensures.asks told stop way) (way_unfinished c.args.donor.now c.args.self.now told stop way))

@@ -1,0 +1,28 @@
+use Rattle.std.proofs.Common.{ap, sym, subst}
+use Rattle.clone_session.specs.Cloning.{Cloning}
+use Rattle.clone_request.specs.Requester.{IsStopOf}
+use Rattle.clone_request.proofs.EndLemmas.{completed_holds, completes_failed, partly_holds, stop_passed}
+use Rattle.clone_request.proofs.requester.Requester.complete.Goals as goal
+
+pub returns-in_err-complete-clause-completes : goal.returns-in_err-complete-clause-completes
+returns-in_err-complete-clause-completes g c = λ stop done stopped.
+    let d = c.args.donor.now in
+    let told = g.R.PageDisk.told c.args.disk.now in
+    let now = g.R.PageDisk.told c.complete.new.disk in
+    let end = c.end_at-end.ensures in
+    completes_failed d stop c.from_residual.result told now _ c.from_residual.ensures.1 stopped
+    (partly_holds d told c.args.info.now stop done c.laws.ensures.donor c.laws.ensures.cloning c.end_at-end.result end.ranges (record { checkpoint = end.checkpoint; lsn = end.lsn; position = end.position }) now c.complete.ensures.tells stopped
+    c.in_err-complete.ensures.partial)
+
+pub returns-clause-completes : goal.returns-clause-completes
+returns-clause-completes g c = λ stop done stopped.
+    let d = c.args.donor.now in
+    let told = g.R.PageDisk.told c.args.disk.now in
+    let now = g.R.PageDisk.told c.complete.new.disk in
+    let end = c.end_at-end.ensures in
+    let passed = stop_passed d stop d.cloning.stop c.args.info.now.position done.position stopped in (
+      passed.0,
+      passed.1,
+      subst (IsStopOf stop) (sym (ap (λ (x : Cloning). x.stop) c.in-Ok.ensures.acts.does.0)) stopped,
+      completed_holds d told c.args.info.now stop done c.laws.ensures.donor c.laws.ensures.cloning c.end_at-end.result end.ranges (record { checkpoint = end.checkpoint; lsn = end.lsn; position = end.position }) now c.in_ok-complete.ensures.ok,
+    )

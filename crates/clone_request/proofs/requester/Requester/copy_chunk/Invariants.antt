@@ -1,0 +1,26 @@
+use Rattle.std.proofs.Common.{Some, is_some, ◌≡◌, ◌≤◌, ◌-◌}
+use Rattle.std.specs.declared.option.Option.{Option}
+use Rattle.clone_chunk.specs.Stages.{stage_number}
+use Rattle.clone_plain.specs.Donor as plain
+use Rattle.clone_request.specs.Advancing.{Lends}
+use Rattle.clone_request.specs.Copying.{IsCopying, free_left}
+use Rattle.clone_request.specs.Laying.{KeepsMark}
+use Rattle.clone_request.proofs.requester.Requester.copy_chunk.Given as goal
+
+abbrev pub invariant-loop-number : goal.invariant-loop-number
+invariant-loop-number g l =
+    record {
+      copied : (stop : Option plain.Donor) → IsCopying l.fn.donor (g.R.PageDisk.told l.fn.disk) l.fn.self.sizes (stage_number l.info.stage) l.info.checkpoint (Some (record { chunk = l.chunk; laid = 0 })) stop
+          → IsCopying l.donor (g.R.PageDisk.told l.disk) l.self.sizes (stage_number l.info.stage) l.info.checkpoint (Some (record { chunk = l.chunk; laid = l.number })) stop;
+      free : free_left l.donor ≡ free_left l.fn.donor;
+      mark : KeepsMark (g.R.PageDisk.told l.fn.disk) (g.R.PageDisk.told l.disk);
+      stages : l.self.stages ≡ l.fn.self.stages;
+      stop : l.donor.cloning.stop ≡ l.fn.donor.cloning.stop;
+      lends : Lends l.fn.donor l.donor;
+      later : g.R.PageDisk.failures l.fn.disk ≤ g.R.PageDisk.failures l.disk;
+      tells : is_some (g.R.PageDisk.told l.disk) ≡ is_some (g.R.PageDisk.told l.fn.disk);
+      orders : g.R.PageDisk.orders l.disk ≡ g.R.PageDisk.orders l.fn.disk;
+    }
+
+abbrev pub decreases-loop-number : goal.decreases-loop-number
+decreases-loop-number g l = 256 - l.number

@@ -1,0 +1,26 @@
+-- What several calls lay on a disk, one after the other.
+use Rattle.std.specs.Prelude.{ℕ, ◌≡◌, List, [], ◌∷◌, map}
+use Rattle.std.specs.declared.option.Option.{Option}
+use Rattle.clone_outside.specs.Disk.{DiskImage}
+use Rattle.clone_lay.specs.Laid.{laid_page, with_room}
+use Rattle.clone_recover.specs.Restores.{ForStep}
+use Rattle.clone_stages.specs.declared.block.BlockPage.{BlockPage}
+use Rattle.clone_stages.specs.Copies.{PageRead}
+
+-- room is made for each of these spaces in turn
+abbrev pub with_rooms : List (ℕ × ℕ) → DiskImage → DiskImage
+with_rooms [] m = m
+with_rooms (space ∷ spaces) m = with_rooms spaces (with_room space.0 space.1 m)
+
+-- the pages of a block, as they were answered
+abbrev pub reads_of : List BlockPage → List PageRead
+reads_of pages = map (λ p. ((p.space, p.number), p.bytes)) pages
+
+-- these pages are laid, one after the other
+abbrev pub with_laid : List PageRead → DiskImage → DiskImage
+with_laid [] m = m
+with_laid (p ∷ ps) m = with_laid ps (laid_page p.0.0 p.0.1 p.1 m)
+
+-- the mark of the disk stays
+abbrev pub KeepsMark : Option DiskImage → Option DiskImage → Type 0
+KeepsMark old new = ForStep old new (λ m n. n.mark ≡ m.mark)

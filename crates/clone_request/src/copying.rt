@@ -1,0 +1,176 @@
+ghost use Rattle.std.specs.Prelude.{◌≡◌, ◌≤◌, ◌<◌, IfOk, OnOk, OnErr, Some, None, Err, is_some};
+ghost use Rattle.std.specs.declared.option.Option.{Option};
+ghost use Rattle.std.specs.List.{AllByRecursion};
+ghost use Rattle.clone_outside.specs.Causes.{HasCause};
+ghost use Rattle.clone_outside.specs.Disk.{ForTold, Steps};
+ghost use Rattle.clone_model.specs.declared.line.TheConstants.{MOST_PAGES};
+ghost use Rattle.clone_chunk.specs.Stages.{stage_number};
+ghost use Rattle.clone_lay.specs.Sized.{AreSizes};
+ghost use Rattle.clone_plain.specs.Donor as plain;
+ghost use Rattle.clone_request.specs.Advancing.{HasRisen, Lends};
+ghost use Rattle.clone_request.specs.Copying.{IsAllCopied, IsCopying, free_left};
+ghost use Rattle.clone_request.specs.Laying.{KeepsMark, reads_of, with_laid};
+ghost use Rattle.clone_request.specs.Reading.{AreLow, IsFit, with_block, work_after};
+
+use crate::asking::{claim, read};
+use crate::requester::{Requester, StepRefusal};
+use clone_lay::{Sizes, lay_page, lay_redo};
+use clone_model::MOST_PAGES;
+use clone_outside::{PageDisk, Refusal};
+use clone_session::StageInfo;
+use clone_stages::{Block, BlockPage, Donor};
+use std::alloc::Global;
+
+// A stage is copied.
+impl Requester {
+    // Copies each chunk of a stage.
+    pub(crate) fn copy_stage<D: PageDisk, R: PageDisk>(
+        &mut self,
+        alloc: Global,
+        donor: &mut Donor<D>,
+        disk: &mut R,
+        info: &StageInfo,
+    ) -> Result<(), StepRefusal>
+        requires copying { (stop : Option plain.Donor) × IsCopying donor.old (R.told disk.old)
+            self.old.sizes (stage_number info.now.stage) info.now.checkpoint None stop }
+        ensures copied { OnOk result ((stop : Option plain.Donor)
+            → IsCopying donor.old (R.told disk.old) self.old.sizes (stage_number info.now.stage)
+            info.now.checkpoint None stop
+            → IsAllCopied donor.new (R.told disk.new) self.new.sizes (stage_number info.now.stage)
+            info.now.checkpoint stop) }
+        ensures mark { KeepsMark (R.told disk.old) (R.told disk.new) }
+        ensures stages { self.new.stages ≡ self.old.stages }
+        ensures stop { donor.new.cloning.stop ≡ donor.old.cloning.stop }
+        ensures lends { Lends donor.old donor.new }
+        ensures fault { HasRisen result donor.old donor.new (R.failures disk.old)
+            (R.failures disk.new) }
+        ensures later { R.failures disk.old ≤ R.failures disk.new }
+        ensures tells { is_some (R.told disk.new) ≡ is_some (R.told disk.old) }
+        ensures orders { R.orders disk.new ≡ R.orders disk.old }
+    {
+        let stage = info.stage.number();
+        while let Some(chunk) = claim(donor, stage) {
+            self.copy_chunk(alloc, donor, disk, info, chunk)?;
+        }
+        Ok(())
+    }
+
+    // Copies each block of a chunk.
+    fn copy_chunk<D: PageDisk, R: PageDisk>(
+        &mut self,
+        alloc: Global,
+        donor: &mut Donor<D>,
+        disk: &mut R,
+        info: &StageInfo,
+        chunk: u32,
+    ) -> Result<(), StepRefusal>
+        requires copying { (stop : Option plain.Donor) × IsCopying donor.old (R.told disk.old)
+            self.old.sizes (stage_number info.now.stage) info.now.checkpoint
+            (Some (record { chunk = chunk; laid = 0 })) stop }
+        ensures copied { OnOk result ((stop : Option plain.Donor)
+            → IsCopying donor.old (R.told disk.old) self.old.sizes (stage_number info.now.stage)
+            info.now.checkpoint (Some (record { chunk = chunk; laid = 0 })) stop
+            → IsCopying donor.new (R.told disk.new) self.new.sizes (stage_number info.now.stage)
+            info.now.checkpoint None stop) }
+        ensures free { OnOk result (free_left donor.new ≡ free_left donor.old) }
+        ensures mark { KeepsMark (R.told disk.old) (R.told disk.new) }
+        ensures stages { self.new.stages ≡ self.old.stages }
+        ensures stop { donor.new.cloning.stop ≡ donor.old.cloning.stop }
+        ensures lends { Lends donor.old donor.new }
+        ensures fault { HasRisen result donor.old donor.new (R.failures disk.old)
+            (R.failures disk.new) }
+        ensures later { R.failures disk.old ≤ R.failures disk.new }
+        ensures tells { is_some (R.told disk.new) ≡ is_some (R.told disk.old) }
+        ensures orders { R.orders disk.new ≡ R.orders disk.old }
+    {
+        let mut number = 0;
+        loop {
+            if self.copy_block(alloc, donor, disk, info, chunk, number)? {
+                return Ok(());
+            }
+            number += 1;
+        }
+    }
+
+    // Copies a block, and answers whether it is its chunk's last.
+    fn copy_block<D: PageDisk, R: PageDisk>(
+        &mut self,
+        alloc: Global,
+        donor: &mut Donor<D>,
+        disk: &mut R,
+        info: &StageInfo,
+        chunk: u32,
+        number: u8,
+    ) -> Result<bool, StepRefusal>
+        requires copying { (stop : Option plain.Donor) × IsCopying donor.old (R.told disk.old)
+            self.old.sizes (stage_number info.now.stage) info.now.checkpoint
+            (Some (record { chunk = chunk; laid = number })) stop }
+        ensures copied { IfOk result (λ last. (stop : Option plain.Donor)
+            → IsCopying donor.old (R.told disk.old) self.old.sizes (stage_number info.now.stage)
+            info.now.checkpoint (Some (record { chunk = chunk; laid = number })) stop
+            → IsCopying donor.new (R.told disk.new) self.new.sizes (stage_number info.now.stage)
+            info.now.checkpoint (work_after chunk number last) stop) }
+        ensures free { OnOk result (free_left donor.new ≡ free_left donor.old) }
+        ensures mark { KeepsMark (R.told disk.old) (R.told disk.new) }
+        ensures stages { self.new.stages ≡ self.old.stages }
+        ensures stop { donor.new.cloning.stop ≡ donor.old.cloning.stop }
+        ensures lends { Lends donor.old donor.new }
+        ensures fault { HasRisen result donor.old donor.new (R.failures disk.old)
+            (R.failures disk.new) }
+        ensures later { R.failures disk.old ≤ R.failures disk.new }
+        ensures tells { is_some (R.told disk.new) ≡ is_some (R.told disk.old) }
+        ensures orders { R.orders disk.new ≡ R.orders disk.old }
+    {
+        let mut block = Block::Pages(Vec::new(alloc));
+        let last = read(alloc, donor, info.stage.number(), chunk, number, &mut block)?;
+        lay(disk, &mut self.sizes, info.checkpoint, &block)?;
+        Ok(last)
+    }
+}
+
+/// Lays a block at its place.
+fn lay<R: PageDisk>(
+    disk: &mut R,
+    sizes: &mut Sizes,
+    checkpoint: u64,
+    block: &Block,
+) -> Result<(), Refusal>
+    requires sizes { ForTold (R.told disk.old) (AreSizes sizes.old) }
+    requires fit { IsFit checkpoint block.now }
+    ensures ok { OnOk result (AreLow block.now
+        → Steps (R.told disk.old) (R.told disk.new) (with_block checkpoint block.now)) }
+    ensures sizes { OnOk result (ForTold (R.told disk.new) (AreSizes sizes.new)) }
+    ensures mark { KeepsMark (R.told disk.old) (R.told disk.new) }
+    ensures cause { HasCause (R.failures disk.old) (R.failures disk.new) result }
+    ensures tells { is_some (R.told disk.new) ≡ is_some (R.told disk.old) }
+    ensures orders { R.orders disk.new ≡ R.orders disk.old }
+{
+    match block {
+        Block::Pages(pages) => lay_pages(disk, sizes, pages),
+        Block::Redo { from, bytes } => lay_redo(disk, sizes, checkpoint, *from, bytes),
+    }
+}
+
+/// Lays pages, each at its place. No space has a page of a number above its limit.
+fn lay_pages<R: PageDisk>(
+    disk: &mut R,
+    sizes: &mut Sizes,
+    pages: &[BlockPage],
+) -> Result<(), Refusal>
+    requires sizes { ForTold (R.told disk.old) (AreSizes sizes.old) }
+    ensures ok { OnOk result (AllByRecursion (λ p. p.number < MOST_PAGES) pages.now
+        → Steps (R.told disk.old) (R.told disk.new) (with_laid (reads_of pages.now))) }
+    ensures sizes { OnOk result (ForTold (R.told disk.new) (AreSizes sizes.new)) }
+    ensures mark { KeepsMark (R.told disk.old) (R.told disk.new) }
+    ensures cause { HasCause (R.failures disk.old) (R.failures disk.new) result }
+    ensures tells { is_some (R.told disk.new) ≡ is_some (R.told disk.old) }
+    ensures orders { R.orders disk.new ≡ R.orders disk.old }
+{
+    for page in pages {
+        if page.number >= MOST_PAGES {
+            continue;
+        }
+        lay_page(disk, sizes, page.space, page.number, &page.bytes)?;
+    }
+    Ok(())
+}

@@ -1,0 +1,225 @@
+ghost use Rattle.std.specs.Prelude.{◌≡◌, ◌≤◌, ◌<◌, Option, None, IfOk, IsErrOf, OnErr, OnOk, length, is_some};
+ghost use Rattle.clone_base.specs.declared.limits.TheConstants.{LSN_LIMIT};
+ghost use Rattle.clone_outside.specs.Causes.{HasCause, Rose};
+ghost use Rattle.clone_outside.specs.Disk.{ForTold, IsBeforeOrAfter, Steps, blank};
+ghost use Rattle.clone_outside.specs.Mark.{IsEnd};
+ghost use Rattle.clone_outside.specs.declared.mark.Mark.TheVariants.{InProgress};
+ghost use Rattle.clone_plain.specs.Donor as plain;
+ghost use Rattle.clone_lay.specs.Marked.{marked};
+ghost use Rattle.clone_lay.specs.Sized.{AreSizes};
+ghost use Rattle.clone_stages.specs.Donor as staged;
+ghost use Rattle.clone_request.specs.Requester.{IsStopOf, IsUnasked, IsUnderWay};
+ghost use Rattle.clone_request.specs.Advancing.{Completes, HasRisen, Leaves, Lends};
+ghost use Rattle.clone_request.specs.Copying.{IsDone};
+ghost use Rattle.clone_request.specs.Laying.{KeepsMark, with_rooms};
+
+use crate::asking::CALLER;
+use clone_chunk::Stage;
+use clone_lay::{Sizes, begin_copy, complete, make_room};
+use clone_outside::{CloneEnd, PageDisk, Refusal};
+use clone_session::{SpaceList, StageInfo};
+use clone_stages::Donor;
+use std::alloc::{AllocError, Global};
+use std::marker::Model;
+
+/// The number of the session that a requester asks for.
+pub const SESSION: u64 = 1;
+
+/// What came of a step.
+#[derive(Clone, Copy, Debug, PartialEq, Eq)]
+pub enum Advanced {
+    /// So many stages are copied, from 1 to 3.
+    Ready {
+        /// How many.
+        stage: u8,
+    },
+    /// The clone is complete.
+    Complete {
+        /// How many commits there were at the stop.
+        position: u64,
+    },
+}
+
+/// Why a step ends the clone before it is complete.
+#[derive(Clone, Copy, Debug, PartialEq, Eq, Drop)]
+pub enum StepRefusal {
+    /// The requester's disk failed.
+    RecipientFault,
+    /// The donor's disk failed while a block was read.
+    DonorFault,
+    /// There was no memory.
+    NoMemory,
+}
+
+impl From<Refusal> for StepRefusal {
+    ghost use Rattle.clone_request.specs.Causes.{step_refusal};
+
+    ghost from_gives = { λ refusal step. step ≡ step_refusal refusal };
+
+    fn from(refusal: Refusal) -> StepRefusal {
+        match refusal {
+            Refusal::Fault => StepRefusal::RecipientFault,
+            Refusal::NoMemory => StepRefusal::NoMemory,
+        }
+    }
+}
+
+impl From<AllocError> for StepRefusal {
+    ghost use Rattle.std.specs.Prelude.{◌≡◌};
+    ghost use Rattle.clone_request.specs.declared.requester.StepRefusal.TheVariants.{NoMemory};
+
+    ghost from_gives = { λ _ step. step ≡ NoMemory };
+
+    fn from(_refused: AllocError) -> StepRefusal {
+        StepRefusal::NoMemory
+    }
+}
+
+/// A requester of the one clone that it takes, whose first session and only task it is.
+#[derive(Drop)]
+pub struct Requester {
+    pub(crate) sizes: Sizes,
+    pub(crate) stages: u8,
+}
+
+impl Model for Requester {
+    ghost use Rattle.clone_request.specs.Requester.{Requester, requester_code};
+
+    ghost Value = { Requester };
+
+    ghost coded = { requester_code };
+
+    ghost view = { λ r. record { sizes = r.sizes; stages = r.stages } };
+}
+
+impl Requester {
+    /// Begins a clone on a blank disk, by the mark of a copy that is in progress. No donor is asked.
+    pub fn start<R: PageDisk>(alloc: Global, disk: &mut R) -> Result<Requester, Refusal>
+        requires blank { ForTold (R.told disk.old) (λ m. m ≡ blank) }
+        ensures stages { IfOk result (λ r. r.stages ≡ 0) }
+        ensures under_way { IfOk result (λ r. (d : staged.Donor) → IsUnasked d
+            → IsUnderWay d r (R.told disk.new) None) }
+        ensures partial { OnErr result (IsBeforeOrAfter (R.told disk.old) (R.told disk.new)
+            (marked (InProgress SESSION))) }
+        ensures cause { HasCause (R.failures disk.old) (R.failures disk.new) result }
+        ensures tells { is_some (R.told disk.new) ≡ is_some (R.told disk.old) }
+        ensures orders { R.orders disk.new ≡ R.orders disk.old }
+    {
+        begin_copy(disk, SESSION)?;
+        Ok(Requester {
+            sizes: Sizes::new(alloc),
+            stages: 0,
+        })
+    }
+
+    /// How many stages are copied.
+    pub fn stages(&self) -> u8
+        ensures { result ≡ self.now.stages }
+    {
+        self.stages
+    }
+
+    /// Copies the next stage: the donor is asked for the session, or told that the stage before is
+    /// copied, and each block is laid at its place. Behind the last stage the copy is completed, and
+    /// the session ends. The floor is what the requester has looked up; it is told the donor with
+    /// each acknowledgement.
+    ///
+    /// A fault of either disk ends the clone, and so does want of memory.
+    pub fn advance<D: PageDisk, R: PageDisk>(
+        &mut self,
+        alloc: Global,
+        donor: &mut Donor<D>,
+        disk: &mut R,
+        floor: u64,
+    ) -> Result<Advanced, StepRefusal>
+        requires under_way { (stop : Option plain.Donor)
+            × IsUnderWay donor.old self.old (R.told disk.old) stop }
+        requires floor { floor ≤ length donor.old.engine.donor.binlog }
+        ensures leaves { (stop : Option plain.Donor)
+            → IsUnderWay donor.old self.old (R.told disk.old) stop
+            → Leaves self.old donor.old stop result self.new donor.new (R.told disk.new) }
+        ensures lends { Lends donor.old donor.new }
+        ensures fault { HasRisen result donor.old donor.new (R.failures disk.old)
+            (R.failures disk.new) }
+        ensures later { R.failures disk.old ≤ R.failures disk.new }
+        ensures tells { is_some (R.told disk.new) ≡ is_some (R.told disk.old) }
+        ensures orders { R.orders disk.new ≡ R.orders disk.old }
+    {
+        let info = self.ask(alloc, donor, floor)?;
+        donor.laws();
+        match info.stage {
+            Stage::Done => return self.complete(donor, disk, &info),
+            Stage::FileCopy => self.make_rooms(disk, &info.spaces)?,
+            Stage::PageCopy | Stage::RedoCopy => {}
+        }
+        self.copy_stage(alloc, donor, disk, &info)?;
+        self.stages += 1;
+        Ok(Advanced::Ready { stage: self.stages })
+    }
+
+    // Makes room for the files of all spaces.
+    fn make_rooms<R: PageDisk>(&mut self, disk: &mut R, spaces: &SpaceList) -> Result<(), Refusal>
+        requires sizes { ForTold (R.told disk.old) (AreSizes self.old.sizes) }
+        ensures ok { OnOk result
+            (Steps (R.told disk.old) (R.told disk.new) (with_rooms spaces.now)) }
+        ensures sizes { OnOk result (ForTold (R.told disk.new) (AreSizes self.new.sizes)) }
+        ensures stages { self.new.stages ≡ self.old.stages }
+        ensures mark { KeepsMark (R.told disk.old) (R.told disk.new) }
+        ensures cause { HasCause (R.failures disk.old) (R.failures disk.new) result }
+        ensures tells { is_some (R.told disk.new) ≡ is_some (R.told disk.old) }
+        ensures orders { R.orders disk.new ≡ R.orders disk.old }
+    {
+        for (space, pages) in spaces.as_slice() {
+            make_room(disk, &mut self.sizes, *space, *pages)?;
+        }
+        Ok(())
+    }
+
+    // Writes the complete mark of the stop, and ends the session.
+    fn complete<D: PageDisk, R: PageDisk>(
+        &mut self,
+        donor: &mut Donor<D>,
+        disk: &mut R,
+        info: &StageInfo,
+    ) -> Result<Advanced, StepRefusal>
+        requires done { (stop : Option plain.Donor)
+            × IsDone donor.old (R.told disk.old) info.now stop }
+        ensures completes { (stop : Option plain.Donor)
+            → IsDone donor.old (R.told disk.old) info.now stop → IsStopOf stop donor.old.cloning.stop
+            → Completes donor.old stop result donor.new (R.told disk.old) (R.told disk.new) }
+        ensures stages { self.new.stages ≡ self.old.stages }
+        ensures lends { Lends donor.old donor.new }
+        ensures fault { HasRisen result donor.old donor.new (R.failures disk.old)
+            (R.failures disk.new) }
+        ensures later { R.failures disk.old ≤ R.failures disk.new }
+        ensures tells { is_some (R.told disk.new) ≡ is_some (R.told disk.old) }
+        ensures orders { R.orders disk.new ≡ R.orders disk.old }
+    {
+        donor.laws();
+        let end = end_at(info.checkpoint, info.lsn, info.position);
+        complete(disk, &end)?;
+        match donor.exit(CALLER) {
+            Ok(()) => Ok(Advanced::Complete {
+                position: info.position,
+            }),
+            Err(_) => unreachable!(),
+        }
+    }
+}
+
+// The end of a clone, by the numbers that a donor tells.
+fn end_at(checkpoint: u64, lsn: u64, position: u64) -> CloneEnd
+    requires ordered { checkpoint ≤ lsn }
+    requires within { lsn < LSN_LIMIT }
+    ensures checkpoint { result.checkpoint ≡ checkpoint }
+    ensures lsn { result.lsn ≡ lsn }
+    ensures position { result.position ≡ position }
+    ensures ranges { IsEnd result }
+{
+    CloneEnd {
+        session: SESSION,
+        checkpoint,
+        lsn,
+        position,
+    }
+}

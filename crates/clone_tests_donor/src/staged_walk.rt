@@ -1,0 +1,110 @@
+//! Random walks over a donor that takes calls, flushes and checkpoints while it gives clones in
+//! stages. Each clone is recovered, and has the rows that the plain program had at its stop.
+ghost use Rattle.clone_model.specs.Config.{IsConfig};
+
+mod asking;
+mod copying;
+mod counts;
+mod drawn;
+mod flights;
+mod kept;
+mod requester;
+mod taking;
+mod walk;
+
+use crate::staged_walk::counts::Counts;
+use crate::staged_walk::taking::take_clone;
+use crate::staged_walk::walk::Walk;
+use crate::trx::drawn::words_from;
+use clone_engine::OpenRefusal;
+use clone_memdisk::MemDisk;
+use clone_model::Config;
+use clone_outside::DiskOrder;
+use clone_stages::Donor;
+use rand_pcg::Pcg32;
+use std::alloc::Global;
+use std::process::Abort;
+use std::test::Fail;
+
+// How many calls a walk has at least.
+const CALLS: u64 = 10_000;
+
+// More clones than a walk of so many calls takes.
+const CLONES: u64 = 1_000;
+
+// How many calls come before each clone.
+const BETWEEN: u64 = 100;
+
+/// The byte that reads of half written pages give.
+pub const TORN: u8 = 0xA5;
+
+// So few frames that pages go to the disk, and room for the log.
+const ROOM: Config = Config {
+    pool: 20,
+    ring: 1_048_576,
+};
+
+// So little log that it is full now and then.
+const LITTLE_LOG: Config = Config {
+    pool: 20,
+    ring: 65_536,
+};
+
+// A donor over an empty disk, of which reads of half written pages are torn.
+fn opened(alloc: Global, config: Config) -> Result<Donor<MemDisk>, Fail>
+    requires config { IsConfig config }
+{
+    match Donor::open(alloc, MemDisk::new(alloc), config) {
+        Ok(donor) => Ok(donor),
+        Err(refusal) => {
+            let OpenRefusal { cause: _, disk: _ } = refusal;
+            Err(Fail::from("not opened"))
+        }
+    }
+}
+
+// Calls and clones by turns.
+fn go(rt: &impl Abort, donor: &mut Donor<MemDisk>, walk: &mut Walk) -> Result<(), Fail> {
+    donor.order(DiskOrder::Tear { byte: TORN })?;
+    for clone in 0..CLONES {
+        if walk.counts.calls >= CALLS {
+            return Ok(());
+        }
+        for _ in 0..BETWEEN {
+            walk.step(rt, donor)?;
+        }
+        take_clone(rt, donor, walk, clone.saturating_add(1))?;
+    }
+    Err(Fail::from("too many clones"))
+}
+
+// A walk by these words over a new donor. What came up is answered.
+fn walked(rt: &impl Abort, alloc: Global, words: Pcg32, config: Config) -> Result<Counts, Fail>
+    requires config { IsConfig config }
+{
+    let mut donor = opened(alloc, config)?;
+    let mut walk = Walk::new(alloc, words, config);
+    let gone = go(rt, &mut donor, &mut walk);
+    let _disk = donor.into_disk();
+    gone?;
+    Ok(walk.counts)
+}
+
+// Each clone has the rows of its stop, though pages were torn and blocks weren't archived yet.
+#[test]
+fn a_random_walk_with_clones(rt: HostRuntime) -> Result<(), Fail> {
+    let counts = walked(&rt, rt.alloc(), words_from(22, 28), ROOM)?;
+    assert!(rt; counts.clones >= 3);
+    assert!(rt; counts.behind > 0 && counts.unclaimed > 0);
+    assert!(rt; counts.torn > 0 && counts.open > 0);
+    Ok(())
+}
+
+// The log is full while a clone is under way, and the walk goes on once it has room again.
+#[test]
+fn a_random_walk_with_clones_and_little_log(rt: HostRuntime) -> Result<(), Fail> {
+    let counts = walked(&rt, rt.alloc(), words_from(23, 29), LITTLE_LOG)?;
+    assert!(rt; counts.clones >= 3);
+    assert!(rt; counts.full > 0 && counts.relieved > 0);
+    Ok(())
+}
