@@ -49,7 +49,6 @@ use Rattle.clone_stages.specs.Donor.{Donor, IsDonor, list_of}
 use Rattle.clone_stages.specs.Laid.{IsComplete, IsLaid}
 use Rattle.clone_stages.specs.Taken.{HasStopped, IsTaken, IsTakenBy, Taken}
 use Rattle.clone_stages.proofs.BecomesLemmas.{Like, like}
-use Rattle.clone_stages.proofs.ToldLemmas.{for_one}
 use Rattle.clone_request.specs.declared.asking.TheConstants.{CALLER}
 use Rattle.clone_request.specs.Copying.{IsCopying, IsDone, IsEndOf, StartsAt}
 use Rattle.clone_request.specs.Reading.{Asks, stop_after_ack}
@@ -254,7 +253,7 @@ module _ (d t : Donor) (s : Session) (taken : Taken) (sizes : PageCounts) (told 
     stopped_now : IsStopOf (stop_after_ack 2 d stop) t.cloning.stop
     stopped_now =
         subst (λ (o : Option plain.Donor). IsStopOf o t.cloning.stop) at_now
-        (for_one (λ (x : Stop). (x.position ≡ length d.engine.donor.binlog) × (x.drops ≡ length d.engine.donor.drops)) t.cloning.stop _ like_stopped.stop (refl, refl))
+        (_, like_stopped.stop, refl, refl)
 
     pub pages_acked : Asked 2
     pages_acked = subst (AskedAs 2) (sym come.told_is) (refl, copying_next l list acts refl next come a.start (stop_after_ack 2 d stop) refl at_now (λ low. absurd (omega (arith, low))) pages_disk, stopped_now)

@@ -90,8 +90,8 @@ pub completes_leaves : (d u t : Donor) (r s : Requester) (told now : Option Disk
     → Completes u stop result t told now → Leaves r d stop result s t now
 completes_leaves d u t r s told now stop (Ok (Ready stage)) lends last tells unfinished completes = absurd completes
 completes_leaves d u t r s told now stop (Ok (Complete position)) lends last tells unfinished completes =
-    subst (λ (p : plain.Donor). (r.stages ≡ 3) × (stop ≡ Some p) × (position ≡ length p.binlog) × IsStopOf stop t.cloning.stop × ForBoth d now (HoldsDonor p)) from
-    (last, completes.0, completes.1, completes.2, subst (λ (o : Option DiskImage). ForTold o (λ _. ForTold now (HoldsDonor (stop_from u stop)))) lends.told completes.3)
+    subst (λ (p : plain.Donor). (r.stages ≡ 3) × (stop ≡ Some p) × (position ≡ length p.binlog) × IsStopOf stop t.cloning.stop × (t.cloning.session ≡ None) × ForBoth d now (HoldsDonor p)) from
+    (last, completes.0, completes.1, completes.2, completes.3, subst (λ (o : Option DiskImage). ForTold o (λ _. ForTold now (HoldsDonor (stop_from u stop)))) lends.told completes.4)
   where
     from : stop_from u stop ≡ stop_from d stop
     from = ap (λ (p : plain.Donor). unwrap_or stop p) lends.donor

@@ -32,7 +32,13 @@ stop_passed d None (Some s) position told stopped = absurd (cc)
 stop_passed d (Some at) None position told stopped = absurd (cc)
 stop_passed d (Some at) (Some s) position told stopped =
     let is : s.position ≡ position = cc in
-    (refl, sym is ∙ (stopped s refl).0)
+    let same : s ≡ stopped.0 = (let both : Some s ≡ Some stopped.0 = stopped.1 in cc) in
+    (refl, sym is ∙ ap (λ (x : Stop). x.position) same ∙ stopped.2)
+
+-- nothing is there where nothing comes of it
+pub none_before : {X Y : Type 0} (f : X → Y) (o : Option X) → option_map f o ≡ None → o ≡ None
+none_before f None is = refl
+none_before f (Some x) is = absurd (cc)
 
 module _ (d : Donor) (told : Option DiskImage) (info : StageInfo) (stop : Option plain.Donor) (done : IsDone d told info stop) (donor : IsDonor d) (cloning : IsCloning d.cloning) (end : CloneEnd) (ranges : IsEnd end) (is : IsEndOf info end) where
   -- the disk with its complete mark holds the donor as it was at the stop

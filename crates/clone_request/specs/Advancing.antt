@@ -1,5 +1,5 @@
 -- A step of a clone, and what it leaves.
-use Rattle.std.specs.Prelude.{ℕ, ◌≡◌, ◌≤◌, ◌+◌, ◌==◌, ◌⊎◌, length, Some, Result, Ok, Err, unwrap_or, if◌then◌else◌}
+use Rattle.std.specs.Prelude.{ℕ, ◌≡◌, ◌≤◌, ◌+◌, ◌==◌, ◌⊎◌, length, None, Some, Result, Ok, Err, unwrap_or, if◌then◌else◌}
 use Rattle.std.specs.declared.option.Option.{Option}
 use Rattle.clone_outside.specs.Causes.{Rose}
 use Rattle.clone_outside.specs.Disk.{DiskImage, ForTold, blank}
@@ -64,7 +64,7 @@ Leaves r d stop (Ok (Ready stage)) u t told =
 Leaves r d stop (Ok (Complete position)) u t told =
     (r.stages ≡ 3) × (stop ≡ Some (stop_from d stop))
     × (position ≡ length (stop_from d stop).binlog) × IsStopOf stop t.cloning.stop
-    × ForBoth d told (HoldsDonor (stop_from d stop))
+    × (t.cloning.session ≡ None) × ForBoth d told (HoldsDonor (stop_from d stop))
 Leaves r d stop (Err refusal) u t told = Fails d t told stop
 
 -- what comes of completing a clone that has come past its stop
@@ -73,7 +73,8 @@ abbrev pub Completes : Donor → Option plain.Donor → Result Advanced StepRefu
 Completes d stop (Ok (Ready stage)) t before told = ⊥
 Completes d stop (Ok (Complete position)) t before told =
     (stop ≡ Some (stop_from d stop)) × (position ≡ length (stop_from d stop).binlog)
-    × IsStopOf stop t.cloning.stop × ForBoth d told (HoldsDonor (stop_from d stop))
+    × IsStopOf stop t.cloning.stop × (t.cloning.session ≡ None)
+    × ForBoth d told (HoldsDonor (stop_from d stop))
 Completes d stop (Err refusal) t before told =
     IsStopOf stop t.cloning.stop
     × ForBoth d told (λ m. ForTold before (λ b. m.mark ≡ b.mark)

@@ -1,7 +1,6 @@
 -- A requester as contracts see it, and a clone that is under way.
 use Rattle.std.specs.Prelude.{ℕ, ◌≡◌, ◌≤◌, ◌<◌, ◌+◌, ◌-◌, List, [], length, drop, All, None, Some, option_map, refl}
 use Rattle.std.specs.declared.option.Option.{Option}
-use Rattle.std.specs.Option.{ForSome}
 use Rattle.std.specs.FinMap as finite
 use Rattle.std.specs.Coded.{Coded, code_by, coded×, coded_ℕ}
 use Rattle.clone_base.specs.declared.limits.TheConstants.{REDO_SPACE}
@@ -80,7 +79,8 @@ pub record IsInStage (d : Donor) (s : Session) (work : Option InWork) (taken : T
 abbrev pub IsStopOf : Option plain.Donor → Option Stop → Type 0
 IsStopOf None stop = stop ≡ None
 IsStopOf (Some at) stop =
-    ForSome stop (λ s. (s.position ≡ length at.binlog) × (s.drops ≡ length at.drops))
+    (s : Stop) × (stop ≡ Some s) × (s.position ≡ length at.binlog)
+    × (s.drops ≡ length at.drops)
 
 -- a session was asked for by nobody yet, and nothing is laid but the mark
 pub record IsBegun (d : Donor) (told : Option DiskImage) : Type 0 where

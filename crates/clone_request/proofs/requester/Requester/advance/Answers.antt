@@ -2,12 +2,13 @@ use Rattle.std.proofs.Common.{◌≡◌, ◌≤◌, ◌+◌, ℕ, None, Option, 
 use Rattle.clone_chunk.specs.declared.stage.Stage.{Stage}
 use Rattle.clone_chunk.specs.Stages.{stage_number}
 use Rattle.clone_lay.specs.Sized.{PageCounts}
-use Rattle.clone_request.specs.Advancing.{stop_at}
+use Rattle.clone_outside.specs.Disk.{ForTold}
+use Rattle.clone_request.specs.Advancing.{IsUnfinished, stop_at}
 use Rattle.clone_plain.specs.Donor as plain
 use Rattle.clone_request.specs.Copying.{IsCopying}
 use Rattle.clone_request.specs.Reading.{stop_after_ack}
-use Rattle.clone_request.specs.Requester.{IsUnderWay, Requester}
-use Rattle.clone_request.proofs.AdvanceLemmas.{asked_begins, asked_copies, asked_done, copied_low, asked_ready, asked_sizes, completes_leaves, fails_unfinished, leaves_failed, way_unfinished}
+use Rattle.clone_request.specs.Requester.{IsStopOf, IsUnderWay, Requester}
+use Rattle.clone_request.proofs.AdvanceLemmas.{asked_begins, asked_copies, asked_done, copied_low, asked_ready, asked_sizes, completes_leaves, fails_unfinished, leaves_failed, still_unfinished, stop_either, way_unfinished}
 use Rattle.clone_request.proofs.requester.Requester.advance.Goals as goal
 use Rattle.clone_request.proofs.requester.Requester.advance.Goals.{in-FileCopy+in_ok-make_rooms-in-FileCopy, in-PageCopy}
 
@@ -101,3 +102,23 @@ returns-in_err-info-clause-leaves g c = λ stop way.
     let told = g.R.PageDisk.told c.args.disk.now in
     leaves_failed c.args.self.now c.args.self.now c.args.donor.now c.ask.new.donor stop c.from_residual.result told _ c.from_residual.ensures.1
     (fails_unfinished c.args.donor.now c.ask.new.donor told stop stop (inl refl) (c.in_err-info.ensures.asks told stop way) (way_unfinished c.args.donor.now c.args.self.now told stop way))
+
+pub returns-in_err-copy_stage-clause-leaves : goal.returns-in_err-copy_stage-clause-leaves
+returns-in_err-copy_stage-clause-leaves g c = λ stop way.
+    let d = c.args.donor.now in
+    let u = c.copy_stage.new.donor in
+    let r = c.args.self.now in
+    let told = g.R.PageDisk.told c.args.disk.now in
+    let end = g.R.PageDisk.told c.copy_stage.new.disk in
+    let at : Option plain.Donor = stop_after_ack r.stages d stop in
+    let asks = c.in_ok-info.ensures.asks told stop way in
+    let e = c.in_err-copy_stage.ensures in
+    let Marked : g.row.R.Denot → Type 0 = λ disk. ForTold (g.R.PageDisk.told disk) IsUnfinished in
+    let marked : Marked c.match-info.disk = elim c.match-info.branch [
+      | in-FileCopy+in_ok-make_rooms-in-FileCopy w ↦
+          let k = w.in_ok-make_rooms-in-FileCopy.ensures in
+          subst Marked (sym w.disk-is) (still_unfinished told (g.R.PageDisk.told w.make_rooms.new.disk) k.tells k.mark (way_unfinished d r told stop way))
+      | in-PageCopy w ↦ subst Marked (sym w.disk-is) (way_unfinished d r told stop way)
+    ] in
+    leaves_failed r c.copy_stage.new.self d u stop c.from_residual-in_err-copy_stage.result end _ c.from_residual-in_err-copy_stage.ensures.1
+    (fails_unfinished d u end stop at (stop_either r.stages d stop) (subst (IsStopOf at) (sym e.stop) asks.2) (still_unfinished (g.R.PageDisk.told c.match-info.disk) end e.tells e.mark marked))

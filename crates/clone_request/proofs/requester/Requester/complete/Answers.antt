@@ -1,7 +1,7 @@
 use Rattle.std.proofs.Common.{ap, sym, subst}
 use Rattle.clone_session.specs.Cloning.{Cloning}
 use Rattle.clone_request.specs.Requester.{IsStopOf}
-use Rattle.clone_request.proofs.EndLemmas.{completed_holds, completes_failed, partly_holds, stop_passed}
+use Rattle.clone_request.proofs.EndLemmas.{completed_holds, completes_failed, none_before, partly_holds, stop_passed}
 use Rattle.clone_request.proofs.requester.Requester.complete.Goals as goal
 
 pub returns-in_err-complete-clause-completes : goal.returns-in_err-complete-clause-completes
@@ -24,5 +24,6 @@ returns-clause-completes g c = λ stop done stopped.
       passed.0,
       passed.1,
       subst (IsStopOf stop) (sym (ap (λ (x : Cloning). x.stop) c.in-Ok.ensures.acts.does.0)) stopped,
+      none_before _ _ (ap (λ (x : Cloning). x.session) c.in-Ok.ensures.acts.does.0),
       completed_holds d told c.args.info.now stop done c.laws.ensures.donor c.laws.ensures.cloning c.end_at-end.result end.ranges (record { checkpoint = end.checkpoint; lsn = end.lsn; position = end.position }) now c.in_ok-complete.ensures.ok,
     )
