@@ -11,19 +11,19 @@
 top=$(cd "$(dirname "$0")/.." && pwd) || exit 1
 . "$top/bench/copied.sh"
 
-build_program 'clone_base clone_outside clone_memdisk clone_model clone_plain clone_chunk clone_session clone_engine clone_stages' <<'PROGRAM'
+build_program 'clone_base clone_outside clone_memdisk clone_model clone_plain clone_chunk clone_session clone_engine clone_donor' <<'PROGRAM'
 //! Copies the disk of a donor to another disk, both in memory. The words are the way and the number of
 //! tables: `none` makes the tables alone, `plain` copies the pages, `idle` clones the donor, and `busy`
 //! clones it while it works.
 #![tactic(auto)]
 
 use clone_base::{PAGE_SIZE, REDO_SPACE};
+use clone_donor::{Block, BlockPage, Donor};
 use clone_engine::OpenRefusal;
 use clone_memdisk::MemDisk;
 use clone_model::{BucketCount, Config, TableNumber};
 use clone_outside::PageDisk;
 use clone_session::{Caller, Hello};
-use clone_stages::{Block, BlockPage, Donor};
 use std::alloc::Global;
 use std::env;
 use std::process::ExitCode;

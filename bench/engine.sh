@@ -10,12 +10,13 @@
 top=$(cd "$(dirname "$0")/.." && pwd) || exit 1
 . "$top/bench/copied.sh"
 
-build_program 'clone_outside clone_memdisk clone_model clone_plain clone_donor' <<'PROGRAM'
+build_program 'clone_outside clone_memdisk clone_model clone_plain clone_chunk clone_session clone_engine clone_donor' <<'PROGRAM'
 //! Makes rounds of changes. The words are how the transactions are open, the number of tables, and the
 //! number of rounds.
 #![tactic(auto)]
 
-use clone_donor::{Donor, OpenRefusal};
+use clone_donor::Donor;
+use clone_engine::OpenRefusal;
 use clone_memdisk::MemDisk;
 use clone_model::{BucketCount, Config, MOST_POOL, MOST_RING, TableNumber};
 use std::alloc::Global;

@@ -1,12 +1,10 @@
 -- What a disk holds that a clone was laid on, before and after it is recovered.
 use Rattle.std.proofs.Common.{◌≡◌, ◌<◌, ◌^◌, ℕ, List, refl, sym, ap, subst, ◌∙◌, inl, inr, Some}
-use Rattle.std.specs.FinMap as finite
 use Rattle.clone_model.specs.History.{Row, Rows, fold, rows_in}
 use Rattle.clone_outside.specs.Disk.{DiskImage}
 use Rattle.clone_outside.specs.Mark.{IsEnd}
 use Rattle.clone_outside.specs.declared.mark.CloneEnd.{CloneEnd}
 use Rattle.clone_outside.specs.declared.mark.Mark.TheVariants as mark
-use Rattle.clone_mtr.specs.Spelling.{log_of}
 use Rattle.clone_mtr.specs.declared.record.Record.{Record}
 use Rattle.clone_image.specs.Image.{Image, page_of}
 use Rattle.clone_image.specs.Recovered.{recovered}
@@ -24,11 +22,9 @@ use Rattle.clone_recover.specs.declared.recovery.Recovered.{Recovered}
 use Rattle.clone_recover.specs.declared.refusal.Why.{Why}
 use Rattle.clone_trx.specs.Sound.{IsKept}
 use Rattle.clone_trx.proofs.RecoveredRowLemmas.{recovered_rows, can_take_back}
-use Rattle.clone_apply.specs.Copied.{held_redo, with_redo, completed, copied}
-use Rattle.clone_apply.specs.Holds.{IsLeftBy, HoldsCopy, IsWholeLog}
-use Rattle.clone_apply.specs.Staged.{IsLogTo, IsStaged}
+use Rattle.clone_apply.specs.Holds.{IsLeftBy, HoldsCopy}
+use Rattle.clone_apply.specs.Staged.{IsLogTo, IsStaged, completed}
 use Rattle.clone_apply.proofs.AlikeImages.{missing_alike, broken_alike}
-use Rattle.clone_apply.proofs.CopiedDisks.{copied_staged}
 use Rattle.clone_apply.proofs.EndMarks.{OneEnd, not_both, not_under_way, recovered_not_under_way, one_complete, one_recovered, one_position, same_recovered}
 use Rattle.clone_apply.proofs.KeptImages.{none_missing, none_broken}
 use Rattle.clone_apply.proofs.PlacedPages.{page_placed}
@@ -89,11 +85,6 @@ module _ (d : Donor) (log : List (List Record)) (end : CloneEnd) (m : DiskImage)
     sound = λ s p why cause. never_damaged cause.0 s p why (one_complete n end cause.0 complete cause.1) (cause.2 staged.quiet);
     complete = never_incomplete;
   }
-
--- It is laid at once on a disk that had no space.
-pub copied_holds : (d : Donor) (log : List (List Record)) (end : CloneEnd) (m : DiskImage) → IsKept d (replayed log) → IsWholeLog log end → IsEnd end → m.spaces ≡ finite.empty → HoldsCopy (copied (log_of log) end m) (fold (history d)) end.position
-copied_holds d log end m kept whole ranges blank =
-    staged_holds d log end (with_redo m (held_redo (log_of log))) kept (record { each = whole.each; tables = whole.tables; stop = whole.whole }) ranges (copied_staged log end m whole blank)
 
 -- A disk that was recovered.
 module _ (n : DiskImage) (numbers : Recovered) (rows : Rows) (position : ℕ) (r : IsLeftBy n numbers rows position) where

@@ -1,6 +1,3 @@
-pub mod RedoPages
-pub mod CopiedDisks
-pub mod BegunCopies
 pub mod EndMarks
 pub mod PlacedPages
 pub mod AbsentPages

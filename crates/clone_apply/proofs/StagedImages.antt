@@ -28,8 +28,7 @@ use Rattle.clone_overlay.proofs.Showing.{page_standing, page_stands}
 use Rattle.clone_recover.specs.Reading.{IsOfTable, AreOfTables, redo_length, redo_of, IsRedo}
 use Rattle.clone_recover.specs.Restores.{IsLeft}
 use Rattle.clone_recover.proofs.Recovering.{base_none, none_log}
-use Rattle.clone_apply.specs.Copied.{completed}
-use Rattle.clone_apply.specs.Staged.{IsLogTo, IsStaged}
+use Rattle.clone_apply.specs.Staged.{IsLogTo, IsStaged, completed}
 use Rattle.clone_apply.proofs.AbsentPages.{IsWithin, nothing_within, redone_within}
 use Rattle.clone_apply.proofs.EndMarks.{OneEnd}
 

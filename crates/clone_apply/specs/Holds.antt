@@ -1,18 +1,13 @@
 -- A disk that holds a clone, recovered or not.
-use Rattle.std.specs.Prelude.{ℕ, ◌≡◌, ◌⊎◌, ◌+◌, ◌^◌, ◌<◌, List, length}
-use Rattle.std.specs.List.{AllByRecursion}
+use Rattle.std.specs.Prelude.{ℕ, ◌≡◌, ◌⊎◌, ◌^◌, ◌<◌}
 use Rattle.clone_model.specs.History.{Rows}
 use Rattle.clone_outside.specs.Disk.{DiskImage}
 use Rattle.clone_outside.specs.Mark.{IsEnd}
 use Rattle.clone_outside.specs.declared.mark.CloneEnd.{CloneEnd}
 use Rattle.clone_outside.specs.declared.mark.Mark.TheVariants as mark
-use Rattle.clone_mtr.specs.declared.record.Record.{Record}
-use Rattle.clone_mtr.specs.Spelling.{log_of}
 use Rattle.clone_image.specs.Image.{page_of}
-use Rattle.clone_image.specs.Replay.{first_lsn, IsSpelled}
 use Rattle.clone_image.specs.Rows.{HasRows}
 use Rattle.clone_overlay.specs.Images.{image_of, IsQuiet}
-use Rattle.clone_recover.specs.Reading.{AreOfTables}
 use Rattle.clone_recover.specs.Restores.{Answers, HasMark, IsCause, numbers_of}
 use Rattle.clone_recover.specs.declared.recovery.Recovered.{Recovered}
 use Rattle.clone_recover.specs.declared.refusal.Why.{Why}
@@ -49,11 +44,3 @@ pub record HoldsCopy (m : DiskImage) (rows : Rows) (position : ℕ) : Type 0 whe
       → Answers m n numbers → IsLeftBy n numbers rows position
   pub sound : (space page : ℕ) (why : Why) → IsCause m (Damaged space page why) → ⊥
   pub complete : IsCause m Incomplete → ⊥
-
--- A clone's end is that of a whole log, which has the spellings of mini-transactions that name
--- tables and the system space alone.
-pub record IsWholeLog (log : List (List Record)) (end : CloneEnd) : Type 0 where
-  pub each : AllByRecursion IsSpelled log
-  pub tables : AreOfTables log
-  pub begin : end.checkpoint ≡ first_lsn
-  pub whole : end.lsn ≡ first_lsn + length (log_of log)

@@ -1,8 +1,10 @@
 -- A recipient's disk on which a clone was laid in stages, and the donor's log at the stop.
 use Rattle.std.specs.Prelude.{ℕ, ◌≡◌, ◌<◌, List, length, None}
 use Rattle.std.specs.List.{AllByRecursion}
-use Rattle.clone_outside.specs.Disk.{DiskImage}
+use Rattle.clone_outside.specs.Disk.{DiskImage, with_mark}
+use Rattle.clone_outside.specs.Mark.{mark_bytes}
 use Rattle.clone_outside.specs.declared.mark.CloneEnd.{CloneEnd}
+use Rattle.clone_outside.specs.declared.mark.Mark.TheVariants as mark
 use Rattle.clone_mtr.specs.declared.record.Record.{Record}
 use Rattle.clone_mtr.specs.Spelling.{log_of}
 use Rattle.clone_image.specs.Image.{page_of}
@@ -38,3 +40,7 @@ pub record IsStaged (base : ℕ) (log : List (List Record)) (m : DiskImage) : Ty
   pub redo : redo_of m (length (log_of begin.behind)) ≡ log_of begin.behind
   -- no page is being written
   pub quiet : IsQuiet m
+
+-- the disk has the complete mark of this end
+abbrev pub completed : CloneEnd → DiskImage → DiskImage
+completed end m = with_mark m (mark_bytes (mark.Complete end))

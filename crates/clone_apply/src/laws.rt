@@ -1,11 +1,9 @@
 ghost use Rattle.std.specs.Prelude.{◌≡◌, ◌<◌, ◌^◌, ℕ, List};
-ghost use Rattle.std.specs.FinMap as finite;
 ghost use Rattle.clone_model.specs.History.{Row, Rows, fold, rows_in};
 ghost use Rattle.clone_outside.specs.Disk.{DiskImage};
 ghost use Rattle.clone_outside.specs.Mark.{IsEnd};
 ghost use Rattle.clone_outside.specs.declared.mark.CloneEnd.{CloneEnd};
 ghost use Rattle.clone_mtr.specs.declared.record.Record.{Record};
-ghost use Rattle.clone_mtr.specs.Spelling.{log_of};
 ghost use Rattle.clone_image.specs.Redone.{Standing};
 ghost use Rattle.clone_image.specs.Replay.{replayed};
 ghost use Rattle.clone_contents.specs.Placed.{IsPlaced, WasPlaced};
@@ -16,18 +14,14 @@ ghost use Rattle.clone_recover.specs.Listing.{ListsRows};
 ghost use Rattle.clone_recover.specs.Restores.{Answers};
 ghost use Rattle.clone_recover.specs.declared.recovery.Recovered.{Recovered};
 ghost use Rattle.clone_trx.specs.Sound.{IsKept};
-ghost use Rattle.clone_apply.specs.Copied.{completed, copied};
-ghost use Rattle.clone_apply.specs.Holds.{HoldsCopy, IsWholeLog};
-ghost use Rattle.clone_apply.specs.Staged.{IsLogTo, IsStaged};
+ghost use Rattle.clone_apply.specs.Holds.{HoldsCopy};
+ghost use Rattle.clone_apply.specs.Staged.{IsLogTo, IsStaged, completed};
 
-/// What a disk that a clone was laid on holds. A blank disk with the whole log of a donor holds the
-/// rows of the donor's history. So does a disk that was laid in stages, if redo by the log from the
-/// checkpoint on makes each page what it is at the stop. A disk that is recovered holds the same
-/// clone as before, and the rows that are listed of it are the clone's.
+/// What a disk that a clone was laid on holds. A disk that was laid in stages holds the rows of the
+/// donor's history at the stop, if redo by the log from the checkpoint on makes each page what it
+/// is then. A disk that is recovered holds the same clone as before, and the rows that are listed
+/// of it are the clone's.
 pub fn holds_laws()
-    ensures copied { (d : Donor) (log : List (List Record)) (end : CloneEnd) (m : DiskImage)
-        → IsKept d (replayed log) → IsWholeLog log end → IsEnd end → m.spaces ≡ finite.empty
-        → HoldsCopy (copied (log_of log) end m) (fold (history d)) end.position }
     ensures staged { (d : Donor) (log : List (List Record)) (end : CloneEnd) (m : DiskImage)
         → IsKept d (replayed log) → IsLogTo end log → IsEnd end → IsStaged end.checkpoint log m
         → HoldsCopy (completed end m) (fold (history d)) end.position }

@@ -1,9 +1,7 @@
-//! What a clone lays on a recipient's disk, and the law that such a disk recovers to the history of
-//! the donor.
+//! What the stages of a clone leave on a recipient's disk, and the law that such a disk recovers to
+//! the history of the donor at the stop.
 #![tactic(auto)]
 
-mod copying;
 mod laws;
 
-pub use copying::write_copy;
 pub use laws::{holds_laws, start_laws};

@@ -1,34 +1,41 @@
--- A call of the donor by its step, and what it leaves of a world and of the clone on the recipient's disk.
-use Rattle.std.proofs.Common.{◌≡◌, ◌≤◌, ℕ, ◌+◌, ◌&&◌, List, [], Bool, true, false, refl, sym, ap, ◌∙◌, subst, arith, length-append, length, Option, Some, None, is_some, IsTrue, IfSome, Result, Ok, Err, unwrap_or, inl, inr, ◌⊎◌, nat_cmp}
+-- A call of the donor by its step, and what an act that no requester makes leaves of a clone.
+use Rattle.std.proofs.Common.{◌≡◌, ◌≤◌, ℕ, ◌+◌, ◌&&◌, List, [], Bool, true, false, refl, sym, ap, ◌∙◌, subst, arith, length-append, length, Option, Some, None, is_some, option_map, MatchOption, IsTrue, Result, Ok, Err, inl, inr, nat_cmp}
 use Rattle.std.specs.FinMap as finite
+use Rattle.std.specs.Option.{ForSome}
 use Rattle.clone_outside.specs.Disk.{DiskImage, ForTold}
 use Rattle.clone_model.specs.History.{Entry, fold}
 use Rattle.clone_plain.specs.declared.refusal.EngineRefusal.{EngineRefusal}
 use Rattle.clone_plain.specs.declared.refusal.EngineRefusal.TheVariants.{Because, NoMemory}
 use Rattle.clone_plain.specs.Donor.{Donor}
 use Rattle.clone_plain.specs.Effects.{Gets}
-use Rattle.clone_plain.specs.Calls.{Call, begin, get, Done, did_begin, did_get, Made, done, refused, call_of}
-use Rattle.clone_events.specs.World.{Stop, Clone, IsSure, index_in, before_stop}
-use Rattle.clone_events.specs.Events.{made, counted, Sees, Happens}
+use Rattle.clone_plain.specs.Calls.{Call, begin, get, flush_begin, Done, did_begin, did_get, done, refused}
+use Rattle.clone_events.specs.World.{Stop, Clone, IsSure, index_in}
+use Rattle.clone_events.specs.Events.{made, counted, Sees}
 use Rattle.clone_events.proofs.BinlogLemmas.{Adds, adds_none, made_adds}
 use Rattle.clone_events.proofs.StopLemmas.{before_stop-longer}
 use Rattle.clone_apply.specs.Holds.{HoldsCopy}
+use Rattle.clone_session.specs.Cloning.{Cloning}
+use Rattle.clone_session.specs.CloneCalls.{Archives}
+use Rattle.clone_session.specs.Effects.{Becomes}
+use Rattle.clone_session.specs.declared.info.Stop as session
 use Rattle.clone_engine.specs.Engine.{Engine, IsEngine}
-use Rattle.clone_engine.specs.Steps.{Steps, EngineStep, answer_of}
-use Rattle.clone_core.specs.System.{SystemStep, donor_of, tell}
+use Rattle.clone_engine.specs.Steps.{answer_of}
+use Rattle.clone_donor.specs.Acts as act
+use Rattle.clone_donor.specs.Acts.{Act, Acts, Does}
+use Rattle.clone_donor.specs.Donor as staged
+use Rattle.clone_donor.specs.Serving.{AnswersCall, noted_by}
+use Rattle.clone_request.specs.Advancing.{IsOutside}
+use Rattle.clone_request.specs.Requester.{IsUnderWay, Requester}
+use Rattle.clone_request.proofs.KeepLemmas.{keeps}
+use Rattle.clone_core.specs.System.{donor_of, tell}
 use Rattle.clone_core.specs.Lines.{State}
 use Rattle.clone_core.specs.Called.{Stays, Called}
-use Rattle.clone_core.specs.Copied.{HoldsStop, HoldsEnded, HoldsClone}
-use Rattle.clone_core.proofs.StepLemmas.{transacted, done_refines, refused_refines, steps_visit, steps_want}
+use Rattle.clone_core.specs.Copied.{HoldsStop, HoldsEnded, HoldsClone, IsOnItsWay, StandsAt, WasAt, stop_of, clone_of}
+use Rattle.clone_core.specs.declared.world.Course.{Course}
+use Rattle.clone_core.specs.declared.world.Course.TheVariants as course
+use Rattle.clone_core.proofs.StepLemmas.{transacted, served, made_refines, answered_visits, answered_wants, done_step}
 
 -- ---- facts that stand where something is told
-
-pub if_some : {X : Type 0} (o : Option X) (P : X → Type 0) → ((x : X) → o ≡ Some x → P x) → IfSome o P
-if_some None P is = tt
-if_some (Some x) P is = is x refl
-
-pub some_is : {X : Type 0} (o : Option X) (P : X → Type 0) (x : X) → o ≡ Some x → IfSome o P → P x
-some_is {X} o P x is has = let Q : Option X → Type 0 = λ q. IfSome q P in subst Q is has
 
 pub for_told : (told : Option DiskImage) (P Q : DiskImage → Type 0) → ((m : DiskImage) → P m → Q m) → ForTold told P → ForTold told Q
 for_told None P Q to is = tt
@@ -50,125 +57,220 @@ both_right false b is = absurd (let e : false ≡ true = is in cc)
 pub right_of : (e : Engine) → IsEngine e → is_some e.disk.told ≡ true → IsTrue e.buffer.right
 right_of e is there = let at = told_is e.disk.told _ there is.stands in at.2.kept.right
 
+-- ---- an act that no requester makes
+
+-- It leaves the last stop and whether the disk tells what it holds, and adds to the history.
+pub record Spares (d t : staged.Donor) : Type 0 where
+  pub stop : t.cloning.stop ≡ d.cloning.stop
+  pub tells : is_some t.engine.disk.told ≡ is_some d.engine.disk.told
+  pub answered : List ℕ
+  pub adds : Adds d.engine.donor t.engine.donor answered
+
+same_adds : (d e : Donor) → e ≡ d → Adds d e []
+same_adds d e is = adds_none d e (ap (λ (x : Donor). x.binlog) is) (ap (λ (x : Donor). x.drops) is)
+
+-- the plain donor stays
+spares_donor : (d t : staged.Donor) → t.cloning.stop ≡ d.cloning.stop → is_some t.engine.disk.told ≡ is_some d.engine.disk.told → t.engine.donor ≡ d.engine.donor → Spares d t
+spares_donor d t stop tells donor = record { stop = stop; tells = tells; answered = []; adds = same_adds d.engine.donor t.engine.donor donor }
+
+-- so does all of the engine
+spares_engine : (d t : staged.Donor) → t.cloning.stop ≡ d.cloning.stop → t.engine ≡ d.engine → Spares d t
+spares_engine d t stop engine = spares_donor d t stop (ap (λ (e : Engine). is_some e.disk.told) engine) (ap (λ (e : Engine). e.donor) engine)
+
+noted_stop : (call : Call) (answer : Result Done EngineRefusal) (old new : Cloning) → Becomes new (noted_by call answer old) → new.stop ≡ old.stop
+noted_stop (flush_begin space page) (Ok did) old new is = ap (λ (c : Cloning). c.stop) is
+noted_stop call answer old new is = ap (λ (c : Cloning). c.stop) is
+
+answered_stop : (call : Call) (d t : staged.Donor) (answer : Result Done EngineRefusal) → AnswersCall call d t answer → t.cloning.stop ≡ d.cloning.stop
+answered_stop call d t answer is = elim (served call d t answer is) [
+  | inl serves ↦ noted_stop call answer d.cloning t.cloning serves.cloning
+  | inr running ↦ ap (λ (x : staged.Donor). x.cloning.stop) running.same
+]
+
+answered_adds : (call : Call) (d t : staged.Donor) (answer : Result Done EngineRefusal) → AnswersCall call d t answer → (answered : List ℕ) × Adds d.engine.donor t.engine.donor answered
+answered_adds call d t (Ok did) is = (_, made_adds d.engine.donor (done did) t.engine.donor (made_refines d t (done did) (done_step call d t did is)))
+answered_adds call d t (Err (Because cause)) is = (_, made_adds d.engine.donor (refused call cause) t.engine.donor (made_refines d t (refused call cause) is))
+answered_adds call d t (Err NoMemory) is = (_, same_adds d.engine.donor t.engine.donor (answered_wants call d t is))
+
+spares_call : (call : Call) (answer : Result Done EngineRefusal) (d t : staged.Donor) → AnswersCall call d t answer → Spares d t
+spares_call call answer d t is =
+    let added = answered_adds call d t answer is in
+    record { stop = answered_stop call d t answer is; tells = (answered_visits call d t answer is).tells; answered = added.0; adds = added.1 }
+
+archives_stop : (limit : ℕ) (reached : Option ℕ) (d t : staged.Donor) → Archives {E = Unit {0}} limit d.engine.buffer.ring d.cloning t.cloning (Ok reached) → t.cloning.stop ≡ d.cloning.stop
+archives_stop limit None d t is = ap (λ (c : Cloning). c.stop) is.1
+archives_stop limit (Some lsn) d t is = ap (λ (c : Cloning). c.stop) is.2
+
+pub spares : (a : Act) (d t : staged.Donor) → IsOutside a → Does a d t → Spares d t
+spares (act.Calls call answer) d t outside does = spares_call call answer d t does
+spares act.Orders d t outside does =
+    spares_donor d t (ap (λ (x : staged.Donor). x.cloning.stop) does.same) (ap (λ (x : staged.Donor). is_some x.engine.disk.told) does.same ∙ ap is_some does.told) (ap (λ (x : staged.Donor). x.engine.donor) does.same)
+spares (act.Archive limit reached) d t outside does =
+    spares_donor d t (archives_stop limit reached d t does.0) (ap (λ (e : Engine). is_some e.disk.told) does.1) (ap (λ (e : Engine). e.donor) does.1)
+spares act.Refuse d t outside does = spares_engine d t (ap (λ (c : Cloning). c.stop) does.0) does.1
+spares act.Miss d t outside does =
+    spares_donor d t (ap (λ (c : Cloning). c.stop) does.0) (ap (λ (e : Engine). is_some e.disk.told) does.1.same) (ap (λ (e : Engine). e.donor) does.1.same)
+spares a d t outside does = absurd outside
+
+-- ---- the clone, while the history grows
+
+abbrev AreWithin : Donor → Option Stop → Type 0
+AreWithin d stop = ForSome stop (λ s. s.position ≤ length d.binlog) × ForSome stop (λ s. s.drops ≤ length d.drops)
+
+module _ (d e : Donor) (answered : List ℕ) (added : Adds d e answered) where
+  commits_longer : (n : ℕ) → n ≤ length d.binlog → n ≤ length e.binlog
+  commits_longer n low = omega (arith, low, ap length added.binlog, length-append d.binlog added.more)
+
+  drops_longer : (n : ℕ) → n ≤ length d.drops → n ≤ length e.drops
+  drops_longer n low = omega (arith, low, ap length added.drops)
+
+  stop_longer : (stop : Stop) (m : DiskImage) → stop.position ≤ length d.binlog → stop.drops ≤ length d.drops → HoldsStop d stop m → HoldsStop e stop m
+  stop_longer stop m commits drops is =
+      let P : List Entry → Type 0 = λ h. HoldsCopy m (fold h) stop.position in
+      subst P (before_stop-longer stop d e answered (commits, drops) added) is
+
+  stops_longer : (o : Option Stop) (m : DiskImage) → AreWithin d o → MatchOption o ⊥ (λ (s : Stop). HoldsStop d s m) → MatchOption o ⊥ (λ (s : Stop). HoldsStop e s m)
+  stops_longer None m within is = is
+  stops_longer (Some stop) m within is = stop_longer stop m (within.0 stop refl) (within.1 stop refl) is
+
+  ended_longer : (clone : Clone) (m : DiskImage) → AreWithin d clone.stop → HoldsEnded d clone m → HoldsEnded e clone m
+  ended_longer clone m within is = record {
+    whole = λ complete. stops_longer clone.stop m within (is.whole complete);
+    broken = elim is.broken [
+      | inl incomplete ↦ inl incomplete
+      | inr held ↦ inr (stops_longer clone.stop m within held)
+    ];
+    shown = is.shown;
+  }
+
+  was_longer : (at : Option Donor) (o : Option Stop) → AreWithin d o → WasAt d at o → WasAt e at o
+  was_longer at o within is = λ was here stop there. is was here stop there ∙ before_stop-longer stop d e answered (within.0 stop there, within.1 stop there) added
+
+-- a clone that is under way stays so
+abbrev pub KeepsWay : staged.Donor → staged.Donor → Type 0
+KeepsWay d t = (r : Requester) (told : Option DiskImage) (at : Option Donor) → IsUnderWay d r told at → IsUnderWay t r told at
+
+module _ (d t : staged.Donor) (answered : List ℕ) (added : Adds d.engine.donor t.engine.donor answered) (keep : KeepsWay d t) (a b : Bool) (same : b ≡ a) (clone : Clone) (told : Option DiskImage) where
+  sure_before : IsSure b clone → IsSure a clone
+  sure_before sure = record { told = sym same ∙ sure.told; steady = sure.steady }
+
+  on_longer : (r : Requester) → AreWithin d.engine.donor clone.stop → IsOnItsWay d r told clone.stop → IsOnItsWay t r told clone.stop
+  on_longer r within is = record {
+    at = is.at;
+    way = keep r told is.at is.way;
+    was = was_longer d.engine.donor t.engine.donor answered added is.at clone.stop within is.was;
+  }
+
+  kept_longer : AreWithin d.engine.donor clone.stop → (IsSure a clone → ForTold told (HoldsEnded d.engine.donor clone)) → IsSure b clone → ForTold told (HoldsEnded t.engine.donor clone)
+  kept_longer within is sure =
+      for_told told (HoldsEnded d.engine.donor clone) (HoldsEnded t.engine.donor clone) (λ m. ended_longer d.engine.donor t.engine.donor answered added clone m within) (is (sure_before sure))
+
+  stands_longer : (way : Course) → AreWithin d.engine.donor clone.stop → StandsAt d a clone told way → StandsAt t b clone told way
+  stands_longer course.Absent within is = (keep _ None None is.0, is.1, is.2, is.3, is.4)
+  stands_longer (course.Copying r) within is = (on_longer r within is.0, is.1, is.2)
+  stands_longer (course.Complete position) within is = kept_longer within is
+  stands_longer course.Broken within is = kept_longer within is
+  stands_longer course.Spent within is = kept_longer within is
+
+  -- WHAT A CLONE IS STAYS while the history grows.
+  pub holds_longer : (way : Course) → HoldsClone d a clone told way → HoldsClone t b clone told way
+  holds_longer way is = record {
+    commits = λ stop at. commits_longer d.engine.donor t.engine.donor answered added stop.position (is.commits stop at);
+    drops = λ stop at. drops_longer d.engine.donor t.engine.donor answered added stop.drops (is.drops stop at);
+    floor = commits_longer d.engine.donor t.engine.donor answered added clone.floor is.floor;
+    reached = is.reached;
+    at_stop = is.at_stop;
+    stands = stands_longer way (is.commits, is.drops) is.stands;
+  }
+
+-- AND SO OVER AN ACT that no requester makes.
+pub act_kept : (a : Act) (d t : staged.Donor) (way : Course) (floor : ℕ) (doubted shown : Bool) (told : Option DiskImage) → IsOutside a → Acts a d t
+    → HoldsClone d (is_some d.engine.disk.told && is_some told) (clone_of way d.cloning.stop floor doubted shown) told way
+    → HoldsClone t (is_some t.engine.disk.told && is_some told) (clone_of way t.cloning.stop floor doubted shown) told way
+act_kept a d t way floor doubted shown told outside acts holds =
+    let spared = spares a d t outside acts.does in
+    let keep : KeepsWay d t = λ r told at. keeps a d t r told at outside acts in
+    let clone = clone_of way d.cloning.stop floor doubted shown in
+    let longer = holds_longer d t spared.answered spared.adds keep (is_some d.engine.disk.told && is_some told) (is_some t.engine.disk.told && is_some told) (ap (λ b. b && is_some told) spared.tells) clone told way holds in
+    subst (λ (o : Option session.Stop). HoldsClone t (is_some t.engine.disk.told && is_some told) (clone_of way o floor doubted shown) told way) (sym spared.stop) longer
+
 -- ---- a call in a world: r is the world before it, as its fields are
 
+-- the fields tell of the donor what it is
+pub record IsShown (r : State) : Type 0 where
+  pub tells : r.tells ≡ tell r.donor
+  pub stop : r.clone.stop ≡ option_map stop_of r.donor.donor.cloning.stop
+
 -- the donor has become this one, and the writers' counts these
-abbrev pub with_engine : State → Engine → finite.FinMap nat_cmp ℕ → State
-with_engine s e counts = record {
-  donor = record { donor = e; recipient = s.donor.recipient };
+abbrev pub with_donor : State → staged.Donor → finite.FinMap nat_cmp ℕ → State
+with_donor s d counts = record {
+  donor = record { donor = d; recipient = s.donor.recipient };
   begun = counts;
-  clone = s.clone;
-  tells = is_some e.disk.told && is_some s.donor.recipient.told;
+  clone = record s.clone { stop = option_map stop_of d.cloning.stop };
+  tells = is_some d.engine.disk.told && is_some s.donor.recipient.told;
 }
 
-same_tells : (s : State) (e : Engine) → s.tells ≡ tell s.donor → is_some e.disk.told ≡ is_some s.donor.donor.disk.told → (is_some e.disk.told && is_some s.donor.recipient.told) ≡ s.tells
-same_tells s e is same = ap (λ b. b && is_some s.donor.recipient.told) same ∙ sym is
+pub same_tells : (r : State) (t : staged.Donor) → IsShown r → is_some t.engine.disk.told ≡ is_some r.donor.donor.engine.disk.told → (is_some t.engine.disk.told && is_some r.donor.recipient.told) ≡ r.tells
+same_tells r t is same = ap (λ b. b && is_some r.donor.recipient.told) same ∙ sym is.tells
 
-done_steps : (call : Call) (did : Done) (s t : Engine) → call_of did ≡ call → Steps call s t (Ok did) → EngineStep s (done did) t
-done_steps call did s t same is = let P : Call → Type 0 = λ c. Steps c s t (Ok did) in subst P (sym same) is
+pub same_clone : (r : State) (t : staged.Donor) → IsShown r → t.cloning.stop ≡ r.donor.donor.cloning.stop → ◌≡◌ {A = Clone} (record r.clone { stop = option_map stop_of t.cloning.stop }) r.clone
+same_clone r t is same = ap (λ (o : Option Stop). record r.clone { stop = o }) (ap (option_map stop_of) same ∙ sym is.stop)
 
-happens : {X : Type 0} (r : State) (e : Engine) (counts : finite.FinMap nat_cmp ℕ) (call : Call) (did : X → Done) (result : Result X EngineRefusal) → r.tells ≡ tell r.donor → ((x : X) → call_of (did x) ≡ call)
-    → ((x : X) → result ≡ Ok x → counts ≡ counted (made (done (did x))) r.begun) → ((refusal : EngineRefusal) → result ≡ Err refusal → counts ≡ r.begun)
-    → ((x : X) → result ≡ Ok x → r.tells ≡ true → Sees (donor_of r.donor) (made (done (did x)))) → Steps call r.donor.donor e (answer_of did result) → Called r call did result (with_engine r e counts)
-happens r e counts call did (Ok x) tells same grown kept sees is = record {
-  step = (done_steps call (did x) r.donor.donor e (same x) is, refl);
+happens : {X : Type 0} (r : State) (t : staged.Donor) (counts : finite.FinMap nat_cmp ℕ) (call : Call) (did : X → Done) (result : Result X EngineRefusal) → IsShown r → ((x : X) → result ≡ Ok x → counts ≡ counted (made (done (did x))) r.begun)
+    → ((refusal : EngineRefusal) → result ≡ Err refusal → counts ≡ r.begun) → ((x : X) → result ≡ Ok x → r.tells ≡ true → Sees (donor_of r.donor) (made (done (did x)))) → AnswersCall call r.donor.donor t (answer_of did result)
+    → Called r call did result (with_donor r t counts)
+happens r t counts call did (Ok x) shown grown kept sees is = record {
+  step = (done_step call r.donor.donor t (did x) is, refl);
   begun = grown x refl;
-  clone = refl;
-  tells = same_tells r e tells (steps_visit call r.donor.donor e _ is).tells;
+  clone = same_clone r t shown (answered_stop call r.donor.donor t _ is);
+  tells = same_tells r t shown (answered_visits call r.donor.donor t _ is).tells;
   sees = sees x refl;
 }
-happens r e counts call did (Err (Because cause)) tells same grown kept sees is = record {
+happens r t counts call did (Err (Because cause)) shown grown kept sees is = record {
   step = (is, refl);
   begun = kept (Because cause) refl;
-  clone = refl;
-  tells = same_tells r e tells (steps_visit call r.donor.donor e _ is).tells;
+  clone = same_clone r t shown (answered_stop call r.donor.donor t _ is);
+  tells = same_tells r t shown (answered_visits call r.donor.donor t _ is).tells;
   sees = λ told. tt;
 }
-happens r e counts call did (Err NoMemory) tells same grown kept sees is = record { donor = steps_want call r.donor.donor e is; begun = kept NoMemory refl }
+happens r t counts call did (Err NoMemory) shown grown kept sees is = record { donor = answered_wants call r.donor.donor t is; begun = kept NoMemory refl }
 
 -- no writer is counted
-pub called : {X : Type 0} (r s : State) (e : Engine) (call : Call) (did : X → Done) (result : Result X EngineRefusal) → r ≡ s → r.tells ≡ tell r.donor → ((x : X) → call_of (did x) ≡ call) → ((x : X) → counted (made (done (did x))) r.begun ≡ r.begun)
-    → ((x : X) → result ≡ Ok x → r.tells ≡ true → Sees (donor_of r.donor) (made (done (did x)))) → Steps call r.donor.donor e (answer_of did result) → Called s call did result (with_engine r e r.begun)
-called r s e call did result is tells same uncounted sees steps =
-    let P : State → Type 0 = λ w. Called w call did result (with_engine r e r.begun) in
-    subst P is (happens r e r.begun call did result tells same (λ x _. sym (uncounted x)) (λ _ _. refl) sees steps)
+pub called : {X : Type 0} (r s : State) (t : staged.Donor) (call : Call) (did : X → Done) (result : Result X EngineRefusal) → r ≡ s → IsShown r → ((x : X) → counted (made (done (did x))) r.begun ≡ r.begun)
+    → ((x : X) → result ≡ Ok x → r.tells ≡ true → Sees (donor_of r.donor) (made (done (did x)))) → AnswersCall call r.donor.donor t (answer_of did result) → Called s call did result (with_donor r t r.begun)
+called r s t call did result is shown uncounted sees answers =
+    let P : State → Type 0 = λ w. Called w call did result (with_donor r t r.begun) in
+    subst P is (happens r t r.begun call did result shown (λ x _. sym (uncounted x)) (λ _ _. refl) sees answers)
 
 -- the same where the number of a table is what its type holds
-pub called_on : {X : Type 0} (r s : State) (e : Engine) (call : ℕ → Call) (did : ℕ → X → Done) (result : Result X EngineRefusal) (number table : ℕ) → number ≡ table → r ≡ s → r.tells ≡ tell r.donor → ((x : X) → call_of (did number x) ≡ call number)
-    → ((x : X) → counted (made (done (did number x))) r.begun ≡ r.begun) → ((x : X) → result ≡ Ok x → r.tells ≡ true → Sees (donor_of r.donor) (made (done (did number x)))) → Steps (call number) r.donor.donor e (answer_of (did number) result)
-    → Called s (call table) (did table) result (with_engine r e r.begun)
-called_on r s e call did result number table named is tells same uncounted sees steps =
-    let P : ℕ → Type 0 = λ n. Called s (call n) (did n) result (with_engine r e r.begun) in
-    subst P named (called r s e (call number) (did number) result is tells same uncounted sees steps)
+pub called_on : {X : Type 0} (r s : State) (t : staged.Donor) (call : ℕ → Call) (did : ℕ → X → Done) (result : Result X EngineRefusal) (number table : ℕ) → number ≡ table → r ≡ s → IsShown r → ((x : X) → counted (made (done (did number x))) r.begun ≡ r.begun)
+    → ((x : X) → result ≡ Ok x → r.tells ≡ true → Sees (donor_of r.donor) (made (done (did number x)))) → AnswersCall (call number) r.donor.donor t (answer_of (did number) result) → Called s (call table) (did table) result (with_donor r t r.begun)
+called_on r s t call did result number table named is shown uncounted sees answers =
+    let P : ℕ → Type 0 = λ n. Called s (call n) (did n) result (with_donor r t r.begun) in
+    subst P named (called r s t (call number) (did number) result is shown uncounted sees answers)
 
 same_ok : {a b : Option (List ℕ)} → ◌≡◌ {A = Result (Option (List ℕ)) EngineRefusal} (Ok a) (Ok b) → a ≡ b
 same_ok e = cc
 
 -- the value that was got is the row's, where the disk tells what it holds
-pub got : (s t : Engine) (recipient : Bool) (trx table key : ℕ) (result : Result (Option (List ℕ)) EngineRefusal) → IsEngine t → Steps (get trx table key) s t (answer_of (λ value. did_get trx table key value) result)
-    → (value : Option (List ℕ)) → result ≡ Ok value → (is_some s.disk.told && recipient) ≡ true → Gets s.donor trx table key value
-got s t recipient trx table key (Err refusal) engine steps value is told = absurd (let e = is in cc)
-got s t recipient trx table key (Ok v) engine steps value is told =
-    let right = right_of t engine ((steps_visit (get trx table key) s t _ steps).tells ∙ both_left _ recipient told) in
-    let P : Option (List ℕ) → Type 0 = λ o. Gets s.donor trx table key o in
-    subst P (same_ok is) ((transacted _ s t _ steps).1.sees right)
+pub got : (d t : staged.Donor) (recipient : Bool) (trx table key : ℕ) (result : Result (Option (List ℕ)) EngineRefusal) → IsEngine t.engine → AnswersCall (get trx table key) d t (answer_of (λ value. did_get trx table key value) result)
+    → (value : Option (List ℕ)) → result ≡ Ok value → (is_some d.engine.disk.told && recipient) ≡ true → Gets d.engine.donor trx table key value
+got d t recipient trx table key (Err refusal) engine answers value is told = absurd (let e = is in cc)
+got d t recipient trx table key (Ok v) engine answers value is told =
+    let right = right_of t.engine engine ((answered_visits (get trx table key) d t _ answers).tells ∙ both_left _ recipient told) in
+    let P : Option (List ℕ) → Type 0 = λ o. Gets d.engine.donor trx table key o in
+    subst P (same_ok is) ((transacted _ d.engine t.engine _ answers.steps).1.sees right)
 
 -- a transaction began, and was counted; or none did, and none was
-pub begun_called : (r s : State) (e : Engine) (counts : finite.FinMap nat_cmp ℕ) (writer index : ℕ) (result : Result ℕ EngineRefusal) → r ≡ s → r.tells ≡ tell r.donor → index ≡ index_in r.begun writer
+pub begun_called : (r s : State) (t : staged.Donor) (counts : finite.FinMap nat_cmp ℕ) (writer index : ℕ) (result : Result ℕ EngineRefusal) → r ≡ s → IsShown r → index ≡ index_in r.begun writer
     → ((trx : ℕ) → result ≡ Ok trx → counts ≡ finite.insert r.begun writer (index_in r.begun writer + 1)) → ((refusal : EngineRefusal) → result ≡ Err refusal → counts ≡ r.begun)
-    → Steps (begin writer index) r.donor.donor e (answer_of (λ trx. did_begin writer index trx) result)
-    → Called s (begin writer (index_in s.begun writer)) (λ trx. did_begin writer (index_in s.begun writer) trx) result (with_engine r e counts)
-begun_called r s e counts writer index result is tells at grown kept steps =
-    let P : State → Type 0 = λ w. Called w (begin writer (index_in w.begun writer)) (λ trx. did_begin writer (index_in w.begun writer) trx) result (with_engine r e counts) in
-    let Q : ℕ → Type 0 = λ n. Called r (begin writer n) (λ trx. did_begin writer n trx) result (with_engine r e counts) in
-    subst P is (subst Q at (happens r e counts (begin writer index) (λ trx. did_begin writer index trx) result tells (λ _. refl) grown kept (λ _ _ _. tt) steps))
+    → AnswersCall (begin writer index) r.donor.donor t (answer_of (λ trx. did_begin writer index trx) result)
+    → Called s (begin writer (index_in s.begun writer)) (λ trx. did_begin writer (index_in s.begun writer) trx) result (with_donor r t counts)
+begun_called r s t counts writer index result is shown at grown kept answers =
+    let P : State → Type 0 = λ w. Called w (begin writer (index_in w.begun writer)) (λ trx. did_begin writer (index_in w.begun writer) trx) result (with_donor r t counts) in
+    let Q : ℕ → Type 0 = λ n. Called r (begin writer n) (λ trx. did_begin writer n trx) result (with_donor r t counts) in
+    subst P is (subst Q at (happens r t counts (begin writer index) (λ trx. did_begin writer index trx) result shown grown kept (λ _ _ _. tt) answers))
 
 -- memory ran out before the donor was asked
 pub not_counted : (r s t : State) → r ≡ s → donor_of t.donor ≡ donor_of r.donor → t.begun ≡ r.begun → Stays s t
 not_counted r s t is donor begun = record { donor = donor ∙ ap (λ (w : State). donor_of w.donor) is; begun = begun ∙ ap (λ (w : State). w.begun) is }
-
--- ---- the clone
-
-stop_longer : (d e : Donor) (answered : List ℕ) (stop : Stop) (m : DiskImage) → stop.position ≤ length d.binlog → stop.drops ≤ length d.drops → Adds d e answered → HoldsStop d stop m → HoldsStop e stop m
-stop_longer d e answered stop m commits drops added is =
-    let P : List Entry → Type 0 = λ h. HoldsCopy m (fold h) stop.position in
-    subst P (before_stop-longer stop d e answered (commits, drops) added) is
-
-ended_longer : (d e : Donor) (answered : List ℕ) (clone : Clone) (stop : Stop) (m : DiskImage) → stop.position ≤ length d.binlog → stop.drops ≤ length d.drops → Adds d e answered → HoldsEnded d clone stop m → HoldsEnded e clone stop m
-ended_longer d e answered clone stop m commits drops added is = record {
-  whole = λ unbroken. stop_longer d e answered stop m commits drops added (is.whole unbroken);
-  broken = elim is.broken [
-    | inl none ↦ inl none
-    | inr held ↦ inr (stop_longer d e answered stop m commits drops added held)
-  ];
-  shown = is.shown;
-}
-
--- what a disk holds of a clone stands while the history grows
-pub holds_longer : (d e : Donor) (answered : List ℕ) (a b : Bool) (clone : Clone) (told : Option DiskImage) → Adds d e answered → b ≡ a → HoldsClone d a clone told → HoldsClone e b clone told
-holds_longer d e answered a b clone told added same is = record {
-  blank_before = is.blank_before;
-  none_before = is.none_before;
-  commits = if_some clone.stop _ (λ stop at. longer stop at);
-  drops = if_some clone.stop _ (λ stop at. fewer stop at);
-  holds = if_some clone.stop _ (λ stop at sure. for_told told _ _ (λ m. ended_longer d e answered clone stop m (some_is clone.stop _ stop at is.commits) (some_is clone.stop _ stop at is.drops) added)
-      (some_is clone.stop _ stop at is.holds (record { told = sym same ∙ sure.told; steady = sure.steady })));
-}
-  where
-    longer : (stop : Stop) → clone.stop ≡ Some stop → stop.position ≤ length e.binlog
-    longer stop at = let low : stop.position ≤ length d.binlog = some_is clone.stop _ stop at is.commits in omega (arith, low, ap length added.binlog, length-append d.binlog added.more)
-
-    fewer : (stop : Stop) → clone.stop ≡ Some stop → stop.drops ≤ length e.drops
-    fewer stop at = let low : stop.drops ≤ length d.drops = some_is clone.stop _ stop at is.drops in omega (arith, low, ap length added.drops)
-
--- what a call adds
-steps_add : {X : Type 0} (call : Call) (did : X → Done) (result : Result X EngineRefusal) (s t : Engine) → ((x : X) → call_of (did x) ≡ call) → Steps call s t (answer_of did result) → (answered : List ℕ) × Adds s.donor t.donor answered
-steps_add call did (Ok x) s t same is = (_, made_adds s.donor (done (did x)) t.donor (done_refines s t (did x) (done_steps call (did x) s t (same x) is)))
-steps_add call did (Err (Because cause)) s t same is = (_, made_adds s.donor (refused call cause) t.donor (refused_refines s t call cause is))
-steps_add call did (Err NoMemory) s t same is = let donor = steps_want call s t is in ([], adds_none s.donor t.donor (ap (λ (d : Donor). d.binlog) donor) (ap (λ (d : Donor). d.drops) donor))
-
-pub call_kept : {X : Type 0} (s t : Engine) (call : Call) (did : X → Done) (result : Result X EngineRefusal) (clone : Clone) (told : Option DiskImage) → ((x : X) → call_of (did x) ≡ call) → Steps call s t (answer_of did result)
-    → HoldsClone s.donor (is_some s.disk.told && is_some told) clone told → HoldsClone t.donor (is_some t.disk.told && is_some told) clone told
-call_kept s t call did result clone told same is holds =
-    let added = steps_add call did result s t same is in
-    holds_longer s.donor t.donor added.0 _ _ clone told added.1 (ap (λ b. b && is_some told) (steps_visit call s t _ is).tells) holds

@@ -1,18 +1,18 @@
 -- What a `clean` does, page by page.
-use Rattle.std.proofs.Common.{◌≡◌, ◌<◌, ◌+◌, ◌^◌, ℕ, List, [], ◌∷◌, ◌++◌, length, refl, sym, ap, ◌∙◌, subst, arith, append_assoc, append-nil, length-append, Option, Some, None, Result, Ok, Err, IfOk, OnErr, IsErrAnd, codes, decimal, flat_map}
+use Rattle.std.proofs.Common.{◌≡◌, ◌<◌, ◌+◌, ◌^◌, ℕ, List, [], ◌∷◌, ◌++◌, length, refl, sym, ap, ◌∙◌, subst, arith, append_assoc, length-append, Option, Some, None, Result, Ok, Err, IfOk, OnErr, IsErrAnd, codes, decimal, flat_map}
 use Rattle.std.proofs.lemmas.Grind.{flat_map-append}
 use Rattle.std.specs.declared.alloc.AllocError.{AllocError}
 use Rattle.std.specs.List.{AllByRecursion}
-use Rattle.clone_model.specs.declared.line.Line.TheVariants as lines
+use Rattle.clone_script.specs.declared.lines.Line.TheVariants as lines
 use Rattle.clone_pool.specs.declared.frame.Frame.{Frame}
 use Rattle.clone_pool.specs.Frames.{frame_at}
 use Rattle.clone_flush.specs.Calls as flushes
 use Rattle.clone_plain.specs.declared.refusal.Cause.TheVariants as causes
 use Rattle.clone_plain.specs.declared.refusal.EngineRefusal.{EngineRefusal}
 use Rattle.clone_plain.specs.declared.refusal.EngineRefusal.TheVariants.{Because, NoMemory}
-use Rattle.clone_plain.specs.Answers.{Text, refusal_text}
+use Rattle.clone_plain.specs.Answers.{Text}
 use Rattle.clone_plain.specs.Calls.{Done, did_flush_begin, did_flush_half, did_flush_land, did_oldest_dirty, done, refused, flush_begin, flush_half, flush_land, call_of}
-use Rattle.clone_events.specs.Events.{Event, made, cleaned, event_text, said, Happens, Events}
+use Rattle.clone_events.specs.Events.{Event, made, cleaned, Happens, Events}
 use Rattle.clone_events.specs.Runs.{MakesClean, all_clean, not_flushed, flushed}
 use Rattle.clone_events.specs.BreaksOff.{IsDone}
 use Rattle.clone_events.proofs.RunLemmas.{Events-append}
@@ -25,7 +25,7 @@ use Rattle.clone_core.proofs.SetLemmas.{is_done, said-last, Events-split}
 use Rattle.clone_core.proofs.WaitingLemmas.{waiting, waiting-le, waits_for, one_fewer}
 
 abbrev pub frames_of : State → List Frame
-frames_of s = s.donor.donor.buffer.pool.frames
+frames_of s = s.donor.donor.engine.buffer.pool.frames
 
 -- an event that is a call that was carried out
 abbrev Did : State → Done → State → Type 0
@@ -46,11 +46,11 @@ clean_begins s few = record { pages = []; count = refl; happened = refl; few = o
 -- one fewer page waits once a page was flushed
 pub fewer_wait : (u v w x t : State) (space page : ℕ) → Did u (did_oldest_dirty (Some (space, page))) v → Did v (did_flush_begin space page) w → Did w (did_flush_half space page) x → Did x (did_flush_land space page) t → waiting (frames_of t) + 1 ≡ waiting (frames_of u)
 fewer_wait u v w x t space page looks begins halves lands =
-    let began = begins.step.0.does.1.0 in
-    let halved = halves.step.0.does.1 in
-    let landed = lands.step.0.does.1 in
+    let began = begins.step.0.steps.does.1.0 in
+    let halved = halves.step.0.steps.does.1 in
+    let landed = lands.step.0.steps.does.1 in
     one_fewer (frames_of u) (frames_of v) (frames_of w) (frames_of x) (frames_of t) began.0 landed.1 (record { space = space; number = page })
-    (ap (λ (e : Engine). e.buffer.pool.frames) looks.step.0.1)
+    (ap (λ (e : Engine). e.buffer.pool.frames) looks.step.0.steps.1)
     (ap (λ (s : flushes.State). s.buffer.pool.frames) began.3)
     (ap (λ (s : flushes.State). s.buffer.pool.frames) halved.3)
     (ap (λ (s : flushes.State). s.buffer.pool.frames) landed.3)

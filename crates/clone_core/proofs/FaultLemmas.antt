@@ -1,62 +1,114 @@
--- A fault of the recipient's disk that was answered is in its count.
-use Rattle.std.proofs.Common.{◌≡◌, ◌⊎◌, inl, inr, ◌≤◌, ℕ, List, [], ◌∷◌, Bool, true, false, refl, sym, ap, ◌∙◌, subst, arith}
+-- A fault of a disk by which a clone ended, or which came in the way of its rows, is in its count.
+use Rattle.std.proofs.Common.{◌≡◌, ◌⊎◌, inl, inr, ◌≤◌, ℕ, List, [], ◌∷◌, Bool, true, false, refl, sym, ap, subst, arith}
 use Rattle.clone_outside.specs.Causes.{Rose}
-use Rattle.clone_events.specs.World.{Clone, no_clone}
-use Rattle.clone_events.specs.Events.{to_donor, to_recipient, Event, made, cleaned, completed, completed_before, broke, broke_before, showed, incomplete, hidden, damaged, ordered, Happens, Events}
-use Rattle.clone_engine.specs.Disks.{DiskState}
-use Rattle.clone_core.specs.System.{System, SystemStep, donor_of}
+use Rattle.clone_events.specs.World.{Stop, Progress, absent, copying, complete, broken, spent, Clone, no_clone, stop_now}
+use Rattle.clone_events.specs.Events.{Side, to_donor, to_recipient, Event, made, cleaned, looked, archived, started, started_before, readied, not_started, completed, completed_before, broke, broke_before, lost, lost_before, showed, incomplete, hidden, damaged, ordered, Breaks, Happens, Events}
+use Rattle.clone_core.specs.declared.world.Ending.TheVariants.{RecipientFault, RestartsSpent}
+use Rattle.clone_core.specs.Ending.{ending_by, ending_of}
+use Rattle.clone_core.specs.System.{SystemStep, donor_of}
 use Rattle.clone_core.specs.Lines.{State}
+use Rattle.clone_core.proofs.OrderLemmas.{disk_of, event_gets}
 
--- a fault of the recipient's disk ended the clone, or came in the way of its rows
-abbrev pub MetFault : Clone → Type 0
-MetFault clone = (clone.broken ≡ true) ⊎ (clone.doubted ≡ true)
+-- A clone that has come so far met a fault of the disk of a side: one of the donor's ends it, one
+-- of the recipient's ends it or came in the way of its rows.
+abbrev Met : Side → Progress → (doubted : Bool) → Type 0
+Met to_donor progress doubted = progress ≡ spent
+Met to_recipient progress doubted = (progress ≡ broken) ⊎ (doubted ≡ true)
 
-abbrev faults : State → ℕ
-faults s = s.donor.recipient.failures
+abbrev pub MetFault : Side → Clone → Type 0
+MetFault side clone = Met side clone.progress clone.doubted
 
-same_later : (s t : System) → t.recipient ≡ s.recipient → s.recipient.failures ≤ t.recipient.failures
-same_later s t is = omega (arith, ap (λ (d : DiskState). d.failures) is)
+-- how it ended tells that
+spent_is : (progress : Progress) (doubted : Bool) → ending_by progress doubted ≡ RestartsSpent → progress ≡ spent
+spent_is absent true is = absurd (let e = is in cc)
+spent_is absent false is = absurd (let e = is in cc)
+spent_is (copying stages) true is = absurd (let e = is in cc)
+spent_is (copying stages) false is = absurd (let e = is in cc)
+spent_is complete true is = absurd (let e = is in cc)
+spent_is complete false is = absurd (let e = is in cc)
+spent_is broken doubted is = absurd (let e = is in cc)
+spent_is spent doubted is = refl
 
-of_recipient : (s t : System) → t ≡ s → t.recipient ≡ s.recipient
-of_recipient s t is = ap (λ (w : System). w.recipient) is
+broken_is : (progress : Progress) (doubted : Bool) → ending_by progress doubted ≡ RecipientFault → (progress ≡ broken) ⊎ (doubted ≡ true)
+broken_is progress true is = inr refl
+broken_is absent false is = absurd (let e = is in cc)
+broken_is (copying stages) false is = absurd (let e = is in cc)
+broken_is complete false is = absurd (let e = is in cc)
+broken_is broken false is = inl refl
+broken_is spent false is = absurd (let e = is in cc)
 
-event_later : (s : System) (e : Event) (t : System) → SystemStep s e t → s.recipient.failures ≤ t.recipient.failures
-event_later s (made m) t is = same_later s t is.1
-event_later s (cleaned landed) t is = same_later s t (of_recipient s t is)
-event_later s (completed position) t is = is.recipient.later
-event_later s (completed_before position) t is = same_later s t (of_recipient s t is)
-event_later s broke t is = is.visits.recipient.later
-event_later s broke_before t is = same_later s t (of_recipient s t is)
-event_later s (showed rows) t is = is.recipient.later
-event_later s incomplete t is = is.recipient.later
-event_later s hidden t is = is.visits.recipient.later
-event_later s (damaged space page why) t is = is.0.recipient.later
-event_later s (ordered to_donor order) t is = same_later s t (ap (λ (w : System). w.recipient) is)
-event_later s (ordered to_recipient order) t is = omega (arith, ap (λ (w : System). w.recipient.failures) is)
+pub donor_met : (clone : Clone) → ending_of clone ≡ RestartsSpent → MetFault to_donor clone
+donor_met clone is = spent_is clone.progress clone.doubted is
+
+pub recipient_met : (clone : Clone) → ending_of clone ≡ RecipientFault → MetFault to_recipient clone
+recipient_met clone is = broken_is clone.progress clone.doubted is
+
+abbrev faults : Side → State → ℕ
+faults side s = (disk_of side s.donor).failures
 
 -- the clone met one before, or the count rose
-abbrev HasMet : State → State → Type 0
-HasMet s t = MetFault s.clone ⊎ Rose (faults s) (faults t)
+abbrev HasMet : Side → State → State → Type 0
+HasMet side s t = MetFault side s.clone ⊎ Rose (faults side s) (faults side t)
 
-met_before : (s t : State) (clone : Clone) → t.clone ≡ clone → (MetFault clone → MetFault s.clone) → MetFault t.clone → HasMet s t
-met_before s t clone is before met = inl (before (subst MetFault is met))
+met_before : (side : Side) (s t : State) (clone : Clone) → t.clone ≡ clone → (MetFault side clone → MetFault side s.clone) → MetFault side t.clone → HasMet side s t
+met_before side s t clone is before met = inl (before (subst (MetFault side) is met))
 
-event_met : (s : State) (e : Event) (t : State) → Happens donor_of SystemStep s e t → MetFault t.clone → HasMet s t
-event_met s (made m) t is met = met_before s t _ is.clone (λ m. m) met
-event_met s (cleaned landed) t is met = met_before s t _ is.clone (λ m. m) met
-event_met s (completed position) t is met = met_before s t _ is.clone.2 (λ m. m) met
-event_met s (completed_before position) t is met = met_before s t _ is.clone.2 (λ m. m) met
-event_met s broke t is met = inr is.step.rose
-event_met s broke_before t is met = met_before s t _ is.clone.1 (λ m. m) met
-event_met s (showed rows) t is met = met_before s t _ is.clone.1 (λ m. m) met
-event_met s incomplete t is met = met_before s t _ is.clone.1 (λ m. m) met
-event_met s hidden t is met = inr is.step.rose
-event_met s (damaged space page why) t is met = met_before s t _ is.clone.2 (λ m. m) met
-event_met s (ordered side order) t is met = met_before s t _ is.clone (λ m. m) met
+-- a clone that goes on, or is complete, met one only where it had met one before
+goes_on : (side : Side) (old new : Progress) (doubted : Bool) → (new ≡ spent → ⊥) → (new ≡ broken → ⊥) → Met side new doubted → Met side old doubted
+goes_on to_donor old new doubted not_spent not_broken met = absurd (not_spent met)
+goes_on to_recipient old new doubted not_spent not_broken (inl is) = absurd (not_broken is)
+goes_on to_recipient old new doubted not_spent not_broken (inr is) = inr is
 
-events_later : (s : State) (es : List Event) (t : State) → Events donor_of SystemStep s es t → faults s ≤ faults t
-events_later s [] t is = omega (arith, ap faults is)
-events_later s (e ∷ es) t is = omega (arith, event_later s.donor e is.0.donor is.1.step, events_later is.0 es t is.2)
+copying_met : (side : Side) (old : Progress) (stages : ℕ) (doubted : Bool) → Met side (copying stages) doubted → Met side old doubted
+copying_met side old stages doubted met = goes_on side old (copying stages) doubted (λ is. let e = is in cc) (λ is. let e = is in cc) met
+
+complete_met : (side : Side) (old : Progress) (doubted : Bool) → Met side complete doubted → Met side old doubted
+complete_met side old doubted met = goes_on side old complete doubted (λ is. let e = is in cc) (λ is. let e = is in cc) met
+
+-- a fault ended it
+breaks_met : (side : Side) (now : Stop) (progress : Progress) (old new : Clone) → Breaks now progress old new → MetFault side new → Met side progress old.doubted
+breaks_met side now progress old new (inl is) met = subst (MetFault side) is met
+breaks_met side now progress old new (inr is) met = subst (MetFault side) is met
+
+broke_met : (side : Side) (s t : State) → Happens donor_of SystemStep s broke t → MetFault side t.clone → HasMet side s t
+broke_met to_donor s t is met = absurd (let e : broken ≡ spent = breaks_met to_donor (stop_now (donor_of s.donor)) broken s.clone t.clone is.clone.1 met in cc)
+broke_met to_recipient s t is met = inr is.step.1
+
+lost_met : (side : Side) (s t : State) → Happens donor_of SystemStep s lost t → MetFault side t.clone → HasMet side s t
+lost_met to_donor s t is met = inr is.step.1
+lost_met to_recipient s t is met = elim (breaks_met to_recipient (stop_now (donor_of s.donor)) spent s.clone t.clone is.clone.1 met) [
+  | inl ended ↦ absurd (let e : spent ≡ broken = ended in cc)
+  | inr doubted ↦ inl (inr doubted)
+]
+
+hidden_met : (side : Side) (s t : State) → Happens donor_of SystemStep s hidden t → MetFault side t.clone → HasMet side s t
+hidden_met to_donor s t is met = met_before to_donor s t _ is.clone.1 (λ m. m) met
+hidden_met to_recipient s t is met = inr is.step.rose
+
+event_met : (side : Side) (s : State) (e : Event) (t : State) → Happens donor_of SystemStep s e t → MetFault side t.clone → HasMet side s t
+event_met side s (made m) t is met = met_before side s t _ is.clone (λ m. m) met
+event_met side s (cleaned landed) t is met = met_before side s t _ is.clone (λ m. m) met
+event_met side s (looked position) t is met = met_before side s t _ is.clone.1 (λ m. m) met
+event_met side s (archived limit reached) t is met = met_before side s t _ is.clone (λ m. m) met
+event_met side s started t is met = met_before side s t _ is.clone.1 (copying_met side s.clone.progress 0 s.clone.doubted) met
+event_met side s started_before t is met = met_before side s t _ is.clone.1 (λ m. m) met
+event_met side s (readied stages) t is met = met_before side s t _ is.clone.5 (copying_met side s.clone.progress stages s.clone.doubted) met
+event_met side s not_started t is met = met_before side s t _ is.clone.1 (λ m. m) met
+event_met side s (completed position) t is met = met_before side s t _ is.clone.3 (complete_met side s.clone.progress s.clone.doubted) met
+event_met side s (completed_before position) t is met = met_before side s t _ is.clone.2 (λ m. m) met
+event_met side s broke t is met = broke_met side s t is met
+event_met side s broke_before t is met = met_before side s t _ is.clone.1 (λ m. m) met
+event_met side s lost t is met = lost_met side s t is met
+event_met side s lost_before t is met = met_before side s t _ is.clone.1 (λ m. m) met
+event_met side s (showed rows) t is met = met_before side s t _ is.clone.2 (λ m. m) met
+event_met side s incomplete t is met = met_before side s t _ is.clone.1 (λ m. m) met
+event_met side s hidden t is met = hidden_met side s t is met
+event_met side s (damaged space page why) t is met = met_before side s t _ is.clone.2 (λ m. m) met
+event_met side s (ordered to order) t is met = met_before side s t _ is.clone (λ m. m) met
+
+events_later : (side : Side) (s : State) (es : List Event) (t : State) → Events donor_of SystemStep s es t → faults side s ≤ faults side t
+events_later side s [] t is = omega (arith, ap (faults side) is)
+events_later side s (e ∷ es) t is = omega (arith, (event_gets side s.donor e is.0.donor is.1.step).later, events_later side is.0 es t is.2)
 
 rose_behind : (a b c : ℕ) → a ≤ b → Rose b c → Rose a c
 rose_behind a b c low rose = omega arith
@@ -64,25 +116,23 @@ rose_behind a b c low rose = omega arith
 rose_before : (a b c : ℕ) → Rose a b → b ≤ c → Rose a c
 rose_before a b c rose low = omega arith
 
-pub events_met : (s : State) (es : List Event) (t : State) → Events donor_of SystemStep s es t → MetFault t.clone → HasMet s t
-events_met s [] t is met = let P : State → Type 0 = λ w. MetFault w.clone in inl (subst P (sym is) met)
-events_met s (e ∷ es) t is met = behind (events_met is.0 es t is.2 met)
+pub events_met : (side : Side) (s : State) (es : List Event) (t : State) → Events donor_of SystemStep s es t → MetFault side t.clone → HasMet side s t
+events_met side s [] t is met = let P : State → Type 0 = λ w. MetFault side w.clone in inl (subst P (sym is) met)
+events_met side s (e ∷ es) t is met = behind (events_met side is.0 es t is.2 met)
   where
-    first : HasMet s is.0 → HasMet s t
+    first : HasMet side s is.0 → HasMet side s t
     first (inl before) = inl before
-    first (inr rose) = inr (rose_before (faults s) (faults is.0) (faults t) rose (events_later is.0 es t is.2))
+    first (inr rose) = inr (rose_before (faults side s) (faults side is.0) (faults side t) rose (events_later side is.0 es t is.2))
 
-    behind : HasMet is.0 t → HasMet s t
-    behind (inl before) = first (event_met s e is.0 is.1 before)
-    behind (inr rose) = inr (rose_behind (faults s) (faults is.0) (faults t) (event_later s.donor e is.0.donor is.1.step) rose)
+    behind : HasMet side is.0 t → HasMet side s t
+    behind (inl before) = first (event_met side s e is.0 is.1 before)
+    behind (inr rose) = inr (rose_behind (faults side s) (faults side is.0) (faults side t) (event_gets side s.donor e is.0.donor is.1.step).later rose)
 
-not_true : false ≡ true → ⊥
-not_true is = cc
+none_met : (side : Side) → MetFault side no_clone → ⊥
+none_met to_donor is = let e : absent ≡ spent = is in cc
+none_met to_recipient (inl is) = let e : absent ≡ broken = is in cc
+none_met to_recipient (inr is) = let e : false ≡ true = is in cc
 
-none_met : MetFault no_clone → ⊥
-none_met (inl is) = not_true is
-none_met (inr is) = not_true is
-
-pub met_since : (s t : State) → s.clone ≡ no_clone → HasMet s t → Rose s.donor.recipient.failures t.donor.recipient.failures
-met_since s t none (inl before) = absurd (none_met (subst MetFault none before))
-met_since s t none (inr rose) = rose
+pub met_since : (side : Side) (s t : State) → s.clone ≡ no_clone → HasMet side s t → Rose (disk_of side s.donor).failures (disk_of side t.donor).failures
+met_since side s t none (inl before) = absurd (none_met side (subst (MetFault side) none before))
+met_since side s t none (inr rose) = rose

@@ -10,6 +10,11 @@ pub mod SetLemmas
 pub mod WaitingLemmas
 pub mod CleanLemmas
 pub mod OrderedLemmas
-pub mod CloneLemmas
-pub mod RowsLemmas
+pub mod StopLemmas
+pub mod StartLemmas
+pub mod AdvanceLemmas
+pub mod FinishLemmas
+pub mod KeptLemmas
 pub mod RecoveredLemmas
+pub mod RowsLemmas
+pub mod ShowingLemmas

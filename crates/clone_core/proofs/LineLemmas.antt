@@ -1,21 +1,22 @@
 -- What lines do, by what their calls answered.
-use Rattle.std.proofs.Common.{◌≡◌, ℕ, List, [], ◌∷◌, refl, sym, ap, ◌∙◌, subst, Option, Result, Ok, Err, IfOk, OnErr, MatchResult, IsErr}
+use Rattle.std.proofs.Common.{◌≡◌, ℕ, List, [], ◌∷◌, refl, sym, ap, ◌∙◌, subst, Option, None, Result, Ok, Err, IfOk, OnErr, MatchResult, IsErr}
 use Rattle.std.specs.declared.alloc.AllocError.{AllocError}
-use Rattle.clone_model.specs.declared.line.Line.{Line}
-use Rattle.clone_model.specs.declared.line.Line.TheVariants as lines
+use Rattle.clone_script.specs.declared.lines.Line.{Line}
+use Rattle.clone_script.specs.declared.lines.Line.TheVariants as lines
 use Rattle.clone_plain.specs.declared.refusal.Cause.{Cause}
 use Rattle.clone_plain.specs.declared.refusal.Cause.TheVariants.{NoSuchTrx}
 use Rattle.clone_plain.specs.declared.refusal.EngineRefusal.{EngineRefusal}
 use Rattle.clone_plain.specs.declared.refusal.EngineRefusal.TheVariants.{Because, NoMemory}
 use Rattle.clone_plain.specs.Answers.{Text, done_text, undone_answer}
-use Rattle.clone_plain.specs.Calls.{Call, create, begin, put, delete, get, undo_one, commit, flush_begin, flush_half, flush_land, checkpoint, end, Done, did_get, did_undo_one, Made, done, refused, made_call, call_of, PlainStep}
+use Rattle.clone_plain.specs.Calls.{Call, create, begin, put, delete, get, undo_one, commit, flush_begin, flush_half, flush_land, checkpoint, end, Done, did_get, did_undo_one, Made, done, refused, call_of, PlainStep}
 use Rattle.clone_plain.specs.declared.refusal.Undone.{Undone}
 use Rattle.clone_plain.specs.Donor.{Donor}
 use Rattle.clone_plain.specs.Effects.{Undoes}
 use Rattle.clone_events.specs.World.{index_in}
-use Rattle.clone_events.specs.Events.{to_donor, to_recipient, Event, made, incomplete, ordered, event_text, Happens}
+use Rattle.clone_events.specs.Events.{to_donor, to_recipient, Event, made, looked, archived, started, not_started, incomplete, ordered, event_text, Happens}
+use Rattle.clone_outside.specs.declared.disk.DiskOrder.{DiskOrder}
 use Rattle.clone_outside.specs.declared.disk.DiskOrder.TheVariants as orders
-use Rattle.clone_events.specs.Runs.{Makes, MakesOne, not_begun, all_clean, is_broken, not_there}
+use Rattle.clone_events.specs.Runs.{Makes, MakesOne, not_begun, all_clean, not_there}
 use Rattle.clone_core.specs.System.{SystemStep, donor_of}
 use Rattle.clone_core.specs.Lines.{State, Answers, BreaksOff}
 use Rattle.clone_core.specs.Called.{Stays, Called, SaysCause, Notes}
@@ -67,7 +68,12 @@ breaks_at_once s t lines.Lsn stays = call_at_once s t _ end (λ es m. m) stays
 breaks_at_once s t (lines.Tear byte) stays = at_once s t (lines.Tear byte) (ordered to_donor (orders.Tear byte)) [] refl stays
 breaks_at_once s t (lines.FailDonor call) stays = at_once s t (lines.FailDonor call) (ordered to_donor (orders.FailAt call)) [] refl stays
 breaks_at_once s t (lines.FailRecipient call) stays = at_once s t (lines.FailRecipient call) (ordered to_recipient (orders.FailAt call)) [] refl stays
-breaks_at_once s t lines.Clone stays = at_once s t lines.Clone _ [] (is_broken refl) stays
+breaks_at_once s t lines.Start stays = at_once s t lines.Start started [] (started, tt, refl) stays
+breaks_at_once s t lines.Advance stays = at_once s t lines.Advance not_started [] (not_started, tt, refl) stays
+breaks_at_once s t lines.Finish stays = at_once s t lines.Finish not_started [] (not_started, tt, refl) stays
+breaks_at_once s t lines.Look stays = at_once s t lines.Look (looked 0) [] (looked 0, tt, refl) stays
+breaks_at_once s t (lines.Archive bytes) stays = at_once s t (lines.Archive bytes) (archived bytes None) [] (archived bytes None, refl, refl) stays
+breaks_at_once s t lines.Clone stays = at_once s t lines.Clone started (not_started ∷ []) (started, not_started, tt, tt, refl) stays
 breaks_at_once s t lines.Rows stays = at_once s t lines.Rows incomplete [] (not_there refl) stays
 
 -- whatever the result, nothing of the plain donor has changed
@@ -145,12 +151,12 @@ notes_answer bytes s t line e (Ok a) makes is = record { events = e ∷ []; step
 pub tear_makes : (next : ℕ → ℕ) (line : Line) (byte : ℕ) → line ≡ lines.Tear byte → Makes next line (ordered to_donor (orders.Tear byte) ∷ [])
 tear_makes next line byte is = let P : Line → Type 0 = λ l. Makes next l (ordered to_donor (orders.Tear byte) ∷ []) in subst P (sym is) refl
 
-pub fail_donor_makes : (next : ℕ → ℕ) (line : Line) (call at : ℕ) → line ≡ lines.FailDonor call → at ≡ call → Makes next line (ordered to_donor (orders.FailAt at) ∷ [])
-fail_donor_makes next line call at is same =
-    let P : Line → Type 0 = λ l. Makes next l (ordered to_donor (orders.FailAt at) ∷ []) in
-    subst P (sym is) (ap (λ (n : ℕ). ordered to_donor (orders.FailAt n) ∷ []) same)
+pub fail_donor_makes : (next : ℕ → ℕ) (line : Line) (call : ℕ) (order : DiskOrder) → line ≡ lines.FailDonor call → order ≡ orders.FailAt call → Makes next line (ordered to_donor order ∷ [])
+fail_donor_makes next line call order is same =
+    let P : Line → Type 0 = λ l. Makes next l (ordered to_donor order ∷ []) in
+    subst P (sym is) (ap (λ (o : DiskOrder). ordered to_donor o ∷ []) same)
 
-pub fail_recipient_makes : (next : ℕ → ℕ) (line : Line) (call at : ℕ) → line ≡ lines.FailRecipient call → at ≡ call → Makes next line (ordered to_recipient (orders.FailAt at) ∷ [])
-fail_recipient_makes next line call at is same =
-    let P : Line → Type 0 = λ l. Makes next l (ordered to_recipient (orders.FailAt at) ∷ []) in
-    subst P (sym is) (ap (λ (n : ℕ). ordered to_recipient (orders.FailAt n) ∷ []) same)
+pub fail_recipient_makes : (next : ℕ → ℕ) (line : Line) (call : ℕ) (order : DiskOrder) → line ≡ lines.FailRecipient call → order ≡ orders.FailAt call → Makes next line (ordered to_recipient order ∷ [])
+fail_recipient_makes next line call order is same =
+    let P : Line → Type 0 = λ l. Makes next l (ordered to_recipient order ∷ []) in
+    subst P (sym is) (ap (λ (o : DiskOrder). ordered to_recipient o ∷ []) same)

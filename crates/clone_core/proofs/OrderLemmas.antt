@@ -1,22 +1,23 @@
 -- Each disk gets the orders of the lines that are for it, and no others.
-use Rattle.std.proofs.Common.{◌≡◌, ℕ, List, [], ◌∷◌, ◌++◌, refl, sym, ap, ◌∙◌, subst, Option, None, Some, append_assoc, append-nil, filter_map, flat_map}
+use Rattle.std.proofs.Common.{◌≡◌, ◌≤◌, ℕ, List, [], ◌∷◌, ◌++◌, refl, sym, ap, ◌∙◌, subst, arith, Option, None, Some, append_assoc, append-nil, filter_map, flat_map}
 use Rattle.std.specs.List.{AllByRecursion, cons_option}
 use Rattle.clone_outside.specs.declared.disk.DiskOrder.{DiskOrder}
-use Rattle.clone_model.specs.declared.line.Line.{Line}
-use Rattle.clone_model.specs.declared.line.Line.TheVariants as lines
+use Rattle.clone_script.specs.declared.lines.Line.{Line}
+use Rattle.clone_script.specs.declared.lines.Line.TheVariants as lines
 use Rattle.clone_plain.specs.Calls.{Call, call_of, refused}
-use Rattle.clone_events.specs.Events.{Side, to_donor, to_recipient, Event, made, cleaned, completed, completed_before, broke, broke_before, showed, incomplete, hidden, damaged, ordered, Events}
-use Rattle.clone_events.specs.Headline.{all_events, donor_order, recipient_order}
-use Rattle.clone_events.specs.Runs.{Makes, MakesOne, MakesSet, not_begun, not_changed, set, MakesClean, all_clean, not_flushed, flushed, MakesClone, is_complete, was_complete, is_broken, was_broken, MakesRows, are_shown, not_there, not_read, not_sound}
-use Rattle.clone_engine.specs.Disks.{DiskState}
+use Rattle.clone_events.specs.Events.{Side, to_donor, to_recipient, Event, made, cleaned, looked, archived, started, started_before, readied, not_started, completed, completed_before, broke, broke_before, lost, lost_before, showed, incomplete, hidden, damaged, ordered, Events}
+use Rattle.clone_events.specs.Headline.{donor_order, recipient_order}
+use Rattle.clone_events.specs.Runs.{Makes, MakesOne, MakesSet, not_begun, not_changed, set, MakesClean, all_clean, not_flushed, flushed, MakesEvent, MakesClone, Starts, Advances, Finishes, Archives, Looks, MakesRows, are_shown, not_there, not_read, not_sound}
+use Rattle.clone_engine.specs.Disks.{DiskState, Visits}
 use Rattle.clone_engine.specs.Engine.{Engine}
-use Rattle.clone_core.specs.System.{System, SystemStep, donor_of}
+use Rattle.clone_donor.specs.Donor as staged
+use Rattle.clone_core.specs.System.{System, SystemStep, VisitsRecipient, CopiesOn, ArchivesTo, donor_of}
 use Rattle.clone_core.specs.Lines.{State, Runs}
-use Rattle.clone_core.proofs.StepLemmas.{made_visits}
+use Rattle.clone_core.proofs.StepLemmas.{made_visits, same_visits}
 
 -- the disk of a side
 abbrev pub disk_of : Side → System → DiskState
-disk_of to_donor s = s.donor.disk
+disk_of to_donor s = s.donor.engine.disk
 disk_of to_recipient s = s.recipient
 
 -- the order that goes to a side, of one that goes to another
@@ -28,60 +29,66 @@ order_for to_recipient to_recipient order = Some order
 
 -- the order that an event gives to the disk of a side
 abbrev pub order_in : Side → Event → Option DiskOrder
-order_in side (made m) = None
-order_in side (cleaned landed) = None
-order_in side (completed position) = None
-order_in side (completed_before position) = None
-order_in side broke = None
-order_in side broke_before = None
-order_in side (showed rows) = None
-order_in side incomplete = None
-order_in side hidden = None
-order_in side (damaged space page why) = None
 order_in side (ordered to order) = order_for side to order
+order_in side event = None
 
 -- the order that a line gives to it
 abbrev pub order_of : Side → Line → Option DiskOrder
 order_of to_donor line = donor_order line
 order_of to_recipient line = recipient_order line
 
--- the disk got the order that there is
-abbrev pub Gets : Side → System → System → Option DiskOrder → Type 0
-Gets side s t order = (disk_of side t).orders ≡ (disk_of side s).orders ++ cons_option order []
+-- the disk got the order that there is, and its count of faults doesn't fall
+pub record Gets (side : Side) (s t : System) (order : Option DiskOrder) : Type 0 where
+  pub later : (disk_of side s).failures ≤ (disk_of side t).failures
+  pub orders : (disk_of side t).orders ≡ (disk_of side s).orders ++ cons_option order []
 
-gets_none : (side : Side) (s t : System) → (disk_of side t).orders ≡ (disk_of side s).orders → Gets side s t None
-gets_none side s t same = same ∙ sym (append-nil (disk_of side s).orders)
+visits_get : (side : Side) (s t : System) → Visits (disk_of side s) (disk_of side t) → Gets side s t None
+visits_get side s t is = record { later = is.later; orders = is.orders ∙ sym (append-nil (disk_of side s).orders) }
+
+-- both disks are visited
+both_get : (side : Side) (s t : System) → Visits s.donor.engine.disk t.donor.engine.disk → Visits s.recipient t.recipient → Gets side s t None
+both_get to_donor s t donor recipient = visits_get to_donor s t donor
+both_get to_recipient s t donor recipient = visits_get to_recipient s t recipient
 
 same_gets : (side : Side) (s t : System) → t ≡ s → Gets side s t None
-same_gets side s t is = gets_none side s t (ap (λ (w : System). (disk_of side w).orders) is)
+same_gets side s t is = visits_get side s t (same_visits _ _ (ap (disk_of side) is))
 
-recipient_gets : (side : Side) (s t : System) → t.donor ≡ s.donor → t.recipient.orders ≡ s.recipient.orders → Gets side s t None
-recipient_gets to_donor s t donor orders = gets_none to_donor s t (ap (λ (e : Engine). e.disk.orders) donor)
-recipient_gets to_recipient s t donor orders = gets_none to_recipient s t orders
+recipient_gets : (side : Side) (s t : System) → VisitsRecipient s t → Gets side s t None
+recipient_gets side s t is = both_get side s t (same_visits _ _ (ap (λ (d : staged.Donor). d.engine.disk) is.donor)) is.recipient
 
-made_gets : (side : Side) (s t : System) → t.donor.disk.orders ≡ s.donor.disk.orders → t.recipient ≡ s.recipient → Gets side s t None
-made_gets to_donor s t donor recipient = gets_none to_donor s t donor
-made_gets to_recipient s t donor recipient = gets_none to_recipient s t (ap (λ (d : DiskState). d.orders) recipient)
+copies_get : (side : Side) (s t : System) → CopiesOn s t → Gets side s t None
+copies_get side s t is = both_get side s t is.donor.disk is.recipient
+
+archives_get : (side : Side) (limit : ℕ) (reached : Option ℕ) (s t : System) → ArchivesTo limit reached s t → Gets side s t None
+archives_get side limit reached s t is = both_get side s t (same_visits _ _ (ap (λ (e : Engine). e.disk) is.archives.1)) (same_visits _ _ is.recipient)
 
 donor_gets : (side : Side) (s t : System) (order : DiskOrder) → SystemStep s (ordered to_donor order) t → Gets side s t (order_for side to_donor order)
-donor_gets to_donor s t order is = ap (λ (w : System). w.donor.disk.orders) is
-donor_gets to_recipient s t order is = gets_none to_recipient s t (ap (λ (w : System). w.recipient.orders) is)
+donor_gets to_donor s t order is = record { later = omega (arith, ap (λ (w : System). w.donor.engine.disk.failures) is); orders = ap (λ (w : System). w.donor.engine.disk.orders) is }
+donor_gets to_recipient s t order is = visits_get to_recipient s t (same_visits _ _ (ap (λ (w : System). w.recipient) is))
 
 for_recipient_gets : (side : Side) (s t : System) (order : DiskOrder) → SystemStep s (ordered to_recipient order) t → Gets side s t (order_for side to_recipient order)
-for_recipient_gets to_donor s t order is = gets_none to_donor s t (ap (λ (w : System). w.donor.disk.orders) is)
-for_recipient_gets to_recipient s t order is = ap (λ (w : System). w.recipient.orders) is
+for_recipient_gets to_donor s t order is = visits_get to_donor s t (same_visits _ _ (ap (λ (w : System). w.donor.engine.disk) is))
+for_recipient_gets to_recipient s t order is = record { later = omega (arith, ap (λ (w : System). w.recipient.failures) is); orders = ap (λ (w : System). w.recipient.orders) is }
 
-event_gets : (side : Side) (s : System) (e : Event) (t : System) → SystemStep s e t → Gets side s t (order_in side e)
-event_gets side s (made m) t is = made_gets side s t (made_visits s.donor t.donor m is.0).orders is.1
+pub event_gets : (side : Side) (s : System) (e : Event) (t : System) → SystemStep s e t → Gets side s t (order_in side e)
+event_gets side s (made m) t is = both_get side s t (made_visits s.donor t.donor m is.0) (same_visits _ _ is.1)
 event_gets side s (cleaned landed) t is = same_gets side s t is
-event_gets side s (completed position) t is = recipient_gets side s t is.donor is.recipient.orders
+event_gets side s (looked position) t is = same_gets side s t is
+event_gets side s (archived limit reached) t is = archives_get side limit reached s t is
+event_gets side s started t is = recipient_gets side s t is
+event_gets side s started_before t is = same_gets side s t is
+event_gets side s (readied stages) t is = copies_get side s t is
+event_gets side s not_started t is = same_gets side s t is
+event_gets side s (completed position) t is = copies_get side s t is
 event_gets side s (completed_before position) t is = same_gets side s t is
-event_gets side s broke t is = recipient_gets side s t is.visits.donor is.visits.recipient.orders
+event_gets side s broke t is = copies_get side s t is.0
 event_gets side s broke_before t is = same_gets side s t is
-event_gets side s (showed rows) t is = recipient_gets side s t is.donor is.recipient.orders
-event_gets side s incomplete t is = recipient_gets side s t is.donor is.recipient.orders
-event_gets side s hidden t is = recipient_gets side s t is.visits.donor is.visits.recipient.orders
-event_gets side s (damaged space page why) t is = recipient_gets side s t is.0.donor is.0.recipient.orders
+event_gets side s lost t is = copies_get side s t is.0
+event_gets side s lost_before t is = same_gets side s t is
+event_gets side s (showed rows) t is = recipient_gets side s t is
+event_gets side s incomplete t is = recipient_gets side s t is
+event_gets side s hidden t is = recipient_gets side s t is.visits
+event_gets side s (damaged space page why) t is = recipient_gets side s t is.0
 event_gets side s (ordered to_donor order) t is = donor_gets side s t order is
 event_gets side s (ordered to_recipient order) t is = for_recipient_gets side s t order is
 
@@ -93,13 +100,17 @@ cons-append (Some x) xs = refl
 abbrev GetsAll : Side → State → State → List DiskOrder → Type 0
 GetsAll side s t orders = (disk_of side t.donor).orders ≡ (disk_of side s.donor).orders ++ orders
 
-gets_behind : (side : Side) (s u t : State) (first : Option DiskOrder) (rest : List DiskOrder) → Gets side s.donor u.donor first → GetsAll side u t rest → GetsAll side s t (cons_option first rest)
+-- what it got by the first of them
+abbrev GetsOne : Side → State → State → Option DiskOrder → Type 0
+GetsOne side s u first = GetsAll side s u (cons_option first [])
+
+gets_behind : (side : Side) (s u t : State) (first : Option DiskOrder) (rest : List DiskOrder) → GetsOne side s u first → GetsAll side u t rest → GetsAll side s t (cons_option first rest)
 gets_behind side s u t first rest one more =
     more ∙ ap (λ os. os ++ rest) one ∙ append_assoc (disk_of side s.donor).orders (cons_option first []) rest ∙ ap (λ os. (disk_of side s.donor).orders ++ os) (sym (cons-append first rest))
 
 events_get : (side : Side) (s : State) (es : List Event) (t : State) → Events donor_of SystemStep s es t → GetsAll side s t (filter_map (order_in side) es)
 events_get side s [] t is = ap (λ (w : State). (disk_of side w.donor).orders) (sym is) ∙ sym (append-nil (disk_of side s.donor).orders)
-events_get side s (e ∷ es) t is = gets_behind side s is.0 t (order_in side e) (filter_map (order_in side) es) (event_gets side s.donor e is.0.donor is.1.step) (events_get side is.0 es t is.2)
+events_get side s (e ∷ es) t is = gets_behind side s is.0 t (order_in side e) (filter_map (order_in side) es) (event_gets side s.donor e is.0.donor is.1.step).orders (events_get side is.0 es t is.2)
 
 -- ---- the orders of a line
 
@@ -133,11 +144,33 @@ set_none side writer index table key value es (set trx last commits is) = ap (fi
 call_none : (side : Side) (call : Call) (es : List Event) → MakesOne call es → filter_map (order_in side) es ≡ []
 call_none side call es is = ap (filter_map (order_in side)) is.2
 
+-- no event of these kinds is an order
+starts_none : (side : Side) (e : Event) → Starts e → order_in side e ≡ None
+starts_none side (ordered to order) is = absurd is
+starts_none side e is = refl
+
+advances_none : (side : Side) (e : Event) → Advances e → order_in side e ≡ None
+advances_none side (ordered to order) is = absurd is
+advances_none side e is = refl
+
+finishes_none : (side : Side) (e : Event) → Finishes e → order_in side e ≡ None
+finishes_none side (ordered to order) is = absurd is
+finishes_none side e is = refl
+
+archives_none : (side : Side) (bytes : ℕ) (e : Event) → Archives bytes e → order_in side e ≡ None
+archives_none side bytes (ordered to order) is = absurd is
+archives_none side bytes e is = refl
+
+looks_none : (side : Side) (e : Event) → Looks e → order_in side e ≡ None
+looks_none side (ordered to order) is = absurd is
+looks_none side e is = refl
+
+one_none : (side : Side) (Kind : Event → Type 0) (es : List Event) → ((e : Event) → Kind e → order_in side e ≡ None) → MakesEvent Kind es → filter_map (order_in side) es ≡ []
+one_none side Kind es none is = ap (filter_map (order_in side)) is.2 ∙ ap (λ o. cons_option o []) (none is.0 is.1)
+
 clone_none : (side : Side) (es : List Event) → MakesClone es → filter_map (order_in side) es ≡ []
-clone_none side es (is_complete n is) = ap (filter_map (order_in side)) is
-clone_none side es (was_complete n is) = ap (filter_map (order_in side)) is
-clone_none side es (is_broken is) = ap (filter_map (order_in side)) is
-clone_none side es (was_broken is) = ap (filter_map (order_in side)) is
+clone_none side es is =
+    ap (filter_map (order_in side)) is.4 ∙ ap (λ o. cons_option o (cons_option (order_in side is.1) [])) (starts_none side is.0 is.2) ∙ ap (λ o. cons_option o []) (finishes_none side is.1 is.3)
 
 rows_none : (side : Side) (es : List Event) → MakesRows es → filter_map (order_in side) es ≡ []
 rows_none side es (are_shown rows is) = ap (filter_map (order_in side)) is
@@ -179,6 +212,11 @@ line_orders side next lines.Lsn es is = no_order side _ es refl refl (call_none 
 line_orders side next (lines.Tear byte) es is = to_donor_line side _ _ es refl refl is
 line_orders side next (lines.FailDonor call) es is = to_donor_line side _ _ es refl refl is
 line_orders side next (lines.FailRecipient call) es is = to_recipient_line side _ _ es refl refl is
+line_orders side next lines.Start es is = no_order side _ es refl refl (one_none side Starts es (starts_none side) is)
+line_orders side next lines.Advance es is = no_order side _ es refl refl (one_none side Advances es (advances_none side) is)
+line_orders side next lines.Finish es is = no_order side _ es refl refl (one_none side Finishes es (finishes_none side) is)
+line_orders side next lines.Look es is = no_order side _ es refl refl (one_none side Looks es (looks_none side) is)
+line_orders side next (lines.Archive bytes) es is = no_order side _ es refl refl (one_none side (Archives bytes) es (archives_none side bytes) is)
 line_orders side next lines.Clone es is = no_order side _ es refl refl (clone_none side es is)
 line_orders side next lines.Rows es is = no_order side _ es refl refl (rows_none side es is)
 

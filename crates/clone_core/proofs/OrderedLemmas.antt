@@ -1,92 +1,85 @@
 -- An order that a line gives to a disk.
 use Rattle.std.proofs.Common.{◌≡◌, ◌&&◌, ◌++◌, ◌∷◌, [], ℕ, Bool, refl, sym, ap, ◌∙◌, subst, Option, is_some, Result, Ok, Err, OnErr, codes}
+use Rattle.std.specs.FinMap as finite
+use Rattle.std.specs.Ordering.{nat_cmp}
 use Rattle.clone_outside.specs.Disk.{DiskImage}
 use Rattle.clone_outside.specs.declared.disk.DiskOrder.{DiskOrder}
 use Rattle.clone_plain.specs.Answers.{Text}
-use Rattle.clone_plain.specs.Donor.{Donor}
 use Rattle.clone_events.specs.World.{Clone}
 use Rattle.clone_events.specs.Events.{to_donor, to_recipient, ordered}
-use Rattle.clone_events.proofs.BinlogLemmas.{adds_none}
-use Rattle.clone_engine.specs.Disks.{DiskState, Orders, with_order}
-use Rattle.clone_engine.specs.Engine.{Engine}
-use Rattle.clone_core.specs.System.{tell}
+use Rattle.clone_engine.specs.Disks.{DiskState, with_order}
+use Rattle.clone_donor.specs.Donor as staged
+use Rattle.clone_donor.specs.Acts as act
+use Rattle.clone_donor.specs.Acts.{Acts}
+use Rattle.clone_core.specs.declared.world.Course.{Course}
 use Rattle.clone_core.specs.Lines.{State}
 use Rattle.clone_core.specs.Called.{Notes}
-use Rattle.clone_core.specs.Copied.{HoldsClone}
-use Rattle.clone_core.proofs.CallLemmas.{with_engine, holds_longer}
+use Rattle.clone_core.specs.Copied.{HoldsClone, clone_of}
 
--- nothing but its disk has changed
-abbrev DiskChanged : Engine → Engine → Type 0
-DiskChanged old new = new ≡ record old { disk = new.disk }
+-- the donor over another disk
+abbrev over : staged.Donor → DiskState → staged.Donor
+over d disk = record d { engine = record d.engine { disk = disk } }
 
--- what the disk holds is told as before
-pub orders_told : {X E : Type 0} (order : DiskOrder) (old new : DiskState) (result : Result X E) → Orders order old new result → new.told ≡ old.told
-orders_told order old new (Ok x) is = ap (λ (d : DiskState). d.told) is
-orders_told order old new (Err e) is = ap (λ (d : DiskState). d.told) is
+-- nothing but the donor's disk has changed
+same_donor : (d t : staged.Donor) (disk : DiskState) → t.engine.disk ≡ disk → Acts act.Orders d t → t ≡ over d disk
+same_donor d t disk is acts = acts.does.same ∙ ap (over d) (sym (ap (λ (x : staged.Donor). x.engine.disk) acts.does.same) ∙ is)
+
+-- ---- a world as its fields are
+
+module _ (begun : finite.FinMap nat_cmp ℕ) (way : Course) (floor : ℕ) (doubted shown : Bool) where
+  -- it, over this donor and this disk of a recipient
+  abbrev pub world_of : staged.Donor → DiskState → State
+  world_of d recipient = record {
+    donor = record { donor = d; recipient = recipient };
+    begun = begun;
+    clone = clone_of way d.cloning.stop floor doubted shown;
+    tells = is_some d.engine.disk.told && is_some recipient.told;
+  }
+
+  -- its disk got the order
+  pub donor_noted : (s : State) (d t : staged.Donor) (recipient : DiskState) (order : DiskOrder) (text : Text) → world_of d recipient ≡ s → t.engine.disk ≡ with_order order d.engine.disk → Acts act.Orders d t → text ≡ codes "noted" → Notes s (ordered to_donor order) text (world_of t recipient)
+  donor_noted s d t recipient order text is disk acts says =
+      let same : t ≡ over d (with_order order d.engine.disk) = same_donor d t (with_order order d.engine.disk) disk acts in
+      subst (λ (w : State). Notes w (ordered to_donor order) text (world_of t recipient)) is (record {
+        happened = record {
+          step = ap (λ (x : staged.Donor). record { donor = x; recipient = recipient }) same;
+          begun = refl;
+          clone = ap (λ (x : staged.Donor). clone_of way x.cloning.stop floor doubted shown) same;
+          tells = ap (λ (x : DiskState). is_some x.told && is_some recipient.told) disk;
+          sees = λ _. tt;
+        };
+        is = says;
+      })
+
+  -- there was no memory for it
+  pub donor_kept : (s : State) (d t : staged.Donor) (recipient : DiskState) → world_of d recipient ≡ s → t.engine.disk ≡ d.engine.disk → Acts act.Orders d t → world_of t recipient ≡ s
+  donor_kept s d t recipient is disk acts = ap (λ (x : staged.Donor). world_of x recipient) (same_donor d t d.engine.disk disk acts) ∙ is
+
+  -- the recipient's disk got it
+  pub recipient_noted : (s : State) (d : staged.Donor) (old new : DiskState) (order : DiskOrder) (text : Text) → world_of d old ≡ s → new.told ≡ old.told → new.failures ≡ old.failures → new.orders ≡ old.orders ++ order ∷ [] → text ≡ codes "noted" → Notes s (ordered to_recipient order) text (world_of d new)
+  recipient_noted s d old new order text is told failures orders says =
+      let disk : new ≡ with_order order old = λ i. record { told = told i; failures = failures i; orders = orders i } in
+      subst (λ (w : State). Notes w (ordered to_recipient order) text (world_of d new)) is (record {
+        happened = record {
+          step = ap (λ (x : DiskState). record { donor = d; recipient = x }) disk;
+          begun = refl;
+          clone = refl;
+          tells = ap (λ (o : Option DiskImage). is_some d.engine.disk.told && is_some o) told;
+          sees = λ _. tt;
+        };
+        is = says;
+      })
+
+  -- there was no memory for it
+  pub recipient_kept : (s : State) (d : staged.Donor) (old new : DiskState) → world_of d old ≡ s → new.told ≡ old.told → new.failures ≡ old.failures → new.orders ≡ old.orders → world_of d new ≡ s
+  recipient_kept s d old new is told failures orders =
+      let disk : new ≡ old = λ i. record { told = told i; failures = failures i; orders = orders i } in
+      ap (world_of d) disk ∙ is
+
+-- what the recipient's disk holds of the clone stands
+pub recipient_holds : (d : staged.Donor) (donor_tells : Bool) (clone : Clone) (old new : Option DiskImage) (way : Course) → new ≡ old → HoldsClone d (donor_tells && is_some old) clone old way → HoldsClone d (donor_tells && is_some new) clone new way
+recipient_holds d donor_tells clone old new way same holds = subst (λ (o : Option DiskImage). HoldsClone d (donor_tells && is_some o) clone o way) (sym same) holds
 
 pub on_err : {X E : Type 0} (result : Result X E) (P : Type 0) → P → OnErr result P
 on_err (Ok x) P is = tt
 on_err (Err e) P is = is
-
--- the donor's disk got the order
-pub donor_noted : (r s : State) (e : Engine) (order : DiskOrder) (text : Text) → r ≡ s → r.tells ≡ tell r.donor → e.disk ≡ with_order order r.donor.donor.disk → DiskChanged r.donor.donor e → text ≡ codes "noted" → Notes s (ordered to_donor order) text (with_engine r e r.begun)
-donor_noted r s e order text is tells disk same says =
-    let P : State → Type 0 = λ w. Notes w (ordered to_donor order) text (with_engine r e r.begun) in
-    let engine : e ≡ record r.donor.donor { disk = with_order order r.donor.donor.disk } = same ∙ ap (λ (d : DiskState). record r.donor.donor { disk = d }) disk in
-    subst P is (record {
-      happened = record {
-        step = ap (λ (x : Engine). record r.donor { donor = x }) engine;
-        begun = refl;
-        clone = refl;
-        tells = ap (λ (d : DiskState). is_some d.told && is_some r.donor.recipient.told) disk ∙ sym tells;
-        sees = λ _. tt;
-      };
-      is = says;
-    })
-
--- there was no memory for it
-pub donor_kept : (r s : State) (e : Engine) → r ≡ s → r.tells ≡ tell r.donor → e.disk ≡ r.donor.donor.disk → DiskChanged r.donor.donor e → with_engine r e r.begun ≡ s
-donor_kept r s e is tells disk same =
-    let engine : e ≡ r.donor.donor = same ∙ ap (λ (d : DiskState). record r.donor.donor { disk = d }) disk in
-    ap (λ (x : Engine). with_engine r x r.begun) engine ∙ ap (λ (b : Bool). record r { tells = b }) (sym tells) ∙ is
-
--- what the recipient's disk holds of the clone stands
-pub donor_holds : (old new : Engine) (clone : Clone) (told : Option DiskImage) → DiskChanged old new → new.disk.told ≡ old.disk.told → HoldsClone old.donor (is_some old.disk.told && is_some told) clone told → HoldsClone new.donor (is_some new.disk.told && is_some told) clone told
-donor_holds old new clone told same disk holds =
-    let added = adds_none old.donor new.donor (ap (λ (e : Engine). e.donor.binlog) same) (ap (λ (e : Engine). e.donor.drops) same) in
-    holds_longer old.donor new.donor [] _ _ clone told added (ap (λ (o : Option DiskImage). is_some o && is_some told) disk) holds
-
--- the recipient's disk has become this one, and the clone that
-abbrev pub with_recipient : State → DiskState → Clone → State
-with_recipient s d clone = record {
-  donor = record { donor = s.donor.donor; recipient = d };
-  begun = s.begun;
-  clone = clone;
-  tells = is_some s.donor.donor.disk.told && is_some d.told;
-}
-
--- it got the order
-pub recipient_noted : (r s : State) (d : DiskState) (order : DiskOrder) (text : Text) → r ≡ s → r.tells ≡ tell r.donor → d.told ≡ r.donor.recipient.told → d.failures ≡ r.donor.recipient.failures → d.orders ≡ r.donor.recipient.orders ++ order ∷ [] → text ≡ codes "noted"
-    → Notes s (ordered to_recipient order) text (with_recipient r d r.clone)
-recipient_noted r s d order text is tells told failures orders says =
-    let P : State → Type 0 = λ w. Notes w (ordered to_recipient order) text (with_recipient r d r.clone) in
-    let disk : d ≡ with_order order r.donor.recipient = λ i. record { told = told i; failures = failures i; orders = orders i } in
-    subst P is (record {
-      happened = record {
-        step = ap (λ (x : DiskState). record r.donor { recipient = x }) disk;
-        begun = refl;
-        clone = refl;
-        tells = ap (λ (o : Option DiskImage). is_some r.donor.donor.disk.told && is_some o) told ∙ sym tells;
-        sees = λ _. tt;
-      };
-      is = says;
-    })
-
--- there was no memory for it
-pub recipient_kept : (r s : State) (d : DiskState) → r ≡ s → r.tells ≡ tell r.donor → d.told ≡ r.donor.recipient.told → d.failures ≡ r.donor.recipient.failures → d.orders ≡ r.donor.recipient.orders → with_recipient r d r.clone ≡ s
-recipient_kept r s d is tells told failures orders =
-    let disk : d ≡ r.donor.recipient = λ i. record { told = told i; failures = failures i; orders = orders i } in
-    ap (λ (x : DiskState). with_recipient r x r.clone) disk ∙ ap (λ (b : Bool). record r { tells = b }) (sym tells) ∙ is
-
-pub recipient_holds : (d : Donor) (donor_tells : Bool) (clone : Clone) (old new : Option DiskImage) → new ≡ old → HoldsClone d (donor_tells && is_some old) clone old → HoldsClone d (donor_tells && is_some new) clone new
-recipient_holds d donor_tells clone old new same holds = let P : Option DiskImage → Type 0 = λ o. HoldsClone d (donor_tells && is_some o) clone o in subst P (sym same) holds

@@ -1,11 +1,11 @@
 -- A disk that was recovered just now: its rows, and why they weren't read.
-use Rattle.std.proofs.Common.{◌≡◌, ◌<◌, ◌^◌, ℕ, List, true, false, refl, sym, ap, ◌∙◌, subst, Option, Some, None, is_some, Result, Ok, Err, IfOk, IfErr, Vec}
+use Rattle.std.proofs.Common.{◌≡◌, ◌<◌, ◌^◌, true, false, refl, sym, ◌∙◌, subst, Option, Some, None, is_some, Result, Ok, Err, IfOk, IfErr, Vec}
 use Rattle.std.specs.Prelude.{IsErrOf}
 use Rattle.std.specs.declared.alloc.Global.{Global}
 use Rattle.clone_outside.specs.Disk.{DiskImage, ForTold}
 use Rattle.clone_outside.specs.declared.mark.Mark.TheVariants as mark
 use Rattle.clone_model.specs.History.{Row}
-use Rattle.clone_recover.specs.Listing.{ListsRows, ListsRowsOn}
+use Rattle.clone_recover.specs.Listing.{ListsRowsOn}
 use Rattle.clone_recover.specs.Restores.{Answers, ForStep, HasRecovered, IsCause, IsUnrecovered, IsRowsCause, incomplete, complete, unmarked, under_way}
 use Rattle.clone_recover.specs.declared.recovery.Recovered.{Recovered}
 use Rattle.clone_recover.specs.declared.refusal.RecoverRefusal.{RecoverRefusal}

@@ -1,9 +1,9 @@
 -- What a run of a world from the beginning says, by the laws of plain runs.
-use Rattle.std.proofs.Common.{◌≡◌, ◌≤◌, ◌⊎◌, ℕ, List, [], ◌∷◌, length, Bool, true, sym, ap, subst}
+use Rattle.std.proofs.Common.{◌≡◌, ◌≤◌, ℕ, List, length, Bool, sym, ap, subst}
 use Rattle.clone_outside.specs.Causes.{Rose}
-use Rattle.clone_model.specs.declared.line.Line.{Line}
+use Rattle.clone_script.specs.declared.lines.Line.{Line}
 use Rattle.clone_plain.specs.Donor.{Donor}
-use Rattle.clone_events.specs.Events.{Event}
+use Rattle.clone_events.specs.Events.{Side, Event}
 use Rattle.clone_events.specs.Headline.{AreCommits, AreSets, ShowsStop, all_events}
 use Rattle.clone_events.specs.World.{Stop, Clone, IsWithin, no_clone, opened}
 use Rattle.std.specs.declared.option.Option.{Option}
@@ -15,7 +15,8 @@ use Rattle.clone_events.proofs.StopLemmas.{IsStop, shows_stop}
 use Rattle.clone_core.specs.System.{SystemStep, donor_of}
 use Rattle.clone_core.specs.Lines.{State, IsNew, Runs}
 use Rattle.clone_core.proofs.StepLemmas.{refines}
-use Rattle.clone_core.proofs.FaultLemmas.{events_met, met_since}
+use Rattle.clone_core.proofs.OrderLemmas.{disk_of}
+use Rattle.clone_core.proofs.FaultLemmas.{MetFault, events_met, met_since}
 
 pub run_commits : (s : State) (lines : List Line) (events : List (List Event)) (t : State) → IsNew s → Runs s lines events t → AreCommits (all_events events) (donor_of t.donor).binlog
 run_commits s lines events t new run =
@@ -45,5 +46,5 @@ run_within s lines events t n new run le =
     let from : Runs (opened s.donor s.tells) lines events t = subst P (λ i. record { donor = s.donor; begun = new.begun i; clone = new.clone i; tells = s.tells }) run in
     Runs-IsWithin donor_of SystemStep refines s.donor (ap (λ (d : Donor). d.binlog) new.donor.donor) s.tells lines events t n from le
 
-pub run_fault : (s : State) (lines : List Line) (events : List (List Event)) (t : State) → IsNew s → Runs s lines events t → ((t.clone.broken ≡ true) ⊎ (t.clone.doubted ≡ true)) → Rose s.donor.recipient.failures t.donor.recipient.failures
-run_fault s lines events t new run met = met_since s t new.clone (events_met s (all_events events) t (Runs-Events donor_of SystemStep s lines events t run) met)
+pub run_fault : (side : Side) (s : State) (lines : List Line) (events : List (List Event)) (t : State) → IsNew s → Runs s lines events t → MetFault side t.clone → Rose (disk_of side s.donor).failures (disk_of side t.donor).failures
+run_fault side s lines events t new run met = met_since side s t new.clone (events_met side s (all_events events) t (Runs-Events donor_of SystemStep s lines events t run) met)

@@ -1,7 +1,7 @@
 -- What a `set` does, by what its calls answered.
 use Rattle.std.proofs.Common.{◌≡◌, ℕ, ◌+◌, List, [], ◌∷◌, ◌++◌, length, refl, sym, ap, ◌∙◌, subst, Result, Ok, Err, IfOk, OnErr, MatchResult, IsErr, IsErrAnd, codes, decimal}
 use Rattle.std.specs.declared.alloc.AllocError.{AllocError}
-use Rattle.clone_model.specs.declared.line.Line.TheVariants as lines
+use Rattle.clone_script.specs.declared.lines.Line.TheVariants as lines
 use Rattle.clone_plain.specs.declared.refusal.Cause.TheVariants.{NoSuchTrx}
 use Rattle.clone_plain.specs.declared.refusal.EngineRefusal.{EngineRefusal}
 use Rattle.clone_plain.specs.declared.refusal.EngineRefusal.TheVariants.{Because, NoMemory}

@@ -1,5 +1,5 @@
 -- A step of a donor and the disk of a recipient is one of the plain donor, and its disks stay theirs.
-use Rattle.std.proofs.Common.{◌≡◌, ◌⊎◌, inl, inr, ℕ, List, true, refl, sym, ap, ◌∙◌, arith, Option, None, Some, is_some, Result, Ok, Err}
+use Rattle.std.proofs.Common.{◌≡◌, ◌⊎◌, inl, inr, ℕ, List, true, refl, sym, ap, ◌∙◌, subst, arith, Option, None, Some, is_some, Result, Ok, Err}
 use Rattle.clone_model.specs.declared.change.Change.{Change}
 use Rattle.clone_buffer.specs.Buffered.{Buffered}
 use Rattle.clone_plain.specs.declared.refusal.Cause.{Cause}
@@ -8,8 +8,8 @@ use Rattle.clone_plain.specs.declared.refusal.EngineRefusal.{EngineRefusal}
 use Rattle.clone_plain.specs.declared.refusal.EngineRefusal.TheVariants.{Because, NoMemory}
 use Rattle.clone_plain.specs.Donor.{Donor}
 use Rattle.clone_plain.specs.Effects.{put_of, delete_of}
-use Rattle.clone_plain.specs.Calls.{Call, create, begin, put, delete, get, undo_one, commit, flush_begin, flush_half, flush_land, oldest_dirty, checkpoint, end, Done, did_create, did_begin, did_put, did_delete, did_get, did_undo_one, did_commit, did_flush_begin, did_flush_half, did_flush_land, did_oldest_dirty, did_checkpoint, did_end, Made, done, refused, call_of, cause_of, is_below, PlainStep}
-use Rattle.clone_events.specs.Events.{to_donor, to_recipient, Event, made, cleaned, completed, completed_before, broke, broke_before, showed, incomplete, hidden, damaged, ordered, PlainEvent}
+use Rattle.clone_plain.specs.Calls.{Call, create, begin, put, delete, get, undo_one, commit, flush_begin, flush_half, flush_land, oldest_dirty, checkpoint, end, Done, did_create, did_begin, did_put, did_delete, did_get, did_undo_one, did_commit, did_flush_begin, did_flush_half, did_flush_land, did_oldest_dirty, did_checkpoint, did_end, Made, done, refused, call_of, cause_of, is_below, IsRefused, PlainStep}
+use Rattle.clone_events.specs.Events.{to_donor, to_recipient, Event, made, cleaned, looked, archived, started, started_before, readied, not_started, completed, completed_before, broke, broke_before, lost, lost_before, showed, incomplete, hidden, damaged, ordered, PlainEvent}
 use Rattle.clone_trx.specs.Ways.{Way, reads, stops, writes, makes, ends, Goes, Writes, Misses, Answers, held, page_in}
 use Rattle.clone_trx.specs.Ways as ways
 use Rattle.clone_trx.specs.Calls.{undo_last, change_at}
@@ -19,8 +19,11 @@ use Rattle.clone_pool.specs.declared.pool.FetchRefusal.{FetchRefusal}
 use Rattle.clone_pool.specs.declared.pool.FetchRefusal.TheVariants as fetch
 use Rattle.clone_engine.specs.Disks.{DiskState, Visits}
 use Rattle.clone_engine.specs.Engine.{Engine}
-use Rattle.clone_engine.specs.Steps.{Steps, EngineStep, AnswersWith, Looks, Ends, ChecksAt, Flushes, AnswersFlush, Transacts, Did, way_of, refusal_of}
-use Rattle.clone_core.specs.System.{System, SystemStep, donor_of}
+use Rattle.clone_engine.specs.Steps.{Looks, Ends, Flushes, Transacts, Did, way_of, refusal_of}
+use Rattle.clone_session.specs.Cloning.{Session}
+use Rattle.clone_donor.specs.Donor as staged
+use Rattle.clone_donor.specs.Serving.{AnswersCall, Creates, Serves, ServesAs}
+use Rattle.clone_core.specs.System.{System, SystemStep, CallStep, donor_of}
 
 -- whatever is read, the way stops for a cause below alone
 abbrev pub StopsBelow : Way → Type 0
@@ -94,8 +97,15 @@ answered_refused None way d e old new cause P below is = (inr (refl, goes_below 
 pub transacted : (call : Call) (s t : Engine) (did : Done) → Transacts call s t (Ok did) → (cause_of s.donor call ≡ None) × Did call s t did
 transacted call s t did is = answered_done (cause_of s.donor call) (way_of s.donor call) s.donor t.donor s.buffer t.buffer did (Did call s t) is.goes
 
+-- what is against a call refuses it
+is_refused : (d : Donor) (call : Call) (cause : Cause) → (cause_of d call ≡ Some cause) ⊎ ((cause_of d call ≡ None) × (is_below cause ≡ true)) → IsRefused d call cause
+is_refused d (create table buckets) (causes.CloneRunning session) why = tt
+is_refused d call cause why = why
+
 not_transacted : (call : Call) (s t : Engine) (cause : Cause) → Transacts call s t (Err (Because cause)) → PlainStep s.donor (refused call cause) t.donor
-not_transacted call s t cause is = answered_refused (cause_of s.donor call) (way_of s.donor call) s.donor t.donor s.buffer t.buffer cause (Did call s t) (way_below s.donor call) is.goes
+not_transacted call s t cause is =
+    let at = answered_refused (cause_of s.donor call) (way_of s.donor call) s.donor t.donor s.buffer t.buffer cause (Did call s t) (way_below s.donor call) is.goes in
+    (is_refused s.donor call cause at.0, at.1)
 
 not_memory : {a : Cause} → ◌≡◌ {A = EngineRefusal} (Because a) NoMemory → ⊥
 not_memory is = cc
@@ -109,156 +119,210 @@ flush_below cause flush.DiskFault is = below_of cause _ (because is) refl
 flush_below cause flush.NoMemory is = absurd (not_memory is)
 
 not_flushed : (did : Done) (call : Call) (s t : Engine) (cause : Cause) (Does : Result (Unit {0}) FlushRefusal → Type 0) → cause_of s.donor call ≡ None → Flushes did s t (Err (Because cause)) Does → PlainStep s.donor (refused call cause) t.donor
-not_flushed did call s t cause Does none is = (inr (none, flush_below cause is.does.0 is.does.1), is.donor)
+not_flushed did call s t cause Does none is = (is_refused s.donor call cause (inr (none, flush_below cause is.does.0 is.does.1)), is.donor)
 
--- looks, checkpoints and ends that were answered
+-- a look for the oldest dirty page, and the log's end
 looks_same : (s t : Engine) (did : Done) → Looks s t did → t ≡ s
-looks_same s t (did_create table buckets) is = absurd is
-looks_same s t (did_begin writer index trx) is = absurd is
-looks_same s t (did_put trx table key value) is = absurd is
-looks_same s t (did_delete trx table key) is = absurd is
-looks_same s t (did_get trx table key value) is = absurd is
-looks_same s t (did_undo_one trx undone) is = absurd is
-looks_same s t (did_commit trx position) is = absurd is
-looks_same s t (did_flush_begin space page) is = absurd is
-looks_same s t (did_flush_half space page) is = absurd is
-looks_same s t (did_flush_land space page) is = absurd is
 looks_same s t (did_oldest_dirty page) is = is.1
-looks_same s t (did_checkpoint lsn) is = absurd is
-looks_same s t (did_end lsn) is = absurd is
+looks_same s t did is = absurd is
 
 ends_same : (s t : Engine) (did : Done) → Ends s t did → t ≡ s
-ends_same s t (did_create table buckets) is = absurd is
-ends_same s t (did_begin writer index trx) is = absurd is
-ends_same s t (did_put trx table key value) is = absurd is
-ends_same s t (did_delete trx table key) is = absurd is
-ends_same s t (did_get trx table key value) is = absurd is
-ends_same s t (did_undo_one trx undone) is = absurd is
-ends_same s t (did_commit trx position) is = absurd is
-ends_same s t (did_flush_begin space page) is = absurd is
-ends_same s t (did_flush_half space page) is = absurd is
-ends_same s t (did_flush_land space page) is = absurd is
-ends_same s t (did_oldest_dirty page) is = absurd is
-ends_same s t (did_checkpoint lsn) is = absurd is
 ends_same s t (did_end lsn) is = is.1
-
-checks_disk : (s t : Engine) (did : Done) → ChecksAt s t did → t.disk ≡ s.disk
-checks_disk s t (did_create table buckets) is = absurd is
-checks_disk s t (did_begin writer index trx) is = absurd is
-checks_disk s t (did_put trx table key value) is = absurd is
-checks_disk s t (did_delete trx table key) is = absurd is
-checks_disk s t (did_get trx table key value) is = absurd is
-checks_disk s t (did_undo_one trx undone) is = absurd is
-checks_disk s t (did_commit trx position) is = absurd is
-checks_disk s t (did_flush_begin space page) is = absurd is
-checks_disk s t (did_flush_half space page) is = absurd is
-checks_disk s t (did_flush_land space page) is = absurd is
-checks_disk s t (did_oldest_dirty page) is = absurd is
-checks_disk s t (did_checkpoint lsn) is = is.disk
-checks_disk s t (did_end lsn) is = absurd is
+ends_same s t did is = absurd is
 
 -- THE PLAIN DONOR'S STEP
 
-pub done_refines : (s t : Engine) (did : Done) → EngineStep s (done did) t → PlainStep s.donor (done did) t.donor
-done_refines s t (did_create table buckets) is = let at = transacted _ s t _ is in (at.0, at.1.does)
-done_refines s t (did_begin writer index trx) is = let at = transacted _ s t _ is in (at.0, at.1.does)
-done_refines s t (did_put trx table key value) is = let at = transacted _ s t _ is in (at.0, at.1.does)
-done_refines s t (did_delete trx table key) is = let at = transacted _ s t _ is in (at.0, at.1.does)
-done_refines s t (did_get trx table key value) is = let at = transacted _ s t _ is in (at.0, at.1.does)
-done_refines s t (did_undo_one trx undone) is = let at = transacted _ s t _ is in (at.0, at.1.does)
-done_refines s t (did_commit trx position) is = let at = transacted _ s t _ is in (at.0, at.1.does)
-done_refines s t (did_flush_begin space page) is = (refl, is.donor)
-done_refines s t (did_flush_half space page) is = (refl, is.donor)
-done_refines s t (did_flush_land space page) is = (refl, is.donor)
-done_refines s t (did_oldest_dirty page) is = (refl, ap (λ (e : Engine). e.donor) is.1)
-done_refines s t (did_checkpoint lsn) is = (refl, is.donor)
-done_refines s t (did_end lsn) is = (refl, ap (λ (e : Engine). e.donor) is.1)
+-- the engine's step
+served_done : (d : staged.Donor) (e : Engine) (did : Done) → ServesAs (call_of did) d e (Ok did) → PlainStep d.engine.donor (done did) e.donor
+served_done d e (did_create table buckets) is = let at = transacted _ d.engine e _ is in (at.0, at.1.does)
+served_done d e (did_begin writer index trx) is = let at = transacted _ d.engine e _ is in (at.0, at.1.does)
+served_done d e (did_put trx table key value) is = let at = transacted _ d.engine e _ is in (at.0, at.1.does)
+served_done d e (did_delete trx table key) is = let at = transacted _ d.engine e _ is in (at.0, at.1.does)
+served_done d e (did_get trx table key value) is = let at = transacted _ d.engine e _ is in (at.0, at.1.does)
+served_done d e (did_undo_one trx undone) is = let at = transacted _ d.engine e _ is in (at.0, at.1.does)
+served_done d e (did_commit trx position) is = let at = transacted _ d.engine e _ is in (at.0, at.1.does)
+served_done d e (did_flush_begin space page) is = (refl, is.donor)
+served_done d e (did_flush_half space page) is = (refl, is.donor)
+served_done d e (did_flush_land space page) is = (refl, is.donor)
+served_done d e (did_oldest_dirty page) is = (refl, ap (λ (x : Engine). x.donor) is.1)
+served_done d e (did_checkpoint lsn) is = (refl, is.donor)
+served_done d e (did_end lsn) is = (refl, ap (λ (x : Engine). x.donor) is.1)
 
-pub refused_refines : (s t : Engine) (call : Call) (cause : Cause) → EngineStep s (refused call cause) t → PlainStep s.donor (refused call cause) t.donor
-refused_refines s t (create table buckets) cause is = not_transacted _ s t cause is
-refused_refines s t (begin writer index) cause is = not_transacted _ s t cause is
-refused_refines s t (put trx table key value) cause is = not_transacted _ s t cause is
-refused_refines s t (delete trx table key) cause is = not_transacted _ s t cause is
-refused_refines s t (get trx table key) cause is = not_transacted _ s t cause is
-refused_refines s t (undo_one trx) cause is = not_transacted _ s t cause is
-refused_refines s t (commit trx) cause is = not_transacted _ s t cause is
-refused_refines s t (flush_begin space page) cause is = not_flushed _ (flush_begin space page) s t cause _ refl is
-refused_refines s t (flush_half space page) cause is = not_flushed _ (flush_half space page) s t cause _ refl is
-refused_refines s t (flush_land space page) cause is = not_flushed _ (flush_land space page) s t cause _ refl is
-refused_refines s t oldest_dirty cause is = absurd is
-refused_refines s t checkpoint cause is = absurd is
-refused_refines s t end cause is = absurd is
+served_refused : (d : staged.Donor) (e : Engine) (call : Call) (cause : Cause) → ServesAs call d e (Err (Because cause)) → PlainStep d.engine.donor (refused call cause) e.donor
+served_refused d e (create table buckets) cause is = not_transacted _ d.engine e cause is
+served_refused d e (begin writer index) cause is = not_transacted _ d.engine e cause is
+served_refused d e (put trx table key value) cause is = not_transacted _ d.engine e cause is
+served_refused d e (delete trx table key) cause is = not_transacted _ d.engine e cause is
+served_refused d e (get trx table key) cause is = not_transacted _ d.engine e cause is
+served_refused d e (undo_one trx) cause is = not_transacted _ d.engine e cause is
+served_refused d e (commit trx) cause is = not_transacted _ d.engine e cause is
+served_refused d e (flush_begin space page) cause is = not_flushed _ (flush_begin space page) d.engine e cause _ refl is
+served_refused d e (flush_half space page) cause is = not_flushed _ (flush_half space page) d.engine e cause _ refl is
+served_refused d e (flush_land space page) cause is = not_flushed _ (flush_land space page) d.engine e cause _ refl is
+served_refused d e oldest_dirty cause is = absurd is
+served_refused d e checkpoint cause is = absurd is
+served_refused d e end cause is = absurd is
 
-made_refines : (s t : Engine) (m : Made) → EngineStep s m t → PlainStep s.donor m t.donor
-made_refines s t (done did) is = done_refines s t did is
-made_refines s t (refused call cause) is = refused_refines s t call cause is
+-- no table is made while a clone runs
+pub record IsRunning (call : Call) (d t : staged.Donor) (answer : Result Done EngineRefusal) : Type 0 where
+  pub table : ℕ
+  pub buckets : ℕ
+  pub is : call ≡ create table buckets
+  pub session : ℕ
+  pub refused : answer ≡ Err (Because (causes.CloneRunning session))
+  pub same : t ≡ d
+
+created : (o : Option Session) (table buckets : ℕ) (d t : staged.Donor) (answer : Result Done EngineRefusal) → Creates o table buckets d t answer → Serves (create table buckets) d t answer ⊎ IsRunning (create table buckets) d t answer
+created None table buckets d t answer is = inl is
+created (Some s) table buckets d t answer is = inr (record { table = table; buckets = buckets; is = refl; session = s.number; refused = is.0; same = is.1 })
+
+-- else a call is the engine's
+pub served : (call : Call) (d t : staged.Donor) (answer : Result Done EngineRefusal) → AnswersCall call d t answer → Serves call d t answer ⊎ IsRunning call d t answer
+served (create table buckets) d t answer is = created d.cloning.session table buckets d t answer is
+served call d t answer is = inl is
+
+done_refines : (d t : staged.Donor) (did : Done) → AnswersCall (call_of did) d t (Ok did) → PlainStep d.engine.donor (done did) t.engine.donor
+done_refines d t did is = elim (served (call_of did) d t (Ok did) is) [
+  | inl serves ↦ served_done d t.engine did serves.steps
+  | inr running ↦ absurd (not_ok running.refused)
+]
+
+running_refused : (d : Donor) (table buckets session : ℕ) (cause : Cause) → cause ≡ causes.CloneRunning session → IsRefused d (create table buckets) cause
+running_refused d table buckets session cause is = subst (IsRefused d (create table buckets)) (sym is) tt
+
+refused_refines : (d t : staged.Donor) (call : Call) (cause : Cause) → AnswersCall call d t (Err (Because cause)) → PlainStep d.engine.donor (refused call cause) t.engine.donor
+refused_refines d t call cause is = elim (served call d t (Err (Because cause)) is) [
+  | inl serves ↦ served_refused d t.engine call cause serves.steps
+  | inr running ↦ (subst (λ (c : Call). IsRefused d.engine.donor c cause) (sym running.is) (running_refused d.engine.donor running.table running.buckets running.session cause (same_because running.refused)), ap (λ (x : staged.Donor). x.engine.donor) running.same)
+]
+
+pub made_refines : (d t : staged.Donor) (m : Made) → CallStep d m t → PlainStep d.engine.donor m t.engine.donor
+made_refines d t (done did) is = done_refines d t did is
+made_refines d t (refused call cause) is = refused_refines d t call cause is
 
 same_donor : (s t : System) → t ≡ s → donor_of t ≡ donor_of s
 same_donor s t is = ap donor_of is
 
+of_donor : (s t : System) → t.donor ≡ s.donor → donor_of t ≡ donor_of s
+of_donor s t is = ap (λ (d : staged.Donor). d.engine.donor) is
+
 pub refines : (s t : System) (e : Event) → SystemStep s e t → PlainEvent (donor_of s) e (donor_of t)
 refines s t (made m) is = made_refines s.donor t.donor m is.0
 refines s t (cleaned landed) is = same_donor s t is
-refines s t (completed position) is = ap (λ (e : Engine). e.donor) is.donor
+refines s t (looked position) is = same_donor s t is
+refines s t (archived limit reached) is = ap (λ (e : Engine). e.donor) is.archives.1
+refines s t started is = of_donor s t is.donor
+refines s t started_before is = same_donor s t is
+refines s t (readied stages) is = is.donor.donor
+refines s t not_started is = same_donor s t is
+refines s t (completed position) is = is.donor.donor
 refines s t (completed_before position) is = same_donor s t is
-refines s t broke is = ap (λ (e : Engine). e.donor) is.visits.donor
+refines s t broke is = is.0.donor.donor
 refines s t broke_before is = same_donor s t is
-refines s t (showed rows) is = ap (λ (e : Engine). e.donor) is.donor
-refines s t incomplete is = ap (λ (e : Engine). e.donor) is.donor
-refines s t hidden is = ap (λ (e : Engine). e.donor) is.visits.donor
-refines s t (damaged space page why) is = ap (λ (e : Engine). e.donor) is.0.donor
+refines s t lost is = is.0.donor.donor
+refines s t lost_before is = same_donor s t is
+refines s t (showed rows) is = of_donor s t is.donor
+refines s t incomplete is = of_donor s t is.donor
+refines s t hidden is = of_donor s t is.visits.donor
+refines s t (damaged space page why) is = of_donor s t is.0.donor
 refines s t (ordered to_donor order) is = ap donor_of is
 refines s t (ordered to_recipient order) is = ap donor_of is
 
 -- WHAT A CALL DOES TO THE DONOR'S DISK
 
-same_visits : (s t : DiskState) → t ≡ s → Visits s t
+pub same_visits : (s t : DiskState) → t ≡ s → Visits s t
 same_visits s t is = record {
   later = omega (arith, ap (λ (d : DiskState). d.failures) is);
   orders = ap (λ (d : DiskState). d.orders) is;
   tells = ap (λ (d : DiskState). is_some d.told) is;
 }
 
-looked_visits : (s t : Engine) (answer : Result Done EngineRefusal) (P : Done → Type 0) → AnswersWith answer P → ((did : Done) → P did → t.disk ≡ s.disk) → Visits s.disk t.disk
-looked_visits s t (Ok did) P is same = same_visits s.disk t.disk (same did is)
-looked_visits s t (Err refusal) P is same = absurd is
+engine_visits : (s t : Engine) → t ≡ s → Visits s.disk t.disk
+engine_visits s t is = same_visits s.disk t.disk (ap (λ (e : Engine). e.disk) is)
 
-pub steps_visit : (call : Call) (s t : Engine) (answer : Result Done EngineRefusal) → Steps call s t answer → Visits s.disk t.disk
-steps_visit (create table buckets) s t answer is = is.disk.visits
-steps_visit (begin writer index) s t answer is = is.disk.visits
-steps_visit (put trx table key value) s t answer is = is.disk.visits
-steps_visit (delete trx table key) s t answer is = is.disk.visits
-steps_visit (get trx table key) s t answer is = is.disk.visits
-steps_visit (undo_one trx) s t answer is = is.disk.visits
-steps_visit (commit trx) s t answer is = is.disk.visits
-steps_visit (flush_begin space page) s t answer is = is.disk.visits
-steps_visit (flush_half space page) s t answer is = is.disk.visits
-steps_visit (flush_land space page) s t answer is = is.disk.visits
-steps_visit oldest_dirty s t answer is = looked_visits s t answer (Looks s t) is (λ did at. ap (λ (e : Engine). e.disk) (looks_same s t did at))
-steps_visit checkpoint s t answer is = looked_visits s t answer (ChecksAt s t) is (λ did at. checks_disk s t did at)
-steps_visit end s t answer is = looked_visits s t answer (Ends s t) is (λ did at. ap (λ (e : Engine). e.disk) (ends_same s t did at))
+served_visits : (call : Call) (d : staged.Donor) (e : Engine) (answer : Result Done EngineRefusal) → ServesAs call d e answer → Visits d.engine.disk e.disk
+served_visits (create table buckets) d e answer is = is.disk.visits
+served_visits (begin writer index) d e answer is = is.disk.visits
+served_visits (put trx table key value) d e answer is = is.disk.visits
+served_visits (delete trx table key) d e answer is = is.disk.visits
+served_visits (get trx table key) d e answer is = is.disk.visits
+served_visits (undo_one trx) d e answer is = is.disk.visits
+served_visits (commit trx) d e answer is = is.disk.visits
+served_visits (flush_begin space page) d e answer is = is.disk.visits
+served_visits (flush_half space page) d e answer is = is.disk.visits
+served_visits (flush_land space page) d e answer is = is.disk.visits
+served_visits oldest_dirty d e (Ok did) is = engine_visits d.engine e (looks_same d.engine e did is)
+served_visits oldest_dirty d e (Err refusal) is = absurd is
+served_visits checkpoint d e (Ok (did_checkpoint lsn)) is = same_visits d.engine.disk e.disk is.disk
+served_visits checkpoint d e answer is = absurd is
+served_visits end d e (Ok did) is = engine_visits d.engine e (ends_same d.engine e did is)
+served_visits end d e (Err refusal) is = absurd is
 
--- where memory ran out the donor is as before
-pub steps_want : (call : Call) (s t : Engine) → Steps call s t (Err NoMemory) → t.donor ≡ s.donor
-steps_want (create table buckets) s t is = is.goes.donor
-steps_want (begin writer index) s t is = is.goes.donor
-steps_want (put trx table key value) s t is = is.goes.donor
-steps_want (delete trx table key) s t is = is.goes.donor
-steps_want (get trx table key) s t is = is.goes.donor
-steps_want (undo_one trx) s t is = is.goes.donor
-steps_want (commit trx) s t is = is.goes.donor
-steps_want (flush_begin space page) s t is = is.donor
-steps_want (flush_half space page) s t is = is.donor
-steps_want (flush_land space page) s t is = is.donor
-steps_want oldest_dirty s t is = absurd is
-steps_want checkpoint s t is = absurd is
-steps_want end s t is = absurd is
+pub answered_visits : (call : Call) (d t : staged.Donor) (answer : Result Done EngineRefusal) → AnswersCall call d t answer → Visits d.engine.disk t.engine.disk
+answered_visits call d t answer is = elim (served call d t answer is) [
+  | inl serves ↦ served_visits call d t.engine answer serves.steps
+  | inr running ↦ engine_visits d.engine t.engine (ap (λ (x : staged.Donor). x.engine) running.same)
+]
 
--- WHAT AN EVENT DOES TO THE DISKS
+pub made_visits : (d t : staged.Donor) (m : Made) → CallStep d m t → Visits d.engine.disk t.engine.disk
+made_visits d t (done did) is = answered_visits (call_of did) d t (Ok did) is
+made_visits d t (refused call cause) is = answered_visits call d t (Err (Because cause)) is
 
-refused_call : (s t : Engine) (m : Made) → EngineStep s m t → (call : Call) × (answer : Result Done EngineRefusal) × Steps call s t answer
-refused_call s t (done did) is = (call_of did, Ok did, is)
-refused_call s t (refused call cause) is = (call, Err (Because cause), is)
+-- WHERE MEMORY RAN OUT the plain donor is as before
 
-pub made_visits : (s t : Engine) (m : Made) → EngineStep s m t → Visits s.disk t.disk
-made_visits s t m is = let at = refused_call s t m is in steps_visit at.0 s t at.1 at.2
+served_wants : (call : Call) (d : staged.Donor) (e : Engine) → ServesAs call d e (Err NoMemory) → e.donor ≡ d.engine.donor
+served_wants (create table buckets) d e is = is.goes.donor
+served_wants (begin writer index) d e is = is.goes.donor
+served_wants (put trx table key value) d e is = is.goes.donor
+served_wants (delete trx table key) d e is = is.goes.donor
+served_wants (get trx table key) d e is = is.goes.donor
+served_wants (undo_one trx) d e is = is.goes.donor
+served_wants (commit trx) d e is = is.goes.donor
+served_wants (flush_begin space page) d e is = is.donor
+served_wants (flush_half space page) d e is = is.donor
+served_wants (flush_land space page) d e is = is.donor
+served_wants oldest_dirty d e is = absurd is
+served_wants checkpoint d e is = absurd is
+served_wants end d e is = absurd is
+
+pub answered_wants : (call : Call) (d t : staged.Donor) → AnswersCall call d t (Err NoMemory) → t.engine.donor ≡ d.engine.donor
+answered_wants call d t is = elim (served call d t (Err NoMemory) is) [
+  | inl serves ↦ served_wants call d t.engine serves.steps
+  | inr running ↦ ap (λ (x : staged.Donor). x.engine.donor) running.same
+]
+
+-- A CALL THAT WAS CARRIED OUT is the one that was made
+
+looks_call : (s t : Engine) (did : Done) → Looks s t did → call_of did ≡ oldest_dirty
+looks_call s t (did_oldest_dirty page) is = refl
+looks_call s t did is = absurd is
+
+ends_call : (s t : Engine) (did : Done) → Ends s t did → call_of did ≡ end
+ends_call s t (did_end lsn) is = refl
+ends_call s t did is = absurd is
+
+served_call : (call : Call) (d : staged.Donor) (e : Engine) (did : Done) → ServesAs call d e (Ok did) → call_of did ≡ call
+served_call (create table buckets) d e did is = (transacted _ d.engine e did is).1.is
+served_call (begin writer index) d e did is = (transacted _ d.engine e did is).1.is
+served_call (put trx table key value) d e did is = (transacted _ d.engine e did is).1.is
+served_call (delete trx table key) d e did is = (transacted _ d.engine e did is).1.is
+served_call (get trx table key) d e did is = (transacted _ d.engine e did is).1.is
+served_call (undo_one trx) d e did is = (transacted _ d.engine e did is).1.is
+served_call (commit trx) d e did is = (transacted _ d.engine e did is).1.is
+served_call (flush_begin space page) d e did is = ap call_of is.does.0
+served_call (flush_half space page) d e did is = ap call_of is.does.0
+served_call (flush_land space page) d e did is = ap call_of is.does.0
+served_call oldest_dirty d e did is = looks_call d.engine e did is
+served_call checkpoint d e (did_checkpoint lsn) is = refl
+served_call checkpoint d e did is = absurd is
+served_call end d e did is = ends_call d.engine e did is
+
+answered_call : (call : Call) (d t : staged.Donor) (did : Done) → AnswersCall call d t (Ok did) → call_of did ≡ call
+answered_call call d t did is = elim (served call d t (Ok did) is) [
+  | inl serves ↦ served_call call d t.engine did serves.steps
+  | inr running ↦ absurd (not_ok running.refused)
+]
+
+-- so it is a step
+pub done_step : (call : Call) (d t : staged.Donor) (did : Done) → AnswersCall call d t (Ok did) → CallStep d (done did) t
+done_step call d t did is = let P : Call → Type 0 = λ c. AnswersCall c d t (Ok did) in subst P (sym (answered_call call d t did is)) is

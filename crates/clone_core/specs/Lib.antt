@@ -4,3 +4,5 @@ pub mod Codes
 pub mod Called
 pub mod Copied
 pub mod Showing
+pub mod CloneEvents
+pub mod Ending

@@ -1,7 +1,7 @@
 -- A world as contracts see it, and what a line of a script does to it.
 use Rattle.std.specs.Prelude.{◌≡◌, List}
 use Rattle.std.specs.FinMap as finite
-use Rattle.clone_model.specs.declared.line.Line.{Line}
+use Rattle.clone_script.specs.declared.lines.Line.{Line}
 use Rattle.clone_plain.specs.Answers.{Text}
 use Rattle.clone_events.specs.World.{World, no_clone}
 use Rattle.clone_events.specs.Events.{Event, said}
@@ -17,7 +17,7 @@ State = World System
 
 -- a world in which nothing has happened
 pub record IsNew (s : State) : Type 0 where
-  pub donor : IsOpened s.donor.donor
+  pub donor : IsOpened s.donor.donor.engine
   pub begun : s.begun ≡ finite.empty
   pub clone : s.clone ≡ no_clone
   pub tells : s.tells ≡ tell s.donor

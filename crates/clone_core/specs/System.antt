@@ -1,28 +1,34 @@
 -- A donor and the disk of a recipient, and what an event does to them.
-use Rattle.std.specs.Prelude.{ℕ, ◌≡◌, ◌&&◌, is_some, Bool, codes}
+use Rattle.std.specs.Prelude.{ℕ, ◌≡◌, ◌&&◌, is_some, Bool, Ok, Err, codes}
+use Rattle.std.specs.declared.option.Option.{Option}
 use Rattle.clone_outside.specs.Causes.{Rose}
-use Rattle.clone_outside.specs.Disk.{DiskImage, ForTold}
+use Rattle.clone_outside.specs.Disk.{ForTold}
 use Rattle.clone_recover.specs.Restores.{IsCause}
 use Rattle.clone_recover.specs.declared.refusal.Why.{Why}
 use Rattle.clone_recover.specs.declared.refusal.Why.TheVariants.{Header, Redo, Dictionary, Undo}
 use Rattle.clone_recover.specs.declared.refusal.RecoverRefusal.TheVariants.{Damaged}
 use Rattle.clone_plain.specs.Donor.{Donor}
 use Rattle.clone_plain.specs.Answers.{Text}
-use Rattle.clone_events.specs.Events.{to_donor, to_recipient, Event, made, cleaned, completed, completed_before, broke, broke_before, showed, incomplete, hidden, damaged, ordered}
+use Rattle.clone_events.specs.Events.{to_donor, to_recipient, Event, made, cleaned, looked, archived, started, started_before, readied, not_started, completed, completed_before, broke, broke_before, lost, lost_before, showed, incomplete, hidden, damaged, ordered}
 use Rattle.clone_engine.specs.Disks.{DiskState, Visits, with_order}
-use Rattle.clone_engine.specs.Engine.{Engine}
-use Rattle.clone_engine.specs.Steps.{EngineStep}
+use Rattle.clone_plain.specs.Calls.{Made, done, refused, call_of}
+use Rattle.clone_plain.specs.declared.refusal.EngineRefusal.TheVariants.{Because}
+use Rattle.clone_donor.specs.Acts as act
+use Rattle.clone_donor.specs.Acts.{Does}
+use Rattle.clone_donor.specs.Donor as staged
+use Rattle.clone_donor.specs.Serving.{AnswersCall}
+use Rattle.clone_request.specs.Advancing.{Lends}
 
 pub record System : Type 0 where
-  pub donor : Engine
+  pub donor : staged.Donor
   pub recipient : DiskState
 
 abbrev pub donor_of : System → Donor
-donor_of s = s.donor.donor
+donor_of s = s.donor.engine.donor
 
 -- both disks tell what they hold
 abbrev pub tell : System → Bool
-tell s = is_some s.donor.disk.told && is_some s.recipient.told
+tell s = is_some s.donor.engine.disk.told && is_some s.recipient.told
 
 -- the donor stays, and the recipient's disk is asked or written
 pub record VisitsRecipient (s t : System) : Type 0 where
@@ -47,21 +53,49 @@ pub record FindsDamage (s : DiskState) (space page : ℕ) (text : Text) : Type 0
   pub word : text ≡ why_text why
   pub damage : ForTold s.told (λ m. IsCause m (Damaged space page why))
 
--- AN EVENT, in a donor and the disk of a recipient. The first clone writes the recipient's disk,
--- and rows recover it; a later clone asks nothing.
+-- a call that was made on the donor
+abbrev pub CallStep : staged.Donor → Made → staged.Donor → Type 0
+CallStep d (done did) t = AnswersCall (call_of did) d t (Ok did)
+CallStep d (refused call cause) t = AnswersCall call d t (Err (Because cause))
+
+-- A clone goes on: the plain donor and what its disk holds stay, and the recipient's disk is
+-- written.
+pub record CopiesOn (s t : System) : Type 0 where
+  pub donor : Lends s.donor t.donor
+  pub recipient : Visits s.recipient t.recipient
+
+-- the log is archived up to there, or there is no archive
+pub record ArchivesTo (limit : ℕ) (reached : Option ℕ) (s t : System) : Type 0 where
+  pub archives : Does (act.Archive limit reached) s.donor t.donor
+  pub recipient : t.recipient ≡ s.recipient
+
+-- AN EVENT, in a donor and the disk of a recipient. A clone goes on by calls of both; what is
+-- answered of it later asks nothing; and rows recover the recipient's disk.
 abbrev pub SystemStep : System → Event → System → Type 0
-SystemStep s (made m) t = EngineStep s.donor m t.donor × (t.recipient ≡ s.recipient)
+SystemStep s (made m) t = CallStep s.donor m t.donor × (t.recipient ≡ s.recipient)
 SystemStep s (cleaned landed) t = t ≡ s
-SystemStep s (completed position) t = VisitsRecipient s t
+SystemStep s (looked position) t = t ≡ s
+SystemStep s (archived limit reached) t = ArchivesTo limit reached s t
+SystemStep s started t = VisitsRecipient s t
+SystemStep s started_before t = t ≡ s
+SystemStep s (readied stages) t = CopiesOn s t
+SystemStep s not_started t = t ≡ s
+SystemStep s (completed position) t = CopiesOn s t
 SystemStep s (completed_before position) t = t ≡ s
-SystemStep s broke t = FailsRecipient s t
+SystemStep s broke t = CopiesOn s t × Rose s.recipient.failures t.recipient.failures
 SystemStep s broke_before t = t ≡ s
+SystemStep s lost t =
+    CopiesOn s t × Rose s.donor.engine.disk.failures t.donor.engine.disk.failures
+SystemStep s lost_before t = t ≡ s
 SystemStep s (showed rows) t = VisitsRecipient s t
 SystemStep s incomplete t = VisitsRecipient s t
 SystemStep s hidden t = FailsRecipient s t
 SystemStep s (damaged space page why) t =
     VisitsRecipient s t × FindsDamage s.recipient space page why
-SystemStep s (ordered to_donor order) t = t
-    ≡ record s { donor = record s.donor { disk = with_order order s.donor.disk } }
+SystemStep s (ordered to_donor order) t = t ≡ record s {
+  donor = record s.donor {
+    engine = record s.donor.engine { disk = with_order order s.donor.engine.disk };
+  };
+}
 SystemStep s (ordered to_recipient order) t =
     t ≡ record s { recipient = with_order order s.recipient }

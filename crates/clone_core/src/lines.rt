@@ -1,7 +1,7 @@
 ghost use Rattle.std.specs.Prelude.{◌≡◌, ◌^◌, ◌-◌, IfOk, OnErr};
 ghost use Rattle.std.specs.String.{string_bytes};
 ghost use Rattle.clone_outside.specs.declared.disk.DiskOrder.{DiskOrder};
-ghost use Rattle.clone_model.specs.declared.line.Line.TheVariants as lines;
+ghost use Rattle.clone_script.specs.declared.lines.Line.TheVariants as lines;
 ghost use Rattle.clone_events.specs.Events.{ordered, to_donor, to_recipient};
 ghost use Rattle.clone_events.specs.World.{IsWithin};
 ghost use Rattle.clone_core.specs.System.{donor_of};

@@ -19,7 +19,7 @@ use std::alloc::{AllocError, Global};
 
 /// The answer of a `begin` that isn't refused.
 pub fn begun_text<D: PageDisk>(alloc: Global, donor: &Donor<D>) -> Result<String, AllocError>
-    ensures { IfOk result (λ text. (trx : ℕ) → least_unused donor.now.donor.active ≡ Some trx
+    ensures { IfOk result (λ text. (trx : ℕ) → least_unused donor.now.engine.donor.active ≡ Some trx
         → string_bytes text ≡ codes "trx " ++ decimal trx) }
 {
     match donor.next_number() {
@@ -35,7 +35,8 @@ pub fn undone_text<D: PageDisk>(
     trx: u32,
 ) -> Result<String, AllocError>
     ensures { IfOk result (λ text. (undone : Undone) (after : plain.Donor)
-        → Undoes donor.now.donor trx undone after → string_bytes text ≡ undone_answer undone) }
+        → Undoes donor.now.engine.donor trx undone after
+        → string_bytes text ≡ undone_answer undone) }
 {
     let count = donor.transaction(trx).map_or(0, |open| open.changes.len());
     match count.checked_sub(1) {
@@ -46,9 +47,9 @@ pub fn undone_text<D: PageDisk>(
 
 /// The answer of a line that commits.
 pub fn committed_text<D: PageDisk>(alloc: Global, donor: &Donor<D>) -> Result<String, AllocError>
-    requires { length donor.now.donor.binlog < 2 ^ 64 - 1 }
+    requires { length donor.now.engine.donor.binlog < 2 ^ 64 - 1 }
     ensures { IfOk result (λ text. string_bytes text ≡ codes "committed "
-        ++ decimal (length donor.now.donor.binlog + 1)) }
+        ++ decimal (length donor.now.engine.donor.binlog + 1)) }
 {
     let position = donor.binlog().len() as u64 + 1;
     format!(in alloc; "committed {position}")

@@ -1,52 +1,77 @@
-ghost use Rattle.std.specs.Prelude.{◌≡◌, ◌^◌, ◌-◌, ◌⊎◌, ◌↔◌, IfOk, OnErr, IsTrue, true};
+ghost use Rattle.std.specs.Prelude.{◌≡◌, ◌^◌, ◌-◌, IfOk, None, OnErr};
 ghost use Rattle.std.specs.String.{string_bytes};
 ghost use Rattle.clone_outside.specs.Disk.{ForTold, blank};
+ghost use Rattle.clone_outside.specs.declared.disk.DiskOrder.TheVariants as order;
 ghost use Rattle.clone_events.specs.World.{IsWithin};
 ghost use Rattle.clone_engine.specs.Opened.{IsOpened};
+ghost use Rattle.clone_donor.specs.Taken.{IsTaken, nothing};
 ghost use Rattle.clone_core.specs.System.{donor_of};
 ghost use Rattle.clone_core.specs.Lines.{Answers, BreaksOff, IsNew};
-ghost use Rattle.clone_core.specs.Copied.{HoldsClone};
+ghost use Rattle.clone_core.specs.Copied.{KeepsClone};
+ghost use Rattle.clone_core.specs.Ending.{ending_of};
 
 use crate::begun::Begun;
 use clone_donor::Donor;
-use clone_model::{Binlog, Line};
+use clone_model::Binlog;
 use clone_outside::{DiskOrder, PageDisk};
+use clone_request::{Requester, keeping_laws};
+use clone_script::Line;
 use std::alloc::{AllocError, Global};
 use std::marker::Model;
 
-/// A clone that ended: how many commits and drops of tables stand before it, and what came of it.
+/// How far a clone has come.
+#[derive(Drop)]
+pub enum Course {
+    /// It wasn't begun.
+    Absent,
+    /// It is under way.
+    Copying(Requester),
+    /// It is complete.
+    Complete {
+        /// How many commits there were at its stop.
+        position: u64,
+    },
+    /// A fault of the recipient's disk ended it, or want of memory.
+    Broken,
+    /// A fault of the donor's disk ended it, while a block was read.
+    Spent,
+}
+
+/// How a clone ended, as far as a run tells by its status.
 #[derive(Clone, Copy, Debug, PartialEq, Eq)]
-pub struct Copied {
-    /// The number of commits.
-    pub position: u64,
-    /// The number of drops.
-    pub drops: u64,
-    /// Whether it ended by a fault of the recipient's disk.
-    pub broken: bool,
-    /// Whether a fault of that disk, or want of memory, came in the way of its rows since.
-    pub doubted: bool,
-    /// Whether its rows were shown.
-    pub shown: bool,
+pub enum Ending {
+    /// No fault ended it, or came in the way of its rows.
+    Well,
+    /// A fault of the recipient's disk did.
+    RecipientFault,
+    /// A fault of the donor's disk ended it.
+    RestartsSpent,
 }
 
 /// A donor, the disk of a recipient, how many transactions each writer has begun, and the clone
-/// that was taken of the donor.
+/// that is taken of the donor.
 pub struct World<D: PageDisk, R: PageDisk> {
     pub(crate) donor: Donor<D>,
     pub(crate) recipient: R,
     pub(crate) begun: Begun,
-    pub(crate) copied: Option<Copied>,
+    pub(crate) course: Course,
+    pub(crate) floor: u64,
+    pub(crate) doubted: bool,
+    pub(crate) shown: bool,
 }
 
 impl<D: PageDisk, R: PageDisk> Model for World<D, R> {
+    ghost use Rattle.std.specs.Coded.{codes};
     ghost use Rattle.std.specs.Prelude.{is_some, ◌&&◌};
-    ghost use Rattle.clone_core.specs.Codes.{state_code};
+    ghost use Rattle.clone_track.specs.Tracking.{tracking_code};
+    ghost use Rattle.clone_engine.specs.Codes.{disk_code, engine_code};
+    ghost use Rattle.clone_core.specs.Codes.{begun_code};
     ghost use Rattle.clone_core.specs.Lines.{State};
     ghost use Rattle.clone_core.specs.Copied.{HoldsClone, clone_of};
 
     ghost Value = { State };
 
-    ghost coded = { state_code };
+    ghost coded = { Prim.hlevel (codes, begun_code, disk_code, engine_code, tracking_code) };
 
     ghost view = { λ w. record {
       donor = record {
@@ -58,19 +83,23 @@ impl<D: PageDisk, R: PageDisk> Model for World<D, R> {
         };
       };
       begun = w.begun;
-      clone = clone_of w.copied;
-      tells = is_some w.donor.disk.told && is_some (R.told w.recipient);
+      clone = clone_of w.course w.donor.cloning.stop w.floor w.doubted w.shown;
+      tells = is_some w.donor.engine.disk.told && is_some (R.told w.recipient);
     } };
 
-    ghost invariant = { λ w. HoldsClone w.donor.donor
-        (is_some w.donor.disk.told && is_some (R.told w.recipient)) (clone_of w.copied)
-        (R.told w.recipient) };
+    ghost invariant = { λ w. HoldsClone w.donor
+        (is_some w.donor.engine.disk.told && is_some (R.told w.recipient))
+        (clone_of w.course w.donor.cloning.stop w.floor w.doubted w.shown)
+        (R.told w.recipient) w.course };
 }
 
 impl<D: PageDisk, R: PageDisk> World<D, R> {
     /// A donor of which nothing was asked, and the empty disk of a recipient.
     pub fn new(alloc: Global, donor: Donor<D>, recipient: R) -> World<D, R>
-        requires opened { IsOpened donor }
+        requires opened { IsOpened donor.engine }
+        requires taken { IsTaken donor nothing }
+        requires idle { donor.cloning.session ≡ None }
+        requires stop { donor.cloning.stop ≡ None }
         requires blank { ForTold (R.told recipient) (λ m. m ≡ blank) }
         ensures new { IsNew result }
         ensures donor { result.donor.donor ≡ donor }
@@ -80,11 +109,15 @@ impl<D: PageDisk, R: PageDisk> World<D, R> {
           orders = R.orders recipient;
         } }
     {
+        keeping_laws();
         World {
             donor,
             recipient,
             begun: Begun::new(alloc),
-            copied: None,
+            course: Course::Absent,
+            floor: 0,
+            doubted: false,
+            shown: false,
         }
     }
 
@@ -95,22 +128,29 @@ impl<D: PageDisk, R: PageDisk> World<D, R> {
         self.donor.binlog()
     }
 
-    /// Whether a fault of the recipient's disk ended the clone, or came in the way of its rows.
-    pub fn met_fault(&self) -> bool
-        ensures { IsTrue result
-            ↔ ((self.now.clone.broken ≡ true) ⊎ (self.now.clone.doubted ≡ true)) }
+    /// How the clone ended, by the first that holds: a fault of the donor's disk ended it, or one
+    /// of the recipient's ended it or came in the way of its rows.
+    pub fn ending(&self) -> Ending
+        ensures { result ≡ ending_of self.now.clone }
     {
-        match self.copied {
-            Some(copied) => copied.broken || copied.doubted,
-            None => false,
+        match self.course {
+            Course::Spent => Ending::RestartsSpent,
+            Course::Broken => Ending::RecipientFault,
+            Course::Absent | Course::Copying(_) | Course::Complete { position: _ } => {
+                if self.doubted {
+                    Ending::RecipientFault
+                } else {
+                    Ending::Well
+                }
+            }
         }
     }
 
     /// Gives the donor's disk and the recipient's back.
     pub fn into_disks(self) -> (D, R)
-        ensures donor_told { D.told result.0 ≡ self.donor.donor.disk.told }
-        ensures donor_failures { D.failures result.0 ≡ self.donor.donor.disk.failures }
-        ensures donor_orders { D.orders result.0 ≡ self.donor.donor.disk.orders }
+        ensures donor_told { D.told result.0 ≡ self.donor.donor.engine.disk.told }
+        ensures donor_failures { D.failures result.0 ≡ self.donor.donor.engine.disk.failures }
+        ensures donor_orders { D.orders result.0 ≡ self.donor.donor.engine.disk.orders }
         ensures recipient_told { R.told result.1 ≡ self.donor.recipient.told }
         ensures recipient_failures { R.failures result.1 ≡ self.donor.recipient.failures }
         ensures recipient_orders { R.orders result.1 ≡ self.donor.recipient.orders }
@@ -119,14 +159,17 @@ impl<D: PageDisk, R: PageDisk> World<D, R> {
             donor,
             recipient,
             begun: _,
-            copied: _,
+            course: _,
+            floor: _,
+            doubted: _,
+            shown: _,
         } = self;
         (donor.into_disk(), recipient)
     }
 
     /// What the recipient's disk holds of the clone.
     pub fn laws(&self)
-        ensures { HoldsClone (donor_of self.now.donor) self.now.tells self.now.clone
+        ensures { KeepsClone (donor_of self.now.donor) self.now.tells self.now.clone
             self.now.donor.recipient.told }
     {
         let _ = &self.begun;
@@ -165,20 +208,24 @@ impl<D: PageDisk, R: PageDisk> World<D, R> {
             Line::Checkpoint => self.checkpoint_line(alloc),
             Line::Lsn => self.lsn_line(alloc),
             Line::Tear { byte } => self.donor_order_line(alloc, DiskOrder::Tear { byte: *byte }),
-            Line::FailDonor { call } => self.donor_order_line(
-                alloc,
-                DiskOrder::FailAt {
-                    call: u64::from(*call),
-                },
-            ),
-            Line::FailRecipient { call } => self.recipient_order_line(
-                alloc,
-                DiskOrder::FailAt {
-                    call: u64::from(*call),
-                },
-            ),
+            Line::FailDonor { call } => self.donor_order_line(alloc, fail_at(*call)),
+            Line::FailRecipient { call } => self.recipient_order_line(alloc, fail_at(*call)),
+            Line::Start => self.start_line(alloc),
+            Line::Advance => self.advance_line(alloc),
+            Line::Finish => self.finish_line(alloc),
+            Line::Look => self.look_line(alloc),
+            Line::Archive { bytes } => self.archive_line(alloc, *bytes),
             Line::Clone => self.clone_line(alloc),
             Line::Rows => self.rows_line(alloc),
         }
+    }
+}
+
+// The order by which the call with this number fails, from now on.
+fn fail_at(call: u32) -> DiskOrder
+    ensures { result ≡ order.FailAt call }
+{
+    DiskOrder::FailAt {
+        call: u64::from(call),
     }
 }

@@ -1,2 +1,8 @@
-pub mod LogState
-pub mod Growth
+pub mod Copies
+pub mod Archives
+pub mod Donor
+pub mod Taken
+pub mod Serving
+pub mod Copying
+pub mod Acts
+pub mod Laid

@@ -1,48 +1,96 @@
-//! The state of a donor: that of its engine. Between calls the bytes of the whole log are kept.
-ghost use Rattle.std.specs.Prelude.{◌≡◌, ◌<◌, ◌^◌, [], length, option_copied};
-ghost use Rattle.std.specs.List.{AllByRecursion};
+//! The state of a donor. The ring has what comes next for the archive, the archived bytes are the
+//! log's, and what a session copies is the donor's.
+ghost use Rattle.std.specs.Prelude.{◌≡◌, ◌≤◌, ◌<◌, ◌^◌, IfErr, IfOk, None, is_some, length, option_copied, option_map};
 ghost use Rattle.std.specs.FinMap as finite;
-ghost use Rattle.clone_base.specs.declared.limits.TheConstants.{LSN_LIMIT};
-ghost use Rattle.clone_mtr.specs.Spelling.{log_of};
-ghost use Rattle.clone_image.specs.Replay.{IsSpelled};
-ghost use Rattle.clone_law.specs.Since.{ends};
+ghost use Rattle.std.specs.Option.{ForSome};
+ghost use Rattle.clone_outside.specs.Causes.{Rose};
+ghost use Rattle.clone_outside.specs.Disk.{ForTold, blank};
+ghost use Rattle.clone_model.specs.Config.{IsConfig};
+ghost use Rattle.clone_image.specs.Replay.{first_lsn};
+ghost use Rattle.clone_archive.specs.Archived.{IsArchived};
 ghost use Rattle.clone_ring.specs.Window.{end_of};
+ghost use Rattle.clone_snapshot.specs.Snaps.{IsSnap};
 ghost use Rattle.clone_plain.specs.Causes.{least_unused};
 ghost use Rattle.clone_trx.specs.Kept.{IsSafe};
-ghost use Rattle.clone_engine.specs.Disks.{Orders};
+ghost use Rattle.clone_session.specs.Cloning.{IsCloning, Session};
+ghost use Rattle.clone_engine.specs.Disks.{Orders, Visits};
 ghost use Rattle.clone_engine.specs.Engine.{IsEngine};
+ghost use Rattle.clone_engine.specs.Opened.{IsNotEmpty, IsOpened};
+ghost use Rattle.clone_engine.specs.declared.opening.OpenCause.TheVariants as causes;
+ghost use Rattle.clone_donor.specs.Acts as act;
+ghost use Rattle.clone_donor.specs.Acts.{Acts};
+ghost use Rattle.clone_donor.specs.Donor.{IsDonor};
+ghost use Rattle.clone_donor.specs.Taken.{IsTaken, nothing};
 
-use crate::log::Log;
-use clone_engine::Engine;
-use clone_model::{Binlog, Commit};
+use clone_engine::{Engine, OpenRefusal};
+use clone_model::{Binlog, Commit, Config};
 use clone_outside::{DiskOrder, PageDisk};
-use std::alloc::AllocError;
+use clone_session::{Cloning, Stop};
+use std::alloc::{AllocError, Global};
 use std::marker::Model;
 
-/// A donor over a disk: its engine, and the bytes of the whole log.
+/// A donor over a disk: its engine, and the clone that it gives.
 pub struct Donor<D: PageDisk> {
     pub(crate) engine: Engine<D>,
-    pub(crate) log: Log,
+    pub(crate) cloning: Cloning,
 }
 
 impl<D: PageDisk> Model for Donor<D> {
+    ghost use Rattle.std.specs.Coded.{codes};
+    ghost use Rattle.clone_track.specs.Tracking.{tracking_code};
     ghost use Rattle.clone_engine.specs.Codes.{engine_code};
-    ghost use Rattle.clone_engine.specs.Engine.{Engine};
-    ghost use Rattle.clone_donor.specs.Growth.{IsLogOf};
+    ghost use Rattle.clone_donor.specs.Donor.{Donor, IsDonor};
 
-    ghost Value = { Engine };
+    ghost Value = { Donor };
 
-    ghost coded = { engine_code };
+    ghost coded = { Prim.hlevel (codes, engine_code, tracking_code) };
 
-    ghost view = { λ d. d.engine };
+    ghost view = { λ d. record { engine = d.engine; cloning = d.cloning } };
 
-    ghost invariant = { λ d. IsLogOf d.engine d.log.bytes };
+    ghost invariant = { λ d. IsDonor (record { engine = d.engine; cloning = d.cloning }) };
 }
 
 impl<D: PageDisk> Donor<D> {
+    /// A donor over an empty disk, which gives no clone yet. Opening makes the system space, and
+    /// leaves the log's end at 8,213 and the checkpoint at 8,192. Refused where the disk holds a
+    /// space or a mark, and where it fails.
+    pub fn open(alloc: Global, disk: D, config: Config) -> Result<Donor<D>, OpenRefusal<D>>
+        requires config { IsConfig config }
+        ensures opened { IfOk result (λ d. IsOpened d.engine) }
+        ensures checkpoint { IfOk result (λ d. d.engine.flights.checkpoint ≡ first_lsn) }
+        ensures idle { IfOk result (λ d. d.cloning.session ≡ None) }
+        ensures stop { IfOk result (λ d. d.cloning.stop ≡ None) }
+        ensures taken { IfOk result (λ d. IsTaken d nothing) }
+        ensures empty { IfOk result (λ _. ForTold (D.told disk) (λ m. m ≡ blank)) }
+        ensures visits { IfOk result (λ d. Visits (record {
+          told = D.told disk;
+          failures = D.failures disk;
+          orders = D.orders disk;
+        }) d.engine.disk) }
+        ensures not_empty { IfErr result (λ r. r.cause ≡ causes.NotEmpty
+            → ForTold (D.told disk) IsNotEmpty) }
+        ensures fault { IfErr result (λ r. r.cause ≡ causes.DiskFault
+            → Rose (D.failures disk) (D.failures r.disk)) }
+        ensures later { IfErr result (λ r. D.failures disk ≤ D.failures r.disk) }
+        ensures orders { IfErr result (λ r. D.orders r.disk ≡ D.orders disk) }
+        ensures tells { IfErr result (λ r. is_some (D.told r.disk) ≡ is_some (D.told disk)) }
+    {
+        let ring = config.ring;
+        match Engine::open(alloc, disk, config) {
+            Ok(engine) => {
+                engine.laws();
+                Ok(Donor {
+                    engine,
+                    cloning: Cloning::new(alloc, ring),
+                })
+            }
+            Err(refusal) => Err(refusal),
+        }
+    }
+
     /// The commits in their order.
     pub fn binlog(&self) -> &Binlog
-        ensures { result.now.commits ≡ self.now.donor.binlog }
+        ensures { result.now.commits ≡ self.now.engine.donor.binlog }
     {
         self.engine.binlog()
     }
@@ -50,7 +98,7 @@ impl<D: PageDisk> Donor<D> {
     /// The open transaction of this number, as the commit that it would be, or none where none is
     /// open.
     pub fn transaction(&self, trx: u32) -> Option<&Commit>
-        ensures { option_copied result ≡ finite.get self.now.donor.active trx }
+        ensures { option_copied result ≡ finite.get self.now.engine.donor.active trx }
     {
         self.engine.transaction(trx)
     }
@@ -58,46 +106,70 @@ impl<D: PageDisk> Donor<D> {
     /// The number that the next transaction gets: the least of which none is open, if there is one
     /// below 64.
     pub fn next_number(&self) -> Option<u32>
-        ensures { result ≡ least_unused self.now.donor.active }
+        ensures { result ≡ least_unused self.now.engine.donor.active }
     {
         self.engine.next_number()
     }
 
-    /// The bytes of the redo log, from its first one on.
-    pub fn redo(&self) -> &[u8]
-        ensures { result.now ≡ log_of self.now.buffer.log }
+    /// How many commits there are.
+    pub fn look(&self) -> u64
+        ensures { result ≡ length self.now.engine.donor.binlog }
     {
-        self.log.as_slice()
+        self.engine.binlog().len() as u64
+    }
+
+    /// The LSN behind the log's last byte.
+    pub fn end(&self) -> u64
+        ensures { result ≡ end_of self.now.engine.buffer.ring }
+    {
+        self.engine.ring().end()
+    }
+
+    /// The number of the session that stands, or none where none does.
+    pub fn session(&self) -> Option<u64>
+        ensures { result ≡ option_map (λ (s : Session). s.number) self.now.cloning.session }
+    {
+        self.cloning.session()
+    }
+
+    /// The last stop, which outlives its session.
+    pub fn stop(&self) -> Option<Stop>
+        ensures { result ≡ self.now.cloning.stop }
+    {
+        self.cloning.last_stop()
     }
 
     /// Hands an order to the disk. The error is want of memory.
     pub fn order(&mut self, order: DiskOrder) -> Result<(), AllocError>
-        ensures disk { Orders order self.old.disk self.new.disk result }
-        ensures same { self.new ≡ record self.old { disk = self.new.disk } }
+        ensures disk { Orders order self.old.engine.disk self.new.engine.disk result }
+        ensures acts { Acts act.Orders self.old self.new }
     {
         self.engine.order(order)
     }
 
     /// Gives the disk back.
     pub fn into_disk(self) -> D
-        ensures told { D.told result ≡ self.disk.told }
-        ensures failures { D.failures result ≡ self.disk.failures }
-        ensures orders { D.orders result ≡ self.disk.orders }
+        ensures told { D.told result ≡ self.engine.disk.told }
+        ensures failures { D.failures result ≡ self.engine.disk.failures }
+        ensures orders { D.orders result ≡ self.engine.disk.orders }
     {
-        let Donor { engine, log: _ } = self;
+        let Donor { engine, cloning: _ } = self;
         engine.into_disk()
     }
 
-    /// What holds of every donor. No table was dropped.
+    /// What holds of every donor.
     pub fn laws(&self)
-        ensures engine { IsEngine self.now }
-        ensures safe { IsSafe self.now.donor }
-        ensures drops { self.now.donor.drops ≡ [] }
-        ensures spelled { AllByRecursion IsSpelled self.now.buffer.log }
-        ensures below { ends self.now.buffer.log < LSN_LIMIT }
-        ensures end { end_of self.now.buffer.ring ≡ ends self.now.buffer.log }
-        ensures few { length self.now.buffer.pool.frames < 2 ^ 32 }
+        ensures donor { IsDonor self.now }
+        ensures engine { IsEngine self.now.engine }
+        ensures few { length self.now.engine.buffer.pool.frames < 2 ^ 32 }
+        ensures safe { IsSafe self.now.engine.donor }
+        ensures cloning { IsCloning self.now.cloning }
+        ensures archive { ForSome self.now.cloning.archive IsArchived }
+        ensures chunks { ForSome self.now.cloning.session
+            (λ s. IsSnap s.snap.list s.snap.chunks s.snap.room) }
     {
         self.engine.laws();
+        self.cloning.laws();
+        self.cloning.part_laws();
     }
 }

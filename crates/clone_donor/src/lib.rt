@@ -1,12 +1,16 @@
-//! A donor: an engine over a disk, and the bytes of its whole redo log, from which clones are made
-//! until they are made in stages.
+//! A donor that gives clones in stages: an engine, and the session of a clone with the pages that
+//! are tracked and the redo that is archived for it, in one state. What a clone has taken of the
+//! donor goes on beside it, and at the stop that is one moment of the donor.
 #![tactic(auto)]
 
+mod block;
+mod copying;
 mod donor;
 mod flushing;
-mod log;
-mod opening;
+mod laws;
+mod reading;
 mod serving;
 
-pub use clone_engine::{OpenCause, OpenRefusal, is_empty};
+pub use block::{Block, BlockPage, BlockRefusal};
 pub use donor::Donor;
+pub use laws::run_laws;

@@ -1,6 +1,6 @@
 -- What events add to the binlog: a commit each time that one is answered, and nothing else.
 use Rattle.std.proofs.Common.{◌≡◌, ℕ, ◌+◌, List, [], ◌∷◌, ◌++◌, length, refl, sym, ap, ◌∙◌, subst, zero, suc, zero-add, add-zero, arith, append_assoc, length-append, Option, Some, None, append-nil, filter_map}
-use Rattle.clone_events.proofs.Common.{cons_option, range_with_len, Commit, Donor, Undoes, Done, did_create, did_begin, did_put, did_delete, did_get, did_undo_one, did_commit, did_flush_begin, did_flush_half, did_flush_land, did_oldest_dirty, did_checkpoint, did_end, Made, done, refused, Does, PlainStep, World, Event, made, cleaned, completed, completed_before, broke, broke_before, showed, incomplete, hidden, damaged, ordered, PlainEvent, Happens, Events, committed_at, AreCommits}
+use Rattle.clone_events.proofs.Common.{cons_option, range_with_len, Commit, Donor, Undoes, Done, did_create, did_begin, did_put, did_delete, did_get, did_undo_one, did_commit, did_flush_begin, did_flush_half, did_flush_land, did_oldest_dirty, did_checkpoint, did_end, Made, done, refused, Does, PlainStep, World, Event, made, PlainEvent, Happens, Events, committed_at, AreCommits}
 use Rattle.clone_plain.specs.declared.refusal.Undone.{Undone}
 use Rattle.clone_plain.specs.declared.refusal.Undone.TheVariants.{Left, Ended}
 
@@ -48,16 +48,7 @@ made_adds d (refused call cause) after is = adds_none d after (binlog_of is.1) (
 
 pub plain_adds : (d : Donor) (e : Event) (after : Donor) → PlainEvent d e after → Adds d after (cons_option (committed_at e) [])
 plain_adds d (made m) after is = made_adds d m after is
-plain_adds d (cleaned landed) after is = adds_none d after (binlog_of is) (drops_of is)
-plain_adds d (completed n) after is = adds_none d after (binlog_of is) (drops_of is)
-plain_adds d (completed_before n) after is = adds_none d after (binlog_of is) (drops_of is)
-plain_adds d broke after is = adds_none d after (binlog_of is) (drops_of is)
-plain_adds d broke_before after is = adds_none d after (binlog_of is) (drops_of is)
-plain_adds d (showed rows) after is = adds_none d after (binlog_of is) (drops_of is)
-plain_adds d incomplete after is = adds_none d after (binlog_of is) (drops_of is)
-plain_adds d hidden after is = adds_none d after (binlog_of is) (drops_of is)
-plain_adds d (damaged space page why) after is = adds_none d after (binlog_of is) (drops_of is)
-plain_adds d (ordered side order) after is = adds_none d after (binlog_of is) (drops_of is)
+plain_adds d e after is = adds_none d after (binlog_of is) (drops_of is)
 
 -- numbers in a row, in two parts
 range-append : (a m n : ℕ) → range_with_len a (m + n) ≡ range_with_len a m ++ range_with_len (a + m) n

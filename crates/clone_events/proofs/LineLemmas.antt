@@ -1,7 +1,8 @@
--- A line makes one event, or it is a `set`, or it is a `clean`, none of whose events commits or begins.
+-- A line makes one event, or it is a `set`, or none of its events commits or begins, as those of
+-- `clean` and of `clone`.
 use Rattle.std.proofs.Common.{◌≡◌, ℕ, List, [], ◌∷◌, ◌++◌, refl, sym, ap, subst, ◌∙◌, append_assoc, None, flat_map, nat_cmp}
-use Rattle.clone_events.proofs.Common.{AllByRecursion, FinMap, Line, Cause, Call, commit, call_of, did_create, did_begin, did_put, did_delete, did_get, did_undo_one, did_commit, did_flush_begin, did_flush_half, did_flush_land, did_oldest_dirty, did_checkpoint, did_end, Made, done, refused, made_call, Event, made, completed, completed_before, broke, broke_before, showed, incomplete, hidden, damaged, ordered, counted, committed_at, Makes, MakesOne, MakesSet, MakesClean, all_clean, not_flushed, flushed, MakesClone, is_complete, was_complete, is_broken, was_broken, MakesRows, are_shown, not_there, not_read, not_sound}
-use Rattle.clone_model.specs.declared.line.Line.TheVariants as lines
+use Rattle.clone_events.proofs.Common.{AllByRecursion, FinMap, Line, Cause, Call, commit, call_of, did_create, did_begin, did_put, did_delete, did_get, did_undo_one, did_commit, did_flush_begin, did_flush_half, did_flush_land, did_oldest_dirty, did_checkpoint, did_end, Made, done, refused, made_call, Event, made, showed, incomplete, hidden, damaged, ordered, counted, committed_at, Makes, MakesOne, MakesSet, MakesClean, all_clean, not_flushed, flushed, Starts, Finishes, MakesClone, MakesRows, are_shown, not_there, not_read, not_sound}
+use Rattle.clone_script.specs.declared.lines.Line.TheVariants as lines
 
 -- by an event nothing commits, and no transaction begins
 pub record IsQuiet (e : Event) : Type 0 where
@@ -40,11 +41,17 @@ clean_quiet events (not_flushed pages page front rest next cause split is) =
 call_shape : (call : Call) (events : List Event) → MakesOne call events → Shape events
 call_shape call events is = one (made is.0) is.2
 
-clone_shape : (events : List Event) → MakesClone events → Shape events
-clone_shape events (is_complete n is) = one (completed n) is
-clone_shape events (was_complete n is) = one (completed_before n) is
-clone_shape events (is_broken is) = one broke is
-clone_shape events (was_broken is) = one broke_before is
+-- none of these is a call
+starts_quiet : (e : Event) → Starts e → IsQuiet e
+starts_quiet (made m) is = absurd is
+starts_quiet e is = is_quiet e refl (λ begun. refl)
+
+finishes_quiet : (e : Event) → Finishes e → IsQuiet e
+finishes_quiet (made m) is = absurd is
+finishes_quiet e is = is_quiet e refl (λ begun. refl)
+
+clone_quiet : (events : List Event) → MakesClone events → AllByRecursion IsQuiet events
+clone_quiet events is = subst (AllByRecursion IsQuiet) (sym is.4) (starts_quiet is.0 is.2, (finishes_quiet is.1 is.3, tt))
 
 rows_shape : (events : List Event) → MakesRows events → Shape events
 rows_shape events (are_shown rows is) = one (showed rows) is
@@ -70,7 +77,12 @@ shape next lines.Clean events is = quiet (clean_quiet events is)
 shape next (lines.Tear byte) events is = one (ordered _ _) is
 shape next (lines.FailDonor call) events is = one (ordered _ _) is
 shape next (lines.FailRecipient call) events is = one (ordered _ _) is
-shape next lines.Clone events is = clone_shape events is
+shape next lines.Start events is = one is.0 is.2
+shape next lines.Advance events is = one is.0 is.2
+shape next lines.Finish events is = one is.0 is.2
+shape next lines.Look events is = one is.0 is.2
+shape next (lines.Archive bytes) events is = one is.0 is.2
+shape next lines.Clone events is = quiet (clone_quiet events is)
 shape next lines.Rows events is = rows_shape events is
 
 -- a commit that was made: it was refused, or carried out

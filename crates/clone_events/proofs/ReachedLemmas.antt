@@ -1,6 +1,6 @@
 -- A line adds at most one commit, and at most one transaction of each writer.
 use Rattle.std.proofs.Common.{◌≡◌, ℕ, ◌+◌, ◌≤◌, List, [], ◌∷◌, length, Bool, true, false, cond, refl, sym, ap, ◌∙◌, subst, arith, length-append, Option, Some, None, unwrap_or, inl, inr, ◌⊎◌, filter_map, nat_cmp}
-use Rattle.clone_events.proofs.Common.{cons_option, AllByRecursion, FinMap, get, get-empty, get-insert, eq_by_cmp, Line, Cause, Donor, Call, begin, put, Done, did_create, did_begin, did_put, did_delete, did_get, did_undo_one, did_commit, did_flush_begin, did_flush_half, did_flush_land, did_oldest_dirty, did_checkpoint, did_end, Made, done, refused, World, opened, index_in, IsWithin, Event, made, cleaned, completed, completed_before, broke, broke_before, showed, incomplete, hidden, damaged, ordered, PlainEvent, counted, Happens, Events, MakesSet, not_begun, not_changed, set, LineStep, Runs, committed_at}
+use Rattle.clone_events.proofs.Common.{cons_option, AllByRecursion, FinMap, get, get-empty, get-insert, eq_by_cmp, Line, Cause, Donor, Call, begin, put, Done, did_create, did_begin, did_put, did_delete, did_get, did_undo_one, did_commit, did_flush_begin, did_flush_half, did_flush_land, did_oldest_dirty, did_checkpoint, did_end, Made, done, refused, World, opened, index_in, IsWithin, Event, made, PlainEvent, counted, Happens, Events, MakesSet, not_begun, not_changed, set, LineStep, Runs, committed_at}
 use Rattle.std.specs.FinMap.{insert}
 use Rattle.std.proofs.lemmas.Cmp.{nat_cmp_total}
 use Rattle.std.proofs.lemmas.List.FromFn.{length-range_with_len}
@@ -38,16 +38,7 @@ made_begins (refused call cause) begun = inl refl
 counted_begins : (e : Event) (begun : Begun) → MayBegin begun (counted e begun)
 unfolding MayBegin
 counted_begins (made m) begun = made_begins m begun
-counted_begins (cleaned landed) begun = inl refl
-counted_begins (completed n) begun = inl refl
-counted_begins (completed_before n) begun = inl refl
-counted_begins broke begun = inl refl
-counted_begins broke_before begun = inl refl
-counted_begins (showed rows) begun = inl refl
-counted_begins incomplete begun = inl refl
-counted_begins hidden begun = inl refl
-counted_begins (damaged space page why) begun = inl refl
-counted_begins (ordered side order) begun = inl refl
+counted_begins e begun = inl refl
 
 commit_begins : (trx : ℕ) (m : Made) (begun : Begun) → CommitMade trx m → counted (made m) begun ≡ begun
 commit_begins trx m begun (was_refused call cause is) = ap (λ n. counted (made n) begun) is

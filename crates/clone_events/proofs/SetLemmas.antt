@@ -3,7 +3,7 @@ use Rattle.std.proofs.Common.{◌≡◌, ℕ, ◌+◌, ◌-◌, ◌<◌, List, [
 use Rattle.clone_events.proofs.Common.{nat_cmp_total, nat_cmp-IsAntisymmetric, get-set_same, same_Some, slice_get-get_or, Change, Commit, Line, Donor, begun, put_of, with_change, Changes, did_begin, did_put, did_commit, Made, done, PlainStep, World, Event, made, PlainEvent, Happens, Events, MakesSet, not_begun, not_changed, set, Runs, committed_at, IsSet, AreSets}
 use Rattle.std.specs.FinMap as finite
 use Rattle.std.proofs.Math.Seq.{get_or-append_seam}
-use Rattle.clone_model.specs.declared.line.Line.TheVariants as lines
+use Rattle.clone_script.specs.declared.lines.Line.TheVariants as lines
 use Rattle.clone_events.proofs.BinlogLemmas.{events_add}
 use Rattle.clone_events.proofs.LineLemmas.{CommitMade, was_refused, was_done, commit_made}
 use Rattle.clone_events.proofs.RunLemmas.{Runs-Events}
@@ -76,24 +76,7 @@ module _ {D : Type 0} (plain : D → Donor) (Step : D → Event → D → Type 0
   pub are_sets : (s : World D) (ls : List Line) (events : List (List Event)) (t : World D) → Runs plain Step s ls events t → AreSets ls events (plain t.donor).binlog
   are_sets s [] events t run = tt
   are_sets s (l ∷ ls) [] t run = absurd run
-  are_sets s (lines.Create table buckets ∷ ls) (es ∷ more) t run = are_sets run.0 ls more t run.2
-  are_sets s (lines.Begin writer ∷ ls) (es ∷ more) t run = are_sets run.0 ls more t run.2
-  are_sets s (lines.Put trx table key value ∷ ls) (es ∷ more) t run = are_sets run.0 ls more t run.2
-  are_sets s (lines.Delete trx table key ∷ ls) (es ∷ more) t run = are_sets run.0 ls more t run.2
-  are_sets s (lines.Get trx table key ∷ ls) (es ∷ more) t run = are_sets run.0 ls more t run.2
-  are_sets s (lines.Undo trx ∷ ls) (es ∷ more) t run = are_sets run.0 ls more t run.2
-  are_sets s (lines.Commit trx ∷ ls) (es ∷ more) t run = are_sets run.0 ls more t run.2
-  are_sets s (lines.Flush space page ∷ ls) (es ∷ more) t run = are_sets run.0 ls more t run.2
-  are_sets s (lines.Half space page ∷ ls) (es ∷ more) t run = are_sets run.0 ls more t run.2
-  are_sets s (lines.Land space page ∷ ls) (es ∷ more) t run = are_sets run.0 ls more t run.2
-  are_sets s (lines.Clean ∷ ls) (es ∷ more) t run = are_sets run.0 ls more t run.2
-  are_sets s (lines.Checkpoint ∷ ls) (es ∷ more) t run = are_sets run.0 ls more t run.2
-  are_sets s (lines.Lsn ∷ ls) (es ∷ more) t run = are_sets run.0 ls more t run.2
-  are_sets s (lines.Tear byte ∷ ls) (es ∷ more) t run = are_sets run.0 ls more t run.2
-  are_sets s (lines.FailDonor call ∷ ls) (es ∷ more) t run = are_sets run.0 ls more t run.2
-  are_sets s (lines.FailRecipient call ∷ ls) (es ∷ more) t run = are_sets run.0 ls more t run.2
-  are_sets s (lines.Clone ∷ ls) (es ∷ more) t run = are_sets run.0 ls more t run.2
-  are_sets s (lines.Rows ∷ ls) (es ∷ more) t run = are_sets run.0 ls more t run.2
   are_sets s (lines.Set writer table key value ∷ ls) (es ∷ more) t run =
       let added = events_add plain Step refines run.0 _ t (Runs-Events plain Step run.0 ls more t run.2) in
       (λ position answered. set_is s run.0 writer _ table key value es position run.1.0 run.1.1 answered (plain t.donor).binlog added.more added.binlog, are_sets run.0 ls more t run.2)
+  are_sets s (l ∷ ls) (es ∷ more) t run = are_sets run.0 ls more t run.2

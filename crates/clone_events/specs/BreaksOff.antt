@@ -1,7 +1,7 @@
 -- What a line has done where memory ran out in it.
 use Rattle.std.specs.Prelude.{◌≡◌, List, ◌∷◌, ◌++◌}
 use Rattle.std.specs.List.{AllByRecursion}
-use Rattle.clone_model.specs.declared.line.Line.{Line}
+use Rattle.clone_script.specs.declared.lines.Line.{Line}
 use Rattle.clone_plain.specs.Donor.{Donor}
 use Rattle.clone_plain.specs.Calls.{Done, done}
 use Rattle.clone_events.specs.World.{World, index_in}

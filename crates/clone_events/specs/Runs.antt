@@ -4,14 +4,14 @@ use Rattle.std.specs.List.{flat_map}
 use Rattle.clone_outside.specs.declared.disk.DiskOrder.TheVariants as order
 use Rattle.clone_model.specs.History.{Rows}
 use Rattle.clone_model.specs.Texts.{ended}
-use Rattle.clone_model.specs.declared.line.Line.{Line}
-use Rattle.clone_model.specs.declared.line.Line.TheVariants.{Create, Begin, Put, Delete, Get, Undo, Commit, Set, Flush, Half, Land, Clean, Checkpoint, Lsn, Tear, FailDonor, FailRecipient, Clone, Rows as ShowRows}
+use Rattle.clone_script.specs.declared.lines.Line.{Line}
+use Rattle.clone_script.specs.declared.lines.Line.TheVariants.{Create, Begin, Put, Delete, Get, Undo, Commit, Set, Flush, Half, Land, Clean, Checkpoint, Lsn, Tear, FailDonor, FailRecipient, Start, Advance, Finish, Look, Archive, Clone, Rows as ShowRows}
 use Rattle.clone_plain.specs.declared.refusal.Cause.{Cause}
 use Rattle.clone_plain.specs.Donor.{Donor}
 use Rattle.clone_plain.specs.Calls.{Call, create, begin, put, delete, get, undo_one, commit, flush_begin, flush_half, flush_land, checkpoint, end, Done, did_begin, did_put, did_flush_begin, did_flush_half, did_flush_land, did_oldest_dirty, Made, done, refused, made_call, call_of}
 use Rattle.clone_plain.specs.Answers.{Text}
 use Rattle.clone_events.specs.World.{World, index_in}
-use Rattle.clone_events.specs.Events.{to_donor, to_recipient, Event, made, cleaned, completed, completed_before, broke, broke_before, showed, incomplete, hidden, damaged, ordered, said, Events}
+use Rattle.clone_events.specs.Events.{to_donor, to_recipient, Event, made, cleaned, looked, archived, started, started_before, readied, not_started, completed, completed_before, broke, broke_before, lost, lost_before, showed, incomplete, hidden, damaged, ordered, said, Events}
 
 -- one call is made
 abbrev pub MakesOne : Call → List Event → Type 0
@@ -46,12 +46,45 @@ pub data MakesClean (events : List Event) : Type 0 where
       → events ≡ flat_map flushed pages ++ front ++ made (refused (call_of next) cause) ∷ []
       → MakesClean events
 
--- a clone is taken, or a later one answers as the first
-pub data MakesClone (events : List Event) : Type 0 where
-  is_complete : (n : ℕ) → events ≡ completed n ∷ [] → MakesClone events
-  was_complete : (n : ℕ) → events ≡ completed_before n ∷ [] → MakesClone events
-  is_broken : events ≡ broke ∷ [] → MakesClone events
-  was_broken : events ≡ broke_before ∷ [] → MakesClone events
+-- what `start` may make happen
+abbrev pub Starts : Event → Type 0
+Starts started = Unit {0}
+Starts started_before = Unit {0}
+Starts broke = Unit {0}
+Starts event = ⊥
+
+-- what `finish` may
+abbrev pub Finishes : Event → Type 0
+Finishes not_started = Unit {0}
+Finishes (completed n) = Unit {0}
+Finishes (completed_before n) = Unit {0}
+Finishes broke = Unit {0}
+Finishes broke_before = Unit {0}
+Finishes lost = Unit {0}
+Finishes lost_before = Unit {0}
+Finishes event = ⊥
+
+-- and what `advance` may
+abbrev pub Advances : Event → Type 0
+Advances (readied stages) = Unit {0}
+Advances event = Finishes event
+
+-- one event of a kind happens
+abbrev pub MakesEvent : (Event → Type 0) → List Event → Type 0
+MakesEvent Kind events = (e : Event) × Kind e × (events ≡ e ∷ [])
+
+-- a clone begins, unless one began before, and is brought to its end
+abbrev pub MakesClone : List Event → Type 0
+MakesClone events = (s e : Event) × Starts s × Finishes e × (events ≡ s ∷ e ∷ [])
+
+-- at most so many bytes of the log are archived, or there is no archive
+abbrev pub Archives : ℕ → Event → Type 0
+Archives bytes (archived limit reached) = limit ≡ bytes
+Archives bytes event = ⊥
+
+abbrev pub Looks : Event → Type 0
+Looks (looked position) = Unit {0}
+Looks event = ⊥
 
 -- rows are shown, or why they aren't
 pub data MakesRows (events : List Event) : Type 0 where
@@ -81,6 +114,11 @@ Makes next Lsn events = MakesOne end events
 Makes next (Tear byte) events = events ≡ ordered to_donor (order.Tear byte) ∷ []
 Makes next (FailDonor call) events = events ≡ ordered to_donor (order.FailAt call) ∷ []
 Makes next (FailRecipient call) events = events ≡ ordered to_recipient (order.FailAt call) ∷ []
+Makes next Start events = MakesEvent Starts events
+Makes next Advance events = MakesEvent Advances events
+Makes next Finish events = MakesEvent Finishes events
+Makes next Look events = MakesEvent Looks events
+Makes next (Archive bytes) events = MakesEvent (Archives bytes) events
 Makes next Clone events = MakesClone events
 Makes next ShowRows events = MakesRows events
 

@@ -1,5 +1,6 @@
 -- What a script acts on: a donor, the indexes of its writers, and its clone.
-use Rattle.std.specs.Prelude.{ℕ, ◌≡◌, ◌≤◌, Bool, true, false, List, length, take, None, unwrap_or}
+use Rattle.std.specs.Prelude.{ℕ, ◌≡◌, ◌≤◌, ◌==◌, Bool, true, false, List, length, take, None, Some, unwrap_or, if◌then◌else◌}
+use Rattle.std.specs.Option.{option_map_or}
 use Rattle.std.specs.declared.option.Option.{Option}
 use Rattle.std.specs.FinMap as finite
 use Rattle.std.specs.Ordering.{nat_cmp}
@@ -11,17 +12,44 @@ pub record Stop : Type 0 where
   pub position : ℕ
   pub drops : ℕ
 
--- A clone: its stop, once it has ended; whether it ended by a fault of the recipient's disk;
--- whether such a fault came in the way of its rows since; and whether its rows were shown.
+-- how far a clone has come
+pub data Progress : Type 0 where
+  -- it wasn't begun
+  absent : Progress
+  -- it is under way, and so many stages are copied
+  copying : (stages : ℕ) → Progress
+  complete : Progress
+  -- a fault of the recipient's disk ended it, or one of the donor's while a block was read
+  broken : Progress
+  spent : Progress
+
+-- A clone: how far it has come; its stop, once it has come to it; what the requester had looked up
+-- until then; whether a fault of the recipient's disk came in the way of its rows since it ended;
+-- and whether its rows were shown.
 pub record Clone : Type 0 where
+  pub progress : Progress
   pub stop : Option Stop
-  pub broken : Bool
+  pub floor : ℕ
   pub doubted : Bool
   pub shown : Bool
 
--- none was taken yet
+-- none was begun yet
 abbrev pub no_clone : Clone
-no_clone = record { stop = None; broken = false; doubted = false; shown = false }
+no_clone =
+    record { progress = absent; stop = None; floor = 0; doubted = false; shown = false }
+
+-- it is under way
+abbrev pub IsUnderWay : Progress → Type 0
+IsUnderWay (copying stages) = Unit {0}
+IsUnderWay progress = ⊥
+
+-- it has ended, in one way or another
+abbrev pub HasEnded : Progress → Type 0
+HasEnded absent = ⊥
+HasEnded (copying stages) = ⊥
+HasEnded complete = Unit {0}
+HasEnded broken = Unit {0}
+HasEnded spent = Unit {0}
 
 -- A donor of a type D, how many transactions each writer has begun, the clone, and whether the
 -- disks of donor and recipient tell what they hold.
@@ -57,3 +85,26 @@ before_stop stop d = history_of (take stop.position d.binlog) (take stop.drops d
 pub record IsWithin {D : Type 0} (plain : D → Donor) (n : ℕ) (s : World D) : Type 0 where
   pub commits : length (plain s.donor).binlog ≤ n
   pub transactions : (writer : ℕ) → index_in s.begun writer ≤ n
+
+-- the stop of a clone, which may be this moment
+abbrev pub stop_by : Stop → Clone → Stop
+stop_by now clone = unwrap_or clone.stop now
+
+-- what is looked up before the stop is the floor of a clone
+abbrev pub with_floor : ℕ → Clone → Clone
+with_floor position clone =
+    record clone { floor = option_map_or (λ (s : Stop). clone.floor) clone.stop position }
+
+-- so many stages are copied; the copy of pages ends with the stop
+abbrev pub reached : ℕ → Stop → Clone → Clone
+reached stages now clone = record clone {
+  progress = copying stages;
+  stop = if stages == 3 then Some (stop_by now clone) else clone.stop;
+}
+
+abbrev pub completed_at : Stop → Clone → Clone
+completed_at now clone = record clone { progress = complete; stop = Some (stop_by now clone) }
+
+-- a fault ends it, before its stop or behind it
+abbrev pub ended_by : Progress → Option Stop → Clone → Clone
+ended_by progress stop clone = record clone { progress = progress; stop = stop }

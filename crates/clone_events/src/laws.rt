@@ -1,5 +1,5 @@
 ghost use Rattle.std.specs.Prelude.{◌≡◌, ◌≤◌, ◌++◌, Bool, ℕ, List, length};
-ghost use Rattle.clone_model.specs.declared.line.Line.{Line};
+ghost use Rattle.clone_script.specs.declared.lines.Line.{Line};
 ghost use Rattle.clone_plain.specs.Donor.{Donor, no_donor};
 ghost use Rattle.clone_events.specs.Events.{Event, PlainEvent};
 ghost use Rattle.clone_events.specs.Headline.{AreCommits, AreSets, ShowsStop, all_events};

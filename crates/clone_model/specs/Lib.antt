@@ -4,7 +4,7 @@ pub mod Binlog
 pub mod Room
 pub mod Kept
 pub mod Texts
-pub mod Lines
+pub mod Ranges
 pub mod Config
 pub mod Reading
 pub mod Following

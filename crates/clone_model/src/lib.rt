@@ -16,9 +16,7 @@ mod value;
 pub use change::{Change, Commit};
 pub use config::{Config, LEAST_POOL, LEAST_RING, MOST_POOL, MOST_RING, USUAL_POOL, USUAL_RING};
 pub use history::history_laws;
-pub use line::{
-    BucketCount, HIGHEST_TABLE, Line, MOST_BUCKETS, MOST_CALLS, MOST_PAGES, TableNumber,
-};
+pub use line::{BucketCount, HIGHEST_TABLE, MOST_BUCKETS, MOST_CALLS, MOST_PAGES, TableNumber};
 pub use list::{Binlog, Changes};
 pub use reading::{
     ReadRefusal, as_u32, binlog_reads_back, leading_number, number_of, one_answer, one_binlog,
@@ -26,5 +24,5 @@ pub use reading::{
 };
 pub use script_value::{LONGEST_SCRIPT_VALUE, ScriptValue};
 pub use tables::{Tables, fold};
-pub use text::{binlog_text, line_text, push_value, rows_text};
+pub use text::{binlog_text, push_value, rows_text};
 pub use value::Value;

@@ -119,10 +119,15 @@ is_below InFlight = true
 is_below NoFlush = true
 is_below DiskFault = true
 
--- A call is carried out only where there is no cause against it. Else it is refused for that cause,
--- and nothing changes. It may be refused for one that the plain donor doesn't know.
+-- A call is refused for the cause against it. Where there is none, it may be refused for one that the
+-- plain donor doesn't know; and a clone that runs is against a table ahead of all other causes.
+abbrev pub IsRefused : Donor → Call → Cause → Type 0
+IsRefused d (create table buckets) (CloneRunning session) = Unit {0}
+IsRefused d call cause =
+    (cause_of d call ≡ Some cause) ⊎ ((cause_of d call ≡ None) × (is_below cause ≡ true))
+
+-- A call is carried out only where there is no cause against it. Else it is refused, and nothing
+-- changes.
 abbrev pub PlainStep : Donor → Made → Donor → Type 0
 PlainStep d (done x) after = (cause_of d (call_of x) ≡ None) × Does d x after
-PlainStep d (refused call cause) after =
-    ((cause_of d call ≡ Some cause) ⊎ ((cause_of d call ≡ None) × (is_below cause ≡ true)))
-    × (after ≡ d)
+PlainStep d (refused call cause) after = IsRefused d call cause × (after ≡ d)

@@ -1,5 +1,5 @@
 -- What a run is, by how it ended.
-use Rattle.std.proofs.Common.{◌≡◌, ◌≤◌, ℕ, Bool, true, false, List, [], ◌++◌, ◌&&◌, is_some, refl, sym, ap, ◌∙◌, subst, ◌⊎◌, inl, inr, None, Some, codes, arith, filter_map}
+use Rattle.std.proofs.Common.{◌≡◌, ◌≤◌, ℕ, List, [], ◌++◌, ◌&&◌, is_some, refl, sym, ap, ◌∙◌, subst, inl, inr, None, Some, codes, arith, filter_map}
 use Rattle.std.proofs.lemmas.List.{append-nil}
 use Rattle.std.specs.Fmt.{decimal}
 use Rattle.std.specs.declared.option.Option.{Option}
@@ -9,7 +9,7 @@ use Rattle.clone_outside.specs.Disk.{DiskImage}
 use Rattle.clone_outside.specs.declared.disk.DiskOrder.{DiskOrder}
 use Rattle.clone_model.specs.Texts.{ended, binlog_text}
 use Rattle.clone_model.specs.declared.config.Config.{Config}
-use Rattle.clone_model.specs.declared.line.Line.{Line}
+use Rattle.clone_script.specs.declared.lines.Line.{Line}
 use Rattle.clone_plain.specs.Answers.{Text}
 use Rattle.clone_events.specs.Events.{Event, recipient_fault}
 use Rattle.clone_events.specs.Headline.{AreCommits, AreSets, ShowsStop, all_events, donor_order, recipient_order}
@@ -18,18 +18,21 @@ use Rattle.clone_events.specs.World.{no_clone}
 use Rattle.clone_engine.specs.Disks.{DiskState, Visits}
 use Rattle.clone_core.specs.System.{donor_of}
 use Rattle.clone_core.specs.Lines.{State, IsNew, Runs}
-use Rattle.clone_core.specs.Copied.{HoldsClone}
+use Rattle.clone_core.specs.Copied.{KeepsClone}
+use Rattle.clone_core.specs.Ending.{ending_of}
+use Rattle.clone_core.specs.declared.world.Ending.{Ending}
+use Rattle.clone_core.specs.declared.world.Ending.TheVariants as ending
 use Rattle.clone_prog.specs.declared.reading.Unread.{Unread}
 use Rattle.clone_prog.specs.declared.reading.Unread.TheVariants as unread
 use Rattle.clone_prog.specs.declared.run.Unready.{Unready}
 use Rattle.clone_prog.specs.declared.run.Unready.TheVariants as unready
 use Rattle.clone_prog.specs.declared.status.Status.{Status}
-use Rattle.clone_prog.specs.declared.status.Status.TheVariants.{Done, Memory, Usage, BadLine, SourceFault, SinkFault, DonorFault, RecipientFault, NotEmpty, TooLong}
+use Rattle.clone_prog.specs.declared.status.Status.TheVariants.{Done, Memory, Usage, BadLine, SourceFault, SinkFault, DonorFault, RecipientFault, RestartsSpent, NotEmpty, TooLong}
 use Rattle.clone_prog.specs.Carrying.{AnsweredAll, Stopped, in_lines, in_binlog}
 use Rattle.clone_prog.specs.Ended.{EndsLines}
 use Rattle.clone_prog.specs.Looking.{IsUnread, IsUnready}
 use Rattle.clone_prog.specs.Saying.{Says, SaysUnread, SaysUnready}
-use Rattle.clone_prog.specs.Main.{End, disk_of, ends, Ends, IsUntouched, IsRead, IsSaid, WereEmpty, Carried, MetFault, Steps, Due, Front, Outcome}
+use Rattle.clone_prog.specs.Main.{End, disk_of, ends, Ends, IsUntouched, IsRead, IsSaid, WereEmpty, Carried, Steps, Due, Front, Outcome}
 
 -- all that was due by a status was written
 abbrev Whole : Status → List (List ℕ) → Ends → Ends → Type 0
@@ -87,26 +90,26 @@ not_begun words old new config lines unready.Memory got read is says same = sile
 pub record Began (old : Ends) (first : State) : Type 0 where
   pub new : IsNew first
   pub empty : WereEmpty old
-  pub donor : Visits old.donor first.donor.donor.disk
+  pub donor : Visits old.donor first.donor.donor.engine.disk
   pub recipient : Visits old.recipient first.donor.recipient
 
 -- the disks were given back by a world
 pub record Left (new : Ends) (final : State) : Type 0 where
-  pub donor : new.donor ≡ final.donor.donor.disk
+  pub donor : new.donor ≡ final.donor.donor.engine.disk
   pub recipient : new.recipient ≡ final.donor.recipient
-  pub clone : HoldsClone (donor_of final.donor) final.tells final.clone final.donor.recipient.told
+  pub clone : KeepsClone (donor_of final.donor) final.tells final.clone final.donor.recipient.told
 
 -- a disk, by what is told of it
 same_disk : (told : Option DiskImage) (failures : ℕ) (orders : List DiskOrder) (d : DiskState) → told ≡ d.told → failures ≡ d.failures → orders ≡ d.orders → disk_of told failures orders ≡ d
 same_disk told failures orders d t f o = λ i. record { told = t i; failures = f i; orders = o i }
 
 pub left_so : (source out binlog : End) (final : State) (a b : Option DiskImage) (m n : ℕ) (xs ys : List DiskOrder)
-    → a ≡ final.donor.donor.disk.told → m ≡ final.donor.donor.disk.failures → xs ≡ final.donor.donor.disk.orders
+    → a ≡ final.donor.donor.engine.disk.told → m ≡ final.donor.donor.engine.disk.failures → xs ≡ final.donor.donor.engine.disk.orders
     → b ≡ final.donor.recipient.told → n ≡ final.donor.recipient.failures → ys ≡ final.donor.recipient.orders
-    → HoldsClone (donor_of final.donor) final.tells final.clone final.donor.recipient.told
+    → KeepsClone (donor_of final.donor) final.tells final.clone final.donor.recipient.told
     → Left (ends source out binlog (disk_of a m xs) (disk_of b n ys)) final
 left_so source out binlog final a b m n xs ys da dm dx rb rn ry holds = record {
-  donor = same_disk a m xs final.donor.donor.disk da dm dx;
+  donor = same_disk a m xs final.donor.donor.engine.disk da dm dx;
   recipient = same_disk b n ys final.donor.recipient rb rn ry;
   clone = holds;
 }
@@ -116,10 +119,11 @@ pub record LawsFrom (first : State) : Type 0 where
   pub commits : (lines : List Line) (events : List (List Event)) (t : State) → Runs first lines events t → AreCommits (all_events events) (donor_of t.donor).binlog
   pub sets : (lines : List Line) (events : List (List Event)) (t : State) → Runs first lines events t → AreSets lines events (donor_of t.donor).binlog
   pub stop : (lines : List Line) (events : List (List Event)) (t : State) → Runs first lines events t → ShowsStop (donor_of t.donor).binlog (donor_of t.donor).drops t.tells no_clone (all_events events)
-  pub donor_orders : (lines : List Line) (events : List (List Event)) (t : State) → Runs first lines events t → t.donor.donor.disk.orders ≡ first.donor.donor.disk.orders ++ filter_map donor_order lines
+  pub donor_orders : (lines : List Line) (events : List (List Event)) (t : State) → Runs first lines events t → t.donor.donor.engine.disk.orders ≡ first.donor.donor.engine.disk.orders ++ filter_map donor_order lines
   pub recipient_orders : (lines : List Line) (events : List (List Event)) (t : State) → Runs first lines events t → t.donor.recipient.orders ≡ first.donor.recipient.orders ++ filter_map recipient_order lines
   pub tells : (lines : List Line) (events : List (List Event)) (t : State) → Runs first lines events t → t.tells ≡ first.tells
-  pub fault : (lines : List Line) (events : List (List Event)) (t : State) → Runs first lines events t → MetFault t → Rose first.donor.recipient.failures t.donor.recipient.failures
+  pub recipient_fault : (lines : List Line) (events : List (List Event)) (t : State) → Runs first lines events t → ending_of t.clone ≡ ending.RecipientFault → Rose first.donor.recipient.failures t.donor.recipient.failures
+  pub donor_fault : (lines : List Line) (events : List (List Event)) (t : State) → Runs first lines events t → ending_of t.clone ≡ ending.RestartsSpent → Rose first.donor.donor.engine.disk.failures t.donor.donor.engine.disk.failures
 
 -- the orders of a disk, as it was before it was asked
 orders_since : (old asked new final : DiskState) (given : List DiskOrder) → Visits old asked → new ≡ final → final.orders ≡ asked.orders ++ given → new.orders ≡ old.orders ++ given
@@ -148,26 +152,22 @@ steps words old new config lines first final read began laws left is = record {
   donor_orders = orders_since _ _ _ _ _ began.donor left.donor (laws.donor_orders lines is.events final is.run);
   recipient_orders = orders_since _ _ _ _ _ began.recipient left.recipient (laws.recipient_orders lines is.events final is.run);
   tells = laws.tells lines is.events final is.run ∙ began.new.tells ∙ both_tell old old _ _ began.donor began.recipient;
-  clone = let P : Option DiskImage → Type 0 = HoldsClone (donor_of final.donor) final.tells final.clone in subst P (sym (ap (λ (d : DiskState). d.told) left.recipient)) left.clone;
+  clone = let P : Option DiskImage → Type 0 = KeepsClone (donor_of final.donor) final.tells final.clone in subst P (sym (ap (λ (d : DiskState). d.told) left.recipient)) left.clone;
 }
 
 -- a count that rose since a disk was asked rose since before
 rose_before : (old asked final : ℕ) → old ≤ asked → Rose asked final → Rose old final
 rose_before old asked final later rose = omega (arith, later, rose)
 
-rose : (old new : Ends) (lines : List Line) (events : List (List Event)) (first final : State) → Began old first → LawsFrom first → Left new final → Runs first lines events final → MetFault final → Rose old.recipient.failures new.recipient.failures
-rose old new lines events first final began laws left run met =
+recipient_rose : (old new : Ends) (lines : List Line) (events : List (List Event)) (first final : State) → Began old first → LawsFrom first → Left new final → Runs first lines events final → ending_of final.clone ≡ ending.RecipientFault → Rose old.recipient.failures new.recipient.failures
+recipient_rose old new lines events first final began laws left run met =
     let P : ℕ → Type 0 = Rose old.recipient.failures in
-    subst P (sym (ap (λ (d : DiskState). d.failures) left.recipient)) (rose_before _ _ _ began.recipient.later (laws.fault lines events final run met))
+    subst P (sym (ap (λ (d : DiskState). d.failures) left.recipient)) (rose_before _ _ _ began.recipient.later (laws.recipient_fault lines events final run met))
 
-decided : (a b : Bool) → ((a ≡ true) ⊎ (b ≡ true)) ⊎ (((a ≡ true) ⊎ (b ≡ true)) → ⊥)
-decided true b = inl (inl refl)
-decided false true = inl (inr refl)
-decided false false = inr neither
-  where
-    neither : ((false ≡ true) ⊎ (false ≡ true)) → ⊥
-    neither (inl is) = absurd (cc)
-    neither (inr is) = absurd (cc)
+donor_rose : (old new : Ends) (lines : List Line) (events : List (List Event)) (first final : State) → Began old first → LawsFrom first → Left new final → Runs first lines events final → ending_of final.clone ≡ ending.RestartsSpent → Rose old.donor.failures new.donor.failures
+donor_rose old new lines events first final began laws left run met =
+    let P : ℕ → Type 0 = Rose old.donor.failures in
+    subst P (sym (ap (λ (d : DiskState). d.failures) left.donor)) (rose_before _ _ _ began.donor.later (laws.donor_fault lines events final run met))
 
 -- what was written where a run of the lines stopped
 front : (words : List (List ℕ)) (old new : Ends) (config : Config) (lines : List Line) (first final : State) → IsRead words old.source new.source config lines → Began old first → LawsFrom first → Left new final
@@ -175,14 +175,15 @@ front : (words : List (List ℕ)) (old new : Ends) (config : Config) (lines : Li
 front words old new config lines first final read began laws left (in_lines is same) =
     let carried : Carried old _ is.events is.final = record { first = first; new = began.new; donor = began.donor; recipient = began.recipient; run = is.run } in
     inr (Memory, output is.events, [], (config, lines, is.count, is.events, is.final, read, carried, refl, refl), inl (is.out, same))
-front words old new config lines first final read began laws left (in_binlog is some) = by_fault (decided final.clone.broken final.clone.doubted)
+front words old new config lines first final read began laws left (in_binlog is some) = by_ending (ending_of final.clone) refl
   where
     whole : Steps words old new final (output is.events) (binlog_text (donor_of final.donor).binlog)
     whole = steps words old new config lines first final read began laws left is
 
-    by_fault : MetFault final ⊎ (MetFault final → ⊥) → Front words old new
-    by_fault (inl met) = inr (RecipientFault, output is.events, binlog_text (donor_of final.donor).binlog, inr (final, whole, met, rose old new lines is.events first final began laws left is.run met), inr (is.out, some))
-    by_fault (inr none) = inr (Done, output is.events, binlog_text (donor_of final.donor).binlog, (final, whole, none), inr (is.out, some))
+    by_ending : (e : Ending) → ending_of final.clone ≡ e → Front words old new
+    by_ending ending.Well how = inr (Done, output is.events, binlog_text (donor_of final.donor).binlog, (final, whole, how), inr (is.out, some))
+    by_ending ending.RecipientFault how = inr (RecipientFault, output is.events, binlog_text (donor_of final.donor).binlog, inr (final, whole, how, recipient_rose old new lines is.events first final began laws left is.run how), inr (is.out, some))
+    by_ending ending.RestartsSpent how = inr (RestartsSpent, output is.events, binlog_text (donor_of final.donor).binlog, (final, whole, how, donor_rose old new lines is.events first final began laws left is.run how), inr (is.out, some))
 
 -- the lines were carried out as they were lent
 pub lent : (lines passed : List Line) (first final : State) (a b : Option (List ℕ)) (m n : ℕ) (x y : Option (List ℕ)) (k l : ℕ) (got : Status) → passed ≡ lines → EndsLines passed first final a b m n x y k l got → EndsLines lines first final a b m n x y k l got
@@ -195,8 +196,11 @@ pub ran : (words : List (List ℕ)) (old new : Ends) (config : Config) (lines : 
 ran words old new config lines first final Done read began laws left is =
     (output is.0.answered.events, binlog_text (donor_of final.donor).binlog, (final, steps words old new config lines first final read began laws left is.0.answered, is.1), is.0.answered.out, is.0.binlog)
 ran words old new config lines first final RecipientFault read began laws left is =
-    let met = rose old new lines is.0.answered.events first final began laws left is.0.answered.run is.1 in
+    let met = recipient_rose old new lines is.0.answered.events first final began laws left is.0.answered.run is.1 in
     (output is.0.answered.events, binlog_text (donor_of final.donor).binlog, inr (final, steps words old new config lines first final read began laws left is.0.answered, is.1, met), is.0.answered.out, is.0.binlog)
+ran words old new config lines first final RestartsSpent read began laws left is =
+    let met = donor_rose old new lines is.0.answered.events first final began laws left is.0.answered.run is.1 in
+    (output is.0.answered.events, binlog_text (donor_of final.donor).binlog, (final, steps words old new config lines first final read began laws left is.0.answered, is.1, met), is.0.answered.out, is.0.binlog)
 ran words old new config lines first final Memory read began laws left is = front words old new config lines first final read began laws left is
 ran words old new config lines first final SinkFault read began laws left is = (is.0, front words old new config lines first final read began laws left is.1)
 ran words old new config lines first final Usage read began laws left is = absurd is

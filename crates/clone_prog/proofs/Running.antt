@@ -8,7 +8,7 @@ use Rattle.clone_outside.specs.Causes.{HasCause, Rose}
 use Rattle.clone_outside.specs.declared.Refusal.{Refusal}
 use Rattle.clone_outside.specs.declared.Refusal.TheVariants.{Fault, NoMemory}
 use Rattle.clone_model.specs.Texts.{ended, binlog_text}
-use Rattle.clone_model.specs.declared.line.Line.{Line}
+use Rattle.clone_script.specs.declared.lines.Line.{Line}
 use Rattle.clone_events.specs.Events.{Event, said}
 use Rattle.clone_events.specs.Runs.{output}
 use Rattle.clone_events.proofs.RunLemmas.{output-push, Runs-push}

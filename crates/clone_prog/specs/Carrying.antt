@@ -3,7 +3,7 @@ use Rattle.std.specs.Prelude.{ℕ, ◌≡◌, List, take}
 use Rattle.std.specs.declared.option.Option.{Option}
 use Rattle.clone_outside.specs.Bytes.{appended, TakesSome}
 use Rattle.clone_model.specs.Texts.{ended, binlog_text}
-use Rattle.clone_model.specs.declared.line.Line.{Line}
+use Rattle.clone_script.specs.declared.lines.Line.{Line}
 use Rattle.clone_plain.specs.Answers.{Text}
 use Rattle.clone_events.specs.Events.{Event}
 use Rattle.clone_events.specs.Runs.{output}

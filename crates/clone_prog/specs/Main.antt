@@ -1,6 +1,6 @@
 -- What a run of the program is: when each status comes, what was written by then, and what the disks
 -- hold.
-use Rattle.std.specs.Prelude.{ℕ, ◌≡◌, ◌⊎◌, ◌<◌, ◌≤◌, ◌&&◌, is_some, true, List, [], ◌∷◌, ◌++◌, length, take, codes}
+use Rattle.std.specs.Prelude.{ℕ, ◌≡◌, ◌⊎◌, ◌<◌, ◌≤◌, ◌&&◌, is_some, List, [], ◌∷◌, ◌++◌, length, take, codes}
 use Rattle.std.specs.Fmt.{decimal}
 use Rattle.std.specs.List.{filter_map}
 use Rattle.std.specs.declared.option.Option.{Option}
@@ -10,7 +10,7 @@ use Rattle.clone_outside.specs.Disk.{DiskImage, ForTold, blank}
 use Rattle.clone_outside.specs.declared.disk.DiskOrder.{DiskOrder}
 use Rattle.clone_model.specs.Texts.{ended, binlog_text}
 use Rattle.clone_model.specs.declared.config.Config.{Config}
-use Rattle.clone_model.specs.declared.line.Line.{Line}
+use Rattle.clone_script.specs.declared.lines.Line.{Line}
 use Rattle.clone_plain.specs.Answers.{Text}
 use Rattle.clone_events.specs.Events.{Event, recipient_fault}
 use Rattle.clone_events.specs.Runs.{output}
@@ -20,9 +20,11 @@ use Rattle.clone_engine.specs.Disks.{DiskState, Visits}
 use Rattle.clone_engine.specs.Opened.{IsNotEmpty}
 use Rattle.clone_core.specs.System.{donor_of}
 use Rattle.clone_core.specs.Lines.{State, IsNew, Runs}
-use Rattle.clone_core.specs.Copied.{HoldsClone}
+use Rattle.clone_core.specs.Copied.{KeepsClone}
+use Rattle.clone_core.specs.Ending.{ending_of}
+use Rattle.clone_core.specs.declared.world.Ending.TheVariants as ending
 use Rattle.clone_prog.specs.declared.status.Status.{Status}
-use Rattle.clone_prog.specs.declared.status.Status.TheVariants.{Done, Memory, Usage, BadLine, SourceFault, SinkFault, DonorFault, RecipientFault, NotEmpty, TooLong}
+use Rattle.clone_prog.specs.declared.status.Status.TheVariants.{Done, Memory, Usage, BadLine, SourceFault, SinkFault, DonorFault, RecipientFault, RestartsSpent, NotEmpty, TooLong}
 use Rattle.clone_script.specs.Script.{IsScript, IsFirstBad}
 use Rattle.clone_script.specs.declared.read.TheConstants.{LONGEST_SCRIPT}
 
@@ -115,21 +117,18 @@ pub record Carried (before : Ends) (lines : List Line) (events : List (List Even
     (final : State) : Type 0 where
   pub first : State
   pub new : IsNew first
-  pub donor : Visits before.donor first.donor.donor.disk
+  pub donor : Visits before.donor first.donor.donor.engine.disk
   pub recipient : Visits before.recipient first.donor.recipient
   pub run : Runs first lines events final
-
--- a fault of the recipient's disk ended the clone, or came in the way of its rows
-abbrev pub MetFault : State → Type 0
-MetFault s = (s.clone.broken ≡ true) ⊎ (s.clone.doubted ≡ true)
 
 -- The script was carried out to its end. The output is the answers of its lines, whose events are a
 -- run of a donor over a disk, and so of the plain donor. The binlog is the text of the commits of
 -- that run: one for each position that was answered, in order, that of a `set` with its one change.
--- Where a clone was complete at position n, the rows shown behind it are, in ascending order,
--- exactly those that the first n commits leave, with the tables dropped before it, and nothing of a
--- transaction that was open then; and the recipient's disk holds a complete clone at n, which
--- recovers to these rows whenever it is recovered.
+-- Where a clone is complete at position n, that is at least what was looked up before its stop; the
+-- rows shown behind it are, in ascending order, exactly those that the first n commits leave, with
+-- the tables dropped before it, and nothing of a transaction that was open then; and the
+-- recipient's disk holds a complete clone at n, which recovers to these rows whenever it is
+-- recovered.
 pub record Steps (words : List (List ℕ)) (before after : Ends) (final : State)
     (out binlog : List ℕ) : Type 0 where
   pub config : Config
@@ -144,14 +143,14 @@ pub record Steps (words : List (List ℕ)) (before after : Ends) (final : State)
       no_clone (all_events events)
   pub answers : out ≡ output events
   pub texts : binlog ≡ binlog_text (donor_of final.donor).binlog
-  pub donor : after.donor ≡ final.donor.donor.disk
+  pub donor : after.donor ≡ final.donor.donor.engine.disk
   pub recipient : after.recipient ≡ final.donor.recipient
   pub donor_orders : after.donor.orders
       ≡ before.donor.orders ++ filter_map donor_order lines
   pub recipient_orders : after.recipient.orders
       ≡ before.recipient.orders ++ filter_map recipient_order lines
   pub tells : final.tells ≡ (is_some before.donor.told && is_some before.recipient.told)
-  pub clone : HoldsClone (donor_of final.donor) final.tells final.clone after.recipient.told
+  pub clone : KeepsClone (donor_of final.donor) final.tells final.clone after.recipient.told
 
 -- a text and nothing of a binlog
 pub record IsSaid (text : Text) (out binlog : List ℕ) : Type 0 where
@@ -162,7 +161,8 @@ pub record IsSaid (text : Text) (out binlog : List ℕ) : Type 0 where
 -- that is determined by what it was given. Where memory runs out, the lines before that are due.
 abbrev pub Due : Status → List (List ℕ) → Ends → Ends → List ℕ → List ℕ → Type 0
 Due Done words before after out binlog =
-    (final : State) × Steps words before after final out binlog × (MetFault final → ⊥)
+    (final : State) × Steps words before after final out binlog
+    × (ending_of final.clone ≡ ending.Well)
 Due Memory words before after out binlog =
     (config : Config) × (lines : List Line) × (count : ℕ) × (events : List (List Event))
     × (final : State) × IsRead words before.source after.source config lines
@@ -187,8 +187,13 @@ Due RecipientFault words before after out binlog =
     × IsRead words before.source after.source config lines × LooksAtDisks before after
     × Rose before.recipient.failures after.recipient.failures
     × IsSaid recipient_fault out binlog)
-    ⊎ ((final : State) × Steps words before after final out binlog × MetFault final
+    ⊎ ((final : State) × Steps words before after final out binlog
+    × (ending_of final.clone ≡ ending.RecipientFault)
     × Rose before.recipient.failures after.recipient.failures)
+Due RestartsSpent words before after out binlog =
+    (final : State) × Steps words before after final out binlog
+    × (ending_of final.clone ≡ ending.RestartsSpent)
+    × Rose before.donor.failures after.donor.failures
 Due NotEmpty words before after out binlog =
     (config : Config) × (lines : List Line)
     × IsRead words before.source after.source config lines × LooksAtDisks before after

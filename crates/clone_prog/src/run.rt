@@ -20,10 +20,11 @@ ghost use Rattle.clone_prog.specs.Status.{number_of};
 use crate::reading::{Unread, read_words};
 use crate::status::Status;
 use clone_core::{World, run_laws};
-use clone_donor::{Donor, OpenCause, OpenRefusal, is_empty};
-use clone_model::{Config, Line, binlog_text};
+use clone_donor::Donor;
+use clone_engine::{OpenCause, OpenRefusal, is_empty};
+use clone_model::{Config, binlog_text};
 use clone_outside::{PageDisk, Refusal, Sink, Source, write_all};
-use clone_script::Script;
+use clone_script::{Line, Script};
 use std::alloc::Global;
 
 /// How a run ended, and the disks that it was given.
@@ -146,7 +147,7 @@ fn begin<D: PageDisk, R: PageDisk>(
         × ForTold (R.told recipient) (λ m. m ≡ blank)) }
     ensures donor { IfOk result (λ world.
         Visits (disk_of (D.told donor) (D.failures donor) (D.orders donor))
-        world.donor.donor.disk) }
+        world.donor.donor.engine.disk) }
     ensures recipient { IfOk result (λ world.
         Visits (disk_of (R.told recipient) (R.failures recipient) (R.orders recipient))
         world.donor.recipient) }
@@ -227,8 +228,7 @@ fn run_lines<K: Sink, B: Sink, D: PageDisk, R: PageDisk>(
         (B.failures binlog.old) (B.failures binlog.new) result }
 {
     match write_lines(alloc, lines, out, binlog, world) {
-        Ok(()) if world.met_fault() => Status::RecipientFault,
-        Ok(()) => Status::Done,
+        Ok(()) => Status::from(world.ending()),
         Err(refusal) => Status::from(refusal),
     }
 }

@@ -1,6 +1,7 @@
 ghost use Rattle.std.specs.Prelude.{◌≡◌};
-ghost use Rattle.clone_prog.specs.Status.{number_of, status_of};
+ghost use Rattle.clone_prog.specs.Status.{number_of, status_by, status_of};
 
+use clone_core::Ending;
 use clone_outside::Refusal;
 
 /// How a run ended.
@@ -23,6 +24,8 @@ pub enum Status {
     /// The recipient's disk failed before the first line, ended the clone, or came in the way of
     /// its rows.
     RecipientFault,
+    /// The donor's disk failed while a block of the clone was read, which ended the clone.
+    RestartsSpent,
     /// A disk held a space or a mark before the first line.
     NotEmpty,
     /// The script has more than 1,048,576 bytes.
@@ -43,6 +46,7 @@ impl Status {
             Status::SinkFault => 5,
             Status::DonorFault => 6,
             Status::RecipientFault => 7,
+            Status::RestartsSpent => 8,
             Status::NotEmpty => 9,
             Status::TooLong => 15,
         }
@@ -57,6 +61,19 @@ impl From<Refusal> for Status {
         match refusal {
             Refusal::Fault => Status::SinkFault,
             Refusal::NoMemory => Status::Memory,
+        }
+    }
+}
+
+/// The status of a run whose lines were all carried out.
+impl From<Ending> for Status {
+    ghost from_gives = { λ ending status. status ≡ status_by ending };
+
+    fn from(ending: Ending) -> Status {
+        match ending {
+            Ending::Well => Status::Done,
+            Ending::RecipientFault => Status::RecipientFault,
+            Ending::RestartsSpent => Status::RestartsSpent,
         }
     }
 }

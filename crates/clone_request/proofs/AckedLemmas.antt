@@ -41,14 +41,14 @@ use Rattle.clone_session.proofs.PartLemmas.{stands_as}
 use Rattle.clone_engine.specs.Engine.{Engine}
 use Rattle.clone_engine.proofs.DiskLemmas.{for_told}
 use Rattle.clone_engine.proofs.ReadLemmas.{told_both}
-use Rattle.clone_stages.specs.Acts as act
-use Rattle.clone_stages.specs.Acts.{Acts}
-use Rattle.clone_stages.specs.Archives.{IsOfLog}
-use Rattle.clone_stages.specs.Copying.{moment_of, taken_after, taken_over}
-use Rattle.clone_stages.specs.Donor.{Donor, IsDonor, list_of}
-use Rattle.clone_stages.specs.Laid.{IsComplete, IsLaid}
-use Rattle.clone_stages.specs.Taken.{HasStopped, IsTaken, IsTakenBy, Taken}
-use Rattle.clone_stages.proofs.BecomesLemmas.{Like, like}
+use Rattle.clone_donor.specs.Acts as act
+use Rattle.clone_donor.specs.Acts.{Acts}
+use Rattle.clone_donor.specs.Archives.{IsOfLog}
+use Rattle.clone_donor.specs.Copying.{moment_of, taken_after, taken_over}
+use Rattle.clone_donor.specs.Donor.{Donor, IsDonor, list_of}
+use Rattle.clone_donor.specs.Laid.{IsComplete, IsLaid}
+use Rattle.clone_donor.specs.Taken.{HasStopped, IsTaken, IsTakenBy, Taken}
+use Rattle.clone_donor.proofs.BecomesLemmas.{Like, like}
 use Rattle.clone_request.specs.declared.asking.TheConstants.{CALLER}
 use Rattle.clone_request.specs.Copying.{IsCopying, IsDone, IsEndOf, StartsAt}
 use Rattle.clone_request.specs.Reading.{Asks, stop_after_ack}

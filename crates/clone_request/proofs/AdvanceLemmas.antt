@@ -14,7 +14,7 @@ use Rattle.clone_session.specs.declared.info.StageInfo.{StageInfo}
 use Rattle.std.specs.FinMap as finite
 use Rattle.clone_plain.specs.Donor as plain
 use Rattle.clone_engine.proofs.DiskLemmas.{for_told}
-use Rattle.clone_stages.specs.Donor.{Donor}
+use Rattle.clone_donor.specs.Donor.{Donor}
 use Rattle.clone_request.specs.declared.requester.TheConstants.{SESSION}
 use Rattle.clone_request.specs.declared.requester.Advanced.{Advanced}
 use Rattle.clone_request.specs.declared.requester.Advanced.TheVariants.{Ready, Complete}

@@ -19,8 +19,8 @@ use Rattle.clone_trx.specs.Spaces.{spaces_of}
 use Rattle.clone_session.specs.declared.info.StageInfo.{StageInfo}
 use Rattle.clone_engine.specs.Engine.{Engine, IsEngine}
 use Rattle.clone_engine.proofs.DiskLemmas.{for_told}
-use Rattle.clone_stages.specs.Copies.{first_copies}
-use Rattle.clone_stages.specs.Donor.{Donor}
+use Rattle.clone_donor.specs.Copies.{first_copies}
+use Rattle.clone_donor.specs.Donor.{Donor}
 use Rattle.clone_request.specs.declared.requester.TheConstants.{SESSION}
 use Rattle.clone_request.specs.Copying.{HasBegun, IsCopying, StartsAt}
 use Rattle.clone_request.specs.Laying.{KeepsMark, with_rooms}

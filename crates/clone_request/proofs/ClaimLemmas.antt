@@ -23,10 +23,10 @@ use Rattle.clone_session.specs.Effects.{claimed}
 use Rattle.clone_session.proofs.PartLemmas.{stands_as}
 use Rattle.clone_engine.specs.Engine.{Engine}
 use Rattle.clone_engine.proofs.DiskLemmas.{for_told}
-use Rattle.clone_stages.specs.Acts as act
-use Rattle.clone_stages.specs.Acts.{Acts}
-use Rattle.clone_stages.specs.Donor.{Donor}
-use Rattle.clone_stages.specs.Taken.{IsTaken, Taken}
+use Rattle.clone_donor.specs.Acts as act
+use Rattle.clone_donor.specs.Acts.{Acts}
+use Rattle.clone_donor.specs.Donor.{Donor}
+use Rattle.clone_donor.specs.Taken.{IsTaken, Taken}
 use Rattle.clone_request.specs.declared.asking.TheConstants.{CALLER}
 use Rattle.clone_request.specs.Copying.{IsAllCopied, IsCopying, IsWork, StartsAt, free_left}
 use Rattle.clone_request.specs.Requester.{HoldsListed, HoldsStage, IsInStage, redo_from}

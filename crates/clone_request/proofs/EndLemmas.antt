@@ -5,7 +5,7 @@ use Rattle.clone_outside.specs.Disk.{DiskImage, ForTold, IsBeforeOrAfter, Steps}
 use Rattle.clone_outside.specs.Mark.{IsEnd}
 use Rattle.clone_outside.specs.declared.mark.CloneEnd.{CloneEnd}
 use Rattle.clone_outside.specs.declared.mark.Mark.TheVariants.{Complete}
-use Rattle.clone_apply.specs.Copied.{completed}
+use Rattle.clone_apply.specs.Staged.{completed}
 use Rattle.clone_apply.specs.Holds.{HoldsCopy}
 use Rattle.clone_lay.specs.Marked.{marked}
 use Rattle.clone_model.specs.History.{fold}
@@ -15,9 +15,9 @@ use Rattle.clone_session.specs.declared.info.StageInfo.{StageInfo}
 use Rattle.clone_session.specs.declared.info.Stop.{Stop}
 use Rattle.clone_session.specs.Cloning.{IsCloning}
 use Rattle.clone_engine.specs.Engine.{Engine}
-use Rattle.clone_stages.specs.Donor.{Donor, IsDonor}
-use Rattle.clone_stages.specs.Laid.{IsComplete}
-use Rattle.clone_stages.proofs.MomentLemmas.{one_moment}
+use Rattle.clone_donor.specs.Donor.{Donor, IsDonor}
+use Rattle.clone_donor.specs.Laid.{IsComplete}
+use Rattle.clone_donor.proofs.MomentLemmas.{one_moment}
 use Rattle.clone_request.specs.declared.requester.Advanced.{Advanced}
 use Rattle.clone_request.specs.declared.requester.Advanced.TheVariants as advanced
 use Rattle.clone_request.specs.declared.requester.StepRefusal.{StepRefusal}

@@ -31,8 +31,8 @@ use Rattle.clone_trx.proofs.Common.{none-some}
 use Rattle.clone_trx.proofs.SpaceLemmas.{IsSystem, space_is}
 use Rattle.clone_plain.specs.Donor as plain
 use Rattle.clone_engine.specs.Engine.{Engine, IsEngine}
-use Rattle.clone_stages.specs.Copies.{first_copies, first_copy, is_noted}
-use Rattle.clone_stages.proofs.PageLemmas.{image_page}
+use Rattle.clone_donor.specs.Copies.{first_copies, first_copy, is_noted}
+use Rattle.clone_donor.proofs.PageLemmas.{image_page}
 use Rattle.clone_request.specs.Laying.{with_rooms}
 use Rattle.clone_request.specs.Waiting.{Counts, HoldsPages, WaitsForPage}
 use Rattle.clone_request.proofs.PresenceLemmas.{bare, replayed_bare}

@@ -42,18 +42,18 @@ use Rattle.clone_session.specs.declared.copying.BlockWork.TheVariants as work
 use Rattle.clone_session.proofs.PartLemmas.{in_log}
 use Rattle.clone_engine.specs.Engine.{Engine}
 use Rattle.clone_engine.specs.Reading.{OnlyVisits}
-use Rattle.clone_stages.specs.Acts as act
-use Rattle.clone_stages.specs.Acts.{Acts}
-use Rattle.clone_stages.specs.Archives.{IsOfLog}
-use Rattle.clone_stages.specs.Copies.{PageRead}
-use Rattle.clone_stages.specs.Copying.{IsBlock, places_of, taken_from}
-use Rattle.clone_stages.specs.Donor.{ArePages, CopiesOwn, Donor, IsDonor, list_of}
-use Rattle.clone_stages.specs.Taken.{HasStopped, IsTaken, IsTakenBy, IsTakenIn, Taken}
-use Rattle.clone_stages.specs.declared.block.Block.{Block}
-use Rattle.clone_stages.specs.declared.block.Block.TheVariants as block
-use Rattle.clone_stages.specs.declared.block.BlockPage.{BlockPage}
-use Rattle.clone_stages.specs.declared.block.BlockRefusal.{BlockRefusal}
-use Rattle.clone_stages.proofs.ToldLemmas.{of_told}
+use Rattle.clone_donor.specs.Acts as act
+use Rattle.clone_donor.specs.Acts.{Acts}
+use Rattle.clone_donor.specs.Archives.{IsOfLog}
+use Rattle.clone_donor.specs.Copies.{PageRead}
+use Rattle.clone_donor.specs.Copying.{IsBlock, places_of, taken_from}
+use Rattle.clone_donor.specs.Donor.{ArePages, CopiesOwn, Donor, IsDonor, list_of}
+use Rattle.clone_donor.specs.Taken.{HasStopped, IsTaken, IsTakenBy, IsTakenIn, Taken}
+use Rattle.clone_donor.specs.declared.block.Block.{Block}
+use Rattle.clone_donor.specs.declared.block.Block.TheVariants as block
+use Rattle.clone_donor.specs.declared.block.BlockPage.{BlockPage}
+use Rattle.clone_donor.specs.declared.block.BlockRefusal.{BlockRefusal}
+use Rattle.clone_donor.proofs.ToldLemmas.{of_told}
 use Rattle.clone_request.specs.Copying.{IsCopying, IsWork, StartsAt, free_left}
 use Rattle.clone_request.specs.Laying.{KeepsMark, reads_of, with_laid}
 use Rattle.clone_request.specs.Reading.{AreLow, ReadsInto, work_after}

@@ -19,12 +19,12 @@ use Rattle.clone_engine.specs.Disks.{DiskState}
 use Rattle.clone_engine.specs.Engine.{Engine}
 use Rattle.clone_engine.specs.Steps.{Ends, Looks}
 use Rattle.clone_engine.proofs.DiskLemmas.{for_told}
-use Rattle.clone_stages.specs.Acts as act
-use Rattle.clone_stages.specs.Acts.{Act, Acts, Does, after_act}
-use Rattle.clone_stages.specs.Donor.{Donor}
-use Rattle.clone_stages.specs.Serving.{AnswersCall, Creates, Serves, ServesAs, noted_by, taken_by}
-use Rattle.clone_stages.specs.Taken.{IsTaken, Taken}
-use Rattle.clone_stages.proofs.ToldLemmas.{told_stays}
+use Rattle.clone_donor.specs.Acts as act
+use Rattle.clone_donor.specs.Acts.{Act, Acts, Does, after_act}
+use Rattle.clone_donor.specs.Donor.{Donor}
+use Rattle.clone_donor.specs.Serving.{AnswersCall, Creates, Serves, ServesAs, noted_by, taken_by}
+use Rattle.clone_donor.specs.Taken.{IsTaken, Taken}
+use Rattle.clone_donor.proofs.ToldLemmas.{told_stays}
 use Rattle.clone_request.specs.Advancing.{IsOutside}
 use Rattle.clone_request.specs.Requester.{HoldsListed, HoldsStage, IsBegun, IsCopied, IsInStage, IsStopOf, IsUnderWay, Requester, redo_from}
 use Rattle.clone_request.specs.Waiting.{AreSettled, HoldsPages, InWork, WaitsForPage, WaitsForRedo}

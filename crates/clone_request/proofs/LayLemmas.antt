@@ -6,8 +6,8 @@ use Rattle.std.proofs.lemmas.List.Elements.{All-from_recursion}
 use Rattle.clone_model.specs.declared.line.TheConstants.{MOST_PAGES}
 use Rattle.clone_outside.specs.Disk.{DiskImage, Steps}
 use Rattle.clone_lay.specs.Laid.{laid_page, with_room}
-use Rattle.clone_stages.specs.declared.block.BlockPage.{BlockPage}
-use Rattle.clone_stages.specs.Copies.{PageRead}
+use Rattle.clone_donor.specs.declared.block.BlockPage.{BlockPage}
+use Rattle.clone_donor.specs.Copies.{PageRead}
 use Rattle.clone_request.specs.Laying.{reads_of, with_laid, with_rooms}
 use Rattle.clone_request.proofs.StepLemmas.{laid_more, rooms_more, steps_then}
 

@@ -7,7 +7,7 @@ mod RedoLemmas
 mod StageLemmas
 mod PresenceLemmas
 mod FileLemmas
-mod KeepLemmas
+pub mod KeepLemmas
 mod ClaimLemmas
 mod AskLemmas
 mod ComesLemmas

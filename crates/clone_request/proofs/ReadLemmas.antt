@@ -25,15 +25,15 @@ use Rattle.clone_session.specs.declared.refusal.CloneCause.TheVariants.{ArchiveB
 use Rattle.clone_session.specs.declared.refusal.CloneRefusal.TheVariants as clone
 use Rattle.clone_session.proofs.PartLemmas.{stands_as}
 use Rattle.clone_engine.specs.Engine.{Engine}
-use Rattle.clone_stages.specs.Acts as act
-use Rattle.clone_stages.specs.Acts.{Acts}
-use Rattle.clone_stages.specs.Copying.{RefusesBlock}
-use Rattle.clone_stages.specs.Donor.{Donor, IsDonor}
-use Rattle.clone_stages.specs.Taken.{Taken}
-use Rattle.clone_stages.specs.declared.block.BlockRefusal.{BlockRefusal}
-use Rattle.clone_stages.specs.declared.block.BlockRefusal.TheVariants as block
-use Rattle.clone_stages.proofs.ArchiveRings.{next_kept}
-use Rattle.clone_stages.proofs.ToldLemmas.{told_stays}
+use Rattle.clone_donor.specs.Acts as act
+use Rattle.clone_donor.specs.Acts.{Acts}
+use Rattle.clone_donor.specs.Copying.{RefusesBlock}
+use Rattle.clone_donor.specs.Donor.{Donor, IsDonor}
+use Rattle.clone_donor.specs.Taken.{Taken}
+use Rattle.clone_donor.specs.declared.block.BlockRefusal.{BlockRefusal}
+use Rattle.clone_donor.specs.declared.block.BlockRefusal.TheVariants as block
+use Rattle.clone_donor.proofs.ArchiveRings.{next_kept}
+use Rattle.clone_donor.proofs.ToldLemmas.{told_stays}
 use Rattle.clone_request.specs.Causes.{IsNoCause, step_of}
 use Rattle.clone_request.specs.Copying.{IsCopying, StartsAt, free_left}
 use Rattle.clone_request.specs.Requester.{HoldsListed, HoldsStage, IsOwn}

@@ -7,8 +7,8 @@ use Rattle.clone_outside.specs.declared.Refusal.{Refusal}
 use Rattle.clone_outside.specs.declared.Refusal.TheVariants as outside
 use Rattle.clone_lay.specs.Faults.{ChangesOnly}
 use Rattle.clone_lay.specs.Laid.{laid_page, with_room}
-use Rattle.clone_stages.specs.Copies.{PageRead}
-use Rattle.clone_stages.specs.Donor.{Donor}
+use Rattle.clone_donor.specs.Copies.{PageRead}
+use Rattle.clone_donor.specs.Donor.{Donor}
 use Rattle.clone_request.specs.declared.requester.StepRefusal.{StepRefusal}
 use Rattle.clone_request.specs.declared.requester.StepRefusal.TheVariants.{RecipientFault, DonorFault, NoMemory}
 use Rattle.clone_request.specs.Advancing.{HasRisen, Lends}

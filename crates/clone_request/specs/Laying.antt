@@ -4,8 +4,8 @@ use Rattle.std.specs.declared.option.Option.{Option}
 use Rattle.clone_outside.specs.Disk.{DiskImage}
 use Rattle.clone_lay.specs.Laid.{laid_page, with_room}
 use Rattle.clone_recover.specs.Restores.{ForStep}
-use Rattle.clone_stages.specs.declared.block.BlockPage.{BlockPage}
-use Rattle.clone_stages.specs.Copies.{PageRead}
+use Rattle.clone_donor.specs.declared.block.BlockPage.{BlockPage}
+use Rattle.clone_donor.specs.Copies.{PageRead}
 
 -- room is made for each of these spaces in turn
 abbrev pub with_rooms : List (ℕ × ℕ) → DiskImage → DiskImage

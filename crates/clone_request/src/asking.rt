@@ -6,7 +6,7 @@ ghost use Rattle.clone_outside.specs.Disk.{DiskImage, ForTold};
 ghost use Rattle.clone_lay.specs.Sized.{PageCounts};
 ghost use Rattle.clone_plain.specs.Donor as plain;
 ghost use Rattle.clone_session.specs.declared.limits.TheConstants.{VERSION};
-ghost use Rattle.clone_stages.specs.Donor.{Donor};
+ghost use Rattle.clone_donor.specs.Donor.{Donor};
 ghost use Rattle.clone_request.specs.Advancing.{Lends, stop_from, HasRisen};
 ghost use Rattle.clone_request.specs.Copying.{IsAllCopied, IsCopying, free_left};
 ghost use Rattle.clone_request.specs.Requester.{IsStopOf, IsUnderWay};
@@ -15,10 +15,10 @@ ghost use Rattle.clone_request.specs.Causes.{IsNoCause, step_of};
 
 use crate::requester::{Requester, SESSION, StepRefusal};
 use clone_base::PAGE_SIZE;
+use clone_donor::{Block, BlockRefusal, Donor};
 use clone_outside::PageDisk;
 use clone_plain::EngineRefusal;
 use clone_session::{Caller, CloneCause, CloneRefusal, Hello, StageInfo, VERSION};
-use clone_stages::{Block, BlockRefusal, Donor};
 use std::alloc::Global;
 
 /// The requester's one task, in its first incarnation.

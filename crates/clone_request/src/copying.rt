@@ -14,11 +14,11 @@ ghost use Rattle.clone_request.specs.Reading.{AreLow, IsFit, with_block, work_af
 
 use crate::asking::{claim, read};
 use crate::requester::{Requester, StepRefusal};
+use clone_donor::{Block, BlockPage, Donor};
 use clone_lay::{Sizes, lay_page, lay_redo};
 use clone_model::MOST_PAGES;
 use clone_outside::{PageDisk, Refusal};
 use clone_session::StageInfo;
-use clone_stages::{Block, BlockPage, Donor};
 use std::alloc::Global;
 
 // A stage is copied.

@@ -7,7 +7,7 @@ ghost use Rattle.clone_outside.specs.declared.mark.Mark.TheVariants.{InProgress}
 ghost use Rattle.clone_plain.specs.Donor as plain;
 ghost use Rattle.clone_lay.specs.Marked.{marked};
 ghost use Rattle.clone_lay.specs.Sized.{AreSizes};
-ghost use Rattle.clone_stages.specs.Donor as staged;
+ghost use Rattle.clone_donor.specs.Donor as staged;
 ghost use Rattle.clone_request.specs.Requester.{IsStopOf, IsUnasked, IsUnderWay};
 ghost use Rattle.clone_request.specs.Advancing.{Completes, HasRisen, Leaves, Lends};
 ghost use Rattle.clone_request.specs.Copying.{IsDone};
@@ -15,10 +15,10 @@ ghost use Rattle.clone_request.specs.Laying.{KeepsMark, with_rooms};
 
 use crate::asking::CALLER;
 use clone_chunk::Stage;
+use clone_donor::Donor;
 use clone_lay::{Sizes, begin_copy, complete, make_room};
 use clone_outside::{CloneEnd, PageDisk, Refusal};
 use clone_session::{SpaceList, StageInfo};
-use clone_stages::Donor;
 use std::alloc::{AllocError, Global};
 use std::marker::Model;
 

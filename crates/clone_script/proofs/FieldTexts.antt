@@ -1,7 +1,7 @@
 -- A row and the value behind it.
 use Rattle.std.proofs.Common.{◌≡◌, ℕ, List, [], ◌∷◌, ◌++◌, Option, Some, None, IfSome, option_map, sym, ap, ◌∙◌, append_assoc}
 use Rattle.clone_model.specs.Texts.{value_text}
-use Rattle.clone_model.specs.Lines.{IsScriptValue}
+use Rattle.clone_model.specs.Ranges.{IsScriptValue}
 use Rattle.clone_script.specs.Fields.{IsRow, IsRowWithValue, row_text, row_with_value_text}
 use Rattle.clone_script.specs.declared.fields.Row.{Row}
 use Rattle.clone_script.specs.Reading.{Parses}

@@ -1,9 +1,9 @@
 -- Lines by their words and their fields.
 use Rattle.std.proofs.Common.{◌≡◌, ℕ, List, [], ◌∷◌, ◌++◌, Option, Some, None, option_map, drop, refl, sym, ap, ◌∙◌, arith}
 use Rattle.std.specs.Prelude.{codes}
-use Rattle.clone_model.specs.Lines.{line_text, IsInRange}
-use Rattle.clone_model.specs.declared.line.Line.{Line}
-use Rattle.clone_model.specs.declared.line.Line.TheVariants.{Put, Delete, Get, Set}
+use Rattle.clone_script.specs.Lines.{line_text, IsInRange}
+use Rattle.clone_script.specs.declared.lines.Line.{Line}
+use Rattle.clone_script.specs.declared.lines.Line.TheVariants.{Put, Delete, Get, Set, Start}
 use Rattle.clone_script.specs.Fields.{IsRow, IsRowWithValue, row_text, row_with_value_text}
 use Rattle.clone_script.specs.declared.fields.Row.{Row}
 use Rattle.clone_script.specs.Reading.{Parses, ParsesLine}
@@ -36,6 +36,7 @@ Parses-put fields read h = made_line IsRowWithValue row_with_value_text (λ x. P
 
 fields-set : (fields : List ℕ) (l : Line) → IsInRange l → codes "set " ++ fields ≡ line_text l → (x : Row × List ℕ) × IsRowWithValue x × (fields ≡ row_with_value_text x) × (l ≡ Set x.0.number x.0.table x.0.key x.1)
 fields-set fields (Set writer table key value) r e = ((record { number = writer; table = table; key = key }, value), ((r.0, r.1, r.2), r.3), ap (drop 4) e, refl)
+fields-set fields Start r e = absurd (omega (arith, ap (λ t. first_of (drop 1 t)) e))
 fields-set fields l r e = absurd (omega (arith, ap first_of e))
 
 pub Parses-set : (fields : List ℕ) (read : Option (Row × List ℕ)) → Parses IsRowWithValue row_with_value_text fields read → ParsesLine (codes "set " ++ fields) (option_map (λ x. Set x.0.number x.0.table x.0.key x.1) read)

@@ -1,8 +1,8 @@
 -- Which texts give something.
 use Rattle.std.proofs.Common.{◌≡◌, ℕ, ◌+◌, ◌*◌, List, [], ◌∷◌, Some, Bool, true, false, sym, ap, ◌∙◌, subst, arith}
-use Rattle.clone_model.specs.Lines.{line_text}
-use Rattle.clone_model.specs.declared.line.Line.{Line}
-use Rattle.clone_model.specs.declared.line.Line.TheVariants.{Put, Rows}
+use Rattle.clone_script.specs.Lines.{line_text}
+use Rattle.clone_script.specs.declared.lines.Line.{Line}
+use Rattle.clone_script.specs.declared.lines.Line.TheVariants.{Put, Rows}
 use Rattle.clone_script.specs.Given.{Given}
 use Rattle.clone_script.specs.Script.{IsPassed, IsHeadInRange, head_text, GivesSize, Gives, passed, size, line}
 use Rattle.clone_script.specs.Reading.{Parses, Takes, TakesSize}

@@ -2,7 +2,7 @@
 use Rattle.std.specs.Prelude.{ℕ, ◌<◌, ◌^◌, List, ◌++◌, codes}
 use Rattle.std.specs.Fmt.{decimal}
 use Rattle.clone_model.specs.Texts.{value_text}
-use Rattle.clone_model.specs.Lines.{IsTable, IsScriptValue}
+use Rattle.clone_model.specs.Ranges.{IsTable, IsScriptValue}
 use Rattle.clone_script.specs.declared.fields.Row.{Row}
 
 -- each number is in its range

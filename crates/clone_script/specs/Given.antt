@@ -3,7 +3,7 @@ use Rattle.std.specs.Prelude.{ℕ, List, [], ◌∷◌, ◌++◌, Option, None, 
 use Rattle.std.specs.Option.{unwrap_or}
 use Rattle.clone_model.specs.Config.{usual}
 use Rattle.clone_model.specs.declared.config.Config.{Config}
-use Rattle.clone_model.specs.declared.line.Line.{Line}
+use Rattle.clone_script.specs.declared.lines.Line.{Line}
 
 pub record Given : Type 0 where
   -- the size of the pool and that of the ring, if a text gave it

@@ -1,3 +1,4 @@
+pub mod Lines
 pub mod Given
 pub mod Script
 pub mod Fields

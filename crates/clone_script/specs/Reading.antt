@@ -1,8 +1,8 @@
 -- What reading a script answers, and what reading a text of it answers.
 use Rattle.std.specs.Prelude.{ℕ, ◌≡◌, List, Option, Some, IfSome, Result, Ok, Err, Bool, true, false, ⊤}
-use Rattle.clone_model.specs.Lines.{line_text, IsInRange}
-use Rattle.clone_model.specs.declared.line.Line.{Line}
-use Rattle.clone_model.specs.declared.line.Line.TheVariants.{Create, Begin, Put, Delete, Get, Undo, Commit, Set, Clean, Checkpoint, Lsn, Clone, Rows}
+use Rattle.clone_script.specs.Lines.{line_text, IsInRange}
+use Rattle.clone_script.specs.declared.lines.Line.{Line}
+use Rattle.clone_script.specs.declared.lines.Line.TheVariants.{Create, Begin, Put, Delete, Get, Undo, Commit, Set, Clean, Checkpoint, Lsn, Start, Advance, Finish, Look, Clone, Rows}
 use Rattle.clone_script.specs.Given.{Given}
 use Rattle.clone_script.specs.Script.{IsScript, IsFirstBad, Gives, GivesSize}
 use Rattle.clone_script.specs.declared.head.HeadLine.{HeadLine}
@@ -36,7 +36,7 @@ pub record Parses {X : Type 0} (InRange : X → Type 0) (text_of : X → List �
 abbrev pub ParsesLine : List ℕ → Option Line → Type 0
 ParsesLine text result = Parses IsInRange line_text text result
 
--- a line of the disk or of the log, or one without fields
+-- a line of the disk, of the log or of a clone, or one without fields
 abbrev pub IsOfDisk : Line → Type 0
 IsOfDisk (Create table buckets) = ⊥
 IsOfDisk (Begin writer) = ⊥
@@ -53,6 +53,10 @@ abbrev pub IsBare : Line → Type 0
 IsBare Clean = Unit {0}
 IsBare Checkpoint = Unit {0}
 IsBare Lsn = Unit {0}
+IsBare Start = Unit {0}
+IsBare Advance = Unit {0}
+IsBare Finish = Unit {0}
+IsBare Look = Unit {0}
 IsBare Clone = Unit {0}
 IsBare Rows = Unit {0}
 IsBare l = ⊥

@@ -2,9 +2,9 @@
 use Rattle.std.specs.Prelude.{ℕ, ◌≡◌, ◌+◌, ◌==◌, List, [], ◌∷◌, ◌++◌, None, length, codes, if◌then◌else◌}
 use Rattle.std.specs.Fmt.{decimal}
 use Rattle.clone_model.specs.Config.{IsPoolSize, IsRingSize}
-use Rattle.clone_model.specs.Lines.{line_text, IsInRange}
+use Rattle.clone_script.specs.Lines.{line_text, IsInRange}
 use Rattle.clone_model.specs.declared.config.Config.{Config}
-use Rattle.clone_model.specs.declared.line.Line.{Line}
+use Rattle.clone_script.specs.declared.lines.Line.{Line}
 use Rattle.clone_script.specs.Given.{Given, nothing, with_pool, with_ring, with_line, config_of}
 use Rattle.clone_script.specs.declared.head.HeadLine.{HeadLine}
 use Rattle.clone_script.specs.declared.head.HeadLine.TheVariants.{Pool, Ring}

@@ -4,10 +4,10 @@ ghost use Rattle.clone_script.specs.Given.{nothing, config_of};
 ghost use Rattle.clone_script.specs.Script.{IsPassed, IsHeadInRange};
 ghost use Rattle.clone_script.specs.Reading.{Takes, TakesSize};
 
-use crate::Script;
 use crate::head::{HeadLine, parse_head};
 use crate::line::parse_line;
-use clone_model::{Config, Line};
+use crate::{Line, Script};
+use clone_model::Config;
 use std::alloc::{AllocError, Global};
 use std::marker::Model;
 

@@ -2,7 +2,7 @@ ghost use Rattle.std.specs.Prelude.{ℕ, ◌≡◌, ◌≤◌, ◌<◌, ◌^◌,
 ghost use Rattle.std.specs.Option.{SomeIff};
 ghost use Rattle.std.specs.Fmt.{decimal};
 ghost use Rattle.clone_model.specs.Config.{IsPoolSize, IsRingSize};
-ghost use Rattle.clone_model.specs.Lines.{IsCall};
+ghost use Rattle.clone_model.specs.Ranges.{IsCall};
 ghost use Rattle.clone_model.specs.declared.line.TheConstants.{HIGHEST_TABLE, MOST_BUCKETS, MOST_PAGES};
 ghost use Rattle.clone_script.specs.Fields.{IsRow, IsRowWithValue, row_text, row_with_value_text};
 ghost use Rattle.clone_script.specs.Reading.{Parses};

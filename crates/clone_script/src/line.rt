@@ -1,12 +1,13 @@
 ghost use Rattle.std.specs.Prelude.{◌++◌, IfOk, codes};
-ghost use Rattle.clone_model.specs.Lines.{line_text};
+ghost use Rattle.clone_script.specs.Lines.{line_text};
 ghost use Rattle.clone_script.specs.Reading.{Parses, ParsesLine, IsOfDisk, IsBare};
 
+use crate::Line;
 use crate::fields::{
     bucket_count, byte_of, call_of, page_number, read_row, read_row_with_value, small_number,
     space_number, table_number,
 };
-use clone_model::{Line, leading_number, number_of, split_once};
+use clone_model::{leading_number, number_of};
 use std::alloc::{AllocError, Global};
 
 /// The line that has this text.
@@ -40,7 +41,7 @@ pub fn parse_line(alloc: Global, text: &[u8]) -> Result<Option<Line>, AllocError
     Ok(disk_line(text))
 }
 
-/// The line of the disk or of the log that has this text, or the one without fields.
+/// The line of the disk, of the log or of a clone that has this text, or the one without fields.
 fn disk_line(text: &[u8]) -> Option<Line>
     ensures { Parses IsOfDisk line_text text.now result }
 {
@@ -62,6 +63,9 @@ fn disk_line(text: &[u8]) -> Option<Line>
     if let Some(field) = text.strip_prefix(b"fail recipient ") {
         return fail_recipient(field);
     }
+    if let Some(field) = text.strip_prefix(b"archive ") {
+        return archive(field);
+    }
     bare_line(text)
 }
 
@@ -77,6 +81,18 @@ fn bare_line(text: &[u8]) -> Option<Line>
     }
     if text == b"lsn".as_slice() {
         return Some(Line::Lsn);
+    }
+    if text == b"start".as_slice() {
+        return Some(Line::Start);
+    }
+    if text == b"advance".as_slice() {
+        return Some(Line::Advance);
+    }
+    if text == b"finish".as_slice() {
+        return Some(Line::Finish);
+    }
+    if text == b"look".as_slice() {
+        return Some(Line::Look);
     }
     if text == b"clone".as_slice() {
         return Some(Line::Clone);
@@ -231,4 +247,12 @@ fn fail_recipient(field: &[u8]) -> Option<Line>
 {
     let call = call_of(field)?;
     Some(Line::FailRecipient { call })
+}
+
+/// The `archive` with this field: a number of bytes.
+fn archive(field: &[u8]) -> Option<Line>
+    ensures { ParsesLine (codes "archive " ++ field.now) result }
+{
+    let bytes = small_number(field)?;
+    Some(Line::Archive { bytes })
 }

@@ -3,9 +3,10 @@ ghost use Rattle.clone_model.specs.Config.{IsConfig};
 ghost use Rattle.clone_script.specs.Reading.{Reads};
 ghost use Rattle.clone_script.specs.declared.read.ReadRefusal.TheVariants.{NoMemory};
 
+use crate::Line;
 use crate::draft::Draft;
 use crate::split::first_text;
-use clone_model::{Config, Line};
+use clone_model::Config;
 use std::alloc::{AllocError, AllocFailed, Global};
 
 /// How many bytes a script may have.

@@ -1,7 +1,6 @@
 use clone_model::{
-    Binlog, BucketCount, Change, Changes, Commit, Config, Line, ReadRefusal, ScriptValue,
-    TableNumber, Tables, Value, binlog_text, fold, line_text, read_binlog, rows_text,
-    script_value_of,
+    Binlog, Change, Changes, Commit, Config, ReadRefusal, ScriptValue, Tables, Value, binlog_text,
+    fold, read_binlog, rows_text, script_value_of,
 };
 use std::alloc::Global;
 use std::process::Abort;
@@ -112,73 +111,6 @@ fn a_binlog_read_back(rt: HostRuntime) -> Result<(), ReadRefusal> {
 }
 
 #[test]
-fn texts_of_lines_about_rows(rt: HostRuntime) -> Result<(), Fail> {
-    let (trx, key) = (2, u64::MAX);
-    let table = TableNumber::new(1_000_000).ok_or("in range")?;
-    let put = Line::Put {
-        trx,
-        table,
-        key,
-        value: script_value(rt.alloc(), b"")?,
-    };
-    let set = Line::Set {
-        writer: 0,
-        table,
-        key: 7,
-        value: script_value(rt.alloc(), b"hi")?,
-    };
-    let delete = Line::Delete { trx, table, key };
-    let get = Line::Get { trx, table, key };
-    check_text(&rt, &put, "put 2 1000000 18446744073709551615 -")?;
-    check_text(&rt, &delete, "del 2 1000000 18446744073709551615")?;
-    check_text(&rt, &get, "get 2 1000000 18446744073709551615")?;
-    check_text(&rt, &set, "set 0 1000000 7 6869")
-}
-
-#[test]
-fn texts_of_lines_about_tables_and_transactions(rt: HostRuntime) -> Result<(), Fail> {
-    let create = Line::Create {
-        table: TableNumber::new(1).ok_or("in range")?,
-        buckets: BucketCount::new(16).ok_or("in range")?,
-    };
-    let lines = [
-        (create, "create 1 16"),
-        (Line::Begin { writer: 3 }, "begin 3"),
-        (Line::Undo { trx: 0 }, "undo 0"),
-        (Line::Commit { trx: u32::MAX }, "commit 4294967295"),
-    ];
-    for (line, text) in &lines {
-        check_text(&rt, line, text)?;
-    }
-    Ok(())
-}
-
-#[test]
-fn texts_of_lines_about_the_disk(rt: HostRuntime) -> Result<(), Fail> {
-    let (space, page) = (1_000_000, 65_535);
-    let lines = [
-        (Line::Flush { space: 0, page: 3 }, "flush 0 3"),
-        (Line::Half { space: 1, page: 0 }, "half 1 0"),
-        (Line::Land { space, page }, "land 1000000 65535"),
-        (Line::Clean, "clean"),
-        (Line::Checkpoint, "checkpoint"),
-        (Line::Lsn, "lsn"),
-        (Line::Tear { byte: 255 }, "tear 255"),
-        (Line::FailDonor { call: 1 }, "fail donor 1"),
-        (
-            Line::FailRecipient { call: 1_000_000 },
-            "fail recipient 1000000",
-        ),
-        (Line::Clone, "clone"),
-        (Line::Rows, "rows"),
-    ];
-    for (line, text) in &lines {
-        check_text(&rt, line, text)?;
-    }
-    Ok(())
-}
-
-#[test]
 fn usual_sizes(rt: HostRuntime) {
     let Config { pool, ring } = Config::usual();
     assert_eq!(rt; (pool, ring), (256, 1_048_576));
@@ -239,11 +171,6 @@ fn what_a_history_leaves(rt: HostRuntime) -> Result<(), Fail> {
     let text = rows_text(alloc, &tables.rows(alloc)?)?;
     assert_eq!(rt; text.as_str(), "1 7 63\n");
     assert!(rt; tables.get(1, 8).is_none());
-    Ok(())
-}
-
-fn check_text(rt: &(impl Abort + AllocGlobal), line: &Line, text: &str) -> Result<(), Fail> {
-    assert_eq!(rt; line_text(rt.alloc(), line)?.as_str(), text);
     Ok(())
 }
 

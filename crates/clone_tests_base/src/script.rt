@@ -1,10 +1,9 @@
-use clone_model::{Line, line_text};
-use clone_script::{ReadRefusal, read_script};
+use clone_script::{Line, ReadRefusal, line_text, read_script};
 use std::process::Abort;
 use std::test::*;
 
 /// Scripts with the number of their lines.
-const GOOD: [(&[u8], usize); 7] = [
+const GOOD: [(&[u8], usize); 8] = [
     (b"", 0),
     (b"\n\n# comment\n#\n", 0),
     (b"create 1 4\nset 0 1 7 6869\nclone\nrows", 4),
@@ -18,10 +17,11 @@ const GOOD: [(&[u8], usize); 7] = [
         6,
     ),
     (b"commit 4294967295\n#undo\n\nundo 0", 2),
+    (b"start\nadvance\nlook\narchive 100\nfinish\nrows\n", 6),
 ];
 
 /// Texts of lines, each of which is read and shown again.
-const LINES: [&str; 31] = [
+const LINES: [&str; 37] = [
     "create 1 1",
     "create 1000000 1024",
     "begin 0",
@@ -51,6 +51,12 @@ const LINES: [&str; 31] = [
     "fail donor 1000000",
     "fail recipient 1",
     "fail recipient 1000000",
+    "start",
+    "advance",
+    "finish",
+    "look",
+    "archive 0",
+    "archive 4294967295",
     "clone",
     "rows",
 ];
@@ -269,6 +275,53 @@ const BAD_OF_ORDERS: [&[u8]; 40] = [
     b"fail disk 1",
 ];
 
+/// Texts about clones in stages that are no lines.
+const BAD_OF_STAGES: [&[u8]; 43] = [
+    b" start",
+    b"start ",
+    b"start 1",
+    b"starts",
+    b"star",
+    b"Start",
+    b" advance",
+    b"advance ",
+    b"advance 1",
+    b"advances",
+    b"advanc",
+    b"Advance",
+    b" finish",
+    b"finish ",
+    b"finish 1",
+    b"finishs",
+    b"finis",
+    b"Finish",
+    b" look",
+    b"look ",
+    b"look 1",
+    b"looks",
+    b"loo",
+    b"Look",
+    b"start\r",
+    b"look\t",
+    b"start advance",
+    b"archive",
+    b"archive ",
+    b"archive 1 2",
+    b"archive  1",
+    b" archive 1",
+    b"archive 1 ",
+    b"archive\t1",
+    b"archive 01",
+    b"archive 4294967296",
+    b"archive 18446744073709551616",
+    b"archive -1",
+    b"archive -",
+    b"archive ff",
+    b"archives 1",
+    b"archiv 1",
+    b"Archive 1",
+];
+
 /// Scripts with the sizes of the pool and the ring, and the number of their lines.
 const GOOD_HEADS: [(&[u8], u32, u64, usize); 13] = [
     (b"", 256, 1_048_576, 0),
@@ -384,6 +437,13 @@ fn bad_lines_of_pages(rt: HostRuntime) {
 #[test]
 fn bad_lines_of_orders(rt: HostRuntime) {
     for text in BAD_OF_ORDERS {
+        check_refused(&rt, text, 1);
+    }
+}
+
+#[test]
+fn bad_lines_of_stages(rt: HostRuntime) {
+    for text in BAD_OF_STAGES {
         check_refused(&rt, text, 1);
     }
 }

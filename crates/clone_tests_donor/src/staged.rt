@@ -1,12 +1,12 @@
+use crate::trx::opened;
 use clone_base::FIRST_LSN;
 use clone_chunk::Stage;
-use clone_engine::OpenRefusal;
+use clone_donor::{Block, BlockRefusal, Donor};
 use clone_memdisk::MemDisk;
 use clone_model::{BucketCount, Config, TableNumber};
 use clone_outside::DiskOrder;
 use clone_plain::{Cause, EngineRefusal};
 use clone_session::{Caller, CloneCause, CloneRefusal, Hello, Stop};
-use clone_stages::{Block, BlockRefusal, Donor};
 use std::alloc::Global;
 use std::process::Abort;
 use std::test::Fail;
@@ -26,19 +26,10 @@ const HELLO: Hello = Hello {
     incarnation: 1,
 };
 
-fn opened(alloc: Global) -> Result<Donor<MemDisk>, Fail> {
-    let config = Config {
-        pool: 64,
-        ring: 65_536,
-    };
-    match Donor::open(alloc, MemDisk::new(alloc), config) {
-        Ok(donor) => Ok(donor),
-        Err(refusal) => {
-            let OpenRefusal { cause: _, disk: _ } = refusal;
-            Err(Fail::from("not opened"))
-        }
-    }
-}
+const ROOM: Config = Config {
+    pool: 64,
+    ring: 65_536,
+};
 
 // Makes a table of three pages.
 fn make_table(donor: &mut Donor<MemDisk>, number: u32) -> Result<Result<(), EngineRefusal>, Fail> {
@@ -186,7 +177,7 @@ fn copy_all(rt: &impl Abort, alloc: Global, donor: &mut Donor<MemDisk>) -> Resul
 
 #[test]
 fn a_clone_from_its_session_to_its_end(rt: HostRuntime) -> Result<(), Fail> {
-    let mut donor = opened(rt.alloc())?;
+    let mut donor = opened(rt.alloc(), ROOM)?;
     let done = copy_all(&rt, rt.alloc(), &mut donor);
     let _disk = donor.into_disk();
     done
@@ -215,7 +206,7 @@ fn fail_block(rt: &impl Abort, alloc: Global, donor: &mut Donor<MemDisk>) -> Res
 
 #[test]
 fn the_disk_fails_in_a_block(rt: HostRuntime) -> Result<(), Fail> {
-    let mut donor = opened(rt.alloc())?;
+    let mut donor = opened(rt.alloc(), ROOM)?;
     let done = fail_block(&rt, rt.alloc(), &mut donor);
     let _disk = donor.into_disk();
     done

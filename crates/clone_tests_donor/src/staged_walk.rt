@@ -2,7 +2,6 @@
 //! stages. Each clone is recovered, and has the rows that the plain program had at its stop.
 ghost use Rattle.clone_model.specs.Config.{IsConfig};
 
-mod asking;
 mod copying;
 mod counts;
 mod drawn;
@@ -16,11 +15,11 @@ use crate::staged_walk::counts::Counts;
 use crate::staged_walk::taking::take_clone;
 use crate::staged_walk::walk::Walk;
 use crate::trx::drawn::words_from;
-use clone_engine::OpenRefusal;
+use crate::trx::opened;
+use clone_donor::Donor;
 use clone_memdisk::MemDisk;
 use clone_model::Config;
 use clone_outside::DiskOrder;
-use clone_stages::Donor;
 use rand_pcg::Pcg32;
 use std::alloc::Global;
 use std::process::Abort;
@@ -49,19 +48,6 @@ const LITTLE_LOG: Config = Config {
     pool: 20,
     ring: 65_536,
 };
-
-// A donor over an empty disk, of which reads of half written pages are torn.
-fn opened(alloc: Global, config: Config) -> Result<Donor<MemDisk>, Fail>
-    requires config { IsConfig config }
-{
-    match Donor::open(alloc, MemDisk::new(alloc), config) {
-        Ok(donor) => Ok(donor),
-        Err(refusal) => {
-            let OpenRefusal { cause: _, disk: _ } = refusal;
-            Err(Fail::from("not opened"))
-        }
-    }
-}
 
 // Calls and clones by turns.
 fn go(rt: &impl Abort, donor: &mut Donor<MemDisk>, walk: &mut Walk) -> Result<(), Fail> {

@@ -1,17 +1,22 @@
 ghost use Rattle.clone_model.specs.Config.{IsConfig};
 
-use clone_donor::{Donor, OpenRefusal};
-use clone_model::{BucketCount, Config, TableNumber, Value, push_value};
+use crate::trx::logged::Logged;
+use clone_donor::Donor;
+use clone_engine::OpenRefusal;
+use clone_memdisk::MemDisk;
+use clone_model::{Config, Value, push_value};
 use clone_outside::PageDisk;
 use clone_plain::{Cause, EngineRefusal, Undone};
 use std::alloc::{AllocError, Global};
 use std::process::Abort;
 use std::test::Fail;
 
+pub mod asking;
 mod beside;
 mod calls;
 pub mod drawn;
 mod flushed_walk;
+mod logged;
 mod opening;
 mod pages;
 pub mod plain;
@@ -67,11 +72,11 @@ const ENOUGH: Config = Config {
     ring: 16_777_216,
 };
 
-/// A donor over an empty disk.
-pub fn opened<D: PageDisk + Drop>(alloc: Global, disk: D, config: Config) -> Result<Donor<D>, Fail>
+/// A donor over an empty disk in memory.
+pub fn opened(alloc: Global, config: Config) -> Result<Donor<MemDisk>, Fail>
     requires config { IsConfig config }
 {
-    match Donor::open(alloc, disk, config) {
+    match Donor::open(alloc, MemDisk::new(alloc), config) {
         Ok(donor) => Ok(donor),
         Err(refusal) => {
             let OpenRefusal { cause: _, disk: _ } = refusal;
@@ -80,111 +85,15 @@ pub fn opened<D: PageDisk + Drop>(alloc: Global, disk: D, config: Config) -> Res
     }
 }
 
-/// Makes a call, which answers, or names the cause against it. Want of memory is an error.
-pub fn ask<D: PageDisk>(
-    alloc: Global,
-    donor: &mut Donor<D>,
-    call: Call,
-) -> Result<Result<Answer, Cause>, Fail> {
-    let answer = match call {
-        Call::Create(table, buckets) => {
-            let table = TableNumber::new(table).ok_or("no number of a table")?;
-            let buckets = BucketCount::new(buckets).ok_or("no number of buckets")?;
-            created(donor, table, buckets)
-        }
-        Call::Begin(writer, index) => begun(alloc, donor, writer, index),
-        Call::Put(trx, table, key, value) => put(donor, trx, table, key, value),
-        Call::Delete(trx, table, key) => deleted(donor, trx, table, key),
-        Call::Get(trx, table, key) => shown(donor, trx, table, key),
-        Call::Undo(trx) => taken_back(donor, trx),
-        Call::Commit(trx) => committed(donor, trx),
-    };
-    Ok(answered(answer)?)
-}
-
-fn created<D: PageDisk>(
-    donor: &mut Donor<D>,
-    table: TableNumber,
-    buckets: BucketCount,
-) -> Result<Answer, EngineRefusal> {
-    donor.create(table, buckets)?;
-    Ok(Answer::Created)
-}
-
-fn begun<D: PageDisk>(
-    alloc: Global,
-    donor: &mut Donor<D>,
-    writer: u32,
-    index: u64,
-) -> Result<Answer, EngineRefusal> {
-    let trx = donor.begin(alloc, writer, index)?;
-    Ok(Answer::Begun(trx))
-}
-
-fn put<D: PageDisk>(
-    donor: &mut Donor<D>,
-    trx: u32,
-    table: u32,
-    key: u64,
-    value: &[u8],
-) -> Result<Answer, EngineRefusal> {
-    donor.put(trx, table, key, value)?;
-    Ok(Answer::Changed)
-}
-
-fn deleted<D: PageDisk>(
-    donor: &mut Donor<D>,
-    trx: u32,
-    table: u32,
-    key: u64,
-) -> Result<Answer, EngineRefusal> {
-    donor.delete(trx, table, key)?;
-    Ok(Answer::Changed)
-}
-
-fn shown<D: PageDisk>(
-    donor: &mut Donor<D>,
-    trx: u32,
-    table: u32,
-    key: u64,
-) -> Result<Answer, EngineRefusal> {
-    let value = donor.get(trx, table, key)?;
-    Ok(Answer::Shown(value))
-}
-
-fn taken_back<D: PageDisk>(donor: &mut Donor<D>, trx: u32) -> Result<Answer, EngineRefusal> {
-    let undone = donor.undo_one(trx)?;
-    Ok(Answer::TakenBack(undone))
-}
-
-fn committed<D: PageDisk>(donor: &mut Donor<D>, trx: u32) -> Result<Answer, EngineRefusal> {
-    let position = donor.commit(trx)?;
-    Ok(Answer::Committed(position))
-}
-
-/// A step of a page's flush, or the cause against it. Want of memory is an error.
-pub fn flush<D: PageDisk>(
-    donor: &mut Donor<D>,
-    step: FlushStep,
-    page: PageAt,
-) -> Result<Result<(), Cause>, AllocError> {
-    let (space, number) = page;
-    answered(match step {
-        FlushStep::Begin => donor.flush_begin(space, number),
-        FlushStep::Half => donor.flush_half(space, number),
-        FlushStep::Land => donor.flush_land(space, number),
-    })
-}
-
 // Makes calls, each of which has this answer, in the words of a script.
 fn expect<D: PageDisk>(
     rt: &impl Abort,
     alloc: Global,
-    donor: &mut Donor<D>,
+    donor: &mut Logged<D>,
     steps: &[(Call, &str)],
 ) -> Result<(), Fail> {
     for (call, text) in steps {
-        expect_text(rt, alloc, ask(alloc, donor, *call)?, text)?;
+        expect_text(rt, alloc, donor.ask(alloc, *call)?, text)?;
     }
     Ok(())
 }

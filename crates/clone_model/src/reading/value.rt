@@ -1,7 +1,7 @@
 ghost use Rattle.std.specs.Prelude.{ℕ, ◌≡◌, ◌<◌, ◌≤◌, ◌++◌, List, Option, IfOk, IfSome, IsSomeAnd, length, take};
 ghost use Rattle.clone_model.specs.Texts.{hex_digit, hex_byte, hex, value_text};
 ghost use Rattle.clone_model.specs.Texts as texts;
-ghost use Rattle.clone_model.specs.Lines.{IsScriptValue};
+ghost use Rattle.clone_model.specs.Ranges.{IsScriptValue};
 ghost use Rattle.clone_model.specs.Reading.{IsValue, IsValueOrNone, AreBytes, IsFront};
 
 use crate::{LONGEST_SCRIPT_VALUE, ScriptValue, Value};

@@ -4,9 +4,9 @@ use crate::staged_walk::TORN;
 use crate::staged_walk::counts::count;
 use crate::staged_walk::requester::Requester;
 use crate::staged_walk::walk::Walk;
+use clone_donor::{Block, BlockRefusal, Donor};
 use clone_memdisk::MemDisk;
 use clone_session::{Caller, CloneCause, CloneRefusal};
-use clone_stages::{Block, BlockRefusal, Donor};
 use std::process::Abort;
 use std::test::Fail;
 

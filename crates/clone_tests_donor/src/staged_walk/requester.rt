@@ -4,11 +4,11 @@ ghost use Rattle.clone_base.specs.declared.limits.TheConstants.{LSN_LIMIT, PAGE_
 ghost use Rattle.std.specs.Prelude.{◌≡◌, ◌≤◌, ◌+◌, ◌-◌, ◌%◌, IsTrue};
 
 use clone_base::{LSN_LIMIT, PAGE_SIZE};
+use clone_donor::{Block, BlockPage};
 use clone_lay::{Sizes, begin_copy, complete, lay_page, lay_redo, make_room, size_laws};
 use clone_memdisk::MemDisk;
 use clone_outside::CloneEnd;
 use clone_session::StageInfo;
-use clone_stages::{Block, BlockPage};
 use std::alloc::Global;
 use std::test::Fail;
 

@@ -2,18 +2,18 @@
 //! donor, the flushes that are under way, and how much of the log is kept.
 ghost use Rattle.std.specs.Prelude.{◌<◌};
 
-use crate::staged_walk::asking::{ask, flush};
 use crate::staged_walk::counts::{Counts, count};
 use crate::staged_walk::drawn::drawn_call;
 use crate::staged_walk::flights::Flights;
 use crate::staged_walk::kept::Kept;
+use crate::trx::asking::{ask, flush};
 use crate::trx::drawn::{below, drawn_bytes};
 use crate::trx::plain::Plain;
 use crate::trx::{Answer, Call, FlushStep, PageAt, answered};
+use clone_donor::Donor;
 use clone_memdisk::MemDisk;
 use clone_model::Config;
 use clone_plain::Cause;
-use clone_stages::Donor;
 use rand_pcg::Pcg32;
 use std::alloc::Global;
 use std::process::Abort;

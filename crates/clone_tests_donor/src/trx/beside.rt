@@ -1,9 +1,9 @@
 use crate::trx::drawn::{below, drawn_bytes, drawn_call};
+use crate::trx::logged::Logged;
 use crate::trx::pages::Pages;
 use crate::trx::plain::Plain;
-use crate::trx::{Answer, Call, FlushStep, PageAt, answered, ask, flush};
+use crate::trx::{Answer, Call, FlushStep, PageAt, answered};
 use clone_base::FIRST_LSN;
-use clone_donor::Donor;
 use clone_model::Config;
 use clone_mtr::decode;
 use clone_outside::PageDisk;
@@ -99,11 +99,11 @@ impl Beside {
     pub fn call<D: PageDisk>(
         &mut self,
         rt: &impl Abort,
-        donor: &mut Donor<D>,
+        donor: &mut Logged<D>,
         call: Call,
     ) -> Result<(), Fail> {
         let start = donor.end();
-        let answer = ask(self.alloc, donor, call)?;
+        let answer = donor.ask(self.alloc, call)?;
         let end = donor.end();
         match answer {
             Ok(answer) => {
@@ -162,7 +162,7 @@ impl Beside {
     }
 
     // The page to be flushed next is the plain one.
-    fn expect_oldest<D: PageDisk>(&self, rt: &impl Abort, donor: &Donor<D>) {
+    fn expect_oldest<D: PageDisk>(&self, rt: &impl Abort, donor: &Logged<D>) {
         let found = donor.oldest_dirty();
         assert!(rt; found == self.pages.oldest_dirty());
     }
@@ -172,11 +172,11 @@ impl Beside {
     pub fn flush<D: PageDisk>(
         &mut self,
         rt: &impl Abort,
-        donor: &mut Donor<D>,
+        donor: &mut Logged<D>,
         step: FlushStep,
         page: PageAt,
     ) -> Result<(), Fail> {
-        let answer = flush(donor, step, page)?;
+        let answer = donor.flush(step, page)?;
         self.expect_flush(rt, step, page, answer);
         self.expect_oldest(rt, donor);
         Ok(())
@@ -209,7 +209,7 @@ impl Beside {
     }
 
     /// A checkpoint, below which the log goes.
-    pub fn checkpoint<D: PageDisk>(&mut self, rt: &impl Abort, donor: &mut Donor<D>) {
+    pub fn checkpoint<D: PageDisk>(&mut self, rt: &impl Abort, donor: &mut Logged<D>) {
         let lsn = donor.checkpoint();
         assert!(rt; lsn == self.pages.checkpoint(donor.end()));
         self.floor = lsn;
@@ -219,7 +219,7 @@ impl Beside {
     pub fn step<D: PageDisk>(
         &mut self,
         rt: &impl Abort,
-        donor: &mut Donor<D>,
+        donor: &mut Logged<D>,
         words: &mut Pcg32,
         call: u64,
     ) -> Result<(), Fail> {
@@ -242,7 +242,7 @@ impl Beside {
     fn drawn_flush<D: PageDisk>(
         &mut self,
         rt: &impl Abort,
-        donor: &mut Donor<D>,
+        donor: &mut Logged<D>,
         words: &mut Pcg32,
         step: FlushStep,
     ) -> Result<(), Fail> {

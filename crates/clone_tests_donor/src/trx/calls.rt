@@ -1,6 +1,6 @@
+use crate::trx::logged::Logged;
 use crate::trx::vectors::{NEXT_PAGE, ONE_ROW, TAKING_BACK};
-use crate::trx::{Answer, Call, ENOUGH, ask, expect, opened};
-use clone_donor::Donor;
+use crate::trx::{Answer, Call, ENOUGH, expect};
 use clone_memdisk::MemDisk;
 use std::alloc::{AllocError, Global};
 use std::process::Abort;
@@ -262,13 +262,13 @@ fn nth(often: Often, n: u32) -> (Call<'static>, Answer) {
 fn repeat(
     rt: &impl Abort,
     alloc: Global,
-    donor: &mut Donor<MemDisk>,
+    donor: &mut Logged<MemDisk>,
     often: (u32, Often),
 ) -> Result<(), Fail> {
     let (times, often) = often;
     for n in 0..times {
         let (call, expected) = nth(often, n);
-        let found = ask(alloc, donor, call)?;
+        let found = donor.ask(alloc, call)?;
         assert!(rt; found == Ok(expected));
     }
     Ok(())
@@ -304,7 +304,7 @@ fn expect_end(
 fn walk_case(
     rt: &impl Abort,
     alloc: Global,
-    donor: &mut Donor<MemDisk>,
+    donor: &mut Logged<MemDisk>,
     case: Case,
 ) -> Result<(), Fail> {
     expect(rt, alloc, donor, case.first)?;
@@ -315,7 +315,7 @@ fn walk_case(
 
 // A case begins with a new donor.
 fn try_case(rt: &impl Abort, alloc: Global, case: Case) -> Result<(), Fail> {
-    let mut donor = opened(alloc, MemDisk::new(alloc), ENOUGH)?;
+    let mut donor = Logged::open(alloc, MemDisk::new(alloc), ENOUGH)?;
     let walked = walk_case(rt, alloc, &mut donor, case);
     let _disk = donor.into_disk();
     walked

@@ -1,10 +1,9 @@
 use crate::trx::beside::{Beside, FEW};
 use crate::trx::drawn::{below, words_from};
-use crate::trx::opened;
+use crate::trx::logged::Logged;
 use crate::trx::plain::Plain;
 use crate::trx::walk::assert_same;
 use clone_base::{FIRST_LSN, LSN_LIMIT, PAGE_SIZE, REDO_SPACE};
-use clone_donor::Donor;
 use clone_memdisk::MemDisk;
 use clone_outside::{CloneEnd, DiskOrder, Mark, PageDisk};
 use clone_recover::{Recovered, open_rows, recover};
@@ -22,7 +21,7 @@ const REFUSALS: [usize; 16] = [0, 1, 2, 3, 4, 5, 6, 7, 8, 9, 10, 11, 14, 15, 16,
 const STEPS: u64 = 1_000;
 
 // A call of the disk fails, or reads of open pages give but one byte.
-fn order(words: &mut Pcg32, donor: &mut Donor<MemDisk>) -> Result<(), AllocError> {
+fn order(words: &mut Pcg32, donor: &mut Logged<MemDisk>) -> Result<(), AllocError> {
     match below(words, 16) {
         0 => {
             let call = 1 + below(words, 3) as u64;
@@ -39,7 +38,7 @@ fn order(words: &mut Pcg32, donor: &mut Donor<MemDisk>) -> Result<(), AllocError
 fn walk(
     rt: &impl Abort,
     beside: &mut Beside,
-    donor: &mut Donor<MemDisk>,
+    donor: &mut Logged<MemDisk>,
     words: &mut Pcg32,
 ) -> Result<(), Fail> {
     for call in 0..CALLS {
@@ -50,7 +49,7 @@ fn walk(
 }
 
 // Flushes each dirty page.
-fn land_all(rt: &impl Abort, beside: &mut Beside, donor: &mut Donor<MemDisk>) -> Result<(), Fail> {
+fn land_all(rt: &impl Abort, beside: &mut Beside, donor: &mut Logged<MemDisk>) -> Result<(), Fail> {
     for _ in 0..STEPS {
         let Some((step, page)) = beside.pages().next_step() else {
             break;
@@ -135,7 +134,7 @@ fn walk_and_land(
     rt: &impl Abort,
     alloc: Global,
     beside: &mut Beside,
-    donor: &mut Donor<MemDisk>,
+    donor: &mut Logged<MemDisk>,
 ) -> Result<(), Fail> {
     assert!(rt; beside.read_log(donor.redo(), FIRST_LSN)?);
     walk(rt, beside, donor, &mut words_from(21, 27))?;
@@ -152,7 +151,7 @@ fn walk_and_land(
 // No log over the disk on which each page has landed gives them, too.
 #[test]
 fn a_random_walk_with_flushes(rt: HostRuntime) -> Result<(), Fail> {
-    let mut donor = opened(rt.alloc(), MemDisk::new(rt.alloc()), FEW)?;
+    let mut donor = Logged::open(rt.alloc(), MemDisk::new(rt.alloc()), FEW)?;
     let mut beside = Beside::new(rt.alloc(), true);
     let landed = walk_and_land(&rt, rt.alloc(), &mut beside, &mut donor);
     let from = donor.end();

@@ -1,7 +1,8 @@
 ghost use Rattle.clone_model.specs.Config.{IsConfig};
 
 use crate::trx::ENOUGH;
-use clone_donor::{Donor, OpenCause, OpenRefusal};
+use clone_donor::Donor;
+use clone_engine::{OpenCause, OpenRefusal};
 use clone_memdisk::MemDisk;
 use clone_model::Config;
 use clone_outside::{DiskOrder, MARK_SIZE, PageDisk};

@@ -3,10 +3,9 @@ ghost use Rattle.clone_outside.specs.Causes.{HasCause, Rose};
 
 use crate::trx::beside::{Beside, FEW};
 use crate::trx::drawn::{below, words_from};
-use crate::trx::opened;
+use crate::trx::logged::Logged;
 use crate::trx::walk::assert_same;
 use clone_base::{FIRST_LSN, PAGE_SIZE};
-use clone_donor::Donor;
 use clone_outside::{DiskOrder, MARK_SIZE, PageDisk, Refusal};
 use rand_pcg::Pcg32;
 use std::alloc::{AllocError, Global};
@@ -138,7 +137,7 @@ fn fill(words: &mut Pcg32, into: &mut [u8; PAGE_SIZE]) {
 fn walk(
     rt: &impl Abort,
     beside: &mut Beside,
-    donor: &mut Donor<SilentDisk>,
+    donor: &mut Logged<SilentDisk>,
     words: &mut Pcg32,
 ) -> Result<(), Fail> {
     for call in 0..CALLS {
@@ -147,7 +146,7 @@ fn walk(
     Ok(())
 }
 
-fn walk_beside(rt: &impl Abort, alloc: Global, donor: &mut Donor<SilentDisk>) -> Result<(), Fail> {
+fn walk_beside(rt: &impl Abort, alloc: Global, donor: &mut Logged<SilentDisk>) -> Result<(), Fail> {
     let mut beside = Beside::new(alloc, false);
     assert!(rt; beside.read_log(donor.redo(), FIRST_LSN)?);
     walk(rt, &mut beside, donor, &mut words_from(3, 4))?;
@@ -162,7 +161,7 @@ fn a_disk_that_gives_any_bytes(rt: HostRuntime) -> Result<(), Fail> {
         words: words_from(1, 2),
         faults: 0,
     };
-    let mut donor = opened(rt.alloc(), disk, FEW)?;
+    let mut donor = Logged::open(rt.alloc(), disk, FEW)?;
     let walked = walk_beside(&rt, rt.alloc(), &mut donor);
     let _disk = donor.into_disk();
     walked

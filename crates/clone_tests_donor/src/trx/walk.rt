@@ -1,6 +1,7 @@
+use crate::trx::asking::ask;
 use crate::trx::drawn::{drawn_bytes, drawn_call, words_from};
 use crate::trx::plain::Plain;
-use crate::trx::{Call, ENOUGH, answered, ask, opened};
+use crate::trx::{Call, ENOUGH, answered, opened};
 use clone_donor::Donor;
 use clone_memdisk::MemDisk;
 use clone_model::{Binlog, Commit, fold};
@@ -111,7 +112,7 @@ fn walk_both(rt: &impl Abort, alloc: Global, donor: &mut Donor<MemDisk>) -> Resu
 
 #[test]
 fn a_random_walk(rt: HostRuntime) -> Result<(), Fail> {
-    let mut donor = opened(rt.alloc(), MemDisk::new(rt.alloc()), ENOUGH)?;
+    let mut donor = opened(rt.alloc(), ENOUGH)?;
     let walked = walk_both(&rt, rt.alloc(), &mut donor);
     let _disk = donor.into_disk();
     walked

@@ -1,8 +1,5 @@
-use Rattle.clone_apply.proofs.HeldCopies.{staged_holds, copied_holds, holds_again, lists_copy}
+use Rattle.clone_apply.proofs.HeldCopies.{staged_holds, holds_again, lists_copy}
 use Rattle.clone_apply.proofs.laws.holds_laws.Goals as goal
-
-pub returns-clause-copied : goal.returns-clause-copied
-returns-clause-copied c = copied_holds
 
 pub returns-clause-staged : goal.returns-clause-staged
 returns-clause-staged c = staged_holds

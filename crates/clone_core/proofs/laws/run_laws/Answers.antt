@@ -1,4 +1,5 @@
 use Rattle.clone_events.specs.Events.{to_donor, to_recipient}
+use Rattle.clone_core.proofs.FaultLemmas.{donor_met, recipient_met}
 use Rattle.clone_core.proofs.OrderLemmas.{run_orders}
 use Rattle.clone_core.proofs.RunLemmas.{run_commits, run_sets, run_stop, run_within, run_tells, run_fault}
 use Rattle.clone_core.proofs.laws.run_laws.Goals as goal
@@ -24,5 +25,8 @@ returns-clause-recipient_orders c = run_orders to_recipient
 pub returns-clause-tells : goal.returns-clause-tells
 returns-clause-tells c = run_tells
 
-pub returns-clause-fault : goal.returns-clause-fault
-returns-clause-fault c = run_fault
+pub returns-clause-recipient_fault : goal.returns-clause-recipient_fault
+returns-clause-recipient_fault c s lines events t new run is = run_fault to_recipient s lines events t new run (recipient_met t.clone is)
+
+pub returns-clause-donor_fault : goal.returns-clause-donor_fault
+returns-clause-donor_fault c s lines events t new run is = run_fault to_donor s lines events t new run (donor_met t.clone is)

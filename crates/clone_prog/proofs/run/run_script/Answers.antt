@@ -15,7 +15,8 @@ returns g c = λ words before after read.
       donor_orders = λ lines events t run. c.run_laws.ensures.donor_orders _ lines events t run;
       recipient_orders = λ lines events t run. c.run_laws.ensures.recipient_orders _ lines events t run;
       tells = λ lines events t run. c.run_laws.ensures.tells _ lines events t run;
-      fault = λ lines events t run met. c.run_laws.ensures.fault _ lines events t c.in-Ok.ensures.new run met;
+      recipient_fault = λ lines events t run met. c.run_laws.ensures.recipient_fault _ lines events t c.in-Ok.ensures.new run met;
+      donor_fault = λ lines events t run met. c.run_laws.ensures.donor_fault _ lines events t c.in-Ok.ensures.new run met;
     } in
     let gave = c.into_disks-donor.ensures in
     let left = left_so after _ _ c.run_lines-status.new.world _ _ _ _ _ _ gave.donor_told gave.donor_failures gave.donor_orders gave.recipient_told gave.recipient_failures gave.recipient_orders c.laws.ensures in

@@ -1,5 +1,5 @@
 use Rattle.std.proofs.Common.{refl, ap, ◌∙◌, string_bytes}
-use Rattle.clone_model.specs.declared.line.Line.TheVariants as lines
+use Rattle.clone_script.specs.declared.lines.Line.TheVariants as lines
 use Rattle.clone_plain.specs.Calls.{begin, did_begin}
 use Rattle.clone_plain.specs.Causes.{least_unused}
 use Rattle.clone_events.specs.World.{index_in}

@@ -1,5 +1,5 @@
 use Rattle.std.proofs.Common.{refl, string_bytes}
-use Rattle.clone_model.specs.declared.line.Line.TheVariants as lines
+use Rattle.clone_script.specs.declared.lines.Line.TheVariants as lines
 use Rattle.clone_plain.specs.Calls.{did_checkpoint, done}
 use Rattle.clone_events.specs.Events.{made}
 use Rattle.clone_core.proofs.LineLemmas.{event_answers, stays_breaks, made_step}

@@ -1,21 +1,28 @@
-use Rattle.std.proofs.Common.{refl, ap, string_bytes}
-use Rattle.clone_model.specs.declared.line.Line.TheVariants as lines
-use Rattle.clone_events.specs.Events.{broke_before, completed_before}
-use Rattle.clone_events.specs.Runs.{was_broken, was_complete}
-use Rattle.clone_core.specs.Copied.{clone_of}
-use Rattle.clone_core.proofs.LineLemmas.{event_answers, same_breaks}
-use Rattle.clone_core.proofs.CloneLemmas.{broken_again, whole_again}
+use Rattle.std.proofs.Common.{string_bytes}
+use Rattle.clone_script.specs.declared.lines.Line.TheVariants as lines
+use Rattle.clone_core.specs.CloneEvents.{event_of}
+use Rattle.clone_core.proofs.LineLemmas.{stays_breaks}
+use Rattle.clone_core.proofs.FinishLemmas.{clone_answers, finish_stays, start_stays, stays_then}
 use Rattle.clone_core.proofs.world.World.clone_line.Goals as goal
 
-pub returns-in-Some-clause-ok : goal.returns-in-Some-clause-ok
-returns-in-Some-clause-ok g c = event_answers string_bytes c.args.self.now c.args.self.now lines.Clone broke_before c.recipient_fault.result (was_broken refl) (broken_again _ _ c.in-Some.copied c.self.view_is (ap clone_of c.in-Some.is) c.if-copied.true) c.recipient_fault.ensures
+pub returns-in_err-start-clause-err : goal.returns-in_err-start-clause-err
+returns-in_err-start-clause-err g c = stays_breaks _ _ lines.Clone c.from_residual.result c.in_err-start.ensures
 
-pub returns-in-Some-clause-err : goal.returns-in-Some-clause-err
-returns-in-Some-clause-err g c = same_breaks c.args.self.now lines.Clone c.recipient_fault.result
+pub returns-in_err-happened-clause-err : goal.returns-in_err-happened-clause-err
+returns-in_err-happened-clause-err g c =
+    let began = c.in_ok-start.ensures in
+    stays_breaks _ _ lines.Clone c.from_residual-in_err-happened.result (stays_then _ c.start.new.self _ (start_stays _ _ (event_of c.in_ok-start.field-0) began.0 began.1) c.in_err-happened.ensures)
 
-pub returns-in-Some-2-clause-ok : goal.returns-in-Some-2-clause-ok
-returns-in-Some-2-clause-ok g c =
-    event_answers string_bytes c.args.self.now c.args.self.now lines.Clone (completed_before c.in-Some-2.copied.position) c.complete_text.result (was_complete _ refl) (whole_again _ _ c.self.inside.copied c.in-Some.copied c.in-Some-2.copied c.self.view_is refl c.in-Some.is c.in-Some-2.is c.if-copied.false) c.complete_text.ensures
+pub returns-clause-ok : goal.returns-clause-ok
+returns-clause-ok g c =
+    let began = c.in_ok-start.ensures in
+    let ended = c.in_ok-happened.ensures in
+    clone_answers string_bytes _ c.start.new.self _ (event_of c.in_ok-start.field-0) (event_of c.in_ok-happened.happened) c.happened_text.result began.0 began.1 ended.0 ended.1 c.happened_text.ensures
 
-pub returns-in-Some-2-clause-err : goal.returns-in-Some-2-clause-err
-returns-in-Some-2-clause-err g c = same_breaks c.args.self.now lines.Clone c.complete_text.result
+pub returns-clause-err : goal.returns-clause-err
+returns-clause-err g c =
+    let began = c.in_ok-start.ensures in
+    let ended = c.in_ok-happened.ensures in
+    let first = start_stays c.args.self.now c.start.new.self (event_of c.in_ok-start.field-0) began.0 began.1 in
+    let second = finish_stays c.start.new.self c.finish.new.self (event_of c.in_ok-happened.happened) ended.0 ended.1 in
+    stays_breaks _ _ lines.Clone c.happened_text.result (stays_then _ _ _ first second)

@@ -1,5 +1,5 @@
 use Rattle.std.proofs.Common.{◌+◌, ◌++◌, length, refl, sym, ap, ◌∙◌, string_bytes, codes, decimal}
-use Rattle.clone_model.specs.declared.line.Line.TheVariants as lines
+use Rattle.clone_script.specs.declared.lines.Line.TheVariants as lines
 use Rattle.clone_plain.specs.Calls.{commit, did_commit}
 use Rattle.clone_core.specs.System.{donor_of}
 use Rattle.clone_core.specs.Lines.{State}

@@ -1,5 +1,5 @@
 use Rattle.std.proofs.Common.{refl, string_bytes}
-use Rattle.clone_model.specs.declared.line.Line.TheVariants as lines
+use Rattle.clone_script.specs.declared.lines.Line.TheVariants as lines
 use Rattle.clone_plain.specs.Calls.{flush_begin, did_flush_begin}
 use Rattle.clone_core.proofs.LineLemmas.{same_breaks, call_answers, call_breaks}
 use Rattle.clone_core.proofs.world.World.flush_line.Goals as goal

@@ -1,5 +1,5 @@
 use Rattle.std.proofs.Common.{◌+◌, ◌++◌, length, ap, ◌∙◌, codes, decimal, string_bytes}
-use Rattle.clone_model.specs.declared.line.Line.TheVariants as lines
+use Rattle.clone_script.specs.declared.lines.Line.TheVariants as lines
 use Rattle.clone_core.specs.System.{donor_of}
 use Rattle.clone_core.specs.Lines.{State}
 use Rattle.clone_core.proofs.LineLemmas.{same_breaks}

@@ -1,5 +1,5 @@
 use Rattle.std.proofs.Common.{refl, ap, ◌∙◌, string_bytes, Err}
-use Rattle.clone_model.specs.declared.line.Line.TheVariants as lines
+use Rattle.clone_script.specs.declared.lines.Line.TheVariants as lines
 use Rattle.clone_plain.specs.Answers.{rows_answer}
 use Rattle.clone_events.specs.Events.{showed, incomplete, hidden, damaged}
 use Rattle.clone_events.specs.Runs.{are_shown, not_there, not_read, not_sound}

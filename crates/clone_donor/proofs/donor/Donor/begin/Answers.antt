@@ -1,8 +1,27 @@
-use Rattle.clone_donor.proofs.LogLemmas.{has_grown}
+use Rattle.std.proofs.Common.{ℕ, refl, subst}
+use Rattle.clone_plain.specs.Calls as call
+use Rattle.clone_plain.specs.Calls.{did_begin}
+use Rattle.clone_engine.specs.Steps.{answer_of}
+use Rattle.clone_donor.specs.Acts as act
+use Rattle.clone_donor.specs.Acts.{Acts}
+use Rattle.clone_donor.specs.Donor.{Donor}
+use Rattle.clone_donor.proofs.ServeLemmas.{transacts_donor, transacts_taken}
 use Rattle.clone_donor.proofs.donor.Donor.begin.Goals as goal
 
-pub keep_log-requires-clause-grown : goal.keep_log-requires-clause-grown
-keep_log-requires-clause-grown g c =
-    let old = c.self.inside in
-    let is = c.begin-begun.ensures in
-    has_grown c.reserve.new.self.bytes old.log.bytes old.engine.buffer c.begin-begun.new.self.buffer c.laws.ensures.buffer c.self.invariant c.reserve.ensures.same is.log is.ring
+pub invariant_of-self : goal.invariant_of-self
+invariant_of-self g c =
+    let d : Donor = record { engine = c.self.inside.engine; cloning = c.self.inside.cloning } in
+    transacts_donor (call.begin c.args.writer c.args.index) d c.begin-begun.new.self (answer_of (λ (trx : ℕ). did_begin c.args.writer c.args.index trx) c.begin-begun.result) tt c.begin-begun.ensures.step c.begin-begun.ensures.log c.begin-begun.ensures.ring c.laws.ensures.engine c.laws.ensures.buffer c.self.invariant
+
+pub returns : goal.returns
+returns g c =
+    let d : Donor = record { engine = c.self.inside.engine; cloning = c.self.inside.cloning } in
+    let call = call.begin c.args.writer c.args.index in
+    let answer = answer_of (λ (trx : ℕ). did_begin c.args.writer c.args.index trx) c.begin-begun.result in
+    record {
+      acts = subst (λ (s : Donor). Acts (act.Calls call answer) s (record { engine = c.begin-begun.new.self; cloning = c.self.inside.cloning })) c.self.view_is
+          (record {
+            does = record { steps = c.begin-begun.ensures.step; cloning = refl };
+            taken = transacts_taken call d c.begin-begun.new.self answer tt c.begin-begun.ensures.step c.begin-begun.ensures.log c.begin-begun.ensures.ring c.begin-begun.ensures.copies;
+          });
+    }

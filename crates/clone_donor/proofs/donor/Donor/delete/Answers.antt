@@ -1,8 +1,27 @@
-use Rattle.clone_donor.proofs.LogLemmas.{has_grown}
+use Rattle.std.proofs.Common.{refl, subst}
+use Rattle.clone_plain.specs.Calls as call
+use Rattle.clone_plain.specs.Calls.{did_delete}
+use Rattle.clone_engine.specs.Steps.{answer_of}
+use Rattle.clone_donor.specs.Acts as act
+use Rattle.clone_donor.specs.Acts.{Acts}
+use Rattle.clone_donor.specs.Donor.{Donor}
+use Rattle.clone_donor.proofs.ServeLemmas.{transacts_donor, transacts_taken}
 use Rattle.clone_donor.proofs.donor.Donor.delete.Goals as goal
 
-pub keep_log-requires-clause-grown : goal.keep_log-requires-clause-grown
-keep_log-requires-clause-grown g c =
-    let old = c.self.inside in
-    let is = c.delete-changed.ensures in
-    has_grown c.reserve.new.self.bytes old.log.bytes old.engine.buffer c.delete-changed.new.self.buffer c.laws.ensures.buffer c.self.invariant c.reserve.ensures.same is.log is.ring
+pub invariant_of-self : goal.invariant_of-self
+invariant_of-self g c =
+    let d : Donor = record { engine = c.self.inside.engine; cloning = c.self.inside.cloning } in
+    transacts_donor (call.delete c.args.trx c.args.table c.args.key) d c.delete-changed.new.self (answer_of (λ (x : Unit {0}). did_delete c.args.trx c.args.table c.args.key) c.delete-changed.result) tt c.delete-changed.ensures.step c.delete-changed.ensures.log c.delete-changed.ensures.ring c.laws.ensures.engine c.laws.ensures.buffer c.self.invariant
+
+pub returns : goal.returns
+returns g c =
+    let d : Donor = record { engine = c.self.inside.engine; cloning = c.self.inside.cloning } in
+    let call = call.delete c.args.trx c.args.table c.args.key in
+    let answer = answer_of (λ (x : Unit {0}). did_delete c.args.trx c.args.table c.args.key) c.delete-changed.result in
+    record {
+      acts = subst (λ (s : Donor). Acts (act.Calls call answer) s (record { engine = c.delete-changed.new.self; cloning = c.self.inside.cloning })) c.self.view_is
+          (record {
+            does = record { steps = c.delete-changed.ensures.step; cloning = refl };
+            taken = transacts_taken call d c.delete-changed.new.self answer tt c.delete-changed.ensures.step c.delete-changed.ensures.log c.delete-changed.ensures.ring c.delete-changed.ensures.copies;
+          });
+    }

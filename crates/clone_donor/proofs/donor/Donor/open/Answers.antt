@@ -1,14 +1,9 @@
-use Rattle.std.proofs.Common.{◌≡◌, inr, [], ap, ◌∙◌, arith, length}
-use Rattle.clone_contents.specs.Records.{opening_records}
+use Rattle.std.proofs.Common.{◌∙◌, sym}
+use Rattle.clone_donor.proofs.OpenedLemmas.{fresh_donor}
 use Rattle.clone_donor.proofs.donor.Donor.open.Goals as goal
 
-pub keep_log-requires-clause-grown : goal.keep_log-requires-clause-grown
-keep_log-requires-clause-grown g c =
-    let none : c.reserve.new.self.bytes ≡ [] = c.reserve.ensures.same ∙ c.new-log.ensures in
-    let no_length : length c.reserve.new.self.bytes ≡ 0 = ap length none in
-    record {
-      old = [];
-      bytes_of = none;
-      grown = inr (opening_records, c.in_ok-engine.ensures.opened.log);
-      kept = omega (arith, no_length, c.in_ok-engine.ensures.floor);
-    }
+pub invariant_of-result : goal.invariant_of-result
+invariant_of-result g c =
+    let opened = c.in-Ok.ensures in
+    let fresh = c.new.ensures in
+    fresh_donor c.in-Ok.engine c.new.result c.laws.ensures.engine fresh.session c.laws.ensures.buffer opened.opened fresh.tracking fresh.archive (fresh.ring ∙ sym opened.size) opened.floor opened.checkpoint

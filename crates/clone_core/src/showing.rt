@@ -1,0 +1,93 @@
+ghost use Rattle.std.specs.Prelude.{◌≡◌, IfOk, OnErr};
+ghost use Rattle.std.specs.String.{string_bytes};
+ghost use Rattle.clone_events.specs.World.{HasEnded};
+ghost use Rattle.clone_script.specs.declared.lines.Line.TheVariants as lines;
+ghost use Rattle.clone_core.specs.Lines.{Answers, BreaksOff};
+ghost use Rattle.clone_core.specs.Showing.{Reads};
+
+use crate::World;
+use crate::rows::recovered_rows;
+use crate::texts::{damage_text, recipient_fault, rows_shown};
+use crate::world::Course;
+use clone_apply::holds_laws;
+use clone_model::Value;
+use clone_outside::PageDisk;
+use clone_recover::RecoverRefusal;
+use std::alloc::{AllocError, Global};
+
+// What the requester looks up, what the donor archives, and the rows of the clone.
+impl<D: PageDisk, R: PageDisk> World<D, R> {
+    // Looks up how many commits there are. Before the stop that is the floor of the clone.
+    pub(crate) fn look_line(&mut self, alloc: Global) -> Result<String, AllocError>
+        ensures ok { IfOk result (λ text. Answers self.old lines.Look (string_bytes text)
+            self.new) }
+        ensures err { OnErr result (BreaksOff self.old lines.Look self.new) }
+    {
+        let position = self.donor.look();
+        if self.donor.stop().is_none() {
+            self.floor = position;
+        }
+        format!(in alloc; "position {position}")
+    }
+
+    // Archives so many bytes of the log.
+    pub(crate) fn archive_line(&mut self, alloc: Global, bytes: u32) -> Result<String, AllocError>
+        ensures ok { IfOk result (λ text. Answers self.old (lines.Archive bytes) (string_bytes text)
+            self.new) }
+        ensures err { OnErr result (BreaksOff self.old (lines.Archive bytes) self.new) }
+    {
+        match self.donor.archive(u64::from(bytes))? {
+            Some(lsn) => format!(in alloc; "archived {lsn}"),
+            None => String::from_str(alloc, "idle"),
+        }
+    }
+
+    // Recovers the recipient's disk, and shows the rows of the clone, once that has ended.
+    pub(crate) fn rows_line(&mut self, alloc: Global) -> Result<String, AllocError>
+        ensures ok { IfOk result (λ text. Answers self.old lines.Rows (string_bytes text)
+            self.new) }
+        ensures err { OnErr result (BreaksOff self.old lines.Rows self.new) }
+    {
+        match self.course {
+            Course::Absent | Course::Copying(_) => String::from_str(alloc, "incomplete"),
+            Course::Complete { position: _ } | Course::Broken | Course::Spent => {
+                self.show_rows(alloc)
+            }
+        }
+    }
+
+    // The rows of a clone that has ended.
+    fn show_rows(&mut self, alloc: Global) -> Result<String, AllocError>
+        requires ended { HasEnded self.old.clone.progress }
+        ensures ok { IfOk result (λ text. Answers self.old lines.Rows (string_bytes text)
+            self.new) }
+        ensures err { OnErr result (BreaksOff self.old lines.Rows self.new) }
+    {
+        match self.read_rows(alloc) {
+            Ok(rows) => rows_shown(alloc, &rows),
+            Err(RecoverRefusal::Incomplete) => String::from_str(alloc, "incomplete"),
+            Err(RecoverRefusal::Damaged { space, page, why }) => {
+                damage_text(alloc, space, page, why)
+            }
+            Err(RecoverRefusal::DiskFault) => recipient_fault(alloc),
+            Err(RecoverRefusal::NoMemory) => Err(AllocError),
+        }
+    }
+
+    // Recovers the recipient's disk and reads its rows, and notes what came of it.
+    fn read_rows(&mut self, alloc: Global) -> Result<Vec<(u32, u64, Value)>, RecoverRefusal>
+        requires ended { HasEnded self.old.clone.progress }
+        ensures { Reads self.old result self.new }
+    {
+        holds_laws();
+        let read = recovered_rows(alloc, &mut self.recipient);
+        match &read {
+            Ok(_) => self.shown = true,
+            Err(RecoverRefusal::Incomplete) => {}
+            Err(RecoverRefusal::Damaged { .. }) => {}
+            Err(RecoverRefusal::DiskFault) => self.doubted = true,
+            Err(RecoverRefusal::NoMemory) => self.doubted = true,
+        }
+        read
+    }
+}

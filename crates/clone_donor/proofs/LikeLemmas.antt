@@ -1,0 +1,55 @@
+-- A donor whose clone has changed in its room, its chunks or its caller alone, and that goes on.
+use Rattle.std.proofs.Common.{◌≡◌, ◌∙◌, inl, ℕ, refl, sym, ap, subst, Option, Some, None, Result, Ok, Err, arith}
+use Rattle.clone_outside.specs.Disk.{ForTold}
+use Rattle.clone_track.specs.Tracking.{Pages}
+use Rattle.clone_archive.specs.Archived.{Archived, kept_from}
+use Rattle.clone_flush.specs.Calls.{needed_from}
+use Rattle.clone_session.specs.declared.caller.Caller.{Caller}
+use Rattle.clone_session.specs.declared.refusal.CloneCause.{CloneCause}
+use Rattle.clone_session.specs.Cloning.{Cloning}
+use Rattle.clone_session.specs.CloneCalls.{Claims}
+use Rattle.clone_session.specs.Effects.{Becomes, aside}
+use Rattle.clone_session.proofs.PartLemmas.{stands_as}
+use Rattle.clone_donor.specs.Acts as act
+use Rattle.clone_donor.specs.Acts.{Acts}
+use Rattle.clone_donor.specs.Donor.{Donor, IsDonor, NotesPages}
+use Rattle.clone_donor.specs.Taken.{Taken, IsTaken}
+use Rattle.clone_donor.proofs.ArchiveRings.{can_same}
+use Rattle.clone_donor.proofs.BecomesLemmas.{Like, like, like_same, like_session}
+use Rattle.clone_donor.proofs.ServeLemmas.{is_taken}
+use Rattle.clone_donor.proofs.SettleLemmas.{Left}
+
+module _ (d : Donor) (c : Cloning) (same : Like c d.cloning) where
+  abbrev t : Donor
+  t = record { engine = d.engine; cloning = c }
+
+  pub like_donor : IsDonor d → IsDonor t
+  like_donor is = record {
+    ring = same.ring ∙ is.ring;
+    archives = can_same d.cloning c d.engine.buffer.ring same.archive is.archives;
+    redo = λ a stands. is.redo a (sym same.archive ∙ stands);
+    floor = subst (λ (o : Option Archived). ForTold d.engine.disk.told (λ m. d.engine.buffer.ring.floor ≡ needed_from d.engine.flights.checkpoint (kept_from o))) (sym same.archive) is.floor;
+    placed = is.placed;
+    own = λ l stands. is.own l (sym same.list ∙ stands);
+    notes = subst (λ (o : Option Pages). ForTold d.engine.disk.told (λ m. NotesPages d.engine.donor o)) (sym same.pages) is.notes;
+  }
+
+  pub like_taken : (taken : Taken) → IsTaken d taken → IsTaken t taken
+  like_taken taken = is_taken d d.engine c same refl (inl refl) taken (λ stands. stands)
+
+  pub like_left : IsDonor d → Left d c
+  like_left is = let on = like_donor is in record { ring = same.ring; can = on.archives; redo = on.redo; own = on.own; notes = on.notes }
+
+-- a call of a clone was refused, or took nothing
+pub refuses : (d : Donor) (c : Cloning) → Becomes c d.cloning → Acts act.Refuse d (record { engine = d.engine; cloning = c })
+refuses d c is = record { does = (is, refl); taken = like_taken d c (like c d.cloning is) }
+
+pub refuses_same : (d : Donor) (c : Cloning) → c ≡ d.cloning → Acts act.Refuse d (record { engine = d.engine; cloning = c })
+refuses_same d c is = refuses d c (ap aside is)
+
+-- a claim
+pub claims_like : (caller : Caller) (stage : ℕ) (old new : Cloning) (result : Result (Option ℕ) CloneCause) → Claims caller stage old new result → Like new old
+claims_like caller stage old new (Ok None) is = subst (λ (c : Cloning). Like c old) (sym is.2) (like_same old)
+claims_like caller stage old new (Ok (Some chunk)) is =
+    subst (λ (c : Cloning). Like c old) (sym is.1.2.1) (like_session old is.1.0 _ (stands_as old.session caller.session is.1.0 is.1.1) refl)
+claims_like caller stage old new (Err cause) is = subst (λ (c : Cloning). Like c old) (sym is.1) (like_same old)

@@ -1,0 +1,61 @@
+-- A donor as contracts see it: its engine, and what it keeps of the clone that it gives.
+use Rattle.std.specs.Prelude.{ℕ, ◌≡◌, List, true, option_map}
+use Rattle.std.specs.declared.option.Option.{Option}
+use Rattle.std.specs.Option.{ForSome}
+use Rattle.std.specs.List.{AllByRecursion}
+use Rattle.clone_outside.specs.Disk.{ForTold}
+use Rattle.clone_contents.specs.Placed.{WasPlaced}
+use Rattle.clone_track.specs.Tracking.{Pages}
+use Rattle.clone_archive.specs.Archived.{kept_from}
+use Rattle.clone_snapshot.specs.StageLists as lists
+use Rattle.clone_snapshot.specs.StageLists.{StageList}
+use Rattle.clone_flush.specs.Calls.{needed_from}
+use Rattle.clone_plain.specs.Donor as plain
+use Rattle.clone_trx.specs.Spaces.{IsPageOf, spaces_of}
+use Rattle.clone_donor.specs.Archives.{IsOfLog}
+use Rattle.clone_donor.specs.Copies.{is_noted}
+use Rattle.clone_session.specs.Cloning.{Cloning, Session}
+use Rattle.clone_session.specs.CloneCalls.{CanArchive}
+use Rattle.clone_engine.specs.Engine.{Engine}
+
+pub record Donor : Type 0 where
+  pub engine : Engine
+  pub cloning : Cloning
+
+-- what the session's stage copies, if one stands
+abbrev pub list_of : Cloning → Option StageList
+list_of c = option_map (λ (s : Session). s.snap.list) c.session
+
+-- these are pages of the plain donor's spaces
+abbrev pub ArePages : plain.Donor → List (ℕ × ℕ) → Type 0
+ArePages d pages = AllByRecursion (λ page. IsPageOf d page.0 page.1) pages
+
+-- so are those that are tracked
+abbrev pub NotesPages : plain.Donor → Option Pages → Type 0
+NotesPages d pages =
+    (space number : ℕ) → is_noted pages space number ≡ true → IsPageOf d space number
+
+-- a stage copies files and pages of the donor
+abbrev pub CopiesOwn : Engine → StageList → Type 0
+CopiesOwn e (lists.Files spaces) = spaces ≡ spaces_of e.donor
+CopiesOwn e (lists.Pages pages) = ForTold e.disk.told (λ m. ArePages e.donor pages)
+CopiesOwn e (lists.Redo start end) = Unit {0}
+CopiesOwn e lists.Nothing = Unit {0}
+
+-- What holds of every donor.
+pub record IsDonor (d : Donor) : Type 0 where
+  pub ring : d.cloning.ring ≡ d.engine.buffer.ring.size
+  -- the ring has what comes next for the archive
+  pub archives : CanArchive d.cloning d.engine.buffer.ring
+  pub redo : ForSome d.cloning.archive (IsOfLog d.engine.buffer.log)
+  -- where the disk tells what it holds, the log is kept from the last checkpoint on, or from what
+  -- is archived where that is less and the archive hasn't come to its end
+  pub floor : ForTold d.engine.disk.told (λ m. d.engine.buffer.ring.floor
+      ≡ needed_from d.engine.flights.checkpoint (kept_from d.cloning.archive))
+  -- and each page may stand at its place, at each moment of the log
+  pub placed : ForTold d.engine.disk.told
+      (λ m. (space number : ℕ) → WasPlaced space number d.engine.buffer.log)
+  -- what is copied is the donor's
+  pub own : ForSome (list_of d.cloning) (CopiesOwn d.engine)
+  pub notes : ForTold d.engine.disk.told
+      (λ m. NotesPages d.engine.donor d.cloning.tracking.pages)

@@ -1,0 +1,73 @@
+use clone_base::PAGE_SIZE;
+use clone_plain::EngineRefusal;
+use clone_session::{CloneCause, CloneRefusal};
+use std::alloc::AllocError;
+
+/// A page of a block: where it is, and its 4,096 bytes.
+#[derive(Drop)]
+pub struct BlockPage {
+    /// The space.
+    pub space: u32,
+    /// The page's number there.
+    pub number: u32,
+    /// Its bytes.
+    pub bytes: [u8; PAGE_SIZE],
+}
+
+/// A block of a chunk.
+#[derive(Drop)]
+pub enum Block {
+    /// At most eight pages.
+    Pages(Vec<BlockPage>),
+    /// At most 16,384 bytes of the log.
+    Redo {
+        /// The LSN of the first one.
+        from: u64,
+        /// The bytes.
+        bytes: Vec<u8>,
+    },
+}
+
+/// Why a block isn't answered.
+#[derive(Clone, Copy, Debug, PartialEq, Eq, Drop)]
+pub enum BlockRefusal {
+    /// There is a cause of the clone, or no memory.
+    Clone(CloneRefusal),
+    /// The disk failed.
+    Engine(EngineRefusal),
+}
+
+impl From<CloneCause> for BlockRefusal {
+    ghost use Rattle.std.specs.Prelude.{◌≡◌};
+    ghost use Rattle.clone_session.specs.declared.refusal.CloneRefusal.TheVariants.{Because};
+    ghost use Rattle.clone_donor.specs.declared.block.BlockRefusal.TheVariants.{Clone};
+
+    ghost from_gives = { λ c e. e ≡ Clone (Because c) };
+
+    fn from(cause: CloneCause) -> BlockRefusal {
+        BlockRefusal::Clone(CloneRefusal::Because(cause))
+    }
+}
+
+impl From<EngineRefusal> for BlockRefusal {
+    ghost use Rattle.std.specs.Prelude.{◌≡◌};
+    ghost use Rattle.clone_donor.specs.declared.block.BlockRefusal.TheVariants.{Engine};
+
+    ghost from_gives = { λ r e. e ≡ Engine r };
+
+    fn from(refusal: EngineRefusal) -> BlockRefusal {
+        BlockRefusal::Engine(refusal)
+    }
+}
+
+impl From<AllocError> for BlockRefusal {
+    ghost use Rattle.std.specs.Prelude.{◌≡◌};
+    ghost use Rattle.clone_session.specs.declared.refusal.CloneRefusal.TheVariants.{NoMemory};
+    ghost use Rattle.clone_donor.specs.declared.block.BlockRefusal.TheVariants.{Clone};
+
+    ghost from_gives = { λ _ e. e ≡ Clone NoMemory };
+
+    fn from(_refused: AllocError) -> BlockRefusal {
+        BlockRefusal::Clone(CloneRefusal::NoMemory)
+    }
+}

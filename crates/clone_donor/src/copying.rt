@@ -1,0 +1,126 @@
+ghost use Rattle.std.specs.Prelude.{◌≡◌, Err, MatchResult};
+ghost use Rattle.clone_session.specs.CloneCauses.{abandon_cause, acknowledgement_cause, exit_cause, hello_cause};
+ghost use Rattle.clone_session.specs.CloneCalls.{Decided, InFiles, IsMoment};
+ghost use Rattle.clone_session.specs.declared.refusal.CloneRefusal.TheVariants.{NoMemory};
+ghost use Rattle.clone_donor.specs.Acts as act;
+ghost use Rattle.clone_donor.specs.Acts.{Acts};
+ghost use Rattle.clone_donor.specs.Copying.{Acks, Begins, moment_of};
+
+use crate::Donor;
+use clone_outside::PageDisk;
+use clone_session::{Caller, CloneCause, CloneRefusal, Hello, Moment, StageInfo};
+use std::alloc::{AllocError, Global};
+
+// The calls of a clone, but for its blocks.
+impl<D: PageDisk> Donor<D> {
+    /// A session begins with the copy of files: of the system space and of the tables, each with
+    /// its number of pages. The pages whose write is open are tracked from the start. Where the
+    /// session stands, a later incarnation begins it again.
+    pub fn init(&mut self, alloc: Global, hello: &Hello) -> Result<StageInfo, CloneRefusal>
+        ensures begins { Decided (hello_cause self.old.cloning hello.now) self.old.cloning
+            self.new.cloning result (Begins hello.now self.old self.new) }
+        ensures acts { MatchResult result
+            (λ info. Acts (act.Begin hello.now info) self.old self.new)
+            (λ _. Acts act.Refuse self.old self.new) }
+    {
+        self.cloning.hello(hello)?;
+        self.engine.laws();
+        self.cloning.laws();
+        if self.cloning.session().is_some() {
+            return Ok(self.cloning.reopen(alloc, hello)?);
+        }
+        let spaces = self.engine.spaces(alloc)?;
+        let open = self.engine.open_pages(alloc)?;
+        Ok(self.cloning.open(alloc, hello, &spaces, &open)?)
+    }
+
+    /// The least chunk that is neither claimed nor finished, which is the task's from then on, or
+    /// none exactly where there is no such chunk. No memory is taken.
+    pub fn claim(&mut self, caller: Caller, stage: u8) -> Result<Option<u32>, CloneCause>
+        ensures acts { Acts (act.Claim caller stage result) self.old self.new }
+    {
+        self.cloning.claim(caller, stage)
+    }
+
+    /// A stage is acknowledged. That of the donor's stage ends it: behind the copy of files the log
+    /// is archived from the last checkpoint on, and the copy of pages ends with the stop. The floor
+    /// may not be above the number of commits at the stop. The end of the copy of files alone takes
+    /// memory.
+    pub fn ack(
+        &mut self,
+        alloc: Global,
+        caller: Caller,
+        stage: u8,
+        floor: u64,
+    ) -> Result<StageInfo, CloneRefusal>
+        ensures acks { Decided (acknowledgement_cause self.old.cloning caller stage floor
+            (moment_of self.old.engine).position) self.old.cloning self.new.cloning result
+            (Acks caller stage self.old self.new) }
+        ensures memory { result ≡ Err NoMemory → InFiles self.old.cloning }
+        ensures acts { MatchResult result
+            (λ info. Acts (act.Ack caller stage info) self.old self.new)
+            (λ _. Acts act.Refuse self.old self.new) }
+    {
+        let now = self.moment();
+        self.engine.laws();
+        self.cloning.laws();
+        let info = self.cloning.acknowledge(alloc, caller, stage, floor, now)?;
+        self.engine.settle_floor(self.cloning.kept_from());
+        Ok(info)
+    }
+
+    // This moment of the engine.
+    fn moment(&self) -> Moment
+        ensures now { result ≡ moment_of self.now.engine }
+        ensures is { IsMoment self.now.cloning result }
+    {
+        self.engine.laws();
+        let _ = self.engine.ring().free();
+        Moment {
+            checkpoint: self.engine.checkpoint_within(),
+            end: self.engine.ring().end(),
+            position: self.engine.binlog().len() as u64,
+            drops: 0,
+        }
+    }
+
+    /// The requester has left, and the session is gone. No memory is taken.
+    pub fn exit(&mut self, caller: Caller) -> Result<(), CloneCause>
+        ensures cause { MatchResult result
+            (λ _. exit_cause self.old.cloning caller ≡ None)
+            (λ cause. exit_cause self.old.cloning caller ≡ Some cause) }
+        ensures acts { MatchResult result (λ _. Acts act.Leave self.old self.new)
+            (λ _. Acts act.Refuse self.old self.new) }
+    {
+        self.cloning.exit(caller)?;
+        self.engine.settle_floor(self.cloning.kept_from());
+        Ok(())
+    }
+
+    /// The session of this number is given up. No memory is taken.
+    pub fn abandon(&mut self, session: u64) -> Result<(), CloneCause>
+        ensures cause { MatchResult result
+            (λ _. abandon_cause self.old.cloning session ≡ None)
+            (λ cause. abandon_cause self.old.cloning session ≡ Some cause) }
+        ensures acts { MatchResult result (λ _. Acts act.Leave self.old self.new)
+            (λ _. Acts act.Refuse self.old self.new) }
+    {
+        self.cloning.abandon(session)?;
+        self.engine.settle_floor(self.cloning.kept_from());
+        Ok(())
+    }
+
+    /// Archives so many bytes of the log, or as many as are left up to its end, or to the stop. The
+    /// answer is the LSN up to which the redo is archived, or none exactly where no archive stands.
+    /// The error is want of memory, and nothing has changed then.
+    pub fn archive(&mut self, limit: u64) -> Result<Option<u64>, AllocError>
+        ensures acts { MatchResult result
+            (λ reached. Acts (act.Archive limit reached) self.old self.new)
+            (λ _. Acts act.Refuse self.old self.new) }
+    {
+        self.engine.laws();
+        let archived = self.cloning.archive(self.engine.ring(), limit)?;
+        self.engine.settle_floor(self.cloning.kept_from());
+        Ok(archived)
+    }
+}

@@ -1,0 +1,115 @@
+ghost use Rattle.std.specs.Prelude.{◌≡◌, IfErr, IfOk, MatchResult, OnErr};
+ghost use Rattle.std.specs.List.{AllByRecursion};
+ghost use Rattle.clone_outside.specs.Causes.{Rose};
+ghost use Rattle.clone_session.specs.CloneCalls.{IsInArchive};
+ghost use Rattle.clone_session.specs.CloneCauses.{block_cause};
+ghost use Rattle.clone_plain.specs.declared.refusal.Cause.TheVariants.{DiskFault};
+ghost use Rattle.clone_engine.specs.Reading.{OnlyVisits};
+ghost use Rattle.clone_donor.specs.Acts as act;
+ghost use Rattle.clone_donor.specs.Acts.{Acts};
+ghost use Rattle.clone_donor.specs.Copying.{FailsReading, Gives, IsRedo, ReadsIn, RefusesBlock, places_of};
+
+use crate::{Block, BlockPage, BlockRefusal, Donor};
+use clone_base::PAGE_SIZE;
+use clone_outside::PageDisk;
+use clone_plain::EngineRefusal;
+use clone_session::{BlockWork, Caller};
+use clone_snapshot::{PageBlock, RedoBlock};
+use std::alloc::{AllocError, Global};
+
+/// The number of the stage in which files are copied.
+const FILE_COPY: u8 = 1;
+
+// The blocks of a clone.
+impl<D: PageDisk> Donor<D> {
+    /// Puts a block of a chunk that the task has claimed in place of the one that is given: pages
+    /// as the disk has them while files are copied, pages as they are after that, or redo that is
+    /// archived. The answer is whether the block was its chunk's last, and then the chunk is
+    /// finished. After an error nothing has changed but the disk's count of faults.
+    pub fn read_block(
+        &mut self,
+        alloc: Global,
+        caller: Caller,
+        stage: u8,
+        chunk: u32,
+        number: u8,
+        into: &mut Block,
+    ) -> Result<bool, BlockRefusal>
+        ensures gives { IfOk result (λ last. (block_cause self.old.cloning caller stage chunk number
+            ≡ None) × Gives caller chunk number self.old self.new into.new last) }
+        ensures refused { IfErr result (λ refusal. (into.new ≡ into.old)
+            × RefusesBlock caller stage chunk number self.old self.new refusal) }
+        ensures acts { MatchResult result
+            (λ last. Acts (act.Give caller chunk number into.new last) self.old self.new)
+            (λ _. Acts act.Miss self.old self.new) }
+    {
+        let work = self.cloning.block(caller, stage, chunk, number)?;
+        self.cloning.laws();
+        let block = match work {
+            BlockWork::Pages(pages) => Block::Pages(self.pages(alloc, stage, pages)?),
+            BlockWork::Redo(redo) => self.redo(alloc, redo)?,
+        };
+        *into = block;
+        Ok(self.cloning.answered(caller, chunk, number))
+    }
+
+    // The pages of a block, as the stage copies them.
+    fn pages(
+        &mut self,
+        alloc: Global,
+        stage: u8,
+        block: PageBlock,
+    ) -> Result<Vec<BlockPage>, BlockRefusal>
+        ensures places { IfOk result (λ pages. places_of pages.items ≡ block) }
+        ensures read { IfOk result
+            (λ pages. AllByRecursion (ReadsIn stage self.old.engine) pages.items) }
+        ensures refused { IfErr result (FailsReading self.old.engine self.new.engine) }
+        ensures visits { OnlyVisits self.old.engine self.new.engine }
+        ensures same { self.new.cloning ≡ self.old.cloning }
+    {
+        let mut pages = Vec::with_capacity(alloc, block.len())?;
+        for (space, number) in block.as_slice() {
+            let page = self.page(stage, *space, *number)?;
+            if let Err(refused) = pages.push(page) {
+                return Err(AllocError::from(refused).into());
+            }
+        }
+        Ok(pages)
+    }
+
+    // A page as the disk has it while files are copied, and as it is after that.
+    fn page(&mut self, stage: u8, space: u32, number: u32) -> Result<BlockPage, EngineRefusal>
+        ensures place { IfOk result (λ page. (page.space ≡ space) × (page.number ≡ number)) }
+        ensures read { IfOk result (ReadsIn stage self.old.engine) }
+        ensures refused { IfErr result (λ refusal. refusal ≡ EngineRefusal.Because DiskFault) }
+        ensures fault { OnErr result
+            (Rose self.old.engine.disk.failures self.new.engine.disk.failures) }
+        ensures visits { OnlyVisits self.old.engine self.new.engine }
+        ensures same { self.new.cloning ≡ self.old.cloning }
+    {
+        let mut bytes = [0; PAGE_SIZE];
+        if stage == FILE_COPY {
+            self.engine.file_page(space, number, &mut bytes)?;
+        } else {
+            self.engine.latest_page(space, number, &mut bytes)?;
+        }
+        Ok(BlockPage {
+            space,
+            number,
+            bytes,
+        })
+    }
+
+    // Archived bytes of the log.
+    fn redo(&self, alloc: Global, redo: RedoBlock) -> Result<Block, AllocError>
+        requires archived { IsInArchive self.now.cloning.archive redo }
+        ensures { IfOk result (λ block. IsRedo self.now redo block) }
+    {
+        let mut bytes = Vec::from_elem(alloc, 0, redo.length as usize)?;
+        self.cloning.read_redo(redo, &mut bytes);
+        Ok(Block::Redo {
+            from: redo.from,
+            bytes,
+        })
+    }
+}

@@ -1,0 +1,69 @@
+-- The lines of a script. Each line has exactly one text.
+use Rattle.std.specs.Prelude.{ℕ, ◌<◌, ◌≤◌, ◌^◌, List, ◌++◌, codes}
+use Rattle.std.specs.Fmt.{decimal}
+use Rattle.clone_model.specs.Texts.{value_text}
+use Rattle.clone_model.specs.Ranges.{IsTable, IsPlace, IsCall, IsScriptValue}
+use Rattle.clone_model.specs.declared.line.TheConstants.{MOST_BUCKETS}
+use Rattle.clone_script.specs.declared.lines.Line.{Line}
+use Rattle.clone_script.specs.declared.lines.Line.TheVariants.{Create, Begin, Put, Delete, Get, Undo, Commit, Set, Flush, Half, Land, Clean, Checkpoint, Lsn, Tear, FailDonor, FailRecipient, Start, Advance, Finish, Look, Archive, Clone, Rows}
+
+abbrev pub line_text : Line → List ℕ
+line_text (Create table buckets) = codes "create " ++ decimal table ++ codes " " ++ decimal buckets
+line_text (Begin writer) = codes "begin " ++ decimal writer
+line_text (Put trx table key value) =
+    codes "put " ++ decimal trx ++ codes " " ++ decimal table ++ codes " " ++ decimal key
+    ++ codes " " ++ value_text value
+line_text (Delete trx table key) =
+    codes "del " ++ decimal trx ++ codes " " ++ decimal table ++ codes " " ++ decimal key
+line_text (Get trx table key) =
+    codes "get " ++ decimal trx ++ codes " " ++ decimal table ++ codes " " ++ decimal key
+line_text (Undo trx) = codes "undo " ++ decimal trx
+line_text (Commit trx) = codes "commit " ++ decimal trx
+line_text (Set writer table key value) =
+    codes "set " ++ decimal writer ++ codes " " ++ decimal table ++ codes " " ++ decimal key
+    ++ codes " " ++ value_text value
+line_text (Flush space page) = codes "flush " ++ decimal space ++ codes " " ++ decimal page
+line_text (Half space page) = codes "half " ++ decimal space ++ codes " " ++ decimal page
+line_text (Land space page) = codes "land " ++ decimal space ++ codes " " ++ decimal page
+line_text Clean = codes "clean"
+line_text Checkpoint = codes "checkpoint"
+line_text Lsn = codes "lsn"
+line_text (Tear byte) = codes "tear " ++ decimal byte
+line_text (FailDonor call) = codes "fail donor " ++ decimal call
+line_text (FailRecipient call) = codes "fail recipient " ++ decimal call
+line_text Start = codes "start"
+line_text Advance = codes "advance"
+line_text Finish = codes "finish"
+line_text Look = codes "look"
+line_text (Archive bytes) = codes "archive " ++ decimal bytes
+line_text Clone = codes "clone"
+line_text Rows = codes "rows"
+
+-- each number of the line is in its range, and so is its value
+abbrev pub IsInRange : Line → Type 0
+IsInRange (Create table buckets) = IsTable table × (1 ≤ buckets) × (buckets ≤ MOST_BUCKETS)
+IsInRange (Begin writer) = writer < 2 ^ 32
+IsInRange (Put trx table key value) =
+    (trx < 2 ^ 32) × IsTable table × (key < 2 ^ 64) × IsScriptValue value
+IsInRange (Delete trx table key) = (trx < 2 ^ 32) × IsTable table × (key < 2 ^ 64)
+IsInRange (Get trx table key) = (trx < 2 ^ 32) × IsTable table × (key < 2 ^ 64)
+IsInRange (Undo trx) = trx < 2 ^ 32
+IsInRange (Commit trx) = trx < 2 ^ 32
+IsInRange (Set writer table key value) =
+    (writer < 2 ^ 32) × IsTable table × (key < 2 ^ 64) × IsScriptValue value
+IsInRange (Flush space page) = IsPlace space page
+IsInRange (Half space page) = IsPlace space page
+IsInRange (Land space page) = IsPlace space page
+IsInRange Clean = Unit {0}
+IsInRange Checkpoint = Unit {0}
+IsInRange Lsn = Unit {0}
+IsInRange (Tear byte) = byte < 256
+IsInRange (FailDonor call) = IsCall call
+IsInRange (FailRecipient call) = IsCall call
+IsInRange Start = Unit {0}
+IsInRange Advance = Unit {0}
+IsInRange Finish = Unit {0}
+IsInRange Look = Unit {0}
+IsInRange (Archive bytes) = bytes < 2 ^ 32
+IsInRange Clone = Unit {0}
+IsInRange Rows = Unit {0}
