@@ -92,9 +92,11 @@ pub record HoldsClone (d : staged.Donor) (tells : Bool) (clone : Clone) (told : 
   pub stands : StandsAt d tells clone told way
 
 -- WHAT IS KEPT OF A CLONE, however it stands: its stop is within the history, and not before what
--- was looked up until then; and where it has ended, what the recipient's disk holds.
+-- was looked up until then; until one is begun the recipient's disk is blank; and where it has
+-- ended, what that disk holds.
 pub record KeepsClone (d : Donor) (tells : Bool) (clone : Clone) (told : Option DiskImage)
     : Type 0 where
+  pub blank_before : clone.progress ≡ absent → ForTold told (λ m. m ≡ blank)
   pub commits : ForSome clone.stop (λ stop. stop.position ≤ length d.binlog)
   pub drops : ForSome clone.stop (λ stop. stop.drops ≤ length d.drops)
   pub reached : ForSome clone.stop (λ stop. clone.floor ≤ stop.position)

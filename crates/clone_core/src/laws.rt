@@ -1,4 +1,4 @@
-ghost use Rattle.std.specs.Prelude.{◌≡◌, ◌≤◌, ◌⊎◌, ◌++◌, ℕ, List, length, true};
+ghost use Rattle.std.specs.Prelude.{◌≡◌, ◌≤◌, ◌++◌, ℕ, List, length};
 ghost use Rattle.std.specs.List.{filter_map};
 ghost use Rattle.clone_outside.specs.Causes.{Rose};
 ghost use Rattle.clone_script.specs.declared.lines.Line.{Line};
