@@ -8,9 +8,19 @@ use Rattle.clone_page.specs.declared.kind.PageKind.TheVariants.{System, Undo, Bu
 use Rattle.clone_mtr.specs.Patches.{Patched}
 use Rattle.clone_mtr.specs.declared.record.Record.{Record}
 use Rattle.clone_mtr.specs.declared.record.Record.TheVariants.{Init, Write, Extend, Create, Drop}
+use Rattle.clone_mtr.specs.declared.found.Found.{Found}
+use Rattle.clone_mtr.specs.declared.found.Found.TheVariants as found
 use Rattle.clone_mtr.specs.declared.refusal.DecodeRefusal.{DecodeRefusal}
 use Rattle.clone_mtr.specs.declared.writing.TheConstants.{LONGEST_MTR}
 use Rattle.clone_mtr.specs.declared.refusal.DecodeRefusal.TheVariants.{Short, BadKind, OutOfPage, TooLong}
+
+-- a record that stands in its spelling
+abbrev pub found_record : Found → Record
+found_record (found.Init space page kind) = Init space page kind
+found_record (found.Write space page patch) = Write space page patch
+found_record (found.Extend space pages) = Extend space pages
+found_record (found.Create space pages) = Create space pages
+found_record (found.Drop space) = Drop space
 
 infixl 10 ◌>>=◌
 abbrev pub ◌>>=◌ : {A B : Type 0} → Result A DecodeRefusal → (A → Result B DecodeRefusal)

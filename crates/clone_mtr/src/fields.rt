@@ -1,7 +1,8 @@
 ghost use Rattle.std.specs.Prelude.{◌≤◌, ◌+◌};
-ghost use Rattle.clone_mtr.specs.Reading.{Gives, byte_at, number_at, bytes_at, kind_numbered, kind_at, pair_at, fits, long_at, patch_at, init_at, write_at, extend_at, create_at, drop_at};
+ghost use Rattle.clone_mtr.specs.Reading.{Gives, found_record, byte_at, number_at, bytes_at, kind_numbered, kind_at, pair_at, fits, long_at, patch_at, init_at, write_at, extend_at, create_at, drop_at};
 
-use crate::{DecodeRefusal, LONGEST_MTR, Patch, Record};
+use crate::found::{Found, Span};
+use crate::{DecodeRefusal, LONGEST_MTR};
 use clone_bytes::Reader;
 use clone_page::{PageKind, is_allowed};
 
@@ -9,52 +10,52 @@ use clone_page::{PageKind, is_allowed};
 // record begins.
 
 #[tactic(auto, unfolding(crate::specs::Reading::init_at))]
-pub(crate) fn init_of(at: usize, reader: &mut Reader) -> Result<Record, DecodeRefusal>
+pub(crate) fn init_of<'a>(at: usize, reader: &mut Reader<'a>) -> Result<Found<'a>, DecodeRefusal>
     requires { at ≤ LONGEST_MTR }
-    ensures { Gives (λ x. (x, reader.new)) result (init_at at reader.old) }
+    ensures { Gives (λ x. (found_record x, reader.new)) result (init_at at reader.old) }
 {
     let (space, page) = pair_of(reader)?;
     let kind = kind_of(at + 9, reader)?;
-    Ok(Record::Init { space, page, kind })
+    Ok(Found::Init { space, page, kind })
 }
 
 #[tactic(auto, unfolding(crate::specs::Reading::write_at))]
-pub(crate) fn write_of(at: usize, reader: &mut Reader) -> Result<Record, DecodeRefusal>
+pub(crate) fn write_of<'a>(at: usize, reader: &mut Reader<'a>) -> Result<Found<'a>, DecodeRefusal>
     requires { at ≤ LONGEST_MTR }
-    ensures { Gives (λ x. (x, reader.new)) result (write_at at reader.old) }
+    ensures { Gives (λ x. (found_record x, reader.new)) result (write_at at reader.old) }
 {
     let (space, page) = pair_of(reader)?;
     let patch = patch_of(at + 9, reader)?;
-    Ok(Record::Write { space, page, patch })
+    Ok(Found::Write { space, page, patch })
 }
 
 #[tactic(auto, unfolding(crate::specs::Reading::extend_at))]
-pub(crate) fn extend_of(reader: &mut Reader) -> Result<Record, DecodeRefusal>
-    ensures { Gives (λ x. (x, reader.new)) result (extend_at reader.old) }
+pub(crate) fn extend_of<'a>(reader: &mut Reader<'a>) -> Result<Found<'a>, DecodeRefusal>
+    ensures { Gives (λ x. (found_record x, reader.new)) result (extend_at reader.old) }
 {
     let (space, pages) = pair_of(reader)?;
-    Ok(Record::Extend { space, pages })
+    Ok(Found::Extend { space, pages })
 }
 
 #[tactic(auto, unfolding(crate::specs::Reading::create_at))]
-pub(crate) fn create_of(reader: &mut Reader) -> Result<Record, DecodeRefusal>
-    ensures { Gives (λ x. (x, reader.new)) result (create_at reader.old) }
+pub(crate) fn create_of<'a>(reader: &mut Reader<'a>) -> Result<Found<'a>, DecodeRefusal>
+    ensures { Gives (λ x. (found_record x, reader.new)) result (create_at reader.old) }
 {
     let (space, pages) = pair_of(reader)?;
-    Ok(Record::Create { space, pages })
+    Ok(Found::Create { space, pages })
 }
 
 #[tactic(auto, unfolding(crate::specs::Reading::drop_at))]
-pub(crate) fn drop_of(reader: &mut Reader) -> Result<Record, DecodeRefusal>
-    ensures { Gives (λ x. (x, reader.new)) result (drop_at reader.old) }
+pub(crate) fn drop_of<'a>(reader: &mut Reader<'a>) -> Result<Found<'a>, DecodeRefusal>
+    ensures { Gives (λ x. (found_record x, reader.new)) result (drop_at reader.old) }
 {
     let space = u32_of(reader)?;
-    Ok(Record::Drop { space })
+    Ok(Found::Drop { space })
 }
 
 // `at` is the place of the offset.
 #[tactic(auto, unfolding(crate::specs::Reading::patch_at))]
-fn patch_of(at: usize, reader: &mut Reader) -> Result<Patch, DecodeRefusal>
+fn patch_of<'a>(at: usize, reader: &mut Reader<'a>) -> Result<Span<'a>, DecodeRefusal>
     requires low { 9 ≤ at }
     requires high { at ≤ LONGEST_MTR + 9 }
     ensures { Gives (λ x. (x, reader.new)) result (patch_at at reader.old) }
@@ -72,7 +73,7 @@ fn patch_of(at: usize, reader: &mut Reader) -> Result<Patch, DecodeRefusal>
 }
 
 #[tactic(auto, unfolding(crate::specs::Reading::long_at))]
-fn long_of(at: usize, offset: u16, reader: &mut Reader) -> Result<Patch, DecodeRefusal>
+fn long_of<'a>(at: usize, offset: u16, reader: &mut Reader<'a>) -> Result<Span<'a>, DecodeRefusal>
     requires low { 9 ≤ at }
     requires high { at ≤ LONGEST_MTR + 9 }
     ensures { Gives (λ x. (x, reader.new)) result (long_at at offset reader.old) }
@@ -83,7 +84,7 @@ fn long_of(at: usize, offset: u16, reader: &mut Reader) -> Result<Patch, DecodeR
     let long = high as usize * 256 + low as usize;
     fitting(at, offset, long)?;
     let body = bytes_of(reader, long)?;
-    Ok(Patch::new(offset, body))
+    Ok(Span::new(offset, body))
 }
 
 // Whether a write may have so many bytes.

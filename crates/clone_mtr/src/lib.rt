@@ -4,6 +4,7 @@
 
 mod effects;
 mod fields;
+mod found;
 mod laws;
 mod patch;
 mod placing;
@@ -14,7 +15,7 @@ mod writing;
 
 pub use effects::apply;
 pub use laws::{one_answer, one_spelling};
-pub use patch::{LONGEST_PATCH, Patch};
+pub use patch::{LONGEST_PATCH, Patch, SHORT_PATCH};
 pub use placing::{encode_into, spelling_length};
 pub use reading::decode;
 pub use record::{Mtr, Record};

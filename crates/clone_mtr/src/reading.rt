@@ -1,9 +1,10 @@
 ghost use Rattle.std.specs.Prelude.{◌≤◌, option_map};
 ghost use Rattle.clone_mtr.specs.Answers.{Decodes};
-ghost use Rattle.clone_mtr.specs.Reading.{Gives, item_at, record_at};
+ghost use Rattle.clone_mtr.specs.Reading.{Gives, found_record, item_at, record_at};
 
 use crate::fields::{create_of, drop_of, extend_of, init_of, u8_of, write_of};
-use crate::{DecodeRefusal, LONGEST_MTR, Mtr, Record};
+use crate::found::Found;
+use crate::{DecodeRefusal, LONGEST_MTR, Mtr};
 use clone_bytes::Reader;
 use std::alloc::Global;
 
@@ -17,11 +18,11 @@ pub fn decode(alloc: Global, bytes: &[u8]) -> Result<(Mtr, usize), DecodeRefusal
         Some(found) => found,
         None => return Err(DecodeRefusal::BadKind { at: 0 }),
     };
-    let mut mtr = Mtr::new(alloc, first)?;
+    let mut mtr = Mtr::new(alloc, first.into_record(alloc)?)?;
     loop {
         let at = bytes.len() - reader.left();
         match item_of(at, &mut reader)? {
-            Some(next) => mtr.push(next)?,
+            Some(next) => mtr.push(next.into_record(alloc)?)?,
             None => return Ok((mtr, at + 1)),
         }
     }
@@ -29,9 +30,9 @@ pub fn decode(alloc: Global, bytes: &[u8]) -> Result<(Mtr, usize), DecodeRefusal
 
 // The record at the front, or none where the end mark stands. `at` is the place where it begins.
 #[tactic(auto, unfolding(crate::specs::Reading::item_at))]
-fn item_of(at: usize, reader: &mut Reader) -> Result<Option<Record>, DecodeRefusal>
+fn item_of<'a>(at: usize, reader: &mut Reader<'a>) -> Result<Option<Found<'a>>, DecodeRefusal>
     requires { at ≤ LONGEST_MTR }
-    ensures { Gives (λ x. option_map (λ found. (found, reader.new)) x) result
+    ensures { Gives (λ x. option_map (λ found. (found_record found, reader.new)) x) result
         (item_at at reader.old) }
 {
     match u8_of(reader)? {
@@ -41,9 +42,9 @@ fn item_of(at: usize, reader: &mut Reader) -> Result<Option<Record>, DecodeRefus
 }
 
 #[tactic(auto, unfolding(crate::specs::Reading::record_at))]
-fn record_of(kind: u8, at: usize, reader: &mut Reader) -> Result<Record, DecodeRefusal>
+fn record_of<'a>(kind: u8, at: usize, reader: &mut Reader<'a>) -> Result<Found<'a>, DecodeRefusal>
     requires { at ≤ LONGEST_MTR }
-    ensures { Gives (λ x. (x, reader.new)) result (record_at kind at reader.old) }
+    ensures { Gives (λ x. (found_record x, reader.new)) result (record_at kind at reader.old) }
 {
     let least = match kind {
         1 => 11,

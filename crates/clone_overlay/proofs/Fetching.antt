@@ -17,7 +17,7 @@ use Rattle.clone_overlay.specs.Shown.{leaf_over, standing_over, Fits, Shows, Sho
 use Rattle.clone_overlay.proofs.Bases.{read_on}
 use Rattle.clone_overlay.proofs.Covered.{standing_held, standing_past, standing_kept, standing_other, fits_holding}
 use Rattle.clone_overlay.proofs.Entries.{get_set, get_here}
-use Rattle.clone_overlay.proofs.Showing.{shows_by, page_stands, page_standing}
+use Rattle.clone_overlay.proofs.Showing.{shows_by}
 
 -- a page that counts is one of the base
 kept_there : (base : List (List ℕ)) (cover : Cover) (n : ℕ) → n < cover.kept → Fits base cover → n < length base

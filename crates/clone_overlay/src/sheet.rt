@@ -1,4 +1,4 @@
-ghost use Rattle.std.specs.Prelude.{◌≡◌, ◌↔◌, ◌≤◌, ◌<◌, IsTrue, IsSome, is_some, OnOk, OnErr, IsOk, IfOk, IsErrOf, option_copied, length};
+ghost use Rattle.std.specs.Prelude.{◌≡◌, ◌↔◌, ◌≤◌, ◌<◌, IsTrue, IsSome, is_some, OnOk, OnErr, IsOk, IfOk, IsErrOf, option_copied, length, None};
 ghost use Rattle.std.specs.FinMap as finite;
 ghost use Rattle.clone_page.specs.Bytes.{put_at};
 ghost use Rattle.clone_page.specs.Header.{IsAllowed};
@@ -108,6 +108,29 @@ impl Sheet {
         if self.is_ready(number) {
             return Ok(());
         }
+        self.bring(disk, space, number)
+    }
+
+    // Holds a page that isn't held yet. It is a function of its own since a page in a local variable
+    // costs each call its bytes, and `fetch` mostly finds the page held.
+    #[inline(never)]
+    fn bring<D: PageDisk>(
+        &mut self,
+        disk: &mut D,
+        space: u32,
+        number: u32,
+    ) -> Result<(), FetchRefusal>
+        requires there { number < self.old.count }
+        requires free { finite.get self.old.leaves number ≡ None }
+        ensures ok { OnOk result (Fetched (D.told disk.old) space number self.old self.new) }
+        ensures header { IsErrOf result FetchRefusal.Header
+            → GivesMisplaced (D.told disk.old) space number self.old }
+        ensures fault { IsErrOf result FetchRefusal.DiskFault
+            → Rose (D.failures disk.old) (D.failures disk.new) }
+        ensures told { D.told disk.new ≡ D.told disk.old }
+        ensures orders { D.orders disk.new ≡ D.orders disk.old }
+        ensures later { D.failures disk.old ≤ D.failures disk.new }
+    {
         if number >= self.kept {
             return Ok(self.hold(number, Page::zero())?);
         }

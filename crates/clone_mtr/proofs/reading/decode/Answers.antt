@@ -1,7 +1,7 @@
 use Rattle.std.proofs.Common.{refl, ◌≡◌, ◌-◌, length, arith, [], ◌∷◌, Some, None, Ok, Err}
 use Rattle.std.proofs.lemmas.Result.{err_from_is_err_and}
 use Rattle.std.proofs.lemmas.List.{length-append}
-use Rattle.clone_mtr.specs.Reading.{item_at}
+use Rattle.clone_mtr.specs.Reading.{found_record, item_at}
 use Rattle.clone_mtr.proofs.Decoding.{place, Splits-none, Splits-more, refuses, ends_first, next_refused, next_more, next_ended}
 use Rattle.clone_mtr.proofs.reading.decode.Goals as goal
 
@@ -19,9 +19,9 @@ returns-in-None c =
 
 pub loop-mtr-init : goal.loop-mtr-init
 loop-mtr-init c =
-    let found : item_at 0 c.args.bytes.now ≡ Ok (Some (c.in-Some.found, c.item_of.new.reader)) = rw (c.in-Some.is, c.new-reader.ensures) at c.in_ok-found.ensures in
+    let found : item_at 0 c.args.bytes.now ≡ Ok (Some (found_record c.in-Some.found, c.item_of.new.reader)) = rw (c.in-Some.is, c.new-reader.ensures) at c.in_ok-found.ensures in
     record {
-      so_far = rw c.in_ok-mtr.ensures (Splits-more c.args.bytes.now c.args.bytes.now c.item_of.new.reader [] c.in-Some.found 0 refl (Splits-none c.args.bytes.now (λ i. omega (arith, c.type_inv.bytes i))) found);
+      so_far = rw (c.in_ok-mtr.ensures, c.in_ok-into_record.ensures) (Splits-more c.args.bytes.now c.args.bytes.now c.item_of.new.reader [] (found_record c.in-Some.found) 0 refl (Splits-none c.args.bytes.now (λ i. omega (arith, c.type_inv.bytes i))) found);
       some = rw c.in_ok-mtr.ensures (omega arith);
     }
 
@@ -34,15 +34,15 @@ returns-in_err-next c =
 
 pub loop-mtr-smaller : goal.loop-mtr-smaller
 loop-mtr-smaller c =
-    let found : item_at (length c.args.bytes.now - length c.loop-mtr.reader) c.loop-mtr.reader ≡ Ok (Some (c.in-Some-2.next, c.item_of-in-loop-mtr.new.reader)) = rw (c.in-Some-2.is, c.left.ensures) at c.in_ok-next.ensures in
-    (next_more c.args.bytes.now c.loop-mtr.reader c.item_of-in-loop-mtr.new.reader c.loop-mtr.mtr c.in-Some-2.next c.loop-mtr.invariant.so_far found).1
+    let found : item_at (length c.args.bytes.now - length c.loop-mtr.reader) c.loop-mtr.reader ≡ Ok (Some (found_record c.in-Some-2.next, c.item_of-in-loop-mtr.new.reader)) = rw (c.in-Some-2.is, c.left.ensures) at c.in_ok-next.ensures in
+    (next_more c.args.bytes.now c.loop-mtr.reader c.item_of-in-loop-mtr.new.reader c.loop-mtr.mtr (found_record c.in-Some-2.next) c.loop-mtr.invariant.so_far found).1
 
 pub loop-mtr-preserved : goal.loop-mtr-preserved
 loop-mtr-preserved c =
-    let found : item_at (length c.args.bytes.now - length c.loop-mtr.reader) c.loop-mtr.reader ≡ Ok (Some (c.in-Some-2.next, c.item_of-in-loop-mtr.new.reader)) = rw (c.in-Some-2.is, c.left.ensures) at c.in_ok-next.ensures in
+    let found : item_at (length c.args.bytes.now - length c.loop-mtr.reader) c.loop-mtr.reader ≡ Ok (Some (found_record c.in-Some-2.next, c.item_of-in-loop-mtr.new.reader)) = rw (c.in-Some-2.is, c.left.ensures) at c.in_ok-next.ensures in
     record {
-      so_far = rw c.in_ok-push-in-Some-2.ensures.ok (next_more c.args.bytes.now c.loop-mtr.reader c.item_of-in-loop-mtr.new.reader c.loop-mtr.mtr c.in-Some-2.next c.loop-mtr.invariant.so_far found).0;
-      some = rw c.in_ok-push-in-Some-2.ensures.ok (omega (arith, length-append c.loop-mtr.mtr (c.in-Some-2.next ∷ [])));
+      so_far = rw (c.in_ok-push-in-Some-2.ensures.ok, c.in_ok-into_record-in-Some-2.ensures) (next_more c.args.bytes.now c.loop-mtr.reader c.item_of-in-loop-mtr.new.reader c.loop-mtr.mtr (found_record c.in-Some-2.next) c.loop-mtr.invariant.so_far found).0;
+      some = rw (c.in_ok-push-in-Some-2.ensures.ok, c.in_ok-into_record-in-Some-2.ensures) (omega (arith, length-append c.loop-mtr.mtr (found_record c.in-Some-2.next ∷ [])));
     }
 
 pub returns-in-None-2 : goal.returns-in-None-2
