@@ -73,13 +73,13 @@ module _ (image : Image) (lsn s : ℕ) (slot : UndoSlot) (e : UndoEntry) (value 
 
   -- where the page of the undo record is unused, the record is the first on a later page
   due : unused ≡ true → (0 < count) × (count % 40 ≡ 0)
-  due none = undo.next_is_first s (pages 0) slot used may.known (unused_page 2 (pages 0 (record_page s count)) (λ z. omega (arith, z)) record_kind none)
+  due none = undo.next_is_first s (pages 0) slot used may.known (unused_page (pages 0 (record_page s count)) (λ is z. omega (arith, is, z)) record_kind none)
 
   fits : FitAll lsn written pages
   fits =
       change_fits unused row_unused lsn s count e bytes pages may.in_range eighty (header_stands image s slot formed may.small used)
-      (λ made. undo_page image (record_page s count) formed (λ z. omega (arith, z)) (omega (arith, may.room, may.small)) (used_kind 2 (pages 0 (record_page s count)) record_kind made))
-      (λ made. table_page image e.table e.page found.0 formed in_table found.1 (used_kind 3 found.0 (formed.tables e.table e.page found.0 in_table found.1) (sym told ∙ made)))
+      (λ made. undo_page image (record_page s count) formed (λ z. omega (arith, z)) (omega (arith, may.room, may.small)) (used_kind (pages 0 (record_page s count)) record_kind made))
+      (λ made. table_page image e.table e.page found.0 formed in_table found.1 (used_kind found.0 (formed.tables e.table e.page found.0 in_table found.1) (sym told ∙ made)))
 
   stay : (t m : ℕ) → (t ≡ 0 → m ≡ 0) → (t ≡ e.table → m ≡ e.page → ⊥) → after lsn written pages t m ≡ pages t m
   stay t m system = undo.changed_elsewhere unused row_unused lsn s count t m e bytes pages (λ z p. omega (arith, system z, p)) (λ z p. omega (arith, system z, p))

@@ -1,21 +1,23 @@
 -- What the records of a change leave of the pages that they name.
 use Rattle.std.proofs.Common.{◌≡◌, ◌≢◌, ◌<◌, ◌≤◌, ◌+◌, ◌*◌, ◌^◌, ◌==◌, ◌++◌, ◌⊎◌, ℕ, Bool, true, false, List, [], ◌∷◌, length, refl, sym, ap, ◌∙◌, arith, inl, inr, Option, set, IfSome, eqb-true, eq-eqb}
-use Rattle.clone_contents.proofs.Common.{drop-replicate, take-replicate, big_bytes, length-bytes_high_first, part, field, zero_page, kind_of, IsAllowed, Undo, Bucket, field-part, length-initialised, effect, Record, Init, slots, row_slot, image, slots-WritesSlot, slots-initialised, slots-zero, UndoEntry, IsEntry, entry_bytes, header_page, record_page, record_place, made_first, count_record, entry_record, row_record, records_of_change, after_record, after_row}
+use Rattle.clone_contents.proofs.Common.{big_bytes, length-bytes_high_first, zero_page, kind_of, IsAllowed, Undo, Bucket, length-initialised, effect, Record, Init, slots, row_slot, image, slots-WritesSlot, slots-initialised, slots-zero, UndoEntry, IsEntry, entry_bytes, header_page, record_page, record_place, made_first, count_record, entry_record, row_record, records_of_change, after_record, after_row, behind, behind-same, behind-made, header-WritesSlot, IsRowsOrUnused}
+use Rattle.clone_mtr.specs.Patches.{Patched}
 use Rattle.clone_row.specs.Writes.{WritesSlot}
 use Rattle.clone_undo.proofs.Entries.{length-entry_bytes}
-use Rattle.clone_contents.proofs.FittingRecords.{IsOfPlace, FitsOn, FitAll, stays, made_stands}
+use Rattle.clone_contents.proofs.FittingRecords.{IsOfPlace, FitsOn, FitAll, rows_used, stays, made_stands}
+use Rattle.clone_contents.proofs.NextPages.{behind-zero}
 
 pub kind_of-zero : kind_of zero_page ≡ 0
-kind_of-zero = field-part 24 2 2 zero_page (omega arith) ∙ ap (field 0 2) (ap (λ (xs : List ℕ). part 0 2 xs) (drop-replicate 24 4096 0) ∙ take-replicate 2 4072 0 (omega arith))
+kind_of-zero = refl
 
--- a page of a kind, or an unused one, is unused exactly where its kind is 0
-pub used_kind : (kind : ℕ) (page : List ℕ) → (kind_of page ≡ kind) ⊎ (page ≡ zero_page) → (kind_of page == 0) ≡ false → kind_of page ≡ kind
-used_kind kind page (inl is) used = is
-used_kind kind page (inr zeros) used = absurd (let e = sym used ∙ eq-eqb (kind_of page) 0 (ap kind_of zeros ∙ kind_of-zero) in cc)
+-- a page that is of a kind, or an unused one, is unused exactly where its kind is 0
+pub used_kind : {K : Type 0} (page : List ℕ) → K ⊎ (page ≡ zero_page) → (kind_of page == 0) ≡ false → K
+used_kind page (inl is) used = is
+used_kind page (inr zeros) used = absurd (let e = sym used ∙ eq-eqb (kind_of page) 0 (ap kind_of zeros ∙ kind_of-zero) in cc)
 
-pub unused_page : (kind : ℕ) (page : List ℕ) → kind ≢ 0 → (kind_of page ≡ kind) ⊎ (page ≡ zero_page) → (kind_of page == 0) ≡ true → page ≡ zero_page
-unused_page kind page other (inl is) none = absurd (other (sym is ∙ eqb-true (kind_of page) 0 none))
-unused_page kind page other (inr zeros) none = zeros
+pub unused_page : {K : Type 0} (page : List ℕ) → (K → kind_of page ≢ 0) → K ⊎ (page ≡ zero_page) → (kind_of page == 0) ≡ true → page ≡ zero_page
+unused_page page other (inl is) none = absurd (other is (eqb-true (kind_of page) 0 none))
+unused_page page other (inr zeros) none = zeros
 
 -- The pages of the system space.
 
@@ -33,7 +35,7 @@ row_allowed j bytes within eighty = (omega (arith, eighty), inr (omega arith, om
 row_fits : (row_unused : Bool) (lsn : ℕ) (e : UndoEntry) (bytes : List ℕ) (pages : ℕ → ℕ → List ℕ) → IsEntry e → length bytes ≡ 80 → (row_unused ≡ false → IsOfPlace e.table e.page (pages e.table e.page)) → FitAll lsn (made_first row_unused e.table e.page Bucket ++ row_record e bytes ∷ []) pages
 row_fits true lsn e bytes pages is eighty row =
     let in_table : e.table ≢ 0 = λ zero. omega (arith, zero, is.place.0) in
-    let made : FitsOn (Init e.table e.page Bucket) pages = (λ zero. absurd (in_table zero), λ zero. absurd (in_table zero), λ behind. refl) in
+    let made : FitsOn (Init e.table e.page Bucket) pages = (λ zero. absurd (in_table zero), λ zero. absurd (in_table zero), λ other. inl refl) in
     (made, ((row_allowed e.slot bytes is.place.3 eighty, made_stands lsn e.table e.page Bucket pages made), tt))
 row_fits false lsn e bytes pages is eighty row = ((row_allowed e.slot bytes is.place.3 eighty, row refl), tt)
 
@@ -62,18 +64,34 @@ change_fits false row_unused lsn s n e bytes pages is eighty header place row = 
 
 -- The page of the row.
 
--- the row slot is set
-pub row_set : (unused : Bool) (lsn key : ℕ) (value : Option (List ℕ)) (e : UndoEntry) (page : List ℕ) → e.slot < 50 → key < 2 ^ 64 → IfSome value (λ v. length v ≤ 64) → length page ≡ 4096 → (kind_of page ≡ 3) ⊎ (page ≡ zero_page)
-    → unused ≡ (kind_of page == 0) → slots (after_row unused lsn e (image key value) page) ≡ set (slots page) e.slot (row_slot key value)
-row_set unused lsn key value e page within small short long is told = at unused told
-  where
-    writes : WritesSlot e.slot key value (record { offset = 48 + 80 * e.slot; bytes = image key value })
-    writes = record { within = within; place = refl; bytes = refl; key_fits = small; short = short }
+module _ (lsn key : ℕ) (value : Option (List ℕ)) (e : UndoEntry) (page : List ℕ) (within : e.slot < 50) (small : key < 2 ^ 64) (short : IfSome value (λ v. length v ≤ 64)) (long : length page ≡ 4096) (is : IsRowsOrUnused page) where
+  abbrev patch : Patched
+  patch = record { offset = 48 + 80 * e.slot; bytes = image key value }
 
-    at : (b : Bool) → b ≡ (kind_of page == 0) → slots (after_row b lsn e (image key value) page) ≡ set (slots page) e.slot (row_slot key value)
-    at true none =
-        let made : List ℕ = effect lsn (Init e.table e.page Bucket) page in
-        let zeros : page ≡ zero_page = unused_page 3 page (λ z. omega (arith, z)) is (sym none) in
-        let same : slots made ≡ slots page = slots-initialised e.table e.page lsn Bucket ∙ sym slots-zero ∙ ap slots (sym zeros) in
-        slots-WritesSlot lsn e.slot key value record { offset = 48 + 80 * e.slot; bytes = image key value } made writes (length-initialised e.table e.page Bucket lsn) ∙ ap (λ list. set list e.slot (row_slot key value)) same
-    at false used = slots-WritesSlot lsn e.slot key value record { offset = 48 + 80 * e.slot; bytes = image key value } page writes long
+  -- the page after it was made
+  abbrev made : List ℕ
+  made = effect lsn (Init e.table e.page Bucket) page
+
+  writes : WritesSlot e.slot key value patch
+  writes = record { within = within; place = refl; bytes = refl; key_fits = small; short = short }
+
+  long_made : length made ≡ 4096
+  long_made = length-initialised e.table e.page Bucket lsn
+
+  zeros : true ≡ (kind_of page == 0) → page ≡ zero_page
+  zeros none = unused_page page (rows_used page) is (sym none)
+
+  -- the row slot is set
+  pub row_set : (unused : Bool) → unused ≡ (kind_of page == 0) → slots (after_row unused lsn e (image key value) page) ≡ set (slots page) e.slot (row_slot key value)
+  row_set true none =
+      let same : slots made ≡ slots page = slots-initialised e.table e.page lsn Bucket ∙ sym slots-zero ∙ ap slots (sym (zeros none)) in
+      slots-WritesSlot lsn e.slot key value patch made writes long_made ∙ ap (λ list. set list e.slot (row_slot key value)) same
+  row_set false used = slots-WritesSlot lsn e.slot key value patch page writes long
+
+  kept : (bytes : List ℕ) → length bytes ≡ 4096 → behind (effect lsn (row_record e (image key value)) bytes) ≡ behind bytes
+  kept bytes whole = behind-same bytes (effect lsn (row_record e (image key value)) bytes) (header-WritesSlot lsn e.slot key value patch bytes writes whole)
+
+  -- the page behind it stays
+  pub row_next : (unused : Bool) → unused ≡ (kind_of page == 0) → behind (after_row unused lsn e (image key value) page) ≡ behind page
+  row_next true none = kept made long_made ∙ behind-made e.table e.page lsn Bucket ∙ sym behind-zero ∙ ap behind (sym (zeros none))
+  row_next false used = kept page long

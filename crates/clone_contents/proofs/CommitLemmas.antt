@@ -1,7 +1,8 @@
 -- A transaction commits, for the contents: it ends, and the position is written.
-use Rattle.std.proofs.Common.{◌≡◌, ◌<◌, ◌^◌, ◌≤◌, ℕ, [], ◌∷◌, length, sym, ap, ◌∙◌, arith, inr, Some}
-use Rattle.clone_contents.proofs.Common.{big_bytes, length-bytes_high_first, position_at, entry_space-put_position, field-put_at_same, UndoSlot, records_of_end, Image, all_pages, after_records, Contents, contents_of, IsFormed, HasContents, commit_records, position_record, committed}
-use Rattle.clone_contents.proofs.SystemLemmas.{named_on, named_past, system_long, system_written}
+use Rattle.std.proofs.Common.{◌≡◌, ◌<◌, ◌^◌, ◌≤◌, ℕ, [], ◌∷◌, length, ap, ◌∙◌, arith, inr, Some}
+use Rattle.clone_contents.proofs.Common.{big_bytes, length-bytes_high_first, position_at, field-put_at_same, dictionary-before, UndoSlot, records_of_end, Image, all_pages, after_records, Contents, contents_of, IsFormed, HasContents, commit_records, position_record, committed}
+use Rattle.clone_contents.proofs.SystemLemmas.{system_long, system_written}
+use Rattle.clone_space.specs.Writes.{WritesBefore}
 use Rattle.clone_contents.proofs.UndoSlotLemmas.{end_is}
 
 -- the position is written
@@ -10,9 +11,9 @@ position_written image lsn position formed fits =
     let piece = big_bytes 8 position in
     let eight : length piece ≡ 8 = length-bytes_high_first 8 position in
     let on : position_at ≤ length (all_pages image 0 0) = omega (arith, system_long image formed) in
-    system_written image lsn position_at piece formed (omega (arith, eight), inr (omega arith, omega (arith, eight))) (contents_of image).named position
-    (λ j low. entry_space-put_position j piece (all_pages image 0 0) eight on ∙ sym (named_on image j low))
-    (named_past image)
+    let writes : WritesBefore (record { offset = position_at; bytes = piece }) = record { allowed = (omega (arith, eight), inr (omega arith, omega (arith, eight))); before = omega (arith, eight) } in
+    system_written image lsn position_at piece formed writes.allowed (contents_of image).dictionary position
+    (dictionary-before lsn (record { offset = position_at; bytes = piece }) (all_pages image 0 0) writes (system_long image formed))
     (field-put_at_same position_at 8 position (all_pages image 0 0) on fits)
 
 -- the transaction ends, and the position is written

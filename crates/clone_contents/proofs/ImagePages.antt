@@ -1,6 +1,6 @@
 -- An image told by its pages, and what records that edit pages leave of them.
 use Rattle.std.proofs.Common.{◌≡◌, ◌<◌, ℕ, List, [], length, get_or, refl, sym, ap, ◌∙◌, arith, Option, Some, None, slice_get, option_map, option_and_then}
-use Rattle.clone_contents.proofs.Common.{AllByRecursion, same_Some, slice_get-get_or, Record, undo_slot, after, AreWhole, Image, page_of, page_count, all_pages, after_records, EditsPages, AreWholePages, undo_slot_of, records_pages, all_pages-is}
+use Rattle.clone_contents.proofs.Common.{AllByRecursion, same_Some, slice_get_within, slice_get-get_or, Record, undo_slot, after, AreWhole, Image, page_of, page_count, all_pages, after_records, EditsPages, AreWholePages, undo_slot_of, records_pages, all_pages-is}
 use Rattle.std.specs.FinMap as finite
 use Rattle.clone_undo.proofs.Effects.{own}
 
@@ -42,6 +42,14 @@ there image s n count is within = at (finite.get image s) refl
     at (Some pages) some =
         let long : length pages ≡ count = same_Some (length pages) count (sym (ap (option_map length) some) ∙ is) in
         (get_or pages n [], ap (λ o. option_and_then (λ ps. slice_get ps n) o) some ∙ slice_get-get_or pages n [] (omega (arith, within, long)))
+
+-- a page that is there is within its space
+pub within_space : (image : Image) (s n count : ℕ) (page : List ℕ) → page_count image s ≡ Some count → page_of image s n ≡ Some page → n < count
+within_space image s n count page = space (finite.get image s)
+  where
+    space : (o : Option (List (List ℕ))) → option_map length o ≡ Some count → option_and_then (λ pages. slice_get pages n) o ≡ Some page → n < count
+    space None size is = absurd (let f = is in cc)
+    space (Some pages) size is = omega (arith, same_Some (length pages) count size, slice_get_within pages n page is)
 
 -- The undo slots of an image with the pages of all of them.
 

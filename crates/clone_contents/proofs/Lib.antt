@@ -1,6 +1,7 @@
 pub mod Common
 pub mod SameContents
 pub mod ImagePages
+pub mod NextPages
 pub mod FittingRecords
 pub mod RowSlots
 pub mod UndoEntries
@@ -11,8 +12,13 @@ pub mod TakingBackLemmas
 pub mod RecoveryLemmas
 pub mod UndoSlotLemmas
 pub mod SystemLemmas
+pub mod ZeroPages
 pub mod CreateLemmas
 pub mod OpeningLemmas
+pub mod ExtendLemmas
+pub mod TablePages
+pub mod GrowthLemmas
+pub mod DropLemmas
 pub mod PlacedLemmas
 pub mod CommitLemmas
 pub mod FindLemmas

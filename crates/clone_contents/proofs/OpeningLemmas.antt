@@ -1,11 +1,13 @@
 -- What opening leaves, for the contents.
-use Rattle.std.proofs.Common.{◌≡◌, ◌≢◌, ◌<◌, ◌≤◌, ◌⊎◌, ℕ, Bool, true, false, cond, eqb, List, length, replicate, refl, sym, ap, ◌∙◌, arith, inl, inr, Option, Some, None, option_map, nat_lt, nat_cmp, eq-eqb, le-ltb}
-use Rattle.clone_contents.proofs.Common.{cases_eq, cases_lt, drop-replicate, take-replicate, length-replicate, same_Some, part, field, entry_space, position_at, kind_of, kind_of-initialised, zero_page, initialised, header, trailer, System, entry_space-initialised, field-part, part-zeros, length-initialised, unused, slots, slot_in, header_page, UndoSlot, active_of, slot-free, Image, page_of, all_pages, page_count, after_records, undo_slot_of, get-put_same, get-put_other, page_of-edited_same, page_of-edited_other, page_of-made, all_pages-is, page_count-edited, contents_of, set_at, IsFormed, HasContents, opening_records, opened}
+use Rattle.std.proofs.Common.{◌≡◌, ◌≢◌, ◌<◌, ◌≤◌, ◌⊎◌, ℕ, Bool, true, false, cond, List, length, replicate, refl, sym, ap, ◌∙◌, arith, inl, inr, Option, Some, None, option_map, nat_lt, nat_cmp, le-ltb}
+use Rattle.clone_contents.proofs.Common.{cases_eq, cases_lt, drop-replicate, take-replicate, length-replicate, same_Some, part, field, position_at, kind_of, kind_of-initialised, zero_page, initialised, header, trailer, System, dictionary, dictionary-initialised, field-part, part-zeros, length-initialised, unused, header_page, UndoSlot, active_of, slot-free, Image, page_of, all_pages, page_count, after_records, undo_slot_of, get-put_same, get-put_other, page_of-edited_same, page_of-edited_other, page_of-made, all_pages-is, page_count-edited, contents_of, set_at, IsFormed, HasContents, opening_records, opened}
 use Rattle.std.specs.FinMap as finite
 use Rattle.std.specs.FinMap.{get-empty}
 use Rattle.clone_contents.proofs.SameContents.{set_at-same, set_at-other, same_contents}
-use Rattle.clone_contents.proofs.SystemLemmas.{named_on, named_past}
-use Rattle.clone_contents.proofs.CreateLemmas.{no_slot, made_zeros, absent}
+use Rattle.clone_contents.proofs.NextPages.{next_is, next_system, no_next}
+use Rattle.clone_contents.proofs.RowSlots as rows
+use Rattle.clone_contents.proofs.ZeroPages.{no_slot}
+use Rattle.clone_contents.proofs.CreateLemmas.{made_zeros, absent}
 
 active_of-zero : active_of zero_page ≡ 0
 active_of-zero = field-part 40 1 1 zero_page (omega arith) ∙ ap (field 0 1) (ap (λ (xs : List ℕ). part 0 1 xs) (drop-replicate 40 4096 0) ∙ take-replicate 1 4056 0 (omega arith))
@@ -66,13 +68,13 @@ module _ (lsn : ℕ) where
       whole t n page is (inl zero) (inl it) = ap length (same_Some page first (sym is ∙ (λ i. page_of new (zero i) (it i)) ∙ system_is)) ∙ length-initialised 0 0 System lsn
       whole t n page is (inl zero) (inr apart) = ap length (made_zeros none 0 257 n page (ap (λ m. page_of space m n) (sym zero) ∙ sym (others t n (λ z m. apart m)) ∙ is)) ∙ length-replicate {A = ℕ} 4096 0
 
-  named_is : (j : ℕ) → (j < 62) ⊎ (62 ≤ j) → (contents_of new).named j ≡ 0
-  named_is j (inl low) = named_on new j low ∙ ap (entry_space j) page_now ∙ entry_space-initialised j 0 0 System lsn low
-  named_is j (inr high) = named_past new j high
+  next_is_none : (t p : ℕ) → (t ≡ 0) ⊎ (t ≢ 0) → (contents_of new).next t p ≡ None
+  next_is_none t p (inl zero) = next_system new t p zero
+  next_is_none t p (inr behind) = next_is new t p behind ∙ no_next (page_of new t p) (λ page is. absurd (let e = sym is ∙ nothing t p behind in cc))
 
   slot_is : (t p j : ℕ) → (t ≡ 0) ⊎ (t ≢ 0) → (contents_of new).slot t p j ≡ unused
-  slot_is t p j (inl zero) = ap (λ b. cond b unused (slot_in (slots (all_pages new t p)) j)) (eq-eqb t 0 zero)
-  slot_is t p j (inr behind) = ap (λ x. cond (eqb t 0) unused x) (no_slot j (page_of new t p) (λ page is. absurd (let e = sym is ∙ nothing t p behind in cc))) ∙ same (eqb t 0) unused
+  slot_is t p j (inl zero) = rows.slot_system new t p j zero
+  slot_is t p j (inr behind) = rows.slot_is new t p j behind ∙ no_slot j (page_of new t p) (λ page is. absurd (let e = sym is ∙ nothing t p behind in cc))
 
   undo_is : (s : ℕ) → (s < 64) ⊎ (64 ≤ s) → (contents_of new).undo s ≡ None
   undo_is s (inl low) = ap (λ o. cond (nat_lt s 64) o None) (slot-free s (all_pages new 0) (ap active_of (zero_there (header_page s) (λ z. omega (arith, z)) (omega (arith, low))) ∙ active_of-zero)) ∙ same {X = Option UndoSlot} (nat_lt s 64) None
@@ -82,4 +84,4 @@ module _ (lsn : ℕ) where
   position_is = ap (field position_at 8) page_now ∙ field-part 40 8 8 first (omega arith) ∙ ap (field 0 8) (part-zeros 40 8 4050 (header 0 0 System lsn) (trailer lsn) (omega arith) (omega arith))
 
   pub opening_is : HasContents new opened
-  opening_is = (new_formed, same_contents (contents_of new) opened (λ j. named_is j (cases_lt j 62)) size_is (λ t p j. slot_is t p j (cases_eq t 0)) (λ s. undo_is s (cases_lt s 64)) position_is)
+  opening_is = (new_formed, same_contents (contents_of new) opened (ap dictionary page_now ∙ dictionary-initialised 0 0 lsn System) size_is (λ t p j. slot_is t p j (cases_eq t 0)) (λ t p. next_is_none t p (cases_eq t 0)) (λ s. undo_is s (cases_lt s 64)) position_is)

@@ -1,10 +1,10 @@
 -- Each page stays at its place with each mini-transaction that leaves a formed image.
-use Rattle.std.proofs.Common.{◌≡◌, ◌≢◌, ◌<◌, ◌+◌, ◌^◌, ◌==◌, ◌&&◌, ◌⊎◌, ℕ, Bool, true, false, cond, List, [], ◌∷◌, ◌++◌, length, refl, sym, ap, subst, ◌∙◌, arith, inl, inr, Option, Some, None, slice_get, option_map, option_and_then, nat_lt, nat_cmp}
+use Rattle.std.proofs.Common.{◌≡◌, ◌≢◌, ◌<◌, ◌+◌, ◌^◌, ◌==◌, ◌&&◌, ◌⊎◌, ℕ, Bool, true, false, cond, List, [], ◌∷◌, ◌++◌, length, refl, sym, ap, subst, ◌∙◌, arith, inl, inr, Option, Some, None, slice_get, option_and_then, nat_lt, nat_cmp}
 use Rattle.std.specs.FinMap as finite
 use Rattle.std.specs.FinMap.{get-empty}
 use Rattle.std.proofs.lemmas.Bool.Decides.{eqb_tells}
 use Rattle.std.proofs.lemmas.List.{append-nil, length-append}
-use Rattle.clone_contents.proofs.Common.{AllByRecursion, cases_eq, length-replicate, same_Some, slice_get_within, kind_of, zero_page, effect, Record, Init, Write, Extend, Create, Drop, Image, page_of, all_pages, all_pages-is, after_records, page_count, AreWholePages, IsFormed}
+use Rattle.clone_contents.proofs.Common.{AllByRecursion, cases_eq, length-replicate, kind_of, zero_page, effect, Record, Init, Write, Extend, Create, Drop, Image, page_of, all_pages, all_pages-is, after_records, AreWholePages, IsFormed}
 use Rattle.clone_page.specs.Header.{IsWellFormed}
 use Rattle.clone_page.proofs.Parts.{length-initialised, well_formed-initialised}
 use Rattle.clone_mtr.specs.Records.{IsRecord}
@@ -18,7 +18,9 @@ use Rattle.clone_image.proofs.Pages.{records_whole}
 use Rattle.clone_image.proofs.Redoing.{replayed_is_redone}
 use Rattle.clone_image.proofs.Standings.{edited_standing, after_standing, after_record-standing}
 use Rattle.clone_contents.specs.Placed.{IsPlaced, WasPlaced}
+use Rattle.clone_contents.proofs.ImagePages.{within_space}
 use Rattle.clone_contents.proofs.ChangeRecords.{kind_of-zero}
+use Rattle.clone_contents.proofs.FittingRecords.{rows_used}
 
 -- the page isn't there, or is whole, and unused or well formed at its place
 abbrev Intact : ℕ → ℕ → Standing → Type 0
@@ -87,27 +89,19 @@ page_is image s n page is = space (finite.get image s) is
     space None e = absurd (let f = e in cc)
     space (Some pages) e = at (slice_get pages n) e
 
--- a page that is there is within its space
-within : (image : Image) (s n count : ℕ) (page : List ℕ) → page_count image s ≡ Some count → page_of image s n ≡ Some page → n < count
-within image s n count page = space (finite.get image s)
-  where
-    space : (o : Option (List (List ℕ))) → option_map length o ≡ Some count → option_and_then (λ pages. slice_get pages n) o ≡ Some page → n < count
-    space None size is = absurd (let f = is in cc)
-    space (Some pages) size is = omega (arith, same_Some (length pages) count size, slice_get_within pages n page is)
-
 -- a page of a formed image that is of no kind was never used
 unused_zero : (image : Image) (s n : ℕ) (page : List ℕ) → IsFormed image → page_of image s n ≡ Some page → kind_of page ≡ 0 → page ≡ zero_page
 unused_zero image s n page formed is none = at (cases_eq s 0) (cases_eq n 0)
   where
     at : (s ≡ 0) ⊎ (s ≢ 0) → (n ≡ 0) ⊎ (n ≢ 0) → page ≡ zero_page
-    at (inr behind) second = elim (formed.tables s n page behind is) [ inl kind ↦ absurd (omega (arith, kind, none)) | inr zeros ↦ zeros ]
+    at (inr behind) second = elim (formed.tables s n page behind is) [ inl holds ↦ absurd (rows_used page holds none) | inr zeros ↦ zeros ]
     at (inl zero) (inl first) =
         let kind : kind_of (all_pages image s n) ≡ 1 = (λ i. kind_of (all_pages image (zero i) (first i))) ∙ formed.system in
         absurd (omega (arith, kind, ap kind_of (all_pages-is image s n page is), none))
     at (inl zero) (inr behind) =
         let there : page_of image 0 n ≡ Some page = ap (λ t. page_of image t n) (sym zero) ∙ is in
         let same = all_pages-is image 0 n page there in
-        elim (formed.undo n behind (within image 0 n 257 page formed.size there)) [
+        elim (formed.undo n behind (within_space image 0 n 257 page formed.size there)) [
           | inl kind ↦ absurd (omega (arith, kind, ap kind_of same, none))
           | inr zeros ↦ sym same ∙ zeros
         ]

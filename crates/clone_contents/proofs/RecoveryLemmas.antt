@@ -1,6 +1,6 @@
 -- What recovery's edits of pages do to contents.
 use Rattle.std.proofs.Common.{◌≡◌, ◌≢◌, ◌<◌, ◌≤◌, ◌+◌, ◌⊎◌, ℕ, cond, ltb, List, [], length, replicate, set, refl, sym, ap, subst, ◌∙◌, arith, inl, inr, Option, Some, None, unwrap_or}
-use Rattle.clone_contents.proofs.Common.{cases_eq, put_at, field, entry_space, position_at, kind_of, slot_at, length-put_at, kind_of-put_body, slot-put_same, slot-put_other, field-put_front, slots, slot_of, row_slot, slots-set, length-image, slot_of-image, UndoEntry, header_page, header_place, UndoSlot, is_in_use, entries, writer_of, index_of, count_of, slot_before, not_in_use, Image, page_of, all_pages, with_edit, edited, undo_slot_of, page_of-edited_same, page_of-edited_other, all_pages-is, page_count-edited, Contents, contents_of, told_value, undone, with_undo, IsFormed, IsOrUnused, MayUndo}
+use Rattle.clone_contents.proofs.Common.{cases_eq, put_at, field, dictionary, position_at, kind_of, slot_at, length-put_at, kind_of-put_body, slot-put_same, slot-put_other, field-put_front, behind, Slot, slots, slot_of, row_slot, slots-set, length-image, slot_of-image, UndoEntry, header_page, header_place, UndoSlot, is_in_use, entries, writer_of, index_of, count_of, slot_before, not_in_use, Image, page_of, all_pages, with_edit, edited, undo_slot_of, page_of-edited_same, page_of-edited_other, all_pages-is, page_count-edited, contents_of, told_value, undone, with_undo, HoldsSlots, IsFormed, IsOrUnused, MayUndo}
 use Rattle.clone_row.specs.Slots as rows
 use Rattle.clone_undo.proofs.Effects as undo
 use Rattle.clone_image.specs.Recovered as recovered
@@ -8,6 +8,8 @@ use Rattle.clone_contents.proofs.SameContents.{same_contents}
 use Rattle.clone_contents.proofs.ImagePages.{there}
 use Rattle.clone_contents.proofs.UndoEntries.{slot_before-is, told_short}
 use Rattle.clone_contents.proofs.RowSlots.{slots_same, slot_set}
+use Rattle.clone_contents.proofs.NextPages.{behind-body, next_kept}
+use Rattle.clone_contents.proofs.FittingRecords.{rows_kind}
 use Rattle.clone_contents.proofs.SlotRecords.{undo_set_at}
 use Rattle.clone_contents.proofs.ChangeLemmas.{undo_there, page_there, header_kind}
 use Rattle.clone_contents.proofs.TakingBackLemmas.{bound_kind}
@@ -21,7 +23,7 @@ pub record PutsOn (image : Image) (space number at : ℕ) (piece : List ℕ) : T
   pub low : 38 ≤ at
   pub high : at + length piece ≤ 4096
   pub system : space ≡ 0 → kind_of page ≡ 2
-  pub table : space ≢ 0 → kind_of page ≡ 3
+  pub table : space ≢ 0 → HoldsSlots page
 
 module _ (image : Image) (space number at : ℕ) (piece : List ℕ) (g : PutsOn image space number at piece) where
   abbrev pub put : Image
@@ -67,16 +69,23 @@ module _ (image : Image) (space number at : ℕ) (piece : List ℕ) (g : PutsOn 
       | inr same ↦ subst (IsOrUnused 2) (sym (ap (λ (o : Option (List ℕ)). unwrap_or o []) same)) (g.formed.undo n behind within)
     ];
     tables = λ t n page behind is. elim (either t n) [
-      | inl own ↦ inl (ap kind_of (sym (all_pages-is put t n page is) ∙ own.1) ∙ kind ∙ g.table (λ z. behind (own.0 ∙ z)))
+      | inl own ↦ inl (rows_kind (kind_of g.page) page (ap kind_of (sym (all_pages-is put t n page is) ∙ own.1) ∙ kind) (g.table (λ z. behind (own.0 ∙ z))))
       | inr same ↦ g.formed.tables t n page behind (sym same ∙ is)
     ];
   }
 
-  -- contents of which the slots and the undo slots are these
-  pub put_contents : (c : Contents) → ((j : ℕ) → (contents_of image).named j ≡ c.named j) → ((s : ℕ) → (contents_of image).size s ≡ c.size s) → (contents_of image).position ≡ c.position
-      → ((t p j : ℕ) → (contents_of put).slot t p j ≡ c.slot t p j) → ((s : ℕ) → (contents_of put).undo s ≡ c.undo s) → contents_of put ≡ c
-  put_contents c names sizes position slot undo =
-      same_contents (contents_of put) c (λ j. ap (λ page. cond (ltb j 62) (entry_space j page) 0) system_page ∙ names j) (λ s. page_count-edited image space number s (put_at at piece) ∙ sizes s) slot undo (ap (field position_at 8) system_page ∙ position)
+  -- the header stays, and so does the page behind it
+  next_stays : behind (all_pages put space number) ≡ behind (all_pages image space number)
+  next_stays =
+      ap behind (all_pages-is put space number (put_at at piece g.page) now)
+      ∙ behind-body at piece g.page g.low (omega (arith, long, g.high))
+      ∙ ap behind (sym (all_pages-is image space number g.page g.is_there))
+
+  -- the slots and the undo slots are these, and all else stays
+  pub put_contents : (slot : ℕ → ℕ → ℕ → Slot) (undo : ℕ → Option UndoSlot) → ((t p j : ℕ) → (contents_of put).slot t p j ≡ slot t p j) → ((s : ℕ) → (contents_of put).undo s ≡ undo s) → contents_of put ≡ record (contents_of image) { slot = slot; undo = undo }
+  put_contents slot undo slots_are undo_is =
+      same_contents (contents_of put) (record (contents_of image) { slot = slot; undo = undo }) (ap dictionary system_page) (λ s. page_count-edited image space number s (put_at at piece)) slots_are
+      (next_kept image put space number next_stays (λ t n first apart. all_others t n apart)) undo_is (ap (field position_at 8) system_page)
 
 -- A change is taken back.
 
@@ -122,7 +131,7 @@ module _ (image : Image) (e : UndoEntry) (formed : IsFormed image) (may : MayUnd
   pub undone_is : IsFormed new × (contents_of new ≡ undone e (contents_of image))
   undone_is = (
     put_formed image e.table e.page (slot_at e.slot) (slot_before e) puts,
-    put_contents image e.table e.page (slot_at e.slot) (slot_before e) puts (undone e (contents_of image)) (λ j. refl) (λ s. refl) refl
+    put_contents image e.table e.page (slot_at e.slot) (slot_before e) puts (undone e (contents_of image)).slot (contents_of image).undo
         (slot_set image new e.table e.page e.slot (row_slot e.key (told_value e)) in_table may.in_range.place.3 slots_now (λ t n behind other. all_others image e.table e.page (slot_at e.slot) (slot_before e) puts t n other))
         (λ s. ap (λ o. cond (ltb s 64) o None) (undo.own s (all_pages new 0) (all_pages image 0) (λ m low high. all_others image e.table e.page (slot_at e.slot) (slot_before e) puts 0 m (λ z n. in_table (sym z))))),
   )
@@ -168,7 +177,7 @@ module _ (image : Image) (s : ℕ) (slot : UndoSlot) (formed : IsFormed image) (
   pub freed_is : IsFormed freed_image × (contents_of freed_image ≡ with_undo s None (contents_of image))
   freed_is = (
     put_formed image 0 (header_page s) header_place zeros freeing,
-    put_contents image 0 (header_page s) header_place zeros freeing (with_undo s None (contents_of image)) (λ j. refl) (λ n. refl) refl
+    put_contents image 0 (header_page s) header_place zeros freeing (contents_of image).slot (with_undo s None (contents_of image)).undo
         (slots_same image freed_image (λ t p behind. all_others image 0 (header_page s) header_place zeros freeing t p (λ z n. behind z)))
         (undo_set_at image freed_image s None small free (λ n other low. undo.own n (all_pages freed_image 0) (all_pages image 0) (λ m above below. all_others image 0 (header_page s) header_place zeros freeing 0 m (λ z h. other (omega (arith, above, below, h)))))),
   )

@@ -1,11 +1,11 @@
 -- The rows of an image are those of its contents.
 use Rattle.std.proofs.Common.{◌≡◌, ◌≢◌, ◌<◌, ℕ, ◌+◌, ◌*◌, List, [], take, refl, sym, ap, subst, ◌∙◌, arith, inl, inr, Option, Some, None, IsSomeAnd, slice_index, unwrap_or}
-use Rattle.clone_contents.proofs.Common.{drop-nil, cases_lt, same_Some, Lists, entry_space, slot, Slot, unused, present, absent, damaged, slots, slot_in, slot_of, row_in, bound_key, slot_in-slots, slot_in-past, slot_of-unused, row_in-slot_of, Image, page_of, all_pages, all_pages-is, contents_of, IsFormed}
+use Rattle.clone_contents.proofs.Common.{drop-nil, cases_lt, same_Some, Lists, entry_space, slot, Slot, unused, present, absent, damaged, slots, slot_in, slot_of, row_in, bound_key, slot_in-slots, slot_in-past, slot_of-unused, row_in-slot_of, Image, page_of, all_pages, all_pages-is, contents_of, named, IsFormed}
 use Rattle.clone_model.specs.History.{Row}
 use Rattle.clone_image.specs.Rows.{IsRow}
 use Rattle.clone_contents.specs.Rows.{IsRowIn}
 use Rattle.clone_contents.proofs.ImagePages.{there}
-use Rattle.clone_contents.proofs.SystemLemmas.{named_on, named_past}
+use Rattle.clone_contents.proofs.SystemLemmas.{named_on, place_within}
 use Rattle.clone_contents.proofs.RowSlots.{slot_is}
 use Rattle.clone_contents.proofs.TakingBackLemmas.{bound_kind}
 
@@ -20,7 +20,7 @@ module _ (image : Image) (formed : IsFormed image) (row : Row) where
   system : (page : List ℕ) × (page_of image 0 0 ≡ Some page)
   system = there image 0 0 257 formed.size (omega arith)
 
-  entry_is : (j : ℕ) → j < 62 → (contents_of image).named j ≡ entry_space j system.0
+  entry_is : (j : ℕ) → j < 62 → named (contents_of image) j ≡ entry_space j system.0
   entry_is j low = named_on image j low ∙ ap (entry_space j) (all_pages-is image 0 0 system.0 system.1)
 
   pub row_contained : IsRow (page_of image) row → IsRowIn (contents_of image) row
@@ -50,7 +50,7 @@ module _ (image : Image) (formed : IsFormed image) (row : Row) where
       low = elim (cases_lt r.place 50) [ inl below ↦ below | inr high ↦ absurd (let e = sym held ∙ slot_in-past r.place (all_pages image row.0 r.page) high in cc) ]
 
       place : r.entry < 62
-      place = elim (cases_lt r.entry 62) [ inl below ↦ below | inr high ↦ absurd (let none = sym r.named ∙ named_past image r.entry high in omega (arith, none, r.used)) ]
+      place = place_within image r.entry row.0 r.named behind
 
       empty : slot_in (slots []) r.place ≡ unused
       empty = slot_in-slots r.place [] low ∙ slot_of-unused (slot r.place []) (ap (λ (xs : List ℕ). slice_index (take 80 xs) 0) (drop-nil (48 + 80 * r.place)))
@@ -64,7 +64,7 @@ module _ (image : Image) (formed : IsFormed image) (row : Row) where
             number = r.page;
             page = page;
             found = is;
-            holds = inl (bound_kind image row.0 r.page r.place row.1 page formed behind low is (ap bound_key r.held));
+            holds = bound_kind image row.0 r.page r.place row.1 page formed behind low is (ap bound_key r.held);
             place = r.place;
             within = low;
             held = sym (row_in-slot_of (slot r.place page)) ∙ ap row_in (sym (slot_in-slots r.place page low) ∙ on);

@@ -7,13 +7,21 @@ use Rattle.clone_contents.proofs.SameContents.{cases_place, slot-same, slot-othe
 pub slot_is : (image : Image) (t p j : ℕ) → t ≢ 0 → (contents_of image).slot t p j ≡ slot_in (slots (all_pages image t p)) j
 slot_is image t p j first = ap (λ b. cond b unused (slot_in (slots (all_pages image t p)) j)) (ne_eqb t 0 first)
 
+-- the system space has none
+pub slot_system : (image : Image) (t p j : ℕ) → t ≡ 0 → (contents_of image).slot t p j ≡ unused
+slot_system image t p j zero = ap (λ b. cond b unused (slot_in (slots (all_pages image t p)) j)) (eq-eqb t 0 zero)
+
+-- a slot stays where the slots of its page do
+pub slot_at : (image new : Image) (t p j : ℕ) → (t ≢ 0 → slots (all_pages new t p) ≡ slots (all_pages image t p)) → (contents_of new).slot t p j ≡ (contents_of image).slot t p j
+slot_at image new t p j same =
+    elim (cases_eq t 0) [
+      | inl zero ↦ slot_system new t p j zero ∙ sym (slot_system image t p j zero)
+      | inr in_table ↦ ap (λ list. cond (eqb t 0) unused (slot_in list j)) (same in_table)
+    ]
+
 -- the slots stay where the pages of tables do
 pub slots_same : (image new : Image) → ((t p : ℕ) → t ≢ 0 → all_pages new t p ≡ all_pages image t p) → (t p j : ℕ) → (contents_of new).slot t p j ≡ (contents_of image).slot t p j
-slots_same image new same t p j = at (cases_eq t 0)
-  where
-    at : (t ≡ 0) ⊎ (t ≢ 0) → (contents_of new).slot t p j ≡ (contents_of image).slot t p j
-    at (inl zero) = ap (λ b. cond b unused (slot_in (slots (all_pages new t p)) j)) (eq-eqb t 0 zero) ∙ sym (ap (λ b. cond b unused (slot_in (slots (all_pages image t p)) j)) (eq-eqb t 0 zero))
-    at (inr behind) = ap (λ page. cond (eqb t 0) unused (slot_in (slots page) j)) (same t p behind)
+slots_same image new same t p j = slot_at image new t p j (λ in_table. ap slots (same t p in_table))
 
 module _ (image new : Image) (t p j : ℕ) (x : Slot) (in_table : t ≢ 0) (low : j < 50) (now : slots (all_pages new t p) ≡ set (slots (all_pages image t p)) j x) (others : (u n : ℕ) → u ≢ 0 → (u ≡ t → n ≡ p → ⊥) → all_pages new u n ≡ all_pages image u n) where
   abbrev on : Image → ℕ → ℕ → ℕ → Slot
@@ -39,5 +47,5 @@ module _ (image new : Image) (t p j : ℕ) (x : Slot) (in_table : t ≢ 0) (low 
       ]
     where
       still : (u ≡ t → n ≡ p → i ≡ j → ⊥) → (u ≡ 0) ⊎ (u ≢ 0) → (contents_of new).slot u n i ≡ (contents_of image).slot u n i
-      still apart (inl zero) = ap (λ b. cond b unused (on new u n i)) (eq-eqb u 0 zero) ∙ sym (ap (λ b. cond b unused (on image u n i)) (eq-eqb u 0 zero))
+      still apart (inl zero) = slot_system new u n i zero ∙ sym (slot_system image u n i zero)
       still apart (inr behind) = ap (λ s. cond (eqb u 0) unused s) (other u n i behind apart)

@@ -1,21 +1,21 @@
 -- The last change is taken back, for the contents.
-use Rattle.std.proofs.Common.{◌≡◌, ◌≢◌, ◌<◌, ◌-◌, ◌==◌, ℕ, false, List, length, sym, ap, ◌∙◌, arith, inl, inr, Some}
-use Rattle.clone_contents.proofs.Common.{get_or-replicate, kind_of, Record, unused, slots, slot_in, bound_key, length-image, slots-zero, UndoEntry, header_page, UndoSlot, row_record, records_of_taking_back, slot_before, after, after_row, AreWhole, Image, page_of, all_pages, after_records, undo_slot_of, all_pages-is, contents_of, told_value, IsFormed, HasContents, MayTakeBack, taken_back, telling}
+use Rattle.std.proofs.Common.{◌≡◌, ◌≢◌, ◌<◌, ◌-◌, ℕ, false, List, length, sym, ap, ◌∙◌, arith, inl, inr, Some, ne_eqb}
+use Rattle.clone_contents.proofs.Common.{get_or-replicate, kind_of, Record, unused, slots, slot_in, bound_key, length-image, slots-zero, UndoEntry, header_page, UndoSlot, row_record, records_of_taking_back, slot_before, after, after_row, AreWhole, Image, page_of, all_pages, after_records, undo_slot_of, all_pages-is, contents_of, told_value, HoldsSlots, IsFormed, HasContents, MayTakeBack, taken_back, telling}
 use Rattle.clone_row.specs.Slots as rows
 use Rattle.clone_undo.proofs.Effects as undo
 use Rattle.clone_contents.proofs.RowSlots.{slot_is}
 use Rattle.clone_contents.proofs.ImagePages.{whole_slot}
-use Rattle.clone_contents.proofs.FittingRecords.{FitsOn, FitAll, stays, table_page}
+use Rattle.clone_contents.proofs.FittingRecords.{FitsOn, FitAll, rows_used, stays, table_page}
 use Rattle.clone_contents.proofs.ChangeRecords.{count_allowed, row_allowed}
 use Rattle.clone_contents.proofs.UndoEntries.{slot_before-is, told_short}
 use Rattle.clone_contents.proofs.SlotRecords.{SetsUndo, one_set}
 use Rattle.clone_contents.proofs.ChangeLemmas.{undo_there, page_there, header_stands}
 
 -- a page with a slot that is bound was used
-pub bound_kind : (image : Image) (t p j key : ℕ) (page : List ℕ) → IsFormed image → t ≢ 0 → j < 50 → page_of image t p ≡ Some page → bound_key ((contents_of image).slot t p j) ≡ Some key → kind_of page ≡ 3
+pub bound_kind : (image : Image) (t p j key : ℕ) (page : List ℕ) → IsFormed image → t ≢ 0 → j < 50 → page_of image t p ≡ Some page → bound_key ((contents_of image).slot t p j) ≡ Some key → HoldsSlots page
 bound_kind image t p j key page formed in_table low is bound =
     elim (formed.tables t p page in_table is) [
-      | inl kind ↦ kind
+      | inl holds ↦ holds
       | inr zeros ↦ absurd (let none = sym bound ∙ ap bound_key (slot_is image t p j in_table ∙ ap (λ q. slot_in (slots q) j) (all_pages-is image t p page is ∙ zeros) ∙ ap (λ list. slot_in list j) slots-zero ∙ get_or-replicate 50 j unused unused low) in cc)
     ]
 
@@ -47,7 +47,7 @@ module _ (image : Image) (lsn s : ℕ) (slot : UndoSlot) (front : List UndoEntry
   found : (page : List ℕ) × (page_of image e.table e.page ≡ Some page)
   found = page_there image e.table e.page may.there
 
-  used_row : kind_of found.0 ≡ 3
+  used_row : HoldsSlots found.0
   used_row = bound_kind image e.table e.page e.slot e.key found.0 formed in_table may.in_range.place.3 found.1 may.bound
 
   fits : FitAll lsn written pages
@@ -74,7 +74,7 @@ module _ (image : Image) (lsn s : ℕ) (slot : UndoSlot) (front : List UndoEntry
     short = told_short e may.in_range;
     page = found.0;
     is_there = found.1;
-    told = sym (ap (λ k. k == 0) used_row);
+    told = sym (ne_eqb (kind_of found.0) 0 (rows_used found.0 used_row));
     row = undo.taken_back_row lsn s count e (slot_before e) pages may.in_range ∙ ap (λ b. after_row false lsn e b (pages e.table e.page)) bytes_are;
     elsewhere = λ t m behind other. stay t m (λ z. absurd (behind z)) other;
   }

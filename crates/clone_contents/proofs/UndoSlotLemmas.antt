@@ -24,7 +24,7 @@ module _ (image : Image) (lsn s writer index : ℕ) (formed : IsFormed image) (s
   fits true is =
       let made : FitsOn (Init 0 (header_page s) Undo) pages = (λ zero first. omega (arith, first), λ zero behind. refl, λ behind. absurd (behind refl)) in
       (made, ((header_allowed, made_stands lsn 0 (header_page s) Undo pages made), tt))
-  fits false is = ((header_allowed, undo_page image (header_page s) formed (λ z. omega (arith, z)) (omega (arith, small)) (used_kind 2 (pages 0 (header_page s)) (formed.undo (header_page s) (λ z. omega (arith, z)) (omega (arith, small))) is)), tt)
+  fits false is = ((header_allowed, undo_page image (header_page s) formed (λ z. omega (arith, z)) (omega (arith, small)) (used_kind (pages 0 (header_page s)) (formed.undo (header_page s) (λ z. omega (arith, z)) (omega (arith, small))) is)), tt)
 
   abbrev begun_slot : Option UndoSlot
   begun_slot = Some (record { writer = writer; index = index; records = [] })

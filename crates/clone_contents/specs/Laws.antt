@@ -7,6 +7,8 @@ use Rattle.std.specs.FinMap as finite
 use Rattle.clone_model.specs.History.{Row}
 use Rattle.clone_mtr.specs.declared.record.Record.{Record}
 use Rattle.clone_mtr.specs.Spelling.{log_of}
+use Rattle.clone_space.specs.Records.{records_of_create}
+use Rattle.clone_row.specs.Chains.{behind}
 use Rattle.clone_row.specs.Slots as rows
 use Rattle.clone_row.specs.Slots.{slots, slot_in, Finds, FindsFree}
 use Rattle.clone_undo.specs.Entries.{UndoEntry}
@@ -21,7 +23,7 @@ use Rattle.clone_contents.specs.Contents.{contents_of, undone, with_undo}
 use Rattle.clone_contents.specs.Finding.{FindsIn, FindsFreeIn}
 use Rattle.clone_contents.specs.Formed.{IsFormed, HasContents}
 use Rattle.clone_contents.specs.Placed.{WasPlaced}
-use Rattle.clone_contents.specs.Records.{opening_records, create_records, commit_records}
+use Rattle.clone_contents.specs.Records.{opening_records, commit_records}
 use Rattle.clone_contents.specs.Rows.{IsRowIn}
 use Rattle.clone_contents.specs.Steps.{is_unused, opened, MayCreate, created, MayBegin, begun, MayChange, changed, MayTakeBack, taken_back, ended, committed, MayUndo}
 
@@ -33,8 +35,8 @@ OpeningLaw = (lsn : ℕ) → HasContents (after_records lsn finite.empty opening
 abbrev pub CreateLaw : Type 0
 CreateLaw =
     (lsn place table buckets : ℕ) (image : Image) → IsFormed image
-    → MayCreate (contents_of image) place table
-    → HasContents (after_records lsn image (create_records place table buckets))
+    → MayCreate (contents_of image) place table buckets
+    → HasContents (after_records lsn image (records_of_create place table buckets))
     (created place table buckets (contents_of image))
 
 abbrev pub BeginLaw : Type 0
@@ -121,6 +123,13 @@ FreeFound =
     (image : Image) (table number : ℕ) (page : List ℕ) (found : Option ℕ) → table ≢ 0
     → page_of image table number ≡ Some page
     → FindsFree (slots page) found → FindsFreeIn (contents_of image) table number found
+
+-- the page behind a table's page is that of the contents
+abbrev pub NextFound : Type 0
+NextFound =
+    (image : Image) (table number : ℕ) (page : List ℕ) → table ≢ 0
+    → page_of image table number ≡ Some page
+    → (contents_of image).next table number ≡ behind page
 
 -- Where pages stand.
 

@@ -6,3 +6,4 @@ pub mod Steps
 pub mod Rows
 pub mod Finding
 pub mod Laws
+pub mod Spaces

@@ -1,8 +1,8 @@
--- The records of the mini-transactions that change the system page.
+-- The records of opening, and of a commit.
 use Rattle.std.specs.Prelude.{ℕ, List, [], ◌∷◌, ◌++◌}
 use Rattle.byteorder.specs.Endian.{big_bytes}
 use Rattle.clone_contents.specs.declared.TheConstants.{SYSTEM_PAGES}
-use Rattle.clone_page.specs.Dictionary.{entry_at, entry, position_at}
+use Rattle.clone_page.specs.Dictionary.{position_at}
 use Rattle.clone_page.specs.declared.kind.PageKind.TheVariants.{System}
 use Rattle.clone_mtr.specs.declared.record.Record.{Record}
 use Rattle.clone_mtr.specs.declared.record.Record.TheVariants.{Init, Write, Create}
@@ -15,12 +15,6 @@ system_size = SYSTEM_PAGES
 -- opening makes the system space and its first page
 abbrev pub opening_records : List Record
 opening_records = Create 0 system_size ∷ Init 0 0 System ∷ []
-
--- A table's space is made, and the table named in the dictionary, in the entry of this place.
-abbrev pub create_records : ℕ → ℕ → ℕ → List Record
-create_records place table buckets =
-    Create table buckets
-    ∷ Write 0 0 record { offset = entry_at place; bytes = entry table buckets buckets } ∷ []
 
 -- the number of commits is written
 abbrev pub position_record : ℕ → Record

@@ -1,10 +1,11 @@
 -- What each mini-transaction asks of the contents before it, and what it leaves.
-use Rattle.std.specs.Prelude.{ℕ, ◌≡◌, ◌<◌, ◌≤◌, ◌^◌, ◌==◌, ◌++◌, ◌∷◌, [], Bool, List, length, IfSome, None, Some}
+use Rattle.std.specs.Prelude.{ℕ, ◌≡◌, ◌<◌, ◌≤◌, ◌^◌, ◌==◌, ◌++◌, ◌∷◌, [], Bool, List, length, replicate, slice_set, IfSome, None, Some}
 use Rattle.std.specs.declared.option.Option.{Option}
 use Rattle.std.specs.List.{AllByRecursion}
 use Rattle.clone_model.specs.declared.line.TheConstants.{HIGHEST_TABLE}
 use Rattle.clone_page.specs.Header.{kind_of}
 use Rattle.clone_page.specs.Dictionary.{entry_count}
+use Rattle.clone_space.specs.Entries.{free}
 use Rattle.clone_row.specs.Slots.{unused, row_slot, bound_key}
 use Rattle.clone_undo.specs.Entries.{UndoEntry, IsEntry}
 use Rattle.clone_undo.specs.Places.{slot_count, capacity}
@@ -20,24 +21,30 @@ is_unused image space number = kind_of (all_pages image space number) == 0
 -- what opening leaves: a system space, and nothing else
 abbrev pub opened : Contents
 opened = record {
-  named = λ j. 0;
+  dictionary = replicate entry_count free;
   size = set_at 0 (Some system_size) (λ space. None);
   slot = λ table page j. unused;
+  next = λ table page. None;
   undo = λ s. None;
   position = 0;
 }
 
--- a table of this number may be made, and named in the entry of this place
-pub record MayCreate (c : Contents) (place table : ℕ) : Type 0 where
+-- a table of this number and of so many buckets may be made, and named in the entry of this place
+pub record MayCreate (c : Contents) (place table buckets : ℕ) : Type 0 where
   pub room : place < entry_count
   pub used : 1 ≤ table
   pub low : table ≤ HIGHEST_TABLE
+  pub fits : buckets < 2 ^ 32
   pub free : c.size table ≡ None
 
--- a table is named at a place of the dictionary, and has a space of so many pages
+-- a table is named at a place of the dictionary, and has a space with a page for each bucket
 abbrev pub created : ℕ → ℕ → ℕ → Contents → Contents
 created place table buckets c =
-    record c { named = set_at place table c.named; size = set_at table (Some buckets) c.size }
+    record c {
+      dictionary = slice_set c.dictionary place
+          (record { table = table; buckets = buckets; pages = buckets });
+      size = set_at table (Some buckets) c.size;
+    }
 
 -- a transaction of this writer and index may begin
 pub record MayBegin (s writer index : ℕ) : Type 0 where

@@ -1,7 +1,8 @@
 ghost use Rattle.clone_contents.specs.Laws.{OpeningLaw, CreateLaw, BeginLaw, ChangeLaw};
 ghost use Rattle.clone_contents.specs.Laws.{TakingBackLaw, EndLaw, CommitLaw, UndoingLaw, FreeingLaw};
-ghost use Rattle.clone_contents.specs.Laws.{RowsShown, RowsContained, SlotsContained, KeysFound, FreeFound};
+ghost use Rattle.clone_contents.specs.Laws.{RowsShown, RowsContained, SlotsContained, KeysFound, FreeFound, NextFound};
 ghost use Rattle.clone_contents.specs.Laws.{PlacedFirst, PlacedLonger};
+ghost use Rattle.clone_contents.specs.Spaces.{GrowthLaw, DropLaw};
 
 /// What opening leaves: a system space of 257 pages, no table, no undo slot in use, and no commit.
 pub fn opening_law()
@@ -12,6 +13,18 @@ pub fn opening_law()
 /// of which no slot was ever used.
 pub fn create_law()
     ensures { CreateLaw }
+{}
+
+/// What it does to the contents that the space of a table gets one page more: the dictionary tells
+/// so, and the page is behind another one. No slot of it was ever used.
+pub fn growth_law()
+    ensures { GrowthLaw }
+{}
+
+/// What it does to the contents that a table is dropped: its entry of the dictionary is free, and
+/// its space is gone.
+pub fn drop_law()
+    ensures { DropLaw }
 {}
 
 /// What it does to the contents that a transaction begins: its undo slot is in use, without a
@@ -60,11 +73,13 @@ pub fn rows_law()
     ensures shown { RowsShown }
 {}
 
-/// What is found on a page of a table, slot by slot, is what the contents have there.
+/// What is found on a page of a table, slot by slot, and the page behind it on its chain, are what
+/// the contents have there.
 pub fn find_laws()
     ensures slot { SlotsContained }
     ensures bound { KeysFound }
     ensures free { FreeFound }
+    ensures next { NextFound }
 {}
 
 /// At each moment of a log of mini-transactions that leave formed images, each page isn't there, is

@@ -1,4 +1,4 @@
-ghost use Rattle.std.specs.Prelude.{◌≡◌, ◌<◌, ◌≤◌, ◌^◌, List, ℕ, length, replicate, slice_set, IfSome};
+ghost use Rattle.std.specs.Prelude.{◌≡◌, ◌<◌, ◌≤◌, ◌^◌, List, ℕ, length, replicate, slice_set, IfSome, None};
 ghost use Rattle.std.specs.declared.option.Option.{Option};
 ghost use Rattle.clone_base.specs.declared.limits.TheConstants.{PAGE_SIZE, VALUE_LIMIT};
 ghost use Rattle.clone_page.specs.declared.kind.PageKind.{PageKind};
@@ -8,6 +8,7 @@ ghost use Rattle.clone_mtr.specs.Patches.{Patched};
 ghost use Rattle.clone_mtr.specs.Effects.{effect};
 ghost use Rattle.clone_mtr.specs.declared.record.Record.TheVariants.{Init, Write};
 ghost use Rattle.clone_row.specs.Slots.{slots, slot_of, slot_in, row_in, unused, row_slot, image};
+ghost use Rattle.clone_row.specs.Chains.{behind};
 ghost use Rattle.clone_row.specs.Writes.{WritesSlot, WritesHeader, SameHeader};
 
 /// A write of a slot sets that slot. All others stay, and so does the header.
@@ -61,4 +62,15 @@ pub fn row_laws()
         → row_in (slot_in (slots page) j) ≡ row_of (slot j page) }
     ensures image { (key : ℕ) (value : Option (List ℕ)) → key < 2 ^ 64 → IfSome value
         (λ v. length v ≤ VALUE_LIMIT) → slot_of (image key value) ≡ row_slot key value }
+{}
+
+/// What stands in the place of the next page: a write of it in the header sets it and nothing else,
+/// and a write of a slot leaves it. A page that is made has none, and an unused page has none.
+pub fn chain_laws()
+    ensures slots { (lsn space number j key : ℕ) (value : Option (List ℕ)) (patch : Patched)
+        (page : List ℕ) → WritesSlot j key value patch → length page ≡ PAGE_SIZE
+        → behind (effect lsn (Write space number patch) page) ≡ behind page }
+    ensures made { (lsn space number : ℕ) (kind : PageKind) (page : List ℕ)
+        → behind (effect lsn (Init space number kind) page) ≡ None }
+    ensures zero { behind zero_page ≡ None }
 {}

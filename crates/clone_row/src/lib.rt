@@ -2,8 +2,10 @@
 //! slot, and what a write of a slot leaves.
 #![tactic(auto)]
 
+mod chains;
 mod laws;
 mod slots;
 
-pub use laws::{header_write_laws, made_laws, row_laws, slot_write_laws};
+pub use chains::next_page;
+pub use laws::{chain_laws, header_write_laws, made_laws, row_laws, slot_write_laws};
 pub use slots::{find, free_slot, present, slot_image, slot_offset};

@@ -1,0 +1,92 @@
+ghost use Rattle.std.specs.Prelude.{◌≡◌, ◌<◌, ◌≤◌, length};
+ghost use Rattle.clone_model.specs.declared.line.TheConstants.{MOST_PAGES};
+ghost use Rattle.clone_page.specs.Dictionary.{entry_count};
+ghost use Rattle.clone_page.specs.Header.{IsAllowed};
+ghost use Rattle.clone_mtr.specs.declared.patch.TheConstants.{SHORT_PATCH};
+ghost use Rattle.clone_space.specs.Entries.{place_at};
+ghost use Rattle.clone_space.specs.Records.{system_write, records_of_create, records_of_growth, records_of_drop};
+
+use crate::entry::{PAGES_AT, TableEntry};
+use clone_mtr::{Patch, Record};
+use clone_page::{ENTRIES_AT, ENTRY_BYTES, NEXT_AT, PageKind};
+
+/// A table's space is made, with a page for each bucket, and the table is named in the entry of
+/// this place.
+pub fn create_records(place: usize, table: u32, buckets: u32) -> [Record; 2]
+    requires { place < entry_count }
+    ensures { result ≡ records_of_create place table buckets }
+{
+    let entry = TableEntry {
+        table,
+        buckets,
+        pages: buckets,
+    };
+    [
+        Record::Create {
+            space: table,
+            pages: buckets,
+        },
+        written(entry_offset(place), &entry.bytes()),
+    ]
+}
+
+/// The space of the table in the entry of this place, which has so many pages, gets one page more,
+/// behind the last page of a chain.
+pub fn growth_records(place: usize, table: u32, pages: u32, last: u32) -> [Record; 4]
+    requires place { place < entry_count }
+    requires room { pages < MOST_PAGES }
+    ensures { result ≡ records_of_growth place table pages last }
+{
+    [
+        written(
+            entry_offset(place) + PAGES_AT as u16,
+            &(pages + 1).to_be_bytes(),
+        ),
+        Record::Extend {
+            space: table,
+            pages: pages + 1,
+        },
+        Record::Init {
+            space: table,
+            page: pages,
+            kind: PageKind::Overflow,
+        },
+        Record::Write {
+            space: table,
+            page: last,
+            patch: Patch::new(NEXT_AT as u16, &pages.to_be_bytes()),
+        },
+    ]
+}
+
+/// A table's space is gone, and the entry of this place, which named the table, is free.
+pub fn drop_records(place: usize, table: u32) -> [Record; 2]
+    requires { place < entry_count }
+    ensures { result ≡ records_of_drop place table }
+{
+    [
+        Record::Drop { space: table },
+        written(entry_offset(place), &[0; ENTRY_BYTES]),
+    ]
+}
+
+// Where the entry of a place stands on the system page.
+fn entry_offset(place: usize) -> u16
+    requires { place < entry_count }
+    ensures { result ≡ place_at place }
+{
+    (ENTRIES_AT + ENTRY_BYTES * place) as u16
+}
+
+// Bytes are written on the system page.
+fn written(offset: u16, bytes: &[u8]) -> Record
+    requires allowed { IsAllowed offset (length bytes.now) }
+    requires short { length bytes.now ≤ SHORT_PATCH }
+    ensures { result ≡ system_write offset bytes.now }
+{
+    Record::Write {
+        space: 0,
+        page: 0,
+        patch: Patch::new(offset, bytes),
+    }
+}
