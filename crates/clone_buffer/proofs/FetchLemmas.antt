@@ -11,7 +11,7 @@ use Rattle.clone_pool.specs.Pool.{Fills, Fetches, Misses}
 use Rattle.clone_shadow.specs.State.{is_page}
 use Rattle.clone_buffer.specs.Keeping.{Stands}
 use Rattle.clone_buffer.proofs.PageLemmas.{like_page, lost_page, read_bytes, read_page}
-use Rattle.clone_buffer.proofs.FrameLemmas.{holder_name, some_name, no_name, none_some, counted, Becomes, set_becomes, moved, held_on}
+use Rattle.clone_buffer.proofs.FrameLemmas.{some_of, holder_name, some_name, no_name, none_some, counted, Becomes, set_becomes, moved, held_on}
 use Rattle.clone_buffer.proofs.ShownLemmas.{stands_there, shown_there}
 
 clean_goes : (a : Bool) (o : Option ℕ) → (a && not (is_some o)) ≡ true → o ≡ None
@@ -28,10 +28,6 @@ victim_idle v at p go = (p.frame at).clean (ap is_some (victim_clean v at go))
 
 one_answer : (x y : ℕ) (r : Result ℕ FetchRefusal) → r ≡ Ok x → r ≡ Ok y → x ≡ y
 one_answer x y r a b = cc
-
-some_page : (o : Option (List ℕ)) → IsSome o → (page : List ℕ) × (o ≡ Some page)
-some_page None there = absurd (false≢true there)
-some_page (Some page) there = (page, refl)
 
 module _ (v : Buffered) (beside : Beside) (m : DiskImage) (new : Frames) (target : PageName) (p : IsPool v.pool) (q : IsPool new) (k : IsKept v beside m) where
   abbrev was : ℕ → Frame
@@ -109,7 +105,7 @@ module _ (v : Buffered) (beside : Beside) (m : DiskImage) (new : Frames) (target
           let page : (frame_at new.frames b).page ≡ (was b).page = ap (λ (w : Frames). (frame_at w.frames b).page) f.1 ∙ ap (λ (g : Frame). g.page) (get_or-set_same v.pool.frames b (touched (next_use v.pool.uses) (was b)) no_frame name.0) in
           shown_there image (was b).page target (was b).content (shows b) name.1 there ∙ ap Some (sym page) ∙ ap (λ (k : ℕ). Some (frame_at new.frames k).page) (one_answer b at result f.0 ok)
       by None none f =
-          let page = some_page (page_of image target.space target.number) there in
+          let page = some_of (page_of image target.space target.number) there in
           let bare : Kept target.space target.number None = subst (λ (o : Option ℕ). Kept target.space target.number (frame_in v.pool.frames o)) none (k.page target.space target.number) in
           page.1 ∙ ap Some (sym (read_bytes v.log beside m target.space target.number page.0 (frame_at new.frames at).page bare (stands_there v.log target.space target.number page.0 small page.1) (read none)))
 

@@ -1,8 +1,10 @@
 -- The frame of each page, once one frame has changed.
-use Rattle.std.proofs.Common.{◌≡◌, ◌<◌, ◌⊎◌, inl, inr, ℕ, Bool, true, false, List, length, map, set, refl, sym, ap, subst, ◌∙◌, arith, Option, Some, None, if◌then◌else◌}
-use Rattle.clone_buffer.proofs.Common.{true≢false, get_or-set_same, get_or-set_other, Frame, PageName, is_name_of, no_frame, frame_at, name_of, is_fresh, holder, Frames, IsPool, KeepsOthers, named, is_own_name, frame_in}
+use Rattle.std.proofs.Common.{◌≡◌, ◌<◌, ◌⊎◌, inl, inr, ℕ, Bool, true, false, List, length, map, set, refl, sym, ap, subst, ◌∙◌, arith, Option, Some, None, IsSome, is_some, if◌then◌else◌}
+use Rattle.clone_buffer.proofs.Common.{false≢true, true≢false, get_or-set_same, get_or-set_other, Frame, PageName, is_name_of, no_frame, frame_at, name_of, is_fresh, holder, Frames, IsPool, KeepsOthers, named, is_own_name, frame_in}
 use Rattle.std.proofs.lemmas.List.{get_or-map, length-map}
+use Rattle.clone_pool.specs.Pool.{IsFrame}
 use Rattle.clone_pool.proofs.NameLemmas.{found_name}
+use Rattle.clone_buffer.specs.OnePage.{oldest_in, flush_in}
 
 -- the frame that is found has the page
 pub holder_name : (frames : List Frame) (page : PageName) (at : ℕ) → holder frames page ≡ Some at
@@ -26,19 +28,40 @@ some_name a b is = cc
 pub no_name : (page : PageName) → None ≡ Some page → ⊥
 no_name page is = cc
 
-some_one : (o : Option ℕ) (a b : ℕ) → o ≡ Some a → o ≡ Some b → a ≡ b
+pub some_one : (o : Option ℕ) (a b : ℕ) → o ≡ Some a → o ≡ Some b → a ≡ b
 some_one o a b x y = cc
 
 pub none_some : (o : Option ℕ) (a : ℕ) → o ≡ None → o ≡ Some a → ⊥
 none_some o a x y = cc
 
+pub some_of : {X : Type 0} (o : Option X) → IsSome o → (x : X) × (o ≡ Some x)
+some_of None there = absurd (false≢true there)
+some_of (Some x) there = (x, refl)
+
 -- what a frame gives of the page that it has
 abbrev pub counted : Frame → Option Frame
 counted f = if is_fresh f.content then None else Some f
 
+-- without a change a page isn't dirty
+pub clean_fresh : (o : Option ℕ) → is_some o ≡ false → o ≡ None
+clean_fresh None is = refl
+clean_fresh (Some x) is = absurd (true≢false is)
+
+-- what it gives tells how the page stands to the disk, since a new page is clean
+pub counted_state : (uses : ℕ) (f : Frame) → IsFrame uses f → (oldest_in (counted f) ≡ f.oldest) × (flush_in (counted f) ≡ f.flush)
+counted_state uses f is = by (is_fresh f.content) refl
+  where
+    by : (t : Bool) → is_fresh f.content ≡ t → (oldest_in (if t then None else Some f) ≡ f.oldest) × (flush_in (if t then None else Some f) ≡ f.flush)
+    by true new = let clean = (is.fresh new).1 in (sym (clean_fresh f.oldest clean), sym (is.clean clean))
+    by false old = (refl, refl)
+
 -- a frame that has its page
 pub frame_in-old : (frames : List Frame) (at : ℕ) → is_fresh (frame_at frames at).content ≡ false → frame_in frames (Some at) ≡ Some (frame_at frames at)
 frame_in-old frames at old = ap (λ (b : Bool). if b then None else Some (frame_at frames at)) old
+
+-- a frame that has a new one
+pub frame_in-new : (frames : List Frame) (at : ℕ) → is_fresh (frame_at frames at).content ≡ true → frame_in frames (Some at) ≡ None
+frame_in-new frames at new = ap (λ (b : Bool). if b then None else Some (frame_at frames at)) new
 
 -- the frames, where one of them has become this one
 pub record Becomes (old new : List Frame) (at : ℕ) (f : Frame) : Type 0 where

@@ -1,6 +1,6 @@
 -- A new buffer over a blank disk is kept, and where a buffer is kept, the disk's page with its redo is the frame.
 use Rattle.std.proofs.Common.{◌≡◌, ◌&&◌, ℕ, Bool, true, false, List, [], replicate, refl, sym, ap, subst, ◌∙◌, arith, Option, Some, None, option_and_then, slice_get, IsSome, IsTrue}
-use Rattle.clone_buffer.proofs.Common.{false≢true, get_or-replicate, length-replicate, get-empty, nat_cmp, DiskImage, Record, Standing, no_space, past_end, stands, redone, HasSpace, Rule, World, Frame, PageName, no_frame, name_of, holder, Frames, Buffered, Beside, frame_in, frame_of, is_open, has_space, engine_with, IsKeptPage, IsKept}
+use Rattle.clone_buffer.proofs.Common.{false≢true, get_or-replicate, length-replicate, get-empty, nat_cmp, DiskImage, Record, redone, HasSpace, Rule, World, Frame, PageName, no_frame, name_of, holder, Frames, Buffered, Beside, frame_in, frame_of, is_open, has_space, engine_with, IsKeptPage, IsKept}
 use Rattle.std.specs.FinMap as finite
 use Rattle.clone_outside.specs.Disk.{blank, page_of}
 use Rattle.clone_outside.specs.declared.disk.Held as held
@@ -8,7 +8,7 @@ use Rattle.clone_law.specs.Machine.{Idle}
 use Rattle.clone_law.proofs.EventLemmas.{nothing_kept, clean_is_disk, dirty_is_redone}
 use Rattle.clone_buffer.specs.OnePage.{at_rest, standing_in}
 use Rattle.clone_buffer.specs.Keeping.{DiskIsFrames, CopyKept, CopyKeeps}
-use Rattle.clone_buffer.proofs.PageLemmas.{world}
+use Rattle.clone_buffer.proofs.PageLemmas.{world, spaced}
 use Rattle.clone_buffer.proofs.FrameLemmas.{holder_name, no_name}
 
 -- frames without pages hold none
@@ -53,11 +53,6 @@ module _ (v : Buffered) (beside : Beside) (m : DiskImage) (k : IsKept v beside m
   opened : (space number : ℕ) → is_open (page_of m space number) ≡ true → HasSpace (redone space number v.log) → (frame : Frame) × ((frame_of v.pool.frames space number ≡ Some frame) × IsSome frame.oldest)
   opened space number is has = by (frame_of v.pool.frames space number) refl (k.page space number)
     where
-      spaced : (s : Standing) → HasSpace s → has_space s ≡ true
-      spaced no_space has = absurd has
-      spaced past_end has = refl
-      spaced (stands page) has = refl
-
       writing : (is_open (page_of m space number) && has_space (redone space number v.log)) ≡ true
       writing = ap (λ (b : Bool). b && has_space (redone space number v.log)) is ∙ spaced (redone space number v.log) has
 

@@ -6,7 +6,12 @@ pub mod FetchLemmas
 pub mod MoveLemmas
 pub mod WriteLemmas
 pub mod WrittenLemmas
+pub mod AroundLemmas
 pub mod SpaceLemmas
+pub mod ImageLemmas
+pub mod LongerLemmas
+pub mod GivenLemmas
+pub mod DropLemmas
 pub mod FlushLemmas
 pub mod LawLemmas
 pub mod ReadLemmas

@@ -5,10 +5,10 @@ use Rattle.std.specs.FinMap as finite
 use Rattle.clone_outside.specs.Disk.{page_of}
 use Rattle.clone_outside.specs.declared.disk.Held.{Held}
 use Rattle.clone_law.specs.Touches.{Lax}
-use Rattle.clone_law.specs.Machine.{Flight, Idle, Untracked, Tracked, Copied, Stopped, Passed, Changed, Fetched, Evicted, Stands, first_of, dirtied}
+use Rattle.clone_law.specs.Machine.{Flight, Idle, Untracked, Tracked, Copied, Stopped, Passed, Changed, Dropped, Fetched, Evicted, NoFiles, Stands, first_of, dirtied}
 use Rattle.clone_pool.specs.declared.frame.Flush.TheVariants as flush
 use Rattle.clone_pool.specs.Frames.{counts_as_open}
-use Rattle.clone_buffer.specs.OnePage.{standing_at, standing_in}
+use Rattle.clone_buffer.specs.OnePage.{standing_at, standing_in, oldest_in, flush_in}
 use Rattle.clone_buffer.proofs.FrameLemmas.{counted}
 
 -- the page in the donor, and in a clone
@@ -43,6 +43,15 @@ shut false is = refl
 
 stands_same : (a b : List ℕ) → stands a ≡ stands b → a ≡ b
 stands_same a b is = cc
+
+pub spaced : (s : Standing) → HasSpace s → has_space s ≡ true
+spaced no_space has = absurd has
+spaced past_end has = refl
+spaced (stands page) has = refl
+
+never : (b : Bool) → (b && false) ≡ false
+never true = refl
+never false = refl
 
 first_is : (at : ℕ) (o : Option ℕ) → first_of at o ≡ Some (unwrap_or o at)
 first_is at None = refl
@@ -156,20 +165,36 @@ module _ (log : List (List Record)) (beside : Beside) (m : DiskImage) (space num
       }
 
   -- a mini-transaction changed the page in its frame
-  pub changed_page : (records : List Record) (f g : Frame) → Suits space number log records → redone space number log ≡ stands f.page → redone space number (log ++ records ∷ []) ≡ stands g.page
-      → g.oldest ≡ Some (unwrap_or f.oldest (ends log)) → g.flush ≡ noted (ends log) f.flush → IsKeptPage log beside m space number (Some f) → IsKeptPage (log ++ records ∷ []) beside m space number (Some g)
-  changed_page records f g suits is becomes oldest flush_is k =
-      let e : Engine = engine_with log beside m space number (Some f) in
+  pub changed_page : (records : List Record) (frame : Option Frame) (g : Frame) → Suits space number log records → HasSpace (redone space number log) → redone space number (log ++ records ∷ []) ≡ stands g.page
+      → g.oldest ≡ Some (unwrap_or (oldest_in frame) (ends log)) → g.flush ≡ noted (ends log) (flush_in frame) → IsKeptPage log beside m space number frame → IsKeptPage (log ++ records ∷ []) beside m space number (Some g)
+  changed_page records frame g suits has becomes oldest flush_is k =
+      let e : Engine = engine_with log beside m space number frame in
       let writes : Standing → Bool = λ s. is_open (page_of m space number) && has_space s in
-      let writing : e.writing ≡ (engine_with (log ++ records ∷ []) beside m space number (Some g)).writing = ap writes is ∙ sym (ap writes becomes) in
+      let writing : e.writing ≡ (engine_with (log ++ records ∷ []) beside m space number (Some g)).writing = ap (λ (b : Bool). is_open (page_of m space number) && b) (spaced (redone space number log) has) ∙ sym (ap writes becomes) in
       let image : Option (List ℕ) = beside.image space number in
-      let dirty : first_of (ends log) f.oldest ≡ g.oldest = first_is (ends log) f.oldest ∙ sym oldest in
-      let flown : dirtied (ends log) (flight_of f.flush image) ≡ flight_of g.flush image = flown_on (ends log) f.flush image ∙ sym (ap (λ (x : Flush). flight_of x image) flush_is) in
-      let new : record e { log = log ++ records ∷ []; frame = Some g.page; oldest = first_of (ends log) f.oldest; flight = dirtied (ends log) (flight_of f.flush image) } ≡ engine_with (log ++ records ∷ []) beside m space number (Some g) =
+      let dirty : first_of (ends log) (oldest_in frame) ≡ g.oldest = first_is (ends log) (oldest_in frame) ∙ sym oldest in
+      let flown : dirtied (ends log) (flight_of (flush_in frame) image) ≡ flight_of g.flush image = flown_on (ends log) (flush_in frame) image ∙ sym (ap (λ (x : Flush). flight_of x image) flush_is) in
+      let new : record e { log = log ++ records ∷ []; frame = Some g.page; oldest = first_of (ends log) (oldest_in frame); flight = dirtied (ends log) (flight_of (flush_in frame) image) } ≡ engine_with (log ++ records ∷ []) beside m space number (Some g) =
       λ i. record e { log = log ++ records ∷ []; writing = writing i; frame = Some g.page; oldest = dirty i; flight = flown i } in
       record {
-        rule = subst (Ruled space number copy) new (rule_kept space number (world copy e) (Changed records g.page) k.rule (suits, becomes, subst HasSpace (sym is) tt));
+        rule = subst (Ruled space number copy) new (rule_kept space number (world copy e) (Changed records g.page) k.rule (suits, becomes, has));
         dirty = λ t. subst IsSome (sym oldest) refl;
-        opened = λ t. ap counts_as_open flush_is ∙ counted_on (ends log) f.flush ∙ k.opened (writing ∙ t);
-        flights = subst (λ (x : Flush). IsTrue (is_begun x) ↔ IsSome image) (sym flush_is) (begun_on (ends log) f.flush (λ x. IsTrue x ↔ IsSome image) k.flights);
+        opened = λ t. ap counts_as_open flush_is ∙ counted_on (ends log) (flush_in frame) ∙ k.opened (writing ∙ t);
+        flights = subst (λ (x : Flush). IsTrue (is_begun x) ↔ IsSome image) (sym flush_is) (begun_on (ends log) (flush_in frame) (λ x. IsTrue x ↔ IsSome image) k.flights);
+      }
+
+  -- a mini-transaction dropped the page's space, and the frame gave the page up
+  pub dropped_page : (records : List Record) (frame : Option Frame) → Suits space number log records → redone space number (log ++ records ∷ []) ≡ no_space → NoFiles copy → is_begun (flush_in frame) ≡ false
+      → IsKeptPage log beside m space number frame → IsKeptPage (log ++ records ∷ []) beside m space number None
+  dropped_page records frame suits gone calm landed k =
+      let e : Engine = engine_with log beside m space number frame in
+      let writes : Standing → Bool = λ s. is_open (page_of m space number) && has_space s in
+      let closed : false ≡ writes (redone space number (log ++ records ∷ [])) = sym (ap writes gone ∙ never (is_open (page_of m space number))) in
+      let new : record e { log = log ++ records ∷ []; writing = false; frame = None; oldest = None; flight = None } ≡ engine_with (log ++ records ∷ []) beside m space number None =
+      λ i. record e { log = log ++ records ∷ []; writing = closed i; frame = None; oldest = None; flight = None } in
+      record {
+        rule = subst (Ruled space number copy) new (rule_kept space number (world copy e) (Dropped records e.disk) k.rule (suits, gone, calm));
+        dirty = λ t. absurd (false≢true (closed ∙ t));
+        opened = λ t. absurd (false≢true (closed ∙ t));
+        flights = subst (λ (b : Bool). IsTrue b ↔ IsSome (beside.image space number)) landed k.flights;
       }

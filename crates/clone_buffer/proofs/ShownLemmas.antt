@@ -1,11 +1,11 @@
 -- What a frame shows of the page that it has.
-use Rattle.std.proofs.Common.{◌≡◌, ◌<◌, ◌^◌, ℕ, false, List, slice_get, refl, sym, ap, subst, ◌∙◌, Option, Some, None, option_and_then, IsSome}
-use Rattle.clone_buffer.proofs.Common.{false≢true, true≢false, Record, Image, replayed, stands, redone, replayed_is_redone, ends, Content, Unused, Fresh, PageName, name_in, is_fresh, Shown}
+use Rattle.std.proofs.Common.{◌≡◌, ◌<◌, ◌^◌, ℕ, Bool, true, false, List, slice_get, refl, sym, ap, subst, ◌∙◌, Option, Some, None, option_and_then, IsSome}
+use Rattle.clone_buffer.proofs.Common.{Frame, frame_at, holder, frame_in, frame_of, Shows, false≢true, true≢false, Record, Image, replayed, stands, redone, replayed_is_redone, ends, Content, Unused, Fresh, PageName, name_in, is_fresh, Shown}
 use Rattle.std.specs.FinMap as finite
 use Rattle.clone_image.specs.Image.{page_of}
 use Rattle.clone_image.specs.Redone.{standing_at, standing_in, standing_of}
 use Rattle.clone_pool.specs.declared.frame.Content.TheVariants.{Held}
-use Rattle.clone_buffer.proofs.FrameLemmas.{some_name, no_name}
+use Rattle.clone_buffer.proofs.FrameLemmas.{holder_name, some_name, no_name, frame_in-new}
 
 -- a page that the image has stands by the log
 pub stands_there : (log : List (List Record)) (space number : ℕ) (page : List ℕ) → ends log < 2 ^ 64 → page_of (replayed log) space number ≡ Some page → redone space number log ≡ stands page
@@ -45,3 +45,24 @@ module _ (image : Image) (bytes : List ℕ) (page : PageName) where
 
   pub shown_there : (content : Content) → Shown image content bytes → name_in content ≡ Some page → IsSome (page_of image page.space page.number) → page_of image page.space page.number ≡ Some bytes
   shown_there content shown is there = shown_held content shown is (not_fresh content shown is there)
+
+-- a page that isn't there has no frame but that of a new one
+module _ (image : Image) (frames : List Frame) (space number : ℕ) (shows : Shows image frames) (none : page_of image space number ≡ None) where
+  abbrev page : PageName
+  page = record { space = space; number = number }
+
+  pub fresh_absent : (at : ℕ) → holder frames page ≡ Some at → is_fresh (frame_at frames at).content ≡ true
+  fresh_absent at held = by (is_fresh (frame_at frames at).content) refl
+    where
+      by : (t : Bool) → is_fresh (frame_at frames at).content ≡ t → is_fresh (frame_at frames at).content ≡ true
+      by true is = is
+      by false is =
+          let shown = shown_held image (frame_at frames at).page page (frame_at frames at).content (shows at) (holder_name frames page at held).1 is in
+          absurd (false≢true (subst IsSome (sym shown ∙ none) refl))
+
+  pub frame_of_absent : frame_of frames space number ≡ None
+  frame_of_absent = by (holder frames page) refl
+    where
+      by : (o : Option ℕ) → holder frames page ≡ o → frame_of frames space number ≡ None
+      by None is = ap (frame_in frames) is
+      by (Some at) is = ap (frame_in frames) is ∙ frame_in-new frames at (fresh_absent at is)

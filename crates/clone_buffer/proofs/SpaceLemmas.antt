@@ -1,6 +1,6 @@
--- A mini-transaction that makes a space which stands on the disk already, with pages of zero bytes alone.
-use Rattle.std.proofs.Common.{◌≡◌, ◌↔◌, ◌≢◌, ◌<◌, ◌≤◌, ◌+◌, ◌^◌, ◌&&◌, ◌==◌, ◌⊎◌, inl, inr, ◌++◌, ℕ, Bool, true, false, List, [], ◌∷◌, length, replicate, slice_get, nat_lt, refl, sym, ap, subst, ◌∙◌, arith, Option, Some, None, Result, Ok, Err, is_some, option_and_then, unwrap_or, IsSome, IsTrue, if◌then◌else◌}
-use Rattle.clone_buffer.proofs.Common.{cases_eq, cases_lt, false≢true, true≢false, eqb-true, get_or-replicate, length-replicate, DiskImage, ForTold, zero_page, Record, Standing, no_space, past_end, stands, redone, ends, Suits, Engine, Copy, rule_kept, Frame, Flush, frame_at, name_in, name_of, is_fresh, is_begun, holder, noted, Beside, frame_in, frame_of, flight_of, disk_standing, is_open, has_space, engine_with, IsKeptPage, IsKept, Create, Init, spelling, replayed, IsSpelled, replayed_is_redone, page_of-past, page_of-elsewhere, passes, edits, touches, names, resets, passes_by, suits_unnamed, free_in, LogFull, Content, Unused, Fresh, PageName, IsPool, Buffered, IsBuffer, any_names, written, Writes, MakesSpace, Creates}
+-- A mini-transaction that makes a space which the disk has already, with pages of zero bytes.
+use Rattle.std.proofs.Common.{◌≡◌, ◌↔◌, ◌≢◌, ◌<◌, ◌≤◌, ◌+◌, ◌^◌, ◌&&◌, ◌==◌, ◌⊎◌, inl, inr, ◌++◌, ℕ, Bool, true, false, List, [], ◌∷◌, length, replicate, slice_get, nat_lt, refl, sym, ap, subst, ◌∙◌, arith, Option, Some, None, Result, Ok, Err, option_and_then, unwrap_or, IsSome, IsTrue, if◌then◌else◌}
+use Rattle.clone_buffer.proofs.Common.{page_of-made, Image, HasFrame, Shown, Shows, AllByRecursion, cases_eq, cases_lt, false≢true, get_or-replicate, length-replicate, DiskImage, ForTold, zero_page, Record, Standing, no_space, past_end, stands, redone, ends, Suits, Engine, Copy, rule_kept, Frame, Flush, frame_at, is_begun, holder, noted, Beside, frame_of, flight_of, disk_standing, is_open, has_space, engine_with, IsKeptPage, IsKept, Create, spelling, replayed, IsSpelled, replayed_is_redone, page_of-past, page_of-elsewhere, passes, touches, suits_unnamed, free_in, LogFull, Content, Unused, Fresh, IsPool, Buffered, IsBuffer, any_names, written, Writes, MakesSpace, Creates}
 use Rattle.std.proofs.lemmas.Bool.{lt-ltb, ltb-true, ltb-false, eq-eqb}
 use Rattle.std.proofs.lemmas.Option.{slice_get-get_or, slice_get_past}
 use Rattle.std.specs.FinMap as finite
@@ -8,7 +8,6 @@ use Rattle.clone_outside.specs.Disk as disk
 use Rattle.clone_outside.specs.Disk.{page_of}
 use Rattle.clone_outside.specs.declared.disk.Held as held
 use Rattle.clone_image.specs.Redone.{made}
-use Rattle.clone_mtr.specs.declared.record.Record.TheVariants.{Write, Extend, Drop}
 use Rattle.clone_law.specs.Machine.{Idle, Untracked, Tracked, Copied, Stopped, Created, Opened, NoFiles, created}
 use Rattle.clone_pool.specs.declared.frame.Flush.TheVariants as flush
 use Rattle.clone_buffer.specs.OnePage.{NoFileCopy, standing_at, standing_in}
@@ -17,14 +16,15 @@ use Rattle.clone_buffer.proofs.PageLemmas.{world, Ruled}
 use Rattle.clone_image.specs.Image.{page_of as image_page}
 use Rattle.clone_image.specs.Replay.{end_of}
 use Rattle.clone_image.specs.Redone.{standing_in as image_standing}
-use Rattle.clone_law.specs.Touches.{Touch, becomes, reaches, applied, Sound, Ordered}
+use Rattle.clone_law.specs.Touches.{Touch, becomes, applied, Sound, Ordered}
 use Rattle.clone_law.proofs.AppendLemmas.{appended}
-use Rattle.clone_ring.specs.Window as ring
 use Rattle.clone_pool.specs.declared.frame.Content.TheVariants.{Held}
 use Rattle.clone_buffer.specs.Writing.{HasMade}
-use Rattle.clone_buffer.proofs.FrameLemmas.{holder_name, some_name, no_name}
-use Rattle.clone_buffer.proofs.WriteLemmas.{named_held, changed_is, of_named, passes_all, resets_none}
-use Rattle.clone_buffer.proofs.WrittenLemmas.{small, passed, renewed, renewed_frame, frame_of-passed, some_of, shows_created, IsBuffer-written}
+use Rattle.clone_buffer.proofs.FrameLemmas.{some_of, clean_fresh}
+use Rattle.clone_buffer.proofs.ShownLemmas.{fresh_absent, frame_of_absent}
+use Rattle.clone_buffer.proofs.WriteLemmas.{Ready, of_named, applied_passing, unnamed_all, passes_all, resets_none}
+use Rattle.clone_buffer.proofs.WrittenLemmas.{small, renewed_frame, frame_of-passed, IsBuffer-written}
+use Rattle.clone_buffer.proofs.AroundLemmas.{other_space, edits_sound, shows_around, frame_there, elsewhere}
 
 -- a page of such a space
 zero_at : (number pages : ℕ) → number < pages → slice_get (replicate pages disk.zero_page) number ≡ Some disk.zero_page
@@ -89,35 +89,39 @@ module _ (log : List (List Record)) (beside : Beside) (m : DiskImage) (space num
         flights = subst (λ (x : Flush). IsTrue (is_begun x) ↔ IsSome (beside.image space number)) (sym idle) k.flights;
       }
 
--- What the log's law sees of a mini-transaction that makes a space.
+-- What the frames show.
 
-other_space : (space s : ℕ) → s ≢ space → (space == s) ≡ false
-other_space space s other = by (space == s) refl
+-- a frame is ready for the records behind
+ready_made : (v : Buffered) (space pages : ℕ) (rest : List Record) (at : ℕ) (content : Content) (bytes : List ℕ) → MakesSpace v space pages rest → IsTrue v.right → (frame_at v.pool.frames at).content ≡ content → Shown (replayed v.log) content bytes
+    → Ready (finite.insert (replayed v.log) space (replicate pages zero_page)) rest content bytes
+ready_made v space pages rest at Unused bytes makes right is shown = tt
+ready_made v space pages rest at (Held name) bytes makes right is shown = page_of-elsewhere (replayed v.log) space pages name.space name.number (makes.unheld at name is) ∙ shown
+ready_made v space pages rest at (Fresh name) bytes makes right is shown = by (cases_eq name.space space) (cases_lt name.number pages)
   where
-    by : (t : Bool) → (space == s) ≡ t → t ≡ false
-    by false is = refl
-    by true is = absurd (other (sym (eqb-true space s is)))
+    made : Image
+    made = finite.insert (replayed v.log) space (replicate pages zero_page)
 
-applied_passing : (v : Standing) (ts : List Touch) → passes_by ts ≡ true → applied v ts ≡ v
-applied_passing v [] passing = refl
-applied_passing v (passes ∷ ts) passing = applied_passing v ts passing
-applied_passing v (edits f ∷ ts) passing = absurd (false≢true passing)
-applied_passing v (becomes s ∷ ts) passing = absurd (false≢true passing)
-applied_passing v (reaches s ∷ ts) passing = absurd (false≢true passing)
+    absent : image_page made name.space name.number ≡ None → Ready made rest (Fresh name) bytes
+    absent none = inr (none, (unnamed (any_names name rest) refl, shown.1))
+      where
+        unnamed : (t : Bool) → any_names name rest ≡ t → any_names name rest ≡ false
+        unnamed false miss = miss
+        unnamed true hits = absurd (false≢true (subst IsSome none (of_named (λ n. IsSome (image_page made n.space n.number)) name rest hits (makes.there right))))
 
-edits_sound : (b : List ℕ) (ts : List Touch) → resets ts ≡ false → Sound (stands b) ts × Ordered ts
-edits_sound b [] calm = (tt, tt)
-edits_sound b (passes ∷ ts) calm = edits_sound b ts calm
-edits_sound b (edits f ∷ ts) calm = ((edits_sound b ts calm).0, calm)
-edits_sound b (becomes s ∷ ts) calm = absurd (true≢false calm)
-edits_sound b (reaches s ∷ ts) calm = edits_sound b ts calm
+    by : (name.space ≡ space) ⊎ (name.space ≢ space) → (name.number < pages) ⊎ (pages ≤ name.number) → Ready made rest (Fresh name) bytes
+    by (inl same) (inl low) = inl (ap (λ s. image_page made s name.number) same ∙ page_of-made (replayed v.log) space pages name.number low ∙ ap Some (sym shown.1), makes.named at name is same low)
+    by (inl same) (inr past) = absent (ap (λ s. image_page made s name.number) same ∙ page_of-past (replayed v.log) space pages name.number past)
+    by (inr other) either = absent (page_of-elsewhere (replayed v.log) space pages name.space name.number other ∙ shown.0)
+
+pub shows_created : (v : Buffered) (records : List Record) → IsPool v.pool → IsBuffer v → Creates v records → IsTrue v.right → Shows (replayed (v.log ++ records ∷ [])) (written records v).pool.frames
+shows_created v (Create space pages ∷ rest) p b makes right =
+    shows_around v [] rest (Create space pages) p b refl makes.edits (λ at. ready_made v space pages rest at (frame_at v.pool.frames at).content (frame_at v.pool.frames at).page makes right refl (b.shows right at))
+shows_created v other p b makes right = absurd makes
+
+-- What the log's law sees of it.
 
 no_space_there : (log : List (List Record)) (space number : ℕ) → ends log < 2 ^ 64 → finite.get (replayed log) space ≡ None → redone space number log ≡ no_space
 no_space_there log space number small none = sym (replayed_is_redone log space number small) ∙ ap (λ (o : Option (List (List ℕ))). image_standing o number) none
-
-clean_fresh : (o : Option ℕ) → is_some o ≡ false → o ≡ None
-clean_fresh None is = refl
-clean_fresh (Some x) is = absurd (true≢false is)
 
 module _ (v : Buffered) (beside : Beside) (m : DiskImage) (space pages : ℕ) (rest : List Record) (p : IsPool v.pool) (b : IsBuffer v) (after : IsBuffer (written (Create space pages ∷ rest) v)) (makes : MakesSpace v space pages rest)
     (quiet : finite.get m.spaces space ≡ Some (replicate pages disk.zero_page)) (calm : NoFileCopy beside.copy) (k : IsKept v beside m) where
@@ -133,38 +137,28 @@ module _ (v : Buffered) (beside : Beside) (m : DiskImage) (space pages : ℕ) (r
   abbrev Kept : ℕ → ℕ → Type 0
   Kept s n = IsKeptPage (v.log ++ records ∷ []) beside m s n (frame_of new s n)
 
-  -- what the record that makes the space does to a page of this number, in this space or in another one
-  abbrev first : ℕ → Bool → Touch
-  first n t = if t then becomes (made n pages) else passes
+  framed : AllByRecursion (HasFrame v.pool.frames) records
+  framed = (tt, makes.framed)
 
   less : ends v.log + length (spelling records) < 2 ^ 64
-  less = small v beside m records p b after k
+  less = small v beside m records p b after k.right
+
+  -- the pages that a record behind names are there then
+  named_there : (s n : ℕ) → any_names (record { space = s; number = n }) records ≡ true → IsSome (image_page (finite.insert (replayed v.log) space (replicate pages zero_page)) s n)
+  named_there s n hits = of_named (λ q. IsSome (image_page (finite.insert (replayed v.log) space (replicate pages zero_page)) q.space q.number)) (record { space = s; number = n }) rest hits (makes.there k.right)
 
   -- a page of another space
-  other_page : (s n : ℕ) → s ≢ space → (t : Bool) → any_names (record { space = s; number = n }) rest ≡ t → Kept s n
-  other_page s n other false miss =
-      let by = passes_all end s n rest makes.edits miss in
-      let apart = other_space space s other in
-      passed v beside m records p b after k s n miss (record { unnamed = ap (λ (t : Bool). names (first n t ∷ touches end s n rest)) apart ∙ by.unnamed; passing = ap (λ (t : Bool). passes_by (first n t ∷ touches end s n rest)) apart ∙ by.passing })
-  other_page s n other true hits =
-      renewed v beside m records p b after k s n hits (ap (λ (t : Bool). resets (first n t ∷ touches end s n rest)) (other_space space s other) ∙ resets_none end s n rest makes.edits) (of_named (λ q. IsSome (holder v.pool.frames q)) (record { space = s; number = n }) rest hits makes.framed)
-      (subst IsSome (page_of-elsewhere (replayed v.log) space pages s n other) (of_named (λ q. IsSome (image_page (finite.insert (replayed v.log) space (replicate pages zero_page)) q.space q.number)) (record { space = s; number = n }) rest hits (makes.there k.right)))
+  other_page : (s n : ℕ) → s ≢ space → Kept s n
+  other_page s n other =
+      elsewhere v beside m [] rest (Create space pages) p b after k.right tt makes.edits framed s n (ap (λ (t : Bool). if t then becomes (made n pages) else passes) (other_space space s other))
+      (λ hits. subst IsSome (page_of-elsewhere (replayed v.log) space pages s n other) (named_there s n hits)) (k.page s n)
 
   -- no frame has a page of the space but a new one
-  fresh_frame : (n at : ℕ) → holder v.pool.frames (record { space = space; number = n }) ≡ Some at → is_fresh (frame_at v.pool.frames at).content ≡ true
-  fresh_frame n at held = by (frame_at v.pool.frames at).content refl (holder_name v.pool.frames (record { space = space; number = n }) at held).1
-    where
-      by : (content : Content) → (frame_at v.pool.frames at).content ≡ content → name_of (frame_at v.pool.frames at) ≡ Some (record { space = space; number = n }) → is_fresh (frame_at v.pool.frames at).content ≡ true
-      by Unused is name = absurd (no_name (record { space = space; number = n }) (sym (ap name_in is) ∙ name))
-      by (Fresh q) is name = ap is_fresh is
-      by (Held q) is name = absurd (makes.unheld at q is (ap (λ (w : PageName). w.space) (some_name q (record { space = space; number = n }) (sym (ap name_in is) ∙ name))))
+  nowhere : (n : ℕ) → image_page (replayed v.log) space n ≡ None
+  nowhere n = ap (λ (o : Option (List (List ℕ))). option_and_then (λ ps. slice_get ps n) o) (makes.absent k.right)
 
   unframed : (n : ℕ) → frame_of v.pool.frames space n ≡ None
-  unframed n = by (holder v.pool.frames (record { space = space; number = n })) refl
-    where
-      by : (o : Option ℕ) → holder v.pool.frames (record { space = space; number = n }) ≡ o → frame_of v.pool.frames space n ≡ None
-      by None is = ap (frame_in v.pool.frames) is
-      by (Some at) is = ap (frame_in v.pool.frames) is ∙ ap (λ (t : Bool). if t then None else Some (frame_at v.pool.frames at)) (fresh_frame n at is)
+  unframed n = frame_of_absent (replayed v.log) v.pool.frames space n (b.shows k.right) (nowhere n)
 
   bare : (n : ℕ) → IsKeptPage v.log beside m space n None
   bare n = subst (IsKeptPage v.log beside m space n) (unframed n) (k.page space n)
@@ -173,28 +167,23 @@ module _ (v : Buffered) (beside : Beside) (m : DiskImage) (space pages : ℕ) (r
   own = eq-eqb space space refl
 
   -- a page of the space
-  new_page : (n : ℕ) (t : Bool) → any_names (record { space = space; number = n }) rest ≡ t → Kept space n
+  new_page : (n : ℕ) (t : Bool) → any_names (record { space = space; number = n }) records ≡ t → Kept space n
   new_page n false miss =
-      let by = passes_all end space n rest makes.edits miss in
-      let suits = suits_unnamed space n v.log records less (ap (λ (t : Bool). names (first n t ∷ touches end space n rest)) own ∙ by.unnamed) in
-      let is : redone space n (v.log ++ records ∷ []) ≡ made n pages = appended space n v.log records (bare n).rule.engine.fits suits ∙ ap (λ (t : Bool). applied (redone space n v.log) (first n t ∷ touches end space n rest)) own ∙ applied_passing (made n pages) (touches end space n rest) by.passing in
-      subst (IsKeptPage (v.log ++ records ∷ []) beside m space n) (sym (frame_of-passed v beside m records p b after k space n miss ∙ unframed n)) (created_page v.log beside m space n pages records quiet (calm space n) suits is (bare n))
+      let ts = touches end space n rest in
+      let suits = suits_unnamed space n v.log records less (unnamed_all end space n records miss) in
+      let first = ap (λ (t : Bool). applied (redone space n v.log) ((if t then becomes (made n pages) else passes) ∷ ts)) own ∙ applied_passing (made n pages) ts (passes_all end space n rest makes.edits miss) in
+      subst (IsKeptPage (v.log ++ records ∷ []) beside m space n) (sym (frame_of-passed v beside m records p b after k.right space n miss ∙ unframed n))
+      (created_page v.log beside m space n pages records quiet (calm space n) suits (appended space n v.log records (bare n).rule.engine.fits suits ∙ first) (bare n))
   new_page n true hits =
-      let page : PageName = record { space = space; number = n } in
-      let held = some_of (holder v.pool.frames page) (of_named (λ q. IsSome (holder v.pool.frames q)) page rest hits makes.framed) in
-      let f : Frame = frame_at v.pool.frames held.0 in
-      let is_new : is_fresh f.content ≡ true = fresh_frame n held.0 held.1 in
-      let idle = (p.frame held.0).fresh is_new in
-      let low : n < pages = within (cases_lt n pages) (of_named (λ q. IsSome (image_page (finite.insert (replayed v.log) space (replicate pages zero_page)) q.space q.number)) page rest hits (makes.there k.right)) in
-      let both = renewed_frame v beside m records p b after k space n held.0 held.1 (named_held page records (ring.end_of v.ring) (ring.end_of v.ring + length (spelling records)) f hits) in
-      let dirty = (changed_is page records (ring.end_of v.ring) (ring.end_of v.ring + length (spelling records)) f).1 hits in
-      let zero : made n pages ≡ stands zero_page = ap (λ (t : Bool). if t then stands zero_page else past_end) (lt-ltb n pages low) in
-      let sound = subst (λ (t : Bool). Sound (redone space n v.log) (first n t ∷ touches end space n rest) × Ordered (first n t ∷ touches end space n rest)) (sym own) (subst (λ (s : Standing). Sound s (touches end space n rest) × Ordered (touches end space n rest)) (sym zero) (edits_sound zero_page (touches end space n rest) (resets_none end space n rest makes.edits))) in
-      let suits : Suits space n v.log records = record { small = less; sound = sound.0; ordered = sound.1 } in
-      subst (IsKeptPage (v.log ++ records ∷ []) beside m space n) (sym both.0)
-      (opened_page v.log beside m space n pages records quiet (calm space n) _ low suits both.1 (no_space_there v.log space n (omega (arith, less)) (makes.absent k.right))
-      (ap (λ (g : Frame). g.oldest) dirty ∙ ap (λ (o : Option ℕ). Some (unwrap_or o (ring.end_of v.ring))) (clean_fresh f.oldest idle.1) ∙ ap Some b.end)
-      (ap (λ (g : Frame). g.flush) dirty ∙ ap (noted (ring.end_of v.ring)) ((p.frame held.0).clean idle.1)) (bare n))
+      let held = some_of (holder v.pool.frames (record { space = space; number = n })) (frame_there v beside m [] rest (Create space pages) p b after k.right tt makes.edits framed (record { space = space; number = n }) hits) in
+      let idle = (p.frame held.0).fresh (fresh_absent (replayed v.log) v.pool.frames space n (b.shows k.right) (nowhere n) held.0 held.1) in
+      let is = renewed_frame v beside m records p b after k.right space n held.0 held.1 hits in
+      let low : n < pages = within (cases_lt n pages) (named_there space n hits) in
+      let starts : (if space == space then becomes (made n pages) else passes) ≡ becomes (stands zero_page) = ap (λ (t : Bool). if t then becomes (made n pages) else passes) own ∙ ap (λ (t : Bool). becomes (if t then stands zero_page else past_end)) (lt-ltb n pages low) in
+      let sound = subst (λ (x : Touch). Sound (redone space n v.log) (x ∷ touches end space n rest) × Ordered (x ∷ touches end space n rest)) (sym starts) (edits_sound zero_page (touches end space n rest) (resets_none end space n rest makes.edits)) in
+      subst (IsKeptPage (v.log ++ records ∷ []) beside m space n) (sym is.framed)
+      (opened_page v.log beside m space n pages records quiet (calm space n) _ low (record { small = less; sound = sound.0; ordered = sound.1 }) is.page (no_space_there v.log space n (omega (arith, less)) (makes.absent k.right))
+      (is.oldest ∙ ap (λ (o : Option ℕ). Some (unwrap_or o (ends v.log))) (clean_fresh (frame_at v.pool.frames held.0).oldest idle.1)) (is.flush ∙ ap (noted (ends v.log)) ((p.frame held.0).clean idle.1)) (bare n))
     where
       within : (n < pages) ⊎ (pages ≤ n) → IsSome (image_page (finite.insert (replayed v.log) space (replicate pages zero_page)) space n) → n < pages
       within (inl low) there = low
@@ -205,24 +194,20 @@ module _ (v : Buffered) (beside : Beside) (m : DiskImage) (space pages : ℕ) (r
   kept_created = record { right = k.right; page = λ s n. by s n (cases_eq s space) }
     where
       by : (s n : ℕ) → (s ≡ space) ⊎ (s ≢ space) → Kept s n
-      by s n (inl same) = subst (λ (x : ℕ). Kept x n) (sym same) (new_page n (any_names (record { space = space; number = n }) rest) refl)
-      by s n (inr other) = other_page s n other (any_names (record { space = s; number = n }) rest) refl
+      by s n (inl same) = subst (λ (x : ℕ). Kept x n) (sym same) (new_page n (any_names (record { space = space; number = n }) records) refl)
+      by s n (inr other) = other_page s n other
 
 -- a buffer is kept over a disk after a mini-transaction that makes a space
 kept_by : (v : Buffered) (beside : Beside) (m : DiskImage) (records : List Record) → IsPool v.pool → IsBuffer v → IsSpelled records → Creates v records → length (spelling records) ≤ free_in v.ring → HasMade records m → NoFileCopy beside.copy → IsKept v beside m → IsKept (written records v) beside m
-kept_by v beside m [] p b spelled makes room on calm k = absurd makes
-kept_by v beside m (Init space number kind ∷ rest) p b spelled makes room on calm k = absurd makes
-kept_by v beside m (Write space number patch ∷ rest) p b spelled makes room on calm k = absurd makes
-kept_by v beside m (Extend space count ∷ rest) p b spelled makes room on calm k = absurd makes
-kept_by v beside m (Drop space ∷ rest) p b spelled makes room on calm k = absurd makes
 kept_by v beside m (Create space count ∷ rest) p b spelled makes room on calm k =
     let records = Create space count ∷ rest in
-    let after = IsBuffer-written v records b spelled room (λ t. shows_created v records p (sym (ap (λ n. n + length (spelling records)) b.end)) makes t (b.shows t)) in
+    let after = IsBuffer-written v records b spelled room (λ t. shows_created v records p b makes t) in
     kept_created v beside m space count rest p b after makes on calm k
+kept_by v beside m other p b spelled makes room on calm k = absurd makes
 
 -- so a buffer stands after it
 pub stands_created : (v w : Buffered) (beside : Beside) (told : Option DiskImage) (records : List Record) (result : Result ℕ LogFull) → IsPool v.pool → IsBuffer v → IsSpelled records → (IsTrue v.right → Creates v records) → Writes records v w result → NoFileCopy beside.copy → ForTold told (HasMade records) → Stands v beside told → Stands w beside told
-stands_created v w beside told records (Err full) p b spelled makes writes calm on st = subst (λ (u : Buffered). Stands u beside told) (sym writes.2) st
+stands_created v w beside told rs (Err full) p b spelled makes writes calm on st = subst (λ (u : Buffered). Stands u beside told) (sym writes.2) st
 stands_created v w beside told records (Ok lsn) p b spelled makes writes calm on st = subst (λ (u : Buffered). Stands u beside told) (sym writes.1) (by told on st)
   where
     by : (t : Option DiskImage) → ForTold t (HasMade records) → Stands v beside t → Stands (written records v) beside t

@@ -1,14 +1,16 @@
 -- What the records of a mini-transaction do to the frames, and to the pages that they show.
 use Rattle.std.proofs.Common.{◌≡◌, ◌<◌, ◌≤◌, ◌⊎◌, inl, inr, ◌&&◌, ◌==◌, ℕ, Bool, true, false, List, [], ◌∷◌, length, set, map, refl, sym, ap, subst, ◌∙◌, Option, Some, None, option_map, option_and_then, unwrap_or, IsSome, IfSome, if◌then◌else◌, get_or}
-use Rattle.clone_buffer.proofs.Common.{cases_lt, false≢true, true≢false, and_parts, eqb-true, get_or-set_same, get_or-set_other, AllByRecursion, effect, Record, Image, EditsPages, zero_page, page_of-edited_same, touches, names, resets, passes_by, edits, passes, Frame, Content, Unused, Fresh, Flush, PageName, is_name_of, no_frame, frame_at, name_in, name_of, is_fresh, holder, noted, Frames, named, is_own_name, Shown, Shows, after_records, IsOnPage, any_names}
+use Rattle.clone_buffer.proofs.Common.{Standing, cases_lt, false≢true, true≢false, and_parts, eqb-true, get_or-set_same, get_or-set_other, AllByRecursion, effect, Record, Image, EditsPages, zero_page, page_of-edited_same, touches, names, resets, passes_by, edits, passes, Frame, Content, Unused, Fresh, Flush, PageName, is_name_of, no_frame, frame_at, name_in, name_of, is_fresh, holder, noted, Frames, named, is_own_name, Shown, Shows, after_records, IsOnPage, any_names}
 use Rattle.std.proofs.lemmas.List.{map-set, set_past, set-get_or}
 use Rattle.std.proofs.Math.ListN.{get_or-map}
 use Rattle.clone_mtr.specs.declared.record.Record.TheVariants as record_is
 use Rattle.clone_image.specs.Image.{page_of, with_edit, edited, after_record}
 use Rattle.clone_image.specs.Image as image_is
 use Rattle.clone_undo.specs.Changes as undo
+use Rattle.clone_image.specs.Redone as standing
 use Rattle.clone_image.proofs.Pages.{records_pages}
 use Rattle.clone_image.proofs.Images.{page_of-edited_other}
+use Rattle.clone_law.specs.Touches.{Touch, becomes, reaches, applied}
 use Rattle.clone_pool.specs.declared.frame.Content.TheVariants.{Held}
 use Rattle.clone_pool.specs.declared.frame.Flush.TheVariants as flush
 use Rattle.clone_pool.specs.Index.{place_of}
@@ -52,7 +54,7 @@ names-after (r ∷ rs) start end v = names-after rs start end (step r start end 
 pub holder-after : (rs : List Record) (start end : ℕ) (v : Frames) (page : PageName) → holder (after_records rs start end v).frames page ≡ holder v.frames page
 holder-after rs start end v page = ap (place_of page) (names-after rs start end v)
 
-name_at-after : (rs : List Record) (start end : ℕ) (v : Frames) (b : ℕ) → name_of (frame_at (after_records rs start end v).frames b) ≡ name_of (frame_at v.frames b)
+pub name_at-after : (rs : List Record) (start end : ℕ) (v : Frames) (b : ℕ) → name_of (frame_at (after_records rs start end v).frames b) ≡ name_of (frame_at v.frames b)
 name_at-after rs start end v b = sym (get_or-map name_of (after_records rs start end v).frames b no_frame) ∙ ap (λ names. get_or names b None) (names-after rs start end v) ∙ get_or-map name_of v.frames b no_frame
 
 -- What becomes of one frame.
@@ -267,34 +269,51 @@ not_named s n space number miss = by ((s == space) && (n == number)) refl
         let f : n ≡ number = eqb-true n number parts.1 in
         absurd (true≢false (sym (is_own_name (record { space = space; number = number })) ∙ (λ i. is_name_of (record { space = space; number = number }) (Some (record { space = sym e i; number = sym f i }))) ∙ miss))
 
--- records that change pages and don't name this one
-pub record PassesBy (end space number : ℕ) (rs : List Record) : Type 0 where
-  pub unnamed : names (touches end space number rs) ≡ false
-  pub passing : passes_by (touches end space number rs) ≡ true
+misses : (t u : Bool) → (if t then true else u) ≡ false → (t ≡ false) × (u ≡ false)
+misses true u is = absurd (true≢false is)
+misses false u is = (refl, is)
 
-pass_one : (end space number : ℕ) (rs : List Record) (t : Bool) (edit : List ℕ → List ℕ) → t ≡ false → PassesBy end space number rs → (names ((if t then edits edit else passes) ∷ touches end space number rs) ≡ false) × (passes_by ((if t then edits edit else passes) ∷ touches end space number rs) ≡ true)
-pass_one end space number rs true edit is rest = absurd (true≢false is)
-pass_one end space number rs false edit is rest = (rest.unnamed, rest.passing)
+if_named : (t : Bool) (x : Touch) (ts : List Touch) → names (x ∷ ts) ≡ false → names ts ≡ false → names ((if t then x else passes) ∷ ts) ≡ false
+if_named true x ts here rest = here
+if_named false x ts here rest = rest
 
-pub passes_all : (end space number : ℕ) (rs : List Record) → AllByRecursion EditsPages rs → any_names (record { space = space; number = number }) rs ≡ false → PassesBy end space number rs
-passes_all end space number [] only miss = record { unnamed = refl; passing = refl }
-passes_all end space number (r ∷ rs) only miss = by r only.0 (passes_all end space number rs only.1 (rest_misses (is_name_of page (page_changed r)) miss)) (first_misses (is_name_of page (page_changed r)) miss)
+-- records that don't name a page are no edits of it
+pub unnamed_all : (end space number : ℕ) (rs : List Record) → any_names (record { space = space; number = number }) rs ≡ false → names (touches end space number rs) ≡ false
+unnamed_all end space number [] miss = refl
+unnamed_all end space number (r ∷ rs) miss =
+    let apart = misses (is_name_of page (page_changed r)) (any_names page rs) miss in
+    by r apart.0 (unnamed_all end space number rs apart.1)
   where
     page : PageName
     page = record { space = space; number = number }
 
-    first_misses : (t : Bool) → (if t then true else any_names page rs) ≡ false → t ≡ false
-    first_misses true is = absurd (true≢false is)
-    first_misses false is = refl
+    seen : List Touch
+    seen = touches end space number rs
 
-    rest_misses : (t : Bool) → (if t then true else any_names page rs) ≡ false → any_names page rs ≡ false
-    rest_misses true is = absurd (true≢false is)
-    rest_misses false is = is
+    by : (r : Record) → is_name_of page (page_changed r) ≡ false → names seen ≡ false → names (touches end space number (r ∷ rs)) ≡ false
+    by (record_is.Init s n kind) miss rest = ap (λ (t : Bool). names ((if t then edits (effect end (record_is.Init s n kind)) else passes) ∷ seen)) (not_named s n space number miss) ∙ rest
+    by (record_is.Write s n patch) miss rest = ap (λ (t : Bool). names ((if t then edits (effect end (record_is.Write s n patch)) else passes) ∷ seen)) (not_named s n space number miss) ∙ rest
+    by (record_is.Extend s count) miss rest = if_named (s == space) (reaches (standing.made number count)) seen rest rest
+    by (record_is.Create s count) miss rest = if_named (s == space) (becomes (standing.made number count)) seen rest rest
+    by (record_is.Drop s) miss rest = if_named (s == space) (becomes standing.no_space) seen rest rest
 
-    by : (r : Record) → EditsPages r → PassesBy end space number rs → is_name_of page (page_changed r) ≡ false → PassesBy end space number (r ∷ rs)
-    by (record_is.Init s n kind) only rest is = let both = pass_one end space number rs ((s == space) && (n == number)) (effect end (record_is.Init s n kind)) (not_named s n space number is) rest in record { unnamed = both.0; passing = both.1 }
-    by (record_is.Write s n patch) only rest is = let both = pass_one end space number rs ((s == space) && (n == number)) (effect end (record_is.Write s n patch)) (not_named s n space number is) rest in record { unnamed = both.0; passing = both.1 }
-    by other only rest is = absurd only
+-- where they change pages, they pass by
+pub passes_all : (end space number : ℕ) (rs : List Record) → AllByRecursion EditsPages rs → any_names (record { space = space; number = number }) rs ≡ false → passes_by (touches end space number rs) ≡ true
+passes_all end space number [] only miss = refl
+passes_all end space number (r ∷ rs) only miss =
+    let apart = misses (is_name_of page (page_changed r)) (any_names page rs) miss in
+    by r only.0 apart.0 (passes_all end space number rs only.1 apart.1)
+  where
+    page : PageName
+    page = record { space = space; number = number }
+
+    seen : List Touch
+    seen = touches end space number rs
+
+    by : (r : Record) → EditsPages r → is_name_of page (page_changed r) ≡ false → passes_by seen ≡ true → passes_by (touches end space number (r ∷ rs)) ≡ true
+    by (record_is.Init s n kind) one miss rest = ap (λ (t : Bool). passes_by ((if t then edits (effect end (record_is.Init s n kind)) else passes) ∷ seen)) (not_named s n space number miss) ∙ rest
+    by (record_is.Write s n patch) one miss rest = ap (λ (t : Bool). passes_by ((if t then edits (effect end (record_is.Write s n patch)) else passes) ∷ seen)) (not_named s n space number miss) ∙ rest
+    by other one miss rest = absurd one
 
 resets_one : (end space number : ℕ) (rs : List Record) (t : Bool) (edit : List ℕ → List ℕ) → resets (touches end space number rs) ≡ false → resets ((if t then edits edit else passes) ∷ touches end space number rs) ≡ false
 resets_one end space number rs true edit rest = rest
@@ -306,3 +325,11 @@ resets_none end space number [] only = refl
 resets_none end space number (record_is.Init s n kind ∷ rs) only = resets_one end space number rs ((s == space) && (n == number)) (effect end (record_is.Init s n kind)) (resets_none end space number rs only.1)
 resets_none end space number (record_is.Write s n patch ∷ rs) only = resets_one end space number rs ((s == space) && (n == number)) (effect end (record_is.Write s n patch)) (resets_none end space number rs only.1)
 resets_none end space number (other ∷ rs) only = absurd only.0
+
+-- records that pass by leave the page
+pub applied_passing : (s : Standing) (ts : List Touch) → passes_by ts ≡ true → applied s ts ≡ s
+applied_passing s [] passing = refl
+applied_passing s (passes ∷ ts) passing = applied_passing s ts passing
+applied_passing s (edits f ∷ ts) passing = absurd (false≢true passing)
+applied_passing s (becomes t ∷ ts) passing = absurd (false≢true passing)
+applied_passing s (reaches t ∷ ts) passing = absurd (false≢true passing)

@@ -9,7 +9,7 @@ use Rattle.clone_outside.specs.Disk as disk
 use Rattle.clone_outside.specs.Disk.{DiskImage}
 use Rattle.clone_page.specs.Header.{zero_page}
 use Rattle.clone_mtr.specs.declared.record.Record.TheVariants.{Init, Write, Extend, Create, Drop}
-use Rattle.clone_image.specs.Image.{Image, page_of, EditsPages}
+use Rattle.clone_image.specs.Image.{Image, page_of, with_edit, extended, page_count, EditsPages}
 use Rattle.clone_ring.specs.Window.{appended, end_of, free_in}
 use Rattle.clone_ring.specs.declared.log_full.LogFull.{LogFull}
 use Rattle.clone_pool.specs.declared.frame.Frame.{Frame}
@@ -71,6 +71,24 @@ Creates v (Write space number patch ∷ rest) = ⊥
 Creates v (Extend space pages ∷ rest) = ⊥
 Creates v (Create space pages ∷ rest) = MakesSpace v space pages rest
 Creates v (Drop space ∷ rest) = ⊥
+
+-- A space that is there gets so many pages, if it has fewer. The records before that change pages
+-- that are there, and those behind it pages that are there then. They change each new page, and
+-- each page that they change has a frame.
+pub record Lengthens (v : Buffered) (records : List Record) : Type 0 where
+  pub front : List Record
+  pub space : ℕ
+  pub pages : ℕ
+  pub rest : List Record
+  pub is : records ≡ front ++ Extend space pages ∷ rest
+  pub edits : AllByRecursion EditsPages front × AllByRecursion EditsPages rest
+  pub framed : AllByRecursion (HasFrame v.pool.frames) records
+  pub before : AllByRecursion (IsOnPage (image_of v)) front
+  pub behind : AllByRecursion (IsOnPage (with_edit (image_of v) space (extended pages))) rest
+  pub count : ℕ
+  pub size : page_count (image_of v) space ≡ Some count
+  pub named : (number : ℕ) → count ≤ number → number < pages
+      → any_names (record { space = space; number = number }) rest ≡ true
 
 -- the disk has the space that the records make, with quiet pages of zero bytes
 abbrev pub HasMade : List Record → DiskImage → Type 0

@@ -2,6 +2,7 @@ ghost use Rattle.std.specs.Prelude.{◌≡◌, ◌≢◌, ◌<◌, ◌≤◌, �
 ghost use Rattle.std.specs.Option.{ForSome};
 ghost use Rattle.clone_outside.specs.Causes.{Rose};
 ghost use Rattle.clone_buffer.specs.Writing.{after_records, changed_at, named_frame};
+ghost use Rattle.clone_buffer.specs.Dropping.{AreUnpinned, given_up};
 ghost use Rattle.std.specs.List.{AllByRecursion};
 ghost use Rattle.clone_buffer.specs.Flushing.{BeginKeeps, OpenKeeps, LandKeeps, RestLands, FailKeeps, CheckpointKeeps, with_change};
 ghost use Rattle.clone_buffer.specs.Keeping.{CopyKept, CopyKeeps};
@@ -63,7 +64,8 @@ impl Model for Buffer {
 impl Buffer {
     ghost use Rattle.std.specs.declared.option.Option.{Option};
     ghost use Rattle.clone_outside.specs.Disk.{DiskImage, ForTold, blank};
-    ghost use Rattle.clone_buffer.specs.Writing.{HasFrame, IsOnPage, Creates, HasMade, Writes, written};
+    ghost use Rattle.clone_buffer.specs.Writing.{HasFrame, IsOnPage, Creates, HasMade, Lengthens, Writes, written};
+    ghost use Rattle.clone_buffer.specs.Dropping.{DropsSpace, WritesWithout};
     ghost use Rattle.clone_buffer.specs.Buffered.{image_of, IsBuffer, Shows};
     ghost use Rattle.clone_buffer.specs.OnePage.{Beside, NoFileCopy, at_rest, bytes_in, frame_of};
     ghost use Rattle.clone_buffer.specs.Keeping.{IsKept, Stands, DiskIsFrames};
@@ -285,6 +287,45 @@ impl Buffer {
         self.append(records)
     }
 
+    /// Writes a mini-transaction that makes a space longer, and changes each new page of it, in a
+    /// frame that `fresh` gave. Its other records change pages that were there, each in its frame.
+    ///
+    /// It is refused exactly where its spelling has more bytes than are free, and nothing has
+    /// changed then.
+    pub fn write_longer(&mut self, records: &[Record]) -> Result<u64, LogFull>
+        requires some { 1 ≤ length records.now }
+        requires short { length (spelling records.now) ≤ longest }
+        requires longer { IsTrue self.old.right → Lengthens self.old records.now }
+        ensures written { Writes records.now self.old self.new result }
+        ensures stands { (beside : Beside) (told : Option DiskImage)
+            → Stands self.old beside told → Stands self.new beside told }
+    {
+        self.pool.laws();
+        self.append(records)
+    }
+
+    /// Gives up the pages of a space, with all that was changed of them, and writes a
+    /// mini-transaction whose first record drops the space, and whose other records change pages of
+    /// other spaces, each in its frame. The space has so many pages.
+    ///
+    /// It is refused exactly where its spelling has more bytes than are free, and nothing has
+    /// changed then.
+    pub fn drop_space(&mut self, space: u32, pages: u32, records: &[Record]) -> Result<u64, LogFull>
+        requires some { 1 ≤ length records.now }
+        requires short { length (spelling records.now) ≤ longest }
+        requires unpinned { AreUnpinned space self.old.pool.frames }
+        requires drops { IsTrue self.old.right → DropsSpace self.old space pages records.now }
+        ensures written { WritesWithout space pages records.now self.old self.new result }
+        ensures stands { (beside : Beside) (told : Option DiskImage) → NoFileCopy beside.copy
+            → Stands self.old beside told → Stands self.new beside told }
+    {
+        self.room_for(records)?;
+        self.pool.laws();
+        give_up(&mut self.pool, space, pages);
+        self.pool.laws();
+        self.append(records)
+    }
+
     // Writes a mini-transaction that leaves frames which show their pages.
     fn append(&mut self, records: &[Record]) -> Result<u64, LogFull>
         requires some { 1 ≤ length records.now }
@@ -480,6 +521,19 @@ pub fn copy_laws()
 pub fn read_laws()
     ensures file { FileReadAllowed }
 {}
+
+// Gives up the pages of a space below this number, none of which is pinned.
+fn give_up(pool: &mut Pool, space: u32, pages: u32)
+    requires { AreUnpinned space pool.old.frames }
+    ensures { pool.new ≡ given_up space pages pool.old }
+{
+    for number in 0..pages {
+        pool.laws();
+        if let Some(at) = pool.find(PageName { space, number }) {
+            pool.discard(at);
+        }
+    }
+}
 
 // Each record changes the frame of the page that it names.
 fn change_frames(pool: &mut Pool, records: &[Record], start: u64, end: u64)

@@ -1,5 +1,5 @@
-ghost use Rattle.std.specs.Prelude.{◌≡◌, [], ◌∷◌, IfOk, OnOk, IsSome};
-ghost use Rattle.clone_image.specs.Image.{page_of};
+ghost use Rattle.std.specs.Prelude.{◌≡◌, [], ◌∷◌, Some, IfOk, OnOk, IsSome};
+ghost use Rattle.clone_image.specs.Image.{page_of, page_count};
 ghost use Rattle.clone_pool.specs.Frames.{no_frame, freshened, holder};
 ghost use Rattle.clone_buffer.specs.Buffered.{image_of};
 
@@ -18,6 +18,17 @@ const LOG: [u8; 37] = [
     1, 0, 0, 0, 3, 0, 0, 0, 0, 0, 1, // page 0 of space 3 is a system page
     6, //
     2, 0, 0, 0, 3, 0, 0, 0, 0, 0, 40, 0, 2, 7, 9, // on it, from 40 on, 2 bytes
+    6,
+];
+
+// Space 4 has one page and then two, of which the second is an overflow page; and it is dropped.
+const SHORT_LIFE: [u8; 37] = [
+    4, 0, 0, 0, 4, 0, 0, 0, 1, // space 4 has 1 page
+    6, //
+    3, 0, 0, 0, 4, 0, 0, 0, 2, // it has 2 pages
+    1, 0, 0, 0, 4, 0, 0, 0, 1, 0, 4, // page 1 of space 4 is an overflow page
+    6, //
+    5, 0, 0, 0, 4, // space 4 is dropped
     6,
 ];
 
@@ -47,6 +58,36 @@ fn make_space(buffer: &mut Buffer) -> Result<u64, LogFull>
             kind: PageKind::System,
         },
     ])
+}
+
+// Space 4 is there with one page, and the one frame is taken for a second one.
+fn with_second_page(alloc: Global) -> Result<Buffer, Fail>
+    ensures size { IfOk result (λ b. page_count (image_of b) 4 ≡ Some 1) }
+    ensures frames { IfOk result
+        (λ b. b.pool.frames ≡ freshened (record { space = 4; number = 1 }) 1 no_frame ∷ []) }
+{
+    let mut buffer = Buffer::new(alloc, 1, 64)?;
+    buffer.write_space(&[Record::Create { space: 4, pages: 1 }])?;
+    buffer.fresh(4, 1)?;
+    Ok(buffer)
+}
+
+// The space gets its second page, and is dropped with it.
+fn lengthen_and_drop(buffer: &mut Buffer) -> Result<u64, LogFull>
+    requires size { page_count (image_of buffer.old) 4 ≡ Some 1 }
+    requires frames { buffer.old.pool.frames
+        ≡ freshened (record { space = 4; number = 1 }) 1 no_frame ∷ [] }
+{
+    buffer.write_longer(&[
+        Record::Extend { space: 4, pages: 2 },
+        Record::Init {
+            space: 4,
+            page: 1,
+            kind: PageKind::Overflow,
+        },
+    ])?;
+    buffer.unpin(0);
+    buffer.drop_space(4, 2, &[Record::Drop { space: 4 }])
 }
 
 // Two bytes are written on the page.
@@ -91,5 +132,15 @@ fn a_space_is_made_and_its_page_is_changed(rt: HostRuntime) -> Result<(), Fail> 
     // the page LSN is 8229, which is 32 times 256 and 37
     assert_eq!(rt; seen(&buffer, 3, 0), Some([0, 32, 37, 3, 0, 7, 9, 0]));
     assert_eq!(rt; is_log(&buffer, &LOG), true);
+    Ok(())
+}
+
+#[test]
+fn a_space_gets_longer_and_is_dropped(rt: HostRuntime) -> Result<(), Fail> {
+    let mut buffer = with_second_page(rt.alloc())?;
+    assert_eq!(rt; lengthen_and_drop(&mut buffer), Ok(8229));
+    assert_eq!(rt; buffer.find(4, 1), None);
+    assert_eq!(rt; buffer.oldest(), None);
+    assert_eq!(rt; is_log(&buffer, &SHORT_LIFE), true);
     Ok(())
 }

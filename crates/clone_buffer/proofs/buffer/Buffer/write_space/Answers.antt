@@ -1,15 +1,13 @@
-use Rattle.std.proofs.Common.{◌+◌, ℕ, length, ap, sym, subst}
-use Rattle.clone_buffer.proofs.Common.{spelling, IsPool, Buffered, IsBuffer}
-use Rattle.clone_buffer.proofs.WrittenLemmas.{shows_created}
-use Rattle.clone_buffer.proofs.SpaceLemmas.{stands_created}
+use Rattle.std.proofs.Common.{subst}
+use Rattle.clone_buffer.proofs.Common.{IsPool, Buffered, IsBuffer}
+use Rattle.clone_buffer.proofs.SpaceLemmas.{shows_created, stands_created}
 use Rattle.clone_buffer.proofs.buffer.Buffer.write_space.Goals as goal
 
 pub append-requires-clause-shows : goal.append-requires-clause-shows
 append-requires-clause-shows c =
-    let records = c.args.records.now in
     let pool = subst (λ (s : Buffered). IsPool s.pool) c.self.view_is c.laws.ensures in
     let buffer = subst IsBuffer c.self.view_is c.self.invariant in
-    λ t. shows_created c.args.self.now records pool (sym (ap (λ (n : ℕ). n + length (spelling records)) buffer.end)) (c.requires.creates t) t (buffer.shows t)
+    λ t. shows_created c.args.self.now c.args.records.now pool buffer (c.requires.creates t) t
 
 pub returns-clause-stands : goal.returns-clause-stands
 returns-clause-stands c =
