@@ -2,6 +2,8 @@
 use Rattle.std.proofs.Common.{◌≡◌, ◌≢◌, ℕ, suc, List, [], ◌∷◌, refl, sym, ap, subst, ◌∙◌, inl, inr, Option, Some, None, slice_get, arith, length, is_some, nat_cmp}
 use Rattle.clone_trx.proofs.Common.{nat_cmp-IsAntisymmetric, get-empty, len-empty, nat_cmp_total, cases_eq, same_Some, none-some, length_push, row_cmp, Rows, after_change, after_changes, Change, Commit, unused, bound_key, UndoEntry, Contents, set_at, system_size, committed, opened, set_at-same, set_at-other, Donor, no_donor, Commits, Slots, TellsChanges, StandsFor, IsSound, committed_rows, changes_by, value_of, get-removed_same, after_changes_same, others-removed, committed_other, committed_value, committed_locked}
 use Rattle.std.specs.FinMap as finite
+use Rattle.clone_trx.proofs.ChainLemmas.{same_chains}
+use Rattle.clone_trx.proofs.DictionaryLemmas.{names_none}
 use Rattle.clone_trx.proofs.SoundChangeLemmas.{same_tables}
 use Rattle.clone_trx.proofs.OpenTransactionLemmas.{rows_still}
 
@@ -18,7 +20,8 @@ tells_rows slot rows now (c ∷ cs) (e ∷ es) same tells = (
 pub committed_sound : (d after : Donor) (c : Contents) (trx position : ℕ) → Commits d trx position after → IsSound d c → IsSound after (committed trx position c)
 committed_sound d after c trx position k sound = record {
   locked = committed_locked sound.locked k;
-  tables = same_tables d after c.named c.size tables sound.tables;
+  tables = same_tables d after c (committed trx position c) tables refl refl sound.tables;
+  chains = same_chains d after c (committed trx position c) tables refl refl sound.chains;
   rows = rows_still d after c.slot tables (committed_value sound.locked k) sound.rows;
   undo = λ s low. elim (cases_eq s trx) [
     | inl same ↦ subst (λ (n : ℕ). StandsFor after c.slot (finite.get after.active n) ((set_at trx None c.undo) n)) (sym same)
@@ -62,10 +65,14 @@ opened_sound = record {
     sizes = λ t n is. absurd (none-some n (sym (get-empty nat_cmp t) ∙ is));
     spaces = λ t behind none. set_at-other 0 t (Some system_size) (λ (n : ℕ). None) behind;
     listed = λ t there. absurd (let e = sym (ap is_some (get-empty nat_cmp t)) ∙ there in cc);
-    tables = λ j used. absurd (used refl);
-    once = λ i j used same. absurd (used refl);
-    free = λ j high. refl;
+    told = λ t n pages j is. absurd (none-some n (sym (get-empty nat_cmp t) ∙ is));
+    tables = λ j used. absurd (used (names_none j));
+    once = λ i j used same. absurd (used (names_none i));
     few = omega (arith, len-empty nat_cmp ℕ);
+  };
+  chains = record {
+    buckets = λ t n bucket is low. absurd (none-some n (sym (get-empty nat_cmp t) ∙ is));
+    none = λ t page none. refl;
   };
   rows = record {
     shown = λ t p j key is. absurd (nowhere key is);

@@ -1,7 +1,10 @@
 -- Each mini-transaction of the engine keeps its image formed, and what the plain donor is.
 use Rattle.std.proofs.Common.{◌≡◌, ◌≢◌, ℕ, ◌<◌, ◌≤◌, ◌+◌, ◌++◌, ◌^◌, List, [], ◌∷◌, length, refl, sym, ap, subst, ◌∙◌, arith, Option, Some, None, is_some}
-use Rattle.clone_trx.proofs.Common.{AllByRecursion, same_Some, Change, Commit, Record, UndoEntry, IsEntry, UndoSlot, header_page, record_page, capacity, records_of_begin, records_of_change, records_of_taking_back, records_of_end, Image, after_records, undo_slot_of, Contents, contents_of, HasContents, opening_records, create_records, commit_records, is_unused, change_is, undo_is, Donor, no_donor, changes_of, least_unused, TABLE_LIMIT, TRANSACTION_LIMIT, created, begun, TakesBack, Leaves, Commits, value_of, committed_rows, told, IsSound, IsKept, IsUndoSlot, StandsFor}
+use Rattle.clone_trx.proofs.Common.{AllByRecursion, same_Some, Change, Commit, Record, UndoEntry, IsEntry, UndoSlot, header_page, record_page, capacity, records_of_begin, records_of_change, records_of_taking_back, records_of_end, Image, after_records, all_pages, undo_slot_of, Contents, contents_of, HasContents, opening_records, commit_records, is_unused, change_is, undo_is, Donor, no_donor, changes_of, least_unused, TABLE_LIMIT, TRANSACTION_LIMIT, created, begun, TakesBack, Leaves, Commits, value_of, committed_rows, told, IsSound, IsKept, IsUndoSlot, StandsFor}
 use Rattle.std.specs.FinMap as finite
+use Rattle.clone_space.specs.Entries.{entry_in}
+use Rattle.clone_space.specs.Records.{records_of_create}
+use Rattle.clone_space.proofs.EntryLemmas.{length-dictionary}
 use Rattle.clone_row.specs.Slots as rows
 use Rattle.clone_contents.proofs.OpeningLemmas.{opening_is}
 use Rattle.clone_contents.proofs.CreateLemmas.{create_is}
@@ -22,12 +25,13 @@ kept {d} has sound = record { formed = has.0; sound = subst (IsSound d) (sym has
 pub opening_keeps : (lsn : ℕ) → IsKept no_donor (after_records lsn finite.empty opening_records)
 opening_keeps lsn = kept (opening_is lsn) opened_sound
 
-pub create_keeps : (lsn table buckets : ℕ) (d : Donor) (image : Image) → IsKept d image → finite.get d.tables table ≡ None → finite.len d.tables < TABLE_LIMIT → 1 ≤ table → table ≤ 1000000 → 1 ≤ buckets → buckets ≤ 1024
-    → IsKept (created table buckets d) (after_records lsn image (create_records (finite.len d.tables) table buckets))
-create_keeps lsn table buckets d image is none room low high some few =
+pub create_keeps : (lsn place table buckets : ℕ) (d : Donor) (image : Image) → IsKept d image → place < 62 → (entry_in (contents_of image).dictionary place).table ≡ 0 → finite.get d.tables table ≡ None → finite.len d.tables < TABLE_LIMIT → 1 ≤ table → table ≤ 1000000 → 1 ≤ buckets → buckets ≤ 1024
+    → IsKept (created table buckets d) (after_records lsn image (records_of_create place table buckets))
+create_keeps lsn place table buckets d image is within free none room low high some few =
     let used : table ≢ 0 = λ zero. omega (arith, zero, low) in
-    kept (create_is image lsn (finite.len d.tables) table buckets is.formed record { room = room; used = low; low = high; free = is.sound.tables.spaces table used none })
-    (created_sound d (contents_of image) (finite.len d.tables) table buckets is.sound none (λ i. finite.len d.tables) room used low high some few)
+    let long = length-dictionary (all_pages image 0 0) in
+    kept (create_is image lsn place table buckets is.formed record { room = within; used = low; low = high; fits = omega (arith, few); free = is.sound.tables.spaces table used none })
+    (created_sound d (contents_of image) place table buckets is.sound none free (omega (arith, long, within)) room used low high some few)
 
 pub begin_keeps : (lsn trx writer index : ℕ) (d : Donor) (image : Image) → IsKept d image → least_unused d.active ≡ Some trx → writer < 2 ^ 32 → index < 2 ^ 64
     → IsKept (begun trx writer index d) (after_records lsn image (records_of_begin (is_unused image 0 (header_page trx)) trx writer index))

@@ -1,10 +1,12 @@
 pub mod Common
 pub mod RowSlotLemmas
 pub mod UndoRecordLemmas
+pub mod ChainLemmas
 pub mod SoundChangeLemmas
 pub mod TakingBackLemmas
 pub mod OpenTransactionLemmas
 pub mod CommitLemmas
+pub mod DictionaryLemmas
 pub mod TableLemmas
 pub mod RecoveredRowLemmas
 pub mod KeptLemmas

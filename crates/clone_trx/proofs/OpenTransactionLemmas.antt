@@ -2,6 +2,7 @@
 use Rattle.std.proofs.Common.{◌≡◌, ◌<◌, ℕ, [], length, refl, sym, ap, subst, ◌∙◌, inl, inr, Option, Some, None}
 use Rattle.clone_trx.proofs.Common.{nat_cmp-IsAntisymmetric, nat_cmp_total, cases_eq, Commit, row_slot, UndoSlot, Contents, with_undo, set_at-same, set_at-other, Donor, begun, Leaves, Slots, HoldsRows, HoldsUndo, StandsFor, IsSound, committed_rows, value_of, get-removed_same, SameOthers, own-set, others-set, others-removed, begun_value, left_value, begun_locked, left_locked}
 use Rattle.std.specs.FinMap as finite
+use Rattle.clone_trx.proofs.ChainLemmas.{same_chains}
 use Rattle.clone_trx.proofs.UndoRecordLemmas.{stands_still}
 use Rattle.clone_trx.proofs.SoundChangeLemmas.{same_tables}
 
@@ -28,12 +29,14 @@ pub begun_sound : (d : Donor) (c : Contents) (trx writer index : ℕ) → trx < 
 begun_sound d c trx writer index small none sound =
     let after : Donor = begun trx writer index d in
     let new : Commit = record { writer = writer; index = index; changes = [] } in
+    let slot : UndoSlot = record { writer = writer; index = index; records = [] } in
     record {
       locked = begun_locked d trx writer index small sound.locked;
-      tables = same_tables d after c.named c.size refl sound.tables;
+      tables = same_tables d after c (with_undo trx (Some slot) c) refl refl refl sound.tables;
+      chains = same_chains d after c (with_undo trx (Some slot) c) refl refl refl sound.chains;
       rows = rows_still d after c.slot refl (begun_value d trx writer index sound.locked none) sound.rows;
-      undo = undo_one d after c trx (Some (record { writer = writer; index = index; records = [] })) refl (others-set d after trx new refl)
-          (subst (λ (o : Option Commit). StandsFor after c.slot o (Some (record { writer = writer; index = index; records = [] }))) (sym (own-set d after trx new refl)) (record { records = []; is = refl; tells = tt })) sound.undo;
+      undo = undo_one d after c trx (Some slot) refl (others-set d after trx new refl)
+          (subst (λ (o : Option Commit). StandsFor after c.slot o (Some slot)) (sym (own-set d after trx new refl)) (record { records = []; is = refl; tells = tt })) sound.undo;
       position = sound.position;
     }
 
@@ -44,7 +47,8 @@ left_sound d after c trx l sound =
     let gone : finite.get after.active trx ≡ None = ap (λ m. finite.get m trx) active ∙ get-removed_same nat_cmp_total nat_cmp-IsAntisymmetric d.active trx in
     record {
       locked = left_locked sound.locked l;
-      tables = same_tables d after c.named c.size tables sound.tables;
+      tables = same_tables d after c (with_undo trx None c) tables refl refl sound.tables;
+      chains = same_chains d after c (with_undo trx None c) tables refl refl sound.chains;
       rows = rows_still d after c.slot tables (left_value sound.locked l) sound.rows;
       undo = undo_one d after c trx None (ap committed_rows l.is) (others-removed d after trx active) (subst (λ (o : Option Commit). StandsFor after c.slot o None) (sym gone) refl) sound.undo;
       position = sound.position ∙ ap (λ (x : Donor). length x.binlog) (sym l.is);

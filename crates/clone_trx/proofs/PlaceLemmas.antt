@@ -7,7 +7,7 @@ use Rattle.clone_page.specs.Slots.{slot_count}
 use Rattle.clone_row.specs.Slots.{Slot, unused, present, absent, damaged, slot_in, bound_key, Finds, FindsFree}
 use Rattle.clone_trx.specs.Places.{is_key, is_free, place_in}
 
-finds_first : (P : ℕ → Bool) (a n j : ℕ) → a ≤ j → j < a + n → P j ≡ true → ((k : ℕ) → k < j → P k ≡ false) → find P (range_with_len a n) ≡ Some j
+pub finds_first : (P : ℕ → Bool) (a n j : ℕ) → a ≤ j → j < a + n → P j ≡ true → ((k : ℕ) → k < j → P k ≡ false) → find P (range_with_len a n) ≡ Some j
 finds_first P a zero j low high passes fails = absurd (omega (arith, low, high))
 finds_first P a (suc n) j low high passes fails = by (cases_eq a j) (λ less. finds_first P (a + 1) n j (omega (arith, less)) (omega (arith, high)) passes fails)
   where
@@ -17,7 +17,7 @@ finds_first P a (suc n) j low high passes fails = by (cases_eq a j) (λ less. fi
         let less : a < j = omega (arith, low, apart) in
         ap (λ (b : Bool). cond b (Some a) (find P (range_with_len (a + 1) n))) (fails a less) ∙ behind less
 
-finds_none : (P : ℕ → Bool) (a n : ℕ) → ((k : ℕ) → k < a + n → P k ≡ false) → find P (range_with_len a n) ≡ None
+pub finds_none : (P : ℕ → Bool) (a n : ℕ) → ((k : ℕ) → k < a + n → P k ≡ false) → find P (range_with_len a n) ≡ None
 finds_none P a zero fails = refl
 finds_none P a (suc n) fails = ap (λ (b : Bool). cond b (Some a) (find P (range_with_len (a + 1) n))) (fails a (omega arith)) ∙ finds_none P (a + 1) n (λ k less. fails k (omega (arith, less)))
 

@@ -16,10 +16,19 @@ use Rattle.clone_trx.proofs.TakingBackLemmas.{bound_there, taken_rows}
 abbrev changes_in : Option Commit → List Change
 changes_in o = option_map_or (λ (c : Commit). c.changes) o []
 
+-- the dictionary, the sizes of spaces and the next pages are as they were
+pub record SameSpaces (before after : Contents) : Type 0 where
+  pub dictionary : after.dictionary ≡ before.dictionary
+  pub size : after.size ≡ before.size
+  pub next : after.next ≡ before.next
+
+after_same : (before after last : Contents) → last.dictionary ≡ after.dictionary → last.size ≡ after.size → last.next ≡ after.next → SameSpaces before after → SameSpaces before last
+after_same before after last dictionary size next same = record { dictionary = dictionary ∙ same.dictionary; size = size ∙ same.size; next = next ∙ same.next }
+
 -- what is sound but for the undo slots
 record IsShown (d : Donor) (c : Contents) : Type 0 where
   locked : IsLocked d
-  tables : HoldsTables d c.named c.size
+  tables : HoldsTables d c
   rows : HoldsRows d c.slot
 
 -- Changes of a transaction are taken back, all but the first ones.
@@ -33,6 +42,7 @@ record IsUndone (d : Donor) (trx : ℕ) (commit : Commit) (first : List Change) 
   shown : IsShown donor (contents_of now)
   undo : (contents_of now).undo ≡ (contents_of image).undo
   keeps : KeepsBound (contents_of image).slot (contents_of now).slot
+  spaces : SameSpaces (contents_of image) (contents_of now)
 
 -- One change is taken back.
 module _ (d : Donor) (trx : ℕ) (commit : Commit) (first : List Change) (x : Change) (image now : Image) (e : UndoEntry) (tells : TellsChange (contents_of image).slot (after_changes (committed_rows d) first) x e) (u : IsUndone d trx commit (first ++ x ∷ []) image now) where
@@ -71,9 +81,10 @@ module _ (d : Donor) (trx : ℕ) (commit : Commit) (first : List Change) (x : Ch
     others = λ n other. others-set u.donor after trx fewer refl n other ∙ u.others n other;
     locks = u.locks;
     history = u.history;
-    shown = subst (IsShown after) (sym edit.1) (record { locked = taken_locked u.shown.locked t; tables = same_tables u.donor after c.named c.size refl u.shown.tables; rows = rows.0 });
+    shown = subst (IsShown after) (sym edit.1) (record { locked = taken_locked u.shown.locked t; tables = same_tables u.donor after c (undone e c) refl refl refl u.shown.tables; rows = rows.0 });
     undo = ap (λ (a : Contents). a.undo) edit.1 ∙ u.undo;
     keeps = subst (λ (a : Contents). KeepsBound (contents_of image).slot a.slot) (sym edit.1) (λ table page place key was. rows.1 table page place key (u.keeps table page place key was));
+    spaces = subst (SameSpaces (contents_of image)) (sym edit.1) (after_same (contents_of image) c (undone e c) refl refl refl u.spaces);
   }
 
 undone_all : (d : Donor) (trx : ℕ) (commit : Commit) (first cs : List Change) (es : List UndoEntry) (image : Image) → IsFormed image → IsShown d (contents_of image) → finite.get d.active trx ≡ Some commit → commit.changes ≡ first ++ cs
@@ -88,6 +99,7 @@ undone_all d trx commit first [] [] image formed shown active split tells = reco
   shown = shown;
   undo = refl;
   keeps = λ table page place key was. was;
+  spaces = record { dictionary = refl; size = refl; next = refl };
 }
 undone_all d trx commit first [] (e ∷ es) image formed shown active split tells = absurd tells
 undone_all d trx commit first (x ∷ cs) [] image formed shown active split tells = absurd tells
@@ -106,6 +118,7 @@ record IsTakenBack (d : Donor) (first : Image) (n : ℕ) (now : Image) : Type 0 
   shown : IsShown donor (contents_of now)
   undo : (s : ℕ) → n ≤ s → (contents_of now).undo s ≡ (contents_of first).undo s
   keeps : KeepsBound (contents_of first).slot (contents_of now).slot
+  spaces : SameSpaces (contents_of first) (contents_of now)
 
 -- the number of no open transaction
 taken_none : (d : Donor) (first : Image) (n : ℕ) (now : Image) → finite.get d.active n ≡ None → IsTakenBack d first n now → IsTakenBack d first (suc n) now
@@ -121,6 +134,7 @@ taken_none d first n now none is = record {
   shown = is.shown;
   undo = λ s high. is.undo s (omega (arith, high));
   keeps = is.keeps;
+  spaces = is.spaces;
 }
 
 -- an open transaction
@@ -149,9 +163,10 @@ module _ (d : Donor) (first : Image) (n : ℕ) (now : Image) (commit : Commit) (
     ];
     above = λ s high. u.others s (λ same. omega (arith, same, high)) ∙ is.above s (omega (arith, high));
     history = u.history ∙ is.history;
-    shown = subst (IsShown u.donor) (sym freeing.1) (record { locked = u.shown.locked; tables = u.shown.tables; rows = u.shown.rows });
+    shown = subst (IsShown u.donor) (sym freeing.1) (record { locked = u.shown.locked; tables = same_tables u.donor u.donor (contents_of undone_now) (with_undo n None (contents_of undone_now)) refl refl refl u.shown.tables; rows = u.shown.rows });
     undo = λ s high. ap (λ (a : Contents). a.undo s) freeing.1 ∙ set_at-other n s None (contents_of undone_now).undo (λ same. omega (arith, same, high)) ∙ ap (λ f. f s) u.undo ∙ is.undo s (omega (arith, high));
     keeps = subst (λ (a : Contents). KeepsBound (contents_of first).slot a.slot) (sym freeing.1) (λ table page place key was. u.keeps table page place key (is.keeps table page place key was));
+    spaces = subst (SameSpaces (contents_of first)) (sym freeing.1) (after_same (contents_of first) (contents_of now) (with_undo n None (contents_of undone_now)) u.spaces.dictionary u.spaces.size u.spaces.next is.spaces);
   }
 
 module _ (d : Donor) (first : Image) (formed : IsFormed first) (sound : IsSound d (contents_of first)) where
@@ -176,6 +191,7 @@ module _ (d : Donor) (first : Image) (formed : IsFormed first) (sound : IsSound 
     shown = record { locked = sound.locked; tables = sound.tables; rows = sound.rows };
     undo = λ s high. refl;
     keeps = λ table page place key was. was;
+    spaces = record { dictionary = refl; size = refl; next = refl };
   }
   taken (suc n) le = next n (taken_back_below n first) (omega (arith, le)) (taken n (omega (arith, le)))
 
@@ -225,6 +241,11 @@ module _ (d : Donor) (first now : Image) (is : IsTakenBack d first 64 now) where
 pub recovered_rows : (d : Donor) (image : Image) → IsFormed image → IsSound d (contents_of image) → HasRows (page_of (recovered image)) (committed_rows d)
 unfolding recovered
 recovered_rows d image formed sound = rows_are d image (taken_back_below 64 image) (taken d image formed sound 64 (omega arith))
+
+-- Recovery leaves the image formed, with the chains that it had.
+pub recovered_spaces : (d : Donor) (image : Image) → IsFormed image → IsSound d (contents_of image) → IsFormed (recovered image) × SameSpaces (contents_of image) (contents_of (recovered image))
+unfolding recovered
+recovered_spaces d image formed sound = let is = taken d image formed sound 64 (omega arith) in (is.formed, is.spaces)
 
 -- the rows that undo records tell of are there
 rows_there : (d : Donor) (now : Image) (old : Rows) (cs : List Change) (es : List UndoEntry) → IsShown d (contents_of now) → TellsChanges (contents_of now).slot old cs es → AllByRecursion (λ e. IsThere now e.table e.page) es

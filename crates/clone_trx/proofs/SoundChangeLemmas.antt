@@ -2,6 +2,9 @@
 use Rattle.std.proofs.Common.{◌≡◌, ◌<◌, ◌≤◌, ◌%◌, ◌⊎◌, ◌++◌, ℕ, List, [], ◌∷◌, length, refl, sym, ap, subst, ◌∙◌, arith, inl, inr, Option, Some, None, is_some, IfSome, unwrap_or, mod-lt}
 use Rattle.clone_trx.proofs.Common.{cases_eq, after_changes, Change, Commit, row_slot, bound_key, UndoEntry, IsEntry, UndoSlot, Contents, told_value, MayChange, changed, telling, set_at-same, set_at-other, slot-same, CHANGE_LIMIT, TABLE_LIMIT, Donor, changes_of, with_change, Changes, HoldsTables, HoldsRows, IsUndoSlot, StandsFor, IsSound, TellsChange, TellsChanges, committed_rows, value_of, page_number, told, changes_of_active, own-set, others-set, own_value, changed_value, changed_value_other, changed_locked}
 use Rattle.std.specs.FinMap as finite
+use Rattle.clone_space.specs.Entries.{entry_in}
+use Rattle.clone_contents.specs.Contents.{named}
+use Rattle.clone_trx.proofs.ChainLemmas.{same_chains}
 use Rattle.clone_trx.proofs.RowSlotLemmas.{MayTake, KeepsBound, SetsSlot, bound-row_slot, rows_set, kept}
 use Rattle.clone_trx.proofs.UndoRecordLemmas.{counted, in_range, tells_on, tells_push, own_slot, stands_open, stands_still}
 
@@ -11,16 +14,25 @@ told-value d table key place None = refl
 told-value d table key place (Some value) = refl
 
 -- the tables stay
-pub same_tables : (d after : Donor) (named : ℕ → ℕ) (size : ℕ → Option ℕ) → after.tables ≡ d.tables → HoldsTables d named size → HoldsTables after named size
-same_tables d after named size same holds = record {
-  sizes = λ t n is. holds.sizes t n (ap (λ m. finite.get m t) (sym same) ∙ is);
-  spaces = λ t first none. holds.spaces t first (ap (λ m. finite.get m t) (sym same) ∙ none);
-  listed = λ t there. holds.listed t (ap (λ m. is_some (finite.get m t)) (sym same) ∙ there);
-  tables = λ j used. ap (λ m. is_some (finite.get m (named j))) same ∙ holds.tables j used;
-  once = holds.once;
-  free = λ j high. holds.free j (subst (λ m. finite.len m ≤ j) same high);
+pub same_tables : (d after : Donor) (c now : Contents) → after.tables ≡ d.tables → now.dictionary ≡ c.dictionary → now.size ≡ c.size → HoldsTables d c → HoldsTables after now
+same_tables d after c now same entries size holds = record {
+  sizes = λ t n is. let had = holds.sizes t n (was t ∙ is) in (sized t ∙ had.0, had.1, had.2, had.3, had.4);
+  spaces = λ t first none. sized t ∙ holds.spaces t first (was t ∙ none);
+  listed = λ t there. let had = holds.listed t (ap is_some (was t) ∙ there) in (had.0, names had.0 ∙ had.1);
+  told = λ t n pages j is size_is name. ap (λ l. entry_in l j) entries ∙ holds.told t n pages j (was t ∙ is) (sym (sized t) ∙ size_is) (sym (names j) ∙ name);
+  tables = λ j used. ap is_some (sym (was (named now j))) ∙ ap (λ t. is_some (finite.get d.tables t)) (names j) ∙ holds.tables j (λ z. used (names j ∙ z));
+  once = λ i j used alike. holds.once i j (λ z. used (names i ∙ z)) (sym (names i) ∙ alike ∙ names j);
   few = subst (λ m. finite.len m ≤ TABLE_LIMIT) (sym same) holds.few;
 }
+  where
+    was : (t : ℕ) → finite.get d.tables t ≡ finite.get after.tables t
+    was t = ap (λ m. finite.get m t) (sym same)
+
+    sized : (t : ℕ) → now.size t ≡ c.size t
+    sized t = ap (λ f. f t) size
+
+    names : (j : ℕ) → named now j ≡ named c j
+    names j = ap (λ l. (entry_in l j).table) entries
 
 -- a change is made for which there is no cause against it, at this place of its bucket's page
 pub record Puts (d after : Donor) (c : Contents) (trx : ℕ) (change : Change) (place : ℕ) : Type 0 where
@@ -113,7 +125,8 @@ module _ (d after : Donor) (c : Contents) (trx : ℕ) (change : Change) (at : �
   pub put_sound : IsSound after new
   put_sound = record {
     locked = changed_locked sound.locked g.made g.lock g.room;
-    tables = same_tables d after c.named c.size tables sound.tables;
+    tables = same_tables d after c new tables refl refl sound.tables;
+    chains = same_chains d after c new tables refl refl sound.chains;
     rows = rows.0;
     undo = λ s low. elim (cases_eq s trx) [
       | inl same ↦ subst (λ (n : ℕ). StandsFor after new.slot (finite.get after.active n) (new.undo n)) (sym same) (stands_open after new.slot (finite.get after.active trx) (new.undo trx) (with_change change commit) (own-set d after trx (with_change change commit) active) own_now)

@@ -2,12 +2,13 @@
 use Rattle.std.proofs.Common.{◌≡◌, ◌<◌, ◌≤◌, ◌+◌, ◌++◌, ℕ, List, [], ◌∷◌, length, refl, sym, ap, subst, ◌∙◌, arith, inl, inr, Option, Some, is_some}
 use Rattle.clone_trx.proofs.Common.{cases_eq, length_push, same_Some, after_changes, Commit, row_slot, UndoEntry, capacity, UndoSlot, Contents, HasPage, told_value, undone, with_slot, MayTakeBack, taken_back, telling, set_at-same, set_at-other, Donor, TakesBack, IsBound, HoldsTables, HoldsRows, IsUndoSlot, StandsFor, IsSound, TellsChange, TellsChanges, committed_rows, IsLocked, value_of, own-set, others-set, taken_value, taken_value_other, taken_locked}
 use Rattle.std.specs.FinMap as finite
+use Rattle.clone_trx.proofs.ChainLemmas.{same_chains}
 use Rattle.clone_trx.proofs.RowSlotLemmas.{KeepsBound, SetsSlot, rows_set, kept}
 use Rattle.clone_trx.proofs.UndoRecordLemmas.{counted, tells_on, tells_split, own_slot, stands_open, stands_still}
 use Rattle.clone_trx.proofs.SoundChangeLemmas.{same_tables}
 
 -- the page of a slot that is bound is there
-pub bound_there : (d : Donor) (c : Contents) (e : UndoEntry) → HoldsTables d c.named c.size → HoldsRows d c.slot → IsBound c.slot e.table e.page e.slot e.key → HasPage c e.table e.page
+pub bound_there : (d : Donor) (c : Contents) (e : UndoEntry) → HoldsTables d c → HoldsRows d c.slot → IsBound c.slot e.table e.page e.slot e.key → HasPage c e.table e.page
 bound_there d c e tables rows bound =
     let own = rows.own e.table e.page e.slot e.key bound in
     let sizes = tables.sizes e.table own.0 own.1 in
@@ -84,7 +85,8 @@ module _ (d after : Donor) (c : Contents) (trx left : ℕ) (slot : UndoSlot) (fr
   pub taken_sound : IsSound after new
   taken_sound = record {
     locked = taken_locked sound.locked t;
-    tables = same_tables d after c.named c.size (ap (λ (x : Donor). x.tables) t.is) sound.tables;
+    tables = same_tables d after c new (ap (λ (x : Donor). x.tables) t.is) refl refl sound.tables;
+    chains = same_chains d after c new (ap (λ (x : Donor). x.tables) t.is) refl refl sound.chains;
     rows = rows.0;
     undo = λ s low. elim (cases_eq s trx) [
       | inl same ↦ subst (λ (n : ℕ). StandsFor after new.slot (finite.get after.active n) (new.undo n)) (sym same) (stands_open after new.slot (finite.get after.active trx) (new.undo trx) fewer (own-set d after trx fewer active) own_now)

@@ -1,7 +1,6 @@
 -- The way of each call: which pages it reads, in their order, and what it writes.
 use Rattle.std.specs.Prelude.{ℕ, ◌==◌, ◌&&◌, ◌-◌, ◌+◌, nat_lt, nat_le, Bool, if◌then◌else◌, List, length, None, Some, unwrap_or, slice_get}
 use Rattle.std.specs.declared.option.Option.{Option}
-use Rattle.std.specs.FinMap as finite
 use Rattle.clone_base.specs.declared.limits.TheConstants.{VALUE_LIMIT}
 use Rattle.clone_model.specs.declared.change.Change.{Change}
 use Rattle.clone_page.specs.Header.{kind_of}
@@ -13,11 +12,13 @@ use Rattle.clone_undo.specs.Entries.{UndoEntry}
 use Rattle.clone_undo.specs.Places.{header_page, record_page}
 use Rattle.clone_undo.specs.Slots.{entry_on}
 use Rattle.clone_undo.specs.Changes.{records_of_begin, records_of_change, records_of_taking_back, records_of_end}
-use Rattle.clone_contents.specs.Records.{create_records, commit_records}
+use Rattle.clone_space.specs.Entries.{dictionary}
+use Rattle.clone_space.specs.Records.{records_of_create}
+use Rattle.clone_contents.specs.Records.{commit_records}
 use Rattle.clone_plain.specs.declared.refusal.Cause.TheVariants.{SpaceFull}
 use Rattle.clone_plain.specs.Causes.{least_unused}
 use Rattle.clone_plain.specs.Donor.{Donor, changes_of}
-use Rattle.clone_trx.specs.Places.{place_in, held_value, told, page_number}
+use Rattle.clone_trx.specs.Places.{free_entry, place_in, held_value, told, page_number}
 use Rattle.clone_trx.specs.Ways.{Way, reads, stops, writes, makes, ends}
 
 -- the page of a row's bucket
@@ -32,11 +33,14 @@ system_page number = record { space = 0; number = number }
 abbrev pub is_new : List ℕ → Bool
 is_new page = kind_of page == 0
 
--- A new table takes the least free entry of the dictionary, which is behind those of the tables
--- that are there.
+-- the place of the first free entry on the system page; where there is none, the first of all
+abbrev pub free_place : List ℕ → ℕ
+free_place page = unwrap_or (free_entry (dictionary page)) 0
+
+-- A new table takes the first free entry of the dictionary.
 abbrev pub create_way : Donor → ℕ → ℕ → Way
 create_way d table buckets =
-    reads (system_page 0) (λ page. makes (create_records (finite.len d.tables) table buckets))
+    reads (system_page 0) (λ page. makes (records_of_create (free_place page) table buckets))
 
 -- A transaction that begins takes its undo slot. The slot's first page is made first where it is
 -- new.

@@ -1,14 +1,21 @@
--- Where the row of a key goes on a page, what is found there, and what the undo record of a change
--- tells.
+-- Where a table goes in the dictionary. Where the row of a key goes on a page, what is found there,
+-- and what the undo record of a change tells.
 use Rattle.std.specs.Prelude.{ℕ, ◌≡◌, ◌<◌, ◌⊎◌, ◌==◌, ◌%◌, Bool, false, true, List, [], None, Some, unwrap_or, option_map, option_and_then}
 use Rattle.std.specs.declared.option.Option.{Option}
 use Rattle.std.specs.Option.{option_or}
 use Rattle.std.specs.List.{range_with_len, find}
 use Rattle.std.specs.FinMap as finite
+use Rattle.clone_page.specs.Dictionary.{entry_count}
 use Rattle.clone_page.specs.Slots.{slot_count}
+use Rattle.clone_space.specs.declared.entry.TableEntry.{TableEntry}
+use Rattle.clone_space.specs.Entries.{entry_in}
 use Rattle.clone_row.specs.Slots.{Slot, unused, present, absent, damaged, slots, slot_in, row_in, bound_key, Finds, FindsFree}
 use Rattle.clone_undo.specs.Entries.{UndoEntry}
 use Rattle.clone_plain.specs.Donor.{Donor}
+
+-- the place of the first free entry of the dictionary, or none where each entry names a table
+unfoldable pub free_entry : List TableEntry → Option ℕ
+free_entry list = find (λ j. (entry_in list j).table == 0) (range_with_len 0 entry_count)
 
 -- the page of a row's bucket, by its number in the space of its table
 abbrev pub page_number : Donor → ℕ → ℕ → ℕ

@@ -1,17 +1,20 @@
 -- How the contents of an engine's image keep what the plain donor is. No byte is mentioned.
-use Rattle.std.specs.Prelude.{ℕ, ◌≡◌, ◌≢◌, ◌<◌, ◌≤◌, ◌%◌, List, [], ◌∷◌, length, None, Some, IsSome, MatchOption}
+use Rattle.std.specs.Prelude.{ℕ, ◌≡◌, ◌≢◌, ◌<◌, ◌≤◌, ◌%◌, ◌==◌, List, [], ◌∷◌, length, None, Some, IsSome, MatchOption}
 use Rattle.std.specs.declared.option.Option.{Option}
+use Rattle.std.specs.List.{AllByRecursion, IsDistinct}
 use Rattle.std.specs.FinMap as finite
 use Rattle.clone_base.specs.declared.limits.TheConstants.{TRANSACTION_LIMIT, TABLE_LIMIT}
 use Rattle.clone_model.specs.History.{Rows, after_change}
 use Rattle.clone_model.specs.declared.change.Change.{Change}
 use Rattle.clone_model.specs.declared.change.Commit.{Commit}
 use Rattle.clone_model.specs.declared.line.TheConstants.{HIGHEST_TABLE, MOST_BUCKETS}
+use Rattle.clone_space.specs.Entries.{entry_in, AreAmong, AreOnce}
+use Rattle.clone_row.specs.Chains.{IsChain}
 use Rattle.clone_row.specs.Slots.{Slot, row_slot, bound_key, unused}
 use Rattle.clone_undo.specs.Entries.{UndoEntry, IsEntry}
 use Rattle.clone_undo.specs.Slots.{UndoSlot}
 use Rattle.clone_image.specs.Image.{Image}
-use Rattle.clone_contents.specs.Contents.{Contents, contents_of, told_value}
+use Rattle.clone_contents.specs.Contents.{Contents, contents_of, named, told_value, HasPage}
 use Rattle.clone_contents.specs.Formed.{IsFormed}
 use Rattle.clone_plain.specs.Donor.{Donor}
 use Rattle.clone_plain.specs.Locked.{IsLocked, committed_rows, value_of}
@@ -24,17 +27,34 @@ Slots = ℕ → ℕ → ℕ → Slot
 abbrev pub IsBound : Slots → ℕ → ℕ → ℕ → ℕ → Type 0
 IsBound slot table page place key = bound_key (slot table page place) ≡ Some key
 
--- Each table stands in one entry of the dictionary and has a space with a page for each bucket, and
--- there are no others. The entries that are used are the first ones.
-pub record HoldsTables (d : Donor) (named : ℕ → ℕ) (size : ℕ → Option ℕ) : Type 0 where
-  pub sizes : (table count : ℕ) → finite.get d.tables table ≡ Some count → (size table ≡ Some count)
-      × (1 ≤ table) × (table ≤ HIGHEST_TABLE) × (1 ≤ count) × (count ≤ MOST_BUCKETS)
-  pub spaces : (table : ℕ) → table ≢ 0 → finite.get d.tables table ≡ None → size table ≡ None
-  pub listed : (table : ℕ) → IsSome (finite.get d.tables table) → (j : ℕ) × (named j ≡ table)
-  pub tables : (j : ℕ) → named j ≢ 0 → IsSome (finite.get d.tables (named j))
-  pub once : (i j : ℕ) → named i ≢ 0 → named i ≡ named j → i ≡ j
-  pub free : (j : ℕ) → finite.len d.tables ≤ j → named j ≡ 0
+-- Each table stands in one entry of the dictionary, which tells how many buckets the table has, and
+-- how many pages its space has: one for each bucket. There are no other tables.
+pub record HoldsTables (d : Donor) (c : Contents) : Type 0 where
+  pub sizes : (table count : ℕ) → finite.get d.tables table ≡ Some count
+      → (c.size table ≡ Some count) × (1 ≤ table) × (table ≤ HIGHEST_TABLE) × (1 ≤ count)
+      × (count ≤ MOST_BUCKETS)
+  pub spaces : (table : ℕ) → table ≢ 0 → finite.get d.tables table ≡ None → c.size table ≡ None
+  pub listed : (table : ℕ) → IsSome (finite.get d.tables table) → (j : ℕ) × (named c j ≡ table)
+  pub told : (table count pages j : ℕ) → finite.get d.tables table ≡ Some count
+      → c.size table ≡ Some pages → named c j ≡ table
+      → entry_in c.dictionary j ≡ record { table = table; buckets = count; pages = pages }
+  pub tables : AreAmong d.tables c.dictionary
+  pub once : AreOnce c.dictionary
   pub few : finite.len d.tables ≤ TABLE_LIMIT
+
+-- A page of a table and those behind it are a chain up to its end. Each of them is there, and none
+-- stands on the chain twice.
+pub record HasChain (c : Contents) (table first : ℕ) : Type 0 where
+  pub behind : List ℕ
+  pub chain : IsChain (c.next table) first behind
+  pub there : AllByRecursion (HasPage c table) (first ∷ behind)
+  pub once : IsDistinct (λ (p q : ℕ). p == q) (first ∷ behind)
+
+-- Each bucket of a table has a chain. Where there is no space, no page is behind another.
+pub record HoldsChains (d : Donor) (c : Contents) : Type 0 where
+  pub buckets : (table count bucket : ℕ) → finite.get d.tables table ≡ Some count → bucket < count
+      → HasChain c table bucket
+  pub none : (table page : ℕ) → c.size table ≡ None → c.next table page ≡ None
 
 -- A slot that is bound to a key shows the key's value, and all others were never used. A key is
 -- bound once at most, on the page of its bucket, and it is wherever it has a value.
@@ -86,7 +106,8 @@ HoldsUndo d slot undo =
 -- all of it, with the number of commits
 pub record IsSound (d : Donor) (c : Contents) : Type 0 where
   pub locked : IsLocked d
-  pub tables : HoldsTables d c.named c.size
+  pub tables : HoldsTables d c
+  pub chains : HoldsChains d c
   pub rows : HoldsRows d c.slot
   pub undo : HoldsUndo d c.slot c.undo
   pub position : c.position ≡ length d.binlog

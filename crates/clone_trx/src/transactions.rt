@@ -11,6 +11,7 @@ ghost use Rattle.clone_model.specs.History.{fold};
 ghost use Rattle.clone_image.specs.Image.{Image, page_of};
 ghost use Rattle.clone_image.specs.Recovered.{recovered, undo_slot_of};
 ghost use Rattle.clone_image.specs.Rows.{HasRows};
+ghost use Rattle.clone_contents.specs.Contents.{contents_of};
 ghost use Rattle.clone_buffer.specs.Buffered.{Buffered, image_of};
 ghost use Rattle.clone_plain.specs.Donor.{Donor, no_donor, history};
 ghost use Rattle.clone_plain.specs.Causes.{create_cause, begin_cause, row_locked, least_unused};
@@ -18,7 +19,7 @@ ghost use Rattle.clone_plain.specs.Effects.{created, Begins};
 ghost use Rattle.clone_plain.specs.declared.refusal.Cause.TheVariants.{DiskFault};
 ghost use Rattle.clone_plain.specs.declared.refusal.EngineRefusal.TheVariants.{Because};
 ghost use Rattle.clone_trx.specs.Calls.{create_way, begin_way};
-ghost use Rattle.clone_trx.specs.Sound.{IsKept};
+ghost use Rattle.clone_trx.specs.Sound.{HasChain, IsKept};
 ghost use Rattle.clone_trx.specs.Kept.{IsSafe, Keeps};
 ghost use Rattle.clone_trx.specs.Spaces.{IsPageOf, spaces_of};
 ghost use Rattle.clone_trx.specs.Ways.{Answers, StaysStanding};
@@ -145,7 +146,8 @@ impl Transactions {
 
 /// What an image that keeps a donor tells: its rows, once the changes of every open transaction are
 /// taken back, are those that the history leaves; no undo slot has more records than fit, and each
-/// is in its ranges. It has each page of the donor's spaces.
+/// is in its ranges. It has each page of the donor's spaces, and each bucket of a table has a chain
+/// that comes to its end.
 pub fn kept_laws()
     ensures rows { (d : Donor) (image : Image) → IsKept d image
         → HasRows (page_of (recovered image)) (fold (history d)) }
@@ -157,4 +159,7 @@ pub fn kept_laws()
         → length slot.records ≤ capacity }
     ensures pages { (d : Donor) (image : Image) (space number : ℕ) → IsKept d image
         → IsPageOf d space number → IsSome (page_of image space number) }
+    ensures chains { (d : Donor) (image : Image) (table count bucket : ℕ) → IsKept d image
+        → finite.get d.tables table ≡ Some count → bucket < count
+        → HasChain (contents_of image) table bucket }
 {}

@@ -2,30 +2,31 @@ ghost use Rattle.std.specs.Prelude.{Err, IsTrue, None, OnErr, OnOk, ◌≡◌, �
 ghost use Rattle.clone_outside.specs.Causes.{Rose};
 ghost use Rattle.clone_outside.specs.Disk.{IsBeforeOrAfter, Steps, with_created};
 ghost use Rattle.clone_model.specs.declared.line.TheConstants.{HIGHEST_TABLE, MOST_BUCKETS};
-ghost use Rattle.clone_contents.specs.Records.{create_records};
+ghost use Rattle.clone_space.specs.Records.{records_of_create};
 ghost use Rattle.clone_buffer.specs.Buffered.{image_of};
 ghost use Rattle.clone_plain.specs.Causes.{create_cause};
 ghost use Rattle.clone_plain.specs.Effects.{created};
 ghost use Rattle.clone_plain.specs.declared.refusal.Cause.TheVariants.{DiskFault};
 ghost use Rattle.clone_plain.specs.declared.refusal.EngineRefusal.TheVariants.{Because};
-ghost use Rattle.clone_trx.specs.Calls.{create_way, system_page};
-ghost use Rattle.clone_trx.specs.Ways.{Answers, Carries, Makes, StaysOutsideFiles};
-ghost use Rattle.clone_trx.specs.Kept.{HasNoFresh, IsHeld, Keeps};
+ghost use Rattle.clone_trx.specs.Calls.{create_way, free_place, system_page};
+ghost use Rattle.clone_trx.specs.Ways.{Answers, Carries, Makes, StaysOutsideFiles, page_in};
+ghost use Rattle.clone_trx.specs.Kept.{Has, HasNoFresh, Keeps};
 ghost use Rattle.clone_trx.specs.Sound.{IsKept};
 ghost use Rattle.std.specs.FinMap as finite;
 
 use crate::Transactions;
 use crate::hold::{check_room, hold, refused_by, release, write_space_held};
-use crate::records::creation;
 use clone_buffer::Buffer;
 use clone_model::{BucketCount, TableNumber};
 use clone_outside::PageDisk;
 use clone_plain::{Cause, EngineRefusal, TABLE_LIMIT};
+use clone_space::{create_records, least_free};
 
 impl Transactions {
-    /// Makes an empty table. Refused where a table has this number, where 62 tables are there,
-    /// where there is no frame for the system page, where the log has no room, and where the disk
-    /// fails; then a file of the table's number may stay.
+    /// Makes an empty table, which takes the first free entry of the dictionary. Refused where a
+    /// table has this number, where 62 tables are there, where there is no frame for the system
+    /// page, where the log has no room, and where the disk fails; then a file of the table's number
+    /// may stay.
     pub fn create<D: PageDisk>(
         &mut self,
         buffer: &mut Buffer,
@@ -61,7 +62,7 @@ impl Transactions {
         }
         let at = hold(buffer, disk, 0, 0)?;
         buffer.laws();
-        let created = self.create_held(buffer, table, buckets, disk);
+        let created = self.create_held(buffer, table, buckets, at, disk);
         release(buffer, at);
         created
     }
@@ -72,16 +73,18 @@ impl Transactions {
         buffer: &mut Buffer,
         table: u32,
         buckets: u32,
+        at: u32,
         disk: &mut D,
     ) -> Result<(), EngineRefusal>
         requires cause { create_cause self.old table ≡ None }
         requires table { (1 ≤ table) × (table ≤ HIGHEST_TABLE) }
         requires buckets { (1 ≤ buckets) × (buckets ≤ MOST_BUCKETS) }
         requires kept { IsTrue buffer.old.right → IsKept self.old (image_of buffer.old) }
-        requires held { IsHeld (system_page 0) buffer.old.pool.frames }
+        requires held { Has (system_page 0) at buffer.old.pool.frames }
         requires fresh { HasNoFresh table buffer.old.pool.frames }
-        ensures written { Makes (create_records (finite.len self.old.tables) table buckets)
-            buffer.old buffer.new result }
+        ensures written { Makes
+            (records_of_create (free_place (page_in at buffer.old)) table buckets) buffer.old
+            buffer.new result }
         ensures donor { Carries self.old self.new result
             (λ _. self.new ≡ created table buckets self.old) }
         ensures kept { IsTrue buffer.new.right → IsKept self.new (image_of buffer.new) }
@@ -100,7 +103,8 @@ impl Transactions {
             (D.told disk.old) (D.told disk.new) }
     {
         buffer.laws();
-        let records = creation(self.tables.len(), table, buckets);
+        let place = least_free(buffer.frame(at)).unwrap_or(0);
+        let records = create_records(place, table, buckets);
         check_room(buffer, &records)?;
         self.tables.insert(table, buckets)?;
         if let Err(refusal) = disk.create(table, buckets) {

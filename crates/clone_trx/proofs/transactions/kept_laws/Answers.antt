@@ -14,3 +14,6 @@ returns-clause-counts c = λ d image s slot kept low is. (known_records d image 
 
 pub returns-clause-pages : goal.returns-clause-pages
 returns-clause-pages c = λ d image space number kept page. page_there d image space number kept page
+
+pub returns-clause-chains : goal.returns-clause-chains
+returns-clause-chains c = λ d image table count bucket kept is low. kept.sound.chains.buckets table count bucket is low

@@ -25,15 +25,15 @@ write_held-requires-clause-there c = λ right.
     let there = header_there image c.args.trx (c.requires.kept right).formed (least_free_is c.args.self.now c.args.trx c.requires.number).0 in
     subst (λ (rs : List Record). AllByRecursion (IsOnPage image) rs) (sym records) (begin_there image (is_new page) c.args.trx c.args.writer c.args.index there)
 
-abbrev new : goal.After-write_held → Donor
+abbrev new : goal.After-array_drop-records-2 → Donor
 new c = donor_of c.self.inside.tables c.begin.new.self c.self.inside.locks c.reserve.new.self.commits
 
-made : (c : goal.After-write_held) → new c ≡ begun c.args.trx c.args.writer c.args.index c.args.self.now
+made : (c : goal.After-array_drop-records-2) → new c ≡ begun c.args.trx c.args.writer c.args.index c.args.self.now
 made c =
     (λ i. donor_of c.self.inside.tables (c.in_ok-begin.ensures.ok i) c.self.inside.locks (c.in_ok-reserve.ensures.same i))
     ∙ ap (begun c.args.trx c.args.writer c.args.index) c.self.view_is
 
-records : (c : goal.After-write_held) → c.records_from-records.result.now ≡ records_of_begin (is_new (page_in c.args.at c.args.buffer.now)) c.args.trx c.args.writer c.args.index
+records : (c : goal.After-array_drop-records-2) → c.records_from-records.result.now ≡ records_of_begin (is_new (page_in c.args.at c.args.buffer.now)) c.args.trx c.args.writer c.args.index
 records c = begin_written (page_in c.args.at c.args.buffer.now) c.frame.result.now c.args.trx c.args.writer c.args.index c.first_record.result c.begin_records-records.result c.records_from-records.result.now c.frame.ensures.bytes c.first_record.ensures c.begin_records-records.ensures c.records_from-records.ensures
 
 pub invariant_of-self-2 : goal.invariant_of-self-2

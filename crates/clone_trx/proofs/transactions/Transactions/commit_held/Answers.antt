@@ -28,16 +28,16 @@ write_held-requires-clause-there c = λ right.
     (commit_there image c.args.trx position (header_there image c.args.trx formed small) (system_there image 0 formed (omega arith)))
 
 -- the records that are written
-records_are : (c : goal.After-write_held) → c.end_record.result ∷ c.position.result ∷ [] ≡ commit_records c.args.trx (length c.as_slice.result.now + 1)
+records_are : (c : goal.After-array_drop-records-2) → c.end_record.result ∷ c.position.result ∷ [] ≡ commit_records c.args.trx (length c.as_slice.result.now + 1)
 records_are c = commit_written c.args.trx (length c.as_slice.result.now + 1) c.end_record.result c.position.result c.end_record.ensures c.position.ensures
 
-abbrev before : goal.After-write_held → Donor
+abbrev before : goal.After-array_drop-records-2 → Donor
 before c = donor_of c.self.inside.tables c.self.inside.active c.self.inside.locks c.self.inside.binlog.commits
 
-abbrev after : goal.After-write_held → Donor
+abbrev after : goal.After-array_drop-records-2 → Donor
 after c = donor_of c.self.inside.tables c.remove.new.self c.release.new.self c.push_within.new.self.commits
 
-commits : (c : goal.After-write_held) → Commits (before c) c.args.trx (length c.as_slice.result.now + 1) (after c)
+commits : (c : goal.After-array_drop-records-2) → Commits (before c) c.args.trx (length c.as_slice.result.now + 1) (after c)
 commits c = record {
   commit = c.in-Some.commit;
   was_active = sym c.in-Some.ensures.was;

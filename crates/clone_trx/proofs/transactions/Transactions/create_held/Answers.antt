@@ -1,15 +1,17 @@
-use Rattle.std.proofs.Common.{◌≡◌, ℕ, List, [], ◌∷◌, Err, inl, sym, ap, subst, ◌∙◌}
-use Rattle.std.specs.FinMap as finite
+use Rattle.std.proofs.Common.{◌≡◌, ◌<◌, ℕ, List, [], ◌∷◌, Some, Err, inl, unwrap_or, sym, ap, subst, ◌∙◌, arith}
 use Rattle.clone_outside.specs.Disk.{ForTold, Steps, with_created}
-use Rattle.clone_page.specs.Dictionary.{entry_at, entry}
-use Rattle.clone_mtr.specs.declared.record.Record.TheVariants.{Write}
+use Rattle.clone_space.specs.Entries.{dictionary, FindsFree}
+use Rattle.clone_space.specs.Records.{records_of_create, entry_record}
 use Rattle.clone_buffer.specs.Buffered.{Buffered, image_of}
 use Rattle.clone_buffer.specs.Writing.{Creates, HasMade, written}
-use Rattle.clone_trx.specs.Ways.{HasRoom}
-use Rattle.clone_trx.proofs.Common.{Record, create_records, after_records, Donor, created, donor_of, IsKept, IsSafe}
+use Rattle.clone_trx.specs.Calls.{free_place, system_page}
+use Rattle.clone_trx.specs.Ways.{HasRoom, page_in}
+use Rattle.clone_trx.proofs.Common.{Record, page_of, after_records, Donor, created, donor_of, IsKept, IsSafe}
 use Rattle.clone_trx.proofs.SafeLemmas.{created_safe}
 use Rattle.clone_trx.proofs.KeptLemmas.{create_keeps}
 use Rattle.clone_trx.proofs.CreateLemmas.{may_create, no_space, creates, donor_again}
+use Rattle.clone_trx.proofs.DictionaryLemmas.{place_is, place_low, has_free}
+use Rattle.clone_trx.proofs.SystemPageLemmas.{system_there, page_shown}
 use Rattle.clone_trx.proofs.NewSpaceLemmas.{disk_made, disk_failed, has_made}
 use Rattle.clone_trx.proofs.WriteLemmas.{written_kept}
 use Rattle.clone_trx.proofs.transactions.Transactions.create_held.Goals as goal
@@ -57,18 +59,24 @@ invariant_of-self-in_default g c =
     ap (λ m. donor_of m s.active s.locks s.binlog.commits) c.in_ok-insert.ensures.ok ∙ ap (created c.args.table c.args.buckets) c.self.view_is in
     (subst IsSafe (sym made) (created_safe c.args.self.now c.args.table c.args.buckets safe may.0 may.1 c.requires.table.0 c.requires.table.1 c.requires.buckets.0 c.requires.buckets.1), c.self.invariant.1)
 
+-- the records are those of the first free entry of the page that is held
+records : (g : _) (c : goal.After-array_drop-records-2 g) → c.create_records-records.result ≡ records_of_create (free_place (page_in c.args.at c.args.buffer.now)) c.args.table c.args.buckets
+records g c =
+    c.create_records-records.ensures
+    ∙ ap (λ (n : ℕ). records_of_create n c.args.table c.args.buckets) (c.unwrap_or-place.ensures ∙ place_is c.frame.result.now c.least_free.result c.least_free.ensures)
+    ∙ ap (λ (page : List ℕ). records_of_create (free_place page) c.args.table c.args.buckets) c.frame.ensures.bytes
+
+pub create_records-records-requires : goal.create_records-records-requires
+create_records-records-requires g c = subst (λ (n : ℕ). n < 62) (sym c.unwrap_or-place.ensures) (place_low (dictionary c.frame.result.now) c.least_free.result c.least_free.ensures)
+
 pub write_space_held-requires-clause-creates : goal.write_space_held-requires-clause-creates
 write_space_held-requires-clause-creates g c = λ right.
     let d = c.args.self.now in
     let safe : IsSafe d = subst IsSafe c.self.view_is c.self.invariant.0 in
     let may = may_create d c.args.table safe.tables.few c.requires.cause in
-    let records : c.creation-records.result ≡ create_records (finite.len d.tables) c.args.table c.args.buckets =
-    c.creation-records.ensures ∙ ap (λ (n : ℕ). create_records n c.args.table c.args.buckets) (c.len.ensures ∙ ap (λ (e : Donor). finite.len e.tables) c.self.view_is) in
-    subst (λ (rs : List Record). Creates c.args.buffer.now rs) (sym records)
-    (creates d c.args.buffer.now c.args.table c.args.buckets c.laws.ensures.buffer (c.requires.kept right) c.requires.table.0 may.0 c.requires.held c.requires.fresh right)
-
-records : (g : _) (c : goal.After-write_space_held g) → c.creation-records.result ≡ create_records (finite.len c.args.self.now.tables) c.args.table c.args.buckets
-records g c = c.creation-records.ensures ∙ ap (λ (n : ℕ). create_records n c.args.table c.args.buckets) (c.len.ensures ∙ ap (λ (e : Donor). finite.len e.tables) c.self.view_is)
+    let records : List Record = records_of_create c.unwrap_or-place.result c.args.table c.args.buckets in
+    subst (λ (rs : List Record). Creates c.args.buffer.now rs) {x = records} (sym c.create_records-records.ensures)
+    (creates d c.args.buffer.now c.args.table c.args.buckets c.laws.ensures.buffer (c.requires.kept right) c.requires.table.0 may.0 (c.args.at, c.requires.held) c.requires.fresh right c.unwrap_or-place.result)
 
 pub returns-clause-written : goal.returns-clause-written
 returns-clause-written g c =
@@ -79,15 +87,21 @@ returns-clause-kept g c =
     let s = c.self.inside in
     let d = c.args.self.now in
     let old : Buffered = c.args.buffer.now in
+    let page : List ℕ = page_in c.args.at old in
     let safe : IsSafe d = subst IsSafe c.self.view_is c.self.invariant.0 in
     let may = may_create d c.args.table safe.tables.few c.requires.cause in
+    let finds : FindsFree (dictionary page) c.least_free.result = subst (λ (p : List ℕ). FindsFree (dictionary p) c.least_free.result) c.frame.ensures.bytes c.least_free.ensures in
+    let place : ℕ = unwrap_or c.least_free.result 0 in
     let made : donor_of c.insert.new.self s.active s.locks s.binlog.commits ≡ created c.args.table c.args.buckets d =
     ap (λ m. donor_of m s.active s.locks s.binlog.commits) c.in_ok-insert.ensures.ok ∙ ap (created c.args.table c.args.buckets) c.self.view_is in
-    written_kept (donor_of c.insert.new.self s.active s.locks s.binlog.commits) old c.write_space_held.new.buffer c.creation-records.result c.write_space_held.ensures.written
+    let same : c.create_records-records.result ≡ records_of_create place c.args.table c.args.buckets = c.create_records-records.ensures ∙ ap (λ (n : ℕ). records_of_create n c.args.table c.args.buckets) c.unwrap_or-place.ensures in
+    written_kept (donor_of c.insert.new.self s.active s.locks s.binlog.commits) old c.write_space_held.new.buffer c.create_records-records.result c.write_space_held.ensures.written
     (λ right lsn.
+    let kept = c.requires.kept right in
+    let shown : page_of (image_of old) 0 0 ≡ Some page = page_shown (image_of old) old.pool.frames (system_page 0) c.args.at (c.laws.ensures.buffer.shows right) c.requires.held (system_there (image_of old) 0 kept.formed (omega arith)) in
     let P : Donor × List Record → Type 0 = λ p. IsKept p.0 (after_records lsn (image_of old) p.1) in
-    subst P (λ i. (sym made i, sym (records g c) i))
-    (create_keeps lsn c.args.table c.args.buckets d (image_of old) (c.requires.kept right) may.0 may.1 c.requires.table.0 c.requires.table.1 c.requires.buckets.0 c.requires.buckets.1))
+    subst P (λ i. (sym made i, sym same i))
+    (create_keeps lsn place c.args.table c.args.buckets d (image_of old) kept (place_low (dictionary page) c.least_free.result finds) (has_free d (image_of old) page c.least_free.result kept shown may.1 finds) may.0 may.1 c.requires.table.0 c.requires.table.1 c.requires.buckets.0 c.requires.buckets.1))
 
 pub returns-clause-stands : goal.returns-clause-stands
 returns-clause-stands g c = λ beside calm st.
@@ -98,4 +112,4 @@ returns-clause-stands g c = λ beside calm st.
     let step : Steps before after (λ m. with_created m c.args.table c.args.buckets) = c.in_default.ensures.created in
     let stood = disk_made c.args.buffer.now c.args.table c.args.buckets c.laws.ensures.buffer (λ right. no_space c.args.self.now (image_of c.args.buffer.now) c.args.table (c.requires.kept right) c.requires.table.0 may.0) before after step beside st in
     c.write_space_held.ensures.stands after
-    (subst (λ (rs : List Record). ForTold after (HasMade rs)) (sym (records g c)) (has_made before after c.args.table c.args.buckets (Write 0 0 record { offset = entry_at (finite.len c.args.self.now.tables); bytes = entry c.args.table c.args.buckets c.args.buckets } ∷ []) step)) beside calm stood
+    (subst (λ (rs : List Record). ForTold after (HasMade rs)) (sym (records g c)) (has_made before after c.args.table c.args.buckets (entry_record (free_place (page_in c.args.at c.args.buffer.now)) (record { table = c.args.table; buckets = c.args.buckets; pages = c.args.buckets }) ∷ []) step)) beside calm stood

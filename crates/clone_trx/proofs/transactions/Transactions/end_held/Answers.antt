@@ -1,25 +1,33 @@
 use Rattle.std.proofs.Common.{◌≡◌, List, sym, ap, subst, ◌∙◌, arith, None, IsSome}
-use Rattle.clone_trx.proofs.Common.{nat_cmp_total, exact_unsigned, len-without, Record, records_of_end, changes_of_active, Donor, Leaves, donor_of, IsKept}
+use Rattle.clone_trx.proofs.Common.{AllByRecursion, nat_cmp_total, exact_unsigned, len-without, Record, records_of_end, changes_of_active, Donor, Leaves, donor_of, IsKept}
 use Rattle.std.specs.FinMap as finite
 use Rattle.clone_buffer.specs.Buffered.{image_of}
 use Rattle.clone_buffer.specs.Writing as buffer
+use Rattle.clone_buffer.specs.Writing.{IsOnPage}
 use Rattle.clone_trx.specs.Calls.{last_change}
 use Rattle.clone_trx.proofs.KeptLemmas.{leave_keeps}
 use Rattle.clone_trx.proofs.LastUndoLemmas.{none_last, there}
 use Rattle.clone_trx.proofs.SafeLemmas.{left_safe}
+use Rattle.clone_trx.proofs.SystemPageLemmas.{header_there}
 use Rattle.clone_trx.proofs.WriteLemmas.{written_kept}
 use Rattle.clone_trx.proofs.transactions.Transactions.end_held.Goals as goal
 
 pub end_record-requires : goal.end_record-requires
 end_record-requires c = c.laws.ensures.safe.locked.few.numbers c.args.trx c.requires.active
 
-abbrev before : goal.After-write_held → Donor
+pub write_held-requires-clause-there : goal.write_held-requires-clause-there
+write_held-requires-clause-there c = λ right.
+    let image = image_of c.args.buffer.now in
+    let small = c.laws.ensures.safe.locked.few.numbers c.args.trx c.requires.active in
+    subst (λ (rs : List Record). AllByRecursion (IsOnPage image) rs) (sym c.end_record.ensures) (header_there image c.args.trx (c.requires.kept right).formed small, tt)
+
+abbrev before : goal.After-array_drop-records-2 → Donor
 before c = donor_of c.self.inside.tables c.self.inside.active c.self.inside.locks c.self.inside.binlog.commits
 
-abbrev after : goal.After-write_held → Donor
+abbrev after : goal.After-array_drop-records-2 → Donor
 after c = donor_of c.self.inside.tables c.remove.new.self c.release.new.self c.self.inside.binlog.commits
 
-leaves : (c : goal.After-write_held) → Leaves (before c) c.args.trx (after c)
+leaves : (c : goal.After-array_drop-records-2) → Leaves (before c) c.args.trx (after c)
 leaves c =
     let active = there (finite.get c.self.inside.active c.args.trx) (subst (λ (d : Donor). IsSome (finite.get d.active c.args.trx)) (sym c.self.view_is) c.requires.active) in
     let nothing = subst (λ (d : Donor). last_change d c.args.trx ≡ None) (sym c.self.view_is) c.requires.nothing in

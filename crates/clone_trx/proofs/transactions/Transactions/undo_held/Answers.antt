@@ -30,7 +30,7 @@ write_held-requires-clause-there c = λ right.
     subst (AllByRecursion (buffer.IsOnPage image)) (sym c.take_back_records-records.ensures)
     (taking_back_there image c.args.trx c.args.count e row (header_there image c.args.trx kept.formed (last_small d c.args.trx c.args.count e.table e.key last c.self.invariant.0.locked).2))
 
-made : (c : goal.After-write_held) → TakesBack (donor_of c.self.inside.tables c.self.inside.active c.self.inside.locks c.self.inside.binlog.commits) c.args.trx (c.args.count - 1)
+made : (c : goal.After-array_drop-records-2) → TakesBack (donor_of c.self.inside.tables c.self.inside.active c.self.inside.locks c.self.inside.binlog.commits) c.args.trx (c.args.count - 1)
     (donor_of c.self.inside.tables c.pop.new.self c.self.inside.locks c.self.inside.binlog.commits)
 made c =
     let e = c.args.entry.now in
