@@ -17,7 +17,7 @@ use Rattle.clone_overlay.specs.Shown.{IsMisplaced}
 use Rattle.clone_overlay.proofs.Showing.{page_stands}
 use Rattle.clone_plain.specs.Donor.{Donor, history}
 use Rattle.clone_recover.specs.Listing.{ListsRows}
-use Rattle.clone_recover.specs.Restores.{IsLeft, Answers, again, anew, HasMark, IsDamage, by_redo, by_header, by_dictionary, by_undo, IsIncomplete, unmarked, under_way, numbers_of}
+use Rattle.clone_recover.specs.Restores.{IsLeft, Answers, again, anew, HasMark, IsDamage, by_redo, by_header, by_dictionary, by_undo, by_chain, IsIncomplete, unmarked, under_way, numbers_of}
 use Rattle.clone_recover.specs.declared.recovery.Recovered.{Recovered}
 use Rattle.clone_recover.specs.declared.refusal.Why.{Why}
 use Rattle.clone_trx.specs.Sound.{IsKept}
@@ -29,6 +29,7 @@ use Rattle.clone_apply.proofs.EndMarks.{OneEnd, not_both, not_under_way, recover
 use Rattle.clone_apply.proofs.KeptImages.{none_missing, none_broken}
 use Rattle.clone_apply.proofs.PlacedPages.{page_placed}
 use Rattle.clone_apply.proofs.StagedImages.{is_redo, pages, left_alike, left_rows}
+use Rattle.clone_apply.proofs.WholeChains.{none_astray}
 
 same_numbers : (a b : CloneEnd) → a.lsn ≡ b.lsn → a.position ≡ b.position → numbers_of a ≡ numbers_of b
 same_numbers a b lsn position = λ i. record { lsn = lsn i; position = position i }
@@ -73,6 +74,8 @@ module _ (d : Donor) (log : List (List Record)) (end : CloneEnd) (m : DiskImage)
       none_missing d (replayed log) kept (missing_alike left (replayed log) (left_alike log end m to staged e one left l kept.formed.size) (pages log end m to staged e one left l kept.formed.size) missing)
   never_damaged e s p why one (by_undo at left l slot broken) =
       none_broken d (replayed log) kept slot at (broken_alike left (replayed log) (left_alike log end m to staged e one left l kept.formed.size) slot at broken)
+  never_damaged e s p why one (by_chain table page left l first) =
+      none_astray d left (replayed log) kept (left_alike log end m to staged e one left l kept.formed.size) table page first
 
   never_incomplete : IsIncomplete n → ⊥
   never_incomplete (unmarked none) = none (mark.Complete end) ranges complete

@@ -18,7 +18,7 @@ use Rattle.clone_image.specs.Image.{Image, page_of, page_count}
 use Rattle.clone_image.specs.Recovered.{system_pages, undo_slot_of}
 use Rattle.clone_image.specs.Rows.{IsListed}
 use Rattle.clone_image.proofs.Pages.{all_pages-is}
-use Rattle.clone_contents.specs.Contents.{Contents, contents_of}
+use Rattle.clone_contents.specs.Contents.{Contents, contents_of, named}
 use Rattle.clone_contents.proofs.ChangeLemmas.{undo_is, page_there}
 use Rattle.clone_contents.proofs.ImagePages.{there}
 use Rattle.clone_contents.proofs.SystemLemmas.{named_on, named_past}
@@ -64,23 +64,23 @@ module _ (d : Donor) (image : Image) (is : IsKept d image) where
 
   -- the dictionary names only spaces that are there
   pub none_missing : NamesMissing image → ⊥
-  none_missing missing = none-some count.0 (sym gone ∙ (is.sound.tables.sizes (c.named place) count.0 count.1).0)
+  none_missing missing = none-some count.0 (sym gone ∙ (is.sound.tables.sizes (named c place) count.0 count.1).0)
     where
       place : ℕ
       place = missing.names.place
 
-      named : c.named place ≡ entry_space place missing.system
-      named = named_on image place missing.names.within ∙ ap (entry_space place) (all_pages-is image 0 0 missing.system missing.there)
+      listed : named c place ≡ entry_space place missing.system
+      listed = named_on image place missing.names.within ∙ ap (entry_space place) (all_pages-is image 0 0 missing.system missing.there)
 
       value : (o : Option ℕ) → IsSome o → (n : ℕ) × (o ≡ Some n)
       value None some = cc
       value (Some n) some = (n, refl)
 
-      count : (n : ℕ) × (finite.get d.tables (c.named place) ≡ Some n)
-      count = value (finite.get d.tables (c.named place)) (is.sound.tables.tables place (λ z. missing.names.used (sym named ∙ z)))
+      count : (n : ℕ) × (finite.get d.tables (named c place) ≡ Some n)
+      count = value (finite.get d.tables (named c place)) (is.sound.tables.tables place (λ z. missing.names.used (sym listed ∙ z)))
 
-      gone : page_count image (c.named place) ≡ None
-      gone = ap (page_count image) named ∙ ap (option_map length) missing.names.missing
+      gone : page_count image (named c place) ≡ None
+      gone = ap (page_count image) listed ∙ ap (option_map length) missing.names.missing
 
   -- no undo slot counts more records than fit
   counts_fit : (slot page : ℕ) → CountsTooMany image slot page → ⊥

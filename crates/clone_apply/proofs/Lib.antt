@@ -4,4 +4,5 @@ pub mod AbsentPages
 pub mod StagedImages
 pub mod AlikeImages
 pub mod KeptImages
+pub mod WholeChains
 pub mod HeldCopies

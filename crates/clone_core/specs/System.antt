@@ -5,7 +5,7 @@ use Rattle.clone_outside.specs.Causes.{Rose}
 use Rattle.clone_outside.specs.Disk.{ForTold}
 use Rattle.clone_recover.specs.Restores.{IsCause}
 use Rattle.clone_recover.specs.declared.refusal.Why.{Why}
-use Rattle.clone_recover.specs.declared.refusal.Why.TheVariants.{Header, Redo, Dictionary, Undo}
+use Rattle.clone_recover.specs.declared.refusal.Why.TheVariants.{Header, Redo, Dictionary, Undo, Chain}
 use Rattle.clone_recover.specs.declared.refusal.RecoverRefusal.TheVariants.{Damaged}
 use Rattle.clone_plain.specs.Donor.{Donor}
 use Rattle.clone_plain.specs.Answers.{Text}
@@ -46,6 +46,7 @@ why_text Header = codes "header"
 why_text Redo = codes "redo"
 why_text Dictionary = codes "dictionary"
 why_text Undo = codes "undo"
+why_text Chain = codes "chain"
 
 -- what is named is against the format, where the disk is complete, quiet and told
 pub record FindsDamage (s : DiskState) (space page : ℕ) (text : Text) : Type 0 where

@@ -138,5 +138,6 @@ fn why_word(why: Why) -> &'static str
         Why::Redo => "redo",
         Why::Dictionary => "dictionary",
         Why::Undo => "undo",
+        Why::Chain => "chain",
     }
 }

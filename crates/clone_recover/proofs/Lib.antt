@@ -21,3 +21,7 @@ pub mod Listing
 pub mod TellLemmas
 pub mod UndoChanges
 pub mod UndoSlots
+pub mod ChainLemmas
+pub mod WalkLemmas
+pub mod LookLemmas
+pub mod TableLemmas

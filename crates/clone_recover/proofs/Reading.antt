@@ -225,6 +225,7 @@ is_no_redo (Damaged s p why.Header) m total of none = absurd of
 is_no_redo (Damaged s p why.Redo) m total of none = (of, none)
 is_no_redo (Damaged s p why.Dictionary) m total of none = absurd of
 is_no_redo (Damaged s p why.Undo) m total of none = absurd of
+is_no_redo (Damaged s p why.Chain) m total of none = absurd of
 is_no_redo DiskFault m total of none = absurd of
 is_no_redo NoMemory m total of none = tt
 

@@ -24,12 +24,13 @@ use Rattle.clone_image.specs.Redone.{Standing, no_space, past_end, stands, Redoi
 use Rattle.clone_image.specs.Replay.{end_of}
 use Rattle.clone_image.proofs.Standings.{edited_standing, edited_is}
 use Rattle.clone_overlay.specs.Covers.{Overlay}
-use Rattle.clone_overlay.specs.Images.{redo_space, bytes_of, image_of}
+use Rattle.clone_overlay.specs.Images.{redo_space, bytes_of, image_of, IsQuiet}
 use Rattle.clone_overlay.specs.Shown.{Shows, ShowsSame}
 use Rattle.clone_overlay.proofs.Bases.{get_image}
-use Rattle.clone_recover.specs.Damage.{ShowsEdited, IsPageOr, PageOrOn, IsAgainst, AgainstOn, HasBroken}
+use Rattle.clone_recover.specs.Chains.{IsFirstBrokenChain}
+use Rattle.clone_recover.specs.Damage.{ForImage, ShowsEdited, IsPageOr, PageOrOn, IsChainOr, ChainOrOn, IsAgainst, AgainstOn, HasBroken}
 use Rattle.clone_recover.specs.Reading.{IsOfTable, AreOfTables, redo_length, HasRedoOn, IsNoRedoOn}
-use Rattle.clone_recover.specs.Restores.{IsLeft, LeavesOn, UndoesOn, RestoresOn, IsDamage, by_header, by_dictionary, by_undo, IsDamaged, IsRedoCause, DamagedOn}
+use Rattle.clone_recover.specs.Restores.{IsLeft, LeavesOn, HasNoBrokenChain, UndoesOn, RestoresOn, IsDamage, by_header, by_dictionary, by_undo, by_chain, IsDamaged, IsRedoCause, DamagedOn}
 use Rattle.clone_recover.specs.Written.{written_out, HasTablesOnly}
 use Rattle.clone_recover.specs.declared.refusal.Why.TheVariants as why
 use Rattle.clone_recover.specs.declared.refusal.RecoverRefusal.{RecoverRefusal}
@@ -45,6 +46,7 @@ page_damage (Damaged s p why.Header) m end left is damage = by_header s p (is.mt
 page_damage (Damaged s p why.Redo) m end left is damage = absurd damage
 page_damage (Damaged s p why.Dictionary) m end left is damage = absurd damage
 page_damage (Damaged s p why.Undo) m end left is damage = subst (λ (k : ℕ). IsDamage m end k p why.Undo) (sym damage.0) (by_undo p left is damage.1.0 damage.1.1)
+page_damage (Damaged s p why.Chain) m end left is damage = absurd damage
 page_damage DiskFault m end left is damage = tt
 page_damage NoMemory m end left is damage = tt
 
@@ -55,6 +57,7 @@ against_damage (Damaged s p why.Redo) m end left is damage = absurd damage
 against_damage (Damaged s p why.Dictionary) m end left is damage =
     subst (λ (k : ℕ). IsDamage m end k p why.Dictionary) (sym damage.0) (subst (λ (k : ℕ). IsDamage m end 0 k why.Dictionary) (sym damage.1) (by_dictionary left is damage.2))
 against_damage (Damaged s p why.Undo) m end left is damage = subst (λ (k : ℕ). IsDamage m end k p why.Undo) (sym damage.0) (by_undo p left is damage.1.0 damage.1.1)
+against_damage (Damaged s p why.Chain) m end left is damage = absurd damage
 against_damage DiskFault m end left is damage = tt
 against_damage NoMemory m end left is damage = tt
 
@@ -79,10 +82,47 @@ undo_fails None end first overlay tested e shows leaves same broken = tt
 undo_fails (Some m) end first overlay tested e shows leaves same broken = λ quiet.
     let l = leaves quiet shows in page_damage e m end l.left l.is_left (broken quiet l.left (same quiet l.left l.shows))
 
-pub undoes : (told : Option DiskImage) (end : CloneEnd) (first overlay tested new : Overlay) → ForTold told (λ m. Shows (image_of m) (image_of m) first) → LeavesOn told end first overlay → ShowsSame told overlay tested → ShowsEdited told tested new recovered → UndoesOn told end new
-undoes None end first overlay tested new shows leaves same edits = tt
-undoes (Some m) end first overlay tested new shows leaves same edits = λ quiet.
-    let l = leaves quiet shows in record { left = l.left; is_left = l.is_left; shows = edits quiet l.left (same quiet l.left l.shows) }
+chain_damage : (e : RecoverRefusal) (m : DiskImage) (end : CloneEnd) (left : Image) → IsLeft m end left → IsChainOr (IsFirstBrokenChain (recovered left)) m e → IsDamaged m end e
+chain_damage Incomplete m end left is damage = absurd damage
+chain_damage (Damaged s p why.Header) m end left is damage = by_header s p (is.mtrs, is.redo) damage
+chain_damage (Damaged s p why.Redo) m end left is damage = absurd damage
+chain_damage (Damaged s p why.Dictionary) m end left is damage = absurd damage
+chain_damage (Damaged s p why.Undo) m end left is damage = absurd damage
+chain_damage (Damaged s p why.Chain) m end left is damage = by_chain s p left is damage
+chain_damage DiskFault m end left is damage = tt
+chain_damage NoMemory m end left is damage = tt
+
+-- the overlay shows the recovered pages, as taking back leaves it
+abbrev pub TakesBackOn : Option DiskImage → CloneEnd → Overlay → Type 0
+TakesBackOn told end overlay = ForTold told (λ m. IsQuiet m → (left : Image) × IsLeft m end left × Shows (image_of m) (recovered left) overlay)
+
+takes : (told : Option DiskImage) (end : CloneEnd) (first overlay tested new : Overlay) → ForTold told (λ m. Shows (image_of m) (image_of m) first) → LeavesOn told end first overlay → ShowsSame told overlay tested → ShowsEdited told tested new recovered → TakesBackOn told end new
+takes None end first overlay tested new shows leaves same edits = tt
+takes (Some m) end first overlay tested new shows leaves same edits = λ quiet.
+    let l = leaves quiet shows in (l.left, l.is_left, edits quiet l.left (same quiet l.left l.shows))
+
+-- the same, where each step tells what the one before told
+pub takes_back : (told logged opened redone tested : Option DiskImage) (end : CloneEnd) (first left over new : Overlay) → logged ≡ told → opened ≡ logged → redone ≡ opened → tested ≡ redone → ForTold logged (λ m. Shows (image_of m) (image_of m) first)
+    → LeavesOn opened end first left → ShowsSame redone left over → ShowsEdited tested over new recovered → TakesBackOn told end new
+takes_back told logged opened redone tested end first left over new one two three four shows leaves same edits =
+    takes told end first left over new (subst (λ t. ForTold t (λ m. Shows (image_of m) (image_of m) first)) one shows) (subst (λ t. LeavesOn t end first left) (two ∙ one) leaves) (subst (λ t. ShowsSame t left over) (three ∙ two ∙ one) same)
+    (subst (λ t. ShowsEdited t over new recovered) (four ∙ three ∙ two ∙ one) edits)
+
+pub chains_damage : (told now : Option DiskImage) (end : CloneEnd) (overlay : Overlay) (e : RecoverRefusal) → now ≡ told → TakesBackOn told end overlay → ChainOrOn now overlay IsFirstBrokenChain e → DamagedOn told end e
+chains_damage None now end overlay e same takes cause = tt
+chains_damage (Some m) now end overlay e same takes cause = λ quiet.
+    let l = takes quiet in chain_damage e m end l.0 l.1 (subst (λ t. ChainOrOn t overlay IsFirstBrokenChain e) same cause quiet (recovered l.0) l.2)
+
+pub undoes : (told now : Option DiskImage) (end : CloneEnd) (overlay new : Overlay) → now ≡ told → TakesBackOn told end overlay → ShowsSame now overlay new → ForImage now overlay (λ m image. HasNoBrokenChain image) → UndoesOn told end new
+undoes None now end overlay new same takes shows sound = tt
+undoes (Some m) now end overlay new same takes shows sound = λ quiet.
+    let l = takes quiet in
+    record {
+      left = l.0;
+      is_left = l.1;
+      shows = subst (λ t. ShowsSame t overlay new) same shows quiet (recovered l.0) l.2;
+      chains = subst (λ t. ForImage t overlay (λ m image. HasNoBrokenChain image)) same sound quiet (recovered l.0) l.2;
+    }
 
 -- Neither redo nor taking back makes a space that has the number of the redo's or a higher one.
 
@@ -169,6 +209,6 @@ restores (Some m) new end overlay undoes steps = (
     λ quiet.
         let u = undoes quiet in
         let w = writes m overlay (recovered u.left) quiet (tables_only m end u.left u.is_left) u.shows in
-        record { left = u.left; is_left = u.is_left; image = w.is; quiet = w.quiet; others = w.others; mark = refl },
+        record { left = u.left; is_left = u.is_left; image = w.is; chains = u.chains; quiet = w.quiet; others = w.others; mark = refl },
   ),
 )

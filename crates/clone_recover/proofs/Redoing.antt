@@ -90,6 +90,7 @@ no_redo_damage (Damaged s p why.Redo) m end total is none =
     subst (λ (k : ℕ). IsDamage m end k p why.Redo) (sym none.0) (by_redo p (λ has. none.1 (subst (HasRedo m) (sym is) has)))
 no_redo_damage (Damaged s p why.Dictionary) m end total is none = absurd none
 no_redo_damage (Damaged s p why.Undo) m end total is none = absurd none
+no_redo_damage (Damaged s p why.Chain) m end total is none = absurd none
 no_redo_damage DiskFault m end total is none = tt
 no_redo_damage NoMemory m end total is none = tt
 
@@ -99,6 +100,7 @@ header_damage (Damaged s p why.Header) m end has is = by_header s p has is
 header_damage (Damaged s p why.Redo) m end has is = absurd is
 header_damage (Damaged s p why.Dictionary) m end has is = absurd is
 header_damage (Damaged s p why.Undo) m end has is = absurd is
+header_damage (Damaged s p why.Chain) m end has is = absurd is
 header_damage DiskFault m end has is = tt
 header_damage NoMemory m end has is = tt
 

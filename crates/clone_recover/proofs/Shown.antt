@@ -68,6 +68,7 @@ header_or P (Damaged s p why.Header) m is = is
 header_or P (Damaged s p why.Redo) m is = is
 header_or P (Damaged s p why.Dictionary) m is = is
 header_or P (Damaged s p why.Undo) m is = absurd is
+header_or P (Damaged s p why.Chain) m is = absurd is
 header_or P DiskFault m is = is
 header_or P NoMemory m is = is
 

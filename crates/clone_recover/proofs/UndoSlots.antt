@@ -4,14 +4,12 @@ use Rattle.std.specs.Prelude.{unwrap_or, IfSome}
 use Rattle.std.specs.declared.option.Option.{Option}
 use Rattle.std.proofs.lemmas.Bool.{cases_lt}
 use Rattle.clone_page.specs.Bytes.{put_at}
-use Rattle.std.specs.List.{AllByRecursion}
-use Rattle.clone_undo.specs.Entries.{IsEntry}
 use Rattle.clone_undo.specs.Places.{slot_count, header_page, header_place}
-use Rattle.clone_undo.specs.Slots.{UndoSlot, is_in_use, count_of, entries}
+use Rattle.clone_undo.specs.Slots.{UndoSlot, is_in_use, count_of}
 use Rattle.clone_undo.specs.declared.reading.SlotHeader.{SlotHeader}
 use Rattle.clone_undo.proofs.Effects.{own}
 use Rattle.clone_undo.proofs.Headers.{slot_of}
-use Rattle.clone_image.specs.Image.{Image, page_of, with_edit, edited}
+use Rattle.clone_image.specs.Image.{Image, page_of}
 use Rattle.clone_image.specs.Recovered.{system_pages, undo_slot_of, all_undone, freed, taken_back, taken_back_below, recovered}
 use Rattle.clone_image.proofs.Images.{page_of-edited_other}
 use Rattle.clone_recover.specs.Undoing.{HasChanges, IsSlotInRange, InRange}

@@ -133,6 +133,7 @@ page_or P Q (Damaged s p why.Header) m gives is = is
 page_or P Q (Damaged s p why.Redo) m gives is = is
 page_or P Q (Damaged s p why.Dictionary) m gives is = is
 page_or P Q (Damaged s p why.Undo) m gives is = (is.0, gives p is.1)
+page_or P Q (Damaged s p why.Chain) m gives is = is
 page_or P Q DiskFault m gives is = is
 page_or P Q NoMemory m gives is = is
 

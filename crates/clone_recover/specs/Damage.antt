@@ -101,6 +101,7 @@ IsHeader m (Damaged space page why.Header) = IsMisplaced space page (image_of m)
 IsHeader m (Damaged space page why.Redo) = ⊥
 IsHeader m (Damaged space page why.Dictionary) = ⊥
 IsHeader m (Damaged space page why.Undo) = ⊥
+IsHeader m (Damaged space page why.Chain) = ⊥
 IsHeader m DiskFault = ⊤
 IsHeader m NoMemory = ⊤
 
@@ -111,8 +112,20 @@ IsPageOr Undone m (Damaged space page why.Header) = IsMisplaced space page (imag
 IsPageOr Undone m (Damaged space page why.Redo) = ⊥
 IsPageOr Undone m (Damaged space page why.Dictionary) = ⊥
 IsPageOr Undone m (Damaged space page why.Undo) = (space ≡ 0) × Undone page
+IsPageOr Undone m (Damaged space page why.Chain) = ⊥
 IsPageOr Undone m DiskFault = ⊤
 IsPageOr Undone m NoMemory = ⊤
+
+-- the same, or a chain of a table isn't as it has to be
+abbrev pub IsChainOr : (ℕ → ℕ → Type 0) → DiskImage → RecoverRefusal → Type 0
+IsChainOr Broken m Incomplete = ⊥
+IsChainOr Broken m (Damaged space page why.Header) = IsMisplaced space page (image_of m)
+IsChainOr Broken m (Damaged space page why.Redo) = ⊥
+IsChainOr Broken m (Damaged space page why.Dictionary) = ⊥
+IsChainOr Broken m (Damaged space page why.Undo) = ⊥
+IsChainOr Broken m (Damaged space page why.Chain) = Broken space page
+IsChainOr Broken m DiskFault = ⊤
+IsChainOr Broken m NoMemory = ⊤
 
 -- what a refusal names of the pages that redo leaves
 abbrev pub IsAgainst : DiskImage → Image → RecoverRefusal → Type 0
@@ -123,6 +136,7 @@ IsAgainst m image (Damaged space page why.Dictionary) =
     (space ≡ 0) × (page ≡ 0) × NamesMissing image
 IsAgainst m image (Damaged space page why.Undo) =
     (space ≡ 0) × HasBroken image page
+IsAgainst m image (Damaged space page why.Chain) = ⊥
 IsAgainst m image DiskFault = ⊤
 IsAgainst m image NoMemory = ⊤
 
@@ -133,7 +147,12 @@ HeaderOn told overlay refusal = ForImage told overlay (λ m image. IsHeader m re
 abbrev pub AgainstOn : Option DiskImage → Overlay → RecoverRefusal → Type 0
 AgainstOn told overlay refusal = ForImage told overlay (λ m image. IsAgainst m image refusal)
 
--- as IsPageOr, for what the overlay shows of a quiet disk
+-- as IsPageOr and IsChainOr, for what the overlay shows of a quiet disk
 abbrev pub PageOrOn : Option DiskImage → Overlay → (Image → ℕ → Type 0) → RecoverRefusal → Type 0
 PageOrOn told overlay Undone refusal =
     ForImage told overlay (λ m image. IsPageOr (Undone image) m refusal)
+
+abbrev pub ChainOrOn : Option DiskImage → Overlay → (Image → ℕ → ℕ → Type 0) → RecoverRefusal
+    → Type 0
+ChainOrOn told overlay Broken refusal =
+    ForImage told overlay (λ m image. IsChainOr (Broken image) m refusal)

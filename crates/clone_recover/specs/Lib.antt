@@ -3,6 +3,8 @@ pub mod Reading
 pub mod Meetings
 pub mod Redo
 pub mod Damage
+pub mod Chains
+pub mod Walks
 pub mod Undoing
 pub mod Written
 pub mod Restores

@@ -132,6 +132,7 @@ IsNoRedo m total (Damaged space page why.Header) = ⊥
 IsNoRedo m total (Damaged space page why.Redo) = (space ≡ redo_space) × (HasRedo m total → ⊥)
 IsNoRedo m total (Damaged space page why.Dictionary) = ⊥
 IsNoRedo m total (Damaged space page why.Undo) = ⊥
+IsNoRedo m total (Damaged space page why.Chain) = ⊥
 IsNoRedo m total DiskFault = ⊤
 IsNoRedo m total NoMemory = ⊤
 
@@ -154,5 +155,6 @@ IsOfRedo (Damaged space page why.Header) = ⊥
 IsOfRedo (Damaged space page why.Redo) = space ≡ redo_space
 IsOfRedo (Damaged space page why.Dictionary) = ⊥
 IsOfRedo (Damaged space page why.Undo) = ⊥
+IsOfRedo (Damaged space page why.Chain) = ⊥
 IsOfRedo DiskFault = ⊥
 IsOfRedo NoMemory = ⊤

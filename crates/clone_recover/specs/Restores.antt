@@ -16,9 +16,10 @@ use Rattle.clone_overlay.specs.Images.{redo_space, image_of, IsQuiet}
 use Rattle.clone_overlay.specs.Shown.{Shows, IsMisplaced}
 use Rattle.clone_recover.specs.Reading.{redo_length, IsRedo, HasRedo}
 use Rattle.clone_recover.specs.Damage.{NamesMissing, IsBroken}
+use Rattle.clone_recover.specs.Chains.{HasBrokenChain, IsFirstBrokenChain}
 use Rattle.clone_recover.specs.declared.recovery.Recovered.{Recovered}
 use Rattle.clone_recover.specs.declared.refusal.Why.{Why}
-use Rattle.clone_recover.specs.declared.refusal.Why.TheVariants.{Header, Redo, Dictionary, Undo}
+use Rattle.clone_recover.specs.declared.refusal.Why.TheVariants.{Header, Redo, Dictionary, Undo, Chain}
 use Rattle.clone_recover.specs.declared.refusal.RecoverRefusal.{RecoverRefusal}
 use Rattle.clone_recover.specs.declared.refusal.RecoverRefusal.TheVariants.{Incomplete, Damaged, DiskFault, NoMemory}
 
@@ -35,11 +36,16 @@ pub record Leaves (m : DiskImage) (end : CloneEnd) (overlay : Overlay) : Type 0 
   pub is_left : IsLeft m end left
   pub shows : Shows (image_of m) left overlay
 
+-- no chain of a table is broken
+abbrev pub HasNoBrokenChain : Image → Type 0
+HasNoBrokenChain image = (table page : ℕ) → HasBrokenChain image table page → ⊥
+
 -- the overlay shows what recovery makes of that image
 pub record Undoes (m : DiskImage) (end : CloneEnd) (overlay : Overlay) : Type 0 where
   pub left : Image
   pub is_left : IsLeft m end left
   pub shows : Shows (image_of m) (recovered left) overlay
+  pub chains : HasNoBrokenChain (recovered left)
 
 -- over a quiet disk that is shown as it is, the redo is carried out
 abbrev pub LeavesOn : Option DiskImage → CloneEnd → Overlay → Overlay → Type 0
@@ -66,11 +72,13 @@ HasRecovered m = (end : CloneEnd) × IsEnd end × HasMark m (mark.Recovered end)
 abbrev pub IsRecoveredDisk : DiskImage → Type 0
 IsRecoveredDisk m = (end : CloneEnd) × HasMark m (mark.Recovered end)
 
--- the disk has the recovered image and the recovered mark, and its other spaces are as they were
+-- the disk has the recovered image, of which no chain is broken, and the recovered mark, and its
+-- other spaces are as they were
 pub record Restores (old new : DiskImage) (end : CloneEnd) : Type 0 where
   pub left : Image
   pub is_left : IsLeft old end left
   pub image : image_of new ≡ recovered left
+  pub chains : HasNoBrokenChain (recovered left)
   pub quiet : IsQuiet new
   pub others : (space : ℕ) → redo_space ≤ space
       → finite.get new.spaces space ≡ finite.get old.spaces space
@@ -96,6 +104,8 @@ pub data IsDamage (m : DiskImage) (end : CloneEnd) : ℕ → ℕ → Why → Typ
       → IsDamage m end 0 0 Dictionary
   by_undo : (page : ℕ) (left : Image) → IsLeft m end left → (slot : ℕ) → IsBroken left slot page
       → IsDamage m end 0 page Undo
+  by_chain : (table page : ℕ) (left : Image) → IsLeft m end left
+      → IsFirstBrokenChain (recovered left) table page → IsDamage m end table page Chain
 
 -- why a complete clone on a quiet disk wasn't recovered
 abbrev pub IsDamaged : DiskImage → CloneEnd → RecoverRefusal → Type 0

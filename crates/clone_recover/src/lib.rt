@@ -2,6 +2,7 @@
 //! of each transaction that was open are taken back, and the rows of a recovered disk.
 #![tactic(auto)]
 
+mod chains;
 mod dictionary;
 mod log;
 mod recovery;

@@ -10,6 +10,7 @@ ghost use Rattle.clone_recover.specs.declared.refusal.Why.{Why};
 ghost use Rattle.clone_recover.specs.declared.refusal.RecoverRefusal.TheVariants.{Damaged};
 
 use crate::RecoverRefusal;
+use crate::chains::check_chains;
 use crate::dictionary::check_dictionary;
 use crate::redo::{check_log, redo};
 use crate::rollback::take_back_open;
@@ -28,9 +29,9 @@ pub struct Recovered {
 }
 
 /// Recovers a clone on a disk: its redo is carried out over the pages that are there, the changes
-/// of each transaction that was open are taken back, and the disk gets the recovered mark. On a
-/// recovered disk nothing is written. `Incomplete` comes exactly where no mark or the in-progress
-/// mark stands.
+/// of each transaction that was open are taken back, the chains of all tables are tested, and the
+/// disk gets the recovered mark. On a recovered disk nothing is written. `Incomplete` comes exactly
+/// where no mark or the in-progress mark stands.
 pub fn recover<R: PageDisk>(alloc: Global, disk: &mut R) -> Result<Recovered, RecoverRefusal>
     ensures ok { IfOk result (λ numbers. ForStep (R.told disk.old) (R.told disk.new)
         (λ m n. Answers m n numbers)) }
@@ -145,5 +146,6 @@ fn recovered_pages<R: PageDisk>(
     redo(alloc, disk, &mut overlay, end)?;
     check_dictionary(disk, &mut overlay)?;
     take_back_open(disk, &mut overlay)?;
+    check_chains(alloc, disk, &mut overlay)?;
     Ok(overlay)
 }

@@ -18,6 +18,9 @@ pub enum Why {
     Dictionary,
     /// An undo slot in use has a count above 160, or an undo record has a field out of its range.
     Undo,
+    /// A chain of a table leaves the table's space or comes back to one of its pages, or a bucket
+    /// isn't there.
+    Chain,
 }
 
 /// Why nothing was recovered or read.
@@ -70,6 +73,17 @@ pub fn not_fetched(space: u32, page: u32, cause: FetchRefusal) -> RecoverRefusal
         },
         FetchRefusal::DiskFault => RecoverRefusal::DiskFault,
         FetchRefusal::NoMemory => RecoverRefusal::NoMemory,
+    }
+}
+
+/// The refusal for a chain of a table, which is against the format on a page.
+pub fn damaged_chain(table: u32, page: u32) -> RecoverRefusal
+    ensures { result ≡ RecoverRefusal.Damaged table page Why.Chain }
+{
+    RecoverRefusal::Damaged {
+        space: table,
+        page,
+        why: Why::Chain,
     }
 }
 

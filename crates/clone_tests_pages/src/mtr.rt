@@ -326,7 +326,7 @@ fn longest(alloc: Global, bytes: &[u8]) -> Result<Mtr, AllocError>
     requires some { 1 ≤ length bytes.now }
     requires short { length bytes.now ≤ 1010 }
 {
-    let mut mtr = Mtr::new(alloc, written(0, 0, Patch::new(38, bytes)))?;
+    let mut mtr = Mtr::new(alloc, written(0, 0, Patch::copied(alloc, 38, bytes)?))?;
     mtr.push(Record::Drop { space: 0 })?;
     Ok(mtr)
 }

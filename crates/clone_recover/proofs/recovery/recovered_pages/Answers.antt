@@ -1,14 +1,13 @@
 use Rattle.std.proofs.Common.{◌∙◌}
 use Rattle.std.proofs.lemmas.Result.{err_from_is_err_and}
 use Rattle.clone_outside.specs.Disk.{ForTold}
-use Rattle.clone_image.specs.Recovered.{recovered}
 use Rattle.clone_overlay.specs.Images.{image_of}
 use Rattle.clone_overlay.specs.Shown.{Shows, ShowsSame}
-use Rattle.clone_recover.specs.Damage.{ShowsEdited, AgainstOn, PageOrOn, HasBroken}
+use Rattle.clone_recover.specs.Damage.{AgainstOn, PageOrOn, HasBroken}
 use Rattle.clone_recover.specs.Refusals.{refusal_of}
 use Rattle.clone_recover.specs.Restores.{LeavesOn, IsRedoCause}
 use Rattle.clone_recover.proofs.Faults.{of_disk, disk_known, disk_damage}
-use Rattle.clone_recover.proofs.Recovering.{log_fails, redo_fails, dictionary_fails, undo_fails, undoes}
+use Rattle.clone_recover.proofs.Recovering.{log_fails, redo_fails, dictionary_fails, undo_fails, takes_back, chains_damage, undoes}
 use Rattle.clone_recover.proofs.Redoing.{retold}
 use Rattle.clone_recover.proofs.recovery.recovered_pages.Goals as goal
 
@@ -70,17 +69,22 @@ returns-in_err-take_back_open-clause-cause g c =
     (retold _ told (λ t. LeavesOn t end first left) opened c.in_ok-redo.ensures.ok) (retold _ told (λ t. ShowsSame t left over) redone c.in_ok-check_dictionary.ensures.shows)
     (retold _ told (λ t. PageOrOn t over HasBroken c.in_err-take_back_open.field-0.0) tested c.in_err-take_back_open.ensures.cause))
 
+pub returns-in_err-check_chains-clause-cause : goal.returns-in_err-check_chains-clause-cause
+returns-in_err-check_chains-clause-cause g c =
+    let same = c.in_ok-take_back_open.ensures.told ∙ c.in_ok-check_dictionary.ensures.told ∙ c.in_ok-redo.ensures.told ∙ c.in_ok-overlay.ensures.told ∙ c.in_ok-check_log.ensures.told in
+    let takes =
+    takes_back (g.R.PageDisk.told c.args.disk.now) (g.R.PageDisk.told c.check_log.new.disk) (g.R.PageDisk.told c.open.new.disk) (g.R.PageDisk.told c.redo.new.disk) (g.R.PageDisk.told c.check_dictionary.new.disk) c.args.end.now c.in_ok-overlay.overlay c.redo.new.overlay
+    c.check_dictionary.new.overlay c.take_back_open.new.overlay c.in_ok-check_log.ensures.told c.in_ok-overlay.ensures.told c.in_ok-redo.ensures.told c.in_ok-check_dictionary.ensures.told c.in_ok-overlay.ensures.shows c.in_ok-redo.ensures.ok
+    c.in_ok-check_dictionary.ensures.shows c.in_ok-take_back_open.ensures.recovered in
+    let p = err_from_is_err_and c.from_residual-in_err-check_chains.result c.from_residual-in_err-check_chains.ensures.1 in
+    rw (p.1, p.2)
+    (chains_damage (g.R.PageDisk.told c.args.disk.now) (g.R.PageDisk.told c.take_back_open.new.disk) c.args.end.now c.take_back_open.new.overlay c.in_err-check_chains.field-0.0 same takes c.in_err-check_chains.ensures.cause)
+
 pub returns-clause-ok : goal.returns-clause-ok
 returns-clause-ok g c =
-    let told = g.R.PageDisk.told c.args.disk.now in
-    let logged = c.in_ok-check_log.ensures.told in
-    let opened = c.in_ok-overlay.ensures.told ∙ logged in
-    let redone = c.in_ok-redo.ensures.told ∙ opened in
-    let tested = c.in_ok-check_dictionary.ensures.told ∙ redone in
-    let end = c.args.end.now in
-    let first = c.in_ok-overlay.overlay in
-    let left = c.redo.new.overlay in
-    let over = c.check_dictionary.new.overlay in
-    undoes told end first left over c.take_back_open.new.overlay (retold _ told (λ t. ForTold t (λ m. Shows (image_of m) (image_of m) first)) logged c.in_ok-overlay.ensures.shows)
-    (retold _ told (λ t. LeavesOn t end first left) opened c.in_ok-redo.ensures.ok) (retold _ told (λ t. ShowsSame t left over) redone c.in_ok-check_dictionary.ensures.shows)
-    (retold _ told (λ t. ShowsEdited t over c.take_back_open.new.overlay recovered) tested c.in_ok-take_back_open.ensures.recovered)
+    let same = c.in_ok-take_back_open.ensures.told ∙ c.in_ok-check_dictionary.ensures.told ∙ c.in_ok-redo.ensures.told ∙ c.in_ok-overlay.ensures.told ∙ c.in_ok-check_log.ensures.told in
+    let takes =
+    takes_back (g.R.PageDisk.told c.args.disk.now) (g.R.PageDisk.told c.check_log.new.disk) (g.R.PageDisk.told c.open.new.disk) (g.R.PageDisk.told c.redo.new.disk) (g.R.PageDisk.told c.check_dictionary.new.disk) c.args.end.now c.in_ok-overlay.overlay c.redo.new.overlay
+    c.check_dictionary.new.overlay c.take_back_open.new.overlay c.in_ok-check_log.ensures.told c.in_ok-overlay.ensures.told c.in_ok-redo.ensures.told c.in_ok-check_dictionary.ensures.told c.in_ok-overlay.ensures.shows c.in_ok-redo.ensures.ok
+    c.in_ok-check_dictionary.ensures.shows c.in_ok-take_back_open.ensures.recovered in
+    undoes (g.R.PageDisk.told c.args.disk.now) (g.R.PageDisk.told c.take_back_open.new.disk) c.args.end.now c.take_back_open.new.overlay c.check_chains.new.overlay same takes c.in_ok-check_chains.ensures.shows c.in_ok-check_chains.ensures.sound

@@ -1,0 +1,24 @@
+use Rattle.std.proofs.Common.{◌≡◌, ◌+◌, ◌∙◌, ℕ, Some, arith, ap, sym, subst}
+use Rattle.std.specs.Prelude.{min}
+use Rattle.clone_page.specs.Dictionary.{entry_count}
+use Rattle.clone_space.specs.declared.entry.TableEntry.{TableEntry}
+use Rattle.clone_recover.proofs.TableLemmas.{IsNextBelow, next_more, next_same, next_all}
+use Rattle.clone_recover.proofs.chains.next_table.Goals as goal
+use Rattle.clone_recover.proofs.chains.next_table.Goals.{then-table-above, else-table-above}
+
+pub loop-place-preserved : goal.loop-place-preserved
+loop-place-preserved c =
+    let table : ℕ = c.entry_at-table.result.table in
+    let is = ap (λ (e : TableEntry). e.table) c.entry_at-table.ensures in
+    elim c.if-table-above.branch [
+      | then-table-above w ↦
+          subst (IsNextBelow c.args.system.now c.args.above (c.loop-place.place + 1)) (sym (w.next-is ∙ ap Some (w.min.ensures ∙ ap (λ (k : ℕ). min k table) w.unwrap_or.ensures)))
+          (next_more c.args.system.now c.args.above c.loop-place.place table c.loop-place.next is w.if-table-above.true c.loop-place.invariant)
+      | else-table-above w ↦
+          subst (IsNextBelow c.args.system.now c.args.above (c.loop-place.place + 1)) (sym w.next-is) (next_same c.args.system.now c.args.above c.loop-place.place table c.loop-place.next is w.if-table-above.false c.loop-place.invariant)
+    ]
+
+pub returns : goal.returns
+returns c =
+    let all : c.loop-place.place ≡ entry_count = omega arith in
+    next_all c.args.system.now c.args.above c.loop-place.place c.loop-place.next all c.loop-place.invariant
