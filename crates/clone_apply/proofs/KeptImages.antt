@@ -110,7 +110,7 @@ module _ (d : Donor) (image : Image) (is : IsKept d image) where
   told_sound : (e : UndoEntry) → IsTold c.slot e → IsSound image e
   told_sound e told =
       let own = is.sound.rows.own e.table e.page e.slot e.key told.bound in
-      let row = page_there image e.table e.page (bound_there d c e is.sound.tables is.sound.rows told.bound) in
+      let row = page_there image e.table e.page (bound_there d c e is.sound.tables is.sound.chains is.sound.rows told.bound) in
       record { ranges = told.in_range; listed = listed_there e.table own.0 own.1; row = row.0; there = row.1 }
 
   module _ (slot page : ℕ) (unsound : IsUnsound image slot page) where

@@ -1,6 +1,7 @@
 -- A step of a donor and the disk of a recipient is one of the plain donor, and its disks stay theirs.
-use Rattle.std.proofs.Common.{◌≡◌, ◌⊎◌, inl, inr, ℕ, List, true, refl, sym, ap, ◌∙◌, subst, arith, Option, None, Some, is_some, Result, Ok, Err}
+use Rattle.std.proofs.Common.{◌≡◌, ◌-◌, ◌⊎◌, inl, inr, ℕ, List, true, refl, sym, ap, ◌∙◌, subst, arith, Option, None, Some, is_some, Result, Ok, Err}
 use Rattle.clone_model.specs.declared.change.Change.{Change}
+use Rattle.clone_model.specs.declared.line.TheConstants.{MOST_PAGES}
 use Rattle.clone_buffer.specs.Buffered.{Buffered}
 use Rattle.clone_plain.specs.declared.refusal.Cause.{Cause}
 use Rattle.clone_plain.specs.declared.refusal.Cause.TheVariants as causes
@@ -10,7 +11,8 @@ use Rattle.clone_plain.specs.Donor.{Donor}
 use Rattle.clone_plain.specs.Effects.{put_of, delete_of}
 use Rattle.clone_plain.specs.Calls.{Call, create, begin, put, delete, get, undo_one, commit, flush_begin, flush_half, flush_land, oldest_dirty, checkpoint, end, Done, did_create, did_begin, did_put, did_delete, did_get, did_undo_one, did_commit, did_flush_begin, did_flush_half, did_flush_land, did_oldest_dirty, did_checkpoint, did_end, Made, done, refused, call_of, cause_of, is_below, IsRefused, PlainStep}
 use Rattle.clone_events.specs.Events.{to_donor, to_recipient, Event, made, cleaned, looked, archived, started, started_before, readied, not_started, completed, completed_before, broke, broke_before, lost, lost_before, showed, incomplete, hidden, damaged, ordered, PlainEvent}
-use Rattle.clone_trx.specs.Ways.{Way, reads, stops, writes, makes, ends, Goes, Writes, Misses, Answers, held, page_in}
+use Rattle.clone_trx.proofs.WalkLemmas.{walk_missed}
+use Rattle.clone_trx.specs.Ways.{Way, reads, walks, stops, writes, makes, ends, Goes, Writes, Misses, Answers, held, page_in}
 use Rattle.clone_trx.specs.Ways as ways
 use Rattle.clone_trx.specs.Calls.{undo_last, change_at}
 use Rattle.clone_flush.specs.declared.refusal.FlushRefusal.{FlushRefusal}
@@ -28,6 +30,7 @@ use Rattle.clone_core.specs.System.{System, SystemStep, CallStep, donor_of}
 -- whatever is read, the way stops for a cause below alone
 abbrev pub StopsBelow : Way → Type 0
 StopsBelow (reads page rest) = (bytes : List ℕ) → StopsBelow (rest bytes)
+StopsBelow (walks course rest) = (page : ℕ) (slot : Option ℕ) (bytes : List ℕ) → StopsBelow (rest page slot bytes)
 StopsBelow (stops cause) = is_below cause ≡ true
 StopsBelow (writes records) = Unit {0}
 StopsBelow (makes records) = Unit {0}
@@ -50,15 +53,19 @@ below_of a b is below = ap is_below is ∙ below
 goes_below : (X : Type 0) (way : Way) (old new : Buffered) (cause : Cause) → StopsBelow way → Goes {X = X} way old new (Err (Because cause)) → is_below cause ≡ true
 goes_below X (reads page rest) old new cause stops_below (inl miss) = below_of cause miss.0 (same_because miss.1) (below_of miss.0 _ miss.2.is (missed_below miss.2.refusal))
 goes_below X (reads page rest) old new cause stops_below (inr on) = goes_below X (rest (page_in on.0 on.1)) (held on.0 on.1) on.2 cause (stops_below (page_in on.0 on.1)) on.4
+goes_below X (walks course rest) old new cause stops_below (inl miss) =
+    let m = walk_missed course (MOST_PAGES - 1) course.first None old new (Err (Because miss.0)) miss.2 in
+    below_of cause miss.0 (same_because miss.1) (below_of miss.0 m.3.0 (because m.3.1) (below_of m.3.0 _ m.3.2.is (missed_below m.3.2.refusal)))
+goes_below X (walks course rest) old new cause stops_below (inr on) = goes_below X (rest on.0.page on.0.slot (page_in on.0.at on.1)) on.1 on.2 cause (stops_below on.0.page on.0.slot (page_in on.0.at on.1)) on.4
 goes_below X (stops c) old new cause stops_below is = below_of cause c (same_because is.0) stops_below
 goes_below X (writes records) old new cause stops_below is = below_of cause _ is.0.is refl
 goes_below X (makes records) old new cause stops_below (inl is) = below_of cause _ is.0.is refl
 goes_below X (makes records) old new cause stops_below (inr is) = below_of cause causes.DiskFault (same_because is.1) refl
 goes_below X ends old new cause stops_below is = absurd (let e = is.0 in cc)
 
-change_below : (d : Donor) (trx : ℕ) (change : Change) (row : List ℕ) (place : Option ℕ) → StopsBelow (change_at d trx change row place)
-change_below d trx change row None = refl
-change_below d trx change row (Some place) = λ header page. tt
+change_below : (d : Donor) (trx : ℕ) (change : Change) (number : ℕ) (place : Option ℕ) (row : List ℕ) → StopsBelow (change_at d trx change number place row)
+change_below d trx change number None row = refl
+change_below d trx change number (Some place) row = λ header page. tt
 
 undo_below : (d : Donor) (trx : ℕ) (change : Option Change) → StopsBelow (undo_last d trx change)
 undo_below d trx None = tt
@@ -68,9 +75,9 @@ undo_below d trx (Some change) = λ page row. tt
 pub way_below : (d : Donor) (call : Call) → StopsBelow (way_of d call)
 way_below d (create table buckets) = λ page. tt
 way_below d (begin writer index) = λ page. tt
-way_below d (put trx table key value) = λ row. change_below d trx (put_of table key value) row _
-way_below d (delete trx table key) = λ row. change_below d trx (delete_of table key) row _
-way_below d (get trx table key) = λ row. tt
+way_below d (put trx table key value) = λ number place row. change_below d trx (put_of table key value) number place row
+way_below d (delete trx table key) = λ number place row. change_below d trx (delete_of table key) number place row
+way_below d (get trx table key) = λ number place row. tt
 way_below d (undo_one trx) = λ header. undo_below d trx _
 way_below d (commit trx) = λ header page. tt
 way_below d (flush_begin space page) = tt

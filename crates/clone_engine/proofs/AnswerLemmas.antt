@@ -9,7 +9,8 @@ use Rattle.clone_plain.specs.declared.refusal.Cause.{Cause}
 use Rattle.clone_plain.specs.declared.refusal.Cause.TheVariants.{DiskFault}
 use Rattle.clone_plain.specs.declared.refusal.EngineRefusal.{EngineRefusal}
 use Rattle.clone_plain.specs.declared.refusal.EngineRefusal.TheVariants.{Because, NoMemory}
-use Rattle.clone_trx.specs.Ways.{Way, reads, stops, writes, makes, ends, Goes, Writes, Carries, Answers, held, page_in}
+use Rattle.clone_trx.proofs.SpotLemmas.{all_stays}
+use Rattle.clone_trx.specs.Ways.{Way, reads, walks, stops, writes, makes, ends, Goes, Writes, Carries, Answers, held, page_in}
 use Rattle.clone_engine.specs.Disks.{Visits}
 use Rattle.clone_engine.specs.Engine.{Engine}
 use Rattle.clone_engine.specs.Steps as steps
@@ -38,6 +39,8 @@ module _ {X : Type 0} (did : X → Done) where
   goes_to : (w : Way) (old new : Buffered) (result : Result X EngineRefusal) → Goes w old new result → Goes w old new (answer_of did result)
   goes_to (reads page rest) old new result (inl miss) = inl (miss.0, refused result (Because miss.0) miss.1, miss.2)
   goes_to (reads page rest) old new result (inr on) = inr (on.0, on.1, on.2, on.3, goes_to (rest (page_in on.0 on.1)) (held on.0 on.1) on.2 result on.4, on.5)
+  goes_to (walks course rest) old new result (inl miss) = inl (miss.0, refused result (Because miss.0) miss.1, miss.2)
+  goes_to (walks course rest) old new result (inr on) = inr (on.0, on.1, on.2, on.3, goes_to (rest on.0.page on.0.slot (page_in on.0.at on.1)) on.1 on.2 result on.4, on.5)
   goes_to (stops cause) old new result stopped = (refused result (Because cause) stopped.0, stopped.1)
   goes_to (writes records) old new result w = wrote records old new result w
   goes_to (makes records) old new result (inl w) = inl (wrote records old new result w)
@@ -62,6 +65,8 @@ memory_same records old new (Err NoMemory) is w = w.1
 memory_log : {X : Type 0} (w : Way) (old new : Buffered) (result : Result X EngineRefusal) → result ≡ Err NoMemory → Goes w old new result → new.log ≡ old.log
 memory_log (reads page rest) old new result is (inl miss) = absurd (let e = sym miss.1 ∙ is in cc)
 memory_log (reads page rest) old new result is (inr on) = ap (λ (b : Buffered). b.log) on.5 ∙ memory_log (rest (page_in on.0 on.1)) (held on.0 on.1) on.2 result is on.4 ∙ on.3.log
+memory_log (walks course rest) old new result is (inl miss) = absurd (let e = sym miss.1 ∙ is in cc)
+memory_log (walks course rest) old new result is (inr on) = ap (λ (b : Buffered). b.log) on.5 ∙ memory_log (rest on.0.page on.0.slot (page_in on.0.at on.1)) on.1 on.2 result is on.4 ∙ (all_stays course old on.1 (Ok on.0) on.3).log
 memory_log (stops cause) old new result is stopped = ap (λ (b : Buffered). b.log) stopped.1
 memory_log (writes records) old new result is w = ap (λ (b : Buffered). b.log) (memory_same records old new result is w)
 memory_log (makes records) old new result is (inl w) = ap (λ (b : Buffered). b.log) (memory_same records old new result is w)

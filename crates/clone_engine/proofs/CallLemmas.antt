@@ -1,5 +1,5 @@
 -- What each call of transactions leaves of the log and of the tables, by its answer.
-use Rattle.std.proofs.Common.{◌≡◌, ◌≤◌, inl, inr, ℕ, ap, ◌∙◌, Option, Some, None, Result}
+use Rattle.std.proofs.Common.{◌≡◌, ◌≤◌, inl, inr, ℕ, false, ap, ◌∙◌, Option, Some, None, Result, Ok, Err}
 use Rattle.clone_model.specs.declared.change.Change.{Change}
 use Rattle.clone_buffer.specs.Buffered.{Buffered}
 use Rattle.clone_plain.specs.Causes.{create_cause, begin_cause, change_cause, get_cause, no_trx}
@@ -7,10 +7,12 @@ use Rattle.clone_plain.specs.Donor.{Donor}
 use Rattle.clone_plain.specs.Effects.{created, Begins, Changes, Undoes, Commits}
 use Rattle.clone_plain.specs.declared.refusal.Cause.{Cause}
 use Rattle.clone_plain.specs.declared.refusal.EngineRefusal.{EngineRefusal}
+use Rattle.clone_plain.specs.declared.refusal.EngineRefusal.TheVariants.{Because}
 use Rattle.clone_plain.specs.declared.refusal.Undone.{Undone}
 use Rattle.clone_plain.specs.declared.refusal.Undone.TheVariants.{Left, Ended}
-use Rattle.clone_trx.specs.Calls.{create_way, begin_way, change_way, get_way, undo_way, commit_way}
+use Rattle.clone_trx.specs.Calls.{create_way, begin_way, change_way, get_way, row_walk, undo_way, commit_way}
 use Rattle.clone_trx.specs.Kept.{IsSafe}
+use Rattle.clone_trx.proofs.SpotLemmas.{all_stays}
 use Rattle.clone_trx.specs.Ways.{Answers, Goes}
 use Rattle.clone_engine.proofs.EngineLemmas.{answers_grow, answers_tables}
 use Rattle.clone_engine.proofs.TableRecordLemmas.{create_tables, begin_tables, change_way_tables, may_change_table, get_tables, undo_tables, commit_tables}
@@ -59,8 +61,8 @@ pub get_log : {X : Type 0} (d : Donor) (trx table key : ℕ) (old new : Buffered
 get_log d trx table key old new result Does a = by (get_cause d trx table key) a
   where
     goes : Goes (get_way d table key) old new result → new.log ≡ old.log
-    goes (inl miss) = ap (λ (b : Buffered). b.log) miss.2.same
-    goes (inr on) = ap (λ (b : Buffered). b.log) on.5 ∙ ap (λ (b : Buffered). b.log) on.4.1 ∙ on.3.log
+    goes (inl miss) = (all_stays (row_walk d table key false) old new (Err (Because miss.0)) miss.2).log
+    goes (inr on) = ap (λ (b : Buffered). b.log) on.5 ∙ ap (λ (b : Buffered). b.log) on.4.1 ∙ (all_stays (row_walk d table key false) old on.1 (Ok on.0) on.3).log
 
     by : (cause : Option Cause) → Answers cause (get_way d table key) d d old new result Does → new.log ≡ old.log
     by (Some cause) a = ap (λ (b : Buffered). b.log) a.2

@@ -22,7 +22,7 @@ use Rattle.clone_trx.specs.Kept.{Keeps}
 use Rattle.clone_trx.specs.Sound.{IsKept}
 use Rattle.clone_trx.proofs.Common.{none-some}
 use Rattle.clone_trx.proofs.CreateLemmas.{no_space, unheld}
-use Rattle.clone_trx.proofs.PinLemmas.{set_pins}
+use Rattle.clone_trx.proofs.FramePinLemmas.{set_pins}
 use Rattle.clone_engine.specs.Engine.{HasFiles}
 use Rattle.clone_engine.proofs.FileLemmas.{page_there}
 

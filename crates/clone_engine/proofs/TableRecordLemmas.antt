@@ -8,7 +8,6 @@ use Rattle.clone_model.proofs.Cuts.{recursion-append}
 use Rattle.clone_model.specs.declared.change.Change.{Change}
 use Rattle.clone_model.specs.declared.change.Commit.{Commit}
 use Rattle.clone_row.specs.Slots as rows
-use Rattle.clone_row.specs.Slots.{slots}
 use Rattle.clone_page.specs.declared.kind.PageKind.{PageKind}
 use Rattle.clone_page.specs.declared.kind.PageKind.TheVariants.{Undo, Bucket}
 use Rattle.clone_mtr.specs.declared.record.Record.{Record}
@@ -21,7 +20,7 @@ use Rattle.clone_recover.specs.Reading.{IsOfTable}
 use Rattle.clone_plain.specs.Causes.{change_cause, least_unused}
 use Rattle.clone_plain.specs.Donor.{Donor, changes_of}
 use Rattle.clone_trx.specs.Calls.{create_way, begin_way, change_way, change_at, get_way, undo_way, undo_last, commit_way, before_change, tells_of, last_change, is_new}
-use Rattle.clone_trx.specs.Places.{told, place_in, held_value}
+use Rattle.clone_trx.specs.Places.{told, page_number, held_value}
 use Rattle.clone_trx.proofs.CauseLemmas.{may_change}
 use Rattle.clone_trx.specs.Kept.{IsSafe}
 use Rattle.clone_engine.proofs.WayLemmas.{WritesOfTables}
@@ -54,22 +53,22 @@ begin_tables d writer index page =
     let last : AllOfTables (system_write (header_page trx) header_place (header_bytes 0 writer index) ∷ []) = (system, tt) in
     recursion-append IsOfTable (made_first (is_new page) 0 (header_page trx) Undo) (system_write (header_page trx) header_place (header_bytes 0 writer index) ∷ []) (first_tables (is_new page) 0 (header_page trx) Undo system) last
 
-change_at_tables : (d : Donor) (trx : ℕ) (change : Change) (row : List ℕ) (place : Option ℕ) → change.table ≤ 1000000 → WritesOfTables (change_at d trx change row place)
-change_at_tables d trx change row None high = tt
-change_at_tables d trx change row (Some place) high = λ header page.
-    change_tables (is_new page) (is_new row) trx (length (changes_of d trx)) (told d change.table change.key place (held_value row place)) (rows.image change.key change.value) (below high)
+change_at_tables : (d : Donor) (trx : ℕ) (change : Change) (number : ℕ) (place : Option ℕ) (row : List ℕ) → change.table ≤ 1000000 → WritesOfTables (change_at d trx change number place row)
+change_at_tables d trx change number None row high = tt
+change_at_tables d trx change number (Some place) row high = λ header page.
+    change_tables (is_new page) (is_new row) trx (length (changes_of d trx)) (told change.table number change.key place (held_value row place)) (rows.image change.key change.value) (below high)
 
 pub change_way_tables : (d : Donor) (trx : ℕ) (change : Change) → change.table ≤ 1000000 → WritesOfTables (change_way d trx change)
-change_way_tables d trx change high row = change_at_tables d trx change row (place_in change.key (slots row)) high
+change_way_tables d trx change high number place row = change_at_tables d trx change number place row high
 
 pub get_tables : (d : Donor) (table key : ℕ) → WritesOfTables (get_way d table key)
-get_tables d table key row = tt
+get_tables d table key number place row = tt
 
 -- an undo record that counts as one of a row names the row's table
 before_table : (d : Donor) (table key : ℕ) (e : UndoEntry) → (before_change d table key e).table ≡ table
-before_table d table key e = by (tells_of d table key e) refl
+before_table d table key e = by (tells_of table key e) refl
   where
-    by : (b : Bool) → tells_of d table key e ≡ b → (if b then e else told d table key 0 None).table ≡ table
+    by : (b : Bool) → tells_of table key e ≡ b → (if b then e else told table (page_number d table key) key 0 None).table ≡ table
     by true is = eqb-true e.table table (and_parts (e.table == table) _ is).0
     by false is = refl
 

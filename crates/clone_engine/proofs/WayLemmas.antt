@@ -1,5 +1,5 @@
 -- The log that a way leaves: it is as before, or one mini-transaction of the way stands behind it.
-use Rattle.std.proofs.Common.{◌≡◌, inl, inr, ℕ, List, refl, sym, ap, subst, ◌∙◌, arith, Result, Ok, Err}
+use Rattle.std.proofs.Common.{◌≡◌, inl, inr, ℕ, List, refl, sym, ap, subst, ◌∙◌, arith, Option, Result, Ok, Err}
 use Rattle.std.proofs.lemmas.List.{length-append}
 use Rattle.std.specs.List.{AllByRecursion}
 use Rattle.clone_base.proofs.Lists.{All-push}
@@ -11,11 +11,13 @@ use Rattle.clone_recover.specs.Reading.{IsOfTable, AreOfTables}
 use Rattle.clone_plain.specs.declared.refusal.EngineRefusal.{EngineRefusal}
 use Rattle.clone_plain.specs.declared.refusal.EngineRefusal.TheVariants.{Because, NoMemory}
 use Rattle.clone_engine.specs.Growth.{GrowsByOne, KeepsRing}
-use Rattle.clone_trx.specs.Ways.{Way, reads, stops, writes, makes, ends, Goes, Writes, held, page_in}
+use Rattle.clone_trx.proofs.SpotLemmas.{all_stays}
+use Rattle.clone_trx.specs.Ways.{Way, reads, walks, stops, writes, makes, ends, Goes, Writes, held, page_in}
 
 -- whatever is read, the way writes records of tables and of the system space alone
 abbrev pub WritesOfTables : Way → Type 0
 WritesOfTables (reads page rest) = (bytes : List ℕ) → WritesOfTables (rest bytes)
+WritesOfTables (walks course rest) = (page : ℕ) (slot : Option ℕ) (bytes : List ℕ) → WritesOfTables (rest page slot bytes)
 WritesOfTables (stops cause) = Unit {0}
 WritesOfTables (writes records) = AllByRecursion IsOfTable records
 WritesOfTables (makes records) = AllByRecursion IsOfTable records
@@ -68,6 +70,14 @@ goes_grows (reads page rest) old new result all (inr on) =
     let last : Buffered = on.2 in
     around old (held at next) last new on.3.log on.3.ring (ap (λ (b : Buffered). b.log) on.5) (ap (λ (b : Buffered). b.ring) on.5)
     (goes_grows (rest (page_in at next)) (held at next) last result (all (page_in at next)) on.4)
+goes_grows (walks course rest) old new result all (inl miss) = let left = all_stays course old new (Err (Because miss.0)) miss.2 in stays old new left.log left.ring
+goes_grows (walks course rest) old new result all (inr on) =
+    let spot = on.0 in
+    let next : Buffered = on.1 in
+    let last : Buffered = on.2 in
+    let left = all_stays course old next (Ok spot) on.3 in
+    around old next last new left.log left.ring (ap (λ (b : Buffered). b.log) on.5) (ap (λ (b : Buffered). b.ring) on.5)
+    (goes_grows (rest spot.page spot.slot (page_in spot.at next)) next last result (all spot.page spot.slot (page_in spot.at next)) on.4)
 goes_grows (stops cause) old new result all stopped = same_grows old new stopped.1
 goes_grows (writes records) old new result all w = written_grows records old new result all w
 goes_grows (makes records) old new result all (inl w) = written_grows records old new result all w

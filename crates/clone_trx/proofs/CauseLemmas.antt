@@ -49,7 +49,8 @@ own_or_free trx (Some holder) none = at (holder == trx) refl none
 
 -- A change.
 
--- there is no cause against it: the transaction is open and has room, the table is there, and the row is free
+-- there is no cause against it: the transaction is open and has room, the table is there, and the
+-- row is free
 pub record MayChange (d : Donor) (trx table key : ℕ) : Type 0 where
   pub commit : Commit
   pub was_active : finite.get d.active trx ≡ Some commit

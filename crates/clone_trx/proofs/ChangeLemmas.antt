@@ -1,14 +1,12 @@
 -- A change that was made at its place, and one that was taken away at once.
-use Rattle.std.proofs.Common.{◌≡◌, ◌≤◌, ◌-◌, ◌%◌, ◌==◌, ℕ, Bool, true, false, List, [], ◌∷◌, ◌++◌, length, take, replicate, sym, ap, subst, ◌∙◌, arith, inl, inr, Option, Some, None, IfSome, IsTrue, MatchOption, if◌then◌else◌, unwrap_or, nat_cmp, length-append}
-use Rattle.clone_trx.proofs.Common.{nat_cmp-IsAntisymmetric, same_map, nat_cmp_total, take-append_seam, cases_eq, length-replicate, big_bytes, length-bytes_high_first, get-set_same, get-set_other, Change, Commit, Record, UndoEntry, IsEntry, record_page, records_of_change, Image, page_of, all_pages, after_records, all_pages-is, contents_of, kind_of, is_unused, Donor, changes_of, Changes, with_change, Locks, Opened, value_of, page_number, IsKept, IsPlaceOn, IsPlaceFor, told, front_of, TakesLast, Pops}
+use Rattle.std.proofs.Common.{◌≡◌, ◌≤◌, ◌-◌, ◌==◌, ℕ, Bool, true, false, List, [], ◌∷◌, ◌++◌, length, take, replicate, sym, ap, subst, ◌∙◌, arith, inl, inr, Option, Some, None, IfSome, IsTrue, MatchOption, if◌then◌else◌, nat_cmp, length-append}
+use Rattle.clone_trx.proofs.Common.{nat_cmp-IsAntisymmetric, same_map, nat_cmp_total, take-append_seam, cases_eq, length-replicate, big_bytes, length-bytes_high_first, get-set_same, get-set_other, Change, Commit, Record, UndoEntry, IsEntry, record_page, records_of_change, Image, page_of, after_records, all_pages-is, contents_of, kind_of, is_unused, Donor, Changes, with_change, Locks, Opened, value_of, IsKept, IsPlaceFor, told, front_of, TakesLast, Pops}
 use Rattle.std.specs.FinMap as finite
 use Rattle.clone_row.specs.Slots as rows
 use Rattle.clone_buffer.specs.Buffered.{Buffered, image_of}
 use Rattle.clone_trx.specs.Calls.{is_new}
 use Rattle.clone_trx.proofs.CauseLemmas.{MayChange}
-use Rattle.clone_trx.proofs.KeyPlaceLemmas.{bucket_page, may_take}
 use Rattle.clone_trx.proofs.SoundChangeLemmas.{Puts}
-use Rattle.clone_trx.proofs.RowSlotLemmas.{MayTake}
 use Rattle.clone_trx.proofs.KeptLemmas.{change_of, put_keeps}
 
 -- a value whose slot has 80 bytes is short
@@ -47,48 +45,20 @@ module _ (d after : Donor) (b : Buffered) (trx : ℕ) (change : Change) (entry :
   abbrev bytes : List ℕ
   bytes = rows.image change.key change.value
 
-  abbrev total : ℕ
-  total = length (changes_of d trx)
-
-  abbrev number : ℕ
-  number = page_number d change.table change.key
-
-  number_is : number ≡ change.key % g.may.buckets
-  number_is = ap (λ o. change.key % unwrap_or o 0) g.may.was_table
-
-  there : (page : List ℕ) × (page_of image change.table (change.key % g.may.buckets) ≡ Some page)
-  there = bucket_page g.kept change.table change.key g.may.buckets g.may.was_table
-
-  same_page : all_pages image change.table number ≡ there.0
-  same_page = ap (all_pages image change.table) number_is ∙ all_pages-is image change.table (change.key % g.may.buckets) there.0 there.1
-
-  on_page : IsPlaceOn change.key there.0 entry.slot
-  on_page = subst (λ (p : List ℕ). IsPlaceOn change.key p entry.slot) ((λ i. all_pages image (g.place.table i) (g.place.page i)) ∙ same_page) (g.place.place g.right)
-
-  may_hold : MayTake (contents_of image) change.table (change.key % g.may.buckets) entry.slot change.key
-  may_hold = may_take d image change.table change.key g.may.buckets there.0 g.kept g.may.was_table there.1 entry.slot on_page
-
-  told_is : entry ≡ told d change.table change.key entry.slot (value_of d change.table change.key)
+  told_is : entry ≡ told change.table entry.page change.key entry.slot (value_of d change.table change.key)
   told_is = g.place.told g.right
 
-  puts : Puts d after (contents_of image) trx change entry.slot
-  puts = record {
-    made = g.made;
-    lock = g.may.lock;
-    room = g.may.few;
-    short = g.short;
-    is_place = subst (λ (n : ℕ). MayTake (contents_of image) change.table n entry.slot change.key) (sym number_is) may_hold;
-    in_range = subst IsEntry told_is g.place.in_range;
-  }
+  puts : Puts d after (contents_of image) trx change entry.page entry.slot
+  puts = record { made = g.made; lock = g.may.lock; room = g.may.few; short = g.short; is_place = g.place.place g.right; in_range = subst IsEntry told_is g.place.in_range }
 
-  same_records : records_of_change new_page is_new trx count entry bytes ≡ change_of d image trx change entry.slot
+  same_records : records_of_change new_page is_new trx count entry bytes ≡ change_of d image trx change entry.page entry.slot
   same_records = λ i. records_of_change
       ((g.new ∙ ap (λ n. is_unused image 0 (record_page trx n)) g.place.count) i)
       ((g.place.unused g.right ∙ ap (λ (u : UndoEntry). is_unused image u.table u.page) told_is) i) trx (g.place.count i) (told_is i) bytes
 
   -- the pages are those of the donor after the change
   pub made_kept : (lsn : ℕ) → IsKept after (after_records lsn image (records_of_change new_page is_new trx count entry bytes))
-  made_kept lsn = subst (λ (records : List Record). IsKept after (after_records lsn image records)) (sym same_records) (put_keeps lsn trx entry.slot d after image change g.kept puts)
+  made_kept lsn = subst (λ (records : List Record). IsKept after (after_records lsn image records)) (sym same_records) (put_keeps lsn trx entry.page entry.slot d after image change g.kept puts)
 
 -- what joined the others of its transaction, with the row's lock, is a change
 pub made_change : (d : Donor) (trx : ℕ) (change : Change) (active : Opened) (locks : Locks) → MayChange d trx change.table change.key → IfSome (finite.get d.active trx) (λ c. active ≡ finite.insert d.active trx (with_change change c)) → locks ≡ finite.insert d.locks (change.table, change.key) trx

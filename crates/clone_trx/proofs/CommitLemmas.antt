@@ -1,4 +1,5 @@
--- A transaction commits, and the contents stay sound. At first, with no table and no transaction, they are.
+-- A transaction commits, and the contents stay sound. At first, with no table and no transaction,
+-- they are.
 use Rattle.std.proofs.Common.{◌≡◌, ◌≢◌, ℕ, suc, List, [], ◌∷◌, refl, sym, ap, subst, ◌∙◌, inl, inr, Option, Some, None, slice_get, arith, length, is_some, nat_cmp}
 use Rattle.clone_trx.proofs.Common.{nat_cmp-IsAntisymmetric, get-empty, len-empty, nat_cmp_total, cases_eq, same_Some, none-some, length_push, row_cmp, Rows, after_change, after_changes, Change, Commit, unused, bound_key, UndoEntry, Contents, set_at, system_size, committed, opened, set_at-same, set_at-other, Donor, no_donor, Commits, Slots, TellsChanges, StandsFor, IsSound, committed_rows, changes_by, value_of, get-removed_same, after_changes_same, others-removed, committed_other, committed_value, committed_locked}
 use Rattle.std.specs.FinMap as finite
@@ -22,7 +23,7 @@ committed_sound d after c trx position k sound = record {
   locked = committed_locked sound.locked k;
   tables = same_tables d after c (committed trx position c) tables refl refl sound.tables;
   chains = same_chains d after c (committed trx position c) tables refl refl sound.chains;
-  rows = rows_still d after c.slot tables (committed_value sound.locked k) sound.rows;
+  rows = rows_still d after c.next c.slot tables (committed_value sound.locked k) sound.rows;
   undo = λ s low. elim (cases_eq s trx) [
     | inl same ↦ subst (λ (n : ℕ). StandsFor after c.slot (finite.get after.active n) ((set_at trx None c.undo) n)) (sym same)
         (subst (λ (o : Option Commit). StandsFor after c.slot o ((set_at trx None c.undo) trx)) (sym gone) (set_at-same trx trx None c.undo refl))

@@ -30,7 +30,7 @@ pub use Rattle.clone_plain.specs.Effects.{created, Gets}
 pub use Rattle.clone_plain.specs.declared.refusal.Cause.{Cause}
 pub use Rattle.clone_plain.specs.declared.refusal.Cause.TheVariants.{NoSuchTable, SpaceFull, NoSuchTrx, RowLocked, ValueTooLong, UndoFull}
 pub use Rattle.clone_trx.specs.Locked.{holders_of, without, Lists, list_at, AreListed}
-pub use Rattle.clone_trx.specs.Kept.{IsSafe, AreTables, Keeps, AreLoose, Has, IsHeld, IsPlaceFor, IsLast, IsLastRecord}
+pub use Rattle.clone_trx.specs.Kept.{IsSafe, AreTables, Keeps, AreLoose, Has, IsHeld, IsNowhere, IsPlace, IsSpot, IsPlaceFor, IsLast, IsLastRecord}
 pub use Rattle.clone_trx.specs.Opened.{donor_of, front_of, TakesLast, Pops, opened_of}
-pub use Rattle.clone_trx.specs.Places.{IsPlaceOn, page_number, place_in, told, state_of_row, held_value, HasValue}
-pub use Rattle.clone_trx.specs.Sound.{IsKept, StandsFor, IsSound, TellsChanges, TellsChange, IsUndoSlot, HoldsRows, Slots, HoldsTables, HoldsChains, HasChain, IsBound, HoldsUndo}
+pub use Rattle.clone_trx.specs.Places.{page_number, told, state_of_row, held_value}
+pub use Rattle.clone_trx.specs.Sound.{IsKept, StandsFor, IsSound, TellsChanges, TellsChange, IsUndoSlot, HoldsRows, Slots, Nexts, OnChain, HoldsTables, HoldsChains, HasChain, IsBound, HoldsUndo}

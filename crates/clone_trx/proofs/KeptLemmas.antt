@@ -40,21 +40,21 @@ begin_keeps lsn trx writer index d image is least writer_fits index_fits =
     kept (begin_is image lsn trx writer index is.formed free.0 writer_fits index_fits) (begun_sound d (contents_of image) trx writer index free.0 free.1 is.sound)
 
 -- the records of a change
-abbrev pub change_of : Donor → Image → ℕ → Change → ℕ → List Record
-change_of d image trx change place =
+abbrev pub change_of : Donor → Image → ℕ → Change → ℕ → ℕ → List Record
+change_of d image trx change page place =
     let count = length (changes_of d trx) in
-    let entry = told d change.table change.key place (value_of d change.table change.key) in
+    let entry = told change.table page change.key place (value_of d change.table change.key) in
     records_of_change (is_unused image 0 (record_page trx count)) (is_unused image entry.table entry.page) trx count entry (rows.image change.key change.value)
 
-pub put_keeps : (lsn trx place : ℕ) (d after : Donor) (image : Image) (change : Change) → IsKept d image → Puts d after (contents_of image) trx change place
-    → IsKept after (after_records lsn image (change_of d image trx change place))
-put_keeps lsn trx place d after image change is p =
+pub put_keeps : (lsn trx page place : ℕ) (d after : Donor) (image : Image) (change : Change) → IsKept d image → Puts d after (contents_of image) trx change page place
+    → IsKept after (after_records lsn image (change_of d image trx change page place))
+put_keeps lsn trx page place d after image change is p =
     let c : Contents = contents_of image in
-    let entry = e d after c trx change place is.sound p in
-    let has = change_is image lsn trx (slot d after c trx change place is.sound p) entry change.value is.formed (may_change d after c trx change place is.sound p) in
+    let entry = e d after c trx change page place is.sound p in
+    let has = change_is image lsn trx (slot d after c trx change page place is.sound p) entry change.value is.formed (may_change d after c trx change page place is.sound p) in
     subst (λ (n : ℕ). IsKept after (after_records lsn image (records_of_change (is_unused image 0 (record_page trx n)) (is_unused image entry.table entry.page) trx n entry (rows.image change.key change.value))))
-    (same_count d after c trx change place is.sound p)
-    (kept has (put_sound d after c trx change place is.sound p))
+    (same_count d after c trx change page place is.sound p)
+    (kept has (put_sound d after c trx change page place is.sound p))
 
 pub take_back_keeps : (lsn trx left : ℕ) (d after : Donor) (image : Image) (slot : UndoSlot) (front : List UndoEntry) (e : UndoEntry) → IsKept d image → TakesBack d trx left after → (contents_of image).undo trx ≡ Some slot → slot.records ≡ front ++ e ∷ []
     → IsKept after (after_records lsn image (records_of_taking_back trx (left + 1) e))

@@ -1,7 +1,9 @@
--- What an undo record tells of a row counts where it is one of the row, else it counts as one of an absent row.
+-- What an undo record tells of a row counts where it is one of the row. Else it counts as one of an
+-- absent row.
 use Rattle.std.proofs.Common.{◌≡◌, ◌≤◌, ◌<◌, ◌^◌, ◌==◌, ◌&&◌, inl, inr, ℕ, Bool, true, false, List, length, refl, sym, ap, ◌∙◌, arith, None, nat_lt, nat_le, eq-eqb, eqb-true}
 use Rattle.std.proofs.lemmas.Bool.{and_parts, and_from, ltb-true, leb-true, lt-ltb, le-leb, cond_both, cond-true, cond-false, false_from_ne_true}
 use Rattle.std.proofs.lemmas.List.{nil_from_length}
+use Rattle.clone_model.specs.declared.line.TheConstants.{MOST_PAGES}
 use Rattle.clone_page.specs.Slots.{slot_count}
 use Rattle.clone_trx.proofs.Common.{UndoEntry, IsEntry, IsBefore, VALUE_LIMIT, Donor, page_number, told}
 use Rattle.clone_trx.specs.Calls.{tells_before, tells_of, before_change}
@@ -22,35 +24,34 @@ is_before e (inr absent) =
     ∙ and_from (e.state == 2) (length e.value == 0) (eq-eqb e.state 2 absent.0) (ap (λ (v : List ℕ). length v == 0) absent.1)
 
 -- an undo record is of this row
-pub record IsOf (d : Donor) (t k : ℕ) (e : UndoEntry) : Type 0 where
+pub record IsOf (t k : ℕ) (e : UndoEntry) : Type 0 where
   pub table : e.table ≡ t
-  pub page : e.page ≡ page_number d t k
   pub key : e.key ≡ k
 
 module _ (d : Donor) (table key : ℕ) (e : UndoEntry) where
   abbrev absent : UndoEntry
-  absent = told d table key 0 None
+  absent = told table (page_number d table key) key 0 None
 
-  of_row : tells_of d table key e ≡ true → IsOf d table key e × (e.slot < slot_count) × IsBefore e.state e.value
+  of_row : tells_of table key e ≡ true → IsOf table key e × (e.page < MOST_PAGES) × (e.slot < slot_count) × IsBefore e.state e.value
   of_row is =
       let t = and_parts (e.table == table) _ is in
-      let p = and_parts (e.page == page_number d table key) _ t.1 in
+      let p = and_parts (nat_lt e.page MOST_PAGES) _ t.1 in
       let s = and_parts (nat_lt e.slot slot_count) _ p.1 in
       let k = and_parts (e.key == key) (tells_before e) s.1 in
-      (record { table = eqb-true e.table table t.0; page = eqb-true e.page (page_number d table key) p.0; key = eqb-true e.key key k.0 }, ltb-true e.slot slot_count s.0, before_is e k.1)
+      (record { table = eqb-true e.table table t.0; key = eqb-true e.key key k.0 }, ltb-true e.page MOST_PAGES p.0, ltb-true e.slot slot_count s.0, before_is e k.1)
 
   -- one of the row that is in its ranges counts
-  pub before_same : IsOf d table key e → IsEntry e → before_change d table key e ≡ e
+  pub before_same : IsOf table key e → IsEntry e → before_change d table key e ≡ e
   before_same o is =
-      cond-true (tells_of d table key e) e absent
-      (and_from (e.table == table) _ (eq-eqb e.table table o.table) (and_from (e.page == page_number d table key) _ (eq-eqb e.page (page_number d table key) o.page)
+      cond-true (tells_of table key e) e absent
+      (and_from (e.table == table) _ (eq-eqb e.table table o.table) (and_from (nat_lt e.page MOST_PAGES) _ (lt-ltb e.page MOST_PAGES (omega (arith, is.place.2)))
       (and_from (nat_lt e.slot slot_count) _ (lt-ltb e.slot slot_count is.place.3) (and_from (e.key == key) (tells_before e) (eq-eqb e.key key o.key) (is_before e is.before)))))
 
   -- another doesn't
-  pub before_other : (IsOf d table key e → IsEntry e → ⊥) → 1 ≤ table → table ≤ 1000000 → page_number d table key < 65536 → key < 2 ^ 64 → before_change d table key e ≡ absent
-  before_other not low high small fits = cond-false (tells_of d table key e) e absent (false_from_ne_true (tells_of d table key e) (λ is.
+  pub before_other : (IsOf table key e → IsEntry e → ⊥) → 1 ≤ table → table ≤ 1000000 → key < 2 ^ 64 → before_change d table key e ≡ absent
+  before_other not low high fits = cond-false (tells_of table key e) e absent (false_from_ne_true (tells_of table key e) (λ is.
       let o = of_row is in
-      not o.0 (record { place = (omega (arith, low, o.0.table), omega (arith, high, o.0.table), omega (arith, small, o.0.page), o.1); before = o.2; key = omega (arith, fits, o.0.key) })))
+      not o.0 (record { place = (omega (arith, low, o.0.table), omega (arith, high, o.0.table), omega (arith, o.1), o.2); before = o.3; key = omega (arith, fits, o.0.key) })))
 
-  pub before_of : IsOf d table key (before_change d table key e)
-  before_of = cond_both (tells_of d table key e) e absent (IsOf d table key) (λ is. (of_row is).0) (λ is. record { table = refl; page = refl; key = refl })
+  pub before_of : IsOf table key (before_change d table key e)
+  before_of = cond_both (tells_of table key e) e absent (IsOf table key) (λ is. (of_row is).0) (λ is. record { table = refl; key = refl })

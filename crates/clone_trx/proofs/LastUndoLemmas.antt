@@ -1,13 +1,13 @@
 -- The last change of a transaction, and its undo record.
-use Rattle.std.proofs.Common.{◌≡◌, ◌≤◌, ◌<◌, ◌+◌, ◌-◌, ◌%◌, ◌++◌, ℕ, List, [], ◌∷◌, length, take, refl, sym, ap, subst, ◌∙◌, arith, Option, Some, None, IsSome, is_some, MatchOption, slice_get, take_at, unwrap_or}
-use Rattle.clone_trx.proofs.Common.{length_push, slice_get-pushed_last, same_Some, after_changes, Change, Commit, UndoEntry, UndoSlot, entry_on, record_page, records_of_taking_back, capacity, Image, page_of, page_there, after_records, system_pages, undo_slot_of, contents_of, undo_there, undo_is, Donor, TakesBack, Opened, IsLocked, committed_rows, changes_of, changes_of_active, TRANSACTION_LIMIT, page_number, Pops, TakesLast, front_of, IsKept, IsSafe, IsLast, IsLastRecord, Slots, TellsChange}
+use Rattle.std.proofs.Common.{◌≡◌, ◌≤◌, ◌<◌, ◌+◌, ◌-◌, ◌++◌, ℕ, List, [], ◌∷◌, length, take, refl, sym, ap, subst, ◌∙◌, arith, Option, Some, None, IsSome, is_some, MatchOption, slice_get, take_at, unwrap_or}
+use Rattle.clone_trx.proofs.Common.{length_push, slice_get-pushed_last, same_Some, after_changes, Change, Commit, UndoEntry, UndoSlot, entry_on, record_page, records_of_taking_back, capacity, Image, page_of, page_there, after_records, system_pages, undo_slot_of, contents_of, undo_there, undo_is, Donor, TakesBack, Opened, IsLocked, committed_rows, changes_of, changes_of_active, TRANSACTION_LIMIT, Pops, TakesLast, front_of, IsKept, IsSafe, IsLast, IsLastRecord, Slots, TellsChange}
 use Rattle.std.specs.FinMap as finite
 use Rattle.clone_undo.proofs.Effects as undo
-use Rattle.clone_trx.specs.Calls.{before_change, bucket_page, last_change, system_page, undo_last}
+use Rattle.clone_trx.specs.Calls.{before_change, row_page, last_change, system_page, undo_last}
 use Rattle.clone_trx.specs.Ways.{reads, writes}
 use Rattle.clone_trx.proofs.LastRecordLemmas.{IsOf, before_same}
 use Rattle.clone_trx.proofs.KeptLemmas.{InUse, in_use, take_back_keeps}
-use Rattle.clone_trx.proofs.TakingBackLemmas.{may_take}
+use Rattle.clone_trx.proofs.TakingBackLemmas.{bound_there, may_take}
 use Rattle.clone_trx.proofs.UndoRecordLemmas.{counted, tells_split}
 
 -- a list that isn't empty has a last element
@@ -53,13 +53,13 @@ module _ (d : Donor) (trx count table key : ℕ) (l : IsLast d trx count table k
   last_table safe = subst (λ (t : ℕ). IsSome (finite.get d.tables t)) l.table_is (safe.rows l.change.table l.change.key trx (safe.locked.own trx l.commit (count - 1) l.change l.active l.last))
 
   -- what is read and written where it is taken back
-  pub last_way : undo_last d trx (last_change d trx) ≡ reads (system_page (record_page trx (count - 1))) (λ page. reads (bucket_page d table key) (λ row. writes (records_of_taking_back trx count (before_change d table key (entry_on (count - 1) page)))))
+  pub last_way : undo_last d trx (last_change d trx) ≡ reads (system_page (record_page trx (count - 1))) (λ page. reads (row_page (before_change d table key (entry_on (count - 1) page))) (λ row. writes (records_of_taking_back trx count (before_change d table key (entry_on (count - 1) page)))))
   last_way =
       let all : changes_of d trx ≡ l.commit.changes = changes_of_active d trx l.commit l.active in
       let n : length (changes_of d trx) ≡ count = ap length all ∙ sym l.made in
       let is : last_change d trx ≡ Some l.change = (λ i. slice_get (all i) (n i - 1)) ∙ l.last in
       ap (undo_last d trx) is
-      ∙ (λ i. reads (system_page (record_page trx (n i - 1))) (λ page. reads (bucket_page d (l.table_is i) (l.key_is i)) (λ row. writes (records_of_taking_back trx (n i) (before_change d (l.table_is i) (l.key_is i) (entry_on (n i - 1) page))))))
+      ∙ (λ i. reads (system_page (record_page trx (n i - 1))) (λ page. reads (row_page (before_change d (l.table_is i) (l.key_is i) (entry_on (n i - 1) page))) (λ row. writes (records_of_taking_back trx (n i) (before_change d (l.table_is i) (l.key_is i) (entry_on (n i - 1) page))))))
 
   -- What stands on the page of its last undo record, where the image keeps what the donor is.
   module _ (image : Image) (kept : IsKept d image) (page : List ℕ) (there : page_of image 0 (record_page trx (count - 1)) ≡ Some page) where
@@ -101,13 +101,8 @@ module _ (d : Donor) (trx count table key : ℕ) (l : IsLast d trx count table k
         subst (λ (n : ℕ). e ≡ entry_on n (system_pages image (record_page trx n))) at (undo.last_is trx (system_pages image) whole records.0 e used records.2)
         ∙ ap (λ (o : Option (List ℕ)). entry_on (count - 1) (unwrap_or o [])) there
 
-    is_of : IsOf d table key e
-    is_of =
-        let own = kept.sound.rows.own e.table e.page e.slot e.key tells.bound in
-        let in_table : e.table ≡ table = tells.table ∙ ap (λ (c : Change). c.table) last_is ∙ l.table_is in
-        let of_key : e.key ≡ key = tells.key ∙ ap (λ (c : Change). c.key) last_is ∙ l.key_is in
-        let number : e.page ≡ page_number d e.table e.key = own.2 ∙ ap (λ (o : Option ℕ). e.key % unwrap_or o 0) (sym own.1) in
-        record { table = in_table; page = number ∙ (λ i. page_number d (in_table i) (of_key i)); key = of_key }
+    is_of : IsOf table key e
+    is_of = record { table = tells.table ∙ ap (λ (c : Change). c.table) last_is ∙ l.table_is; key = tells.key ∙ ap (λ (c : Change). c.key) last_is ∙ l.key_is }
 
     -- so what is read there is the last record of the undo slot
     pub last_read : IsLastRecord image trx (before_change d table key (entry_on (count - 1) page))
@@ -115,7 +110,19 @@ module _ (d : Donor) (trx count table key : ℕ) (l : IsLast d trx count table k
         let same : before_change d table key (entry_on (count - 1) page) ≡ e = ap (before_change d table key) (sym read) ∙ before_same d table key e is_of tells.in_range in
         record { slot = whole; front = records.0; used = used; last = records.2 ∙ ap (λ (x : UndoEntry). records.0 ++ x ∷ []) (sym same) }
 
--- The page of the row of a change that is taken back is there, and the pages are those of the donor afterwards.
+-- the page of the row that the last undo record tells of is there
+pub last_there : (d : Donor) (image : Image) (trx count table key : ℕ) (e : UndoEntry) → IsLast d trx count table key → IsKept d image → IsLastRecord image trx e → IsSome (page_of image e.table e.page)
+last_there d image trx count table key e l kept r =
+    let u = in_use d image trx l.commit kept l.active in
+    let whole : UndoSlot = record { writer = l.commit.writer; index = l.commit.index; records = u.own.records } in
+    let same : whole ≡ r.slot = same_Some whole r.slot (sym (undo_there image trx whole u.small u.own.is) ∙ r.used) in
+    let records : u.own.records ≡ r.front ++ e ∷ [] = ap (λ (s : UndoSlot). s.records) same ∙ r.last in
+    let changes = last_apart l.commit.changes (count - 1) (omega (arith, l.made, some_of l.commit.changes (count - 1) l.change l.last)) in
+    let tells = (tells_split (contents_of image).slot (committed_rows d) l.commit.changes changes.0 u.own.records r.front changes.1 e changes.2 records u.own.tells).1 in
+    ap is_some (page_there image e.table e.page (bound_there d (contents_of image) e kept.sound.tables kept.sound.chains kept.sound.rows tells.bound)).1
+
+-- The page of the row of a change that is taken back is there, and the pages are those of the donor
+-- afterwards.
 module _ (d after : Donor) (image : Image) (trx left : ℕ) (e : UndoEntry) (kept : IsKept d image) (t : TakesBack d trx left after) (r : IsLastRecord image trx e) where
   used_in : (contents_of image).undo trx ≡ Some r.slot
   used_in = undo_is image trx (kept.sound.locked.few.numbers trx (ap is_some t.was_active)) ∙ r.used

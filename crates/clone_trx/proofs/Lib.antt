@@ -34,3 +34,9 @@ pub mod BeginLemmas
 pub mod OpenLemmas
 pub mod FoundPlaceLemmas
 pub mod SpaceLemmas
+pub mod FramePinLemmas
+pub mod HeldPageLemmas
+pub mod WalkLemmas
+pub mod WalkedLemmas
+pub mod WalkStepLemmas
+pub mod SpotLemmas

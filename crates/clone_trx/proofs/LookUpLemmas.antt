@@ -1,13 +1,15 @@
--- A row is read: the page of its bucket, and the value that is found there.
-use Rattle.std.proofs.Common.{◌≡◌, ◌%◌, ℕ, List, Option, Some, None, IsTrue, Ok, refl, sym, ap, subst, ◌∙◌, option_map, unwrap_or}
+-- A row is read: the walk along its chain, and the value that is found.
+use Rattle.std.proofs.Common.{◌≡◌, ◌%◌, ℕ, false, List, Option, Some, None, IsSome, IsTrue, Result, Ok, inr, refl, sym, ap, subst, ◌∙◌, option_map, option_and_then, unwrap_or}
 use Rattle.std.specs.FinMap as finite
 use Rattle.clone_buffer.specs.Buffered.{Buffered}
-use Rattle.clone_trx.proofs.Common.{same_Some, Commit, Image, page_of, Cause, Donor, row_locked, get_cause, Gets, own_value, page_number, HasValue, IsKept}
-use Rattle.clone_trx.specs.Calls.{get_way, bucket_page}
-use Rattle.clone_trx.specs.Ways.{ends, Goes, Holds, Answers, let_go}
+use Rattle.clone_plain.specs.declared.refusal.EngineRefusal.{EngineRefusal}
+use Rattle.clone_trx.specs.declared.walk.Spot.{Spot}
+use Rattle.clone_trx.proofs.Common.{same_Some, Commit, Image, page_of, Cause, Donor, row_locked, get_cause, Gets, own_value, value_of, held_value, page_number, IsKept}
+use Rattle.clone_trx.specs.Calls.{get_way}
+use Rattle.clone_trx.specs.Ways.{Goes, Carries, Answers, WalksAll, let_go}
 use Rattle.clone_trx.proofs.CauseLemmas.{passed, trx_there, table_there, own_or_free}
-use Rattle.clone_trx.proofs.KeyPlaceLemmas.{shown}
-use Rattle.clone_trx.proofs.WayLemmas.{goes_on}
+use Rattle.clone_trx.proofs.KeyPlaceLemmas.{no_value, held_is, place_there}
+use Rattle.clone_trx.proofs.WalkedLemmas.{IsFoundPlace}
 
 -- the page of a row's bucket, by its number in the space of its table
 pub record Bucket (d : Donor) (table key number : ℕ) : Type 0 where
@@ -30,18 +32,20 @@ module _ (d : Donor) (trx table key number : ℕ) (commit : Commit) (active : fi
   no_cause = passed (trx_there d trx commit active) ∙ passed (table_there d table b.count b.there) ∙ free
 
   -- the value that is found is the row's
-  pub gets : (image : Image) (page : List ℕ) (value : Option (List ℕ)) → IsKept d image → page_of image table number ≡ Some page → HasValue page key value → Gets d trx table key value
-  gets image page value kept there has =
-      let value_is = has.is ∙ shown d image table key b.count page kept b.there (ap (page_of image table) (sym b.is) ∙ there) has.found has.finds in
+  pub gets : (image : Image) (page : ℕ) (slot : Option ℕ) (row : List ℕ) (value : Option (List ℕ)) (kept : IsKept d image) → (IsSome (page_of image table page) → page_of image table page ≡ Some row) → IsFoundPlace d image table key b.count kept b.there page slot → value ≡ option_and_then (held_value row) slot → Gets d trx table key value
+  gets image page slot row value kept shows found is =
       let own = own_value d trx commit (table, key) kept.sound.locked active (own_or_free trx (finite.get d.locks (table, key)) free) in
-      record { commit = commit; was_active = active; is = value_is ∙ own }
+      record { commit = commit; was_active = active; is = is ∙ shown slot found ∙ own }
+    where
+      shown : (o : Option ℕ) → IsFoundPlace d image table key b.count kept b.there page o → option_and_then (held_value row) o ≡ value_of d table key
+      shown None nowhere = sym (no_value d image table key kept nowhere)
+      shown (Some place) found = held_is d image table key kept page place found row (shows (place_there d image table key kept page place found))
 
-  -- the page is read, and nothing is done behind it
-  pub get_goes : (old mid new : Buffered) (at : ℕ) (value : Option (List ℕ)) → Holds (record { space = table; number = number }) at old mid → new ≡ let_go at mid → Goes {X = Option (List ℕ)} (get_way d table key) old new (Ok value)
-  get_goes old mid new at value holds is =
-      let there : Holds (bucket_page d table key) at old mid = subst (λ (n : ℕ). Holds (record { space = table; number = n }) at old mid) (number_is d table key number b) holds in
-      goes_on (bucket_page d table key) (λ row. ends) at old mid mid new (Ok value) there (refl, refl) is
+  -- the chain is walked, and nothing is done behind it
+  pub get_goes : (old mid new : Buffered) (spot : Spot) (value : Option (List ℕ)) → WalksAll (record { table = table; first = number; key = key; for_room = false }) old mid (Ok spot) → new ≡ let_go spot.at mid → Goes {X = Option (List ℕ)} (get_way d table key) old new (Ok value)
+  get_goes old mid new spot value walked is =
+      inr (spot, mid, mid, subst (λ (n : ℕ). WalksAll (record { table = table; first = n; key = key; for_room = false }) old mid (Ok spot)) (number_is d table key number b) walked, (refl, refl), is)
 
-  pub get_answers : (old new : Buffered) (value : Option (List ℕ)) → Goes {X = Option (List ℕ)} (get_way d table key) old new (Ok value) → (IsTrue new.right → Gets d trx table key value)
-      → Answers {X = Option (List ℕ)} (get_cause d trx table key) (get_way d table key) d d old new (Ok value) (λ v. IsTrue new.right → Gets d trx table key v)
-  get_answers old new value goes does = subst (λ (o : Option Cause). Answers {X = Option (List ℕ)} o (get_way d table key) d d old new (Ok value) (λ v. IsTrue new.right → Gets d trx table key v)) (sym no_cause) (goes, does)
+  pub get_answers : (old new : Buffered) (result : Result (Option (List ℕ)) EngineRefusal) → Goes {X = Option (List ℕ)} (get_way d table key) old new result → Carries d d result (λ value. IsTrue new.right → Gets d trx table key value)
+      → Answers {X = Option (List ℕ)} (get_cause d trx table key) (get_way d table key) d d old new result (λ value. IsTrue new.right → Gets d trx table key value)
+  get_answers old new result goes carries = subst (λ (o : Option Cause). Answers {X = Option (List ℕ)} o (get_way d table key) d d old new result (λ value. IsTrue new.right → Gets d trx table key value)) (sym no_cause) (goes, carries)

@@ -25,7 +25,7 @@ use Rattle.clone_trx.proofs.Common.{get-empty, Record, Image, opening_records, s
 use Rattle.clone_trx.specs.Calls.{system_page}
 use Rattle.clone_trx.proofs.CreateLemmas.{unheld}
 use Rattle.clone_trx.proofs.NewSpaceLemmas.{off_log}
-use Rattle.clone_trx.proofs.PinLemmas.{SamePins, pinned_within, let_go_pins}
+use Rattle.clone_trx.proofs.FramePinLemmas.{SamePins, pinned_within, let_go_pins}
 
 -- the one frame that was taken is pinned once, for this new page
 pub record IsTaken (page : PageName) (at : ℕ) (frames : List Frame) : Type 0 where

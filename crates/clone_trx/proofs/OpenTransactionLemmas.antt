@@ -1,14 +1,14 @@
 -- A transaction begins, or ends without a change, and the contents stay sound.
 use Rattle.std.proofs.Common.{◌≡◌, ◌<◌, ℕ, [], length, refl, sym, ap, subst, ◌∙◌, inl, inr, Option, Some, None}
-use Rattle.clone_trx.proofs.Common.{nat_cmp-IsAntisymmetric, nat_cmp_total, cases_eq, Commit, row_slot, UndoSlot, Contents, with_undo, set_at-same, set_at-other, Donor, begun, Leaves, Slots, HoldsRows, HoldsUndo, StandsFor, IsSound, committed_rows, value_of, get-removed_same, SameOthers, own-set, others-set, others-removed, begun_value, left_value, begun_locked, left_locked}
+use Rattle.clone_trx.proofs.Common.{nat_cmp-IsAntisymmetric, nat_cmp_total, cases_eq, Commit, row_slot, UndoSlot, Contents, with_undo, set_at-same, set_at-other, Donor, begun, Leaves, Slots, Nexts, HoldsRows, HoldsUndo, StandsFor, IsSound, committed_rows, value_of, get-removed_same, SameOthers, own-set, others-set, others-removed, begun_value, left_value, begun_locked, left_locked}
 use Rattle.std.specs.FinMap as finite
 use Rattle.clone_trx.proofs.ChainLemmas.{same_chains}
 use Rattle.clone_trx.proofs.UndoRecordLemmas.{stands_still}
 use Rattle.clone_trx.proofs.SoundChangeLemmas.{same_tables}
 
 -- the rows stay where each shows the value that it showed
-pub rows_still : (d after : Donor) (slot : Slots) → after.tables ≡ d.tables → ((table key : ℕ) → value_of after table key ≡ value_of d table key) → HoldsRows d slot → HoldsRows after slot
-rows_still d after slot tables same rows = record {
+pub rows_still : (d after : Donor) (next : Nexts) (slot : Slots) → after.tables ≡ d.tables → ((table key : ℕ) → value_of after table key ≡ value_of d table key) → HoldsRows d next slot → HoldsRows after next slot
+rows_still d after next slot tables same rows = record {
   shown = λ t p j key bound. rows.shown t p j key bound ∙ ap (row_slot key) (sym (same t key));
   clean = rows.clean;
   own = λ t p j key bound. let had = rows.own t p j key bound in (had.0, ap (λ m. finite.get m t) tables ∙ had.1, had.2);
@@ -34,7 +34,7 @@ begun_sound d c trx writer index small none sound =
       locked = begun_locked d trx writer index small sound.locked;
       tables = same_tables d after c (with_undo trx (Some slot) c) refl refl refl sound.tables;
       chains = same_chains d after c (with_undo trx (Some slot) c) refl refl refl sound.chains;
-      rows = rows_still d after c.slot refl (begun_value d trx writer index sound.locked none) sound.rows;
+      rows = rows_still d after c.next c.slot refl (begun_value d trx writer index sound.locked none) sound.rows;
       undo = undo_one d after c trx (Some slot) refl (others-set d after trx new refl)
           (subst (λ (o : Option Commit). StandsFor after c.slot o (Some slot)) (sym (own-set d after trx new refl)) (record { records = []; is = refl; tells = tt })) sound.undo;
       position = sound.position;
@@ -49,7 +49,7 @@ left_sound d after c trx l sound =
       locked = left_locked sound.locked l;
       tables = same_tables d after c (with_undo trx None c) tables refl refl sound.tables;
       chains = same_chains d after c (with_undo trx None c) tables refl refl sound.chains;
-      rows = rows_still d after c.slot tables (left_value sound.locked l) sound.rows;
+      rows = rows_still d after c.next c.slot tables (left_value sound.locked l) sound.rows;
       undo = undo_one d after c trx None (ap committed_rows l.is) (others-removed d after trx active) (subst (λ (o : Option Commit). StandsFor after c.slot o None) (sym gone) refl) sound.undo;
       position = sound.position ∙ ap (λ (x : Donor). length x.binlog) (sym l.is);
     }

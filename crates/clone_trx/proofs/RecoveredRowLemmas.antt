@@ -1,6 +1,6 @@
 -- Recovery gives the rows of the history: it takes changes back, as a transaction does itself.
 use Rattle.std.proofs.Common.{◌≡◌, ◌<◌, ◌≤◌, ◌++◌, ℕ, zero, suc, List, [], ◌∷◌, length, refl, sym, ap, subst, ◌∙◌, arith, inl, inr, Option, Some, None, is_some, append-nil, append_assoc}
-use Rattle.clone_trx.proofs.Common.{option_map_or, cases_eq, AllByRecursion, header_page, page_there, Rows, after_change, after_changes, Change, Commit, present, row_slot, bound_key, UndoEntry, UndoSlot, Image, page_of, undo_slot_of, HasRows, Contents, contents_of, undone, with_undo, IsFormed, set_at-other, undo_is, Donor, changes_of, TakesBack, HoldsTables, HoldsRows, IsUndoSlot, StandsFor, IsSound, TellsChange, TellsChanges, committed_rows, IsLocked, value_of, changes_by, SameOthers, after_changes-append, changes_of_active, own-set, others-set, value_is, taken_locked}
+use Rattle.clone_trx.proofs.Common.{option_map_or, cases_eq, AllByRecursion, header_page, page_there, Rows, after_change, after_changes, Change, Commit, present, row_slot, bound_key, UndoEntry, UndoSlot, Image, page_of, undo_slot_of, HasRows, Contents, contents_of, undone, with_undo, IsFormed, set_at-other, undo_is, Donor, changes_of, TakesBack, HoldsTables, HoldsChains, HoldsRows, IsUndoSlot, StandsFor, IsSound, TellsChange, TellsChanges, committed_rows, IsLocked, value_of, changes_by, SameOthers, after_changes-append, changes_of_active, own-set, others-set, value_is, taken_locked}
 use Rattle.clone_image.specs.Recovered.{taken_back_below, recovered}
 use Rattle.clone_law.specs.Alike.{IsThere, AreThere, CanTakeBack}
 use Rattle.std.specs.FinMap as finite
@@ -8,6 +8,7 @@ use Rattle.clone_image.specs.Recovered as images
 use Rattle.clone_contents.specs.Rows.{IsRowIn}
 use Rattle.clone_contents.proofs.RecoveryLemmas.{undone_is, freed_is}
 use Rattle.clone_contents.proofs.RowLemmas.{row_contained, row_in_image}
+use Rattle.clone_trx.proofs.ChainLemmas.{same_chains}
 use Rattle.clone_trx.proofs.RowSlotLemmas.{KeepsBound}
 use Rattle.clone_trx.proofs.UndoRecordLemmas.{tells_on}
 use Rattle.clone_trx.proofs.SoundChangeLemmas.{same_tables}
@@ -29,7 +30,8 @@ after_same before after last dictionary size next same = record { dictionary = d
 record IsShown (d : Donor) (c : Contents) : Type 0 where
   locked : IsLocked d
   tables : HoldsTables d c
-  rows : HoldsRows d c.slot
+  chains : HoldsChains d c
+  rows : HoldsRows d c.next c.slot
 
 -- Changes of a transaction are taken back, all but the first ones.
 record IsUndone (d : Donor) (trx : ℕ) (commit : Commit) (first : List Change) (image now : Image) : Type 0 where
@@ -67,11 +69,11 @@ module _ (d : Donor) (trx : ℕ) (commit : Commit) (first : List Change) (x : Ch
     before = tells.before ∙ ap (λ r. finite.get (after_changes r first) (x.table, x.key)) (sym u.history);
   }
 
-  rows : HoldsRows after (undone e c).slot × KeepsBound c.slot (undone e c).slot
+  rows : HoldsRows after c.next (undone e c).slot × KeepsBound c.slot (undone e c).slot
   rows = taken_rows u.donor after c trx (length first) e u.shown.locked u.shown.rows t told
 
   edit : IsFormed (images.undone now e) × (contents_of (images.undone now e) ≡ undone e c)
-  edit = undone_is now e u.formed record { in_range = tells.in_range; there = bound_there u.donor c e u.shown.tables u.shown.rows told.bound; bound = told.bound }
+  edit = undone_is now e u.formed record { in_range = tells.in_range; there = bound_there u.donor c e u.shown.tables u.shown.chains u.shown.rows told.bound; bound = told.bound }
 
   undone_one : IsUndone d trx commit first image (images.undone now e)
   undone_one = record {
@@ -81,7 +83,7 @@ module _ (d : Donor) (trx : ℕ) (commit : Commit) (first : List Change) (x : Ch
     others = λ n other. others-set u.donor after trx fewer refl n other ∙ u.others n other;
     locks = u.locks;
     history = u.history;
-    shown = subst (IsShown after) (sym edit.1) (record { locked = taken_locked u.shown.locked t; tables = same_tables u.donor after c (undone e c) refl refl refl u.shown.tables; rows = rows.0 });
+    shown = subst (IsShown after) (sym edit.1) (record { locked = taken_locked u.shown.locked t; tables = same_tables u.donor after c (undone e c) refl refl refl u.shown.tables; chains = same_chains u.donor after c (undone e c) refl refl refl u.shown.chains; rows = rows.0 });
     undo = ap (λ (a : Contents). a.undo) edit.1 ∙ u.undo;
     keeps = subst (λ (a : Contents). KeepsBound (contents_of image).slot a.slot) (sym edit.1) (λ table page place key was. rows.1 table page place key (u.keeps table page place key was));
     spaces = subst (SameSpaces (contents_of image)) (sym edit.1) (after_same (contents_of image) c (undone e c) refl refl refl u.spaces);
@@ -163,7 +165,7 @@ module _ (d : Donor) (first : Image) (n : ℕ) (now : Image) (commit : Commit) (
     ];
     above = λ s high. u.others s (λ same. omega (arith, same, high)) ∙ is.above s (omega (arith, high));
     history = u.history ∙ is.history;
-    shown = subst (IsShown u.donor) (sym freeing.1) (record { locked = u.shown.locked; tables = same_tables u.donor u.donor (contents_of undone_now) (with_undo n None (contents_of undone_now)) refl refl refl u.shown.tables; rows = u.shown.rows });
+    shown = subst (IsShown u.donor) (sym freeing.1) (record { locked = u.shown.locked; tables = same_tables u.donor u.donor (contents_of undone_now) (with_undo n None (contents_of undone_now)) refl refl refl u.shown.tables; chains = same_chains u.donor u.donor (contents_of undone_now) (with_undo n None (contents_of undone_now)) refl refl refl u.shown.chains; rows = u.shown.rows });
     undo = λ s high. ap (λ (a : Contents). a.undo s) freeing.1 ∙ set_at-other n s None (contents_of undone_now).undo (λ same. omega (arith, same, high)) ∙ ap (λ f. f s) u.undo ∙ is.undo s (omega (arith, high));
     keeps = subst (λ (a : Contents). KeepsBound (contents_of first).slot a.slot) (sym freeing.1) (λ table page place key was. u.keeps table page place key (is.keeps table page place key was));
     spaces = subst (SameSpaces (contents_of first)) (sym freeing.1) (after_same (contents_of first) (contents_of now) (with_undo n None (contents_of undone_now)) u.spaces.dictionary u.spaces.size u.spaces.next is.spaces);
@@ -188,7 +190,7 @@ module _ (d : Donor) (first : Image) (formed : IsFormed first) (sound : IsSound 
     below = λ s low. absurd (omega (arith, low));
     above = λ s high. refl;
     history = refl;
-    shown = record { locked = sound.locked; tables = sound.tables; rows = sound.rows };
+    shown = record { locked = sound.locked; tables = sound.tables; chains = sound.chains; rows = sound.rows };
     undo = λ s high. refl;
     keeps = λ table page place key was. was;
     spaces = record { dictionary = refl; size = refl; next = refl };
@@ -253,7 +255,7 @@ rows_there d now old [] [] shown tells = tt
 rows_there d now old [] (e ∷ es) shown tells = absurd tells
 rows_there d now old (c ∷ cs) [] shown tells = absurd tells
 rows_there d now old (c ∷ cs) (e ∷ es) shown tells =
-    (page_there now e.table e.page (bound_there d (contents_of now) e shown.tables shown.rows tells.0.bound), rows_there d now (after_change old c) cs es shown tells.1)
+    (page_there now e.table e.page (bound_there d (contents_of now) e shown.tables shown.chains shown.rows tells.0.bound), rows_there d now (after_change old c) cs es shown tells.1)
 
 -- taking back names only pages that are there
 pub can_take_back : (d : Donor) (image : Image) → IsFormed image → IsSound d (contents_of image) → CanTakeBack image

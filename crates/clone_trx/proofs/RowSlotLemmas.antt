@@ -1,15 +1,11 @@
 -- The rows of the contents when one slot is set.
-use Rattle.std.proofs.Common.{◌≡◌, ◌%◌, ◌⊎◌, ℕ, List, refl, sym, ap, ◌∙◌, inl, inr, Option, Some, None}
-use Rattle.clone_trx.proofs.Common.{same_Some, row_slot, bound_key, unused, Contents, with_slot, cases_place, slot-same, slot-other, Donor, Slots, IsBound, HoldsRows, value_of, cases_row}
+use Rattle.std.proofs.Common.{◌≡◌, ◌%◌, ◌⊎◌, ℕ, List, refl, sym, ap, subst, ◌∙◌, inl, inr, Option, Some, None}
+use Rattle.clone_trx.proofs.Common.{same_Some, row_slot, bound_key, unused, Contents, with_slot, cases_place, slot-same, slot-other, Donor, Slots, IsBound, IsNowhere, IsPlace, OnChain, HoldsRows, value_of, cases_row}
 use Rattle.std.specs.FinMap as finite
 
 pub bound-row_slot : (key : ℕ) (value : Option (List ℕ)) → bound_key (row_slot key value) ≡ Some key
 bound-row_slot key (Some value) = refl
 bound-row_slot key None = refl
-
--- the slot at a place may take a key: it is bound to the key, or it was never used and no slot of the page is bound to the key
-abbrev pub MayTake : Contents → ℕ → ℕ → ℕ → ℕ → Type 0
-MayTake c table page place key = IsBound c.slot table page place key ⊎ ((c.slot table page place ≡ unused) × ((i : ℕ) → ¬ IsBound c.slot table page i key))
 
 -- keys that are bound stay so
 abbrev pub KeepsBound : Slots → Slots → Type 0
@@ -17,12 +13,9 @@ KeepsBound slot now = (table page place key : ℕ) → IsBound slot table page p
 
 -- One row shows another value, in the slot at its place, and no other row does.
 pub record SetsSlot (d after : Donor) (c : Contents) (t p j key : ℕ) : Type 0 where
-  pub rows : HoldsRows d c.slot
+  pub rows : HoldsRows d c.next c.slot
   pub tables : after.tables ≡ d.tables
-  pub count : ℕ
-  pub there : finite.get d.tables t ≡ Some count
-  pub page : p ≡ key % count
-  pub place : MayTake c t p j key
+  pub place : IsPlace d c t p j key
   pub others : (table k : ℕ) → (table ≡ t → k ≡ key → ⊥) → value_of after table k ≡ value_of d table k
 
 module _ (d after : Donor) (c : Contents) (t p j key : ℕ) (g : SetsSlot d after c t p j key) where
@@ -52,12 +45,9 @@ module _ (d after : Donor) (c : Contents) (t p j key : ℕ) (g : SetsSlot d afte
   -- no other slot of the table is bound to the key
   alone : (n i : ℕ) → IsElsewhere t n i → IsBound c.slot t n i key → ⊥
   alone n i other bound =
-      elim g.place [
+      elim g.place.may [
         | inl had ↦ (let same = g.rows.once t key n i p j bound had in other refl same.0 same.1)
-        | inr new ↦ (let own = g.rows.own t n i key bound in
-            let count : g.count ≡ own.0 = same_Some g.count own.0 (sym g.there ∙ own.1) in
-            let page : n ≡ p = own.2 ∙ ap (λ m. key % m) (sym count) ∙ sym g.page in
-            new.1 i (ap (λ m. bound_key (c.slot t m i)) (sym page) ∙ bound))
+        | inr new ↦ new.1 n i bound
       ]
 
   alone_in : (u n i k : ℕ) → IsElsewhere u n i → IsBound c.slot u n i k → u ≡ t → k ≡ key → ⊥
@@ -67,10 +57,10 @@ module _ (d after : Donor) (c : Contents) (t p j key : ℕ) (g : SetsSlot d afte
   kept u n i k bound =
       elim (cases_place u n i t p j) [
         | inr other ↦ ap bound_key (elsewhere u n i other) ∙ bound
-        | inl is ↦ bound_here u n i is ∙ sym (at g.place is)
+        | inl is ↦ bound_here u n i is ∙ sym (at g.place.may is)
       ]
     where
-      at : MayTake c t p j key → (u ≡ t) × (n ≡ p) × (i ≡ j) → ◌≡◌ {A = Option ℕ} (Some k) (Some key)
+      at : IsBound c.slot t p j key ⊎ ((c.slot t p j ≡ unused) × IsNowhere c.slot t key) → (u ≡ t) × (n ≡ p) × (i ≡ j) → ◌≡◌ {A = Option ℕ} (Some k) (Some key)
       at (inl had) is = sym bound ∙ (λ x. bound_key (c.slot (is.0 x) (is.1 x) (is.2 x))) ∙ had
       at (inr new) is = absurd (let e = sym bound ∙ (λ x. bound_key (c.slot (is.0 x) (is.1 x) (is.2 x))) ∙ ap bound_key new.0 in cc)
 
@@ -88,10 +78,11 @@ module _ (d after : Donor) (c : Contents) (t p j key : ℕ) (g : SetsSlot d afte
         | inr other ↦ elsewhere u n i other ∙ g.rows.clean u n i (sym (ap bound_key (elsewhere u n i other)) ∙ none)
       ]
 
-  own : (u n i k : ℕ) → IsBound now u n i k → (count : ℕ) × (finite.get after.tables u ≡ Some count) × (n ≡ k % count)
+  own : (u n i k : ℕ) → IsBound now u n i k → (count : ℕ) × (finite.get after.tables u ≡ Some count) × OnChain (c.next u) (k % count) n
   own u n i k bound =
       elim (was u n i k bound) [
-        | inl is ↦ (g.count, ap (λ m. finite.get m u) g.tables ∙ ap (finite.get d.tables) is.0 ∙ g.there, is.1 ∙ g.page ∙ ap (λ m. m % g.count) (sym is.3))
+        | inl is ↦ (let on = subst (λ (x : ℕ × ℕ × ℕ). OnChain (c.next x.0) (x.2 % g.place.count) x.1) (λ x. (sym is.0 x, sym is.1 x, sym is.3 x)) g.place.chain in
+            (g.place.count, ap (λ m. finite.get m u) g.tables ∙ ap (finite.get d.tables) is.0 ∙ g.place.there, on))
         | inr old ↦ (let had = g.rows.own u n i k old.1 in (had.0, ap (λ m. finite.get m u) g.tables ∙ had.1, had.2))
       ]
 
@@ -111,5 +102,5 @@ module _ (d after : Donor) (c : Contents) (t p j key : ℕ) (g : SetsSlot d afte
         | inr other ↦ (let had = g.rows.found u k value (sym (g.others u k (λ x y. other (λ i. (x i, y i)))) ∙ is) in (had.0, had.1, kept u had.0 had.1 k had.2))
       ]
 
-  pub rows_set : HoldsRows after now
+  pub rows_set : HoldsRows after c.next now
   rows_set = record { shown = shown; clean = clean; own = own; once = once; found = found }

@@ -1,17 +1,17 @@
 -- A change keeps the contents sound.
-use Rattle.std.proofs.Common.{◌≡◌, ◌<◌, ◌≤◌, ◌%◌, ◌⊎◌, ◌++◌, ℕ, List, [], ◌∷◌, length, refl, sym, ap, subst, ◌∙◌, arith, inl, inr, Option, Some, None, is_some, IfSome, unwrap_or, mod-lt}
-use Rattle.clone_trx.proofs.Common.{cases_eq, after_changes, Change, Commit, row_slot, bound_key, UndoEntry, IsEntry, UndoSlot, Contents, told_value, MayChange, changed, telling, set_at-same, set_at-other, slot-same, CHANGE_LIMIT, TABLE_LIMIT, Donor, changes_of, with_change, Changes, HoldsTables, HoldsRows, IsUndoSlot, StandsFor, IsSound, TellsChange, TellsChanges, committed_rows, value_of, page_number, told, changes_of_active, own-set, others-set, own_value, changed_value, changed_value_other, changed_locked}
+use Rattle.std.proofs.Common.{◌≡◌, ◌<◌, ◌≤◌, ◌%◌, ◌⊎◌, ◌++◌, ℕ, List, [], ◌∷◌, length, refl, sym, ap, subst, ◌∙◌, arith, inl, inr, Option, Some, None, is_some, IfSome, mod-lt}
+use Rattle.clone_trx.proofs.Common.{cases_eq, after_changes, Change, Commit, row_slot, bound_key, UndoEntry, IsEntry, UndoSlot, Contents, told_value, MayChange, changed, telling, set_at-same, set_at-other, slot-same, CHANGE_LIMIT, TABLE_LIMIT, Donor, changes_of, with_change, Changes, HoldsTables, HoldsRows, IsUndoSlot, StandsFor, IsSound, TellsChange, TellsChanges, committed_rows, value_of, told, IsPlace, changes_of_active, own-set, others-set, own_value, changed_value, changed_value_other, changed_locked}
 use Rattle.std.specs.FinMap as finite
 use Rattle.clone_space.specs.Entries.{entry_in}
 use Rattle.clone_contents.specs.Contents.{named}
-use Rattle.clone_trx.proofs.ChainLemmas.{same_chains}
-use Rattle.clone_trx.proofs.RowSlotLemmas.{MayTake, KeepsBound, SetsSlot, bound-row_slot, rows_set, kept}
+use Rattle.clone_trx.proofs.ChainLemmas.{same_chains, on_there}
+use Rattle.clone_trx.proofs.RowSlotLemmas.{KeepsBound, SetsSlot, bound-row_slot, rows_set, kept}
 use Rattle.clone_trx.proofs.UndoRecordLemmas.{counted, in_range, tells_on, tells_push, own_slot, stands_open, stands_still}
 
 -- what an undo record tells is the value that it was made of
-pub told-value : (d : Donor) (table key place : ℕ) (value : Option (List ℕ)) → told_value (told d table key place value) ≡ value
-told-value d table key place None = refl
-told-value d table key place (Some value) = refl
+pub told-value : (table page key place : ℕ) (value : Option (List ℕ)) → told_value (told table page key place value) ≡ value
+told-value table page key place None = refl
+told-value table page key place (Some value) = refl
 
 -- the tables stay
 pub same_tables : (d after : Donor) (c now : Contents) → after.tables ≡ d.tables → now.dictionary ≡ c.dictionary → now.size ≡ c.size → HoldsTables d c → HoldsTables after now
@@ -34,27 +34,21 @@ same_tables d after c now same entries size holds = record {
     names : (j : ℕ) → named now j ≡ named c j
     names j = ap (λ l. (entry_in l j).table) entries
 
--- a change is made for which there is no cause against it, at this place of its bucket's page
-pub record Puts (d after : Donor) (c : Contents) (trx : ℕ) (change : Change) (place : ℕ) : Type 0 where
+-- a change is made for which there is no cause against it, at this place of a page of its chain
+pub record Puts (d after : Donor) (c : Contents) (trx : ℕ) (change : Change) (page place : ℕ) : Type 0 where
   pub made : Changes d trx change after
   pub lock : (finite.get d.locks (change.table, change.key) ≡ None) ⊎ (finite.get d.locks (change.table, change.key) ≡ Some trx)
   pub room : length (changes_of d trx) < CHANGE_LIMIT
   pub short : IfSome change.value (λ v. length v ≤ 64)
-  pub is_place : MayTake c change.table (page_number d change.table change.key) place change.key
-  pub in_range : IsEntry (told d change.table change.key place (value_of d change.table change.key))
+  pub is_place : IsPlace d c change.table page place change.key
+  pub in_range : IsEntry (told change.table page change.key place (value_of d change.table change.key))
 
-module _ (d after : Donor) (c : Contents) (trx : ℕ) (change : Change) (at : ℕ) (sound : IsSound d c) (g : Puts d after c trx change at) where
+module _ (d after : Donor) (c : Contents) (trx : ℕ) (change : Change) (number at : ℕ) (sound : IsSound d c) (g : Puts d after c trx change number at) where
   abbrev pub commit : Commit
   commit = g.made.commit
 
-  abbrev pub number : ℕ
-  number = page_number d change.table change.key
-
-  number_is : number ≡ change.key % g.made.buckets
-  number_is = ap (λ o. change.key % unwrap_or o 0) g.made.was_table
-
   abbrev pub e : UndoEntry
-  e = told d change.table change.key at (value_of d change.table change.key)
+  e = told change.table number change.key at (value_of d change.table change.key)
 
   pub small : trx < 64
   small = sound.locked.few.numbers trx (ap is_some g.made.was_active)
@@ -71,16 +65,16 @@ module _ (d after : Donor) (c : Contents) (trx : ℕ) (change : Change) (at : �
   -- what the mini-transaction asks for
   pub may_change : MayChange c trx slot e change.value
   may_change =
-      let sizes = sound.tables.sizes change.table g.made.buckets g.made.was_table in
-      let some : 0 < g.made.buckets = omega (arith, sizes.3) in
-      let low : change.key % g.made.buckets < g.made.buckets = mod-lt change.key some in
+      let place = g.is_place in
+      let sizes = sound.tables.sizes change.table place.count place.there in
+      let some : 0 < place.count = omega (arith, sizes.3) in
       record {
         small = small;
         used = own.is;
         known = in_range c.slot (committed_rows d) commit.changes own.records own.tells;
         room = omega (arith, g.room, ap length (changes_of_active d trx commit g.made.was_active), counted c.slot (committed_rows d) commit.changes own.records own.tells);
         in_range = g.in_range;
-        there = (g.made.buckets, sizes.0, omega (arith, low, number_is));
+        there = on_there sound.chains change.table place.count (change.key % place.count) number place.there (mod-lt change.key some) place.chain;
         short = g.short;
       }
 
@@ -97,12 +91,12 @@ module _ (d after : Donor) (c : Contents) (trx : ℕ) (change : Change) (at : �
   value = changed_value sound.locked g.made
 
   sets : SetsSlot d after c change.table number at change.key
-  sets = record { rows = sound.rows; tables = tables; count = g.made.buckets; there = g.made.was_table; page = number_is; place = g.is_place; others = λ t k other. changed_value_other sound.locked g.made t k other }
+  sets = record { rows = sound.rows; tables = tables; place = g.is_place; others = λ t k other. changed_value_other sound.locked g.made t k other }
 
   -- the slot is set to the value that the row shows
-  rows : HoldsRows after new.slot × KeepsBound c.slot new.slot
+  rows : HoldsRows after c.next new.slot × KeepsBound c.slot new.slot
   rows =
-      subst (λ (v : Option (List ℕ)). HoldsRows after (changed trx slot e v c).slot × KeepsBound c.slot (changed trx slot e v c).slot) value
+      subst (λ (v : Option (List ℕ)). HoldsRows after c.next (changed trx slot e v c).slot × KeepsBound c.slot (changed trx slot e v c).slot) value
       (rows_set d after c change.table number at change.key sets, kept d after c change.table number at change.key sets)
 
   tells : TellsChange new.slot (after_changes (committed_rows d) commit.changes) change e
@@ -111,7 +105,7 @@ module _ (d after : Donor) (c : Contents) (trx : ℕ) (change : Change) (at : �
     table = refl;
     key = refl;
     bound = ap bound_key (slot-same change.table number at change.table number at (row_slot change.key change.value) c refl refl refl) ∙ bound-row_slot change.key change.value;
-    before = told-value d change.table change.key at (value_of d change.table change.key) ∙ own_value d trx commit (change.table, change.key) sound.locked g.made.was_active g.lock;
+    before = told-value change.table number change.key at (value_of d change.table change.key) ∙ own_value d trx commit (change.table, change.key) sound.locked g.made.was_active g.lock;
   }
 
   own_now : IsUndoSlot after new.slot (with_change change commit) (new.undo trx)

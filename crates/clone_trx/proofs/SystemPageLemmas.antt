@@ -1,9 +1,8 @@
 -- The pages that calls read are there, where the image keeps what the donor is.
-use Rattle.std.proofs.Common.{◌≡◌, ◌<◌, ◌%◌, ℕ, sym, ap, subst, ◌∙◌, arith, Option, Some, None, IsSome, is_some, unwrap_or, List}
+use Rattle.std.proofs.Common.{◌≡◌, ◌<◌, ℕ, sym, ap, subst, ◌∙◌, arith, Some, None, IsSome, is_some, List}
 use Rattle.std.proofs.lemmas.Bool.{false≢true}
 use Rattle.clone_undo.specs.Places.{header_page, record_page, capacity}
-use Rattle.clone_trx.proofs.Common.{Image, page_of, IsFormed, system_size, page_there, TRANSACTION_LIMIT, Donor, page_number, IsKept}
-use Rattle.std.specs.FinMap as finite
+use Rattle.clone_trx.proofs.Common.{Image, page_of, IsFormed, system_size, page_there, TRANSACTION_LIMIT}
 use Rattle.clone_pool.specs.declared.frame.Frame.{Frame}
 use Rattle.clone_pool.specs.declared.frame.Content.{Content}
 use Rattle.clone_pool.specs.declared.frame.Content.TheVariants.{Unused, Fresh, Held}
@@ -11,7 +10,6 @@ use Rattle.clone_pool.specs.declared.frame.PageName.{PageName}
 use Rattle.clone_pool.specs.Frames.{frame_at, name_in}
 use Rattle.clone_buffer.specs.Buffered.{Shown, Shows}
 use Rattle.clone_trx.specs.Kept.{Has}
-use Rattle.clone_trx.proofs.KeyPlaceLemmas.{bucket_page}
 
 pub system_there : (image : Image) (number : ℕ) → IsFormed image → number < system_size → IsSome (page_of image 0 number)
 system_there image number formed low = ap is_some (page_there image 0 number (system_size, formed.size, low)).1
@@ -21,10 +19,6 @@ header_there image trx formed small = system_there image (header_page trx) forme
 
 pub record_there : (image : Image) (trx number : ℕ) → IsFormed image → trx < TRANSACTION_LIMIT → number < capacity → IsSome (page_of image 0 (record_page trx number))
 record_there image trx number formed small low = system_there image (record_page trx number) formed (omega (arith, small, low))
-
-pub bucket_there : (d : Donor) (image : Image) (table key count : ℕ) → IsKept d image → finite.get d.tables table ≡ Some count → IsSome (page_of image table (page_number d table key))
-bucket_there d image table key count kept is =
-    subst (λ (n : ℕ). IsSome (page_of image table n)) (sym (ap (λ (o : Option ℕ). key % unwrap_or o 0) is)) (ap is_some (bucket_page kept table key count is).1)
 
 -- the page in a frame is the one of the image, which is there
 pub page_shown : (image : Image) (frames : List Frame) (page : PageName) (at : ℕ) → Shows image frames → Has page at frames → IsSome (page_of image page.space page.number) → page_of image page.space page.number ≡ Some (frame_at frames at).page

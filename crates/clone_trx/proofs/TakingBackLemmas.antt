@@ -1,35 +1,32 @@
 -- The last change of a transaction is taken back, and the contents stay sound.
-use Rattle.std.proofs.Common.{◌≡◌, ◌<◌, ◌≤◌, ◌+◌, ◌++◌, ℕ, List, [], ◌∷◌, length, refl, sym, ap, subst, ◌∙◌, arith, inl, inr, Option, Some, is_some}
-use Rattle.clone_trx.proofs.Common.{cases_eq, length_push, same_Some, after_changes, Commit, row_slot, UndoEntry, capacity, UndoSlot, Contents, HasPage, told_value, undone, with_slot, MayTakeBack, taken_back, telling, set_at-same, set_at-other, Donor, TakesBack, IsBound, HoldsTables, HoldsRows, IsUndoSlot, StandsFor, IsSound, TellsChange, TellsChanges, committed_rows, IsLocked, value_of, own-set, others-set, taken_value, taken_value_other, taken_locked}
+use Rattle.std.proofs.Common.{◌≡◌, ◌<◌, ◌≤◌, ◌+◌, ◌%◌, ◌++◌, ℕ, List, [], ◌∷◌, length, refl, sym, ap, subst, ◌∙◌, arith, inl, inr, Option, Some, is_some, mod-lt}
+use Rattle.clone_trx.proofs.Common.{cases_eq, length_push, same_Some, after_changes, Commit, row_slot, UndoEntry, capacity, UndoSlot, Contents, HasPage, told_value, undone, with_slot, MayTakeBack, taken_back, telling, set_at-same, set_at-other, Donor, TakesBack, IsBound, HoldsTables, HoldsChains, HoldsRows, IsUndoSlot, StandsFor, IsSound, TellsChange, TellsChanges, committed_rows, IsLocked, value_of, own-set, others-set, taken_value, taken_value_other, taken_locked}
 use Rattle.std.specs.FinMap as finite
-use Rattle.clone_trx.proofs.ChainLemmas.{same_chains}
+use Rattle.clone_trx.proofs.ChainLemmas.{same_chains, on_there}
 use Rattle.clone_trx.proofs.RowSlotLemmas.{KeepsBound, SetsSlot, rows_set, kept}
 use Rattle.clone_trx.proofs.UndoRecordLemmas.{counted, tells_on, tells_split, own_slot, stands_open, stands_still}
 use Rattle.clone_trx.proofs.SoundChangeLemmas.{same_tables}
 
 -- the page of a slot that is bound is there
-pub bound_there : (d : Donor) (c : Contents) (e : UndoEntry) → HoldsTables d c → HoldsRows d c.slot → IsBound c.slot e.table e.page e.slot e.key → HasPage c e.table e.page
-bound_there d c e tables rows bound =
+pub bound_there : (d : Donor) (c : Contents) (e : UndoEntry) → HoldsTables d c → HoldsChains d c → HoldsRows d c.next c.slot → IsBound c.slot e.table e.page e.slot e.key → HasPage c e.table e.page
+bound_there d c e tables chains rows bound =
     let own = rows.own e.table e.page e.slot e.key bound in
     let sizes = tables.sizes e.table own.0 own.1 in
-    (own.0, sizes.0, omega (arith, own.2, sizes.3))
+    on_there chains e.table own.0 (e.key % own.0) e.page own.1 (mod-lt e.key (omega (arith, sizes.3))) own.2
 
 -- the row of the change shows the value from before it
-pub taken_rows : (d after : Donor) (c : Contents) (trx left : ℕ) (e : UndoEntry) → IsLocked d → HoldsRows d c.slot → (t : TakesBack d trx left after) → TellsChange c.slot (after_changes (committed_rows d) t.front) t.last e
-    → HoldsRows after (undone e c).slot × KeepsBound c.slot (undone e c).slot
+pub taken_rows : (d after : Donor) (c : Contents) (trx left : ℕ) (e : UndoEntry) → IsLocked d → HoldsRows d c.next c.slot → (t : TakesBack d trx left after) → TellsChange c.slot (after_changes (committed_rows d) t.front) t.last e
+    → HoldsRows after c.next (undone e c).slot × KeepsBound c.slot (undone e c).slot
 taken_rows d after c trx left e locked rows t tells =
     let own = rows.own e.table e.page e.slot e.key tells.bound in
     let value : value_of after e.table e.key ≡ told_value e = (λ i. value_of after (tells.table i) (tells.key i)) ∙ taken_value locked t ∙ sym tells.before in
     let sets : SetsSlot d after c e.table e.page e.slot e.key = record {
       rows = rows;
       tables = ap (λ (x : Donor). x.tables) t.is;
-      count = own.0;
-      there = own.1;
-      page = own.2;
-      place = inl tells.bound;
+      place = record { count = own.0; there = own.1; chain = own.2; may = inl tells.bound };
       others = λ table k other. taken_value_other locked t table k (λ x y. other (x ∙ sym tells.table) (y ∙ sym tells.key));
     } in
-    subst (λ (v : Option (List ℕ)). HoldsRows after (with_slot e.table e.page e.slot (row_slot e.key v) c).slot × KeepsBound c.slot (with_slot e.table e.page e.slot (row_slot e.key v) c).slot) value
+    subst (λ (v : Option (List ℕ)). HoldsRows after c.next (with_slot e.table e.page e.slot (row_slot e.key v) c).slot × KeepsBound c.slot (with_slot e.table e.page e.slot (row_slot e.key v) c).slot) value
     (rows_set d after c e.table e.page e.slot e.key sets, kept d after c e.table e.page e.slot e.key sets)
 
 module _ (d after : Donor) (c : Contents) (trx left : ℕ) (slot : UndoSlot) (front : List UndoEntry) (e : UndoEntry) (sound : IsSound d c) (t : TakesBack d trx left after) (used : c.undo trx ≡ Some slot) (last : slot.records ≡ front ++ e ∷ []) where
@@ -61,7 +58,7 @@ module _ (d after : Donor) (c : Contents) (trx left : ℕ) (slot : UndoSlot) (fr
   few = omega (arith, count_is, t.count, ap length t.split, length_push t.front t.last, sound.locked.few.few trx commit t.was_active)
 
   pub may_take : MayTakeBack c trx slot front e
-  may_take = record { small = small; used = used; last = last; few = few; in_range = told.1.in_range; there = bound_there d c e sound.tables sound.rows told.1.bound; bound = told.1.bound }
+  may_take = record { small = small; used = used; last = last; few = few; in_range = told.1.in_range; there = bound_there d c e sound.tables sound.chains sound.rows told.1.bound; bound = told.1.bound }
 
   history : committed_rows after ≡ committed_rows d
   history = ap committed_rows t.is
@@ -72,7 +69,7 @@ module _ (d after : Donor) (c : Contents) (trx left : ℕ) (slot : UndoSlot) (fr
   abbrev new : Contents
   new = taken_back trx slot front e c
 
-  rows : HoldsRows after new.slot × KeepsBound c.slot new.slot
+  rows : HoldsRows after c.next new.slot × KeepsBound c.slot new.slot
   rows = taken_rows d after c trx left e sound.locked sound.rows t told.1
 
   own_now : IsUndoSlot after new.slot fewer (new.undo trx)

@@ -1,25 +1,29 @@
 -- A way goes on behind a page that was held, and what is kept meanwhile.
-use Rattle.std.proofs.Common.{◌≡◌, inr, ℕ, Bool, List, sym, ap, subst, ◌∙◌, Option, None, Some, Result, Ok, Err, IsTrue}
-use Rattle.std.proofs.lemmas.List.{get_or-set_same}
+use Rattle.std.proofs.Common.{◌≡◌, ◌-◌, inl, inr, ℕ, Bool, List, sym, ap, subst, Option, None, Some, Result, Ok, Err, IsTrue}
+use Rattle.clone_model.specs.declared.line.TheConstants.{MOST_PAGES}
 use Rattle.clone_image.specs.Replay.{replayed}
-use Rattle.clone_pool.specs.declared.frame.Frame.{Frame}
 use Rattle.clone_pool.specs.declared.frame.PageName.{PageName}
-use Rattle.clone_pool.specs.Frames.{no_frame, frame_at, pinned}
 use Rattle.clone_buffer.specs.Buffered.{Buffered, image_of}
 use Rattle.clone_plain.specs.declared.refusal.EngineRefusal.{EngineRefusal}
 use Rattle.clone_plain.specs.declared.refusal.EngineRefusal.TheVariants.{Because, NoMemory}
-use Rattle.clone_trx.proofs.Common.{Change, Record, UndoEntry, after_records, all_pages, is_unused, Donor, Cause, IsKept, Keeps, AreLoose, IsPlaceFor, IsPlaceOn}
-use Rattle.clone_trx.proofs.PinLemmas.{fetch_within, still_loose}
+use Rattle.clone_trx.proofs.Common.{Change, Record, UndoEntry, after_records, is_unused, Donor, Cause, IsKept, Keeps, AreLoose, IsPlace, IsPlaceFor, contents_of}
+use Rattle.clone_trx.proofs.HeldPageLemmas.{held_bytes}
+use Rattle.clone_trx.proofs.PinLemmas.{still_loose}
+use Rattle.clone_trx.proofs.WalkLemmas.{walk_missed}
 use Rattle.clone_trx.proofs.WriteLemmas.{written_kept}
-use Rattle.clone_trx.specs.Ways.{Way, reads, Goes, Writes, Carries, Answers, Holds, let_go, page_in}
+use Rattle.clone_trx.specs.declared.walk.Course.{Course}
+use Rattle.clone_trx.specs.Ways.{Way, reads, walks, Goes, Writes, Carries, Answers, Holds, WalksAll, let_go, page_in}
 
 pub goes_on : {X : Type 0} (page : PageName) (rest : List ℕ → Way) (at : ℕ) (old new last final : Buffered) (result : Result X EngineRefusal) → Holds page at old new → Goes (rest (page_in at new)) new last result → final ≡ let_go at last → Goes (reads page rest) old final result
 goes_on page rest at old new last final result holds goes is =
-    let next : Buffered = holds.next in
-    let low = fetch_within page old.pool next.pool at holds.brings.fetched in
-    let same : page_in at new ≡ page_in at next =
-    ap (λ (b : Buffered). page_in at b) holds.is ∙ ap (λ (f : Frame). f.page) (get_or-set_same next.pool.frames at (pinned (frame_at next.pool.frames at)) no_frame low) in
-    inr (at, next, last, holds.brings, subst (λ (p : List ℕ × Buffered). Goes (rest p.0) p.1 last result) (λ i. (same i, holds.is i)) goes, is)
+    inr (at, holds.next, last, holds.brings, subst (λ (p : List ℕ × Buffered). Goes (rest p.0) p.1 last result) (λ i. (held_bytes page at old new holds i, holds.is i)) goes, is)
+
+-- a way ends where its walk is refused
+pub walk_ends : {X : Type 0} (course : Course) (rest : ℕ → Option ℕ → List ℕ → Way) (old new : Buffered) (refusal : EngineRefusal) → WalksAll course old new (Err refusal) → Goes {X = X} (walks course rest) old new (Err refusal)
+walk_ends {X} course rest old new refusal walked =
+    let m = walk_missed course (MOST_PAGES - 1) course.first None old new (Err refusal) walked in
+    let because : refusal ≡ Because m.3.0 = m.3.1 in
+    inl (m.3.0, ap (λ (r : EngineRefusal). Err r) because, subst (λ (r : EngineRefusal). WalksAll course old new (Err r)) because walked)
 
 -- a page that is brought leaves the image
 pub still_kept : (d : Donor) (old new : Buffered) → new.log ≡ old.log → (IsTrue new.right → IsTrue old.right) → (IsTrue old.right → IsKept d (image_of old)) → IsTrue new.right → IsKept d (image_of new)
@@ -29,12 +33,11 @@ still_kept d old new same before kept right = subst (λ (log : List (List Record
 pub still_place : (d : Donor) (trx : ℕ) (change : Change) (old new : Buffered) (entry : UndoEntry) (is_new : Bool) (made : ℕ) → new.log ≡ old.log → (IsTrue new.right → IsTrue old.right) → IsPlaceFor d trx change old entry is_new made → IsPlaceFor d trx change new entry is_new made
 still_place d trx change old new entry is_new made same before p = record {
   table = p.table;
-  page = p.page;
   key = p.key;
   in_range = p.in_range;
   count = p.count;
   told = λ right. p.told (before right);
-  place = λ right. subst (λ (log : List (List Record)). IsPlaceOn change.key (all_pages (replayed log) entry.table entry.page) entry.slot) (sym same) (p.place (before right));
+  place = λ right. subst (λ (log : List (List Record)). IsPlace d (contents_of (replayed log)) change.table entry.page entry.slot change.key) (sym same) (p.place (before right));
   unused = λ right. subst (λ (log : List (List Record)). is_new ≡ is_unused (replayed log) entry.table entry.page) (sym same) (p.unused (before right));
 }
 

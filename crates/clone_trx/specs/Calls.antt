@@ -1,13 +1,13 @@
 -- The way of each call: which pages it reads, in their order, and what it writes.
-use Rattle.std.specs.Prelude.{ℕ, ◌==◌, ◌&&◌, ◌-◌, ◌+◌, nat_lt, nat_le, Bool, if◌then◌else◌, List, length, None, Some, unwrap_or, slice_get}
+use Rattle.std.specs.Prelude.{ℕ, ◌==◌, ◌&&◌, ◌-◌, ◌+◌, nat_lt, nat_le, Bool, true, false, if◌then◌else◌, List, length, None, Some, unwrap_or, slice_get}
 use Rattle.std.specs.declared.option.Option.{Option}
 use Rattle.clone_base.specs.declared.limits.TheConstants.{VALUE_LIMIT}
 use Rattle.clone_model.specs.declared.change.Change.{Change}
+use Rattle.clone_model.specs.declared.line.TheConstants.{MOST_PAGES}
 use Rattle.clone_page.specs.Header.{kind_of}
 use Rattle.clone_page.specs.Slots.{slot_count}
 use Rattle.clone_pool.specs.declared.frame.PageName.{PageName}
 use Rattle.clone_row.specs.Slots as rows
-use Rattle.clone_row.specs.Slots.{slots}
 use Rattle.clone_undo.specs.Entries.{UndoEntry}
 use Rattle.clone_undo.specs.Places.{header_page, record_page}
 use Rattle.clone_undo.specs.Slots.{entry_on}
@@ -18,12 +18,18 @@ use Rattle.clone_contents.specs.Records.{commit_records}
 use Rattle.clone_plain.specs.declared.refusal.Cause.TheVariants.{SpaceFull}
 use Rattle.clone_plain.specs.Causes.{least_unused}
 use Rattle.clone_plain.specs.Donor.{Donor, changes_of}
-use Rattle.clone_trx.specs.Places.{free_entry, place_in, held_value, told, page_number}
-use Rattle.clone_trx.specs.Ways.{Way, reads, stops, writes, makes, ends}
+use Rattle.clone_trx.specs.declared.walk.Course.{Course}
+use Rattle.clone_trx.specs.Places.{free_entry, held_value, told, page_number}
+use Rattle.clone_trx.specs.Ways.{Way, reads, walks, stops, writes, makes, ends}
 
--- the page of a row's bucket
-abbrev pub bucket_page : Donor → ℕ → ℕ → PageName
-bucket_page d table key = record { space = table; number = page_number d table key }
+-- the walk along the chain of a row's bucket
+abbrev pub row_walk : Donor → ℕ → ℕ → Bool → Course
+row_walk d table key for_room =
+    record { table = table; first = page_number d table key; key = key; for_room = for_room }
+
+-- the page of the row that an undo record tells of
+abbrev pub row_page : UndoEntry → PageName
+row_page e = record { space = e.table; number = e.page }
 
 -- a page of the system space
 abbrev pub system_page : ℕ → PageName
@@ -50,26 +56,25 @@ begin_way d writer index =
     reads (system_page (header_page trx))
     (λ page. writes (records_of_begin (is_new page) trx writer index))
 
--- The row of a key goes to the slot of its bucket's page that is bound to the key, else to the
--- first that was never used. A change writes its undo record, the new count of its undo slot, and
--- the row's slot.
-abbrev pub change_at : Donor → ℕ → Change → List ℕ → Option ℕ → Way
-change_at d trx change row None = stops SpaceFull
-change_at d trx change row (Some place) =
+-- The row of a key goes to the slot of its chain that is bound to the key, else to the first that
+-- was never used. A change writes its undo record, the new count of its undo slot, and the row's
+-- slot.
+abbrev pub change_at : Donor → ℕ → Change → ℕ → Option ℕ → List ℕ → Way
+change_at d trx change page None row = stops SpaceFull
+change_at d trx change page (Some place) row =
     let count = length (changes_of d trx) in
-    let before = told d change.table change.key place (held_value row place) in
+    let before = told change.table page change.key place (held_value row place) in
     reads (system_page (header_page trx)) (λ header. reads (system_page (record_page trx count))
-    (λ page. writes (records_of_change (is_new page) (is_new row) trx count before
+    (λ undo. writes (records_of_change (is_new undo) (is_new row) trx count before
     (rows.image change.key change.value))))
 
 abbrev pub change_way : Donor → ℕ → Change → Way
 change_way d trx change =
-    reads (bucket_page d change.table change.key)
-    (λ row. change_at d trx change row (place_in change.key (slots row)))
+    walks (row_walk d change.table change.key true) (change_at d trx change)
 
--- only the page of the row's bucket is read
+-- only the chain of the row's bucket is read
 abbrev pub get_way : Donor → ℕ → ℕ → Way
-get_way d table key = reads (bucket_page d table key) (λ row. ends)
+get_way d table key = walks (row_walk d table key false) (λ page place row. ends)
 
 -- the undo record tells of a row that was present, or absent
 abbrev pub tells_before : UndoEntry → Bool
@@ -77,26 +82,27 @@ tells_before e =
     if e.state == 1 then nat_le (length e.value) VALUE_LIMIT
     else (e.state == 2) && (length e.value == 0)
 
--- the undo record is one of this row
-abbrev pub tells_of : Donor → ℕ → ℕ → UndoEntry → Bool
-tells_of d table key e =
-    (e.table == table) && ((e.page == page_number d table key)
+-- the undo record is one of this row, on any page that a row may be on
+abbrev pub tells_of : ℕ → ℕ → UndoEntry → Bool
+tells_of table key e =
+    (e.table == table) && (nat_lt e.page MOST_PAGES
     && (nat_lt e.slot slot_count && ((e.key == key) && tells_before e)))
 
--- what was before a change of a row, by its undo record. One that isn't of the row counts as if it
--- told of an absent row in the first slot.
+-- What was before a change of a row, by its undo record. One that isn't of the row counts as if it
+-- told of an absent row in the first slot of the row's bucket.
 abbrev pub before_change : Donor → ℕ → ℕ → UndoEntry → UndoEntry
-before_change d table key e = if tells_of d table key e then e else told d table key 0 None
+before_change d table key e =
+    if tells_of table key e then e else told table (page_number d table key) key 0 None
 
--- The last change is taken back by its undo record, or a transaction without changes gives its undo
--- slot back.
+-- The last change is taken back by its undo record, on the page that this names, or a transaction
+-- without changes gives its undo slot back.
 abbrev pub undo_last : Donor → ℕ → Option Change → Way
 undo_last d trx None = writes (records_of_end trx)
 undo_last d trx (Some change) =
     let count = length (changes_of d trx) in
     reads (system_page (record_page trx (count - 1)))
-    (λ page. reads (bucket_page d change.table change.key) (λ row. writes (records_of_taking_back
-    trx count (before_change d change.table change.key (entry_on (count - 1) page)))))
+    (λ page. let before = before_change d change.table change.key (entry_on (count - 1) page) in
+    reads (row_page before) (λ row. writes (records_of_taking_back trx count before)))
 
 -- the last change of a transaction, if it has one
 abbrev pub last_change : Donor → ℕ → Option Change

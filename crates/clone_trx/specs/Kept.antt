@@ -1,15 +1,18 @@
 -- What holds between calls: of the transactions alone, and of the pages that they go over.
-use Rattle.std.specs.Prelude.{ℕ, ◌≡◌, ◌≢◌, ◌≤◌, ◌<◌, ◌-◌, ◌++◌, ◌∷◌, [], Bool, List, length, IsTrue, IsSome, None, Some, slice_get}
+use Rattle.std.specs.Prelude.{ℕ, ◌≡◌, ◌≢◌, ◌≤◌, ◌<◌, ◌-◌, ◌%◌, ◌++◌, ◌∷◌, ◌⊎◌, [], Bool, List, length, IsTrue, IsSome, IfSome, None, Some, slice_get}
 use Rattle.std.specs.FinMap as finite
 use Rattle.std.specs.Ordering.{nat_cmp}
 use Rattle.clone_base.specs.declared.limits.TheConstants.{TABLE_LIMIT}
-use Rattle.clone_model.specs.declared.line.TheConstants.{HIGHEST_TABLE, MOST_BUCKETS}
+use Rattle.clone_model.specs.declared.line.TheConstants.{HIGHEST_TABLE, MOST_BUCKETS, MOST_PAGES}
 use Rattle.clone_model.specs.declared.change.Change.{Change}
 use Rattle.clone_model.specs.declared.change.Commit.{Commit}
 use Rattle.clone_undo.specs.Entries.{UndoEntry, IsEntry}
 use Rattle.clone_undo.specs.Slots.{UndoSlot}
-use Rattle.clone_image.specs.Image.{Image, all_pages}
+use Rattle.clone_page.specs.Slots.{slot_count}
+use Rattle.clone_row.specs.Slots.{unused}
+use Rattle.clone_image.specs.Image.{Image}
 use Rattle.clone_image.specs.Recovered.{undo_slot_of}
+use Rattle.clone_contents.specs.Contents.{Contents, contents_of}
 use Rattle.clone_contents.specs.Steps.{is_unused}
 use Rattle.clone_pool.specs.declared.frame.Content.TheVariants.{Fresh}
 use Rattle.clone_pool.specs.declared.frame.Frame.{Frame}
@@ -20,8 +23,9 @@ use Rattle.clone_buffer.specs.Buffered.{Buffered, image_of}
 use Rattle.clone_plain.specs.Donor.{Donor, changes_of}
 use Rattle.clone_plain.specs.Locked.{IsLocked, value_of}
 use Rattle.clone_plain.specs.Causes.{change_cause}
-use Rattle.clone_trx.specs.Places.{IsPlaceOn, page_number, told}
-use Rattle.clone_trx.specs.Sound.{IsKept}
+use Rattle.clone_trx.specs.declared.walk.Spot.{Spot}
+use Rattle.clone_trx.specs.Places.{told}
+use Rattle.clone_trx.specs.Sound.{IsKept, IsBound, OnChain, Slots}
 
 -- there are no more tables than may be, each with a number and so many buckets as it may have
 pub record AreTables (tables : finite.FinMap nat_cmp ℕ) : Type 0 where
@@ -66,20 +70,44 @@ abbrev pub MayChange : Donor → ℕ → Change → Type 0
 MayChange d trx change =
     (long : ℕ) × (change_cause d trx change.table change.key long ≡ None)
 
+-- no slot of a table is bound to a key
+abbrev pub IsNowhere : Slots → ℕ → ℕ → Type 0
+IsNowhere slot table key = (page place : ℕ) → ¬ IsBound slot table page place key
+
+-- Where the row of a key is, or where it may go: on a page of its bucket's chain, in the slot that
+-- is bound to the key, or in one that was never used where the key is bound nowhere.
+pub record IsPlace (d : Donor) (c : Contents) (table page place key : ℕ) : Type 0 where
+  pub count : ℕ
+  pub there : finite.get d.tables table ≡ Some count
+  pub chain : OnChain (c.next table) (key % count) page
+  pub may : IsBound c.slot table page place key
+      ⊎ ((c.slot table page place ≡ unused) × IsNowhere c.slot table key)
+
+-- the numbers of a page and of a slot there are in their ranges
+abbrev pub IsInRange : Spot → Type 0
+IsInRange spot = (spot.page < MOST_PAGES) × IfSome spot.slot (λ place. place < slot_count)
+
+-- Where the row of a key is or may go, as a walk found it: the page is held, and the slot is the
+-- place for the row where all that was read is right.
+pub record IsSpot (d : Donor) (table key : ℕ) (b : Buffered) (spot : Spot) : Type 0 where
+  pub in_range : IsInRange spot
+  pub has : Has (record { space = table; number = spot.page }) spot.at b.pool.frames
+  pub place : IsTrue b.right → IfSome spot.slot
+      (λ place. IsPlace d (contents_of (image_of b)) table spot.page place key)
+
 -- Where a change of a row goes: what its undo record tells, whether the row's page is new, and how
--- many changes the transaction has made. The value from before is that of the row where all that
--- was read is right.
+-- many changes the transaction has made. The place is one for the row, and the value from before is
+-- that of the row, where all that was read is right.
 pub record IsPlaceFor (d : Donor) (trx : ℕ) (change : Change) (b : Buffered) (entry : UndoEntry)
     (new : Bool) (made : ℕ) : Type 0 where
   pub table : entry.table ≡ change.table
-  pub page : entry.page ≡ page_number d change.table change.key
   pub key : entry.key ≡ change.key
   pub in_range : IsEntry entry
   pub count : made ≡ length (changes_of d trx)
-  pub told : IsTrue b.right
-      → entry ≡ told d change.table change.key entry.slot (value_of d change.table change.key)
+  pub told : IsTrue b.right → entry
+      ≡ told change.table entry.page change.key entry.slot (value_of d change.table change.key)
   pub place : IsTrue b.right
-      → IsPlaceOn change.key (all_pages (image_of b) entry.table entry.page) entry.slot
+      → IsPlace d (contents_of (image_of b)) change.table entry.page entry.slot change.key
   pub unused : IsTrue b.right → new ≡ is_unused (image_of b) entry.table entry.page
 
 -- a transaction has made so many changes, and the last of them was of this row

@@ -3,6 +3,7 @@ pub mod Sound
 pub mod Kept
 pub mod Ways
 pub mod Calls
+pub mod Walking
 pub mod Locked
 pub mod Opened
 pub mod Spaces

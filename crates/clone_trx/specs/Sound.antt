@@ -23,6 +23,10 @@ use Rattle.clone_plain.specs.Locked.{IsLocked, committed_rows, value_of}
 abbrev pub Slots : Type 0
 Slots = ℕ → ℕ → ℕ → Slot
 
+-- from a table and a page to the page behind it on its chain, or none where the chain ends
+abbrev pub Nexts : Type 0
+Nexts = ℕ → ℕ → Option ℕ
+
 -- the slot at a place is bound to a key
 abbrev pub IsBound : Slots → ℕ → ℕ → ℕ → ℕ → Type 0
 IsBound slot table page place key = bound_key (slot table page place) ≡ Some key
@@ -56,15 +60,22 @@ pub record HoldsChains (d : Donor) (c : Contents) : Type 0 where
       → HasChain c table bucket
   pub none : (table page : ℕ) → c.size table ≡ None → c.next table page ≡ None
 
+-- A page is on the chain of its first page: that page itself, and each that is behind one of the
+-- chain.
+pub data OnChain (next : ℕ → Option ℕ) (first : ℕ) : ℕ → Type 0 where
+  begins : OnChain next first first
+  goes_on : (page one : ℕ) → OnChain next first page → next page ≡ Some one
+      → OnChain next first one
+
 -- A slot that is bound to a key shows the key's value, and all others were never used. A key is
--- bound once at most, on the page of its bucket, and it is wherever it has a value.
-pub record HoldsRows (d : Donor) (slot : Slots) : Type 0 where
+-- bound once at most, on a page of its bucket's chain, and it is wherever it has a value.
+pub record HoldsRows (d : Donor) (next : Nexts) (slot : Slots) : Type 0 where
   pub shown : (table page place key : ℕ) → IsBound slot table page place key
       → slot table page place ≡ row_slot key (value_of d table key)
   pub clean : (table page place : ℕ) → bound_key (slot table page place) ≡ None
       → slot table page place ≡ unused
   pub own : (table page place key : ℕ) → IsBound slot table page place key → (count : ℕ)
-      × (finite.get d.tables table ≡ Some count) × (page ≡ key % count)
+      × (finite.get d.tables table ≡ Some count) × OnChain (next table) (key % count) page
   pub once : (table key p i q j : ℕ) → IsBound slot table p i key → IsBound slot table q j key
       → (p ≡ q) × (i ≡ j)
   pub found : (table key : ℕ) (value : List ℕ) → value_of d table key ≡ Some value → (page : ℕ)
@@ -108,7 +119,7 @@ pub record IsSound (d : Donor) (c : Contents) : Type 0 where
   pub locked : IsLocked d
   pub tables : HoldsTables d c
   pub chains : HoldsChains d c
-  pub rows : HoldsRows d c.slot
+  pub rows : HoldsRows d c.next c.slot
   pub undo : HoldsUndo d c.slot c.undo
   pub position : c.position ≡ length d.binlog
 

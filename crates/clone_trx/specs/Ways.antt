@@ -1,8 +1,11 @@
 -- What a call does to the pages and the log, step by step.
-use Rattle.std.specs.Prelude.{ℕ, ◌≡◌, ◌<◌, ◌≤◌, ◌⊎◌, ◌↔◌, List, length, None, Some, IsTrue, IsOk, Result, Ok, Err}
+use Rattle.std.specs.Prelude.{ℕ, ◌≡◌, ◌<◌, ◌≤◌, ◌-◌, ◌⊎◌, ◌↔◌, ◌&&◌, Bool, true, false, List, length, None, Some, IsTrue, IsOk, Result, Ok, Err, nat_lt, is_some, not, option_and_then, if◌then◌else◌}
 use Rattle.std.specs.declared.option.Option.{Option}
+use Rattle.clone_model.specs.declared.line.TheConstants.{MOST_PAGES}
 use Rattle.clone_mtr.specs.declared.record.Record.{Record}
 use Rattle.clone_mtr.specs.Spelling.{spelling}
+use Rattle.clone_row.specs.Chains.{behind}
+use Rattle.clone_row.specs.Slots.{slots, Finds, FindsFree}
 use Rattle.clone_image.specs.Image.{page_of}
 use Rattle.clone_ring.specs.Window.{free_in}
 use Rattle.clone_outside.specs.Disk.{DiskImage}
@@ -21,11 +24,16 @@ use Rattle.clone_plain.specs.declared.refusal.Cause.{Cause}
 use Rattle.clone_plain.specs.declared.refusal.Cause.TheVariants.{LogFull, PoolFull, DiskFault}
 use Rattle.clone_plain.specs.declared.refusal.EngineRefusal.{EngineRefusal}
 use Rattle.clone_plain.specs.declared.refusal.EngineRefusal.TheVariants.{Because, NoMemory}
+use Rattle.clone_trx.specs.declared.walk.Course.{Course}
+use Rattle.clone_trx.specs.declared.walk.Spot.{Spot}
 
 -- The way of a call. What is done behind a page may depend on the bytes that were read of it.
 pub data Way : Type 0 where
   -- a page is brought into a frame, and stays there while the rest is done
   reads : PageName → (List ℕ → Way) → Way
+  -- A chain is walked. What is done behind it may depend on the page that the walk comes to, on the
+  -- slot there, and on the bytes of that page, which stays in its frame meanwhile.
+  walks : Course → (ℕ → Option ℕ → List ℕ → Way) → Way
   -- there is a cause against the call
   stops : Cause → Way
   -- a mini-transaction is written
@@ -68,6 +76,91 @@ pub record Misses (page : PageName) (cause : Cause) (old new : Buffered) : Type 
   pub fetched : Fetches page old.pool new.pool (Err refusal)
   pub same : new ≡ record old { pool = new.pool }
 
+-- the page was brought into a frame, and pinned there
+pub record Holds (page : PageName) (at : ℕ) (old new : Buffered) : Type 0 where
+  pub next : Buffered
+  pub brings : Brings page at old next
+  pub is : new ≡ held at next
+
+-- a page wasn't held, for this refusal
+abbrev pub MissesBy : PageName → EngineRefusal → Buffered → Buffered → Type 0
+MissesBy page refusal old new =
+    (cause : Cause) × (refusal ≡ Because cause) × Misses page cause old new
+
+-- A WALK goes along a chain page by page, and looks for a slot that is bound to its key. If it is
+-- for room, the first page with a slot that was never used is kept: it stays pinned meanwhile.
+
+-- a page of the chain
+abbrev pub chain_page : Course → ℕ → PageName
+chain_page course number = record { space = course.table; number = number }
+
+-- the page that was kept, if one was, is let go
+abbrev pub let_go_kept : Option Spot → Buffered → Buffered
+let_go_kept None b = b
+let_go_kept (Some spot) b = let_go spot.at b
+
+-- the page was brought into a frame and pinned there, and no slot of it is bound to the key
+pub record Lacks (course : Course) (page at : ℕ) (old new : Buffered) : Type 0 where
+  pub holds : Holds (chain_page course page) at old new
+  pub lacks : Finds course.key (slots (page_in at new)) None
+
+-- the first slot of a page that was never used, if one is wanted
+abbrev pub FindsWanted : Bool → List ℕ → Option ℕ → Type 0
+FindsWanted true page found = FindsFree (slots page) found
+FindsWanted false page found = found ≡ None
+
+-- a walk that is for room wants such a slot until it has kept one
+abbrev pub FindsRoom : Course → Option Spot → List ℕ → Option ℕ → Type 0
+FindsRoom course kept page found = FindsWanted (course.for_room && not (is_some kept)) page found
+
+-- The page behind a page on its chain, where as many more pages may be walked. No row is on a page
+-- above the highest.
+abbrev pub onward : ℕ → List ℕ → Option ℕ
+onward left page =
+    option_and_then (λ next. if nat_lt 0 left && nat_lt next MOST_PAGES then Some next else None)
+    (behind page)
+
+-- What comes of a walk from a page on, behind which so many more pages may be walked. Where it
+-- comes to the spot for the key, the spot's page stays pinned and no other.
+pub data Walks (course : Course) : ℕ → ℕ → Option Spot → Buffered → Buffered
+    → Result Spot EngineRefusal → Type 0 where
+  -- the page isn't brought
+  misses : (left page : ℕ) (kept : Option Spot) (old mid new : Buffered) (refusal : EngineRefusal)
+      → MissesBy (chain_page course page) refusal old mid → new ≡ let_go_kept kept mid
+      → Walks course left page kept old new (Err refusal)
+  -- a slot of the page is bound to the key
+  finds : (left page at slot : ℕ) (kept : Option Spot) (old mid new : Buffered)
+      → Holds (chain_page course page) at old mid
+      → Finds course.key (slots (page_in at mid)) (Some slot) → new ≡ let_go_kept kept mid
+      → Walks course left page kept old new (Ok (record { page = page; at = at; slot = Some slot }))
+  -- the page is kept, and the walk goes on
+  keeps : (left page at slot next : ℕ) (old mid new : Buffered) (result : Result Spot EngineRefusal)
+      → Lacks course page at old mid → FindsRoom course None (page_in at mid) (Some slot)
+      → onward left (page_in at mid) ≡ Some next
+      → Walks course (left - 1) next (Some (record { page = page; at = at; slot = Some slot })) mid
+      new result
+      → Walks course left page None old new result
+  -- the page is let go, and the walk goes on
+  passes : (left page at next : ℕ) (kept : Option Spot) (old mid passed new : Buffered)
+      (result : Result Spot EngineRefusal)
+      → Lacks course page at old mid → FindsRoom course kept (page_in at mid) None
+      → onward left (page_in at mid) ≡ Some next → passed ≡ let_go at mid
+      → Walks course (left - 1) next kept passed new result
+      → Walks course left page kept old new result
+  -- it is the last page, and one was kept before
+  returns : (left page at : ℕ) (spot : Spot) (old mid new : Buffered)
+      → Lacks course page at old mid → onward left (page_in at mid) ≡ None → new ≡ let_go at mid
+      → Walks course left page (Some spot) old new (Ok spot)
+  -- it is the last page, and none was
+  arrives : (left page at : ℕ) (slot : Option ℕ) (old new : Buffered)
+      → Lacks course page at old new → FindsRoom course None (page_in at new) slot
+      → onward left (page_in at new) ≡ None
+      → Walks course left page None old new (Ok (record { page = page; at = at; slot = slot }))
+
+-- what comes of a walk from its first page on, which goes over no more pages than a space may have
+abbrev pub WalksAll : Course → Buffered → Buffered → Result Spot EngineRefusal → Type 0
+WalksAll course old new result = Walks course (MOST_PAGES - 1) course.first None old new result
+
 -- the log has room for a mini-transaction
 abbrev pub HasRoom : List Record → Buffered → Type 0
 HasRoom records b = length (spelling records) ≤ free_in b.ring
@@ -98,6 +191,12 @@ Goes (reads page rest) old new result =
     ((cause : Cause) × (result ≡ Err (Because cause)) × Misses page cause old new)
     ⊎ ((at : ℕ) × (next last : Buffered) × Brings page at old next
     × Goes (rest (page_in at next)) (held at next) last result × (new ≡ let_go at last))
+Goes (walks course rest) old new result =
+    ((cause : Cause) × (result ≡ Err (Because cause))
+    × WalksAll course old new (Err (Because cause)))
+    ⊎ ((spot : Spot) × (next last : Buffered) × WalksAll course old next (Ok spot)
+    × Goes (rest spot.page spot.slot (page_in spot.at next)) next last result
+    × (new ≡ let_go spot.at last))
 Goes (stops cause) old new result = (result ≡ Err (Because cause)) × (new ≡ old)
 Goes (writes records) old new result = Writes records old new result
 Goes (makes records) old new result = Makes records old new result
@@ -115,17 +214,6 @@ abbrev pub Answers : {X : Type 0} → Option Cause → Way → Donor → Donor �
 Answers (Some cause) way d e old new result Does =
     (result ≡ Err (Because cause)) × (e ≡ d) × (new ≡ old)
 Answers None way d e old new result Does = Goes way old new result × Carries d e result Does
-
--- the page was brought into a frame, and pinned there
-pub record Holds (page : PageName) (at : ℕ) (old new : Buffered) : Type 0 where
-  pub next : Buffered
-  pub brings : Brings page at old next
-  pub is : new ≡ held at next
-
--- a page wasn't held, for this refusal
-abbrev pub MissesBy : PageName → EngineRefusal → Buffered → Buffered → Type 0
-MissesBy page refusal old new =
-    (cause : Cause) × (refusal ≡ Because cause) × Misses page cause old new
 
 -- so many pins has each frame at most
 abbrev pub PinsAtMost : ℕ → List Frame → Type 0

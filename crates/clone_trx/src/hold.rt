@@ -74,10 +74,14 @@ pub fn hold<D: PageDisk>(
 pub fn release(buffer: &mut Buffer, at: u32)
     requires { 0 < (frame_at buffer.old.pool.frames at).pins }
     ensures is { buffer.new ≡ let_go at buffer.old }
+    ensures stay { (page : PageName) (other : ℕ) → Has page other buffer.old.pool.frames
+        → 0 < (frame_at buffer.new.pool.frames other).pins
+        → Has page other buffer.new.pool.frames }
     ensures stands { (told : Option DiskImage) → StaysStanding buffer.old buffer.new told told }
 {
     buffer.laws();
     buffer.unpin(at);
+    buffer.laws();
 }
 
 /// Refuses where the log has no room for a mini-transaction.

@@ -11,6 +11,7 @@ mod place;
 mod records;
 mod tables;
 mod transactions;
+mod walk;
 
 pub use opening::{OpenRefusal, open};
 pub use transactions::{Transactions, kept_laws};

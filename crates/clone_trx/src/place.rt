@@ -1,31 +1,17 @@
-ghost use Rattle.std.specs.Prelude.{◌≡◌, IfSome, [], unwrap_or};
-ghost use Rattle.clone_row.specs.Slots.{slots};
+ghost use Rattle.std.specs.Prelude.{◌≡◌, [], option_and_then, unwrap_or};
 ghost use Rattle.clone_undo.specs.Entries.{state_number, value_before, IsBefore};
-ghost use Rattle.clone_trx.specs.Places.{IsPlaceOn, place_in, held_value, state_of_row, HasValue};
+ghost use Rattle.clone_trx.specs.Places.{held_value, state_of_row};
 
 use clone_model::Value;
 use clone_page::Page;
-use clone_row::{find, free_slot, present};
+use clone_row::present;
 use clone_undo::{Before, OldValue};
 
-/// The slot for a key: the one that is bound to it, else the first that was never used. None where
-/// there is neither.
-pub fn place_of(page: &Page, key: u64) -> Option<u16>
-    ensures place { result ≡ place_in key (slots page.now) }
-    ensures on_page { IfSome result (IsPlaceOn key page.now) }
+/// The value of the row in a slot, if there is a slot, and a row in it.
+pub fn value_on(page: &Page, slot: Option<u16>) -> Option<Value>
+    ensures { result ≡ option_and_then (held_value page.now) slot }
 {
-    match find(page, key) {
-        Some(place) => Some(place),
-        None => free_slot(page),
-    }
-}
-
-/// The value of a key's row on the page of its bucket.
-pub fn value_on(page: &Page, key: u64) -> Option<Value>
-    ensures { HasValue page.now key result }
-{
-    let slot = find(page, key)?;
-    let (_, value) = present(page, slot)?;
+    let (_, value) = present(page, slot?)?;
     Some(value)
 }
 

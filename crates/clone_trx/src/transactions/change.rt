@@ -4,7 +4,6 @@ ghost use Rattle.std.specs.List.{AllByRecursion};
 ghost use Rattle.clone_outside.specs.Causes.{Rose};
 ghost use Rattle.clone_outside.specs.Disk.{DiskImage};
 ghost use Rattle.clone_mtr.specs.Spelling.{longest, spelling};
-ghost use Rattle.clone_row.specs.Slots.{slots};
 ghost use Rattle.clone_undo.specs.Places.{header_page, record_page};
 ghost use Rattle.clone_undo.specs.Changes.{records_of_change};
 ghost use Rattle.clone_image.specs.Image.{EditsPages};
@@ -15,16 +14,17 @@ ghost use Rattle.clone_plain.specs.Causes.{change_cause};
 ghost use Rattle.clone_plain.specs.Effects.{Changes, delete_of, put_of};
 ghost use Rattle.clone_plain.specs.declared.refusal.Cause.TheVariants.{DiskFault};
 ghost use Rattle.clone_plain.specs.declared.refusal.EngineRefusal.TheVariants.{Because};
-ghost use Rattle.clone_trx.specs.Calls.{bucket_page, change_at, change_way, is_new, system_page};
+ghost use Rattle.clone_trx.specs.Calls.{change_at, change_way, is_new, row_page, system_page};
 ghost use Rattle.clone_trx.specs.Ways.{Answers, Carries, Goes, PinsAtMost, StaysStanding, Writes, page_in, reads, writes};
-ghost use Rattle.clone_trx.specs.Kept.{Has, IsHeld, IsPlaceFor, Keeps, MayChange};
+ghost use Rattle.clone_trx.specs.Kept.{IsHeld, IsPlaceFor, IsSpot, Keeps, MayChange};
 ghost use Rattle.clone_trx.specs.Sound.{IsKept};
-ghost use Rattle.clone_trx.specs.Places.{page_number, place_in};
+ghost use Rattle.clone_trx.specs.Places.{page_number};
 ghost use Rattle.clone_row.specs.Slots as rows;
 
 use crate::Transactions;
 use crate::hold::{check_room, first_record, hold, records_from, release, write_held};
-use crate::place::{before_on, place_of};
+use crate::place::before_on;
+use crate::walk::{Course, Spot, walk};
 use clone_buffer::Buffer;
 use clone_model::{Change, Value};
 use clone_mtr::Record;
@@ -47,8 +47,8 @@ struct Place {
 impl Transactions {
     /// Gives a row its value and locks it. The causes for which it is refused, in their order: no
     /// such transaction, a value above 64 bytes, no such table, 160 changes, the lock of another
-    /// transaction, no frame for the row's page, a full bucket, no frame for the undo pages, no
-    /// room in the log.
+    /// transaction, no frame for a page of the row's chain, a full chain, no frame for the undo
+    /// pages, no room in the log.
     pub fn put<D: PageDisk>(
         &mut self,
         buffer: &mut Buffer,
@@ -162,30 +162,34 @@ impl Transactions {
         ensures orders { D.orders disk.new ≡ D.orders disk.old }
         ensures stands { StaysStanding buffer.old buffer.new (D.told disk.old) (D.told disk.new) }
     {
-        let at = hold(buffer, disk, change.table, bucket)?;
-        let changed = self.change_on(buffer, trx, change, bucket, at, disk);
-        release(buffer, at);
+        self.laws();
+        let course = Course {
+            table: change.table,
+            first: bucket,
+            key: change.key,
+            for_room: true,
+        };
+        let spot = walk(buffer, disk, course)?;
+        let changed = self.change_on(buffer, trx, change, spot, disk);
+        release(buffer, spot.at);
         changed
     }
 
-    // Makes a change, with the row's page held.
+    // Makes a change, with the page that a walk came to held.
     fn change_on<D: PageDisk>(
         &mut self,
         buffer: &mut Buffer,
         trx: u32,
         change: Change,
-        bucket: u32,
-        at: u32,
+        spot: Spot,
         disk: &mut D,
     ) -> Result<(), EngineRefusal>
         requires cause { MayChange self.old trx change }
-        requires bucket { bucket ≡ page_number self.old change.table change.key }
+        requires spot { IsSpot self.old change.table change.key buffer.old spot }
         requires kept { IsTrue buffer.old.right → IsKept self.old (image_of buffer.old) }
-        requires row { Has (bucket_page self.old change.table change.key) at
-            buffer.old.pool.frames }
         requires pins { PinsAtMost 1 buffer.old.pool.frames }
-        ensures way { Goes (change_at self.old trx change (page_in at buffer.old)
-            (place_in change.key (slots (page_in at buffer.old)))) buffer.old buffer.new result }
+        ensures way { Goes (change_at self.old trx change spot.page spot.slot
+            (page_in spot.at buffer.old)) buffer.old buffer.new result }
         ensures donor { Carries self.old self.new result
             (λ _. Changes self.old trx change self.new) }
         ensures kept { IsTrue buffer.new.right → IsKept self.new (image_of buffer.new) }
@@ -202,13 +206,13 @@ impl Transactions {
             unreachable!();
         };
         let count = commit.changes.len() as u16;
-        let page = buffer.frame(at);
-        let Some(slot) = place_of(page, change.key) else {
+        let Some(slot) = spot.slot else {
             return Err(Cause::SpaceFull.into());
         };
+        let page = buffer.frame(spot.at);
         let before = before_on(page, slot);
         let place = Place {
-            entry: UndoRecord::new(change.table, bucket, slot, change.key, before),
+            entry: UndoRecord::new(change.table, spot.page, slot, change.key, before),
             is_new: page.kind() == 0,
             count,
         };
@@ -231,8 +235,7 @@ impl Transactions {
         requires place { IsPlaceFor self.old trx change buffer.old place.now.entry
             place.now.is_new place.now.count }
         requires kept { IsTrue buffer.old.right → IsKept self.old (image_of buffer.old) }
-        requires row { IsHeld (bucket_page self.old change.table change.key)
-            buffer.old.pool.frames }
+        requires row { IsHeld (row_page place.now.entry) buffer.old.pool.frames }
         requires header { IsHeld (system_page (header_page trx)) buffer.old.pool.frames }
         requires pins { PinsAtMost 2 buffer.old.pool.frames }
         ensures way { Goes (reads (system_page (record_page trx place.now.count))
@@ -273,8 +276,7 @@ impl Transactions {
         requires new { IsTrue buffer.old.right → (first == 0)
             ≡ is_unused (image_of buffer.old) 0 (record_page trx place.now.count) }
         requires kept { IsTrue buffer.old.right → IsKept self.old (image_of buffer.old) }
-        requires row { IsHeld (bucket_page self.old change.table change.key)
-            buffer.old.pool.frames }
+        requires row { IsHeld (row_page place.now.entry) buffer.old.pool.frames }
         requires header { IsHeld (system_page (header_page trx)) buffer.old.pool.frames }
         requires undo { IsHeld (system_page (record_page trx place.now.count))
             buffer.old.pool.frames }
@@ -318,8 +320,7 @@ impl Transactions {
         requires new { IsTrue buffer.old.right → (first == 0)
             ≡ is_unused (image_of buffer.old) 0 (record_page trx place.now.count) }
         requires kept { IsTrue buffer.old.right → IsKept self.old (image_of buffer.old) }
-        requires row { IsHeld (bucket_page self.old change.table change.key)
-            buffer.old.pool.frames }
+        requires row { IsHeld (row_page place.now.entry) buffer.old.pool.frames }
         requires header { IsHeld (system_page (header_page trx)) buffer.old.pool.frames }
         requires undo { IsHeld (system_page (record_page trx place.now.count))
             buffer.old.pool.frames }

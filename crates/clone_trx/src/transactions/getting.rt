@@ -9,8 +9,9 @@ ghost use Rattle.clone_trx.specs.Ways.{Answers, StaysStanding};
 ghost use Rattle.clone_trx.specs.Kept.{Keeps};
 
 use crate::Transactions;
-use crate::hold::{hold, release};
+use crate::hold::release;
 use crate::place::value_on;
+use crate::walk::{Course, walk};
 use clone_buffer::Buffer;
 use clone_model::Value;
 use clone_outside::PageDisk;
@@ -19,7 +20,7 @@ use clone_plain::{Cause, EngineRefusal};
 impl Transactions {
     /// The row's value after the history and then the transaction's own changes. No lock is taken.
     /// Refused where no open transaction or no table has this number, where another transaction
-    /// holds the row's lock, and where there is no frame for the page.
+    /// holds the row's lock, and where there is no frame for a page.
     pub fn get<D: PageDisk>(
         &self,
         buffer: &mut Buffer,
@@ -48,9 +49,17 @@ impl Transactions {
             return Err(Cause::NoSuchTable.into());
         };
         self.check_lock(trx, table, key)?;
-        let at = hold(buffer, disk, table, bucket)?;
-        let value = value_on(buffer.frame(at), key);
-        release(buffer, at);
+        self.laws();
+        let course = Course {
+            table,
+            first: bucket,
+            key,
+            for_room: false,
+        };
+        let spot = walk(buffer, disk, course)?;
+        buffer.laws();
+        let value = value_on(buffer.frame(spot.at), spot.slot);
+        release(buffer, spot.at);
         Ok(value)
     }
 }

@@ -10,11 +10,10 @@ ghost use Rattle.clone_plain.specs.Causes.{no_trx};
 ghost use Rattle.clone_plain.specs.Effects.{Undoes};
 ghost use Rattle.clone_plain.specs.declared.refusal.Cause.TheVariants.{DiskFault};
 ghost use Rattle.clone_plain.specs.declared.refusal.EngineRefusal.TheVariants.{Because, NoMemory};
-ghost use Rattle.clone_trx.specs.Calls.{before_change, bucket_page, last_change, system_page, undo_last, undo_way};
+ghost use Rattle.clone_trx.specs.Calls.{before_change, last_change, row_page, system_page, undo_last, undo_way};
 ghost use Rattle.clone_trx.specs.Ways.{Answers, Carries, Goes, PinsAtMost, StaysStanding, Writes, reads, writes};
 ghost use Rattle.clone_trx.specs.Kept.{IsHeld, IsLast, IsLastRecord, Keeps};
 ghost use Rattle.clone_trx.specs.Sound.{IsKept};
-ghost use Rattle.clone_trx.specs.Places.{page_number};
 ghost use Rattle.std.specs.FinMap as finite;
 
 use crate::Transactions;
@@ -156,8 +155,8 @@ impl Transactions {
     }
 
     // What the undo record of the last of so many changes tells of the row. One that isn't of this
-    // row counts as if it told of an absent row in the first slot: no page that was read as it was
-    // written has one.
+    // row counts as if it told of an absent row in the first slot of the row's bucket: no page that
+    // was read as it was written has one.
     fn entry_of(&self, page: &Page, count: u16, table: u32, key: u64) -> UndoRecord
         requires table { IsSome (finite.get self.now.tables table) }
         requires count { (0 < count) × (count ≤ capacity) }
@@ -168,8 +167,7 @@ impl Transactions {
             unreachable!();
         };
         match last_record(page, count) {
-            Some(entry) if entry.table() == table && entry.page() == bucket && entry.key() == key =>
-                { entry }
+            Some(entry) if entry.table() == table && entry.key() == key => entry,
             _ => UndoRecord::new(table, bucket, 0, key, Before::Absent),
         }
     }
@@ -184,12 +182,11 @@ impl Transactions {
         disk: &mut D,
     ) -> Result<Undone, EngineRefusal>
         requires last { IsLast self.old trx count entry.now.table entry.now.key }
-        requires page { entry.now.page ≡ page_number self.old entry.now.table entry.now.key }
         requires told { IsTrue buffer.old.right → IsLastRecord (image_of buffer.old) trx entry.now }
         requires kept { IsTrue buffer.old.right → IsKept self.old (image_of buffer.old) }
         requires header { IsHeld (system_page (header_page trx)) buffer.old.pool.frames }
         requires pins { PinsAtMost 2 buffer.old.pool.frames }
-        ensures way { Goes (reads (bucket_page self.old entry.now.table entry.now.key)
+        ensures way { Goes (reads (row_page entry.now)
             (λ row. writes (records_of_taking_back trx count entry.now))) buffer.old buffer.new
             result }
         ensures donor { Carries self.old self.new result
@@ -222,8 +219,7 @@ impl Transactions {
         requires told { IsTrue buffer.old.right → IsLastRecord (image_of buffer.old) trx entry.now }
         requires kept { IsTrue buffer.old.right → IsKept self.old (image_of buffer.old) }
         requires header { IsHeld (system_page (header_page trx)) buffer.old.pool.frames }
-        requires row { IsHeld (record { space = entry.now.table; number = entry.now.page })
-            buffer.old.pool.frames }
+        requires row { IsHeld (row_page entry.now) buffer.old.pool.frames }
         ensures written { Writes (records_of_taking_back trx count entry.now) buffer.old buffer.new
             result }
         ensures donor { Carries self.old self.new result

@@ -13,7 +13,7 @@ use Rattle.clone_trx.proofs.Common as common
 use Rattle.clone_trx.proofs.KeptLemmas.{opening_keeps}
 use Rattle.clone_trx.proofs.NewSpaceLemmas.{has_made}
 use Rattle.clone_trx.proofs.OpenLemmas.{is_taken, left_loose, opens, stands_first}
-use Rattle.clone_trx.proofs.PinLemmas.{SamePins, records_pins}
+use Rattle.clone_trx.proofs.FramePinLemmas.{SamePins, records_pins}
 use Rattle.clone_trx.proofs.WriteLemmas.{written_kept}
 use Rattle.clone_trx.proofs.opening.open.Goals as goal
 

@@ -3,17 +3,17 @@ use Rattle.std.specs.List.{AllByRecursion}
 use Rattle.clone_row.specs.Slots as rows
 use Rattle.clone_undo.specs.Places.{header_page, record_page}
 use Rattle.clone_image.specs.Image.{EditsPages}
-use Rattle.clone_pool.specs.Frames.{holder}
 use Rattle.clone_buffer.specs.Buffered.{image_of}
 use Rattle.clone_buffer.specs.Writing.{HasFrame, IsOnPage}
-use Rattle.clone_trx.specs.Calls.{bucket_page, system_page}
+use Rattle.clone_trx.specs.Calls.{row_page, system_page}
 use Rattle.clone_trx.specs.Ways.{Writes}
-use Rattle.clone_trx.proofs.Common.{Record, UndoEntry, spelling, longest, records_of_change, after_records, page_of, page_number, Changes, IsKept}
+use Rattle.clone_trx.proofs.Common.{Record, UndoEntry, spelling, longest, records_of_change, after_records, page_of, Changes, IsKept}
 use Rattle.clone_trx.proofs.CauseLemmas.{may_change}
 use Rattle.clone_trx.proofs.ChangeLemmas.{short_value, made_kept}
+use Rattle.clone_trx.proofs.KeyPlaceLemmas.{place_there}
 use Rattle.clone_trx.proofs.PlacedLemmas.{held_frame, change_framed, change_there, change_edits}
 use Rattle.clone_trx.proofs.SpellingLengths.{change_from, some_change, short_change}
-use Rattle.clone_trx.proofs.SystemPageLemmas.{header_there, record_there, bucket_there}
+use Rattle.clone_trx.proofs.SystemPageLemmas.{header_there, record_there}
 use Rattle.clone_trx.proofs.WayLemmas.{answered_kept}
 use Rattle.clone_trx.proofs.transactions.Transactions.change_by.Goals as goal
 
@@ -39,8 +39,7 @@ write_change-requires c =
     let made : Bool = c.args.first == 0 in
     let image : List ℕ = rows.image change.key change.value in
     let is = same c.args.first trx place.count place.is_new e image c.args.records.now c.records_from.result.now c.requires.first c.requires.records c.records_from.ensures in
-    let row : (change.table, page_number d change.table change.key) ≡ (e.table, e.page) = λ i. (sym c.requires.place.table i, sym c.requires.place.page i) in
-    let row_framed = subst (λ (p : ℕ × ℕ). IsSome (holder frames (record { space = p.0; number = p.1 }))) row (held_frame frames (bucket_page d change.table change.key) c.requires.row) in
+    let row_framed = held_frame frames (row_page e) c.requires.row in
     record {
       cause = c.requires.cause;
       some = subst (λ (rs : List Record). 1 ≤ length rs) is (some_change made place.is_new trx place.count e image);
@@ -52,7 +51,7 @@ write_change-requires c =
           let kept = c.requires.kept right in
           let may = may_change d trx change.table change.key c.requires.cause.0 kept.sound.locked c.requires.cause.1 in
           let small = kept.sound.locked.few.numbers trx (ap is_some may.was_active) in
-          let row_there = subst (λ (p : ℕ × ℕ). IsSome (page_of pages p.0 p.1)) row (bucket_there d pages change.table change.key may.buckets kept may.was_table) in
+          let row_there = subst (λ (t : ℕ). IsSome (page_of pages t e.page)) (sym c.requires.place.table) (place_there d pages change.table change.key kept e.page e.slot (c.requires.place.place right)) in
           subst (AllByRecursion (IsOnPage pages)) is
           (change_there pages made place.is_new trx place.count e image (record_there pages trx place.count kept.formed small (omega (arith, may.few, c.requires.place.count))) (header_there pages trx kept.formed small) row_there);
     }

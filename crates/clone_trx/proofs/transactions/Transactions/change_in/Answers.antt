@@ -3,7 +3,7 @@ use Rattle.clone_row.specs.Slots as rows
 use Rattle.clone_undo.specs.Places.{header_page, record_page}
 use Rattle.clone_undo.specs.Changes.{records_of_change}
 use Rattle.clone_buffer.specs.Buffered.{Buffered, image_of}
-use Rattle.clone_trx.specs.Calls.{bucket_page, system_page, is_new}
+use Rattle.clone_trx.specs.Calls.{row_page, system_page, is_new}
 use Rattle.clone_trx.specs.Kept.{Has}
 use Rattle.clone_trx.specs.Ways.{Writes, Holds, writes, page_in}
 use Rattle.clone_trx.proofs.Common.{page_of}
@@ -48,7 +48,7 @@ pub change_held-changed-requires-clause-kept : goal.change_held-changed-requires
 change_held-changed-requires-clause-kept g c = still_kept c.args.self.now c.args.buffer.now c.hold.new.buffer c.in_ok-at.ensures.log c.in_ok-at.ensures.before c.requires.kept
 
 pub change_held-changed-requires-clause-row : goal.change_held-changed-requires-clause-row
-change_held-changed-requires-clause-row g c = (c.requires.row.0, c.hold.ensures.stay (bucket_page c.args.self.now c.args.change.table c.args.change.key) c.requires.row.0 c.requires.row.1)
+change_held-changed-requires-clause-row g c = (c.requires.row.0, c.hold.ensures.stay (row_page c.args.place.now.entry) c.requires.row.0 c.requires.row.1)
 
 pub change_held-changed-requires-clause-header : goal.change_held-changed-requires-clause-header
 change_held-changed-requires-clause-header g c = (c.requires.header.0, c.hold.ensures.stay (system_page (header_page c.args.trx)) c.requires.header.0 c.requires.header.1)

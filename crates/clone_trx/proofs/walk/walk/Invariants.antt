@@ -1,0 +1,21 @@
+use Rattle.std.proofs.Common.{◌≡◌, ◌≤◌, Result}
+use Rattle.clone_buffer.specs.Buffered.{Buffered}
+use Rattle.clone_plain.specs.declared.refusal.EngineRefusal.{EngineRefusal}
+use Rattle.clone_trx.specs.declared.walk.Spot.{Spot}
+use Rattle.clone_trx.specs.Walking.{MayGoOn}
+use Rattle.clone_trx.specs.Ways.{StaysStanding, Walks, WalksAll}
+use Rattle.clone_trx.proofs.walk.walk.Given as goal
+
+abbrev pub invariant-loop-spot : goal.invariant-loop-spot
+invariant-loop-spot g l =
+    record {
+      may : MayGoOn l.course l.page l.kept l.buffer;
+      walked : (last : Buffered) (result : Result Spot EngineRefusal) → Walks l.course l.left l.page l.kept l.buffer last result → WalksAll l.course l.fn.buffer last result;
+      later : g.D.PageDisk.failures l.fn.disk ≤ g.D.PageDisk.failures l.disk;
+      told : g.D.PageDisk.told l.disk ≡ g.D.PageDisk.told l.fn.disk;
+      orders : g.D.PageDisk.orders l.disk ≡ g.D.PageDisk.orders l.fn.disk;
+      stands : StaysStanding l.fn.buffer l.buffer (g.D.PageDisk.told l.fn.disk) (g.D.PageDisk.told l.disk);
+    }
+
+abbrev pub decreases-loop-spot : goal.decreases-loop-spot
+decreases-loop-spot g l = l.left
