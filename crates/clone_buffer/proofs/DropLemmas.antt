@@ -9,7 +9,7 @@ use Rattle.clone_law.specs.Touches.{becomes, applied}
 use Rattle.clone_law.proofs.AppendLemmas.{appended, suits_unnamed}
 use Rattle.clone_pool.specs.declared.frame.Content.TheVariants.{Held}
 use Rattle.clone_pool.specs.Frames.{page_changed, discarded}
-use Rattle.clone_buffer.specs.OnePage.{NoFileCopy, flush_in}
+use Rattle.clone_buffer.specs.OnePage.{NoFilesOf, flush_in}
 use Rattle.clone_buffer.specs.Keeping.{Stands}
 use Rattle.clone_buffer.specs.Dropping.{is_page_below, given_up, without_pages, DropsSpace, WritesWithout}
 use Rattle.clone_buffer.proofs.MoveLemmas.{stands_by}
@@ -89,7 +89,7 @@ module _ (space pages : ℕ) (v : Buffered) (records : List Record) (d : DropsSp
       by None framed on = tt
       by (Some page) framed on = subst IsSome (sym (holder_left space pages v.pool p q page (apart page on))) framed
 
-  module _ (beside : Beside) (m : DiskImage) (after : IsBuffer (written all u)) (calm : NoFileCopy beside.copy) (k : IsKept v beside m) where
+  module _ (beside : Beside) (m : DiskImage) (after : IsBuffer (written all u)) (calm : NoFilesOf space beside.copy) (k : IsKept v beside m) where
     abbrev buffer : IsBuffer u
     buffer = buffer_without space pages v b
 
@@ -126,7 +126,7 @@ module _ (space pages : ℕ) (v : Buffered) (records : List Record) (d : DropsSp
         let dropped = ap (λ (t : Bool). applied (redone space n v.log) ((if t then becomes no_space else passes) ∷ ts)) (eq-eqb space space refl) ∙ applied_passing no_space ts (passes_all end space n d.rest d.edits miss) in
         let bare = frame_of-passed u beside m all q buffer after k.right space n miss ∙ frame_of_absent (removed image space) u.pool.frames space n (shows_left k.right) (gone image space n) in
         subst (IsKeptPage (v.log ++ all ∷ []) beside m space n) (sym bare)
-        (dropped_page v.log beside m space n all (frame_of v.pool.frames space n) suits (appended space n v.log all (k.page space n).rule.engine.fits suits ∙ dropped) (calm space n) (landed n) (k.page space n))
+        (dropped_page v.log beside m space n all (frame_of v.pool.frames space n) suits (appended space n v.log all (k.page space n).rule.engine.fits suits ∙ dropped) (calm n) (landed n) (k.page space n))
 
     kept_all : IsKept (written all u) beside m
     kept_all = record { right = k.right; page = λ s n. by s n (cases_eq s space) }
@@ -135,7 +135,7 @@ module _ (space pages : ℕ) (v : Buffered) (records : List Record) (d : DropsSp
         by s n (inl same) = subst (λ (x : ℕ). Kept x n) (sym same) (own_page n (any_names (record { space = space; number = n }) all) refl)
         by s n (inr other) = other_page s n other
 
-  pub kept_dropped : IsSpelled records → length (spelling records) ≤ free_in v.ring → (beside : Beside) (m : DiskImage) → NoFileCopy beside.copy → IsKept v beside m → IsKept (written records u) beside m
+  pub kept_dropped : IsSpelled records → length (spelling records) ≤ free_in v.ring → (beside : Beside) (m : DiskImage) → NoFilesOf space beside.copy → IsKept v beside m → IsKept (written records u) beside m
   kept_dropped spelled room beside m calm k =
       let after = IsBuffer-written u all (buffer_without space pages v b) (subst IsSpelled d.is spelled) (subst (λ (rs : List Record). length (spelling rs) ≤ free_in v.ring) d.is room) shows_all in
       subst (λ (rs : List Record). IsKept (written rs u) beside m) (sym d.is) (kept_all beside m after calm k)
@@ -147,7 +147,7 @@ writes_without space pages v w records (Err full) room writes = absurd (omega (a
 
 -- a buffer over a disk stands after it
 pub stands_dropped : (space pages : ℕ) (v w : Buffered) (beside : Beside) (told : Option DiskImage) (records : List Record) (result : Result ℕ LogFull) → IsPool v.pool → IsPool (given_up space pages v.pool) → IsBuffer v → IsSpelled records → (IsTrue v.right → DropsSpace v space pages records)
-    → WritesWithout space pages records v w result → NoFileCopy beside.copy → Stands v beside told → Stands w beside told
+    → WritesWithout space pages records v w result → NoFilesOf space beside.copy → Stands v beside told → Stands w beside told
 stands_dropped space pages v w beside told records (Ok lsn) p q b spelled drops writes calm st =
     subst (λ (x : Buffered). Stands x beside told) (sym writes.1) (stands_by v (written records (without_pages space pages v)) beside told (λ m k. kept_dropped space pages v records (drops k.right) p q b spelled writes.0 beside m calm k) st)
 stands_dropped space pages v w beside told records (Err full) p q b spelled drops writes calm st = subst (λ (x : Buffered). Stands x beside told) (sym writes.2) st

@@ -126,7 +126,7 @@ abbrev IsSameBeside : Beside → Beside → ℕ → ℕ → Type 0
 IsSameBeside beside beside' s n = (beside'.image s n ≡ beside.image s n) × (beside'.copy s n ≡ beside.copy s n)
 
 -- a page whose frame, place on the disk and what is kept beside it are as before stays kept
-undisturbed : (log : List (List Record)) (beside beside' : Beside) (m m' : DiskImage) (s n : ℕ) (frame : Option Frame) → beside'.checkpoint ≡ beside.checkpoint → IsSameBeside beside beside' s n
+pub undisturbed : (log : List (List Record)) (beside beside' : Beside) (m m' : DiskImage) (s n : ℕ) (frame : Option Frame) → beside'.checkpoint ≡ beside.checkpoint → IsSameBeside beside beside' s n
     → (disk.page_of m' s n ≡ disk.page_of m s n) × (disk_standing m' s n ≡ disk_standing m s n) → IsKeptPage log beside m s n frame → IsKeptPage log beside' m' s n frame
 undisturbed log beside beside' m m' s n frame point same disks k =
     let e : Engine = engine_with log beside m s n frame in
@@ -250,7 +250,7 @@ module _ (v : Buffered) (page : PageName) (at : ℕ) where
   framed p name dirty = ap (frame_in v.pool.frames) (p.once page at name) ∙ frame_in-old v.pool.frames at (old_frame v.pool.uses f (p.frame at) dirty)
 
   -- its frame has changed, and what is kept beside it and on the disk
-  changed_frame : (change : Frame → Frame) (beside beside' : Beside) (m m' : DiskImage) → Changes v page at change → is_dirty f ≡ true → (change f).content ≡ f.content → beside'.checkpoint ≡ beside.checkpoint
+  pub changed_frame : (change : Frame → Frame) (beside beside' : Beside) (m m' : DiskImage) → Changes v page at change → is_dirty f ≡ true → (change f).content ≡ f.content → beside'.checkpoint ≡ beside.checkpoint
       → ((s n : ℕ) → (page ≡ record { space = s; number = n } → ⊥) → IsSameBeside beside beside' s n × ((disk.page_of m' s n ≡ disk.page_of m s n) × (disk_standing m' s n ≡ disk_standing m s n)))
       → (IsKeptPage v.log beside m page.space page.number (Some f) → IsKeptPage v.log beside' m' page.space page.number (Some (change f))) → IsKept v beside m → IsKept (with_change at change v) beside' m'
   changed_frame change beside beside' m m' c dirty content point others this k = record {

@@ -10,6 +10,7 @@ pub mod AroundLemmas
 pub mod SpaceLemmas
 pub mod ImageLemmas
 pub mod LongerLemmas
+pub mod LengthenLemmas
 pub mod GivenLemmas
 pub mod DropLemmas
 pub mod FlushLemmas

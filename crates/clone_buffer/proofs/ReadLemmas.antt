@@ -14,7 +14,7 @@ use Rattle.clone_buffer.specs.OnePage.{bytes_in, flush_in, standing_at, standing
 use Rattle.clone_buffer.specs.Reading.{OthersAreClosed, IsLatest, ReadsLatest, FileReadAllowed}
 use Rattle.clone_buffer.proofs.FrameLemmas.{holder_name}
 use Rattle.clone_buffer.proofs.ShownLemmas.{stands_there, shown_held}
-use Rattle.clone_buffer.proofs.PageLemmas.{on_disk, read_bytes}
+use Rattle.clone_buffer.proofs.PageLemmas.{on_disk, read_bytes, spaced}
 
 -- The pages whose write counts as open.
 
@@ -74,14 +74,12 @@ standing m space number held is = by (finite.get m.spaces space) is
     by (Some pages) there = ap standing_at there
 
 pub file_read_allowed : FileReadAllowed
-file_read_allowed v beside m space number bytes b k made there quiet =
-    let page = there_is (page_of (replayed v.log) space number) made in
+file_read_allowed v beside m space number bytes b k has there quiet =
     let held = there_is (disk.page_of m space number) there in
-    let stood : redone space number v.log ≡ stands page.0 = stands_there v.log space number page.0 (small v b) page.1 in
     let said : held.0.writing ≡ false → bytes ≡ held.0.bytes = subst (λ (o : Option Held). IfSome o (λ h. h.writing ≡ false → bytes ≡ h.bytes)) held.1 quiet in (
-      subst HasSpace (sym stood) tt,
+      has,
       λ writing.
-          let closed : is_open (disk.page_of m space number) ≡ false = shut (is_open (disk.page_of m space number)) (sym (ap (λ (s : Standing). is_open (disk.page_of m space number) && has_space s) stood) ∙ writing) in
+          let closed : is_open (disk.page_of m space number) ≡ false = shut (is_open (disk.page_of m space number)) (sym (ap (λ (x : Bool). is_open (disk.page_of m space number) && x) (spaced (redone space number v.log) has)) ∙ writing) in
           standing m space number held.0 held.1 ∙ ap stands (sym (said (sym (ap is_open held.1) ∙ closed))),
     )
 

@@ -10,7 +10,7 @@ use Rattle.clone_outside.specs.declared.disk.Held as held
 use Rattle.clone_image.specs.Redone.{made}
 use Rattle.clone_law.specs.Machine.{Idle, Untracked, Tracked, Copied, Stopped, Created, Opened, NoFiles, created}
 use Rattle.clone_pool.specs.declared.frame.Flush.TheVariants as flush
-use Rattle.clone_buffer.specs.OnePage.{NoFileCopy, standing_at, standing_in}
+use Rattle.clone_buffer.specs.OnePage.{NoFilesOf, standing_at, standing_in}
 use Rattle.clone_buffer.specs.Keeping.{Stands}
 use Rattle.clone_buffer.proofs.PageLemmas.{world, Ruled}
 use Rattle.clone_image.specs.Image.{page_of as image_page}
@@ -19,7 +19,7 @@ use Rattle.clone_image.specs.Redone.{standing_in as image_standing}
 use Rattle.clone_law.specs.Touches.{Touch, becomes, applied, Sound, Ordered}
 use Rattle.clone_law.proofs.AppendLemmas.{appended}
 use Rattle.clone_pool.specs.declared.frame.Content.TheVariants.{Held}
-use Rattle.clone_buffer.specs.Writing.{HasMade}
+use Rattle.clone_buffer.specs.Writing.{HasMade, NoFilesOfMade}
 use Rattle.clone_buffer.proofs.FrameLemmas.{some_of, clean_fresh}
 use Rattle.clone_buffer.proofs.ShownLemmas.{fresh_absent, frame_of_absent}
 use Rattle.clone_buffer.proofs.WriteLemmas.{Ready, of_named, applied_passing, unnamed_all, passes_all, resets_none}
@@ -124,7 +124,7 @@ no_space_there : (log : List (List Record)) (space number : ℕ) → ends log < 
 no_space_there log space number small none = sym (replayed_is_redone log space number small) ∙ ap (λ (o : Option (List (List ℕ))). image_standing o number) none
 
 module _ (v : Buffered) (beside : Beside) (m : DiskImage) (space pages : ℕ) (rest : List Record) (p : IsPool v.pool) (b : IsBuffer v) (after : IsBuffer (written (Create space pages ∷ rest) v)) (makes : MakesSpace v space pages rest)
-    (quiet : finite.get m.spaces space ≡ Some (replicate pages disk.zero_page)) (calm : NoFileCopy beside.copy) (k : IsKept v beside m) where
+    (quiet : finite.get m.spaces space ≡ Some (replicate pages disk.zero_page)) (calm : NoFilesOf space beside.copy) (k : IsKept v beside m) where
   abbrev records : List Record
   records = Create space pages ∷ rest
 
@@ -173,7 +173,7 @@ module _ (v : Buffered) (beside : Beside) (m : DiskImage) (space pages : ℕ) (r
       let suits = suits_unnamed space n v.log records less (unnamed_all end space n records miss) in
       let first = ap (λ (t : Bool). applied (redone space n v.log) ((if t then becomes (made n pages) else passes) ∷ ts)) own ∙ applied_passing (made n pages) ts (passes_all end space n rest makes.edits miss) in
       subst (IsKeptPage (v.log ++ records ∷ []) beside m space n) (sym (frame_of-passed v beside m records p b after k.right space n miss ∙ unframed n))
-      (created_page v.log beside m space n pages records quiet (calm space n) suits (appended space n v.log records (bare n).rule.engine.fits suits ∙ first) (bare n))
+      (created_page v.log beside m space n pages records quiet (calm n) suits (appended space n v.log records (bare n).rule.engine.fits suits ∙ first) (bare n))
   new_page n true hits =
       let held = some_of (holder v.pool.frames (record { space = space; number = n })) (frame_there v beside m [] rest (Create space pages) p b after k.right tt makes.edits framed (record { space = space; number = n }) hits) in
       let idle = (p.frame held.0).fresh (fresh_absent (replayed v.log) v.pool.frames space n (b.shows k.right) (nowhere n) held.0 held.1) in
@@ -182,7 +182,7 @@ module _ (v : Buffered) (beside : Beside) (m : DiskImage) (space pages : ℕ) (r
       let starts : (if space == space then becomes (made n pages) else passes) ≡ becomes (stands zero_page) = ap (λ (t : Bool). if t then becomes (made n pages) else passes) own ∙ ap (λ (t : Bool). becomes (if t then stands zero_page else past_end)) (lt-ltb n pages low) in
       let sound = subst (λ (x : Touch). Sound (redone space n v.log) (x ∷ touches end space n rest) × Ordered (x ∷ touches end space n rest)) (sym starts) (edits_sound zero_page (touches end space n rest) (resets_none end space n rest makes.edits)) in
       subst (IsKeptPage (v.log ++ records ∷ []) beside m space n) (sym is.framed)
-      (opened_page v.log beside m space n pages records quiet (calm space n) _ low (record { small = less; sound = sound.0; ordered = sound.1 }) is.page (no_space_there v.log space n (omega (arith, less)) (makes.absent k.right))
+      (opened_page v.log beside m space n pages records quiet (calm n) _ low (record { small = less; sound = sound.0; ordered = sound.1 }) is.page (no_space_there v.log space n (omega (arith, less)) (makes.absent k.right))
       (is.oldest ∙ ap (λ (o : Option ℕ). Some (unwrap_or o (ends v.log))) (clean_fresh (frame_at v.pool.frames held.0).oldest idle.1)) (is.flush ∙ ap (noted (ends v.log)) ((p.frame held.0).clean idle.1)) (bare n))
     where
       within : (n < pages) ⊎ (pages ≤ n) → IsSome (image_page (finite.insert (replayed v.log) space (replicate pages zero_page)) space n) → n < pages
@@ -198,7 +198,7 @@ module _ (v : Buffered) (beside : Beside) (m : DiskImage) (space pages : ℕ) (r
       by s n (inr other) = other_page s n other
 
 -- a buffer is kept over a disk after a mini-transaction that makes a space
-kept_by : (v : Buffered) (beside : Beside) (m : DiskImage) (records : List Record) → IsPool v.pool → IsBuffer v → IsSpelled records → Creates v records → length (spelling records) ≤ free_in v.ring → HasMade records m → NoFileCopy beside.copy → IsKept v beside m → IsKept (written records v) beside m
+kept_by : (v : Buffered) (beside : Beside) (m : DiskImage) (records : List Record) → IsPool v.pool → IsBuffer v → IsSpelled records → Creates v records → length (spelling records) ≤ free_in v.ring → HasMade records m → NoFilesOfMade records beside.copy → IsKept v beside m → IsKept (written records v) beside m
 kept_by v beside m (Create space count ∷ rest) p b spelled makes room on calm k =
     let records = Create space count ∷ rest in
     let after = IsBuffer-written v records b spelled room (λ t. shows_created v records p b makes t) in
@@ -206,7 +206,7 @@ kept_by v beside m (Create space count ∷ rest) p b spelled makes room on calm 
 kept_by v beside m other p b spelled makes room on calm k = absurd makes
 
 -- so a buffer stands after it
-pub stands_created : (v w : Buffered) (beside : Beside) (told : Option DiskImage) (records : List Record) (result : Result ℕ LogFull) → IsPool v.pool → IsBuffer v → IsSpelled records → (IsTrue v.right → Creates v records) → Writes records v w result → NoFileCopy beside.copy → ForTold told (HasMade records) → Stands v beside told → Stands w beside told
+pub stands_created : (v w : Buffered) (beside : Beside) (told : Option DiskImage) (records : List Record) (result : Result ℕ LogFull) → IsPool v.pool → IsBuffer v → IsSpelled records → (IsTrue v.right → Creates v records) → Writes records v w result → NoFilesOfMade records beside.copy → ForTold told (HasMade records) → Stands v beside told → Stands w beside told
 stands_created v w beside told rs (Err full) p b spelled makes writes calm on st = subst (λ (u : Buffered). Stands u beside told) (sym writes.2) st
 stands_created v w beside told records (Ok lsn) p b spelled makes writes calm on st = subst (λ (u : Buffered). Stands u beside told) (sym writes.1) (by told on st)
   where

@@ -92,6 +92,20 @@ FailKeeps =
     → Changes v page at failed → IsInFlight (frame_at v.pool.frames at)
     → IsKept v beside m → IsKept (with_change at failed v) (with_image page None beside) m
 
+-- a flush begins and fails before any of the page is written
+abbrev pub FaultKeeps : Type 0
+FaultKeeps =
+    (v : Buffered) (beside : Beside) (m : DiskImage) (page : PageName) (at : ℕ)
+    → Changes v page at begun → Changes (with_change at begun v) page at failed
+    → is_waiting (frame_at v.pool.frames at) ≡ true
+    → IsKept v beside m → IsKept (with_change at failed (with_change at begun v)) beside m
+
+-- the file of a space gets longer by zero pages, if it has fewer
+abbrev pub LengthenKeeps : Type 0
+LengthenKeeps =
+    (v : Buffered) (beside : Beside) (m : DiskImage) (space pages : ℕ) → IsKept v beside m
+    → IsKept v beside (disk.with_extended m space pages)
+
 -- the oldest change that isn't on the disk begins there, or there is none and the log ends there
 abbrev pub IsReached : Buffered → ℕ → Type 0
 IsReached v lsn = IsOldest v.pool.frames lsn ⊎ (AreClean v.pool.frames × (lsn ≡ ends v.log))

@@ -23,9 +23,9 @@ Copies = ℕ → ℕ → Copy
 abbrev pub no_copies : Copies
 no_copies = λ space number. machine.Idle
 
--- no clone is in its FILE COPY
-abbrev pub NoFileCopy : Copies → Type 0
-NoFileCopy copies = (space number : ℕ) → NoFiles (copies space number)
+-- no clone is in the FILE COPY of the space
+abbrev pub NoFilesOf : ℕ → Copies → Type 0
+NoFilesOf space copies = (number : ℕ) → NoFiles (copies space number)
 
 -- what is kept beside a buffer: the last checkpoint, the image of each page on its way to the disk,
 -- and what a clone has of each page

@@ -5,7 +5,8 @@ use Rattle.std.specs.List.{Contains}
 use Rattle.clone_outside.specs.Disk as disk
 use Rattle.clone_outside.specs.Disk.{DiskImage, ForTold, GivesQuiet}
 use Rattle.clone_image.specs.Image.{page_of}
-use Rattle.clone_law.specs.Machine.{Engine, Allowed, FileRead, PageRead}
+use Rattle.clone_image.specs.Redone.{redone}
+use Rattle.clone_law.specs.Machine.{Engine, Allowed, HasSpace, FileRead, PageRead}
 use Rattle.clone_buffer.specs.Buffered.{Buffered, IsBuffer, image_of}
 use Rattle.clone_buffer.specs.OnePage.{Beside, engine_of, world_of}
 use Rattle.clone_buffer.specs.Keeping.{IsKept}
@@ -33,11 +34,11 @@ ReadsLatest v told space number bytes =
     ForTold told (λ m. (beside : Beside) → IsKept v beside m
     → IsSome (page_of (image_of v) space number) → IsLatest v beside m space number bytes)
 
--- What a disk gives of a page that is there, and that the log makes, the law of the page allows as
--- read in FILE COPY.
+-- What a disk gives of a page that is there, and whose space the log makes, the law of the page
+-- allows as read in FILE COPY.
 abbrev pub FileReadAllowed : Type 0
 FileReadAllowed =
     (v : Buffered) (beside : Beside) (m : DiskImage) (space number : ℕ) (bytes : List ℕ)
-    → IsBuffer v → IsKept v beside m → IsSome (page_of (image_of v) space number)
+    → IsBuffer v → IsKept v beside m → HasSpace (redone space number v.log)
     → IsSome (disk.page_of m space number) → GivesQuiet m space number bytes
     → Allowed space number (world_of v beside m space number) (FileRead bytes)

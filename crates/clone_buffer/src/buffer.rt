@@ -4,7 +4,7 @@ ghost use Rattle.clone_outside.specs.Causes.{Rose};
 ghost use Rattle.clone_buffer.specs.Writing.{after_records, changed_at, named_frame};
 ghost use Rattle.clone_buffer.specs.Dropping.{AreUnpinned, given_up};
 ghost use Rattle.std.specs.List.{AllByRecursion};
-ghost use Rattle.clone_buffer.specs.Flushing.{BeginKeeps, OpenKeeps, LandKeeps, RestLands, FailKeeps, CheckpointKeeps, with_change};
+ghost use Rattle.clone_buffer.specs.Flushing.{BeginKeeps, OpenKeeps, LandKeeps, RestLands, FailKeeps, FaultKeeps, LengthenKeeps, CheckpointKeeps, with_change};
 ghost use Rattle.clone_buffer.specs.Keeping.{CopyKept, CopyKeeps};
 ghost use Rattle.clone_buffer.specs.Reading.{FileReadAllowed};
 ghost use Rattle.clone_mtr.specs.Records.{IsRecord};
@@ -64,10 +64,10 @@ impl Model for Buffer {
 impl Buffer {
     ghost use Rattle.std.specs.declared.option.Option.{Option};
     ghost use Rattle.clone_outside.specs.Disk.{DiskImage, ForTold, blank};
-    ghost use Rattle.clone_buffer.specs.Writing.{HasFrame, IsOnPage, Creates, HasMade, Lengthens, Writes, written};
+    ghost use Rattle.clone_buffer.specs.Writing.{HasFrame, IsOnPage, Creates, HasMade, Lengthens, NoFilesOfMade, Writes, written};
     ghost use Rattle.clone_buffer.specs.Dropping.{DropsSpace, WritesWithout};
     ghost use Rattle.clone_buffer.specs.Buffered.{image_of, IsBuffer, Shows};
-    ghost use Rattle.clone_buffer.specs.OnePage.{Beside, NoFileCopy, at_rest, bytes_in, frame_of};
+    ghost use Rattle.clone_buffer.specs.OnePage.{Beside, NoFilesOf, at_rest, bytes_in, frame_of};
     ghost use Rattle.clone_buffer.specs.Keeping.{IsKept, Stands, DiskIsFrames};
     ghost use Rattle.clone_buffer.specs.Reading.{OthersAreClosed, ReadsLatest};
 
@@ -279,7 +279,8 @@ impl Buffer {
         requires short { length (spelling records.now) ≤ longest }
         requires creates { IsTrue self.old.right → Creates self.old records.now }
         ensures written { Writes records.now self.old self.new result }
-        ensures stands { (beside : Beside) (told : Option DiskImage) → NoFileCopy beside.copy
+        ensures stands { (beside : Beside) (told : Option DiskImage)
+            → NoFilesOfMade records.now beside.copy
             → Stands self.old beside told → ForTold told (HasMade records.now)
             → Stands self.new beside told }
     {
@@ -316,7 +317,7 @@ impl Buffer {
         requires unpinned { AreUnpinned space self.old.pool.frames }
         requires drops { IsTrue self.old.right → DropsSpace self.old space pages records.now }
         ensures written { WritesWithout space pages records.now self.old self.new result }
-        ensures stands { (beside : Beside) (told : Option DiskImage) → NoFileCopy beside.copy
+        ensures stands { (beside : Beside) (told : Option DiskImage) → NoFilesOf space beside.copy
             → Stands self.old beside told → Stands self.new beside told }
     {
         self.room_for(records)?;
@@ -499,14 +500,16 @@ impl Buffer {
     }
 }
 
-/// What a flush of a page does, step by step, and a checkpoint: a buffer that is kept over a disk
-/// stays so.
+/// What a flush of a page does, step by step, a file that gets longer, and a checkpoint: a buffer
+/// that is kept over a disk stays so.
 pub fn flush_laws()
     ensures begins { BeginKeeps }
     ensures opens { OpenKeeps }
     ensures lands { LandKeeps }
     ensures rest { RestLands }
     ensures fails { FailKeeps }
+    ensures fault { FaultKeeps }
+    ensures lengthens { LengthenKeeps }
     ensures checkpoint { CheckpointKeeps }
 {}
 

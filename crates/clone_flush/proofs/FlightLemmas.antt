@@ -36,7 +36,7 @@ module _ (f : Flights) (page : PageName) where
   other_key : (s n : ℕ) → (page ≡ record { space = s; number = n } → ⊥) → (s, n) ≢ key
   other_key s n apart same = apart (λ i. record { space = (sym same i).0; number = (sym same i).1 })
 
-  set_here : (w : PageWrite) → write_of (with_write page w f) page ≡ Some w
+  pub set_here : (w : PageWrite) → write_of (with_write page w f) page ≡ Some w
   set_here w = get-set_same row_cmp_total row_cmp_exact f.writes key w
 
   set_other : (w : PageWrite) (s n : ℕ) → (page ≡ record { space = s; number = n } → ⊥) → finite.get (with_write page w f).writes (s, n) ≡ finite.get f.writes (s, n)

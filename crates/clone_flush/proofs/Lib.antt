@@ -1,1 +1,3 @@
 pub mod FlightLemmas
+pub mod FileLemmas
+pub mod BeginLemmas

@@ -1,8 +1,9 @@
 -- What the calls of a flush do to a buffer, the writes under way, and the disk.
-use Rattle.std.specs.Prelude.{ℕ, ◌≡◌, ◌&&◌, nat_lt, nat_le, min, max, if◌then◌else◌, Bool, false, true, Some, None, Result, Ok, Err}
+use Rattle.std.specs.Prelude.{ℕ, ◌≡◌, ◌+◌, ◌&&◌, nat_lt, nat_le, min, max, if◌then◌else◌, Bool, false, true, Some, None, Result, Ok, Err}
 use Rattle.std.specs.declared.option.Option.{Option}
 use Rattle.std.specs.FinMap as finite
-use Rattle.clone_outside.specs.Disk.{DiskImage, Opens, Steps, with_page, half_written, rest_written}
+use Rattle.clone_outside.specs.Disk.{DiskImage, IsBeforeOrAfter, Opens, Steps, with_extended, with_page, half_written, rest_written}
+use Rattle.clone_model.specs.declared.line.TheConstants.{MOST_PAGES}
 use Rattle.clone_pool.specs.declared.frame.PageName.{PageName}
 use Rattle.clone_pool.specs.Frames.{frame_at, is_dirty, is_begun, IsInFlight, begun, failed, landed}
 use Rattle.clone_pool.specs.Pool.{IsHolder}
@@ -10,7 +11,7 @@ use Rattle.clone_ring.specs.Window.{Window, end_of, raised}
 use Rattle.clone_buffer.specs.Buffered.{Buffered}
 use Rattle.clone_buffer.specs.Flushing.{with_change, with_noted}
 use Rattle.clone_buffer.specs.OnePage.{Copies}
-use Rattle.clone_flush.specs.Flights.{Flights, write_of}
+use Rattle.clone_flush.specs.Flights.{Flights, is_short, write_of}
 use Rattle.clone_flush.specs.declared.flusher.PageWrite.{PageWrite}
 use Rattle.clone_flush.specs.declared.refusal.FlushRefusal.{FlushRefusal}
 use Rattle.clone_flush.specs.declared.refusal.FlushRefusal.TheVariants.{NotDirty, InFlight, NoFlush, DiskFault, NoMemory}
@@ -38,32 +39,87 @@ without_write page f = record f { writes = finite.remove f.writes (page.space, p
 abbrev pub new_write : ℕ → Buffered → PageWrite
 new_write at b = record { image = (frame_at b.pool.frames at).page; halved = false }
 
--- A page that isn't dirty is refused first, and then one whose flush has begun.
-abbrev pub RefusesBegin : FlushRefusal → PageName → State → State → Type 0
-RefusesBegin NotDirty page old new =
-    ((at : ℕ) → HasDirty page old.buffer at → ⊥) × (new ≡ old)
-RefusesBegin InFlight page old new =
-    (at : ℕ) × HasDirty page old.buffer at × IsInFlight (frame_at old.buffer.pool.frames at)
-    × (new ≡ old)
-RefusesBegin NoFlush page old new = ⊥
-RefusesBegin DiskFault page old new = ⊥
-RefusesBegin NoMemory page old new = new ≡ old
+-- a file has so many pages
+abbrev pub with_file : ℕ → ℕ → Flights → Flights
+with_file space pages f = record f { files = finite.insert f.files space pages }
 
--- A FLUSH BEGINS, with the page as it is.
-abbrev pub Begins : {X : Type 0} → PageName → State → State → Result X FlushRefusal → Type 0
-Begins page old new (Ok _) =
-    (at : ℕ) × HasDirty page old.buffer at
-    × (is_begun (frame_at old.buffer.pool.frames at).flush ≡ false)
+-- a file isn't known any more
+abbrev pub without_file : ℕ → Flights → Flights
+without_file space f = record f { files = finite.remove f.files space }
+
+-- the file of the page ends before it, and may get longer
+abbrev pub ends_short : PageName → Flights → Bool
+ends_short page f = is_short f.files page.space page.number && nat_lt page.number MOST_PAGES
+
+-- the file is long enough for the page
+abbrev pub lengthened : Bool → PageName → Flights → Flights
+lengthened false page f = f
+lengthened true page f = with_file page.space (page.number + 1) f
+
+-- the disk has the file as long as that
+abbrev pub reaching : PageName → DiskImage → DiskImage
+reaching page m = with_extended m page.space (page.number + 1)
+
+-- a file that is too short gets longer on the disk, and nothing else changes there
+abbrev pub Lengthens : Bool → PageName → Option DiskImage → Option DiskImage → Type 0
+Lengthens false page before after = after ≡ before
+Lengthens true page before after = Steps before after (reaching page)
+
+-- the page waits for its flush, in this frame
+pub record Waits (page : PageName) (b : Buffered) (at : ℕ) : Type 0 where
+  pub dirty : HasDirty page b at
+  pub quiet : is_begun (frame_at b.pool.frames at).flush ≡ false
+
+-- The file was too short, and the disk failed to lengthen it: the flush has failed.
+pub record FailsToLengthen (page : PageName) (old new : State)
+    (before after : Option DiskImage) : Type 0 where
+  pub at : ℕ
+  pub waits : Waits page old.buffer at
+  pub short : ends_short page old.flights ≡ true
+  pub state : new ≡ record {
+    buffer = with_change at failed (with_change at begun old.buffer);
+    flights = old.flights;
+  }
+  pub disk : IsBeforeOrAfter before after (reaching page)
+
+-- A page that isn't dirty is refused first, and then one whose flush has begun.
+abbrev pub RefusesBegin : FlushRefusal → PageName → State → State → Option DiskImage
+    → Option DiskImage → Type 0
+RefusesBegin NotDirty page old new before after =
+    ((at : ℕ) → HasDirty page old.buffer at → ⊥) × (new ≡ old) × (after ≡ before)
+RefusesBegin InFlight page old new before after =
+    (at : ℕ) × HasDirty page old.buffer at × IsInFlight (frame_at old.buffer.pool.frames at)
+    × (new ≡ old) × (after ≡ before)
+RefusesBegin NoFlush page old new before after = ⊥
+RefusesBegin DiskFault page old new before after = FailsToLengthen page old new before after
+RefusesBegin NoMemory page old new before after = (new ≡ old) × (after ≡ before)
+
+-- A FLUSH BEGINS, with the page as it is. A file that ends before the page is lengthened first.
+abbrev pub Begins : {X : Type 0} → PageName → State → State → Option DiskImage → Option DiskImage
+    → Result X FlushRefusal → Type 0
+Begins page old new before after (Ok _) =
+    (at : ℕ) × Waits page old.buffer at
     × (new ≡ record {
       buffer = with_change at begun old.buffer;
-      flights = with_write page (new_write at old.buffer) old.flights;
+      flights = with_write page (new_write at old.buffer)
+          (lengthened (ends_short page old.flights) page old.flights);
     })
-Begins page old new (Err refusal) = RefusesBegin refusal page old new
+    × Lengthens (ends_short page old.flights) page before after
+Begins page old new before after (Err refusal) = RefusesBegin refusal page old new before after
 
--- what a clone has of each page then: its tracker has noted the page whose flush began
-abbrev pub after_begin : {X Y : Type 0} → PageName → Result X Y → Copies → Copies
-after_begin page (Ok _) copies = with_noted page copies
-after_begin page (Err _) copies = copies
+-- the flush of a page began, also where it failed at once
+abbrev pub has_begun : {X : Type 0} → Result X FlushRefusal → Bool
+has_begun (Ok _) = true
+has_begun (Err DiskFault) = true
+has_begun (Err NotDirty) = false
+has_begun (Err InFlight) = false
+has_begun (Err NoFlush) = false
+has_begun (Err NoMemory) = false
+
+-- what a clone has of each page where the flush of one began: its tracker has noted that page
+abbrev pub after_begin : PageName → Bool → Copies → Copies
+after_begin page true copies = with_noted page copies
+after_begin page false copies = copies
 
 -- a flush of the page is under way, and its first half is written or not
 pub record IsUnderWay (page : PageName) (halved : Bool) (old : State) (w : PageWrite)

@@ -1,13 +1,16 @@
--- The pages on their way to the disk, each with its image, and the checkpoint.
-use Rattle.std.specs.Prelude.{ℕ, ◌≡◌, ◌≤◌, Bool, true, List, take, None, Some, option_map, refl}
+-- The pages on their way to the disk, each with its image, the checkpoint, and the files.
+use Rattle.std.specs.Prelude.{ℕ, ◌≡◌, ◌≤◌, ◌∷◌, [], nat_le, Bool, true, false, List, take, None, Some, option_map, if◌then◌else◌, refl}
 use Rattle.std.specs.declared.option.Option.{Option}
 use Rattle.std.specs.FinMap as finite
+use Rattle.std.specs.Ordering.{nat_cmp}
 use Rattle.std.specs.Coded.{Coded, code_by, coded×, coded_ℕ, coded_bool, coded_list}
 use Rattle.clone_outside.specs.Disk as disk
-use Rattle.clone_outside.specs.Disk.{DiskImage, ForTold}
+use Rattle.clone_outside.specs.Disk.{DiskImage, ForTold, page_count}
 use Rattle.clone_outside.specs.declared.disk.Held.{Held}
 use Rattle.clone_outside.specs.declared.disk.TheConstants.{HALF_PAGE}
 use Rattle.clone_model.specs.Keys.{row_cmp}
+use Rattle.clone_image.specs.Redone.{past_end}
+use Rattle.clone_law.specs.Machine.{Idle, Untracked}
 use Rattle.clone_buffer.specs.Buffered.{Buffered}
 use Rattle.clone_buffer.specs.OnePage.{Beside, Copies}
 use Rattle.clone_buffer.specs.Keeping.{IsKept}
@@ -22,10 +25,19 @@ Writes = finite.FinMap row_cmp PageWrite
 abbrev pub writes_of : List ((ℕ × ℕ) × PageWrite) → Writes
 writes_of entries = finite.from_entries entries
 
--- the writes that are under way, and the last checkpoint
+-- from a space to so many pages of its file as are known to be there
+abbrev pub Files : Type 0
+Files = finite.FinMap nat_cmp ℕ
+
+-- the files that an ordered map lists
+abbrev pub files_of : List (ℕ × ℕ) → Files
+files_of entries = finite.from_entries entries
+
+-- the writes that are under way, the last checkpoint, and the files
 pub record Flights : Type 0 where
   pub writes : Writes
   pub checkpoint : ℕ
+  pub files : Files
 
 abbrev pub write_code : Coded PageWrite
 write_code =
@@ -34,9 +46,11 @@ write_code =
 
 abbrev pub flights_code : Coded Flights
 flights_code =
-    code_by (Writes × ℕ)
-    (coded× (finite.code (coded× coded_ℕ coded_ℕ) write_code) coded_ℕ)
-    (λ f. (f.writes, f.checkpoint)) (λ p. record { writes = p.0; checkpoint = p.1 }) (λ _. refl)
+    code_by (Writes × (ℕ × Files))
+    (coded× (finite.code (coded× coded_ℕ coded_ℕ) write_code)
+    (coded× coded_ℕ (finite.code coded_ℕ coded_ℕ)))
+    (λ f. (f.writes, (f.checkpoint, f.files)))
+    (λ p. record { writes = p.0; checkpoint = p.1.0; files = p.1.1 }) (λ _. refl)
 
 -- the write of a page that is under way, if there is one
 abbrev pub write_of : Flights → PageName → Option PageWrite
@@ -49,6 +63,26 @@ beside_of f copies = record {
   image = λ space number. option_map (λ w. w.image) (finite.get f.writes (space, number));
   copy = copies;
 }
+
+-- a file of so many pages, if it is known, ends before the page of this number
+abbrev pub ends_before : Option ℕ → ℕ → Bool
+ends_before None number = false
+ends_before (Some pages) number = nat_le pages number
+
+-- the page lies past the end of its file, which is known
+abbrev pub is_short : Files → ℕ → ℕ → Bool
+is_short files space number = ends_before (finite.get files space) number
+
+-- what a clone will have of such a page: that it isn't there
+abbrev pub beyond : Files → Copies
+beyond files space number =
+    if is_short files space number then Untracked (past_end ∷ []) else Idle
+
+-- the disk has each file that is known, with at least so many pages
+abbrev pub HasFiles : Files → DiskImage → Type 0
+HasFiles files m =
+    (space pages : ℕ) → finite.get files space ≡ Some pages
+    → (count : ℕ) × (page_count m space ≡ Some count) × (pages ≤ count)
 
 -- the page is there on the disk, with the image's first half where that was written
 abbrev pub IsOnDisk : PageWrite → Option Held → Type 0

@@ -1,24 +1,27 @@
-//! The writes of pages that are under way. A page's write is kept here exactly while its frame's
-//! flush has begun.
-ghost use Rattle.std.specs.Prelude.{ℕ, ◌≡◌, ◌≤◌, Err, IfErr, IfNone, IfOk, IfSome, IsSome, OnErr, OnOk, Some, false, option_copied, true};
+//! The writes of pages that are under way, and the files. A page's write is kept here exactly while
+//! its frame's flush has begun. A file that is known has at least so many pages on the disk.
+ghost use Rattle.std.specs.Prelude.{ℕ, ◌≡◌, ◌≢◌, ◌<◌, ◌≤◌, Err, IfErr, IfNone, IfOk, IfSome, IsErrOf, IsSome, OnErr, OnOk, Some, false, option_copied, true};
 ghost use Rattle.std.specs.FinMap as finite;
-ghost use Rattle.clone_outside.specs.Causes.{Rose};
-ghost use Rattle.clone_outside.specs.Disk.{DiskImage, ForTold, Opens, page_of};
+ghost use Rattle.clone_outside.specs.Causes.{HasCause, Rose};
+ghost use Rattle.clone_outside.specs.Disk.{DiskImage, ForTold, IsBeforeOrAfter, Opens, page_of};
 ghost use Rattle.clone_image.specs.Replay.{first_lsn};
 ghost use Rattle.std.specs.declared.option.Option.{Option};
-ghost use Rattle.clone_pool.specs.Frames.{frame_at, name_of, IsInFlight, is_begun};
+ghost use Rattle.clone_pool.specs.Frames.{frame_at, name_of, IsInFlight};
 ghost use Rattle.clone_pool.specs.Pool.{AreNotWaiting, IsHolder, IsNextToFlush};
 ghost use Rattle.clone_pool.specs.declared.frame.PageName.{PageName};
 ghost use Rattle.clone_ring.specs.Window.{end_of};
 ghost use Rattle.clone_buffer.specs.OnePage.{Copies};
 ghost use Rattle.clone_buffer.specs.Flushing.{IsReached};
-ghost use Rattle.clone_flush.specs.Calls.{HasDirty, Begins, RefusesBegin, Halves, Lands, IsUnderWay, after_begin, after_failure, checked, floored, settled, needed_from, nearest_in, with_write, without_write};
-ghost use Rattle.clone_flush.specs.Flights.{Flights, StandsFlown, write_of, writes_of};
+ghost use Rattle.clone_flush.specs.Calls.{Begins, RefusesBegin, Waits, Halves, Lands, Lengthens, IsUnderWay, after_begin, after_failure, checked, ends_short, floored, has_begun, lengthened, settled, needed_from, nearest_in, reaching, with_file, with_write, without_file, without_write};
+ghost use Rattle.clone_flush.specs.Flights.{Flights, HasFiles, StandsFlown, write_of, writes_of};
+ghost use Rattle.clone_model.specs.declared.line.TheConstants.{MOST_PAGES};
 ghost use Rattle.clone_flush.specs.declared.flusher.PageWrite.{PageWrite};
 
 use crate::FlushRefusal;
+use crate::files::Files;
 use clone_base::FIRST_LSN;
 use clone_buffer::Buffer;
+use clone_model::MOST_PAGES;
 use clone_outside::{PageDisk, Refusal};
 use clone_page::Page;
 use std::alloc::{AllocError, Global};
@@ -34,12 +37,13 @@ pub struct PageWrite {
     pub halved: bool,
 }
 
-/// The pages on their way to the disk, each as it was when its flush began, and the last
-/// checkpoint.
+/// The pages on their way to the disk, each as it was when its flush began, the last checkpoint,
+/// and how long each file is: so many pages of it are there at least.
 #[derive(Drop)]
 pub struct Flusher {
     writes: BTreeMap<(u32, u32), PageWrite>,
     checkpoint: u64,
+    files: Files,
 }
 
 impl Model for Flusher {
@@ -52,19 +56,53 @@ impl Model for Flusher {
     ghost view = { λ f. record {
       writes = writes_of f.writes.entries;
       checkpoint = f.checkpoint;
+      files = f.files;
     } };
 }
 
 impl Flusher {
-    /// No page is on its way, and the checkpoint is where a log begins.
+    /// No page is on its way, no file is known, and the checkpoint is where a log begins.
     pub fn new(alloc: Global) -> Flusher
         ensures writes { result.writes ≡ finite.empty }
         ensures checkpoint { result.checkpoint ≡ first_lsn }
+        ensures files { result.files ≡ finite.empty }
     {
         Flusher {
             writes: BTreeMap::new(alloc),
             checkpoint: FIRST_LSN,
+            files: Files::new(alloc),
         }
+    }
+
+    /// The files that are known, by their spaces in ascending order, each with so many pages as are
+    /// known to be there.
+    pub fn files(&self, alloc: Global) -> Result<Vec<(u32, u32)>, AllocError>
+        ensures { IfOk result (λ files. files.items ≡ finite.entries self.now.files) }
+    {
+        self.files.list(alloc)
+    }
+
+    /// How many pages of a space's file are known to be there, if the file is known.
+    pub fn file(&self, space: u32) -> Option<u32>
+        ensures { result ≡ finite.get self.now.files space }
+    {
+        self.files.get(space)
+    }
+
+    /// A file of so many pages was made.
+    pub fn file_made(&mut self, space: u32, pages: u32) -> Result<(), AllocError>
+        ensures ok { OnOk result (self.new ≡ with_file space pages self.old) }
+        ensures err { OnErr result (self.new ≡ self.old) }
+    {
+        self.files.insert(space, pages)?;
+        Ok(())
+    }
+
+    /// The file of a space isn't there any more.
+    pub fn file_gone(&mut self, space: u32)
+        ensures { self.new ≡ without_file space self.old }
+    {
+        self.files.remove(space);
     }
 
     /// The LSN of the last checkpoint.
@@ -75,43 +113,162 @@ impl Flusher {
     }
 
     /// The flush of a page begins: its image is what will be written, and the tracker of a clone
-    /// that is in its file copy notes the page. Refused where the page isn't dirty, and where a
-    /// flush of it has begun. This takes memory for the image.
-    pub fn begin(
+    /// that is in its file copy notes the page. A file that ends before the page is lengthened
+    /// first. Where the disk fails at that, the flush has begun and failed: the page is dirty as
+    /// before, and its write counts as open until a later flush of it lands.
+    ///
+    /// Refused where the page isn't dirty, and where a flush of it has begun. This takes memory for
+    /// the image.
+    pub fn begin<D: PageDisk>(
         &mut self,
         buffer: &mut Buffer,
         space: u32,
         number: u32,
+        disk: &mut D,
     ) -> Result<(), FlushRefusal>
         ensures begins { Begins (record { space = space; number = number })
             (record { buffer = buffer.old; flights = self.old })
-            (record { buffer = buffer.new; flights = self.new }) result }
-        ensures stands { (copies : Copies) (told : Option DiskImage)
-            → StandsFlown buffer.old self.old copies told
-            → ForTold told (λ m. IsSome (page_of m space number))
-            → StandsFlown buffer.new self.new
-            (after_begin (record { space = space; number = number }) result copies) told }
+            (record { buffer = buffer.new; flights = self.new })
+            (D.told disk.old) (D.told disk.new) result }
+        ensures fault { result ≡ Err FlushRefusal.DiskFault
+            → Rose (D.failures disk.old) (D.failures disk.new) }
+        ensures later { D.failures disk.old ≤ D.failures disk.new }
+        ensures orders { D.orders disk.new ≡ D.orders disk.old }
+        ensures files { ForTold (D.told disk.old) (HasFiles self.old.files)
+            → ForTold (D.told disk.new) (HasFiles self.new.files) }
+        ensures stands { (copies : Copies)
+            → StandsFlown buffer.old self.old copies (D.told disk.old)
+            → ForTold (D.told disk.old) (HasFiles self.old.files)
+            → IsSome (finite.get self.old.files space) → number < MOST_PAGES
+            → StandsFlown buffer.new self.new (after_begin
+            (record { space = space; number = number }) (has_begun result) copies)
+            (D.told disk.new) }
+        ensures unwritten { result ≡ Err FlushRefusal.DiskFault → (copies : Copies)
+            → StandsFlown buffer.old self.old copies (D.told disk.old)
+            → StandsFlown buffer.new self.new copies (D.told disk.new) }
     {
         let at = waiting(buffer, space, number)?;
         let write = PageWrite {
             image: Page::from_bytes(buffer.frame(at).bytes()),
             halved: false,
         };
-        self.keep(space, number, write)?;
         buffer.laws();
-        buffer.begin_flush(at);
-        buffer.laws();
+        match self.prepare(space, number, write, disk) {
+            Ok(()) => {
+                buffer.begin_flush(at);
+                buffer.laws();
+                Ok(())
+            }
+            Err(Refusal::Fault) => {
+                buffer.begin_flush(at);
+                buffer.laws();
+                buffer.fail_flush(at);
+                buffer.laws();
+                Err(FlushRefusal::DiskFault)
+            }
+            Err(Refusal::NoMemory) => Err(FlushRefusal::NoMemory),
+        }
+    }
+
+    // The write of a page is under way, and its file is long enough for it. After a refusal both
+    // are as before.
+    fn prepare<D: PageDisk>(
+        &mut self,
+        space: u32,
+        number: u32,
+        write: PageWrite,
+        disk: &mut D,
+    ) -> Result<(), Refusal>
+        ensures ok { OnOk result (self.new
+            ≡ with_write (record { space = space; number = number }) write
+            (lengthened (ends_short (record { space = space; number = number }) self.old)
+            (record { space = space; number = number }) self.old)) }
+        ensures disk { OnOk result (Lengthens
+            (ends_short (record { space = space; number = number }) self.old)
+            (record { space = space; number = number }) (D.told disk.old) (D.told disk.new)) }
+        ensures err { OnErr result (self.new ≡ self.old) }
+        ensures short { IsErrOf result Refusal.Fault
+            → ends_short (record { space = space; number = number }) self.old ≡ true }
+        ensures fault { IsErrOf result Refusal.Fault
+            → IsBeforeOrAfter (D.told disk.old) (D.told disk.new)
+            (reaching (record { space = space; number = number })) }
+        ensures memory { IsErrOf result Refusal.NoMemory → D.told disk.new ≡ D.told disk.old }
+        ensures cause { HasCause (D.failures disk.old) (D.failures disk.new) result }
+        ensures orders { D.orders disk.new ≡ D.orders disk.old }
+    {
+        let before = self.keep(space, number, write)?;
+        match self.reach(space, number, disk) {
+            Ok(()) => Ok(()),
+            Err(refusal) => {
+                self.put_back(space, number, before);
+                Err(refusal)
+            }
+        }
+    }
+
+    // The write of a page is under way. What stood in its place is given back.
+    fn keep(
+        &mut self,
+        space: u32,
+        number: u32,
+        write: PageWrite,
+    ) -> Result<Option<PageWrite>, AllocError>
+        ensures ok { IfOk result (λ before.
+            (before ≡ write_of self.old (record { space = space; number = number }))
+            × (self.new ≡ with_write (record { space = space; number = number }) write self.old)) }
+        ensures err { OnErr result (self.new ≡ self.old) }
+    {
+        let before = self.writes.insert((space, number), write)?;
+        Ok(before)
+    }
+
+    // The write of a page is again what it was before another took its place.
+    fn put_back(&mut self, space: u32, number: u32, before: Option<PageWrite>)
+        ensures { (w : PageWrite) (f : Flights)
+            → before ≡ write_of f (record { space = space; number = number })
+            → self.old ≡ with_write (record { space = space; number = number }) w f
+            → self.new ≡ f }
+    {
+        match before {
+            None => self.forget(space, number),
+            Some(write) => replace_in(&mut self.writes, space, number, write),
+        }
+    }
+
+    // The file of a page that ends before it gets as long as that.
+    fn reach<D: PageDisk>(&mut self, space: u32, number: u32, disk: &mut D) -> Result<(), Refusal>
+        ensures ok { OnOk result (self.new
+            ≡ lengthened (ends_short (record { space = space; number = number }) self.old)
+            (record { space = space; number = number }) self.old) }
+        ensures disk { OnOk result (Lengthens
+            (ends_short (record { space = space; number = number }) self.old)
+            (record { space = space; number = number }) (D.told disk.old) (D.told disk.new)) }
+        ensures err { OnErr result (self.new ≡ self.old) }
+        ensures short { OnErr result
+            (ends_short (record { space = space; number = number }) self.old ≡ true) }
+        ensures fault { IsErrOf result Refusal.Fault
+            → IsBeforeOrAfter (D.told disk.old) (D.told disk.new)
+            (reaching (record { space = space; number = number })) }
+        ensures memory { IsErrOf result Refusal.NoMemory → D.told disk.new ≡ D.told disk.old }
+        ensures cause { HasCause (D.failures disk.old) (D.failures disk.new) result }
+        ensures orders { D.orders disk.new ≡ D.orders disk.old }
+    {
+        if !self.ends_short(space, number) {
+            return Ok(());
+        }
+        disk.extend(space, number + 1)?;
+        self.files.raise(space, number + 1);
         Ok(())
     }
 
-    // The write of a page is under way.
-    fn keep(&mut self, space: u32, number: u32, write: PageWrite) -> Result<(), AllocError>
-        ensures ok { OnOk result (self.new
-            ≡ with_write (record { space = space; number = number }) write self.old) }
-        ensures err { OnErr result (self.new ≡ self.old) }
+    // Whether the file of a page ends before it, and may get longer.
+    fn ends_short(&self, space: u32, number: u32) -> bool
+        ensures { result ≡ ends_short (record { space = space; number = number }) self.now }
     {
-        self.writes.insert((space, number), write)?;
-        Ok(())
+        match self.files.get(space) {
+            Some(pages) => pages <= number && number < MOST_PAGES,
+            None => false,
+        }
     }
 
     // The write of a page is under way no more.
@@ -165,14 +322,14 @@ impl Flusher {
     }
 
     // The disk failed to write a half of a page whose flush is under way.
-    fn fail(&mut self, buffer: &mut Buffer, space: u32, number: u32, at: u32)
+    fn fail(&mut self, buffer: &mut Buffer, space: u32, number: u32, frame: u32)
         requires holder { IsHolder (record { space = space; number = number })
-            buffer.old.pool.frames at }
-        requires flight { IsInFlight (frame_at buffer.old.pool.frames at) }
+            buffer.old.pool.frames frame }
+        requires flight { IsInFlight (frame_at buffer.old.pool.frames frame) }
         requires write { IsSome
             (write_of self.old (record { space = space; number = number })) }
         ensures failed { record { buffer = buffer.new; flights = self.new } ≡ after_failure
-            (record { space = space; number = number }) at
+            (record { space = space; number = number }) frame
             (record { buffer = buffer.old; flights = self.old }) }
         ensures stands { (copies : Copies) (before after : Option DiskImage)
             → Opens space number before after → StandsFlown buffer.old self.old copies before
@@ -180,7 +337,7 @@ impl Flusher {
     {
         buffer.laws();
         self.forget(space, number);
-        buffer.fail_flush(at);
+        buffer.fail_flush(frame);
         buffer.laws();
     }
 
@@ -349,6 +506,22 @@ fn halve_in(writes: &mut BTreeMap<(u32, u32), PageWrite>, space: u32, number: u3
     }
 }
 
+// Another write of a page takes the place of the one that is under way.
+fn replace_in(
+    writes: &mut BTreeMap<(u32, u32), PageWrite>,
+    space: u32,
+    number: u32,
+    write: PageWrite,
+)
+    ensures { IsSome (finite.get (writes_of writes.old.entries) (space, number))
+        → writes_of writes.new.entries
+        ≡ finite.insert (writes_of writes.old.entries) (space, number) write }
+{
+    if let Some(old) = writes.get_mut(&(space, number)) {
+        *old = write;
+    }
+}
+
 // The LSN at which the oldest change begins that isn't on the disk, or the log's end.
 fn reached(buffer: &Buffer) -> u64
     ensures { IsReached buffer.now result }
@@ -381,12 +554,13 @@ fn needed_from(checkpoint: u64, kept_from: Option<u64>) -> u64
 
 // The frame of a dirty page that waits for its flush.
 fn waiting(buffer: &Buffer, space: u32, number: u32) -> Result<u32, FlushRefusal>
-    ensures ok { IfOk result (λ at. HasDirty (record { space = space; number = number })
-        buffer.now at × (is_begun (frame_at buffer.now.pool.frames at).flush ≡ false)) }
-    ensures refused { IfErr result (λ refusal. (f : Flights) → RefusesBegin refusal
-        (record { space = space; number = number })
+    ensures ok { IfOk result
+        (λ at. Waits (record { space = space; number = number }) buffer.now at) }
+    ensures refused { IfErr result (λ refusal. (f : Flights) (told : Option DiskImage)
+        → RefusesBegin refusal (record { space = space; number = number })
         (record { buffer = buffer.now; flights = f })
-        (record { buffer = buffer.now; flights = f })) }
+        (record { buffer = buffer.now; flights = f }) told told) }
+    ensures disk { result ≢ Err FlushRefusal.DiskFault }
 {
     let Some(at) = buffer.find(space, number) else {
         return Err(FlushRefusal::NotDirty);

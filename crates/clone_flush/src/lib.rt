@@ -1,8 +1,12 @@
 //! Pages are flushed in halves, and checkpoints are taken.
 #![tactic(auto)]
 
+mod files;
 mod flusher;
 mod refusal;
 
 pub use flusher::Flusher;
 pub use refusal::FlushRefusal;
+
+#[cfg(test)]
+mod tests;

@@ -8,7 +8,7 @@ use Rattle.clone_flush.proofs.flusher.Flusher.checkpoint.Goals as goal
 
 -- with the new checkpoint alone
 stood : (c : goal.After-settle_floor) (copies : Copies) (told : Option DiskImage) → StandsFlown c.args.buffer.now c.args.self.now copies told
-    → StandsFlown c.args.buffer.now (record { writes = writes_of c.self.inside.writes.entries; checkpoint = c.reached-self-inside.result }) copies told
+    → StandsFlown c.args.buffer.now (record { writes = writes_of c.self.inside.writes.entries; checkpoint = c.reached-self-inside.result; files = c.self.inside.files }) copies told
 stood c copies told st =
     subst (λ (f : Flights). StandsFlown c.args.buffer.now (record f { checkpoint = c.reached-self-inside.result }) copies told) (sym c.self.view_is)
     (stands_checked c.args.buffer.now c.args.self.now copies told c.reached-self-inside.result c.laws.ensures.pool c.reached-self-inside.ensures st)

@@ -13,7 +13,7 @@ pub returns-clause-stands : goal.returns-clause-stands
 returns-clause-stands c =
     let b : Buffered = c.args.buffer.now in
     let f : Flights = c.args.self.now in
-    let at : ℕ = c.args.at in
+    let at : ℕ = c.args.frame in
     let page : PageName = record { space = c.args.space; number = c.args.number } in
     let w = held_there (write_of f page) c.requires.write in
     let changes = changes_at b c.fail_flush.new.self page at failed c.laws.ensures.pool c.fail_flush.ensures c.laws-2.ensures.pool c.requires.holder.name in
