@@ -23,7 +23,7 @@ same_chain c now table first size next chain = record {
 pub same_chains : (d after : Donor) (c now : Contents) → after.tables ≡ d.tables → now.size ≡ c.size → now.next ≡ c.next → HoldsChains d c → HoldsChains after now
 same_chains d after c now same size next holds = record {
   buckets = λ t count bucket is low. same_chain c now t bucket (ap (λ f. f t) size) (ap (λ f. f t) next) (holds.buckets t count bucket (ap (λ m. finite.get m t) (sym same) ∙ is) low);
-  none = λ t page none. ap (λ f. f t page) next ∙ holds.none t page (sym (ap (λ f. f t) size) ∙ none);
+  none = λ t page gone. ap (λ f. f t page) next ∙ holds.none t page (λ had. gone (had.0, ap (λ f. f t) size ∙ had.1, had.2));
 }
 
 -- What holds of each page of a chain holds of each page that is on it.

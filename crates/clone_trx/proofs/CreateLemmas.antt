@@ -71,10 +71,10 @@ pub no_cause : (d : Donor) (table : ℕ) → finite.get d.tables table ≡ None 
 no_cause d table none other =
     passed (ap (λ (o : Option ℕ). whether (is_some o) TableExists) none) ∙ ap (λ b. whether b TooManyTables) (not_equal (finite.len d.tables) TABLE_LIMIT other)
 
-pub create_goes : {X : Type 0} (d : Donor) (table buckets at : ℕ) (old mid last new : Buffered) (result : Result X EngineRefusal) → Holds (system_page 0) at old mid → Makes (records_of_create (free_place (page_in at mid)) table buckets) mid last result → new ≡ let_go at last → Goes (create_way d table buckets) old new result
+pub create_goes : {X : Type 0} (d : Donor) (table buckets at : ℕ) (old mid last new : Buffered) (result : Result X EngineRefusal) → Holds (system_page 0) at old mid → Makes (records_of_create (free_place (page_in at mid)) table buckets) mid last result → new ≡ let_go at last → Goes (create_way table buckets) old new result
 create_goes d table buckets at old mid last new result holds made is = goes_on (system_page 0) (λ page. makes (records_of_create (free_place page) table buckets)) at old mid last new result holds made is
 
-pub create_answers : {X : Type 0} (d after : Donor) (table buckets : ℕ) (old new : Buffered) (result : Result X EngineRefusal) → create_cause d table ≡ None → Goes (create_way d table buckets) old new result → Carries d after result (λ _. after ≡ created table buckets d)
-    → Answers (create_cause d table) (create_way d table buckets) d after old new result (λ _. after ≡ created table buckets d)
+pub create_answers : {X : Type 0} (d after : Donor) (table buckets : ℕ) (old new : Buffered) (result : Result X EngineRefusal) → create_cause d table ≡ None → Goes (create_way table buckets) old new result → Carries d after result (λ _. after ≡ created table buckets d)
+    → Answers (create_cause d table) (create_way table buckets) d after old new result (λ _. after ≡ created table buckets d)
 create_answers d after table buckets old new result none goes does =
-    subst (λ (o : Option Cause). Answers o (create_way d table buckets) d after old new result (λ _. after ≡ created table buckets d)) (sym none) (goes, does)
+    subst (λ (o : Option Cause). Answers o (create_way table buckets) d after old new result (λ _. after ≡ created table buckets d)) (sym none) (goes, does)

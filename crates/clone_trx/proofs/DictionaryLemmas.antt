@@ -1,17 +1,20 @@
 -- The dictionary as a list of entries: the first free one, and an entry that is written.
-use Rattle.std.proofs.Common.{◌≡◌, ◌≢◌, ◌<◌, ◌==◌, ℕ, List, length, set, replicate, sym, ap, subst, arith, inl, inr, Option, Some, None, IsSome, unwrap_or}
+use Rattle.std.proofs.Common.{◌≡◌, ◌≢◌, ◌<◌, ◌==◌, ℕ, List, length, set, replicate, sym, ap, subst, ◌∙◌, arith, inl, inr, Option, Some, None, IsSome, is_some, unwrap_or, Bool, false, find}
 use Rattle.std.proofs.lemmas.List.{get_or-replicate, get_or-set_other, get_or_past, length-replicate}
 use Rattle.std.proofs.lemmas.Grind.{get_or-set_at}
-use Rattle.std.proofs.lemmas.Bool.{cases_lt, eq-eqb}
+use Rattle.std.proofs.lemmas.Bool.{cases_lt, eq-eqb, eqb-true, eqb-false}
+use Rattle.std.specs.List.{range_with_len}
 use Rattle.std.specs.FinMap as finite
 use Rattle.clone_space.specs.declared.entry.TableEntry.{TableEntry}
-use Rattle.clone_space.specs.Entries.{dictionary, entry_in, free, FindsFree}
+use Rattle.clone_space.specs.Entries.{dictionary, entry_in, free, Finds, FindsFree}
+use Rattle.clone_space.proofs.EntryLemmas.{length-dictionary}
 use Rattle.clone_space.proofs.RoomLemmas.{room}
 use Rattle.clone_trx.proofs.Common.{all_pages-is, Image, page_of, all_pages, contents_of, TABLE_LIMIT, Donor, IsKept}
 use Rattle.clone_trx.proofs.CauseLemmas.{not_equal}
-use Rattle.clone_trx.proofs.PlaceLemmas.{finds_first, finds_none}
-use Rattle.clone_trx.specs.Calls.{free_place}
-use Rattle.clone_trx.specs.Places.{free_entry}
+use Rattle.clone_trx.proofs.PlaceLemmas.{IsFirst, find_first, finds_first, finds_none}
+use Rattle.clone_trx.specs.Calls.{entry_place}
+use Rattle.clone_trx.specs.Kept.{TellsPages}
+use Rattle.clone_trx.specs.Places.{named_entry}
 
 -- an entry that is written, and all others
 pub entry-written : (list : List TableEntry) (place j : ℕ) (e : TableEntry) → place < length list → j ≡ place → entry_in (set list place e) j ≡ e
@@ -28,21 +31,35 @@ names_none j =
       | inr high ↦ ap (λ (e : TableEntry). e.table) (get_or_past (replicate 62 free) j free (omega (arith, length-replicate 62 free, high)))
     ]
 
--- The first free entry.
+-- The first entry that names a table. One that names the table 0 is free.
 
-pub free_is : (list : List TableEntry) (found : Option ℕ) → FindsFree list found → free_entry list ≡ found
-unfolding free_entry
-free_is list None none = finds_none (λ j. (entry_in list j).table == 0) 0 62 (λ k low. not_equal (entry_in list k).table 0 (none k low))
-free_is list (Some j) found =
-    finds_first (λ k. (entry_in list k).table == 0) 0 62 j (omega arith) found.0 (eq-eqb (entry_in list j).table 0 found.1) (λ k low. not_equal (entry_in list k).table 0 (found.2 k low))
+pub named_is : (table : ℕ) (list : List TableEntry) (found : Option ℕ) → Finds table list found → named_entry table list ≡ found
+unfolding named_entry
+named_is table list None none = finds_none (λ j. (entry_in list j).table == table) 0 62 (λ k low. not_equal (entry_in list k).table table (none k low))
+named_is table list (Some j) found =
+    finds_first (λ k. (entry_in list k).table == table) 0 62 j (omega arith) found.0 (eq-eqb (entry_in list j).table table found.1) (λ k low. not_equal (entry_in list k).table table (found.2 k low))
+
+pub named_finds : (table : ℕ) (list : List TableEntry) → Finds table list (named_entry table list)
+unfolding named_entry
+named_finds table list = by (find names (range_with_len 0 62)) (find_first names 0 62)
+  where
+    names : ℕ → Bool
+    names k = (entry_in list k).table == table
+
+    other : (k : ℕ) → names k ≡ false → (entry_in list k).table ≢ table
+    other k none = eqb-false (entry_in list k).table table none
+
+    by : (found : Option ℕ) → IsFirst names 0 62 found → Finds table list found
+    by None none = λ k low. other k (none k (omega arith) (omega (arith, low)))
+    by (Some j) first = (omega (arith, first.1), eqb-true (entry_in list j).table table first.2, λ k less. other k (first.3 k (omega arith) less))
 
 -- the place of it
-pub place_is : (page : List ℕ) (found : Option ℕ) → FindsFree (dictionary page) found → unwrap_or found 0 ≡ free_place page
-place_is page found finds = ap (λ o. unwrap_or o 0) (sym (free_is (dictionary page) found finds))
+pub entry_is : (table : ℕ) (page : List ℕ) (found : Option ℕ) → Finds table (dictionary page) found → unwrap_or found 0 ≡ entry_place table page
+entry_is table page found finds = ap (λ o. unwrap_or o 0) (sym (named_is table (dictionary page) found finds))
 
-pub place_low : (list : List TableEntry) (found : Option ℕ) → FindsFree list found → unwrap_or found 0 < 62
-place_low list None none = omega arith
-place_low list (Some j) found = found.0
+pub entry_low : (table : ℕ) (list : List TableEntry) (found : Option ℕ) → Finds table list found → unwrap_or found 0 < 62
+entry_low table list None none = omega arith
+entry_low table list (Some j) found = found.0
 
 place_free : (list : List TableEntry) (found : Option ℕ) → FindsFree list found → IsSome found → (entry_in list (unwrap_or found 0)).table ≡ 0
 place_free list None none some = absurd (let e = some in cc)
@@ -56,3 +73,33 @@ has_free d image page found kept there few finds =
     let tables = kept.sound.tables in
     let here : FindsFree (dictionary system) found = subst (λ (p : List ℕ). FindsFree (dictionary p) found) (sym (all_pages-is image 0 0 page there)) finds in
     place_free (dictionary system) found here (room d.tables system found tables.once tables.tables few here)
+
+-- The entry of a table tells how many pages its space has, where the image keeps what the donor is.
+
+-- an entry that names a table is one of the 62
+named_low : (list : List TableEntry) (j : ℕ) → length list ≡ 62 → (entry_in list j).table ≢ 0 → j < 62
+named_low list j long used =
+    elim (cases_lt j 62) [
+      | inl low ↦ low
+      | inr high ↦ absurd (used (ap (λ (e : TableEntry). e.table) (get_or_past list j free (omega (arith, long, high)))))
+    ]
+
+module _ (d : Donor) (image : Image) (table count : ℕ) (kept : IsKept d image) (there : finite.get d.tables table ≡ Some count) where
+  abbrev list : List TableEntry
+  list = (contents_of image).dictionary
+
+  found_named : (found : Option ℕ) → Finds table list found → (entry_in list (unwrap_or found 0)).table ≡ table
+  found_named (Some j) found = found.1
+  found_named None none =
+      let tables = kept.sound.tables in
+      let on = tables.listed table (ap is_some there) in
+      let used : table ≢ 0 = λ zero. omega (arith, zero, (tables.sizes table count there).1) in
+      absurd (none on.0 (named_low list on.0 (length-dictionary (all_pages image 0 0)) (λ zero. used (sym on.1 ∙ zero))) on.1)
+
+  pub tells_pages : (page : List ℕ) (found : Option ℕ) → page_of image 0 0 ≡ Some page → Finds table (dictionary page) found → TellsPages (contents_of image) table (unwrap_or found 0) (entry_in (dictionary page) (unwrap_or found 0)).pages
+  tells_pages page found system finds =
+      let same : all_pages image 0 0 ≡ page = all_pages-is image 0 0 page system in
+      let size = (kept.sound.tables.sizes table count there).0 in
+      let named = found_named found (subst (λ (p : List ℕ). Finds table (dictionary p) found) (sym same) finds) in
+      let told = kept.sound.tables.told table count size.pages (unwrap_or found 0) there size.size named in
+      (named, size.size ∙ ap (λ (e : TableEntry). Some e.pages) (sym told) ∙ ap (λ (p : List ℕ). Some (entry_in (dictionary p) (unwrap_or found 0)).pages) same)

@@ -1,23 +1,19 @@
 -- The place of a change, as it was found on a page of the row's chain, and the way behind it.
 use Rattle.std.proofs.Common.{◌≡◌, ◌<◌, ◌^◌, ◌==◌, ℕ, List, [], length, sym, ap, subst, ◌∙◌, arith, Option, Some, None, IsSome, is_some, IsTrue, Result, unwrap_or}
-use Rattle.std.specs.FinMap as finite
 use Rattle.clone_model.specs.declared.line.TheConstants.{MOST_PAGES}
 use Rattle.clone_page.specs.Slots.{slot_count}
-use Rattle.clone_row.specs.Slots as rows
-use Rattle.clone_undo.specs.Places.{header_page, record_page}
-use Rattle.clone_undo.specs.Changes.{records_of_change}
 use Rattle.clone_pool.specs.declared.frame.Content.{Content}
 use Rattle.clone_pool.specs.declared.frame.Content.TheVariants.{Unused, Fresh, Held}
 use Rattle.clone_pool.specs.declared.frame.PageName.{PageName}
 use Rattle.clone_pool.specs.Frames.{frame_at, name_in}
 use Rattle.clone_buffer.specs.Buffered.{Buffered, IsBuffer, Shown, image_of}
 use Rattle.clone_plain.specs.declared.refusal.EngineRefusal.{EngineRefusal}
-use Rattle.clone_trx.proofs.Common.{same_Some, kind_of, Change, Commit, UndoEntry, IsEntry, IsBefore, Image, page_of, all_pages, all_pages-is, Donor, changes_of, changes_of_active, contents_of, told, state_of_row, held_value, AreTables, IsSafe, IsKept, IsPlace, IsPlaceFor, Has}
+use Rattle.clone_trx.proofs.Common.{same_Some, kind_of, Change, UndoEntry, IsEntry, IsBefore, Image, page_of, all_pages, all_pages-is, Donor, changes_of, contents_of, told, state_of_row, held_value, AreTables, IsSafe, IsKept, IsPlace, IsPlaceFor, Has}
 use Rattle.clone_trx.proofs.CauseLemmas.{MayChange, may_change}
 use Rattle.clone_trx.specs.Kept as kept
 use Rattle.clone_trx.proofs.KeyPlaceLemmas.{held_is}
-use Rattle.clone_trx.specs.Calls.{change_at, is_new, row_page, system_page}
-use Rattle.clone_trx.specs.Ways.{Way, Goes, reads, writes, page_in}
+use Rattle.clone_trx.specs.Calls.{change_at, is_new, row_page, told_way}
+use Rattle.clone_trx.specs.Ways.{Way, Goes, page_in}
 
 -- a page that is held is the one of the image, if it is there
 pub held_page : (b : Buffered) (page : PageName) (at : ℕ) → IsBuffer b → Has page at b.pool.frames → IsTrue b.right → IsSome (page_of (image_of b) page.space page.number) → page_of (image_of b) page.space page.number ≡ Some (page_in at b)
@@ -42,10 +38,10 @@ pub record IsFound (d : Donor) (trx : ℕ) (change : Change) (row : List ℕ) (p
   pub kind_is : kind ≡ kind_of row
   pub counted : count ≡ length (changes_of d trx)
 
-pub is_found : (d : Donor) (trx : ℕ) (change : Change) (row : List ℕ) (page at kind count state : ℕ) (value : List ℕ) (entry : UndoEntry) (commit : Commit) → IsSafe d → kept.MayChange d trx change → (page < MOST_PAGES) × (at < slot_count)
+pub is_found : (d : Donor) (trx : ℕ) (change : Change) (row : List ℕ) (page at kind count state : ℕ) (value : List ℕ) (entry : UndoEntry) → IsSafe d → kept.MayChange d trx change → (page < MOST_PAGES) × (at < slot_count)
     → entry ≡ record { table = change.table; page = page; slot = at; state = state; key = change.key; value = value } → state ≡ state_of_row (held_value row at) → value ≡ unwrap_or (held_value row at) [] → IsBefore state value → change.key < 2 ^ 64 → kind ≡ kind_of row
-    → finite.get d.active trx ≡ Some commit → count ≡ length commit.changes → IsFound d trx change row page at kind count entry
-is_found d trx change row page at kind count state value entry commit safe may low made of_state of_value before fits kind_is active many = record {
+    → count ≡ length (changes_of d trx) → IsFound d trx change row page at kind count entry
+is_found d trx change row page at kind count state value entry safe may low made of_state of_value before fits kind_is counted = record {
   may = may_change d trx change.table change.key may.0 safe.locked may.1;
   tables = safe.tables;
   low = low;
@@ -53,7 +49,7 @@ is_found d trx change row page at kind count state value entry commit safe may l
   before = subst (λ (e : UndoEntry). IsBefore e.state e.value) (sym made) before;
   fits = fits;
   kind_is = kind_is;
-  counted = many ∙ sym (ap length (changes_of_active d trx commit active));
+  counted = counted;
 }
 
 module _ (d : Donor) (trx : ℕ) (change : Change) (row : List ℕ) (page at kind count : ℕ) (entry : UndoEntry) (f : IsFound d trx change row page at kind count entry) where
@@ -94,11 +90,8 @@ module _ (d : Donor) (trx : ℕ) (change : Change) (row : List ℕ) (page at kin
       same image there = (λ i. all_pages image (in_table i) (on_page i)) ∙ all_pages-is image change.table page row there
 
   -- the way behind the row's page, by what was found
-  pub behind_row : {X : Type 0} (old new : Buffered) (result : Result X EngineRefusal) (slot : Option ℕ)
-      → Goes (reads (system_page (header_page trx)) (λ header. reads (system_page (record_page trx count)) (λ undo. writes (records_of_change (is_new undo) (kind == 0) trx count entry (rows.image change.key change.value))))) old new result
-      → slot ≡ Some at → Goes (change_at d trx change page slot row) old new result
+  pub behind_row : {X : Type 0} (old new : Buffered) (result : Result X EngineRefusal) (slot : Option ℕ) → Goes (told_way trx change count (kind == 0) entry) old new result → slot ≡ Some at → Goes (change_at d trx change page slot row) old new result
   behind_row old new result slot goes found =
       let new_is : (kind == 0) ≡ is_new row = ap (λ (n : ℕ). n == 0) f.kind_is in
-      let way : reads (system_page (header_page trx)) (λ header. reads (system_page (record_page trx count)) (λ undo. writes (records_of_change (is_new undo) (kind == 0) trx count entry (rows.image change.key change.value)))) ≡ change_at d trx change page (Some at) row =
-      λ i. reads (system_page (header_page trx)) (λ header. reads (system_page (record_page trx (f.counted i))) (λ undo. writes (records_of_change (is_new undo) (new_is i) trx (f.counted i) (f.entry_is i) (rows.image change.key change.value)))) in
+      let way : told_way trx change count (kind == 0) entry ≡ change_at d trx change page (Some at) row = λ i. told_way trx change (f.counted i) (new_is i) (f.entry_is i) in
       subst (λ (w : Way). Goes w old new result) (way ∙ ap (λ (o : Option ℕ). change_at d trx change page o row) (sym found)) goes

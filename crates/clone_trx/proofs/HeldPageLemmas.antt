@@ -1,19 +1,21 @@
 -- What is known of a page that is held, and what becomes of the pins.
-use Rattle.std.proofs.Common.{◌≡◌, ◌≢◌, ◌<◌, ◌+◌, ◌-◌, ◌&&◌, ◌==◌, ◌⊎◌, inl, inr, ℕ, List, length, refl, sym, ap, subst, ◌∙◌, arith, Some, IsTrue, Ok, if◌then◌else◌}
-use Rattle.std.proofs.lemmas.Bool.{cases_eq, cond_both, cond-true, cond-false, eq-eqb}
+use Rattle.std.proofs.Common.{◌≡◌, ◌≢◌, ◌<◌, ◌+◌, ◌-◌, ◌&&◌, ◌==◌, ◌⊎◌, inl, inr, ℕ, true, List, length, set, refl, sym, ap, subst, ◌∙◌, arith, Option, Some, None, IsTrue, MatchOption, Result, Ok, not, if◌then◌else◌}
+use Rattle.std.proofs.lemmas.Bool.{cases_eq, and_parts, cond_both, cond-true, cond-false, eq-eqb, eqb-true}
 use Rattle.std.proofs.lemmas.List.{get_or-set_same, get_or-set_other}
 use Rattle.clone_pool.specs.declared.frame.Frame.{Frame}
 use Rattle.clone_pool.specs.declared.frame.Content.TheVariants.{Unused}
 use Rattle.clone_pool.specs.declared.frame.PageName.{PageName}
-use Rattle.clone_pool.specs.Frames.{no_frame, frame_at, is_fresh, name_of, pinned, unpinned}
-use Rattle.clone_pool.specs.Pool.{IsPool}
+use Rattle.clone_pool.specs.declared.pool.FetchRefusal.{FetchRefusal}
+use Rattle.clone_pool.specs.Frames.{no_frame, frame_at, holder, is_dirty, is_fresh, may_go, name_of, next_use, freshened, pinned, touched, unpinned}
+use Rattle.clone_pool.specs.Pool.{Frames, IsPool, TakesFrame, used, with_frame}
 use Rattle.clone_pool.proofs.PoolLemmas.{holder_is}
+use Rattle.clone_buffer.proofs.FrameLemmas.{holder_name}
 use Rattle.clone_buffer.specs.Buffered.{Buffered, image_of}
 use Rattle.clone_trx.proofs.Common.{page_of}
 use Rattle.clone_trx.proofs.CauseLemmas.{not_equal}
-use Rattle.clone_trx.proofs.FramePinLemmas.{pins, fetch_pins, fetch_within, let_go_pins, pinned_within}
+use Rattle.clone_trx.proofs.FramePinLemmas.{pins, set_pins, fetch_pins, fetch_within, let_go_pins, pinned_within}
 use Rattle.clone_trx.specs.Kept.{Has}
-use Rattle.clone_trx.specs.Ways.{Holds, held, let_go, page_in}
+use Rattle.clone_trx.specs.Ways.{Holds, Takes, held, let_go, page_in}
 
 -- a pin that one frame has, by the number of another
 abbrev pub pin_at : ℕ → ℕ → ℕ
@@ -59,6 +61,36 @@ module _ (page : PageName) (at : ℕ) (old new : Buffered) (h : Holds page at ol
           let there : pins (held at h.next).pool.frames other ≡ pins h.next.pool.frames other =
           ap (λ (f : Frame). f.pins) (get_or-set_other h.next.pool.frames at other (pinned (frame_at h.next.pool.frames at)) no_frame apart) in
           omega (arith, more other, there, fetched other, pin_apart at other apart)
+
+-- A frame that is taken for a new page.
+
+-- a frame that may go has no pin
+loose : (f : Frame) → may_go f ≡ true → f.pins ≡ 0
+loose f free = eqb-true f.pins 0 (and_parts (f.pins == 0) (not (is_dirty f)) free).0
+
+-- a frame that has become another one, and the others
+set_to : (frames : List Frame) (at : ℕ) (f : Frame) → at < length frames → f.pins ≡ pins frames at + 1 → (other : ℕ) → (other ≡ at) ⊎ (other ≢ at) → pins (set frames at f) other ≡ pins frames other + pin_at at other
+set_to frames at f low is other (inl same) =
+    subst (λ (n : ℕ). pins (set frames at f) n ≡ pins frames n + pin_at at n) (sym same) (omega (arith, ap (λ (g : Frame). g.pins) (get_or-set_same frames at f no_frame low), is, pin_here at))
+set_to frames at f low is other (inr apart) = omega (arith, ap (λ (g : Frame). g.pins) (get_or-set_other frames at other f no_frame apart), pin_apart at other apart)
+
+pub taken_pins : (page : PageName) (at : ℕ) (old new : Buffered) → Takes page at old new → (other : ℕ) → pins new.pool.frames other ≡ pins old.pool.frames other + pin_at at other
+taken_pins page at old new t other = by (holder old.pool.frames page) refl t.taken
+  where
+    v : Frames
+    v = old.pool
+
+    by : (o : Option ℕ) → holder v.frames page ≡ o → MatchOption o (TakesFrame page v new.pool (Ok at)) (λ b. (◌≡◌ {A = Result ℕ FetchRefusal} (Ok at) (Ok b)) × (new.pool ≡ used b (with_frame b pinned v))) → pins new.pool.frames other ≡ pins v.frames other + pin_at at other
+    by None none m =
+        let f : Frame = freshened page (next_use v.uses) (frame_at v.frames at) in
+        ap (λ (w : Frames). pins w.frames other) m.1 ∙ set_to v.frames at f m.0.within (omega (arith, loose (frame_at v.frames at) m.0.free)) other (cases_eq other at)
+    by (Some b) is hit =
+        let here : at ≡ b = let e = hit.0 in cc in
+        let low = (holder_name v.frames page b is).0 in
+        let mid : Frames = with_frame b pinned v in
+        let one = set_to v.frames b (pinned (frame_at v.frames b)) low refl other (cases_eq other b) in
+        let two = (set_pins mid.frames b (touched (next_use mid.uses) (frame_at mid.frames b)) refl).at other in
+        ap (λ (w : Frames). pins w.frames other) hit.1 ∙ two ∙ one ∙ ap (λ (n : ℕ). pins v.frames other + pin_at n other) (sym here)
 
 -- A page that is let go.
 

@@ -7,9 +7,13 @@ use Rattle.clone_pool.specs.declared.frame.PageName.{PageName}
 use Rattle.clone_pool.specs.Frames.{no_frame, frame_at, name_of, may_go, is_dirty, pinned}
 use Rattle.clone_pool.specs.Pool.{Frames, IsPool, IsHolder, KeepsInUse, with_frame}
 use Rattle.clone_pool.proofs.PoolLemmas.{holder_is}
+use Rattle.clone_buffer.proofs.WriteLemmas.{name_at-after}
+use Rattle.clone_buffer.specs.Writing.{after_records}
+use Rattle.clone_mtr.specs.declared.record.Record.{Record}
 use Rattle.clone_buffer.specs.Buffered.{Buffered}
 use Rattle.clone_trx.specs.Ways.{held}
 use Rattle.clone_trx.proofs.CauseLemmas.{not_equal}
+use Rattle.clone_trx.proofs.FramePinLemmas.{pins, records_pins}
 use Rattle.clone_trx.specs.Kept.{Has}
 
 -- each pinned frame keeps its page, and stays pinned
@@ -55,3 +59,13 @@ still_has old next new at keeps low is p q page b has =
     subst (λ (v : Buffered). Has page b v.pool.frames) (sym is)
     (keeps_has next.pool (held at next).pool page b (subst (λ (v : Buffered). IsPool v.pool) is q) (pin_keeps next.pool at low)
     (keeps_has old.pool next.pool page b p (fetch_keeps old.pool.frames next.pool.frames keeps) has))
+
+-- records leave it where it is
+pub records_has : (records : List Record) (start end : ℕ) (old new : Frames) → new ≡ after_records records start end old → IsPool new → (page : PageName) (at : ℕ) → Has page at old.frames → Has page at new.frames
+records_has records start end old new is q page at has =
+    keeps_has old new page at q
+    (λ b some. (
+      ap (λ (v : Frames). name_of (frame_at v.frames b)) is ∙ name_at-after records start end old b,
+      omega (arith, some, (records_pins records start end old).at b, ap (λ (v : Frames). pins v.frames b) is),
+    ))
+    has

@@ -33,10 +33,14 @@ pub mod CreateLemmas
 pub mod BeginLemmas
 pub mod OpenLemmas
 pub mod FoundPlaceLemmas
-pub mod SpaceLemmas
 pub mod FramePinLemmas
 pub mod HeldPageLemmas
 pub mod WalkLemmas
 pub mod WalkedLemmas
 pub mod WalkStepLemmas
 pub mod SpotLemmas
+pub mod GrowthLemmas
+pub mod GrowthKeptLemmas
+pub mod LongerWayLemmas
+pub mod GrowthWrittenLemmas
+pub mod BetweenLemmas

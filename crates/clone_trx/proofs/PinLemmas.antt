@@ -4,13 +4,14 @@ use Rattle.clone_model.specs.declared.line.TheConstants.{MOST_PAGES}
 use Rattle.clone_mtr.specs.declared.record.Record.{Record}
 use Rattle.clone_pool.specs.Frames.{frame_at}
 use Rattle.clone_buffer.specs.Buffered.{Buffered}
+use Rattle.clone_buffer.specs.Writing.{written}
 use Rattle.clone_plain.specs.declared.refusal.EngineRefusal.{EngineRefusal}
 use Rattle.clone_plain.specs.declared.refusal.EngineRefusal.TheVariants.{Because, NoMemory}
 use Rattle.clone_trx.proofs.FramePinLemmas.{SamePins, pins, trans, same, fetch_pins, records_pins}
-use Rattle.clone_trx.proofs.HeldPageLemmas.{pin_here, held_pins, released_pins}
+use Rattle.clone_trx.proofs.HeldPageLemmas.{pin_here, held_pins, released_pins, taken_pins}
 use Rattle.clone_trx.proofs.WalkLemmas.{walk_pins}
 use Rattle.clone_trx.specs.Kept.{AreLoose}
-use Rattle.clone_trx.specs.Ways.{Way, reads, walks, stops, writes, makes, ends, Goes, Writes, held, page_in}
+use Rattle.clone_trx.specs.Ways.{Way, reads, walks, stops, writes, freshens, lengthens, makes, ends, Goes, Writes, held, page_in}
 
 -- what a mini-transaction leaves, or a refusal
 writes_pins : {X : Type 0} (records : List Record) (old new : Buffered) (result : Result X EngineRefusal) → Writes records old new result → SamePins old.pool.frames new.pool.frames
@@ -35,6 +36,15 @@ goes_pins (walks course rest) old new result (inr on) =
     let inner = goes_pins (rest spot.page spot.slot (page_in spot.at on.1)) on.1 on.2 result on.4 in
     let some : 0 < pins on.2.pool.frames spot.at = omega (arith, more spot.at, inner.at spot.at, pin_here spot.at) in
     record { at = λ other. omega (arith, more other, inner.at other, released_pins spot.at on.2 new on.5 some other) }
+goes_pins (freshens page rest) old new result (inl none) = same (ap (λ (b : Buffered). b.pool.frames) none.3)
+goes_pins (freshens page rest) old new result (inr on) =
+    let at : ℕ = on.0 in
+    let more = taken_pins page at old on.1 on.3 in
+    let inner = goes_pins rest on.1 on.2 result on.4 in
+    let some : 0 < pins on.2.pool.frames at = omega (arith, more at, inner.at at, pin_here at) in
+    record { at = λ other. omega (arith, more other, inner.at other, released_pins at on.2 new on.5 some other) }
+goes_pins (lengthens records rest) old new result (inl full) = same (ap (λ (b : Buffered). b.pool.frames) full.3)
+goes_pins (lengthens records rest) old new result (inr on) = trans (records_pins records _ _ old.pool) (goes_pins rest (written records old) new result on.1)
 goes_pins (stops cause) old new result stopped = same (ap (λ (b : Buffered). b.pool.frames) stopped.1)
 goes_pins (writes records) old new result written = writes_pins records old new result written
 goes_pins (makes records) old new result (inl written) = writes_pins records old new result written

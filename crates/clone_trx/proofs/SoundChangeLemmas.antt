@@ -16,7 +16,7 @@ told-value table page key place (Some value) = refl
 -- the tables stay
 pub same_tables : (d after : Donor) (c now : Contents) → after.tables ≡ d.tables → now.dictionary ≡ c.dictionary → now.size ≡ c.size → HoldsTables d c → HoldsTables after now
 same_tables d after c now same entries size holds = record {
-  sizes = λ t n is. let had = holds.sizes t n (was t ∙ is) in (sized t ∙ had.0, had.1, had.2, had.3, had.4);
+  sizes = λ t n is. let had = holds.sizes t n (was t ∙ is) in (record { pages = had.0.pages; size = sized t ∙ had.0.size; enough = had.0.enough; most = had.0.most }, had.1, had.2, had.3, had.4);
   spaces = λ t first none. sized t ∙ holds.spaces t first (was t ∙ none);
   listed = λ t there. let had = holds.listed t (ap is_some (was t) ∙ there) in (had.0, names had.0 ∙ had.1);
   told = λ t n pages j is size_is name. ap (λ l. entry_in l j) entries ∙ holds.told t n pages j (was t ∙ is) (sym (sized t) ∙ size_is) (sym (names j) ∙ name);

@@ -1,5 +1,5 @@
 -- The spot that a walk along a row's chain comes to, and what is kept meanwhile.
-use Rattle.std.proofs.Common.{◌≡◌, ◌≢◌, ◌-◌, ℕ, Bool, List, refl, sym, subst, arith, Option, Some, None, IsSome, IsTrue, IfSome, Result, Ok, Err}
+use Rattle.std.proofs.Common.{◌≡◌, ◌≢◌, ◌-◌, ℕ, Bool, true, List, refl, sym, subst, arith, Option, Some, None, IsSome, IsTrue, IfSome, Result, Ok, Err}
 use Rattle.std.specs.FinMap as finite
 use Rattle.clone_model.specs.declared.line.TheConstants.{MOST_PAGES}
 use Rattle.clone_image.specs.Replay.{replayed}
@@ -13,9 +13,10 @@ use Rattle.clone_trx.proofs.FoundPlaceLemmas.{held_page}
 use Rattle.clone_trx.proofs.KeyPlaceLemmas.{in_ranges}
 use Rattle.clone_trx.proofs.WalkLemmas.{Stays, walk_stays, walk_pins, walk_missed, walk_range}
 use Rattle.clone_trx.proofs.WalkStepLemmas.{pin_low}
-use Rattle.clone_trx.proofs.WalkedLemmas.{IsFoundPlace, chain, walk_place}
+use Rattle.clone_trx.proofs.WalkedLemmas.{IsFoundPlace, chain, walk_place, walk_full}
 use Rattle.clone_trx.proofs.WayLemmas.{still_kept}
 use Rattle.clone_trx.specs.Calls.{row_walk}
+use Rattle.clone_trx.specs.Kept.{IsFullAt}
 use Rattle.clone_trx.specs.Ways.{PinsAtMost, WalksAll, page_in}
 
 -- what a walk leaves
@@ -56,14 +57,15 @@ module _ (d : Donor) (t key count first : ℕ) (there : finite.get d.tables t �
   pub found_place : (for_room : Bool) (old new : Buffered) (spot : Spot) → WalksAll (row_walk d t key for_room) old new (Ok spot) → (kept : IsKept d (image_of old)) → IsTrue new.right → IsFoundPlace d (image_of old) t key count kept there spot.page spot.slot
   found_place for_room old new spot walked kept right = walk_place d (image_of old) t key count kept there for_room old new spot refl walked right
 
-  pub spot_is : (for_room : Bool) (old new : Buffered) (spot : Spot) → IsSafe d → WalksAll (row_walk d t key for_room) old new (Ok spot) → (IsTrue old.right → IsKept d (image_of old)) → Has (record { space = t; number = spot.page }) spot.at new.pool.frames → IsSpot d t key new spot
-  spot_is for_room old new spot safe walked kept has =
-      let course : Course = row_walk d t key for_room in
+  pub spot_is : (old new : Buffered) (spot : Spot) → IsSafe d → WalksAll (row_walk d t key true) old new (Ok spot) → (IsTrue old.right → IsKept d (image_of old)) → Has (record { space = t; number = spot.page }) spot.at new.pool.frames → IsSpot d t key new spot
+  spot_is old new spot safe walked kept has =
+      let course : Course = row_walk d t key true in
       let s = all_stays course old new (Ok spot) walked in
       record {
         in_range = walk_range course (MOST_PAGES - 1) course.first None old new (Ok spot) walked (in_ranges d t key count safe.tables there).2 tt;
         has = has;
-        place = λ right. subst (λ (log : List (List Record)). IfSome spot.slot (λ place. IsPlace d (contents_of (replayed log)) t spot.page place key)) (sym s.log) (if_found spot.slot (kept (s.before right)) (found_place for_room old new spot walked (kept (s.before right)) right));
+        place = λ right. subst (λ (log : List (List Record)). IfSome spot.slot (λ place. IsPlace d (contents_of (replayed log)) t spot.page place key)) (sym s.log) (if_found spot.slot (kept (s.before right)) (found_place true old new spot walked (kept (s.before right)) right));
+        full = λ right none. subst (λ (log : List (List Record)). IsFullAt d (replayed log) t spot.page key) (sym s.log) (walk_full d (image_of old) t key count (kept (s.before right)) there old new spot refl walked right none);
       }
     where
       if_found : (slot : Option ℕ) (k : IsKept d (image_of old)) → IsFoundPlace d (image_of old) t key count k there spot.page slot → IfSome slot (λ place. IsPlace d (contents_of (image_of old)) t spot.page place key)

@@ -57,8 +57,8 @@ module _ (d : Donor) (c : Contents) (place table buckets : ℕ) (sound : IsSound
   tables = record {
     sizes = λ t count is. elim (cases_eq t table) [
       | inl same ↦ (let n = mine t count same is in
-          (sized t same ∙ ap (λ m. Some m) n, subst (λ m. 1 ≤ m) (sym same) low, subst (λ m. m ≤ 1000000) (sym same) high, subst (λ m. 1 ≤ m) n some, subst (λ m. m ≤ 1024) n few))
-      | inr apart ↦ (let had = sound.tables.sizes t count (sym (other t apart) ∙ is) in (kept_size t apart ∙ had.0, had.1, had.2, had.3, had.4))
+          (record { pages = count; size = sized t same ∙ ap (λ m. Some m) n; enough = omega arith; most = omega (arith, n, few) }, subst (λ m. 1 ≤ m) (sym same) low, subst (λ m. m ≤ 1000000) (sym same) high, subst (λ m. 1 ≤ m) n some, subst (λ m. m ≤ 1024) n few))
+      | inr apart ↦ (let had = sound.tables.sizes t count (sym (other t apart) ∙ is) in (record { pages = had.0.pages; size = kept_size t apart ∙ had.0.size; enough = had.0.enough; most = had.0.most }, had.1, had.2, had.3, had.4))
     ];
     spaces = λ t first gone. elim (cases_eq t table) [
       | inl same ↦ absurd (none-some buckets (sym gone ∙ ap (finite.get after.tables) same ∙ own))
@@ -109,12 +109,12 @@ module _ (d : Donor) (c : Contents) (place table buckets : ℕ) (sound : IsSound
   chains = record {
     buckets = λ t count bucket is below. elim (cases_eq t table) [
       | inl same ↦ (let n = mine t count same is in
-          alone new t bucket (buckets, sized t same, omega (arith, n, below)) (sound.chains.none t bucket (ap c.size same ∙ sound.tables.spaces table behind none)))
+          alone new t bucket (buckets, sized t same, omega (arith, n, below)) (sound.chains.none t bucket (λ had. none-some had.0 (sym (ap c.size same ∙ sound.tables.spaces table behind none) ∙ had.1))))
       | inr apart ↦ same_chain c new t bucket (kept_size t apart) refl (sound.chains.buckets t count bucket (sym (other t apart) ∙ is) below)
     ];
     none = λ t page gone. elim (cases_eq t table) [
-      | inl same ↦ absurd (none-some buckets (sym gone ∙ sized t same))
-      | inr apart ↦ sound.chains.none t page (sym (kept_size t apart) ∙ gone)
+      | inl same ↦ sound.chains.none t page (λ had. none-some had.0 (sym (ap c.size same ∙ sound.tables.spaces table behind none) ∙ had.1))
+      | inr apart ↦ sound.chains.none t page (λ had. gone (had.0, kept_size t apart ∙ had.1, had.2))
     ];
   }
 

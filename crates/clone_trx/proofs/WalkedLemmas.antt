@@ -1,5 +1,5 @@
 -- Where a walk comes to, where all that was read is right: to THE slot of the key.
-use Rattle.std.proofs.Common.{◌≡◌, ◌≢◌, ◌<◌, ◌≤◌, ◌-◌, ◌%◌, ◌==◌, ◌⊎◌, inl, inr, ℕ, Bool, true, false, List, [], ◌∷◌, length, refl, sym, ap, subst, ◌∙◌, arith, Option, Some, None, IsTrue, IfSome, MatchOption, Result, Ok, Err, ◌||◌, unwrap_or, eqb-true, mod-lt}
+use Rattle.std.proofs.Common.{◌≡◌, ◌≢◌, ◌<◌, ◌≤◌, ◌-◌, ◌%◌, ◌==◌, ◌&&◌, ◌⊎◌, inl, inr, ℕ, Bool, true, false, List, [], ◌∷◌, length, refl, sym, ap, subst, ◌∙◌, arith, Option, Some, None, IsTrue, IfSome, MatchOption, Result, Ok, Err, ◌||◌, unwrap_or, eqb-true, mod-lt}
 use Rattle.std.proofs.lemmas.Bool.{false≢true}
 use Rattle.std.proofs.lemmas.Map.Steps.{length-le_from_distinct_below}
 use Rattle.std.specs.List.{AllByRecursion, list_any}
@@ -7,18 +7,24 @@ use Rattle.std.specs.FinMap as finite
 use Rattle.clone_model.specs.declared.line.TheConstants.{MOST_PAGES}
 use Rattle.clone_row.specs.Chains.{behind, IsChain}
 use Rattle.clone_image.specs.Replay.{replayed}
-use Rattle.clone_contents.proofs.FindLemmas.{key_found, free_found, next_on}
+use Rattle.clone_page.specs.Header.{zero_page}
+use Rattle.clone_row.proofs.Rows.{slots-zero}
+use Rattle.clone_contents.proofs.FindLemmas.{key_found, free_found, next_on, slot_on}
+use Rattle.clone_contents.specs.Finding.{FindsFreeIn}
+use Rattle.clone_contents.specs.Formed.{IsRowsOrUnused}
 use Rattle.clone_buffer.specs.Buffered.{Buffered, image_of}
 use Rattle.clone_plain.specs.declared.refusal.EngineRefusal.{EngineRefusal}
 use Rattle.clone_trx.specs.declared.walk.Course.{Course}
 use Rattle.clone_trx.specs.declared.walk.Spot.{Spot}
-use Rattle.clone_trx.proofs.Common.{same_Some, none-some, unused, Finds, slots, Image, page_of, Contents, contents_of, HasPage, Donor, page_number, IsBound, IsNowhere, IsPlace, OnChain, HasChain, IsKept}
-use Rattle.clone_trx.proofs.ChainLemmas.{all_on}
+use Rattle.clone_trx.proofs.Common.{all_pages-is, same_Some, none-some, unused, Finds, FindsFree, slots, slot_in, kind_of, is_unused, Image, page_of, page_there, Contents, contents_of, HasPage, Donor, page_number, IsBound, IsNowhere, IsPlace, OnChain, HasChain, IsKept}
+use Rattle.clone_trx.proofs.CauseLemmas.{not_equal}
+use Rattle.clone_trx.proofs.ChainLemmas.{all_on, on_there}
 use Rattle.clone_trx.proofs.HeldPageLemmas.{held_right}
 use Rattle.clone_trx.proofs.WalkLemmas.{Stays, walk_stays, held_stays, released_stays, kept_stays, room_free, onward_is, onward_none}
 use Rattle.clone_trx.specs.Calls.{row_walk}
-use Rattle.clone_trx.specs.Sound.{goes_on, begins}
-use Rattle.clone_trx.specs.Ways.{Holds, Walks, WalksAll, misses, finds, keeps, passes, returns, arrives, chain_page, onward, page_in}
+use Rattle.clone_trx.specs.Kept.{IsFullAt}
+use Rattle.clone_trx.specs.Sound.{HasSize, goes_on, begins}
+use Rattle.clone_trx.specs.Ways.{FindsRoom, FindsWanted, Holds, Walks, WalksAll, misses, finds, keeps, passes, returns, arrives, chain_page, onward, page_in}
 
 -- Over the pages of one image. `On` holds of the pages that a walk may come to.
 module _ (course : Course) (image : Image) (used : course.table ≢ 0) (On : ℕ → Type 0) (closed : (p q : ℕ) → On p → (contents_of image).next course.table p ≡ Some q → On q) where
@@ -32,9 +38,14 @@ module _ (course : Course) (image : Image) (used : course.table ≢ 0) (On : ℕ
   abbrev Without : ℕ → Type 0
   Without page = (place : ℕ) → ¬ IsBound c.slot t page place course.key
 
-  -- the slot is bound to the key, or it was never used and the key is bound on none of these pages
+  -- the chain ends at a page, and a walk that is for room found none there
+  abbrev IsEnd : ℕ → Type 0
+  IsEnd page = (c.next t page ≡ None) × (course.for_room ≡ true → FindsFreeIn c t page None)
+
+  -- the slot is bound to the key, or it was never used and the key is bound on none of these pages,
+  -- of which this is the last where there is no slot
   abbrev pub ComesTo : List ℕ → ℕ → Option ℕ → Type 0
-  ComesTo pages page None = AllByRecursion Without pages
+  ComesTo pages page None = AllByRecursion Without pages × IsEnd page
   ComesTo pages page (Some place) = IsBound c.slot t page place course.key ⊎ ((c.slot t page place ≡ unused) × AllByRecursion Without pages)
 
   abbrev pub Came : List ℕ → Result Spot EngineRefusal → Type 0
@@ -42,7 +53,7 @@ module _ (course : Course) (image : Image) (used : course.table ≢ 0) (On : ℕ
   Came pages (Err refusal) = Unit {0}
 
   with_page : (pages : List ℕ) (one page : ℕ) (slot : Option ℕ) → Without one → ComesTo pages page slot → ComesTo (one ∷ pages) page slot
-  with_page pages one page None lacks all = (lacks, all)
+  with_page pages one page None lacks all = ((lacks, all.0), all.1)
   with_page pages one page (Some place) lacks (inl bound) = inl bound
   with_page pages one page (Some place) lacks (inr new) = inr (new.0, (lacks, new.1))
 
@@ -57,13 +68,13 @@ module _ (course : Course) (image : Image) (used : course.table ≢ 0) (On : ℕ
   abbrev pub IsKeptSpot : Option Spot → Type 0
   IsKeptSpot kept = IfSome kept (λ spot. On spot.page × IsFree spot.page spot.slot)
 
-  free_comes : (pages : List ℕ) (page : ℕ) (slot : Option ℕ) → ((place : ℕ) → slot ≡ Some place → c.slot t page place ≡ unused) → AllByRecursion Without pages → ComesTo pages page slot
-  free_comes pages page None free all = all
-  free_comes pages page (Some place) free all = inr (free place refl, all)
+  free_comes : (pages : List ℕ) (page : ℕ) (slot : Option ℕ) → IsFree page slot → AllByRecursion Without pages → ComesTo pages page slot
+  free_comes pages page None free all = absurd free
+  free_comes pages page (Some place) free all = inr (free, all)
 
-  kept_free : (page : ℕ) (slot : Option ℕ) → IsFree page slot → (place : ℕ) → slot ≡ Some place → c.slot t page place ≡ unused
-  kept_free page None is place same = absurd is
-  kept_free page (Some one) is place same = subst (λ (n : ℕ). c.slot t page n ≡ unused) (same_Some one place same) is
+  -- no slot of a page was free for a walk for room
+  all_used : (bytes : List ℕ) → FindsRoom course None bytes None → course.for_room ≡ true → FindsFree (slots bytes) None
+  all_used bytes room for_room = subst (λ (b : Bool). FindsWanted (b && true) bytes None) for_room room
 
   abbrev AreSmall : List ℕ → Type 0
   AreSmall pages = AllByRecursion (λ (p : ℕ). p < MOST_PAGES) pages
@@ -123,12 +134,24 @@ module _ (course : Course) (image : Image) (used : course.table ≢ 0) (On : ℕ
   came l p k o n r (returns left page at spot old mid new x goes off) same right rest chain few small on had =
       let here : IsTrue mid.right = (released_stays at mid new off).before right in
       let none = none_behind page left (page_in at mid) rest (behind_is page at old mid x.holds same here) goes chain few small in
-      (had.0, free_comes (page ∷ rest) spot.page spot.slot (kept_free spot.page spot.slot had.1) (subst (λ (pages : List ℕ). AllByRecursion Without (page ∷ pages)) (sym none) (lacks_key page at old mid x.holds same here x.lacks, tt)))
+      (had.0, free_comes (page ∷ rest) spot.page spot.slot had.1 (subst (λ (pages : List ℕ). AllByRecursion Without (page ∷ pages)) (sym none) (lacks_key page at old mid x.holds same here x.lacks, tt)))
   came l p k o n r (arrives left page at slot old new x room goes) same right rest chain few small on had =
       let none = none_behind page left (page_in at new) rest (behind_is page at old new x.holds same right) goes chain few small in
-      let free : (place : ℕ) → slot ≡ Some place → c.slot t page place ≡ unused = λ place is.
-      (free_found image t page (page_in at new) used (shown page at old new x.holds same right) (Some place) (room_free course None (page_in at new) slot place room is)).1 in
-      (on, free_comes (page ∷ rest) page slot free (subst (λ (pages : List ℕ). AllByRecursion Without (page ∷ pages)) (sym none) (lacks_key page at old new x.holds same right x.lacks, tt)))
+      let all = subst (λ (pages : List ℕ). AllByRecursion Without (page ∷ pages)) (sym none) (lacks_key page at old new x.holds same right x.lacks, tt) in
+      (on, comes slot room all)
+    where
+      there : page_of image t page ≡ Some (page_in at new)
+      there = shown page at old new x.holds same right
+
+      comes : (found : Option ℕ) → FindsRoom course None (page_in at new) found → AllByRecursion Without (page ∷ rest) → ComesTo (page ∷ rest) page found
+      comes None full all = (
+        all,
+        (
+          subst (IsChain (c.next t) page) (none_behind page left (page_in at new) rest (behind_is page at old new x.holds same right) goes chain few small) chain,
+          λ for_room. free_found image t page (page_in at new) used there None (all_used (page_in at new) full for_room),
+        ),
+      )
+      comes (Some place) free all = inr ((free_found image t page (page_in at new) used there (Some place) (room_free course None (page_in at new) (Some place) place free refl)).1, all)
 
 -- what is in a list of numbers below a count is below it
 below_one : (count p q : ℕ) (more : Bool) → p < count → (more ≡ true → q < count) → (b : Bool) → (q == p) ≡ b → (b || more) ≡ true → q < count
@@ -139,6 +162,12 @@ member : (count : ℕ) (pages : List ℕ) (q : ℕ) → AllByRecursion (λ (p : 
 member count [] q all has = absurd (false≢true has)
 member count (p ∷ pages) q all has = below_one count p q (list_any (λ x. q == x) pages) all.0 (λ more. member count pages q all.1 more) (q == p) refl has
 
+-- a page with slots isn't an unused one
+rows_kind : (page : List ℕ) → IsRowsOrUnused page → (page ≡ zero_page → ⊥) → kind_of page ≢ 0
+rows_kind page (inl (inl bucket)) some zero = omega (arith, bucket, zero)
+rows_kind page (inl (inr overflow)) some zero = omega (arith, overflow, zero)
+rows_kind page (inr zeros) some zero = some zeros
+
 -- The walk along the chain of a row's bucket.
 module _ (d : Donor) (image : Image) (t key count : ℕ) (is : IsKept d image) (there : finite.get d.tables t ≡ Some count) where
   abbrev contents : Contents
@@ -147,7 +176,7 @@ module _ (d : Donor) (image : Image) (t key count : ℕ) (is : IsKept d image) (
   first_is : page_number d t key ≡ key % count
   first_is = ap (λ (o : Option ℕ). key % unwrap_or o 0) there
 
-  sizes : (contents.size t ≡ Some count) × (1 ≤ t) × (t ≤ 1000000) × (1 ≤ count) × (count ≤ 1024)
+  sizes : HasSize contents t count × (1 ≤ t) × (t ≤ 1000000) × (1 ≤ count) × (count ≤ 1024)
   sizes = is.sound.tables.sizes t count there
 
   first_low : key % count < count
@@ -157,22 +186,22 @@ module _ (d : Donor) (image : Image) (t key count : ℕ) (is : IsKept d image) (
   pub chain : HasChain contents t (page_number d t key)
   chain = subst (HasChain contents t) (sym first_is) (is.sound.chains.buckets t count (key % count) there first_low)
 
-  below_size : (pages : List ℕ) → AllByRecursion (HasPage contents t) pages → AllByRecursion (λ (p : ℕ). p < count) pages
+  below_size : (pages : List ℕ) → AllByRecursion (HasPage contents t) pages → AllByRecursion (λ (p : ℕ). p < sizes.0.pages) pages
   below_size [] all = tt
-  below_size (p ∷ pages) all = (subst (λ (n : ℕ). p < n) (same_Some all.0.0 count (sym all.0.1 ∙ sizes.0)) all.0.2, below_size pages all.1)
+  below_size (p ∷ pages) all = (subst (λ (n : ℕ). p < n) (same_Some all.0.0 sizes.0.pages (sym all.0.1 ∙ sizes.0.size)) all.0.2, below_size pages all.1)
 
-  low : AllByRecursion (λ (p : ℕ). p < count) (page_number d t key ∷ chain.behind)
+  low : AllByRecursion (λ (p : ℕ). p < sizes.0.pages) (page_number d t key ∷ chain.behind)
   low = below_size (page_number d t key ∷ chain.behind) chain.there
 
   -- it has no more pages than the space
   few : length chain.behind ≤ MOST_PAGES - 1
   few =
-      let long = length-le_from_distinct_below (page_number d t key ∷ chain.behind) count chain.once (λ q has. member count (page_number d t key ∷ chain.behind) q low has) in
-      omega (arith, long, sizes.4)
+      let long = length-le_from_distinct_below (page_number d t key ∷ chain.behind) sizes.0.pages chain.once (λ q has. member sizes.0.pages (page_number d t key ∷ chain.behind) q low has) in
+      omega (arith, long, sizes.0.most)
 
-  small : (pages : List ℕ) → AllByRecursion (λ (p : ℕ). p < count) pages → AllByRecursion (λ (p : ℕ). p < MOST_PAGES) pages
+  small : (pages : List ℕ) → AllByRecursion (λ (p : ℕ). p < sizes.0.pages) pages → AllByRecursion (λ (p : ℕ). p < MOST_PAGES) pages
   small [] all = tt
-  small (p ∷ pages) all = (omega (arith, all.0, sizes.4), small pages all.1)
+  small (p ∷ pages) all = (omega (arith, all.0, sizes.0.most), small pages all.1)
 
   -- a key that is bound on no page of its chain is bound nowhere
   nowhere : AllByRecursion (λ (page : ℕ). (place : ℕ) → ¬ IsBound contents.slot t page place key) (page_number d t key ∷ chain.behind) → IsNowhere contents.slot t key
@@ -196,13 +225,16 @@ module _ (d : Donor) (image : Image) (t key count : ℕ) (is : IsKept d image) (
   abbrev pub IsFoundPlace : ℕ → Option ℕ → Type 0
   IsFoundPlace page slot = MatchOption slot (IsNowhere contents.slot t key) (λ place. IsPlace d contents t page place key)
 
+  -- what a walk comes to on the row's chain
+  comes_to : (for_room : Bool) (old new : Buffered) (spot : Spot) → image_of old ≡ image → WalksAll (row_walk d t key for_room) old new (Ok spot) → IsTrue new.right → IsOn spot.page × ComesTo (row_walk d t key for_room) image used IsOn closed (page_number d t key ∷ chain.behind) spot.page spot.slot
+  comes_to for_room old new spot same walked right = came (row_walk d t key for_room) image used IsOn closed (MOST_PAGES - 1) (page_number d t key) None old new (Ok spot) walked same right chain.behind chain.chain few (small chain.behind low.1) begins tt
+
   pub walk_place : (for_room : Bool) (old new : Buffered) (spot : Spot) → image_of old ≡ image → WalksAll (row_walk d t key for_room) old new (Ok spot) → IsTrue new.right → IsFoundPlace spot.page spot.slot
   walk_place for_room old new spot same walked right =
-      found spot.page spot.slot
-      (came (row_walk d t key for_room) image used IsOn closed (MOST_PAGES - 1) (page_number d t key) None old new (Ok spot) walked same right chain.behind chain.chain few (small chain.behind low.1) begins tt)
+      found spot.page spot.slot (comes_to for_room old new spot same walked right)
     where
       found : (page : ℕ) (slot : Option ℕ) → IsOn page × ComesTo (row_walk d t key for_room) image used IsOn closed (page_number d t key ∷ chain.behind) page slot → IsFoundPlace page slot
-      found page None is = nowhere is.1
+      found page None is = nowhere is.1.0
       found page (Some place) is = record {
         count = count;
         there = there;
@@ -211,4 +243,25 @@ module _ (d : Donor) (image : Image) (t key count : ℕ) (is : IsKept d image) (
           | inl bound ↦ inl bound
           | inr new ↦ inr (new.0, nowhere new.1)
         ];
+      }
+
+  -- a page of the chain each slot of which was used isn't an unused one
+  used_page : (page : ℕ) → IsOn page → FindsFreeIn contents t page None → is_unused image t page ≡ false
+  used_page page on full =
+      let here = page_there image t page (on_there is.sound.chains t count (key % count) page there first_low (subst (λ (n : ℕ). OnChain (contents.next t) n page) first_is on)) in
+      let kind = rows_kind here.0 (is.formed.tables t page here.0 used here.1) (λ zeros. full 0 (omega arith) (slot_on image t page here.0 used here.1 0 ∙ ap (λ (p : List ℕ). slot_in (slots p) 0) zeros ∙ ap (λ ss. slot_in ss 0) slots-zero)) in
+      ap (λ (p : List ℕ). kind_of p == 0) (all_pages-is image t page here.0 here.1) ∙ not_equal (kind_of here.0) 0 kind
+
+  -- where a walk for room comes to no slot, the chain is full
+  pub walk_full : (old new : Buffered) (spot : Spot) → image_of old ≡ image → WalksAll (row_walk d t key true) old new (Ok spot) → IsTrue new.right → spot.slot ≡ None → IsFullAt d image t spot.page key
+  walk_full old new spot same walked right none =
+      let is = comes_to true old new spot same walked right in
+      let end = subst (ComesTo (row_walk d t key true) image used IsOn closed (page_number d t key ∷ chain.behind) spot.page) none is.1 in
+      record {
+        count = count;
+        there = there;
+        chain = subst (λ (n : ℕ). OnChain (contents.next t) n spot.page) first_is is.0;
+        last = end.1.0;
+        used = used_page spot.page is.0 (end.1.1 refl);
+        nowhere = nowhere end.0;
       }

@@ -12,15 +12,15 @@ use Rattle.clone_undo.specs.Entries.{UndoEntry}
 use Rattle.clone_undo.specs.Places.{header_page, record_page}
 use Rattle.clone_undo.specs.Slots.{entry_on}
 use Rattle.clone_undo.specs.Changes.{records_of_begin, records_of_change, records_of_taking_back, records_of_end}
-use Rattle.clone_space.specs.Entries.{dictionary}
-use Rattle.clone_space.specs.Records.{records_of_create}
+use Rattle.clone_space.specs.Entries.{dictionary, entry_in}
+use Rattle.clone_space.specs.Records.{records_of_create, records_of_growth}
 use Rattle.clone_contents.specs.Records.{commit_records}
 use Rattle.clone_plain.specs.declared.refusal.Cause.TheVariants.{SpaceFull}
 use Rattle.clone_plain.specs.Causes.{least_unused}
 use Rattle.clone_plain.specs.Donor.{Donor, changes_of}
 use Rattle.clone_trx.specs.declared.walk.Course.{Course}
-use Rattle.clone_trx.specs.Places.{free_entry, held_value, told, page_number}
-use Rattle.clone_trx.specs.Ways.{Way, reads, walks, stops, writes, makes, ends}
+use Rattle.clone_trx.specs.Places.{named_entry, held_value, told, page_number}
+use Rattle.clone_trx.specs.Ways.{Way, reads, walks, stops, writes, freshens, lengthens, makes, ends}
 
 -- the walk along the chain of a row's bucket
 abbrev pub row_walk : Donor → ℕ → ℕ → Bool → Course
@@ -39,13 +39,22 @@ system_page number = record { space = 0; number = number }
 abbrev pub is_new : List ℕ → Bool
 is_new page = kind_of page == 0
 
--- the place of the first free entry on the system page; where there is none, the first of all
+-- the place on the system page of the first entry that names a table; where there is none, the
+-- first of all
+abbrev pub entry_place : ℕ → List ℕ → ℕ
+entry_place table page = unwrap_or (named_entry table (dictionary page)) 0
+
+-- the place of the first free entry, which names the table 0
 abbrev pub free_place : List ℕ → ℕ
-free_place page = unwrap_or (free_entry (dictionary page)) 0
+free_place page = entry_place 0 page
+
+-- how many pages the entry of a place on the system page tells
+abbrev pub pages_told : List ℕ → ℕ → ℕ
+pages_told page place = (entry_in (dictionary page) place).pages
 
 -- A new table takes the first free entry of the dictionary.
-abbrev pub create_way : Donor → ℕ → ℕ → Way
-create_way d table buckets =
+abbrev pub create_way : ℕ → ℕ → Way
+create_way table buckets =
     reads (system_page 0) (λ page. makes (records_of_create (free_place page) table buckets))
 
 -- A transaction that begins takes its undo slot. The slot's first page is made first where it is
@@ -56,17 +65,47 @@ begin_way d writer index =
     reads (system_page (header_page trx))
     (λ page. writes (records_of_begin (is_new page) trx writer index))
 
--- The row of a key goes to the slot of its chain that is bound to the key, else to the first that
--- was never used. A change writes its undo record, the new count of its undo slot, and the row's
--- slot.
-abbrev pub change_at : Donor → ℕ → Change → ℕ → Option ℕ → List ℕ → Way
-change_at d trx change page None row = stops SpaceFull
-change_at d trx change page (Some place) row =
-    let count = length (changes_of d trx) in
-    let before = told change.table page change.key place (held_value row place) in
+-- A change writes its undo record, the new count of its undo slot, and the row's slot. Of the pages
+-- of the undo record and of the row, one that is new is made first.
+abbrev pub told_way : ℕ → Change → ℕ → Bool → UndoEntry → Way
+told_way trx change count new before =
     reads (system_page (header_page trx)) (λ header. reads (system_page (record_page trx count))
-    (λ undo. writes (records_of_change (is_new undo) (is_new row) trx count before
+    (λ undo. writes (records_of_change (is_new undo) new trx count before
     (rows.image change.key change.value))))
+
+-- a change of a row in a slot of a page that is new or not, where the row had a value or none
+abbrev pub slot_way : Donor → ℕ → Change → ℕ → ℕ → Bool → Option (List ℕ) → Way
+slot_way d trx change page place new value =
+    told_way trx change (length (changes_of d trx)) new
+    (told change.table page change.key place value)
+
+-- The space of a table gets one page more, behind the last page of a full chain, and the row goes
+-- to the first slot there. No space gets more than 65,536 pages.
+abbrev pub grown_way : Donor → ℕ → Change → ℕ → ℕ → ℕ → Way
+grown_way d trx change last place pages =
+    if nat_le MOST_PAGES pages then stops SpaceFull
+    else lengthens (records_of_growth place change.table pages last)
+    (slot_way d trx change pages 0 false None)
+
+-- a frame is taken for the page first
+abbrev pub longer_at : Donor → ℕ → Change → ℕ → ℕ → ℕ → Way
+longer_at d trx change last place pages =
+    freshens (record { space = change.table; number = pages })
+    (grown_way d trx change last place pages)
+
+-- the dictionary tells how many pages the space has
+abbrev pub longer_way : Donor → ℕ → Change → ℕ → Way
+longer_way d trx change last =
+    reads (system_page 0)
+    (λ page. let place = entry_place change.table page in
+    longer_at d trx change last place (pages_told page place))
+
+-- The row of a key goes to the slot of its chain that is bound to the key, else to the first that
+-- was never used. Where the chain has neither, it gets a page more.
+abbrev pub change_at : Donor → ℕ → Change → ℕ → Option ℕ → List ℕ → Way
+change_at d trx change page None row = longer_way d trx change page
+change_at d trx change page (Some place) row =
+    slot_way d trx change page place (is_new row) (held_value row place)
 
 abbrev pub change_way : Donor → ℕ → Change → Way
 change_way d trx change =

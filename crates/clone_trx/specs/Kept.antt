@@ -1,18 +1,20 @@
 -- What holds between calls: of the transactions alone, and of the pages that they go over.
-use Rattle.std.specs.Prelude.{ℕ, ◌≡◌, ◌≢◌, ◌≤◌, ◌<◌, ◌-◌, ◌%◌, ◌++◌, ◌∷◌, ◌⊎◌, [], Bool, List, length, IsTrue, IsSome, IfSome, None, Some, slice_get}
+use Rattle.std.specs.Prelude.{ℕ, ◌≡◌, ◌≢◌, ◌≤◌, ◌<◌, ◌-◌, ◌%◌, ◌++◌, ◌∷◌, ◌⊎◌, [], Bool, false, List, length, IsTrue, IsSome, IfSome, None, Some, slice_get}
 use Rattle.std.specs.FinMap as finite
 use Rattle.std.specs.Ordering.{nat_cmp}
 use Rattle.clone_base.specs.declared.limits.TheConstants.{TABLE_LIMIT}
 use Rattle.clone_model.specs.declared.line.TheConstants.{HIGHEST_TABLE, MOST_BUCKETS, MOST_PAGES}
 use Rattle.clone_model.specs.declared.change.Change.{Change}
 use Rattle.clone_model.specs.declared.change.Commit.{Commit}
+use Rattle.clone_mtr.specs.declared.record.Record.{Record}
 use Rattle.clone_undo.specs.Entries.{UndoEntry, IsEntry}
 use Rattle.clone_undo.specs.Slots.{UndoSlot}
 use Rattle.clone_page.specs.Slots.{slot_count}
 use Rattle.clone_row.specs.Slots.{unused}
 use Rattle.clone_image.specs.Image.{Image}
 use Rattle.clone_image.specs.Recovered.{undo_slot_of}
-use Rattle.clone_contents.specs.Contents.{Contents, contents_of}
+use Rattle.clone_image.specs.Replay.{replayed}
+use Rattle.clone_contents.specs.Contents.{Contents, contents_of, named}
 use Rattle.clone_contents.specs.Steps.{is_unused}
 use Rattle.clone_pool.specs.declared.frame.Content.TheVariants.{Fresh}
 use Rattle.clone_pool.specs.declared.frame.Frame.{Frame}
@@ -83,17 +85,32 @@ pub record IsPlace (d : Donor) (c : Contents) (table page place key : ℕ) : Typ
   pub may : IsBound c.slot table page place key
       ⊎ ((c.slot table page place ≡ unused) × IsNowhere c.slot table key)
 
+-- The chain of a key's row is full: it ends at this page, all slots of which were used, and the key
+-- is bound nowhere.
+pub record IsFullAt (d : Donor) (image : Image) (table page key : ℕ) : Type 0 where
+  pub count : ℕ
+  pub there : finite.get d.tables table ≡ Some count
+  pub chain : OnChain ((contents_of image).next table) (key % count) page
+  pub last : (contents_of image).next table page ≡ None
+  pub used : is_unused image table page ≡ false
+  pub nowhere : IsNowhere (contents_of image).slot table key
+
 -- the numbers of a page and of a slot there are in their ranges
 abbrev pub IsInRange : Spot → Type 0
 IsInRange spot = (spot.page < MOST_PAGES) × IfSome spot.slot (λ place. place < slot_count)
 
--- Where the row of a key is or may go, as a walk found it: the page is held, and the slot is the
--- place for the row where all that was read is right.
+-- Where the row of a key is or may go, as a walk found it: the page is held, and where all that was
+-- read is right, the slot is the place for the row, or the chain is full where there is no slot.
 pub record IsSpot (d : Donor) (table key : ℕ) (b : Buffered) (spot : Spot) : Type 0 where
   pub in_range : IsInRange spot
   pub has : Has (record { space = table; number = spot.page }) spot.at b.pool.frames
   pub place : IsTrue b.right → IfSome spot.slot
       (λ place. IsPlace d (contents_of (image_of b)) table spot.page place key)
+  pub full : IsTrue b.right → spot.slot ≡ None → IsFullAt d (image_of b) table spot.page key
+
+-- the entry of this place names the table, whose space has so many pages
+abbrev pub TellsPages : Contents → ℕ → ℕ → ℕ → Type 0
+TellsPages c table place pages = (named c place ≡ table) × (c.size table ≡ Some pages)
 
 -- Where a change of a row goes: what its undo record tells, whether the row's page is new, and how
 -- many changes the transaction has made. The place is one for the row, and the value from before is
@@ -126,3 +143,9 @@ pub record IsLastRecord (image : Image) (trx : ℕ) (e : UndoEntry) : Type 0 whe
   pub front : List UndoEntry
   pub used : undo_slot_of image trx ≡ Some slot
   pub last : slot.records ≡ front ++ e ∷ []
+
+-- where two mini-transactions were written, the image between them keeps what the donor was
+abbrev pub KeptBetween : Donor → Buffered → Buffered → Type 0
+KeptBetween d old new =
+    (first second : List Record) → new.log ≡ old.log ++ first ∷ second ∷ [] → IsTrue new.right
+    → IsKept d (replayed (old.log ++ first ∷ []))

@@ -6,4 +6,3 @@ pub mod Calls
 pub mod Walking
 pub mod Locked
 pub mod Opened
-pub mod Spaces

@@ -11,9 +11,10 @@ use Rattle.clone_row.specs.Slots.{slots, slot_in, row_in}
 use Rattle.clone_undo.specs.Entries.{UndoEntry}
 use Rattle.clone_plain.specs.Donor.{Donor}
 
--- the place of the first free entry of the dictionary, or none where each entry names a table
-unfoldable pub free_entry : List TableEntry → Option ℕ
-free_entry list = find (λ j. (entry_in list j).table == 0) (range_with_len 0 entry_count)
+-- the place of the first entry of the dictionary that names a table, or none where no entry does
+unfoldable pub named_entry : ℕ → List TableEntry → Option ℕ
+named_entry table list =
+    find (λ j. (entry_in list j).table == table) (range_with_len 0 entry_count)
 
 -- the page of a row's bucket, by its number in the space of its table
 abbrev pub page_number : Donor → ℕ → ℕ → ℕ

@@ -7,7 +7,7 @@ use Rattle.clone_base.specs.declared.limits.TheConstants.{TRANSACTION_LIMIT, TAB
 use Rattle.clone_model.specs.History.{Rows, after_change}
 use Rattle.clone_model.specs.declared.change.Change.{Change}
 use Rattle.clone_model.specs.declared.change.Commit.{Commit}
-use Rattle.clone_model.specs.declared.line.TheConstants.{HIGHEST_TABLE, MOST_BUCKETS}
+use Rattle.clone_model.specs.declared.line.TheConstants.{HIGHEST_TABLE, MOST_BUCKETS, MOST_PAGES}
 use Rattle.clone_space.specs.Entries.{entry_in, AreAmong, AreOnce}
 use Rattle.clone_row.specs.Chains.{IsChain}
 use Rattle.clone_row.specs.Slots.{Slot, row_slot, bound_key, unused}
@@ -31,11 +31,18 @@ Nexts = ℕ → ℕ → Option ℕ
 abbrev pub IsBound : Slots → ℕ → ℕ → ℕ → ℕ → Type 0
 IsBound slot table page place key = bound_key (slot table page place) ≡ Some key
 
+-- the space of a table has a page for each of so many buckets, and no more than a space may have
+pub record HasSize (c : Contents) (table count : ℕ) : Type 0 where
+  pub pages : ℕ
+  pub size : c.size table ≡ Some pages
+  pub enough : count ≤ pages
+  pub most : pages ≤ MOST_PAGES
+
 -- Each table stands in one entry of the dictionary, which tells how many buckets the table has, and
--- how many pages its space has: one for each bucket. There are no other tables.
+-- how many pages its space has. There are no other tables.
 pub record HoldsTables (d : Donor) (c : Contents) : Type 0 where
   pub sizes : (table count : ℕ) → finite.get d.tables table ≡ Some count
-      → (c.size table ≡ Some count) × (1 ≤ table) × (table ≤ HIGHEST_TABLE) × (1 ≤ count)
+      → HasSize c table count × (1 ≤ table) × (table ≤ HIGHEST_TABLE) × (1 ≤ count)
       × (count ≤ MOST_BUCKETS)
   pub spaces : (table : ℕ) → table ≢ 0 → finite.get d.tables table ≡ None → c.size table ≡ None
   pub listed : (table : ℕ) → IsSome (finite.get d.tables table) → (j : ℕ) × (named c j ≡ table)
@@ -54,11 +61,11 @@ pub record HasChain (c : Contents) (table first : ℕ) : Type 0 where
   pub there : AllByRecursion (HasPage c table) (first ∷ behind)
   pub once : IsDistinct (λ (p q : ℕ). p == q) (first ∷ behind)
 
--- Each bucket of a table has a chain. Where there is no space, no page is behind another.
+-- Each bucket of a table has a chain. No page is behind one that isn't there.
 pub record HoldsChains (d : Donor) (c : Contents) : Type 0 where
   pub buckets : (table count bucket : ℕ) → finite.get d.tables table ≡ Some count → bucket < count
       → HasChain c table bucket
-  pub none : (table page : ℕ) → c.size table ≡ None → c.next table page ≡ None
+  pub none : (table page : ℕ) → ¬ HasPage c table page → c.next table page ≡ None
 
 -- A page is on the chain of its first page: that page itself, and each that is behind one of the
 -- chain.

@@ -13,11 +13,11 @@ use Rattle.clone_pool.specs.declared.frame.Frame.{Frame}
 use Rattle.clone_pool.specs.declared.frame.PageName.{PageName}
 use Rattle.clone_pool.specs.declared.pool.FetchRefusal.{FetchRefusal}
 use Rattle.clone_pool.specs.declared.pool.FetchRefusal.TheVariants as fetch
-use Rattle.clone_pool.specs.Frames.{frame_at, pinned, unpinned}
-use Rattle.clone_pool.specs.Pool.{Fetches, with_frame}
+use Rattle.clone_pool.specs.Frames.{frame_at, holder, pinned, unpinned}
+use Rattle.clone_pool.specs.Pool.{AreKept, Fetches, Freshens, with_frame}
 use Rattle.clone_buffer.specs.Buffered.{Buffered, image_of}
 use Rattle.clone_buffer.specs.Writing.{written}
-use Rattle.clone_buffer.specs.OnePage.{Beside, NoFileCopy}
+use Rattle.clone_buffer.specs.OnePage.{Beside, NoFilesOf}
 use Rattle.clone_buffer.specs.Keeping.{Stands}
 use Rattle.clone_plain.specs.Donor.{Donor}
 use Rattle.clone_plain.specs.declared.refusal.Cause.{Cause}
@@ -38,6 +38,10 @@ pub data Way : Type 0 where
   stops : Cause → Way
   -- a mini-transaction is written
   writes : List Record → Way
+  -- a frame is taken for a new page, and stays pinned while the rest is done
+  freshens : PageName → Way → Way
+  -- a mini-transaction that makes a space longer is written, and then the rest is done
+  lengthens : List Record → Way → Way
   -- the disk makes a space, and the mini-transaction that makes it is written
   makes : List Record → Way
   -- nothing more is done
@@ -86,6 +90,18 @@ pub record Holds (page : PageName) (at : ℕ) (old new : Buffered) : Type 0 wher
 abbrev pub MissesBy : PageName → EngineRefusal → Buffered → Buffered → Type 0
 MissesBy page refusal old new =
     (cause : Cause) × (refusal ≡ Because cause) × Misses page cause old new
+
+-- A frame was taken for a new page and pinned. One that the new page had already was pinned once
+-- more.
+pub record Takes (page : PageName) (at : ℕ) (old new : Buffered) : Type 0 where
+  pub taken : Freshens page old.pool new.pool (Ok at)
+  pub same : new ≡ record old { pool = new.pool }
+
+-- a new page has no frame, and there is none for it
+pub record HasNoFrame (page : PageName) (b : Buffered) (cause : Cause) : Type 0 where
+  pub absent : holder b.pool.frames page ≡ None
+  pub kept : AreKept b.pool.frames
+  pub is : cause ≡ PoolFull (length b.pool.frames)
 
 -- A WALK goes along a chain page by page, and looks for a slot that is bound to its key. If it is
 -- for room, the first page with a slot that was never used is kept: it stays pinned meanwhile.
@@ -185,7 +201,8 @@ Makes records old new result =
     Writes records old new result
     ⊎ (HasRoom records old × (result ≡ Err (Because DiskFault)) × (new ≡ old))
 
--- THE WAY IS GONE, up to this answer.
+-- THE WAY IS GONE, up to this answer. Where a new page wasn't made by then, the frame that was
+-- taken for it is free again.
 abbrev pub Goes : {X : Type 0} → Way → Buffered → Buffered → Result X EngineRefusal → Type 0
 Goes (reads page rest) old new result =
     ((cause : Cause) × (result ≡ Err (Because cause)) × Misses page cause old new)
@@ -197,6 +214,13 @@ Goes (walks course rest) old new result =
     ⊎ ((spot : Spot) × (next last : Buffered) × WalksAll course old next (Ok spot)
     × Goes (rest spot.page spot.slot (page_in spot.at next)) next last result
     × (new ≡ let_go spot.at last))
+Goes (freshens page rest) old new result =
+    ((cause : Cause) × (result ≡ Err (Because cause)) × HasNoFrame page old cause × (new ≡ old))
+    ⊎ ((at : ℕ) × (next last : Buffered) × Takes page at old next × Goes rest next last result
+    × (new ≡ let_go at last))
+Goes (lengthens records rest) old new result =
+    ((cause : Cause) × (result ≡ Err (Because cause)) × IsFull records old cause × (new ≡ old))
+    ⊎ (HasRoom records old × Goes rest (written records old) new result)
 Goes (stops cause) old new result = (result ≡ Err (Because cause)) × (new ≡ old)
 Goes (writes records) old new result = Writes records old new result
 Goes (makes records) old new result = Makes records old new result
@@ -224,7 +248,9 @@ abbrev pub StaysStanding : Buffered → Buffered → Option DiskImage → Option
 StaysStanding old new before after =
     (beside : Beside) → Stands old beside before → Stands new beside after
 
--- so does one that is beside no file copy of a clone
-abbrev pub StaysOutsideFiles : Buffered → Buffered → Option DiskImage → Option DiskImage → Type 0
-StaysOutsideFiles old new before after =
-    (beside : Beside) → NoFileCopy beside.copy → Stands old beside before → Stands new beside after
+-- so does one that is beside no FILE COPY of a space
+abbrev pub StaysOutsideFiles : ℕ → Buffered → Buffered → Option DiskImage → Option DiskImage
+    → Type 0
+StaysOutsideFiles space old new before after =
+    (beside : Beside) → NoFilesOf space beside.copy → Stands old beside before
+    → Stands new beside after

@@ -1,4 +1,4 @@
-ghost use Rattle.std.specs.Prelude.{ℕ, ◌≡◌, ◌<◌, ◌≤◌, ◌+◌, IfOk, IfErr, IsTrue, IsSome, Some, Err, ◌⊎◌, length, drop, if◌then◌else◌};
+ghost use Rattle.std.specs.Prelude.{ℕ, ◌≡◌, ◌<◌, ◌≤◌, ◌+◌, IfOk, IfErr, IsTrue, IsSome, None, Some, Err, ◌⊎◌, length, drop, if◌then◌else◌};
 ghost use Rattle.std.specs.declared.option.Option.{Option};
 ghost use Rattle.std.specs.List.{AllByRecursion};
 ghost use Rattle.clone_outside.specs.Causes.{Rose};
@@ -8,13 +8,15 @@ ghost use Rattle.clone_image.specs.Image.{page_of, EditsPages};
 ghost use Rattle.clone_pool.specs.declared.frame.PageName.{PageName};
 ghost use Rattle.clone_pool.specs.Frames.{frame_at};
 ghost use Rattle.clone_buffer.specs.Buffered.{image_of};
-ghost use Rattle.clone_buffer.specs.Writing.{Creates, HasFrame, HasMade, IsOnPage, written};
+ghost use Rattle.clone_buffer.specs.Keeping.{Stands};
+ghost use Rattle.clone_buffer.specs.OnePage.{Beside};
+ghost use Rattle.clone_buffer.specs.Writing.{Creates, HasFrame, HasMade, IsOnPage, Lengthens, NoFilesOfMade, written};
 ghost use Rattle.clone_plain.specs.declared.refusal.EngineRefusal.TheVariants.{Because, NoMemory};
 ghost use Rattle.clone_plain.specs.declared.refusal.Cause.{Cause};
 ghost use Rattle.clone_plain.specs.declared.refusal.Cause.TheVariants.{DiskFault};
 ghost use Rattle.clone_trx.specs.Calls.{is_new};
 ghost use Rattle.clone_trx.specs.Kept.{Has};
-ghost use Rattle.clone_trx.specs.Ways.{HasRoom, Holds, IsFull, MissesBy, PinsAtMost, StaysOutsideFiles, StaysStanding, let_go, page_in};
+ghost use Rattle.clone_trx.specs.Ways.{HasNoFrame, HasRoom, Holds, IsFull, MissesBy, PinsAtMost, StaysStanding, Takes, let_go, page_in};
 
 use clone_buffer::Buffer;
 use clone_mtr::Record;
@@ -67,6 +69,35 @@ pub fn hold<D: PageDisk>(
         }
         Err(FetchRefusal::PoolFull { frames }) => Err(Cause::PoolFull { frames }.into()),
         Err(FetchRefusal::DiskFault) => Err(Cause::DiskFault.into()),
+    }
+}
+
+/// Takes a frame for a new page, pins it, and answers the frame's number. It is refused where there
+/// is no frame for it.
+pub fn hold_new(buffer: &mut Buffer, space: u32, number: u32) -> Result<u32, EngineRefusal>
+    requires absent { IsTrue buffer.old.right → page_of (image_of buffer.old) space number ≡ None }
+    requires pins { PinsAtMost 8 buffer.old.pool.frames }
+    ensures taken { IfOk result
+        (λ at. Takes (record { space = space; number = number }) at buffer.old buffer.new) }
+    ensures none { IfErr result (λ refusal. (cause : Cause) × (refusal ≡ Because cause)
+        × HasNoFrame (record { space = space; number = number }) buffer.old cause
+        × (buffer.new ≡ buffer.old)) }
+    ensures has { IfOk result
+        (λ at. Has (record { space = space; number = number }) at buffer.new.pool.frames) }
+    ensures stay { (page : PageName) (at : ℕ) → Has page at buffer.old.pool.frames
+        → Has page at buffer.new.pool.frames }
+    ensures same { buffer.new ≡ record buffer.old { pool = buffer.new.pool } }
+    ensures pins { (most : ℕ) → PinsAtMost most buffer.old.pool.frames
+        → PinsAtMost (most + 1) buffer.new.pool.frames }
+    ensures stands { (told : Option DiskImage) → StaysStanding buffer.old buffer.new told told }
+{
+    buffer.laws();
+    let taken = buffer.fresh(space, number);
+    buffer.laws();
+    match taken {
+        Ok(at) => Ok(at),
+        Err(FetchRefusal::PoolFull { frames }) => Err(Cause::PoolFull { frames }.into()),
+        Err(FetchRefusal::DiskFault) => unreachable!(),
     }
 }
 
@@ -126,11 +157,30 @@ pub fn write_space_held(buffer: &mut Buffer, records: &[Record])
     requires room { HasRoom records.now buffer.old }
     requires creates { IsTrue buffer.old.right → Creates buffer.old records.now }
     ensures written { buffer.new ≡ written records.now buffer.old }
-    ensures stands { (told : Option DiskImage) → ForTold told (HasMade records.now)
-        → StaysOutsideFiles buffer.old buffer.new told told }
+    ensures stands { (beside : Beside) (told : Option DiskImage)
+        → ForTold told (HasMade records.now) → NoFilesOfMade records.now beside.copy
+        → Stands buffer.old beside told → Stands buffer.new beside told }
 {
     match buffer.write_space(records) {
         Ok(_) => {}
+        Err(_) => unreachable!(),
+    }
+}
+
+/// Writes a mini-transaction that makes a space longer, for which the log has room. What was held
+/// stays held.
+pub fn write_longer_held(buffer: &mut Buffer, records: &[Record])
+    requires some { 1 ≤ length records.now }
+    requires short { length (spelling records.now) ≤ longest }
+    requires room { HasRoom records.now buffer.old }
+    requires longer { IsTrue buffer.old.right → Lengthens buffer.old records.now }
+    ensures written { buffer.new ≡ written records.now buffer.old }
+    ensures stay { (page : PageName) (at : ℕ) → Has page at buffer.old.pool.frames
+        → Has page at buffer.new.pool.frames }
+    ensures stands { (told : Option DiskImage) → StaysStanding buffer.old buffer.new told told }
+{
+    match buffer.write_longer(records) {
+        Ok(_) => buffer.laws(),
         Err(_) => unreachable!(),
     }
 }

@@ -48,14 +48,6 @@ impl Tables {
         self.buckets.get(&table).copied()
     }
 
-    /// The tables in ascending order, each with how many buckets it has.
-    pub fn list(&self, alloc: Global) -> Result<Vec<(u32, u32)>, AllocError>
-        ensures { IfOk result (λ tables. tables.items ≡ finite.entries self.now) }
-    {
-        let _count = self.buckets.len();
-        listed(alloc, &self.buckets)
-    }
-
     /// Adds a table. After a refusal all is as before.
     pub fn insert(&mut self, table: u32, buckets: u32) -> Result<(), AllocError>
         ensures ok { OnOk result (self.new ≡ finite.insert self.old table buckets) }
@@ -71,11 +63,4 @@ impl Tables {
     {
         self.buckets.remove(&table);
     }
-}
-
-// The entries of an ordered map of numbers.
-fn listed(alloc: Global, map: &BTreeMap<u32, u32>) -> Result<Vec<(u32, u32)>, AllocError>
-    ensures { IfOk result (λ all. all.items ≡ map.now.entries) }
-{
-    map.iter().map(|(key, value)| (*key, *value)).collect(alloc)
 }

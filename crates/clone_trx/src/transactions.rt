@@ -19,15 +19,15 @@ ghost use Rattle.clone_plain.specs.Effects.{created, Begins};
 ghost use Rattle.clone_plain.specs.declared.refusal.Cause.TheVariants.{DiskFault};
 ghost use Rattle.clone_plain.specs.declared.refusal.EngineRefusal.TheVariants.{Because};
 ghost use Rattle.clone_trx.specs.Calls.{create_way, begin_way};
-ghost use Rattle.clone_trx.specs.Sound.{HasChain, IsKept};
+ghost use Rattle.clone_trx.specs.Sound.{HasChain, HasSize, IsKept};
 ghost use Rattle.clone_trx.specs.Kept.{IsSafe, Keeps};
-ghost use Rattle.clone_trx.specs.Spaces.{IsPageOf, spaces_of};
 ghost use Rattle.clone_trx.specs.Ways.{Answers, StaysStanding};
 
 mod change;
 mod creating;
 mod ending;
 mod getting;
+mod growing;
 mod starting;
 mod undoing;
 
@@ -35,7 +35,6 @@ use crate::active::Active;
 use crate::locks::Locks;
 use crate::tables::Tables;
 use clone_buffer::Buffer;
-use clone_contents::SYSTEM_PAGES;
 use clone_model::{Binlog, BucketCount, Commit, TableNumber};
 use clone_outside::PageDisk;
 use clone_plain::{Cause, EngineRefusal, TABLE_LIMIT};
@@ -106,15 +105,6 @@ impl Transactions {
         self.active.least_free()
     }
 
-    /// The system space and then the tables in ascending order, each with its number of pages.
-    pub fn spaces(&self, alloc: Global) -> Result<Vec<(u32, u32)>, AllocError>
-        ensures { IfOk result (λ spaces. spaces.items ≡ spaces_of self.now) }
-    {
-        let mut spaces = self.tables.list(alloc)?;
-        spaces.insert(0, (0, SYSTEM_PAGES))?;
-        Ok(spaces)
-    }
-
     /// What holds between calls, whatever the pages are. No table was dropped.
     pub fn laws(&self)
         ensures safe { IsSafe self.now }
@@ -146,8 +136,8 @@ impl Transactions {
 
 /// What an image that keeps a donor tells: its rows, once the changes of every open transaction are
 /// taken back, are those that the history leaves; no undo slot has more records than fit, and each
-/// is in its ranges. It has each page of the donor's spaces, and each bucket of a table has a chain
-/// that comes to its end.
+/// is in its ranges. The space of a table has a page for each bucket, and no more pages than a
+/// space may have; and each bucket has a chain that comes to its end.
 pub fn kept_laws()
     ensures rows { (d : Donor) (image : Image) → IsKept d image
         → HasRows (page_of (recovered image)) (fold (history d)) }
@@ -157,8 +147,8 @@ pub fn kept_laws()
     ensures counts { (d : Donor) (image : Image) (s : ℕ) (slot : UndoSlot) → IsKept d image
         → s < TRANSACTION_LIMIT → undo_slot_of image s ≡ Some slot
         → length slot.records ≤ capacity }
-    ensures pages { (d : Donor) (image : Image) (space number : ℕ) → IsKept d image
-        → IsPageOf d space number → IsSome (page_of image space number) }
+    ensures sizes { (d : Donor) (image : Image) (table count : ℕ) → IsKept d image
+        → finite.get d.tables table ≡ Some count → HasSize (contents_of image) table count }
     ensures chains { (d : Donor) (image : Image) (table count bucket : ℕ) → IsKept d image
         → finite.get d.tables table ≡ Some count → bucket < count
         → HasChain (contents_of image) table bucket }

@@ -1,5 +1,6 @@
-ghost use Rattle.std.specs.Prelude.{Err, IsTrue, MatchResult, None, Some, length, true, ◌==◌, ◌≡◌, ◌≤◌};
+ghost use Rattle.std.specs.Prelude.{Err, IsSome, IsTrue, MatchResult, None, Some, length, true, ◌==◌, ◌≡◌, ◌≤◌};
 ghost use Rattle.std.specs.declared.option.Option.{Option};
+ghost use Rattle.std.specs.FinMap as finite;
 ghost use Rattle.std.specs.List.{AllByRecursion};
 ghost use Rattle.clone_outside.specs.Causes.{Rose};
 ghost use Rattle.clone_outside.specs.Disk.{DiskImage};
@@ -11,12 +12,13 @@ ghost use Rattle.clone_contents.specs.Steps.{is_unused};
 ghost use Rattle.clone_buffer.specs.Buffered.{image_of};
 ghost use Rattle.clone_buffer.specs.Writing.{HasFrame, IsOnPage};
 ghost use Rattle.clone_plain.specs.Causes.{change_cause};
+ghost use Rattle.clone_plain.specs.Donor.{changes_of};
 ghost use Rattle.clone_plain.specs.Effects.{Changes, delete_of, put_of};
 ghost use Rattle.clone_plain.specs.declared.refusal.Cause.TheVariants.{DiskFault};
 ghost use Rattle.clone_plain.specs.declared.refusal.EngineRefusal.TheVariants.{Because};
-ghost use Rattle.clone_trx.specs.Calls.{change_at, change_way, is_new, row_page, system_page};
+ghost use Rattle.clone_trx.specs.Calls.{change_at, change_way, is_new, row_page, system_page, told_way};
 ghost use Rattle.clone_trx.specs.Ways.{Answers, Carries, Goes, PinsAtMost, StaysStanding, Writes, page_in, reads, writes};
-ghost use Rattle.clone_trx.specs.Kept.{IsHeld, IsPlaceFor, IsSpot, Keeps, MayChange};
+ghost use Rattle.clone_trx.specs.Kept.{IsHeld, IsPlaceFor, IsSpot, Keeps, KeptBetween, MayChange};
 ghost use Rattle.clone_trx.specs.Sound.{IsKept};
 ghost use Rattle.clone_trx.specs.Places.{page_number};
 ghost use Rattle.clone_row.specs.Slots as rows;
@@ -35,20 +37,22 @@ use clone_undo::{UndoRecord, change_records, first_change_records, header_page, 
 
 // Where a change of a row goes.
 #[derive(Drop)]
-struct Place {
+pub(crate) struct Place {
     // the row's slot, and what it holds
-    entry: UndoRecord,
+    pub(crate) entry: UndoRecord,
     // whether the page of the row is new
-    is_new: bool,
+    pub(crate) is_new: bool,
     // how many changes the transaction has made
-    count: u16,
+    pub(crate) count: u16,
 }
 
 impl Transactions {
     /// Gives a row its value and locks it. The causes for which it is refused, in their order: no
     /// such transaction, a value above 64 bytes, no such table, 160 changes, the lock of another
-    /// transaction, no frame for a page of the row's chain, a full chain, no frame for the undo
-    /// pages, no room in the log.
+    /// transaction, no frame for a page of the row's chain, no frame for the undo pages, no room in
+    /// the log. Where the chain is full it gets a new page first, and before the undo pages come no
+    /// frame for the system page or for the new one, a space that has all its pages, and no room in
+    /// the log for the new page. A new page stays, whatever comes behind it.
     pub fn put<D: PageDisk>(
         &mut self,
         buffer: &mut Buffer,
@@ -64,6 +68,7 @@ impl Transactions {
             self.old self.new buffer.old buffer.new result
             (λ _. Changes self.old trx (put_of table key value.now) self.new) }
         ensures kept { Keeps self.new buffer.new }
+        ensures between { KeptBetween self.old buffer.old buffer.new }
         ensures fault { result ≡ Err (Because DiskFault)
             → Rose (D.failures disk.old) (D.failures disk.new) }
         ensures later { D.failures disk.old ≤ D.failures disk.new }
@@ -99,6 +104,7 @@ impl Transactions {
             self.old self.new buffer.old buffer.new result
             (λ _. Changes self.old trx (delete_of table key) self.new) }
         ensures kept { Keeps self.new buffer.new }
+        ensures between { KeptBetween self.old buffer.old buffer.new }
         ensures fault { result ≡ Err (Because DiskFault)
             → Rose (D.failures disk.old) (D.failures disk.new) }
         ensures later { D.failures disk.old ≤ D.failures disk.new }
@@ -155,6 +161,7 @@ impl Transactions {
         ensures donor { Carries self.old self.new result
             (λ _. Changes self.old trx change self.new) }
         ensures kept { Keeps self.new buffer.new }
+        ensures between { KeptBetween self.old buffer.old buffer.new }
         ensures fault { result ≡ Err (Because DiskFault)
             → Rose (D.failures disk.old) (D.failures disk.new) }
         ensures later { D.failures disk.old ≤ D.failures disk.new }
@@ -175,7 +182,8 @@ impl Transactions {
         changed
     }
 
-    // Makes a change, with the page that a walk came to held.
+    // Makes a change, with the page that a walk came to held: in the slot there, or on a new page
+    // behind that one.
     fn change_on<D: PageDisk>(
         &mut self,
         buffer: &mut Buffer,
@@ -202,13 +210,10 @@ impl Transactions {
     {
         self.laws();
         buffer.laws();
-        let Some(commit) = self.active.get(trx) else {
-            unreachable!();
-        };
-        let count = commit.changes.len() as u16;
         let Some(slot) = spot.slot else {
-            return Err(Cause::SpaceFull.into());
+            return self.change_longer(buffer, trx, change, spot, disk);
         };
+        let count = self.count_of(trx);
         let page = buffer.frame(spot.at);
         let before = before_on(page, slot);
         let place = Place {
@@ -216,8 +221,51 @@ impl Transactions {
             is_new: page.kind() == 0,
             count,
         };
+        self.change_placed(buffer, trx, change, &place, disk)
+    }
+
+    // How many changes an open transaction has made.
+    pub(crate) fn count_of(&self, trx: u32) -> u16
+        requires { IsSome (finite.get self.now.active trx) }
+        ensures { result ≡ length (changes_of self.now trx) }
+    {
+        self.laws();
+        let Some(commit) = self.active.get(trx) else {
+            unreachable!();
+        };
+        commit.changes.len() as u16
+    }
+
+    // Makes a change at its place, with the row's page held.
+    pub(crate) fn change_placed<D: PageDisk>(
+        &mut self,
+        buffer: &mut Buffer,
+        trx: u32,
+        change: Change,
+        place: &Place,
+        disk: &mut D,
+    ) -> Result<(), EngineRefusal>
+        requires cause { MayChange self.old trx change }
+        requires place { IsPlaceFor self.old trx change buffer.old place.now.entry
+            place.now.is_new place.now.count }
+        requires kept { IsTrue buffer.old.right → IsKept self.old (image_of buffer.old) }
+        requires row { IsHeld (row_page place.now.entry) buffer.old.pool.frames }
+        requires pins { PinsAtMost 3 buffer.old.pool.frames }
+        ensures way { Goes (told_way trx change place.now.count place.now.is_new place.now.entry)
+            buffer.old buffer.new result }
+        ensures donor { Carries self.old self.new result
+            (λ _. Changes self.old trx change self.new) }
+        ensures kept { IsTrue buffer.new.right → IsKept self.new (image_of buffer.new) }
+        ensures fault { result ≡ Err (Because DiskFault)
+            → Rose (D.failures disk.old) (D.failures disk.new) }
+        ensures later { D.failures disk.old ≤ D.failures disk.new }
+        ensures told { D.told disk.new ≡ D.told disk.old }
+        ensures orders { D.orders disk.new ≡ D.orders disk.old }
+        ensures stands { StaysStanding buffer.old buffer.new (D.told disk.old) (D.told disk.new) }
+    {
+        self.laws();
         let header = hold(buffer, disk, 0, header_page(trx))?;
-        let changed = self.change_in(buffer, trx, change, &place, disk);
+        let changed = self.change_in(buffer, trx, change, place, disk);
         release(buffer, header);
         changed
     }
@@ -237,7 +285,7 @@ impl Transactions {
         requires kept { IsTrue buffer.old.right → IsKept self.old (image_of buffer.old) }
         requires row { IsHeld (row_page place.now.entry) buffer.old.pool.frames }
         requires header { IsHeld (system_page (header_page trx)) buffer.old.pool.frames }
-        requires pins { PinsAtMost 2 buffer.old.pool.frames }
+        requires pins { PinsAtMost 4 buffer.old.pool.frames }
         ensures way { Goes (reads (system_page (record_page trx place.now.count))
             (λ page. writes (records_of_change (is_new page) place.now.is_new trx place.now.count
             place.now.entry (rows.image change.key change.value)))) buffer.old buffer.new result }

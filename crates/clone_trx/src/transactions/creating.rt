@@ -35,7 +35,7 @@ impl Transactions {
         disk: &mut D,
     ) -> Result<(), EngineRefusal>
         requires kept { Keeps self.old buffer.old }
-        ensures answer { Answers (create_cause self.old table) (create_way self.old table buckets)
+        ensures answer { Answers (create_cause self.old table) (create_way table buckets)
             self.old self.new buffer.old buffer.new result
             (λ _. self.new ≡ created table buckets self.old) }
         ensures kept { Keeps self.new buffer.new }
@@ -50,7 +50,7 @@ impl Transactions {
             (λ m. with_created m table buckets) }
         ensures same { (result ≡ Err (Because DiskFault) → ⊥)
             → OnErr result (D.told disk.new ≡ D.told disk.old) }
-        ensures stands { StaysOutsideFiles buffer.old buffer.new
+        ensures stands { StaysOutsideFiles table buffer.old buffer.new
             (D.told disk.old) (D.told disk.new) }
     {
         let (table, buckets) = (table.get(), buckets.get());
@@ -99,7 +99,7 @@ impl Transactions {
             (λ m. with_created m table buckets) }
         ensures same { (result ≡ Err (Because DiskFault) → ⊥)
             → OnErr result (D.told disk.new ≡ D.told disk.old) }
-        ensures stands { StaysOutsideFiles buffer.old buffer.new
+        ensures stands { StaysOutsideFiles table buffer.old buffer.new
             (D.told disk.old) (D.told disk.new) }
     {
         buffer.laws();

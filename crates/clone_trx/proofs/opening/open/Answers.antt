@@ -5,8 +5,8 @@ use Rattle.clone_mtr.specs.declared.record.Record.TheVariants.{Init}
 use Rattle.clone_image.specs.Replay.{replayed}
 use Rattle.clone_ring.specs.Window.{end_of}
 use Rattle.clone_buffer.specs.Buffered.{Buffered, image_of}
-use Rattle.clone_buffer.specs.OnePage.{at_rest}
-use Rattle.clone_buffer.specs.Writing.{Creates, HasMade}
+use Rattle.clone_buffer.specs.OnePage.{at_rest, no_copies}
+use Rattle.clone_buffer.specs.Writing.{Creates, HasMade, NoFilesOfMade}
 use Rattle.clone_trx.specs.Calls.{system_page}
 use Rattle.clone_trx.proofs.Common.{get-empty, Record, page_of, spelling, opening_records, system_size, Donor, no_donor, IsKept, AreLoose}
 use Rattle.clone_trx.proofs.Common as common
@@ -54,4 +54,4 @@ returns-clause-stands g c = λ _.
     let after = g.D.PageDisk.told c.create.new.self in
     let step : Steps before after (λ m. with_created m 0 system_size) = c.in-Ok.ensures.created in
     let made = subst (λ (rs : List Record). ForTold after (HasMade rs)) (sym c.opening.ensures) (has_made before after 0 system_size (Init 0 0 System ∷ []) step) in
-    c.unpin.ensures.stands at_rest after (c.write_space_held.ensures.stands after made at_rest (λ space number. tt) (c.in-Ok-fresh.ensures.stands at_rest after (stands_first c.in_ok-buffer.buffer after c.in_ok-buffer.ensures.log c.in_ok-buffer.ensures.stands)))
+    c.unpin.ensures.stands at_rest after (c.write_space_held.ensures.stands at_rest after made (subst (λ (rs : List Record). NoFilesOfMade rs no_copies) (sym c.opening.ensures) (λ number. tt)) (c.in-Ok-fresh.ensures.stands at_rest after (stands_first c.in_ok-buffer.buffer after c.in_ok-buffer.ensures.log c.in_ok-buffer.ensures.stands)))

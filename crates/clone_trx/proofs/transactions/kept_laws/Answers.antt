@@ -1,6 +1,5 @@
 use Rattle.clone_trx.proofs.RecoveredRowLemmas.{recovered_rows}
 use Rattle.clone_trx.proofs.KeptLemmas.{known_records}
-use Rattle.clone_trx.proofs.SpaceLemmas.{page_there}
 use Rattle.clone_trx.proofs.transactions.kept_laws.Goals as goal
 
 pub returns-clause-rows : goal.returns-clause-rows
@@ -12,8 +11,8 @@ returns-clause-in_range c = λ d image s slot kept low is. (known_records d imag
 pub returns-clause-counts : goal.returns-clause-counts
 returns-clause-counts c = λ d image s slot kept low is. (known_records d image s slot kept low is).few
 
-pub returns-clause-pages : goal.returns-clause-pages
-returns-clause-pages c = λ d image space number kept page. page_there d image space number kept page
+pub returns-clause-sizes : goal.returns-clause-sizes
+returns-clause-sizes c = λ d image table count kept is. (kept.sound.tables.sizes table count is).0
 
 pub returns-clause-chains : goal.returns-clause-chains
 returns-clause-chains c = λ d image table count bucket kept is low. kept.sound.chains.buckets table count bucket is low

@@ -3,6 +3,7 @@ use Rattle.clone_buffer.specs.Buffered.{Buffered, image_of}
 use Rattle.clone_plain.specs.declared.refusal.EngineRefusal.{EngineRefusal}
 use Rattle.clone_trx.specs.Calls.{change_at, change_way, row_walk}
 use Rattle.clone_trx.specs.Ways.{Goes, WalksAll, page_in}
+use Rattle.clone_trx.proofs.BetweenLemmas.{change_between}
 use Rattle.clone_trx.proofs.CauseLemmas.{may_change}
 use Rattle.clone_trx.proofs.PinLemmas.{still_pinned, still_loose}
 use Rattle.clone_trx.proofs.SpotLemmas.{walk_kept, one_pin, chain_there, of_row, spot_is}
@@ -53,13 +54,24 @@ returns-in_err-spot-clause-kept g c =
     let goes : Goes {X = ℕ} (change_way d c.args.trx change) old new (Err e) = walk_ends (row_walk d change.table change.key true) (change_at d c.args.trx change) old new e (refused g c) in
     record { loose = still_loose (change_way d c.args.trx change) old new (Err e) goes c.requires.kept.loose; kept = walk_kept d (row_walk d change.table change.key true) old new (Err e) (refused g c) c.requires.kept.kept }
 
+pub returns-in_err-spot-clause-between : goal.returns-in_err-spot-clause-between
+returns-in_err-spot-clause-between g c =
+    let d = c.args.self.now in
+    let change = c.args.change in
+    let may = may_change d c.args.trx change.table change.key c.requires.cause.0 c.laws.ensures.safe.locked c.requires.cause.1 in
+    let old : Buffered = c.args.buffer.now in
+    let new : Buffered = c.walk.new.buffer in
+    let e : EngineRefusal = c.in_err-spot.field-0.0 in
+    let goes : Goes {X = ℕ} (change_way d c.args.trx change) old new (Err e) = walk_ends (row_walk d change.table change.key true) (change_at d c.args.trx change) old new e (refused g c) in
+    change_between d c.args.trx change may.buckets may.was_table old new (Err e) c.requires.kept.kept goes
+
 pub change_on-changed-requires-clause-spot : goal.change_on-changed-requires-clause-spot
 change_on-changed-requires-clause-spot g c =
     let d = c.args.self.now in
     let change = c.args.change in
     let may = may_change d c.args.trx change.table change.key c.requires.cause.0 c.laws.ensures.safe.locked c.requires.cause.1 in
     let w = of_row d change.table change.key may.buckets c.args.bucket may.was_table c.requires.bucket true c.args.buffer.now c.walk.new.buffer (Ok c.in_ok-spot.spot) c.in_ok-spot.ensures.walked in
-    spot_is d change.table change.key may.buckets c.args.bucket may.was_table c.requires.bucket true c.args.buffer.now c.walk.new.buffer c.in_ok-spot.spot c.laws.ensures.safe w c.requires.kept.kept c.in_ok-spot.ensures.has
+    spot_is d change.table change.key may.buckets c.args.bucket may.was_table c.requires.bucket c.args.buffer.now c.walk.new.buffer c.in_ok-spot.spot c.laws.ensures.safe w c.requires.kept.kept c.in_ok-spot.ensures.has
 
 pub change_on-changed-requires-clause-kept : goal.change_on-changed-requires-clause-kept
 change_on-changed-requires-clause-kept g c =
@@ -93,3 +105,10 @@ pub returns-clause-kept : goal.returns-clause-kept
 returns-clause-kept g c =
     let_go_keeps (change_way c.args.self.now c.args.trx c.args.change) c.change_on-changed.new.self c.args.buffer.now c.change_on-changed.new.buffer c.release.new.buffer c.in_ok-spot.spot.at c.change_on-changed.result c.requires.kept.loose (goes g c) c.release.ensures.is
     c.change_on-changed.ensures.kept
+
+pub returns-clause-between : goal.returns-clause-between
+returns-clause-between g c =
+    let d = c.args.self.now in
+    let change = c.args.change in
+    let may = may_change d c.args.trx change.table change.key c.requires.cause.0 c.laws.ensures.safe.locked c.requires.cause.1 in
+    change_between d c.args.trx change may.buckets may.was_table c.args.buffer.now c.release.new.buffer c.change_on-changed.result c.requires.kept.kept (goes g c)

@@ -10,7 +10,7 @@ use Rattle.clone_trx.proofs.PinLemmas.{still_loose}
 use Rattle.clone_trx.proofs.WriteLemmas.{is_none}
 use Rattle.clone_trx.proofs.transactions.Transactions.create.Goals as goal
 
-goes : (g : _) (c : goal.After-release g) → Goes (create_way c.args.self.now c.args.table c.args.buckets) c.args.buffer.now c.release.new.buffer c.create_held-created.result
+goes : (g : _) (c : goal.After-release g) → Goes (create_way c.args.table c.args.buckets) c.args.buffer.now c.release.new.buffer c.create_held-created.result
 goes g c =
     let d = c.args.self.now in
     let mid : Buffered = c.hold.new.buffer in
@@ -31,6 +31,6 @@ returns-clause-answer g c =
 
 pub returns-clause-kept : goal.returns-clause-kept
 returns-clause-kept g c = record {
-  loose = still_loose (create_way c.args.self.now c.args.table c.args.buckets) c.args.buffer.now c.release.new.buffer c.create_held-created.result (goes g c) c.requires.kept.loose;
+  loose = still_loose (create_way c.args.table c.args.buckets) c.args.buffer.now c.release.new.buffer c.create_held-created.result (goes g c) c.requires.kept.loose;
   kept = λ after. subst (λ (v : Buffered). IsKept c.create_held-created.new.self (image_of v)) (sym c.release.ensures.is) (c.create_held-created.ensures.kept (subst (λ (v : Buffered). IsTrue v.right) c.release.ensures.is after));
 }

@@ -3,14 +3,14 @@ use Rattle.clone_outside.specs.Disk.{ForTold, Steps, with_created}
 use Rattle.clone_space.specs.Entries.{dictionary, FindsFree}
 use Rattle.clone_space.specs.Records.{records_of_create, entry_record}
 use Rattle.clone_buffer.specs.Buffered.{Buffered, image_of}
-use Rattle.clone_buffer.specs.Writing.{Creates, HasMade, written}
+use Rattle.clone_buffer.specs.Writing.{Creates, HasMade, NoFilesOfMade, written}
 use Rattle.clone_trx.specs.Calls.{free_place, system_page}
 use Rattle.clone_trx.specs.Ways.{HasRoom, page_in}
 use Rattle.clone_trx.proofs.Common.{Record, page_of, after_records, Donor, created, donor_of, IsKept, IsSafe}
 use Rattle.clone_trx.proofs.SafeLemmas.{created_safe}
 use Rattle.clone_trx.proofs.KeptLemmas.{create_keeps}
 use Rattle.clone_trx.proofs.CreateLemmas.{may_create, no_space, creates, donor_again}
-use Rattle.clone_trx.proofs.DictionaryLemmas.{place_is, place_low, has_free}
+use Rattle.clone_trx.proofs.DictionaryLemmas.{entry_is, entry_low, has_free}
 use Rattle.clone_trx.proofs.SystemPageLemmas.{system_there, page_shown}
 use Rattle.clone_trx.proofs.NewSpaceLemmas.{disk_made, disk_failed, has_made}
 use Rattle.clone_trx.proofs.WriteLemmas.{written_kept}
@@ -63,11 +63,11 @@ invariant_of-self-in_default g c =
 records : (g : _) (c : goal.After-array_drop-records-2 g) → c.create_records-records.result ≡ records_of_create (free_place (page_in c.args.at c.args.buffer.now)) c.args.table c.args.buckets
 records g c =
     c.create_records-records.ensures
-    ∙ ap (λ (n : ℕ). records_of_create n c.args.table c.args.buckets) (c.unwrap_or-place.ensures ∙ place_is c.frame.result.now c.least_free.result c.least_free.ensures)
+    ∙ ap (λ (n : ℕ). records_of_create n c.args.table c.args.buckets) (c.unwrap_or-place.ensures ∙ entry_is 0 c.frame.result.now c.least_free.result c.least_free.ensures)
     ∙ ap (λ (page : List ℕ). records_of_create (free_place page) c.args.table c.args.buckets) c.frame.ensures.bytes
 
 pub create_records-records-requires : goal.create_records-records-requires
-create_records-records-requires g c = subst (λ (n : ℕ). n < 62) (sym c.unwrap_or-place.ensures) (place_low (dictionary c.frame.result.now) c.least_free.result c.least_free.ensures)
+create_records-records-requires g c = subst (λ (n : ℕ). n < 62) (sym c.unwrap_or-place.ensures) (entry_low 0 (dictionary c.frame.result.now) c.least_free.result c.least_free.ensures)
 
 pub write_space_held-requires-clause-creates : goal.write_space_held-requires-clause-creates
 write_space_held-requires-clause-creates g c = λ right.
@@ -101,7 +101,7 @@ returns-clause-kept g c =
     let shown : page_of (image_of old) 0 0 ≡ Some page = page_shown (image_of old) old.pool.frames (system_page 0) c.args.at (c.laws.ensures.buffer.shows right) c.requires.held (system_there (image_of old) 0 kept.formed (omega arith)) in
     let P : Donor × List Record → Type 0 = λ p. IsKept p.0 (after_records lsn (image_of old) p.1) in
     subst P (λ i. (sym made i, sym same i))
-    (create_keeps lsn place c.args.table c.args.buckets d (image_of old) kept (place_low (dictionary page) c.least_free.result finds) (has_free d (image_of old) page c.least_free.result kept shown may.1 finds) may.0 may.1 c.requires.table.0 c.requires.table.1 c.requires.buckets.0 c.requires.buckets.1))
+    (create_keeps lsn place c.args.table c.args.buckets d (image_of old) kept (entry_low 0 (dictionary page) c.least_free.result finds) (has_free d (image_of old) page c.least_free.result kept shown may.1 finds) may.0 may.1 c.requires.table.0 c.requires.table.1 c.requires.buckets.0 c.requires.buckets.1))
 
 pub returns-clause-stands : goal.returns-clause-stands
 returns-clause-stands g c = λ beside calm st.
@@ -111,5 +111,6 @@ returns-clause-stands g c = λ beside calm st.
     let may = may_create c.args.self.now c.args.table safe.tables.few c.requires.cause in
     let step : Steps before after (λ m. with_created m c.args.table c.args.buckets) = c.in_default.ensures.created in
     let stood = disk_made c.args.buffer.now c.args.table c.args.buckets c.laws.ensures.buffer (λ right. no_space c.args.self.now (image_of c.args.buffer.now) c.args.table (c.requires.kept right) c.requires.table.0 may.0) before after step beside st in
-    c.write_space_held.ensures.stands after
-    (subst (λ (rs : List Record). ForTold after (HasMade rs)) (sym (records g c)) (has_made before after c.args.table c.args.buckets (entry_record (free_place (page_in c.args.at c.args.buffer.now)) (record { table = c.args.table; buckets = c.args.buckets; pages = c.args.buckets }) ∷ []) step)) beside calm stood
+    c.write_space_held.ensures.stands beside after
+    (subst (λ (rs : List Record). ForTold after (HasMade rs)) (sym (records g c)) (has_made before after c.args.table c.args.buckets (entry_record (free_place (page_in c.args.at c.args.buffer.now)) (record { table = c.args.table; buckets = c.args.buckets; pages = c.args.buckets }) ∷ []) step))
+    (subst (λ (rs : List Record). NoFilesOfMade rs beside.copy) (sym (records g c)) calm) stood
