@@ -64,7 +64,7 @@ module _ (d : Donor) (image : Image) (is : IsKept d image) where
 
   -- the dictionary names only spaces that are there
   pub none_missing : NamesMissing image → ⊥
-  none_missing missing = none-some count.0 (sym gone ∙ (is.sound.tables.sizes (named c place) count.0 count.1).0)
+  none_missing missing = let sized = (is.sound.tables.sizes (named c place) count.0 count.1).0 in none-some sized.pages (sym gone ∙ sized.size)
     where
       place : ℕ
       place = missing.names.place

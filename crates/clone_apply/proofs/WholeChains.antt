@@ -18,7 +18,7 @@ use Rattle.clone_law.proofs.AlikeLemmas.{recovered_alike}
 use Rattle.clone_plain.specs.Donor.{Donor}
 use Rattle.clone_recover.specs.Chains.{size_in, next_in, IsWholeChain, TellsBucket, IsFirstBrokenChain}
 use Rattle.clone_recover.proofs.ChainLemmas.{whole_unbroken}
-use Rattle.clone_trx.specs.Sound.{HoldsTables, HasChain, HoldsChains, IsKept}
+use Rattle.clone_trx.specs.Sound.{HasSize, HoldsTables, HasChain, HoldsChains, IsKept}
 use Rattle.clone_trx.proofs.ChainLemmas.{same_chains}
 use Rattle.clone_trx.proofs.RecoveredRowLemmas.{can_take_back, recovered_spaces}
 use Rattle.clone_trx.proofs.SoundChangeLemmas.{same_tables}
@@ -85,8 +85,11 @@ module _ (d : Donor) (copy image : Image) (tables : HoldsTables d (contents_of i
       count : (n : ℕ) × (finite.get d.tables table ≡ Some n)
       count = some_value (finite.get d.tables table) (subst (λ (t : ℕ). IsSome (finite.get d.tables t)) named (tables.tables tells.place (λ free. tells.used (sym named ∙ free))))
 
-      told : entry ≡ record { table = table; buckets = count.0; pages = count.0 }
-      told = tables.told table count.0 count.0 tells.place count.1 (tables.sizes table count.0 count.1).0 named
+      sized : HasSize c table count.0
+      sized = (tables.sizes table count.0 count.1).0
+
+      told : entry ≡ record { table = table; buckets = count.0; pages = sized.pages }
+      told = tables.told table count.0 sized.pages tells.place count.1 sized.size named
 
       counted : bucket < count.0
       counted = subst (λ (e : TableEntry). bucket < e.buckets) (ap (λ (list : List TableEntry). entry_in list tells.place) same ∙ told) tells.counted

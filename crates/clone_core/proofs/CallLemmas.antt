@@ -1,5 +1,5 @@
 -- A call of the donor by its step, and what an act that no requester makes leaves of a clone.
-use Rattle.std.proofs.Common.{◌≡◌, ◌≤◌, ℕ, ◌+◌, ◌&&◌, List, [], Bool, true, false, refl, sym, ap, ◌∙◌, subst, arith, length-append, length, Option, Some, None, is_some, option_map, MatchOption, IsTrue, Result, Ok, Err, inl, inr, nat_cmp}
+use Rattle.std.proofs.Common.{◌≡◌, ◌≤◌, ℕ, ◌+◌, ◌&&◌, List, [], Bool, true, false, refl, sym, ap, ◌∙◌, subst, arith, length-append, length, Option, Some, None, is_some, option_map, MatchOption, IsTrue, Result, Ok, Err, inl, inr, nat_cmp, if◌then◌else◌}
 use Rattle.std.specs.FinMap as finite
 use Rattle.std.specs.Option.{ForSome}
 use Rattle.clone_outside.specs.Disk.{DiskImage, ForTold}
@@ -16,10 +16,10 @@ use Rattle.clone_events.proofs.StopLemmas.{before_stop-longer}
 use Rattle.clone_apply.specs.Holds.{HoldsCopy}
 use Rattle.clone_session.specs.Cloning.{Cloning}
 use Rattle.clone_session.specs.CloneCalls.{Archives}
-use Rattle.clone_session.specs.Effects.{Becomes}
+use Rattle.clone_session.specs.Effects.{Becomes, with_noted}
 use Rattle.clone_session.specs.declared.info.Stop as session
 use Rattle.clone_engine.specs.Engine.{Engine, IsEngine}
-use Rattle.clone_engine.specs.Steps.{answer_of}
+use Rattle.clone_engine.specs.Steps.{answer_of, has_begun}
 use Rattle.clone_donor.specs.Acts as act
 use Rattle.clone_donor.specs.Acts.{Act, Acts, Does}
 use Rattle.clone_donor.specs.Donor as staged
@@ -78,7 +78,11 @@ spares_engine : (d t : staged.Donor) → t.cloning.stop ≡ d.cloning.stop → t
 spares_engine d t stop engine = spares_donor d t stop (ap (λ (e : Engine). is_some e.disk.told) engine) (ap (λ (e : Engine). e.donor) engine)
 
 noted_stop : (call : Call) (answer : Result Done EngineRefusal) (old new : Cloning) → Becomes new (noted_by call answer old) → new.stop ≡ old.stop
-noted_stop (flush_begin space page) (Ok did) old new is = ap (λ (c : Cloning). c.stop) is
+noted_stop (flush_begin space page) answer old new is = by (has_begun answer) is
+  where
+    by : (begun : Bool) → Becomes new (if begun then with_noted (space, page) old else old) → new.stop ≡ old.stop
+    by true is = ap (λ (c : Cloning). c.stop) is
+    by false is = ap (λ (c : Cloning). c.stop) is
 noted_stop call answer old new is = ap (λ (c : Cloning). c.stop) is
 
 answered_stop : (call : Call) (d t : staged.Donor) (answer : Result Done EngineRefusal) → AnswersCall call d t answer → t.cloning.stop ≡ d.cloning.stop

@@ -46,15 +46,15 @@ clean_begins s few = record { pages = []; count = refl; happened = refl; few = o
 -- one fewer page waits once a page was flushed
 pub fewer_wait : (u v w x t : State) (space page : ℕ) → Did u (did_oldest_dirty (Some (space, page))) v → Did v (did_flush_begin space page) w → Did w (did_flush_half space page) x → Did x (did_flush_land space page) t → waiting (frames_of t) + 1 ≡ waiting (frames_of u)
 fewer_wait u v w x t space page looks begins halves lands =
-    let began = begins.step.0.steps.does.1.0 in
+    let began = begins.step.0.steps.does.1 in
     let halved = halves.step.0.steps.does.1 in
     let landed = lands.step.0.steps.does.1 in
     one_fewer (frames_of u) (frames_of v) (frames_of w) (frames_of x) (frames_of t) began.0 landed.1 (record { space = space; number = page })
     (ap (λ (e : Engine). e.buffer.pool.frames) looks.step.0.steps.1)
-    (ap (λ (s : flushes.State). s.buffer.pool.frames) began.3)
+    (ap (λ (s : flushes.State). s.buffer.pool.frames) began.2)
     (ap (λ (s : flushes.State). s.buffer.pool.frames) halved.3)
     (ap (λ (s : flushes.State). s.buffer.pool.frames) landed.3)
-    began.1.holder.within began.1.holder.holder (waits_for (frame_at (frames_of v) began.0) began.1.dirty began.2) landed.2.holder.within landed.2.holder.holder
+    began.1.dirty.holder.within began.1.dirty.holder.holder (waits_for (frame_at (frames_of v) began.0) began.1.dirty.dirty began.1.quiet) landed.2.holder.within landed.2.holder.holder
 
 pub clean_goes : (s u v w x t : State) (landed space page : ℕ) → Cleaning s landed u → Did u (did_oldest_dirty (Some (space, page))) v → Did v (did_flush_begin space page) w → Did w (did_flush_half space page) x → Did x (did_flush_land space page) t → Cleaning s (landed + 1) t
 clean_goes s u v w x t landed space page is looks begins halves lands =

@@ -1,5 +1,6 @@
--- A step of a donor and the disk of a recipient is one of the plain donor, and its disks stay theirs.
-use Rattle.std.proofs.Common.{◌≡◌, ◌-◌, ◌⊎◌, inl, inr, ℕ, List, true, refl, sym, ap, ◌∙◌, subst, arith, Option, None, Some, is_some, Result, Ok, Err}
+-- A step of a donor and the disk of a recipient is one of the plain donor, and its disks stay
+-- theirs.
+use Rattle.std.proofs.Common.{◌≡◌, ◌-◌, ◌⊎◌, inl, inr, ℕ, List, Bool, true, false, nat_le, if◌then◌else◌, refl, sym, ap, ◌∙◌, subst, arith, Option, None, Some, is_some, Result, Ok, Err}
 use Rattle.clone_model.specs.declared.change.Change.{Change}
 use Rattle.clone_model.specs.declared.line.TheConstants.{MOST_PAGES}
 use Rattle.clone_buffer.specs.Buffered.{Buffered}
@@ -12,9 +13,11 @@ use Rattle.clone_plain.specs.Effects.{put_of, delete_of}
 use Rattle.clone_plain.specs.Calls.{Call, create, begin, put, delete, get, undo_one, commit, flush_begin, flush_half, flush_land, oldest_dirty, checkpoint, end, Done, did_create, did_begin, did_put, did_delete, did_get, did_undo_one, did_commit, did_flush_begin, did_flush_half, did_flush_land, did_oldest_dirty, did_checkpoint, did_end, Made, done, refused, call_of, cause_of, is_below, IsRefused, PlainStep}
 use Rattle.clone_events.specs.Events.{to_donor, to_recipient, Event, made, cleaned, looked, archived, started, started_before, readied, not_started, completed, completed_before, broke, broke_before, lost, lost_before, showed, incomplete, hidden, damaged, ordered, PlainEvent}
 use Rattle.clone_trx.proofs.WalkLemmas.{walk_missed}
-use Rattle.clone_trx.specs.Ways.{Way, reads, walks, stops, writes, makes, ends, Goes, Writes, Misses, Answers, held, page_in}
+use Rattle.clone_trx.specs.Ways.{Way, reads, walks, stops, writes, freshens, lengthens, makes, ends, Goes, Writes, Misses, Answers, held, page_in}
 use Rattle.clone_trx.specs.Ways as ways
-use Rattle.clone_trx.specs.Calls.{undo_last, change_at}
+use Rattle.clone_trx.specs.Calls.{undo_last, change_at, entry_place, grown_way, pages_told, slot_way}
+use Rattle.clone_buffer.specs.Writing.{written}
+use Rattle.clone_space.specs.Records.{records_of_growth}
 use Rattle.clone_flush.specs.declared.refusal.FlushRefusal.{FlushRefusal}
 use Rattle.clone_flush.specs.declared.refusal.FlushRefusal.TheVariants as flush
 use Rattle.clone_pool.specs.declared.pool.FetchRefusal.{FetchRefusal}
@@ -33,6 +36,8 @@ StopsBelow (reads page rest) = (bytes : List ℕ) → StopsBelow (rest bytes)
 StopsBelow (walks course rest) = (page : ℕ) (slot : Option ℕ) (bytes : List ℕ) → StopsBelow (rest page slot bytes)
 StopsBelow (stops cause) = is_below cause ≡ true
 StopsBelow (writes records) = Unit {0}
+StopsBelow (freshens page rest) = StopsBelow rest
+StopsBelow (lengthens records rest) = StopsBelow rest
 StopsBelow (makes records) = Unit {0}
 StopsBelow ends = Unit {0}
 
@@ -59,12 +64,24 @@ goes_below X (walks course rest) old new cause stops_below (inl miss) =
 goes_below X (walks course rest) old new cause stops_below (inr on) = goes_below X (rest on.0.page on.0.slot (page_in on.0.at on.1)) on.1 on.2 cause (stops_below on.0.page on.0.slot (page_in on.0.at on.1)) on.4
 goes_below X (stops c) old new cause stops_below is = below_of cause c (same_because is.0) stops_below
 goes_below X (writes records) old new cause stops_below is = below_of cause _ is.0.is refl
+goes_below X (freshens page rest) old new cause stops_below (inl none) = below_of cause none.0 (same_because none.1) (below_of none.0 _ none.2.is refl)
+goes_below X (freshens page rest) old new cause stops_below (inr on) = goes_below X rest on.1 on.2 cause stops_below on.4
+goes_below X (lengthens records rest) old new cause stops_below (inl full) = below_of cause full.0 (same_because full.1) (below_of full.0 _ full.2.is refl)
+goes_below X (lengthens records rest) old new cause stops_below (inr on) = goes_below X rest (written records old) new cause stops_below on.1
 goes_below X (makes records) old new cause stops_below (inl is) = below_of cause _ is.0.is refl
 goes_below X (makes records) old new cause stops_below (inr is) = below_of cause causes.DiskFault (same_because is.1) refl
 goes_below X ends old new cause stops_below is = absurd (let e = is.0 in cc)
 
+-- a space that gets a page more
+grown_below : (d : Donor) (trx : ℕ) (change : Change) (last place pages : ℕ) → StopsBelow (grown_way d trx change last place pages)
+grown_below d trx change last place pages = by (nat_le MOST_PAGES pages)
+  where
+    by : (b : Bool) → StopsBelow (if b then stops causes.SpaceFull else lengthens (records_of_growth place change.table pages last) (slot_way d trx change pages 0 false None))
+    by true = refl
+    by false = λ header page. tt
+
 change_below : (d : Donor) (trx : ℕ) (change : Change) (number : ℕ) (place : Option ℕ) (row : List ℕ) → StopsBelow (change_at d trx change number place row)
-change_below d trx change number None row = refl
+change_below d trx change number None row = λ page. let place = entry_place change.table page in grown_below d trx change number place (pages_told page place)
 change_below d trx change number (Some place) row = λ header page. tt
 
 undo_below : (d : Donor) (trx : ℕ) (change : Option Change) → StopsBelow (undo_last d trx change)

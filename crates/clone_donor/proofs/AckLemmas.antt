@@ -1,5 +1,6 @@
--- A stage is acknowledged: what is left of a clone, and of what was taken, before the log is settled.
-use Rattle.std.proofs.Common.{◌≡◌, ◌==◌, ◌∙◌, inl, ℕ, Bool, true, false, List, [], length, refl, sym, ap, subst, arith, Option, Some, None, option_map, if◌then◌else◌}
+-- A stage is acknowledged: what is left of a clone, and of what was taken, before the log is
+-- settled.
+use Rattle.std.proofs.Common.{◌≡◌, ◌==◌, ◌∙◌, ℕ, Bool, true, false, List, [], length, refl, sym, ap, subst, arith, Option, Some, None, option_map, if◌then◌else◌}
 use Rattle.std.proofs.lemmas.List.{append-nil}
 use Rattle.std.specs.Option.{option_map_or}
 use Rattle.clone_outside.specs.Disk.{DiskImage, ForTold}
@@ -38,6 +39,7 @@ use Rattle.clone_donor.proofs.BecomesLemmas.{Like, like}
 use Rattle.clone_donor.proofs.LeaveLemmas.{no_notes}
 use Rattle.clone_donor.proofs.LikeLemmas.{like_left}
 use Rattle.clone_donor.proofs.NotedLemmas.{listed_pages}
+use Rattle.clone_engine.proofs.WayLemmas.{log_same}
 use Rattle.clone_donor.proofs.ServeLemmas.{taken_grows}
 use Rattle.clone_donor.proofs.SettleLemmas.{Left, settled_engine, settled_taken}
 use Rattle.clone_donor.proofs.TakenLemmas.{in_stays}
@@ -72,7 +74,7 @@ module _ (d : Donor) (c : Cloning) (s : Session) (is : IsDonor d) (engine : IsEn
   same_ends : Like c d.cloning → Ends d c (λ taken. taken)
   same_ends same = record {
     left = like_left d c same is;
-    taken = λ taken m told flown by. (flown, taken_grows d.cloning c taken same (log d c) (log d c) (inl refl) by);
+    taken = λ taken m told flown by. (flown, taken_grows d.cloning c taken same (log d c) (log d c) (log_same 2 (log d c) (log d c) refl) by);
   }
 
   -- THE COPY OF FILES ENDS
@@ -91,8 +93,8 @@ module _ (d : Donor) (c : Cloning) (s : Session) (is : IsDonor d) (engine : IsEn
         can = can_begun c base d.engine.buffer.ring same.archive in_ring.0 in_ring.1;
         redo = for_one (IsOfLog (log d c)) c.archive (begun base) same.archive (of_begun (log d c) base (omega (arith, floor_above d.engine.buffer buffer, in_ring.0)) (omega (arith, in_ring.1, buffer.end)));
         own = for_one (CopiesOwn d.engine) (list_of c) (lists.Pages (listed d.cloning.tracking.pages)) same.list
-            (for_told (λ m. NotesPages d.engine.donor d.cloning.tracking.pages) (λ m. ArePages d.engine.donor (listed d.cloning.tracking.pages)) d.engine.disk.told (λ m notes. listed_pages d.engine.donor d.cloning.tracking.pages notes) is.notes);
-        notes = no_notes d.engine.disk.told d.engine.donor c.tracking.pages same.pages;
+            (for_told (λ m. NotesPages d.engine d.cloning.tracking.pages) (λ m. ArePages d.engine (listed d.cloning.tracking.pages)) d.engine.disk.told (λ m notes. listed_pages d.engine d.cloning.tracking.pages notes) is.notes);
+        notes = no_notes d.engine.disk.told d.engine c.tracking.pages same.pages;
       }
 
       goes : (taken : Taken) (m : DiskImage) → d.engine.disk.told ≡ Some m → Flown d c taken m → By d c d.cloning taken → Flown d c (taken_over d.engine (Files spaces) taken) m × By d c c (taken_over d.engine (Files spaces) taken)
@@ -122,7 +124,7 @@ module _ (d : Donor) (c : Cloning) (s : Session) (is : IsDonor d) (engine : IsEn
           can = can_stopped d.cloning c a d.engine.buffer.ring had.stands had.unended stops.archive is.archives;
           redo = for_one (IsOfLog (log d c)) c.archive (stopped end a) stops.archive (of_stopped (log d c) a end (is.redo a had.stands));
           own = for_one (CopiesOwn d.engine) (list_of c) (Redo a.start end) stops.list tt;
-          notes = no_notes d.engine.disk.told d.engine.donor c.tracking.pages (stops.pages ∙ had.untracked);
+          notes = no_notes d.engine.disk.told d.engine c.tracking.pages (stops.pages ∙ had.untracked);
         }
 
         goes : (taken : Taken) (m : DiskImage) → d.engine.disk.told ≡ Some m → Flown d c taken m → By d c d.cloning taken → Flown d c (taken_over d.engine (lists.Pages pages) taken) m × By d c c (taken_over d.engine (lists.Pages pages) taken)
@@ -152,7 +154,7 @@ module _ (d : Donor) (c : Cloning) (s : Session) (is : IsDonor d) (engine : IsEn
       can = can_same d.cloning c d.engine.buffer.ring same.archive is.archives;
       redo = λ a some. is.redo a (sym same.archive ∙ some);
       own = for_one (CopiesOwn d.engine) (list_of c) Nothing same.list tt;
-      notes = subst (λ (o : Option Pages). ForTold d.engine.disk.told (λ m. NotesPages d.engine.donor o)) (sym same.pages) is.notes;
+      notes = subst (λ (o : Option Pages). ForTold d.engine.disk.told (λ m. NotesPages d.engine o)) (sym same.pages) is.notes;
     };
     taken = λ taken m told flown by. (
       flown,

@@ -94,7 +94,7 @@ module _ (d : Donor) (c : Cloning) (limit : ℕ) (is : IsDonor d) (buffer : IsBu
         can = can_archived d.cloning a limit d.engine.buffer.ring stands is.archives c same.archive (omega (arith, (is.redo a stands).within, buffer.end));
         redo = for_one (IsOfLog d.engine.buffer.log) c.archive (archived_on limit d.engine.buffer.ring a) same.archive (of_archived d.engine.buffer d.cloning a limit buffer stands is.archives (is.redo a stands));
         own = λ l some. is.own l (sym same.list ∙ some);
-        notes = subst (λ (o : Option Pages). ForTold d.engine.disk.told (λ m. NotesPages d.engine.donor o)) (sym same.pages) is.notes;
+        notes = subst (λ (o : Option Pages). ForTold d.engine.disk.told (λ m. NotesPages d.engine o)) (sym same.pages) is.notes;
       };
       taken = λ taken told. for_any taken told (taken_archived d.cloning c d.engine.buffer.log taken a (archived_on limit d.engine.buffer.ring a) stands same refl refl);
     }

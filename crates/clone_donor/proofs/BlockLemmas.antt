@@ -5,10 +5,10 @@ use Rattle.clone_outside.specs.Disk.{DiskImage}
 use Rattle.clone_buffer.specs.OnePage.{Copies, no_copies, world_of}
 use Rattle.clone_flush.specs.Flights.{IsFlown, beside_of}
 use Rattle.clone_law.specs.Machine.{Allowed, Event, FileRead, PageRead}
-use Rattle.clone_trx.specs.Spaces.{IsPageOf}
-use Rattle.clone_engine.specs.Engine.{Engine}
+use Rattle.clone_engine.specs.Engine.{Engine, IsInFile}
 use Rattle.clone_engine.specs.Reading.{ReadsFile, ReadsPage, MayHappen}
 use Rattle.clone_donor.specs.declared.block.BlockPage.{BlockPage}
+use Rattle.clone_donor.specs.Donor.{IsPageOf}
 use Rattle.clone_donor.specs.Copies as copies
 use Rattle.clone_donor.specs.Copies.{AreInFiles, AreInPages, with_pages}
 use Rattle.clone_track.specs.Tracking.{Pages}
@@ -30,13 +30,16 @@ module _ (e : Engine) (m : DiskImage) (told : e.disk.told ≡ Some m) where
     all_allowed event Reads to [] owns reads = tt
     all_allowed event Reads to (p ∷ ps) owns reads = (allowed event p (to p owns.0 reads.0), all_allowed event Reads to ps owns.1 reads.1)
 
--- each page of a block is the donor's
-abbrev pub AreOwn : Engine → List BlockPage → Type 0
-AreOwn e pages = AllByRecursion (λ p. IsPageOf e.donor p.space p.number) pages
+-- each page of a block lies within its file, or is one of the image
+abbrev pub AreInFile : Engine → List BlockPage → Type 0
+AreInFile e pages = AllByRecursion (λ p. IsInFile e p.space p.number) pages
 
-module _ (e : Engine) (m : DiskImage) (told : e.disk.told ≡ Some m) (pages : List BlockPage) (own : AreOwn e pages) (cs : Copies) (flown : IsFlown e.buffer e.flights cs m) where
-  pub files_answered : (noted : Option Pages) → AllByRecursion (λ p. ReadsFile e p.space p.number p.bytes) pages → AreInFiles noted cs → IsFlown e.buffer e.flights (with_pages (read_of pages) cs) m × AreInFiles noted (with_pages (read_of pages) cs)
-  files_answered noted reads are = files_read e.buffer e.flights m noted (read_of pages) cs (all_allowed e m told (λ p. IsPageOf e.donor p.space p.number) (λ bytes. FileRead bytes) (λ p. ReadsFile e p.space p.number p.bytes) (λ p own read. read.allowed own) pages own reads) flown are
+abbrev pub AreOfImage : Engine → List BlockPage → Type 0
+AreOfImage e pages = AllByRecursion (λ p. IsPageOf e p.space p.number) pages
 
-  pub pages_answered : (start : ℕ) → AllByRecursion (λ p. ReadsPage e p.space p.number p.bytes) pages → AreInPages start cs → IsFlown e.buffer e.flights (with_pages (read_of pages) cs) m × AreInPages start (with_pages (read_of pages) cs)
-  pages_answered start reads are = pages_read e.buffer e.flights m start (read_of pages) cs (all_allowed e m told (λ p. IsPageOf e.donor p.space p.number) (λ bytes. PageRead bytes) (λ p. ReadsPage e p.space p.number p.bytes) (λ p own read. read.allowed own) pages own reads) flown are
+module _ (e : Engine) (m : DiskImage) (told : e.disk.told ≡ Some m) (pages : List BlockPage) (cs : Copies) (flown : IsFlown e.buffer e.flights cs m) where
+  pub files_answered : AreInFile e pages → (noted : Option Pages) → AllByRecursion (λ p. ReadsFile e p.space p.number p.bytes) pages → AreInFiles noted cs → IsFlown e.buffer e.flights (with_pages (read_of pages) cs) m × AreInFiles noted (with_pages (read_of pages) cs)
+  files_answered own noted reads are = files_read e.buffer e.flights m noted (read_of pages) cs (all_allowed e m told (λ p. IsInFile e p.space p.number) (λ bytes. FileRead bytes) (λ p. ReadsFile e p.space p.number p.bytes) (λ p own read. read.allowed own) pages own reads) flown are
+
+  pub pages_answered : AreOfImage e pages → (start : ℕ) → AllByRecursion (λ p. ReadsPage e p.space p.number p.bytes) pages → AreInPages start cs → IsFlown e.buffer e.flights (with_pages (read_of pages) cs) m × AreInPages start (with_pages (read_of pages) cs)
+  pages_answered own start reads are = pages_read e.buffer e.flights m start (read_of pages) cs (all_allowed e m told (λ p. IsPageOf e p.space p.number) (λ bytes. PageRead bytes) (λ p. ReadsPage e p.space p.number p.bytes) (λ p own read. read.allowed own) pages own reads) flown are

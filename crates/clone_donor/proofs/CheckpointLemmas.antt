@@ -6,16 +6,15 @@ use Rattle.clone_mtr.specs.declared.record.Record.{Record}
 use Rattle.clone_archive.specs.Archived.{kept_from}
 use Rattle.clone_buffer.specs.Buffered.{Buffered}
 use Rattle.clone_flush.specs.Calls.{State, needed_from, settled}
-use Rattle.clone_plain.specs.Donor as plain
 use Rattle.clone_session.specs.CloneCalls.{CanArchive}
 use Rattle.clone_engine.specs.Disks.{DiskState}
 use Rattle.clone_engine.specs.Engine.{Engine, StandsBeside}
 use Rattle.clone_engine.specs.Steps.{Checks}
 use Rattle.clone_donor.specs.Archives.{IsOfLog}
-use Rattle.clone_donor.specs.Donor.{Donor, IsDonor, NotesPages, list_of}
+use Rattle.clone_donor.specs.Donor.{Donor, IsDonor, list_of}
 use Rattle.clone_donor.specs.Taken.{IsTaken, IsTakenBy, Taken}
 use Rattle.clone_donor.proofs.ArchiveRings.{can_settled}
-use Rattle.clone_donor.proofs.OwnLemmas.{notes_stay, own_stays}
+use Rattle.clone_donor.proofs.OwnLemmas.{KeepsPages, noted_stay, own_stays, same_files, same_image}
 use Rattle.clone_donor.proofs.PlacedLemmas.{WerePlaced}
 use Rattle.clone_donor.proofs.SettleLemmas.{floored_size}
 use Rattle.clone_donor.proofs.ToldLemmas.{told_stays}
@@ -30,8 +29,8 @@ module _ (d : Donor) (e : Engine) (lsn : ℕ) (checks : Checks (kept_from d.clon
   tells : is_some e.disk.told ≡ is_some d.engine.disk.told
   tells = ap (λ (k : DiskState). is_some k.told) checks.disk
 
-  tables : e.donor.tables ≡ d.engine.donor.tables
-  tables = ap (λ (x : plain.Donor). x.tables) checks.donor
+  keeps : KeepsPages d.engine e
+  keeps = record { files = same_files d.engine.flights.files e.flights.files (ap (λ (s : State). s.flights.files) checks.state); image = same_image d.engine e log_is }
 
   pub checked_donor : ForTold d.engine.disk.told (λ m. e.buffer.ring.floor ≡ needed_from lsn (kept_from d.cloning.archive)) → IsDonor d → IsDonor (record { engine = e; cloning = d.cloning })
   checked_donor floor is = record {
@@ -40,8 +39,8 @@ module _ (d : Donor) (e : Engine) (lsn : ℕ) (checks : Checks (kept_from d.clon
     redo = subst (λ (l : List (List Record)). ForSome d.cloning.archive (IsOfLog l)) (sym log_is) is.redo;
     floor = told_stays _ _ d.engine.disk.told e.disk.told tells (λ is. is ∙ ap (λ (n : ℕ). needed_from n (kept_from d.cloning.archive)) (sym (ap (λ (s : State). s.flights.checkpoint) checks.state))) floor;
     placed = told_stays (WerePlaced d.engine.buffer.log) (WerePlaced e.buffer.log) d.engine.disk.told e.disk.told tells (subst WerePlaced (sym log_is)) is.placed;
-    own = λ l stands. own_stays d.engine e tables tells l (is.own l stands);
-    notes = told_stays (NotesPages d.engine.donor d.cloning.tracking.pages) (NotesPages e.donor d.cloning.tracking.pages) d.engine.disk.told e.disk.told tells (notes_stay d.engine.donor e.donor tables d.cloning.tracking.pages) is.notes;
+    own = λ l stands. own_stays d.engine e keeps tells l (is.own l stands);
+    notes = noted_stay d.engine e keeps tells d.cloning.tracking.pages is.notes;
   }
 
   pub checked_taken : (taken : Taken) → (StandsBeside d.engine taken.copies → StandsBeside e taken.copies) → IsTaken d taken → IsTaken (record { engine = e; cloning = d.cloning }) taken

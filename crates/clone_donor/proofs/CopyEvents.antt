@@ -1,11 +1,12 @@
 -- What an answer of a block, and the end of a stage, do to what a clone has of one page.
-use Rattle.std.proofs.Common.{◌≡◌, ℕ, Bool, true, false, List, [], ◌∷◌, refl, sym, ap, subst, ◌∙◌, Option, None, Some}
+use Rattle.std.proofs.Common.{◌≡◌, ℕ, Bool, true, false, List, [], ◌∷◌, refl, sym, ap, subst, ◌∙◌, Option, None, Some, if◌then◌else◌}
 use Rattle.clone_mtr.specs.declared.record.Record.{Record}
 use Rattle.clone_image.specs.Redone.{Standing, no_space, past_end, stands, redone}
-use Rattle.clone_law.specs.Machine.{Engine, Copy, Untracked, Tracked, Copied, Stopped, World, FileRead, FilesEnded, PageRead, PagesEnded, Allowed, noted, files_ended, pages_ended}
+use Rattle.clone_law.specs.Machine.{Engine, Copy, Idle, Untracked, Tracked, Copied, Stopped, World, FileRead, FilesEnded, PageRead, PagesEnded, Allowed, noted, files_ended, pages_ended}
 use Rattle.clone_law.specs.Rule.{Held, Framed, Bare, EngineRule, CopyRule}
 use Rattle.clone_law.proofs.TouchLemmas.{Lax-refl}
 use Rattle.clone_law.proofs.EventLemmas.{copy_kept}
+use Rattle.clone_flush.specs.Flights.{ends_before}
 use Rattle.clone_donor.specs.Copies.{IsInFiles, answered, first_starts, first_copy}
 
 -- a clone whose copy of files is over has this of a page, where its archive starts there
@@ -61,20 +62,21 @@ module _ (space number : ℕ) (e : Engine) (r : EngineRule space number e) where
       subst (λ (o : Option ℕ). Held space number o v e.log) (sym none) (subst (λ (u : Standing). Held space number None u e.log) is (Lax-refl _))
 
   -- a session begins
-  pub first_rule : (tracked : Bool) → (tracked ≡ false → (e.writing ≡ false) × (e.flight ≡ None)) → Kept (first_copy tracked (redone space number e.log))
-  first_rule true closed = tt
-  first_rule false closed = by (redone space number e.log) refl
+  pub first_rule : (tracked : Bool) (file : Option ℕ) → (tracked ≡ false → (e.writing ≡ false) × (e.flight ≡ None)) → (file ≡ None → redone space number e.log ≡ no_space) → Kept (if ends_before file number then Untracked (past_end ∷ []) else Idle)
+      → Kept (first_copy tracked (first_starts file number))
+  first_rule true file closed none short = tt
+  first_rule false None closed none short = let c = closed refl in (c.0, c.1, (held_absent no_space (none refl) (λ bytes is. cc), tt))
+  first_rule false (Some pages) closed none short = by (ends_before (Some pages) number) short
     where
-      by : (v : Standing) → redone space number e.log ≡ v → Kept (first_copy false v)
-      by no_space is = let c = closed refl in (c.0, c.1, (held_absent no_space is (λ bytes is. cc), tt))
-      by past_end is = let c = closed refl in (c.0, c.1, (held_absent past_end is (λ bytes is. cc), tt))
-      by (stands page) is = let c = closed refl in (c.0, c.1, tt)
+      by : (past : Bool) → Kept (if past then Untracked (past_end ∷ []) else Idle) → Kept (Untracked (if past then past_end ∷ [] else []))
+      by true short = short
+      by false short = let c = closed refl in (c.0, c.1, tt)
 
 -- the stop
 pub pages_ended_stopped : (base : ℕ) (starts : List Standing) (log : List (List Record)) (copy : Copy) → copy ≡ Copied base starts → pages_ended log copy ≡ Stopped base log starts
 pages_ended_stopped base starts log copy is = ap (λ (c : Copy). pages_ended log c) is
 
 -- a session begins
-pub first_in_files : (tracked : Bool) (v : Standing) → IsInFiles tracked (first_copy tracked v)
-first_in_files true v = refl
-first_in_files false v = (first_starts v, refl)
+pub first_in_files : (tracked : Bool) (starts : List Standing) → IsInFiles tracked (first_copy tracked starts)
+first_in_files true starts = refl
+first_in_files false starts = (starts, refl)

@@ -3,13 +3,13 @@ use Rattle.std.proofs.Common.{◌≡◌, ℕ, refl, sym, ap, subst, Option, Some
 use Rattle.clone_outside.specs.Disk.{ForTold}
 use Rattle.clone_law.specs.Machine.{NoFiles}
 use Rattle.clone_buffer.specs.Buffered.{IsBuffer}
-use Rattle.clone_buffer.specs.OnePage.{Copies, NoFileCopy}
+use Rattle.clone_buffer.specs.OnePage.{Copies, NoFilesOf}
 use Rattle.clone_flush.specs.Flights.{IsFlown}
 use Rattle.clone_plain.specs.Calls.{Done, create}
 use Rattle.clone_plain.specs.declared.refusal.EngineRefusal.{EngineRefusal}
 use Rattle.clone_session.specs.Cloning.{Cloning, Session, IsCloning, IsIdle, IsInSession}
 use Rattle.clone_engine.specs.Engine.{Engine, IsEngine, StandsBeside}
-use Rattle.clone_engine.specs.Growth.{GrowsByOne, KeepsRing}
+use Rattle.clone_engine.specs.Growth.{KeepsRing}
 use Rattle.clone_engine.specs.Steps.{Transacts}
 use Rattle.clone_donor.specs.Copies.{AreIdle}
 use Rattle.clone_donor.specs.Donor.{Donor, IsDonor, list_of}
@@ -17,6 +17,7 @@ use Rattle.clone_donor.specs.Taken.{IsTaken, IsTakenBy, Taken}
 use Rattle.clone_donor.proofs.BecomesLemmas.{like_same}
 use Rattle.clone_donor.proofs.DonorLemmas.{donor_goes}
 use Rattle.clone_donor.proofs.LeaveLemmas.{no_notes, none_is}
+use Rattle.clone_donor.proofs.GrowthLemmas.{LogGoes}
 use Rattle.clone_donor.proofs.ServeLemmas.{is_taken}
 use Rattle.clone_donor.proofs.StepLemmas.{transacts_on}
 use Rattle.clone_donor.proofs.ToldLemmas.{told_if}
@@ -29,20 +30,20 @@ no_session (Some s) is = absurd (cc)
 pub idle_of : (c : Cloning) → IsCloning c → c.session ≡ None → IsIdle c
 idle_of c k none = subst (IsInSession c) none k.session
 
-module _ (table buckets : ℕ) (d : Donor) (e : Engine) (answer : Result Done EngineRefusal) (steps : Transacts (create table buckets) d.engine e answer) (log : GrowsByOne d.engine.buffer.log e.buffer.log) (none : d.cloning.session ≡ None) where
+module _ (table buckets : ℕ) (d : Donor) (e : Engine) (answer : Result Done EngineRefusal) (steps : Transacts (create table buckets) d.engine e answer) (log : LogGoes d.engine e) (none : d.cloning.session ≡ None) where
   pub created_donor : KeepsRing d.engine.buffer.ring e.buffer.ring → IsEngine e → IsBuffer e.buffer → IsCloning d.cloning → IsDonor d → IsDonor (record { engine = e; cloning = d.cloning })
   created_donor ring engine buffer k is =
       donor_goes d e d.cloning is (record { engine = engine; buffer = buffer; on = transacts_on (create table buckets) d.engine e answer steps; log = log; ring = ring })
       (record { ring = refl; archive = refl; list = refl })
       (λ l stands. absurd (none_is (list_of d.cloning) l (ap (option_map (λ (s : Session). s.snap.list)) none) stands))
-      (no_notes e.disk.told e.donor d.cloning.tracking.pages (idle_of d.cloning k none).untracked)
+      (no_notes e.disk.told e d.cloning.tracking.pages (idle_of d.cloning k none).untracked)
 
-  no_files : (copies : Copies) → AreIdle copies → NoFileCopy copies
-  no_files copies idle space number = subst NoFiles (sym (idle space number)) tt
+  no_files : (copies : Copies) → AreIdle copies → NoFilesOf table copies
+  no_files copies idle number = subst NoFiles (sym (idle table number)) tt
 
-  pub created_taken : ((copies : Copies) → NoFileCopy copies → StandsBeside d.engine copies → StandsBeside e copies) → (taken : Taken) → IsTaken d taken → IsTaken (record { engine = e; cloning = d.cloning }) taken
+  pub created_taken : ((copies : Copies) → NoFilesOf table copies → StandsBeside d.engine copies → StandsBeside e copies) → (taken : Taken) → IsTaken d taken → IsTaken (record { engine = e; cloning = d.cloning }) taken
   created_taken copies taken was =
       let tells = (transacts_on (create table buckets) d.engine e answer steps).tells in
       let idle = subst (λ o. ForTold d.engine.disk.told (λ m. IsTakenBy d.cloning d.engine.buffer.log taken o)) (ap (λ (o : Option Session). option_map (λ (s : Session). s.snap.list) o) none) was.stage in
-      is_taken d e d.cloning (like_same d.cloning) tells log taken
+      is_taken d e d.cloning (like_same d.cloning) tells log.log taken
       (told_if (AreIdle taken.copies) (IsFlown d.engine.buffer d.engine.flights taken.copies) (IsFlown e.buffer e.flights taken.copies) d.engine.disk.told e.disk.told tells idle (λ idle. copies taken.copies (no_files taken.copies idle))) was

@@ -1,10 +1,11 @@
--- A block that is read of a donor, in the stage that its session has come to; and what was taken then.
-use Rattle.std.proofs.Common.{Global, Vec, ◌≡◌, ◌<◌, ◌∷◌, ◌∙◌, inl, ℕ, Bool, true, false, List, [], refl, sym, ap, subst, arith, Option, Some, None, option_map, if◌then◌else◌}
+-- A block that is read of a donor, in the stage that its session has come to; and what was taken
+-- then.
+use Rattle.std.proofs.Common.{Global, Vec, ◌≡◌, ◌<◌, ◌∷◌, ◌∙◌, ℕ, Bool, true, false, List, [], refl, sym, ap, subst, arith, Option, Some, None, option_map, if◌then◌else◌}
 use Rattle.std.specs.Prelude.{not, ◌==◌}
 use Rattle.std.specs.List.{All, AllByRecursion, Contains, flat_map, range_with_len}
 use Rattle.std.specs.Option.{option_or, option_map_or}
 use Rattle.std.proofs.lemmas.Bool.{eqb-true}
-use Rattle.std.proofs.lemmas.List.Elements.{All-append, All-contains, All-contains_itself, All-from_recursion, All-head, All-map, All-nil, All-tail, All-weaker, recursion_from_All}
+use Rattle.std.proofs.lemmas.List.Elements.{All-append, All-contains, All-from_recursion, All-head, All-map, All-nil, All-tail, All-weaker, recursion_from_All}
 use Rattle.std.proofs.lemmas.List.FromFn.{get_or-range_with_len, length-range_with_len}
 use Rattle.clone_outside.specs.Disk.{DiskImage, ForTold}
 use Rattle.clone_flush.specs.Flights.{IsFlown}
@@ -13,8 +14,6 @@ use Rattle.clone_snapshot.specs.StageLists as lists
 use Rattle.clone_snapshot.specs.StageLists.{Files, PagePart, Redo, Nothing, StageList, all_pages, block_of, pages_of_space, stage_of}
 use Rattle.clone_snapshot.specs.declared.block.RedoBlock.{RedoBlock}
 use Rattle.clone_snapshot.proofs.EachBlock.{pages_listed}
-use Rattle.clone_trx.specs.Spaces.{IsPageOf, spaces_of}
-use Rattle.clone_plain.specs.Donor as plain
 use Rattle.clone_session.specs.declared.caller.Caller.{Caller}
 use Rattle.clone_session.specs.declared.copying.BlockWork.{BlockWork}
 use Rattle.clone_session.specs.declared.copying.BlockWork.TheVariants as work
@@ -25,18 +24,19 @@ use Rattle.clone_session.specs.CloneCalls.{Answers, IsBlockOf, OnSession, part_o
 use Rattle.clone_session.proofs.PartLemmas.{stands_as}
 use Rattle.clone_session.specs.CloneCauses.{archive_behind, block_cause, donor_stage, not_claimed, other_stage, session_of, stale, whether}
 use Rattle.clone_session.specs.Effects.{finished}
-use Rattle.clone_engine.specs.Engine.{Engine}
+use Rattle.clone_engine.specs.Engine.{Engine, IsInFile}
 use Rattle.clone_engine.specs.Reading.{OnlyVisits}
 use Rattle.clone_donor.specs.declared.block.Block.{Block}
 use Rattle.clone_donor.specs.declared.block.Block.TheVariants as block
 use Rattle.clone_donor.specs.declared.block.BlockPage.{BlockPage}
 use Rattle.clone_donor.specs.Copies.{with_pages}
 use Rattle.clone_donor.specs.Copying.{Gives, IsBlock, IsRedo, ReadsIn, ReadsPageOf, places_of, taken_from}
-use Rattle.clone_donor.specs.Donor.{ArePages, CopiesOwn, Donor, IsDonor, list_of}
+use Rattle.clone_donor.specs.Donor.{ArePages, CopiesOwn, Donor, HasPages, IsDonor, IsPageOf, list_of}
 use Rattle.clone_donor.specs.Taken.{IsTaken, IsTakenBy, IsTakenIn, Taken}
 use Rattle.clone_donor.proofs.BecomesLemmas.{Like, like_same, like_session}
-use Rattle.clone_donor.proofs.BlockLemmas.{AreOwn, files_answered, pages_answered, read_of}
+use Rattle.clone_donor.proofs.BlockLemmas.{files_answered, pages_answered, read_of}
 use Rattle.clone_donor.proofs.GivenLemmas.{donor_visited}
+use Rattle.clone_engine.proofs.WayLemmas.{log_same}
 use Rattle.clone_donor.proofs.ServeLemmas.{is_taken}
 use Rattle.clone_donor.proofs.ToldLemmas.{of_told}
 
@@ -69,35 +69,33 @@ reads_of : (l : StageList) (stage : ℕ) (e : Engine) (pages : List BlockPage) �
 reads_of l stage e [] is all = tt
 reads_of l stage e (p ∷ ps) is all = (reads_as l stage e p is all.0, reads_of l stage e ps is all.1)
 
--- THE PAGES of a block are the donor's, as those of its stage are.
+-- THE PAGES of a block lie within the engine's files, or are of its image, as those of its stage
+-- do.
 
-module _ (d : plain.Donor) where
-  abbrev IsOwn : ℕ × ℕ → Type 0
-  IsOwn page = IsPageOf d page.0 page.1
+module _ (e : Engine) where
+  abbrev pub InFile : ℕ × ℕ → Type 0
+  InFile page = IsInFile e page.0 page.1
 
-  space_own : (s : ℕ × ℕ) → Contains (spaces_of d) s → All IsOwn (pages_of_space s)
-  space_own s there = All-map IsOwn (λ number. (s.0, number)) (range_with_len 0 s.1)
-      (λ k other low. let within : k < s.1 = omega (arith, low, length-range_with_len 0 s.1) in
-      record { size = s.1; space_is = there; within = omega (arith, within, get_or-range_with_len 0 s.1 k other within) })
+  abbrev pub OfImage : ℕ × ℕ → Type 0
+  OfImage page = IsPageOf e page.0 page.1
 
-  spaces_own : (spaces : List (ℕ × ℕ)) → All (Contains (spaces_of d)) spaces → All IsOwn (flat_map pages_of_space spaces)
-  spaces_own [] all = All-nil IsOwn
-  spaces_own (s ∷ ss) all = All-append IsOwn (pages_of_space s) (flat_map pages_of_space ss) (space_own s (All-head (Contains (spaces_of d)) s ss all)) (spaces_own ss (All-tail (Contains (spaces_of d)) s ss all))
+  file_own : (file : ℕ × ℕ) → HasPages e.flights.files file → All InFile (pages_of_space file)
+  file_own file has = All-map InFile (λ number. (file.0, number)) (range_with_len 0 file.1)
+      (λ k other low. let within : k < file.1 = omega (arith, low, length-range_with_len 0 file.1) in
+      record { pages = has.pages; file = has.known; within = omega (arith, within, get_or-range_with_len 0 file.1 k other within, has.enough) })
 
-  of_places : (read : List BlockPage) → AllByRecursion IsOwn (places_of read) → AllByRecursion (λ p. IsPageOf d p.space p.number) read
+  pub files_own : (spaces : List (ℕ × ℕ)) → All (HasPages e.flights.files) spaces → All InFile (flat_map pages_of_space spaces)
+  files_own [] all = All-nil InFile
+  files_own (s ∷ ss) all = All-append InFile (pages_of_space s) (flat_map pages_of_space ss) (file_own s (All-head (HasPages e.flights.files) s ss all)) (files_own ss (All-tail (HasPages e.flights.files) s ss all))
+
+-- what holds of the pages that are listed holds of those that were read
+module _ (Own : ℕ × ℕ → Type 0) where
+  of_places : (read : List BlockPage) → AllByRecursion Own (places_of read) → AllByRecursion (λ p. Own (p.space, p.number)) read
   of_places [] all = tt
   of_places (p ∷ ps) all = (all.0, of_places ps all.1)
 
-module _ (e : Engine) (m : DiskImage) (told : e.disk.told ≡ Some m) where
-  listed_own : (l : StageList) → CopiesOwn e l → All (IsOwn e.donor) (all_pages l)
-  listed_own (Files spaces) own = subst (λ (l : List (ℕ × ℕ)). All (IsOwn e.donor) (flat_map pages_of_space l)) (sym own) (spaces_own e.donor (spaces_of e.donor) (All-contains_itself (spaces_of e.donor)))
-  listed_own (lists.Pages list) own = All-from_recursion (IsOwn e.donor) list (of_told (λ _. ArePages e.donor list) e.disk.told m told own)
-  listed_own (Redo start end) own = All-nil (IsOwn e.donor)
-  listed_own Nothing own = All-nil (IsOwn e.donor)
-
-  are_own : (l : StageList) (read : List BlockPage) → CopiesOwn e l → All (Contains (all_pages l)) (places_of read) → AreOwn e read
-  are_own l read own listed = of_places e.donor read
-      (recursion_from_All (IsOwn e.donor) (places_of read) (All-weaker (Contains (all_pages l)) (IsOwn e.donor) (λ x has. All-contains (IsOwn e.donor) (all_pages l) x (listed_own l own) has) (places_of read) listed))
+  are_own : (listed : List (ℕ × ℕ)) (read : List BlockPage) → All Own listed → All (Contains listed) (places_of read) → AllByRecursion (λ p. Own (p.space, p.number)) read
+  are_own listed read own are = of_places read (recursion_from_All Own (places_of read) (All-weaker (Contains listed) Own (λ x has. All-contains Own listed x own has) (places_of read) are))
 
 -- no page is listed, so none was read
 none_read : (read : List BlockPage) → All (Contains []) (places_of read) → read ≡ []
@@ -128,10 +126,10 @@ module _ (d : Donor) (taken : Taken) (read : List BlockPage) where
     none_taken l none are = subst (λ (r : List BlockPage). IsFlown e.buffer e.flights (with_pages (read_of r) taken.copies) m × IsTakenIn c e.buffer.log (after_pages r taken) l) (sym none) (flown, are)
 
     taken_in : (s : Session) (l : StageList) → CopiesOwn e l → IsInStage c s l → AllByRecursion (ReadsPageOf l e) read → All (Contains (all_pages l)) (places_of read) → IsTakenIn c e.buffer.log taken l → AreTaken m l
-    taken_in s (Files spaces) own stage reads listed are = files_answered e m told read (are_own e m told (Files spaces) read own listed) taken.copies flown c.tracking.pages reads are
+    taken_in s (Files spaces) own stage reads listed are = files_answered e m told read taken.copies flown (are_own (InFile e) (all_pages (Files spaces)) read (files_own e spaces own) listed) c.tracking.pages reads are
     taken_in s (lists.Pages list) own stage reads listed are =
-        let owned = are_own e m told (lists.Pages list) read own listed in
-        ((pages_answered e m told read owned taken.copies flown stage.archive.start reads (are stage.archive stage.stands)).0, λ a stands. (pages_answered e m told read owned taken.copies flown a.start reads (are a stands)).1)
+        let owned = are_own (OfImage e) list read (All-from_recursion (OfImage e) list (of_told (λ _. ArePages e list) e.disk.told m told own)) listed in
+        ((pages_answered e m told read taken.copies flown owned stage.archive.start reads (are stage.archive stage.stands)).0, λ a stands. (pages_answered e m told read taken.copies flown owned a.start reads (are a stands)).1)
     taken_in s (Redo start end) own stage reads listed are = none_taken (Redo start end) (none_read read listed) are
     taken_in s Nothing own stage reads listed are = none_taken Nothing (none_read read listed) are
 
@@ -152,7 +150,7 @@ module _ (d : Donor) (taken : Taken) (read : List BlockPage) where
 -- with a donor that was only visited, and a clone that copies the same
 taken_visited : (d : Donor) (e : Engine) (c : Cloning) → OnlyVisits d.engine e → Like c d.cloning → (taken : Taken) → IsTaken d taken → IsTaken (record { engine = e; cloning = c }) taken
 taken_visited d e c visits like taken was = subst (λ (x : Engine). IsTaken (record { engine = x; cloning = c }) taken) (sym visits.same)
-    (is_taken d (record d.engine { disk = record d.engine.disk { failures = e.disk.failures } }) c like refl (inl refl) taken (λ stands. stands) was)
+    (is_taken d (record d.engine { disk = record d.engine.disk { failures = e.disk.failures } }) c like refl (log_same 2 d.engine.buffer.log d.engine.buffer.log refl) taken (λ stands. stands) was)
 
 -- A BLOCK that may be given, and is made of this
 pub record MayGive (caller : Caller) (stage chunk number : ℕ) (d : Donor) (made : BlockWork) : Type 0 where

@@ -1,4 +1,5 @@
--- The pages of a block that a donor gives, each read of the donor as it was; and what holds of the donor after that.
+-- The pages of a block that a donor gives, each read of the donor as it was; and what holds of the
+-- donor after that.
 use Rattle.std.proofs.Common.{◌≡◌, ◌<◌, ◌+◌, ◌++◌, ◌∷◌, ◌∙◌, ℕ, List, [], length, get_or, take, refl, sym, ap, subst, arith, Option}
 use Rattle.std.specs.List.{AllByRecursion}
 use Rattle.clone_base.proofs.Lists.{All-push}
@@ -32,7 +33,7 @@ visits_more a b c first second = record {
 -- a page that was read then was read of the donor as it was
 as_read : (stage : ℕ) (e f : Engine) (p : BlockPage) → OnlyVisits e f → ReadsIn stage f p → ReadsIn stage e p
 as_read stage e f p is = subst (λ (x : Engine). ReadsIn stage x p → ReadsIn stage e p) (sym is.same)
-    (λ r. (λ one. let x = r.0 one in record { quiet = x.quiet; allowed = x.allowed }, λ other. let x = r.1 other in record { page = x.page; allowed = x.allowed }))
+    (λ r. (λ one. let x = r.0 one in record { quiet = x.quiet; allowed = λ own. x.allowed (record { pages = own.pages; file = own.file; within = own.within }) }, λ other. let x = r.1 other in record { page = x.page; allowed = x.allowed }))
 
 -- What holds of the donor goes on, with a clone that copies the same.
 pub donor_visited : (d : Donor) (e : Engine) (c : Cloning) → OnlyVisits d.engine e → Like c d.cloning → IsDonor d → IsDonor (record { engine = e; cloning = c })
@@ -43,13 +44,14 @@ donor_visited d e c visits like is = subst (λ (x : Engine). IsDonor (record { e
   floor = subst (λ (o : Option Archived). ForTold d.engine.disk.told (λ m. d.engine.buffer.ring.floor ≡ needed_from d.engine.flights.checkpoint (kept_from o))) (sym like.archive) is.floor;
   placed = is.placed;
   own = subst (λ (o : Option StageList). ForSome o (CopiesOwn d.engine)) (sym like.list) is.own;
-  notes = subst (λ (o : Option Pages). ForTold d.engine.disk.told (λ m. NotesPages d.engine.donor o)) (sym like.pages) is.notes;
+  notes = subst (λ (o : Option Pages). ForTold d.engine.disk.told (λ m. NotesPages d.engine o)) (sym like.pages) is.notes;
 })
 
 pub donor_stays : (e f : Engine) (c : Cloning) → OnlyVisits e f → IsDonor (record { engine = e; cloning = c }) → IsDonor (record { engine = f; cloning = c })
 donor_stays e f c visits is = donor_visited (record { engine = e; cloning = c }) f c visits (like_same c) is
 
--- THE PAGES of a block, of which so many were read, and nothing has changed but the disk's count of faults
+-- THE PAGES of a block, of which so many were read, and nothing has changed but the disk's count of
+-- faults
 pub record HasRead (stage : ℕ) (block : List (ℕ × ℕ)) (d e : Donor) (count : ℕ) (pages : List BlockPage) : Type 0 where
   pub places : places_of pages ≡ take count block
   pub read : AllByRecursion (ReadsIn stage d.engine) pages

@@ -5,7 +5,6 @@ use Rattle.clone_mtr.specs.declared.record.Record.{Record}
 use Rattle.clone_track.specs.Tracking.{Pages}
 use Rattle.clone_buffer.specs.OnePage.{no_copies}
 use Rattle.clone_flush.specs.Flights.{IsFlown}
-use Rattle.clone_plain.specs.Donor as plain
 use Rattle.clone_session.specs.Cloning.{Cloning}
 use Rattle.clone_session.specs.Effects.{Becomes, left}
 use Rattle.clone_engine.specs.Engine.{Engine, StandsBeside}
@@ -23,10 +22,10 @@ pub none_is : {X : Type 0} (o : Option X) (x : X) → o ≡ None → o ≡ Some 
 none_is o x none some = let both : None ≡ Some x = sym none ∙ some in cc
 
 -- no page is tracked
-pub no_notes : (told : Option DiskImage) (d : plain.Donor) (pages : Option Pages) → pages ≡ None → ForTold told (λ m. NotesPages d pages)
-no_notes told d pages none = subst (λ (o : Option Pages). ForTold told (λ m. NotesPages d o)) (sym none) (by told)
+pub no_notes : (told : Option DiskImage) (e : Engine) (pages : Option Pages) → pages ≡ None → ForTold told (λ m. NotesPages e pages)
+no_notes told e pages none = subst (λ (o : Option Pages). ForTold told (λ m. NotesPages e o)) (sym none) (by told)
   where
-    by : (o : Option DiskImage) → ForTold o (λ m. NotesPages d None)
+    by : (o : Option DiskImage) → ForTold o (λ m. NotesPages e None)
     by None = tt
     by (Some m) = λ space number noted. absurd (cc)
 
@@ -40,7 +39,7 @@ module _ (d : Donor) (c : Cloning) (becomes : Becomes c (left d.cloning)) where
     can = can_unarchived c d.engine.buffer.ring gone.archive;
     redo = λ a stands. absurd (none_is c.archive a gone.archive stands);
     own = λ l stands. absurd (none_is (list_of c) l gone.list stands);
-    notes = no_notes d.engine.disk.told d.engine.donor c.tracking.pages gone.pages;
+    notes = no_notes d.engine.disk.told d.engine c.tracking.pages gone.pages;
   }
 
   stage : (told : Option DiskImage) (log : List (List Record)) → ForTold told (λ m. IsTakenBy c log nothing (list_of c))

@@ -6,11 +6,11 @@ pub mod FlushStepLemmas
 pub mod TakenLemmas
 pub mod CopyEvents
 pub mod TakenPages
+pub mod KnownFiles
 pub mod StartsSince
 pub mod ArchivedRedo
 pub mod ArchiveRings
-pub mod FileChunks
-pub mod PageLemmas
+pub mod GrowthLemmas
 pub mod PlacedLemmas
 pub mod DonorLemmas
 pub mod ServeLemmas

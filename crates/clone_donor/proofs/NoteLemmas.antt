@@ -1,5 +1,5 @@
 -- A page whose flush begins is noted, while pages are tracked.
-use Rattle.std.proofs.Common.{◌≡◌, ◌∙◌, ◌==◌, ℕ, Bool, true, false, cond, List, length, refl, sym, ap, subst, Option, Some, None, IsSome, IsTrue, option_map}
+use Rattle.std.proofs.Common.{◌≡◌, ◌∙◌, ◌==◌, ℕ, Bool, true, false, cond, List, length, refl, sym, ap, subst, Option, Some, None, IsSome, IsTrue, is_some, option_map}
 use Rattle.std.proofs.lemmas.Bool.{and_parts, eqb-true}
 use Rattle.std.specs.Option.{ForSome}
 use Rattle.clone_mtr.specs.declared.record.Record.{Record}
@@ -10,44 +10,39 @@ use Rattle.clone_track.specs.Tracking.{Pages, noted}
 use Rattle.clone_archive.specs.Archived.{Archived}
 use Rattle.clone_snapshot.specs.StageLists.{StageList, Files, Redo, Nothing}
 use Rattle.clone_snapshot.specs.StageLists as lists
-use Rattle.clone_buffer.specs.Buffered.{IsBuffer, image_of}
+use Rattle.clone_buffer.specs.Buffered.{IsBuffer}
 use Rattle.clone_buffer.specs.Flushing.{with_noted as with_noted_page}
 use Rattle.clone_flush.specs.Calls.{HasDirty}
-use Rattle.clone_plain.specs.Donor as plain
-use Rattle.clone_trx.specs.Spaces.{IsPageOf}
 use Rattle.clone_session.specs.Cloning.{Cloning, Session, IsCloning, IsInSession, IsInStage}
 use Rattle.clone_session.specs.Effects.{Becomes, with_noted}
 use Rattle.clone_session.specs.declared.info.Stop.{Stop}
-use Rattle.clone_engine.specs.Engine.{Engine, IsEngine}
+use Rattle.clone_engine.specs.Engine.{Engine}
 use Rattle.clone_engine.proofs.PageLemmas.{dirty_held, in_image}
 use Rattle.clone_donor.specs.Copies.{AreInFiles, AreInPages, is_noted}
-use Rattle.clone_donor.specs.Donor.{NotesPages, list_of}
+use Rattle.clone_donor.specs.Donor.{IsPageOf, NotesPages, list_of}
 use Rattle.clone_donor.specs.Taken.{HasStopped, IsTakenBy, IsTakenIn, Taken}
-use Rattle.clone_donor.proofs.PageLemmas.{image_page}
 use Rattle.clone_donor.proofs.TakenPages.{begun_idle, begun_in_files, begun_in_pages, begun_stopped, noted_by}
 
 -- the clone notes a page, whatever room it has
 pub note_becomes : (c mid old : Cloning) (page : ℕ × ℕ) → Becomes c (with_noted page mid) → Becomes mid old → Becomes c (with_noted page old)
 note_becomes c mid old page is room = is ∙ ap (with_noted page) room
 
--- a dirty page is one of the donor's
-pub dirty_own : (e : Engine) (page : PageName) (at : ℕ) → IsEngine e → IsBuffer e.buffer → IsPool e.buffer.pool → IsTrue e.buffer.right → HasDirty page e.buffer at → IsPageOf e.donor page.space page.number
-dirty_own e page at is buffer pool right dirty =
-    let found = in_image e.buffer page buffer right (dirty_held e.buffer page at pool dirty) in
-    image_page e.donor (image_of e.buffer) (is.keeps.kept right) page.space page.number found.0 found.1
+-- a dirty page is one of the image
+pub dirty_own : (e : Engine) (page : PageName) (at : ℕ) → IsBuffer e.buffer → IsPool e.buffer.pool → IsTrue e.buffer.right → HasDirty page e.buffer at → IsPageOf e page.space page.number
+dirty_own e page at buffer pool right dirty = ap is_some (in_image e.buffer page buffer right (dirty_held e.buffer page at pool dirty)).1
 
-module _ (d : plain.Donor) (page : PageName) (own : IsPageOf d page.space page.number) where
-  -- so each page that was noted is the donor's
-  pub noted_own : (pages : Option Pages) → NotesPages d pages → NotesPages d (noted (page.space, page.number) pages)
+module _ (e : Engine) (page : PageName) (own : IsPageOf e page.space page.number) where
+  -- so is each page that was noted
+  pub noted_own : (pages : Option Pages) → NotesPages e pages → NotesPages e (noted (page.space, page.number) pages)
   noted_own None notes space number is = notes space number is
   noted_own (Some set) notes space number is =
       by (is_same page (record { space = space; number = number })) refl (sym (noted_by (Some set) page space number refl) ∙ is)
     where
-      by : (same : Bool) → is_same page (record { space = space; number = number }) ≡ same → cond same true (is_noted (Some set) space number) ≡ true → IsPageOf d space number
+      by : (same : Bool) → is_same page (record { space = space; number = number }) ≡ same → cond same true (is_noted (Some set) space number) ≡ true → IsPageOf e space number
       by false other is = notes space number is
       by true same is =
           let both = and_parts (page.space == space) (page.number == number) same in
-          subst (λ n. IsPageOf d space n) (eqb-true page.number number both.1) (subst (λ s. IsPageOf d s page.number) (eqb-true page.space space both.0) own)
+          subst (λ n. IsPageOf e space n) (eqb-true page.number number both.1) (subst (λ s. IsPageOf e s page.number) (eqb-true page.space space both.0) own)
 
 -- while files are copied, pages are tracked
 pub tracks_files : (c : Cloning) (spaces : List (ℕ × ℕ)) → IsCloning c → list_of c ≡ Some (Files spaces) → IsSome c.tracking.pages

@@ -11,11 +11,10 @@ use Rattle.std.proofs.lemmas.Map.Views.{Contains-from_any, list_any-from_Contain
 use Rattle.clone_base.proofs.MapEntries.{is_equal}
 use Rattle.clone_model.specs.Keys.{row_cmp}
 use Rattle.clone_model.proofs.RowMaps.{row_cmp_exact, row_cmp_total}
-use Rattle.clone_plain.specs.Donor as plain
-use Rattle.clone_trx.specs.Spaces.{IsPageOf}
 use Rattle.clone_track.specs.Tracking.{Pages, all_noted, listed}
+use Rattle.clone_engine.specs.Engine.{Engine}
 use Rattle.clone_donor.specs.Copies.{is_noted}
-use Rattle.clone_donor.specs.Donor.{ArePages, NotesPages}
+use Rattle.clone_donor.specs.Donor.{ArePages, IsPageOf, NotesPages}
 
 same_row : (x y : ℕ × ℕ) → eq_by_cmp row_cmp x y ≡ true → x ≡ y
 same_row x y is = row_cmp_exact x y (is_equal (row_cmp x y) is)
@@ -42,8 +41,8 @@ module _ (pages : List (ℕ × ℕ)) (space number : ℕ) where
   unnoted is has = true≢false (sym (any_noted pages (space, number) ∙ list_any-from_Contains (eq_by_cmp_equiv row_cmp_total) (space, number) pages has) ∙ is)
 
 -- each page that is noted is listed, and no other
-pub listed_pages : (d : plain.Donor) (pages : Option Pages) → NotesPages d pages → ArePages d (listed pages)
-listed_pages d None notes = tt
-listed_pages d (Some set) notes = recursion_from_All (λ page. IsPageOf d page.0 page.1) (finite.keys set)
+pub listed_pages : (e : Engine) (pages : Option Pages) → NotesPages e pages → ArePages e (listed pages)
+listed_pages e None notes = tt
+listed_pages e (Some set) notes = recursion_from_All (λ page. IsPageOf e page.0 page.1) (finite.keys set)
     (λ k other low. let page = get_or (finite.keys set) k other in
     notes page.0 page.1 (contains_key-keys set page ∙ list_any-from_Contains (eq_by_cmp_equiv row_cmp_total) page (finite.keys set) (All-contains_itself (finite.keys set) k other low)))

@@ -1,18 +1,16 @@
 -- The pages whose write counts as open are the donor's.
-use Rattle.std.proofs.Common.{◌≡◌, ◌∙◌, ℕ, Bool, true, false, List, refl, sym, ap, Option, Some, None, IsTrue, option_map, if◌then◌else◌}
+use Rattle.std.proofs.Common.{◌≡◌, ◌∙◌, ℕ, Bool, true, false, List, refl, sym, ap, Option, Some, None, IsTrue, is_some, option_map, if◌then◌else◌}
 use Rattle.clone_pool.specs.declared.frame.Frame.{Frame}
 use Rattle.clone_pool.specs.declared.frame.PageName.{PageName}
 use Rattle.clone_pool.specs.Frames.{counts_as_open, frame_at, is_fresh, name_of, open_page}
 use Rattle.clone_pool.specs.Pool.{AreOpenPages, IsFrame, IsPool}
-use Rattle.clone_buffer.specs.Buffered.{Buffered, IsBuffer, image_of}
-use Rattle.clone_plain.specs.Donor as plain
+use Rattle.clone_buffer.specs.Buffered.{Buffered, IsBuffer}
 use Rattle.clone_track.specs.Tracking.{all_noted}
-use Rattle.clone_trx.specs.Kept.{Keeps}
 use Rattle.std.specs.FinMap as finite
+use Rattle.clone_engine.specs.Engine.{Engine}
 use Rattle.clone_engine.proofs.PageLemmas.{in_image}
 use Rattle.clone_donor.specs.Donor.{NotesPages}
 use Rattle.clone_donor.proofs.NotedLemmas.{noted_listed}
-use Rattle.clone_donor.proofs.PageLemmas.{image_page}
 
 -- a frame with such a page has it, and it isn't new
 module _ (uses : ℕ) (f : Frame) (is : IsFrame uses f) (page : ℕ × ℕ) (opens : open_page f ≡ Some page) where
@@ -35,9 +33,10 @@ module _ (uses : ℕ) (f : Frame) (is : IsFrame uses f) (page : ℕ × ℕ) (ope
       by true (Some name) some = let same : (name.space, name.number) ≡ page = cc in λ i. Some (record { space = (same i).0; number = (same i).1 })
 
 -- so each page of them is one of the image
-pub open_notes : (d : plain.Donor) (b : Buffered) (pages : List (ℕ × ℕ)) → IsBuffer b → IsPool b.pool → IsTrue b.right → Keeps d b → AreOpenPages b.pool.frames pages → NotesPages d (Some (all_noted pages finite.empty))
-open_notes d b pages buffer pool right keeps opens space number noted =
+pub open_notes : (e : Engine) (pages : List (ℕ × ℕ)) → IsBuffer e.buffer → IsPool e.buffer.pool → IsTrue e.buffer.right → AreOpenPages e.buffer.pool.frames pages → NotesPages e (Some (all_noted pages finite.empty))
+open_notes e pages buffer pool right opens space number noted =
+    let b : Buffered = e.buffer in
     let (at, there) = (opens.exact (space, number)).0 (noted_listed pages space number noted) in
     let f : Frame = frame_at b.pool.frames at in
     let found = in_image b (record { space = space; number = number }) buffer right (record { at = at; name = open_name b.pool.uses f (pool.frame at) (space, number) there; old = open_old b.pool.uses f (pool.frame at) (space, number) there }) in
-    image_page d (image_of b) (keeps.kept right) space number found.0 found.1
+    ap is_some found.1

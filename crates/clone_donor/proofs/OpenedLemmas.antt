@@ -40,5 +40,5 @@ module _ (e : Engine) (c : Cloning) (engine : IsEngine e) (none : c.session ≡ 
     placed = told (λ m. (space number : ℕ) → WasPlaced space number e.buffer.log)
         (λ m flown. grown (record e { buffer = record e.buffer { log = [] } }) e engine buffer opening_records flown.kept.right opened.log (λ space number. placed_first space number));
     own = λ l some. absurd (none_is (list_of c) l no_list some);
-    notes = no_notes e.disk.told e.donor c.tracking.pages pages;
+    notes = no_notes e.disk.told e c.tracking.pages pages;
   }

@@ -9,7 +9,7 @@ use Rattle.clone_donor.specs.Acts as act
 use Rattle.clone_donor.specs.Acts.{Acts}
 use Rattle.clone_donor.specs.Donor.{Donor, IsDonor}
 use Rattle.clone_donor.specs.Taken.{Taken, IsTaken}
-use Rattle.clone_donor.proofs.OwnLemmas.{own_stays}
+use Rattle.clone_donor.proofs.OwnLemmas.{KeepsPages, own_stays, same_files, same_image}
 
 -- an order, given or not, leaves what the disk tells
 pub order_told : (order : DiskOrder) (old new : DiskState) (r : Result (Unit {0}) AllocError) → Orders order old new r → new.told ≡ old.told
@@ -28,9 +28,12 @@ module _ (d : Donor) (disk : DiskState) where
     redo = is.redo;
     floor = is.floor;
     placed = is.placed;
-    own = λ l stands. own_stays d.engine (over d.engine.disk.told).engine refl refl l (is.own l stands);
+    own = λ l stands. own_stays d.engine (over d.engine.disk.told).engine keeps refl l (is.own l stands);
     notes = is.notes;
   }
+    where
+      keeps : KeepsPages d.engine (over d.engine.disk.told).engine
+      keeps = record { files = same_files d.engine.flights.files d.engine.flights.files refl; image = same_image d.engine (over d.engine.disk.told).engine refl }
 
   module _ (e : Engine) (same : e ≡ record d.engine { disk = disk }) (told : disk.told ≡ d.engine.disk.told) where
     pub ordered_donor : IsDonor d → IsDonor (record { engine = e; cloning = d.cloning })

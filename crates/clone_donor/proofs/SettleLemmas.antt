@@ -30,7 +30,7 @@ pub record Left (d : Donor) (c : Cloning) : Type 0 where
   pub can : CanArchive c d.engine.buffer.ring
   pub redo : ForSome c.archive (IsOfLog d.engine.buffer.log)
   pub own : ForSome (list_of c) (CopiesOwn d.engine)
-  pub notes : ForTold d.engine.disk.told (λ m. NotesPages d.engine.donor c.tracking.pages)
+  pub notes : ForTold d.engine.disk.told (λ m. NotesPages d.engine c.tracking.pages)
 
 module _ (d : Donor) (c : Cloning) (e : Engine) (is : IsDonor d) (left : Left d c) (settles : e ≡ settled_engine d.engine c) where
   abbrev t : Donor

@@ -9,9 +9,9 @@ use Rattle.std.proofs.lemmas.Bool.{and_parts, eqb-true}
 use Rattle.std.proofs.lemmas.Cmp.{eq_by_cmp_equiv}
 use Rattle.clone_outside.specs.Disk.{DiskImage}
 use Rattle.clone_mtr.specs.declared.record.Record.{Record}
-use Rattle.clone_image.specs.Redone.{stands, redone}
+use Rattle.clone_image.specs.Redone.{no_space, stands, redone}
 use Rattle.clone_law.specs.Machine as machine
-use Rattle.clone_law.specs.Machine.{Engine, Copy, Idle, FileRead, PageRead, Allowed, World}
+use Rattle.clone_law.specs.Machine.{Engine, Copy, Idle, FileRead, PageRead, Allowed}
 use Rattle.clone_law.specs.Rule.{EngineRule, CopyRule}
 use Rattle.clone_model.specs.Keys.{row_cmp}
 use Rattle.clone_model.proofs.RowMaps.{row_cmp_total}
@@ -21,10 +21,10 @@ use Rattle.clone_buffer.specs.Buffered.{Buffered}
 use Rattle.clone_buffer.specs.Flushing.{with_noted}
 use Rattle.clone_buffer.specs.OnePage.{Copies, no_copies, engine_of}
 use Rattle.clone_buffer.proofs.LawLemmas.{copy_keeps}
-use Rattle.clone_flush.specs.Flights.{Flights, IsFlown, beside_of}
+use Rattle.clone_flush.specs.Flights.{Flights, IsFlown, beside_of, beyond}
 use Rattle.clone_track.specs.Tracking.{Pages, noted}
 use Rattle.clone_donor.specs.Copies as copies
-use Rattle.clone_donor.specs.Copies.{IsInFiles, AreInFiles, AreInPages, AreStopped, is_noted, answered, with_page, with_pages, first_copies, files_over, pages_over}
+use Rattle.clone_donor.specs.Copies.{IsInFiles, AreInFiles, AreInPages, AreStopped, is_noted, answered, with_page, with_pages, first_copies, first_starts, files_over, pages_over}
 use Rattle.clone_donor.proofs.CopyEvents.{IsInPages, noted_in_files, files_ended_copied, pages_ended_stopped, file_answered, page_answered, files_ended_rule, pages_ended_rule, first_rule, first_in_files}
 
 module _ (b : Buffered) (f : Flights) (m : DiskImage) where
@@ -106,12 +106,14 @@ module _ (b : Buffered) (f : Flights) (m : DiskImage) where
     λ space number. let has = is space number in (has.0, pages_ended_stopped start has.0 b.log (cs space number) has.1),
   )
 
-  -- A session begins, where each page that isn't noted is closed.
-  pub first_flown : (pages : Option Pages) (cs : Copies) → ((space number : ℕ) → is_noted pages space number ≡ false → ((engine_at space number).writing ≡ false) × ((engine_at space number).flight ≡ None)) → Flown cs
-      → Flown (first_copies pages b.log) × AreInFiles pages (first_copies pages b.log)
-  first_flown pages cs closed flown = (
-    replaced cs (first_copies pages b.log) flown (λ space number. first_rule space number (engine_at space number) (engine cs flown space number) (is_noted pages space number) (closed space number)),
-    λ space number. first_in_files (is_noted pages space number) (redone space number b.log),
+  -- A session begins, where each page that isn't noted is closed, a space without a file isn't
+  -- there, and a clone may have of each page past its file's end that it isn't there.
+  pub first_flown : (pages : Option Pages) → ((space number : ℕ) → is_noted pages space number ≡ false → ((engine_at space number).writing ≡ false) × ((engine_at space number).flight ≡ None)) → ((space number : ℕ) → finite.get f.files space ≡ None → redone space number b.log ≡ no_space)
+      → Flown (beyond f.files) → Flown (first_copies pages f.files) × AreInFiles pages (first_copies pages f.files)
+  first_flown pages closed none short = (
+    replaced (beyond f.files) (first_copies pages f.files) short
+        (λ space number. first_rule space number (engine_at space number) (engine (beyond f.files) short space number) (is_noted pages space number) (finite.get f.files space) (closed space number) (none space number) (right (beyond f.files) short space number)),
+    λ space number. first_in_files (is_noted pages space number) (first_starts (finite.get f.files space) number),
   )
 
 -- A flush of a page begins, and the tracker notes it.

@@ -9,6 +9,11 @@ told_stays X Y old None tells to had = tt
 told_stays X Y None (Some m) tells to had = absurd (cc)
 told_stays X Y (Some n) (Some m) tells to had = to had
 
+-- what holds of any disk
+pub told_always : (X : Type 0) (told : Option DiskImage) → X → ForTold told (λ m. X)
+told_always X None is = tt
+told_always X (Some m) is = is
+
 -- with another fact of the disk as it is now
 pub told_with : (P : DiskImage → Type 0) (X Y : Type 0) (old new : Option DiskImage) → is_some new ≡ is_some old → ((m : DiskImage) → P m → X → Y) → ForTold new P → ForTold old (λ m. X) → ForTold new (λ m. Y)
 told_with P X Y old None tells to is had = tt

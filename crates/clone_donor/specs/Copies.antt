@@ -3,10 +3,11 @@ use Rattle.std.specs.Prelude.{ℕ, ◌≡◌, ◌==◌, ◌&&◌, List, [], ◌�
 use Rattle.std.specs.declared.option.Option.{Option}
 use Rattle.std.specs.FinMap as finite
 use Rattle.clone_mtr.specs.declared.record.Record.{Record}
-use Rattle.clone_image.specs.Redone.{Standing, no_space, past_end, stands, redone}
+use Rattle.clone_image.specs.Redone.{Standing, no_space, past_end}
 use Rattle.clone_law.specs.Machine as machine
 use Rattle.clone_law.specs.Machine.{Copy, file_read, page_read}
 use Rattle.clone_buffer.specs.OnePage.{Copies}
+use Rattle.clone_flush.specs.Flights.{Files, ends_before}
 use Rattle.clone_track.specs.Tracking.{Pages}
 
 -- the page was noted, while pages are tracked
@@ -57,20 +58,24 @@ abbrev pub with_pages : List PageRead → Copies → Copies
 with_pages [] copies = copies
 with_pages (p ∷ ps) copies = with_pages ps (with_page p copies)
 
--- What redo of a page may start from before anything was read of it: nothing, if it is there.
-abbrev pub first_starts : Standing → List Standing
-first_starts no_space = no_space ∷ []
-first_starts past_end = past_end ∷ []
-first_starts (stands page) = []
+-- What redo of a page may start from before anything was read of it, by how many pages its space's
+-- file has: nothing of it is there where there is no file, or where it lies past the file's end.
+-- Where its file has it, it has to be read.
+abbrev pub first_starts : Option ℕ → ℕ → List Standing
+first_starts None number = no_space ∷ []
+first_starts (Some pages) number =
+    if ends_before (Some pages) number then past_end ∷ [] else []
 
 -- A SESSION BEGINS: each page that was noted is tracked.
-abbrev pub first_copy : Bool → Standing → Copy
-first_copy true v = machine.Tracked
-first_copy false v = machine.Untracked (first_starts v)
+abbrev pub first_copy : Bool → List Standing → Copy
+first_copy true starts = machine.Tracked
+first_copy false starts = machine.Untracked starts
 
-abbrev pub first_copies : Option Pages → List (List Record) → Copies
-first_copies pages log =
-    λ space number. first_copy (is_noted pages space number) (redone space number log)
+-- over files of so many pages
+abbrev pub first_copies : Option Pages → Files → Copies
+first_copies pages files =
+    λ space number. first_copy (is_noted pages space number)
+    (first_starts (finite.get files space) number)
 
 -- THE COPY OF FILES ENDS, with an archive that starts at the last checkpoint.
 abbrev pub files_over : ℕ → Copies → Copies

@@ -13,7 +13,6 @@ use Rattle.clone_snapshot.specs.StageLists.{StageList}
 use Rattle.clone_flush.specs.Calls.{nearest_in, settled}
 use Rattle.clone_plain.specs.declared.refusal.Cause.TheVariants.{DiskFault}
 use Rattle.clone_plain.specs.declared.refusal.EngineRefusal.TheVariants as engine
-use Rattle.clone_trx.specs.Spaces.{spaces_of}
 use Rattle.clone_session.specs.declared.caller.Caller.{Caller}
 use Rattle.clone_session.specs.declared.caller.Hello.{Hello}
 use Rattle.clone_session.specs.declared.copying.BlockWork.{BlockWork}
@@ -32,7 +31,7 @@ use Rattle.clone_donor.specs.declared.block.Block.TheVariants.{Pages, Redo}
 use Rattle.clone_donor.specs.declared.block.BlockPage.{BlockPage}
 use Rattle.clone_donor.specs.declared.block.BlockRefusal.{BlockRefusal}
 use Rattle.clone_donor.specs.declared.block.BlockRefusal.TheVariants as refused
-use Rattle.clone_donor.specs.Donor.{Donor}
+use Rattle.clone_donor.specs.Donor.{Donor, known_files}
 use Rattle.clone_donor.specs.Copies.{files_over, first_copies, pages_over, with_pages}
 use Rattle.clone_donor.specs.Taken.{Taken}
 
@@ -51,12 +50,11 @@ Settles d t = t.engine ≡ record d.engine {
   buffer = settled d.engine.flights.checkpoint (kept_from t.cloning.archive) d.engine.buffer;
 }
 
--- A SESSION BEGINS, over the donor's spaces, with the pages whose write is open; or it begins
--- again.
+-- A SESSION BEGINS, over the donor's files, with the pages whose write is open; or it begins again.
 abbrev pub BeginsAs : Hello → Donor → Donor → Option Session → Type 0
 BeginsAs hello d t None =
     (in_flight : List (ℕ × ℕ)) × AreOpenPages d.engine.buffer.pool.frames in_flight
-    × Becomes t.cloning (opened hello (spaces_of d.engine.donor) in_flight d.cloning)
+    × Becomes t.cloning (opened hello (known_files d.engine) in_flight d.cloning)
 BeginsAs hello d t (Some s) = Becomes t.cloning (reopened hello s d.cloning)
 
 pub record Begins (hello : Hello) (d t : Donor) (info : StageInfo) : Type 0 where
@@ -64,10 +62,10 @@ pub record Begins (hello : Hello) (d t : Donor) (info : StageInfo) : Type 0 wher
   pub begins : BeginsAs hello d t d.cloning.session
   pub tells : Tells t.cloning info
 
--- what is taken then: nothing of any page that is there, or what was
+-- what is taken then: nothing of any page that its file has, or what was
 abbrev pub taken_at : Donor → Donor → Option Session → Taken → Taken
 taken_at d t None taken = record {
-  copies = first_copies t.cloning.tracking.pages d.engine.buffer.log;
+  copies = first_copies t.cloning.tracking.pages d.engine.flights.files;
   stop = None;
 }
 taken_at d t (Some s) taken = taken

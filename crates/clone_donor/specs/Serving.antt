@@ -1,5 +1,5 @@
 -- The calls of the engine, made on a donor of clones.
-use Rattle.std.specs.Prelude.{ℕ, ◌≡◌, None, Some, Result, Ok, Err}
+use Rattle.std.specs.Prelude.{ℕ, ◌≡◌, None, Some, Result, Ok, Err, if◌then◌else◌}
 use Rattle.std.specs.declared.option.Option.{Option}
 use Rattle.clone_archive.specs.Archived.{kept_from}
 use Rattle.clone_flush.specs.Calls.{after_begin}
@@ -10,19 +10,20 @@ use Rattle.clone_plain.specs.declared.refusal.EngineRefusal.TheVariants.{Because
 use Rattle.clone_session.specs.Cloning.{Cloning, Session}
 use Rattle.clone_session.specs.Effects.{Becomes, with_noted}
 use Rattle.clone_engine.specs.Engine.{Engine}
-use Rattle.clone_engine.specs.Steps.{Checks, Steps}
+use Rattle.clone_engine.specs.Steps.{Checks, Steps, has_begun}
 use Rattle.clone_donor.specs.Donor.{Donor}
 use Rattle.clone_donor.specs.Taken.{Taken}
 
--- a page whose flush began is noted, while pages are tracked
+-- a page whose flush began is noted, while pages are tracked, also where the flush failed at once
 abbrev pub noted_by : Call → Result Done EngineRefusal → Cloning → Cloning
-noted_by (flush_begin space page) (Ok did) c = with_noted (space, page) c
+noted_by (flush_begin space page) answer c =
+    if has_begun answer then with_noted (space, page) c else c
 noted_by call answer c = c
 
 -- and then what was read of it counts no more
 abbrev pub taken_by : Call → Result Done EngineRefusal → Taken → Taken
 taken_by (flush_begin space page) answer taken = record taken {
-  copies = after_begin (record { space = space; number = page }) answer taken.copies;
+  copies = after_begin (record { space = space; number = page }) (has_begun answer) taken.copies;
 }
 taken_by call answer taken = taken
 

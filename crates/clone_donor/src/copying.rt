@@ -14,8 +14,8 @@ use std::alloc::{AllocError, Global};
 // The calls of a clone, but for its blocks.
 impl<D: PageDisk> Donor<D> {
     /// A session begins with the copy of files: of the system space and of the tables, each with
-    /// its number of pages. The pages whose write is open are tracked from the start. Where the
-    /// session stands, a later incarnation begins it again.
+    /// the number of pages that its file has. The pages whose write is open are tracked from the
+    /// start. Where the session stands, a later incarnation begins it again.
     pub fn init(&mut self, alloc: Global, hello: &Hello) -> Result<StageInfo, CloneRefusal>
         ensures begins { Decided (hello_cause self.old.cloning hello.now) self.old.cloning
             self.new.cloning result (Begins hello.now self.old self.new) }
@@ -29,9 +29,9 @@ impl<D: PageDisk> Donor<D> {
         if self.cloning.session().is_some() {
             return Ok(self.cloning.reopen(alloc, hello)?);
         }
-        let spaces = self.engine.spaces(alloc)?;
+        let files = self.engine.spaces(alloc)?;
         let open = self.engine.open_pages(alloc)?;
-        Ok(self.cloning.open(alloc, hello, &spaces, &open)?)
+        Ok(self.cloning.open(alloc, hello, &files, &open)?)
     }
 
     /// The least chunk that is neither claimed nor finished, which is the task's from then on, or

@@ -1,19 +1,19 @@
-ghost use Rattle.std.specs.Prelude.{Ok};
+ghost use Rattle.std.specs.Prelude.{◌≡◌, Ok};
 ghost use Rattle.clone_archive.specs.Archived.{kept_from};
 ghost use Rattle.clone_plain.specs.Calls as call;
 ghost use Rattle.clone_plain.specs.Calls.{did_flush_begin, did_flush_half, did_flush_land, did_oldest_dirty, did_checkpoint};
-ghost use Rattle.clone_engine.specs.Steps.{Checks, Steps, answer_of};
+ghost use Rattle.clone_engine.specs.Steps.{Checks, Steps, answer_of, has_begun};
 ghost use Rattle.clone_donor.specs.Acts as act;
 ghost use Rattle.clone_donor.specs.Acts.{Acts};
 
 use crate::Donor;
 use clone_outside::PageDisk;
-use clone_plain::EngineRefusal;
+use clone_plain::{Cause, EngineRefusal};
 
 // The flushes and the checkpoint.
 impl<D: PageDisk> Donor<D> {
     /// The flush of a page begins: its image is what will be written. While files are copied the
-    /// page is noted.
+    /// page is noted, also where the disk fails to lengthen its file.
     pub fn flush_begin(&mut self, space: u32, page: u32) -> Result<(), EngineRefusal>
         ensures acts { Acts (act.Calls (call.flush_begin space page)
             (answer_of (λ _. did_flush_begin space page) result)) self.old self.new }
@@ -25,13 +25,11 @@ impl<D: PageDisk> Donor<D> {
         self.engine.laws();
         let begun = self.engine.flush_begin(space, page);
         self.engine.laws();
-        match begun {
-            Ok(()) => {
-                self.cloning.note(space, page);
-                Ok(())
-            }
-            Err(refusal) => Err(refusal),
+        if !has_begun(begun) {
+            return begun;
         }
+        self.cloning.note(space, page);
+        begun
     }
 
     /// Writes the first half of a page whose flush has begun.
@@ -76,5 +74,15 @@ impl<D: PageDisk> Donor<D> {
         let lsn = self.engine.checkpoint(self.cloning.kept_from());
         self.engine.laws();
         lsn
+    }
+}
+
+// Whether the flush of a page began by this answer, also where it failed at once.
+fn has_begun(begun: Result<(), EngineRefusal>) -> bool
+    ensures { result ≡ has_begun begun }
+{
+    match begun {
+        Ok(()) | Err(EngineRefusal::Because(Cause::DiskFault)) => true,
+        Err(_) => false,
     }
 }

@@ -34,6 +34,7 @@ impl<D: PageDisk> Donor<D> {
         ensures acts { Acts (act.Calls (call.begin writer index)
             (answer_of (λ trx. did_begin writer index trx) result)) self.old self.new }
     {
+        self.engine.laws();
         let begun = self.engine.begin(alloc, writer, index);
         self.engine.laws();
         begun
@@ -44,6 +45,7 @@ impl<D: PageDisk> Donor<D> {
         ensures acts { Acts (act.Calls (call.put trx table key value.now)
             (answer_of (λ _. did_put trx table key value.now) result)) self.old self.new }
     {
+        self.engine.laws();
         let changed = self.engine.put(trx, table, key, value);
         self.engine.laws();
         changed
@@ -54,6 +56,7 @@ impl<D: PageDisk> Donor<D> {
         ensures acts { Acts (act.Calls (call.delete trx table key)
             (answer_of (λ _. did_delete trx table key) result)) self.old self.new }
     {
+        self.engine.laws();
         let changed = self.engine.delete(trx, table, key);
         self.engine.laws();
         changed
@@ -65,6 +68,7 @@ impl<D: PageDisk> Donor<D> {
             (answer_of (λ value. did_get trx table key value) result)) self.old self.new }
         ensures memory { result ≢ Err NoMemory }
     {
+        self.engine.laws();
         let value = self.engine.get(trx, table, key);
         self.engine.laws();
         value
@@ -77,6 +81,7 @@ impl<D: PageDisk> Donor<D> {
             (answer_of (λ undone. did_undo_one trx undone) result)) self.old self.new }
         ensures memory { result ≢ Err NoMemory }
     {
+        self.engine.laws();
         let undone = self.engine.undo_one(trx);
         self.engine.laws();
         undone
@@ -88,6 +93,7 @@ impl<D: PageDisk> Donor<D> {
             (answer_of (λ position. did_commit trx position) result)) self.old self.new }
         ensures memory { result ≢ Err NoMemory }
     {
+        self.engine.laws();
         let committed = self.engine.commit(trx);
         self.engine.laws();
         committed

@@ -1,10 +1,12 @@
 pub mod WayLemmas
 pub mod AnswerLemmas
 pub mod TableRecordLemmas
+pub mod StayLemmas
 pub mod FileLemmas
 pub mod PageLemmas
 pub mod DiskLemmas
 pub mod EngineLemmas
+pub mod BeyondLemmas
 pub mod CallLemmas
 pub mod CreatedLemmas
 pub mod FlushLemmas

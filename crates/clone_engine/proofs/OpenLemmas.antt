@@ -1,8 +1,8 @@
 -- A donor over a disk that was empty.
-use Rattle.std.proofs.Common.{◌≡◌, ◌==◌, ◌<◌, inl, ℕ, true, false, List, [], ◌∷◌, length, eq-eqb, eqb-true, refl, sym, ap, subst, ◌∙◌, arith, Option, None, Some, is_some, option_map}
+use Rattle.std.proofs.Common.{◌≡◌, ◌≢◌, ◌==◌, ◌<◌, ◌⊎◌, inl, inr, ℕ, Bool, true, false, List, [], ◌∷◌, length, eq-eqb, eqb-true, refl, sym, ap, subst, ◌∙◌, arith, Option, None, Some, IsSome, IsTrue, is_some, nat_le, option_map, if◌then◌else◌}
 use Rattle.std.specs.FinMap as finite
 use Rattle.std.specs.FinMap.{empty_of_len, len-empty, len-entries}
-use Rattle.std.proofs.lemmas.Bool.{true≢false}
+use Rattle.std.proofs.lemmas.Bool.{cases_eq, leb-true, true≢false}
 use Rattle.std.proofs.lemmas.List.{length-map}
 use Rattle.std.specs.Ordering.{nat_cmp}
 use Rattle.clone_outside.specs.Disk.{DiskImage, ForTold, Steps, blank, space_numbers, with_created}
@@ -11,22 +11,29 @@ use Rattle.clone_model.specs.Keys.{row_cmp}
 use Rattle.clone_image.specs.Replay.{first_lsn}
 use Rattle.clone_contents.specs.Records.{opening_records, system_size}
 use Rattle.clone_overlay.specs.Images.{redo_space}
-use Rattle.clone_buffer.specs.Buffered.{Buffered}
+use Rattle.clone_image.proofs.Images.{get-put_same, get-put_other}
+use Rattle.clone_image.specs.Image.{page_of, page_count}
+use Rattle.clone_image.specs.Redone.{past_end}
+use Rattle.clone_law.specs.Machine.{Copy, Idle, Untracked}
+use Rattle.clone_law.specs.Rule.{CopyRule}
+use Rattle.clone_buffer.specs.Buffered.{Buffered, IsBuffer, image_of}
 use Rattle.clone_buffer.specs.Keeping.{IsKept, Stands}
-use Rattle.clone_buffer.specs.OnePage.{Beside, at_rest, no_copies}
-use Rattle.clone_flush.specs.Flights.{Flights, StandsFlown, IsFlown, beside_of}
+use Rattle.clone_buffer.specs.OnePage.{Beside, at_rest, engine_of, no_copies}
+use Rattle.clone_flush.specs.Flights.{Files, Flights, HasFiles, StandsFlown, IsFlown, beside_of, beyond, ends_before}
 use Rattle.clone_flush.specs.declared.flusher.PageWrite.{PageWrite}
 use Rattle.clone_flush.proofs.FlightLemmas.{told_stepped}
 use Rattle.clone_recover.specs.Reading.{AreOfTables}
 use Rattle.clone_plain.specs.Donor.{Donor, no_donor}
 use Rattle.clone_trx.specs.Kept.{Keeps}
-use Rattle.clone_trx.proofs.Common.{get-empty}
+use Rattle.clone_trx.proofs.Common.{get-empty, same_Some}
 use Rattle.clone_engine.specs.Disks.{DiskState}
-use Rattle.clone_engine.specs.Engine.{IsEngine, HasFiles}
+use Rattle.clone_engine.specs.Engine.{AreOfDonor, IsEngine, IsInFile}
 use Rattle.clone_engine.specs.Opened.{IsNotEmpty}
+use Rattle.clone_engine.proofs.BeyondLemmas.{past_rule, stands_with}
 use Rattle.clone_engine.proofs.DiskLemmas.{for_told}
+use Rattle.clone_engine.proofs.PageLemmas.{is_there, spaced_page}
 use Rattle.clone_engine.proofs.EngineLemmas.{engine}
-use Rattle.clone_engine.proofs.FileLemmas.{first_files}
+use Rattle.clone_engine.proofs.FileLemmas.{first_files, first_made, past_made}
 
 -- Flights without a write, from the log's beginning on.
 module _ (b : Buffered) (f : Flights) (writes : f.writes ≡ finite.empty) (checkpoint : f.checkpoint ≡ first_lsn) where
@@ -54,18 +61,75 @@ pub first_tables : AreOfTables (opening_records ∷ [])
 first_tables = ((system, (system, tt)), tt)
 
 -- A DONOR IS OPENED
-pub opened_engine : (d : Donor) (b : Buffered) (f : Flights) (before : Option DiskImage) (k : DiskState) → d ≡ no_donor → b.log ≡ opening_records ∷ [] → Keeps d b → b.ring.floor ≡ first_lsn → Stands b at_rest k.told → f.writes ≡ finite.empty → f.checkpoint ≡ first_lsn
-    → Steps before k.told (λ m. with_created m 0 system_size) → IsEngine (engine d b f k)
-opened_engine d b f before k donor log keeps floor stands writes checkpoint made = record {
-  keeps = keeps;
-  stands = first_flown b f writes checkpoint k.told floor stands;
-  files = subst (λ (x : Donor). ForTold k.told (HasFiles x)) (sym donor) (told_stepped (λ m. ◌≡◌ m m) (HasFiles no_donor) before k.told (λ m. with_created m 0 system_size) made (λ m same. first_files m) (always before));
-  tables = subst AreOfTables (sym log) first_tables;
-}
-  where
-    always : (told : Option DiskImage) → ForTold told (λ m. ◌≡◌ m m)
-    always None = tt
-    always (Some m) = refl
+module _ (d : Donor) (b : Buffered) (f : Flights) (before : Option DiskImage) (k : DiskState) (donor : d ≡ no_donor) (log : b.log ≡ opening_records ∷ []) (keeps : Keeps d b) (buffer : IsBuffer b) (floor : b.ring.floor ≡ first_lsn) (stood : Stands b at_rest k.told)
+    (writes : f.writes ≡ finite.empty) (checkpoint : f.checkpoint ≡ first_lsn) (files : f.files ≡ finite.insert finite.empty 0 system_size) (made : Steps before k.told (λ m. with_created m 0 system_size)) where
+  flown : StandsFlown b f no_copies k.told
+  flown = first_flown b f writes checkpoint k.told floor stood
+
+  abbrev first : Files
+  first = finite.insert finite.empty 0 system_size
+
+  -- the pages of the system space
+  known : (space pages : ℕ) → finite.get f.files space ≡ Some pages → (space ≡ 0) × (pages ≡ system_size)
+  known space pages is = by (cases_eq space 0)
+    where
+      there : finite.get first space ≡ Some pages
+      there = sym (ap (λ (x : Files). finite.get x space) files) ∙ is
+
+      by : (space ≡ 0) ⊎ (space ≢ 0) → (space ≡ 0) × (pages ≡ system_size)
+      by (inl zero) = (zero, same_Some pages system_size (sym there ∙ ap (finite.get first) zero ∙ get-put_same finite.empty 0 system_size))
+      by (inr other) = absurd (let e = sym there ∙ get-put_other finite.empty 0 space system_size other ∙ get-empty nat_cmp space in cc)
+
+  sized : IsTrue b.right → page_count (image_of b) 0 ≡ Some system_size
+  sized right = (keeps.kept right).formed.size
+
+  within : ForTold k.told (λ _. (space number : ℕ) → IsInFile (engine d b f k) space number → IsSome (page_of (image_of b) space number))
+  within = for_told (IsFlown b f no_copies) (λ _. (space number : ℕ) → IsInFile (engine d b f k) space number → IsSome (page_of (image_of b) space number)) k.told (λ m flown space number inside.
+      let own = known space inside.pages inside.file in
+      is_there b space number system_size (ap (page_count (image_of b)) own.0 ∙ sized flown.kept.right) (omega (arith, inside.within, own.1))) flown
+
+  short_rule : (m : DiskImage) → IsFlown b f no_copies (with_created m 0 system_size) → (space number : ℕ) → CopyRule space number (engine_of b (beside_of f no_copies) (with_created m 0 system_size) space number) (beyond f.files space number)
+  short_rule m flown space number = by (cases_eq space 0)
+    where
+      R : ℕ → Copy → Type 0
+      R s c = CopyRule s number (engine_of b (beside_of f no_copies) (with_created m 0 system_size) s number) c
+
+      chosen : (s : ℕ) → Option ℕ → Type 0
+      chosen s o = R s (if ends_before o number then Untracked (past_end ∷ []) else Idle)
+
+      own : (t : Bool) → nat_le system_size number ≡ t → R 0 (if t then Untracked (past_end ∷ []) else Idle)
+      own true past =
+          let out = past_made m 0 system_size number (leb-true system_size number past) in
+          past_rule b f no_copies (with_created m 0 system_size) flown 0 number out.0 out.1 (spaced_page b 0 number system_size buffer (sized flown.kept.right))
+      own false past = tt
+
+      by : (space ≡ 0) ⊎ (space ≢ 0) → R space (beyond f.files space number)
+      by (inl zero) = subst (λ (s : ℕ). R s (beyond f.files s number)) (sym zero) (subst (chosen 0) (sym (ap (λ (x : Files). finite.get x 0) files ∙ get-put_same finite.empty 0 system_size)) (own (nat_le system_size number) refl))
+      by (inr other) = subst (chosen space) (sym (ap (λ (x : Files). finite.get x space) files ∙ get-put_other finite.empty 0 space system_size other ∙ get-empty nat_cmp space)) tt
+
+  short : StandsFlown b f (beyond f.files) k.told
+  short = by before made flown
+    where
+      by : (t : Option DiskImage) → Steps t k.told (λ m. with_created m 0 system_size) → StandsFlown b f no_copies k.told → StandsFlown b f (beyond f.files) k.told
+      by None step st = subst (StandsFlown b f (beyond f.files)) (sym step) tt
+      by (Some m) step st =
+          let k' = subst (StandsFlown b f no_copies) step st in
+          subst (StandsFlown b f (beyond f.files)) (sym step) (stands_with b f no_copies (beyond f.files) (with_created m 0 system_size) k' (short_rule m k'))
+
+  pub opened_engine : IsEngine (engine d b f k)
+  opened_engine = record {
+    keeps = keeps;
+    stands = flown;
+    files = subst (λ (x : Files). ForTold k.told (HasFiles x)) (sym files) (told_stepped (λ m. ◌≡◌ m m) (HasFiles (finite.insert finite.empty 0 system_size)) before k.told (λ m. with_created m 0 system_size) made (λ m same. first_made m) (always before));
+    spaces = subst (λ (p : Donor × Files). AreOfDonor p.0 p.1) (λ i. (sym donor i, sym files i)) first_files;
+    within = within;
+    short = short;
+    tables = subst AreOfTables (sym log) first_tables;
+  }
+    where
+      always : (told : Option DiskImage) → ForTold told (λ m. ◌≡◌ m m)
+      always None = tt
+      always (Some m) = refl
 
 -- A disk is empty, or isn't.
 

@@ -1,9 +1,9 @@
--- The pages in frames are those of the image, which has spaces of tables and the system space alone.
-use Rattle.std.proofs.Common.{◌≡◌, ◌≢◌, ◌≤◌, ◌<◌, ◌⊎◌, inl, inr, ℕ, Bool, true, false, List, length, slice_get, refl, sym, ap, ◌∙◌, Option, None, Some, IsSome, IsTrue, option_map, option_and_then, if◌then◌else◌}
+-- The pages in frames are those of the image, which has spaces of tables and the system space
+-- alone.
+use Rattle.std.proofs.Common.{◌≡◌, ◌≢◌, ◌≤◌, ◌<◌, ◌⊎◌, inl, inr, ℕ, Bool, true, false, List, length, slice_get, refl, sym, ap, subst, ◌∙◌, arith, Option, None, Some, IsSome, IsTrue, option_map, option_and_then, if◌then◌else◌}
 use Rattle.std.proofs.lemmas.Bool.{cases_eq, true≢false}
 use Rattle.std.proofs.lemmas.Option.{slice_get_within}
 use Rattle.std.specs.FinMap as finite
-use Rattle.clone_outside.specs.Disk as disk
 use Rattle.clone_outside.specs.Disk.{DiskImage}
 use Rattle.clone_image.specs.Image.{Image, page_of, page_count}
 use Rattle.clone_pool.specs.declared.frame.Frame.{Frame}
@@ -20,11 +20,17 @@ use Rattle.clone_flush.specs.Calls.{HasDirty}
 use Rattle.clone_plain.specs.Donor.{Donor}
 use Rattle.clone_trx.specs.Kept.{Keeps}
 use Rattle.clone_trx.specs.Sound.{IsKept}
-use Rattle.clone_trx.proofs.Common.{none-some}
+use Rattle.clone_trx.proofs.Common.{none-some, same_Some}
 use Rattle.clone_trx.proofs.CreateLemmas.{no_space, unheld}
 use Rattle.clone_trx.proofs.FramePinLemmas.{set_pins}
-use Rattle.clone_engine.specs.Engine.{HasFiles}
-use Rattle.clone_engine.proofs.FileLemmas.{page_there}
+use Rattle.clone_flush.specs.Flights.{Files}
+use Rattle.clone_contents.specs.Records.{system_size}
+use Rattle.clone_model.specs.declared.line.TheConstants.{MOST_PAGES}
+use Rattle.clone_image.specs.Redone.{redone, standing_at, standing_in}
+use Rattle.clone_image.proofs.Redoing.{replayed_is_redone}
+use Rattle.clone_law.specs.Machine.{HasSpace}
+use Rattle.clone_buffer.proofs.ImageLemmas.{below_count}
+use Rattle.clone_engine.specs.Engine.{AreOfDonor}
 
 -- a frame that has a page which isn't new
 pub record HasOld (frames : List Frame) (page : PageName) : Type 0 where
@@ -82,24 +88,57 @@ is_within image space number bytes is = by (finite.get image space) refl
       low = slice_get_within pages number bytes (sym (ap (λ (o : Option (List (List ℕ))). option_and_then (λ ps. slice_get ps number) o) some) ∙ is);
     }
 
--- the disk has as many
-same_count : (d : Donor) (image : Image) (m : DiskImage) (space count : ℕ) → IsKept d image → HasFiles d m → page_count image space ≡ Some count → disk.page_count m space ≡ Some count
-same_count d image m space count kept files size = by (cases_eq space 0)
+-- A DIRTY PAGE is one of a space whose file is known, and a space may have as many pages.
+pub dirty_known : (d : Donor) (b : Buffered) (files : Files) (page : PageName) (at : ℕ) → IsPool b.pool → IsBuffer b → IsTrue b.right → IsKept d (image_of b) → AreOfDonor d files → HasDirty page b at
+    → IsSome (finite.get files page.space) × (page.number < MOST_PAGES)
+dirty_known d b files page at p is right kept are dirty = by (cases_eq page.space 0)
   where
-    table : space ≢ 0 → (o : Option ℕ) → finite.get d.tables space ≡ o → disk.page_count m space ≡ Some count
-    table other None none = absurd (none-some count (sym (kept.sound.tables.spaces space other none) ∙ size))
-    table other (Some pages) some = files.tables space pages some ∙ sym (kept.sound.tables.sizes space pages some).0 ∙ size
+    within : IsWithin (image_of b) page.space page.number
+    within = let found = in_image b page is right (dirty_held b page at p dirty) in is_within (image_of b) page.space page.number found.0 found.1
 
-    by : (space ≡ 0) ⊎ (space ≢ 0) → disk.page_count m space ≡ Some count
-    by (inl zero) = ap (disk.page_count m) zero ∙ files.system ∙ sym kept.formed.size ∙ ap (page_count image) (sym zero) ∙ size
-    by (inr other) = table other (finite.get d.tables space) refl
+    table : page.space ≢ 0 → (o : Option ℕ) → finite.get d.tables page.space ≡ o → IsSome (finite.get files page.space) × (page.number < MOST_PAGES)
+    table other None none = absurd (none-some within.count (sym (kept.sound.tables.spaces page.space other none) ∙ within.size))
+    table other (Some count) some =
+        let size = (kept.sound.tables.sizes page.space count some).0 in
+        let same = same_Some within.count size.pages (sym within.size ∙ size.size) in
+        (are.tables page.space (subst IsSome (sym some) refl), omega (arith, within.low, same, size.most))
 
--- A DIRTY PAGE IS ON THE DISK, as it is now or as it was.
-pub dirty_there : (d : Donor) (b : Buffered) (m : DiskImage) (page : PageName) (at : ℕ) → IsPool b.pool → IsBuffer b → IsTrue b.right → IsKept d (image_of b) → HasFiles d m → HasDirty page b at → IsSome (disk.page_of m page.space page.number)
-dirty_there d b m page at p is right kept files dirty =
-    let found = in_image b page is right (dirty_held b page at p dirty) in
-    let within = is_within (image_of b) page.space page.number found.0 found.1 in
-    page_there m page.space page.number within.count (same_count d (image_of b) m page.space within.count kept files within.size) within.low
+    by : (page.space ≡ 0) ⊎ (page.space ≢ 0) → IsSome (finite.get files page.space) × (page.number < MOST_PAGES)
+    by (inl zero) =
+        let same = same_Some within.count system_size (sym within.size ∙ ap (page_count (image_of b)) zero ∙ kept.formed.size) in
+        (subst (λ (s : ℕ). IsSome (finite.get files s)) (sym zero) are.system, omega (arith, within.low, same))
+    by (inr other) = table other (finite.get d.tables page.space) refl
+
+-- the pages of a space that the log makes
+pub spaced_page : (b : Buffered) (space number count : ℕ) → IsBuffer b → page_count (image_of b) space ≡ Some count → HasSpace (redone space number b.log)
+spaced_page b space number count is size = subst HasSpace (replayed_is_redone b.log space number (omega (arith, is.below))) (by (finite.get (image_of b) space) refl)
+  where
+    at : (o : Option (List ℕ)) → HasSpace (standing_at o)
+    at None = tt
+    at (Some page) = tt
+
+    by : (o : Option (List (List ℕ))) → finite.get (image_of b) space ≡ o → HasSpace (standing_in o number)
+    by None none = absurd (none-some count (sym (ap (option_map length) none) ∙ size))
+    by (Some pages) some = at (slice_get pages number)
+
+pub spaced_by : (b : Buffered) (space number : ℕ) → IsBuffer b → IsSome (page_of (image_of b) space number) → HasSpace (redone space number b.log)
+spaced_by b space number is there = by (page_of (image_of b) space number) refl there
+  where
+    by : (o : Option (List ℕ)) → page_of (image_of b) space number ≡ o → IsSome o → HasSpace (redone space number b.log)
+    by None none some = absurd (cc)
+    by (Some page) is_there some = let within = is_within (image_of b) space number page is_there in spaced_page b space number within.count is within.size
+
+-- a page of the image below the count of its space
+pub is_there : (b : Buffered) (space number count : ℕ) → page_count (image_of b) space ≡ Some count → number < count → IsSome (page_of (image_of b) space number)
+is_there b space number count size low = below_count (image_of b) space count 0 size number low
+
+-- the pages of the image below one that it has
+pub below_there : (b : Buffered) (space number other : ℕ) → IsSome (page_of (image_of b) space number) → other ≤ number → IsSome (page_of (image_of b) space other)
+below_there b space number other there low = by (page_of (image_of b) space number) refl there
+  where
+    by : (o : Option (List ℕ)) → page_of (image_of b) space number ≡ o → IsSome o → IsSome (page_of (image_of b) space other)
+    by None none some = absurd (cc)
+    by (Some page) is some = let within = is_within (image_of b) space number page is in is_there b space other within.count within.size (omega (arith, low, within.low))
 
 -- a frame that stays pinned as it is
 pub change_keeps : (d : Donor) (b : Buffered) (at : ℕ) (change : Frame → Frame) → (change (frame_at b.pool.frames at)).pins ≡ (frame_at b.pool.frames at).pins → Keeps d b → Keeps d (with_change at change b)

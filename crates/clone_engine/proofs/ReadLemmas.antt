@@ -1,6 +1,5 @@
 -- What was read of a donor's pages.
-use Rattle.std.proofs.Common.{◌≡◌, ◌≤◌, ◌⊎◌, inl, inr, ℕ, List, refl, sym, ap, subst, ◌∙◌, Option, None, Some, IsSome, IfSome, Result, Ok, Err, IsOk, OnOk, OnErr, IfErr}
-use Rattle.std.specs.FinMap as finite
+use Rattle.std.proofs.Common.{◌≡◌, ◌≤◌, ℕ, List, refl, sym, subst, arith, Option, None, Some, IsSome, IfSome, Result, Ok, Err, IsOk, OnOk, OnErr, IfErr}
 use Rattle.clone_outside.specs.Disk as disk
 use Rattle.clone_outside.specs.Disk.{DiskImage, ForTold, GivesQuiet}
 use Rattle.clone_outside.specs.declared.Refusal.{Refusal}
@@ -11,26 +10,17 @@ use Rattle.clone_buffer.specs.Keeping.{IsKept}
 use Rattle.clone_buffer.specs.OnePage.{Beside, Copies, no_copies, world_of}
 use Rattle.clone_buffer.specs.Reading.{IsLatest, OthersAreClosed}
 use Rattle.clone_buffer.proofs.ReadLemmas.{file_read_allowed}
-use Rattle.clone_flush.specs.Flights.{Flights, IsFlown, beside_of}
+use Rattle.clone_flush.specs.Flights.{Flights, HasFiles, IsFlown, beside_of}
 use Rattle.clone_plain.specs.Donor.{Donor}
 use Rattle.clone_plain.specs.declared.refusal.Cause.TheVariants.{DiskFault}
 use Rattle.clone_plain.specs.declared.refusal.EngineRefusal.{EngineRefusal}
 use Rattle.clone_plain.specs.declared.refusal.EngineRefusal.TheVariants.{Because}
-use Rattle.clone_trx.specs.Spaces.{IsPageOf}
-use Rattle.clone_trx.proofs.SpaceLemmas.{IsSystem, page_there, space_is}
 use Rattle.clone_engine.specs.Disks.{DiskState}
-use Rattle.clone_engine.specs.Engine.{Engine, IsEngine, HasFiles}
+use Rattle.clone_engine.specs.Engine.{Engine, IsEngine, IsInFile}
 use Rattle.clone_engine.specs.Reading.{ReadsFile, ReadsPage, ListsOpen, OnlyVisits, read_answer}
 use Rattle.clone_engine.proofs.EngineLemmas.{engine}
-use Rattle.clone_engine.proofs.FileLemmas.{page_there as page_on_disk}
-
--- a page of the donor's spaces is on the disk
-pub on_disk : (d : Donor) (m : DiskImage) (space number : ℕ) → HasFiles d m → IsPageOf d space number → IsSome (disk.page_of m space number)
-on_disk d m space number files page = page_on_disk m space number page.size (by (space_is d space page.size page.space_is)) page.within
-  where
-    by : IsSystem space page.size ⊎ (finite.get d.tables space ≡ Some page.size) → disk.page_count m space ≡ Some page.size
-    by (inl is) = ap (disk.page_count m) (sym is.0) ∙ files.system ∙ ap Some is.1
-    by (inr is) = files.tables space page.size is
+use Rattle.clone_flush.proofs.FileLemmas.{page_there as page_on_disk}
+use Rattle.clone_engine.proofs.PageLemmas.{spaced_by}
 
 -- a fact of a disk that is told, where two are known of it
 pub told_both : (P Q R : DiskImage → Type 0) (told : Option DiskImage) → ((m : DiskImage) → P m → Q m → R m) → ForTold told P → ForTold told Q → ForTold told R
@@ -41,8 +31,11 @@ module _ (e : Engine) (is : IsEngine e) (b : IsBuffer e.buffer) (space number : 
   abbrev Flown : DiskImage → Type 0
   Flown m = IsFlown e.buffer e.flights no_copies m
 
+  abbrev Within : Type 0
+  Within = (space number : ℕ) → IsInFile e space number → IsSome (page_of (image_of e.buffer) space number)
+
   abbrev HasAll : DiskImage → Type 0
-  HasAll m = Flown m × HasFiles e.donor m
+  HasAll m = Flown m × HasFiles e.flights.files m × Within
 
   abbrev Gives : DiskImage → Type 0
   Gives m = GivesQuiet m space number bytes
@@ -56,22 +49,26 @@ module _ (e : Engine) (is : IsEngine e) (b : IsBuffer e.buffer) (space number : 
   abbrev Allows : Event → DiskImage → Type 0
   Allows event m = (copies : Copies) → Allowed space number (world_of e.buffer (beside_of e.flights copies) m space number) event
 
-  -- the log makes each page of the donor's spaces
-  made : (m : DiskImage) → Flown m → IsPageOf e.donor space number → IsSome (page_of (image_of e.buffer) space number)
-  made m flown page = page_there e.donor (image_of e.buffer) space number (is.keeps.kept flown.kept.right) page
+  all : (told : Option DiskImage) → ForTold told Flown → ForTold told (HasFiles e.flights.files) → ForTold told (λ _. Within) → ForTold told HasAll
+  all None flown files within = tt
+  all (Some m) flown files within = (flown, files, within)
+
+  -- a page within its file is on the disk
+  on_disk : (m : DiskImage) → HasFiles e.flights.files m → IsInFile e space number → IsSome (disk.page_of m space number)
+  on_disk m files inside = let long = files space inside.pages inside.file in page_on_disk m space number long.0 long.1 (omega (arith, inside.within, long.2))
 
   pub reads_file : ForTold e.disk.told Gives → ReadsFile e space number bytes
   reads_file quiet = record {
     quiet = quiet;
-    allowed = λ page. told_both HasAll Gives (Allows (FileRead bytes)) e.disk.told
-        (λ m all gives copies. file_read_allowed e.buffer (beside_of e.flights no_copies) m space number bytes b all.0.kept (made m all.0 page) (on_disk e.donor m space number all.1 page) gives)
-        (told_both Flown (HasFiles e.donor) HasAll e.disk.told (λ m flown files. (flown, files)) is.stands is.files) quiet;
+    allowed = λ inside. told_both HasAll Gives (Allows (FileRead bytes)) e.disk.told
+        (λ m had gives copies. file_read_allowed e.buffer (beside_of e.flights no_copies) m space number bytes b had.0.kept (spaced_by e.buffer space number b (had.2 space number inside)) (on_disk m had.1 inside) gives)
+        (all e.disk.told is.stands is.files is.within) quiet;
   }
 
   pub reads_page : ForTold e.disk.told Latest → ReadsPage e space number bytes
   reads_page latest = record {
-    page = λ page. told_both Flown Latest Is e.disk.told (λ m flown reads. (reads (beside_of e.flights no_copies) flown.kept (made m flown page)).page) is.stands latest;
-    allowed = λ page. told_both Flown Latest (Allows (PageRead bytes)) e.disk.told (λ m flown reads copies. (reads (beside_of e.flights no_copies) flown.kept (made m flown page)).allowed) is.stands latest;
+    page = λ made. told_both Flown Latest Is e.disk.told (λ m flown reads. (reads (beside_of e.flights no_copies) flown.kept made).page) is.stands latest;
+    allowed = λ made. told_both Flown Latest (Allows (PageRead bytes)) e.disk.told (λ m flown reads copies. (reads (beside_of e.flights no_copies) flown.kept made).allowed) is.stands latest;
   }
 
 -- each page that isn't listed is closed

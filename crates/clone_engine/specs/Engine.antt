@@ -1,12 +1,13 @@
 -- An engine as contracts see it: the plain donor that it is, its pages, its flushes and its disk.
-use Rattle.std.specs.Prelude.{ℕ, ◌≡◌, Some}
+use Rattle.std.specs.Prelude.{ℕ, ◌≡◌, ◌≢◌, ◌<◌, ◌≤◌, ◌+◌, Some, IsSome}
 use Rattle.std.specs.FinMap as finite
-use Rattle.clone_outside.specs.Disk.{DiskImage, ForTold, page_count}
-use Rattle.clone_contents.specs.Records.{system_size}
-use Rattle.clone_buffer.specs.Buffered.{Buffered}
+use Rattle.clone_outside.specs.Disk.{ForTold}
+use Rattle.clone_image.specs.Image.{page_of}
+use Rattle.clone_model.specs.declared.line.TheConstants.{MOST_PAGES}
+use Rattle.clone_buffer.specs.Buffered.{Buffered, image_of}
 use Rattle.clone_buffer.specs.OnePage.{Copies, no_copies}
 use Rattle.clone_flush.specs.Calls.{State}
-use Rattle.clone_flush.specs.Flights.{Flights, StandsFlown}
+use Rattle.clone_flush.specs.Flights.{Files, Flights, HasFiles, StandsFlown, beyond}
 use Rattle.clone_recover.specs.Reading.{AreOfTables}
 use Rattle.clone_plain.specs.Donor.{Donor}
 use Rattle.clone_trx.specs.Kept.{Keeps}
@@ -26,11 +27,21 @@ state_of e = record { buffer = e.buffer; flights = e.flights }
 abbrev pub StandsBeside : Engine → Copies → Type 0
 StandsBeside e copies = StandsFlown e.buffer e.flights copies e.disk.told
 
--- the disk has a file for the system space and for each table, with all of its pages
-pub record HasFiles (d : Donor) (m : DiskImage) : Type 0 where
-  pub system : page_count m 0 ≡ Some system_size
-  pub tables : (table pages : ℕ) → finite.get d.tables table ≡ Some pages
-      → page_count m table ≡ Some pages
+-- A file is known of the system space and of each table, and of no other space. It has at most as
+-- many pages as a space may have.
+pub record AreOfDonor (d : Donor) (files : Files) : Type 0 where
+  pub system : IsSome (finite.get files 0)
+  pub tables : (table : ℕ) → IsSome (finite.get d.tables table) → IsSome (finite.get files table)
+  pub others : (space : ℕ) → space ≢ 0 → IsSome (finite.get files space)
+      → IsSome (finite.get d.tables space)
+  pub count : finite.len files ≡ finite.len d.tables + 1
+  pub sizes : (space pages : ℕ) → finite.get files space ≡ Some pages → pages ≤ MOST_PAGES
+
+-- the page lies within its file, as far as that is known
+pub record IsInFile (e : Engine) (space number : ℕ) : Type 0 where
+  pub pages : ℕ
+  pub file : finite.get e.flights.files space ≡ Some pages
+  pub within : number < pages
 
 -- What holds of every engine.
 pub record IsEngine (e : Engine) : Type 0 where
@@ -38,6 +49,13 @@ pub record IsEngine (e : Engine) : Type 0 where
   pub keeps : Keeps e.donor e.buffer
   -- where the disk tells what it holds, the pages stand over it
   pub stands : StandsBeside e no_copies
-  pub files : ForTold e.disk.told (HasFiles e.donor)
+  -- each file that is known is there, so long at least
+  pub files : ForTold e.disk.told (HasFiles e.flights.files)
+  pub spaces : AreOfDonor e.donor e.flights.files
+  -- the log makes each page within its file
+  pub within : ForTold e.disk.told (λ _. (space number : ℕ) → IsInFile e space number
+      → IsSome (page_of (image_of e.buffer) space number))
+  -- a clone may have of each page past the end of its file that it isn't there
+  pub short : StandsBeside e (beyond e.flights.files)
   -- no record of the log names a space that is no table's
   pub tables : AreOfTables e.buffer.log

@@ -1,5 +1,5 @@
 -- What the calls of a donor do, by what they answer.
-use Rattle.std.specs.Prelude.{ℕ, ◌≡◌, None, Some, IsTrue, Result, Ok, Err}
+use Rattle.std.specs.Prelude.{ℕ, ◌≡◌, Bool, true, false, None, Some, IsTrue, Result, Ok, Err}
 use Rattle.std.specs.declared.option.Option.{Option}
 use Rattle.clone_outside.specs.Causes.{Rose}
 use Rattle.clone_ring.specs.Window.{end_of}
@@ -7,18 +7,20 @@ use Rattle.clone_pool.specs.Frames.{frame_at, name_of}
 use Rattle.clone_pool.specs.Pool.{AreNotWaiting, IsNextToFlush}
 use Rattle.clone_buffer.specs.Buffered.{Buffered}
 use Rattle.clone_buffer.specs.Flushing.{IsReached}
-use Rattle.clone_buffer.specs.OnePage.{Copies, NoFileCopy}
-use Rattle.clone_flush.specs.Calls.{Begins, Halves, Lands, after_begin, checked}
+use Rattle.clone_buffer.specs.OnePage.{Copies, NoFilesOf}
+use Rattle.clone_flush.specs.Calls.{Begins, Halves, Lands, after_begin, checked, with_file}
+use Rattle.clone_flush.specs.Flights.{Flights}
 use Rattle.clone_flush.specs.declared.refusal.FlushRefusal.{FlushRefusal}
 use Rattle.clone_flush.specs.declared.refusal.FlushRefusal.TheVariants as flush
 use Rattle.clone_plain.specs.Donor.{Donor}
 use Rattle.clone_plain.specs.Effects.{Gets, put_of, delete_of}
-use Rattle.clone_plain.specs.Calls.{Call, create, begin, put, delete, get, undo_one, commit, flush_begin, flush_half, flush_land, oldest_dirty, checkpoint, end, Done, did_get, did_flush_begin, did_flush_half, did_flush_land, did_oldest_dirty, did_checkpoint, did_end, Made, done, refused, call_of, cause_of, Does}
+use Rattle.clone_plain.specs.Calls.{Call, create, begin, put, delete, get, undo_one, commit, flush_begin, flush_half, flush_land, oldest_dirty, checkpoint, end, Done, did_create, did_get, did_flush_begin, did_flush_half, did_flush_land, did_oldest_dirty, did_checkpoint, did_end, Made, done, refused, call_of, cause_of, Does}
 use Rattle.clone_plain.specs.declared.refusal.Cause.TheVariants as cause
 use Rattle.clone_plain.specs.declared.refusal.EngineRefusal.{EngineRefusal}
 use Rattle.clone_plain.specs.declared.refusal.EngineRefusal.TheVariants.{Because, NoMemory}
 use Rattle.clone_trx.specs.Calls.{create_way, begin_way, change_way, get_way, undo_way, commit_way}
 use Rattle.clone_trx.specs.Ways.{Way, ends, Answers}
+use Rattle.clone_engine.specs.Growth.{GrowsBy}
 use Rattle.clone_engine.specs.Disks.{DiskState, Visits}
 use Rattle.clone_engine.specs.Engine.{Engine, StandsBeside, state_of}
 
@@ -30,7 +32,7 @@ answer_of did (Err refusal) = Err refusal
 
 -- the way over pages of a call of transactions
 abbrev pub way_of : Donor → Call → Way
-way_of d (create table buckets) = create_way d table buckets
+way_of d (create table buckets) = create_way table buckets
 way_of d (begin writer index) = begin_way d writer index
 way_of d (put trx table key value) = change_way d trx (put_of table key value)
 way_of d (delete trx table key) = change_way d trx (delete_of table key)
@@ -55,23 +57,36 @@ pub record Did (call : Call) (s t : Engine) (did : Done) : Type 0 where
   pub does : Does s.donor did t.donor
   pub sees : Sees s.donor t.buffer did
 
--- nothing but frames has changed, for want of memory
-pub record Wants (s t : Engine) : Type 0 where
+-- so many mini-transactions a call may have written when it wants memory: a change may have made a
+-- page for its row by then
+abbrev pub written_before : Call → ℕ
+written_before (put trx table key value) = 1
+written_before (delete trx table key) = 1
+written_before call = 0
+
+-- for want of memory, nothing has changed but frames and the pages of tables
+pub record Wants (call : Call) (s t : Engine) : Type 0 where
   pub donor : t.donor ≡ s.donor
-  pub log : t.buffer.log ≡ s.buffer.log
+  pub log : GrowsBy (written_before call) s.buffer.log t.buffer.log
   pub flights : t.flights ≡ s.flights
 
 -- A CALL OF TRANSACTIONS goes its way. Want of memory is free.
 abbrev pub Goes : Call → Engine → Engine → Result Done EngineRefusal → Type 0
-Goes call s t (Err NoMemory) = Wants s t
+Goes call s t (Err NoMemory) = Wants call s t
 Goes call s t answer =
     Answers (cause_of s.donor call) (way_of s.donor call) s.donor t.donor s.buffer t.buffer answer
     (Did call s t)
 
+-- what becomes of the files: one is made of each table that is
+abbrev pub flown : Result Done EngineRefusal → Flights → Flights
+flown (Ok (did_create table buckets)) f = with_file table buckets f
+flown (Ok did) f = f
+flown (Err refusal) f = f
+
 pub record Transacts (call : Call) (s t : Engine) (answer : Result Done EngineRefusal)
     : Type 0 where
   pub goes : Goes call s t answer
-  pub flights : t.flights ≡ s.flights
+  pub flights : t.flights ≡ flown answer s.flights
   pub disk : Serves s.disk t.disk answer
 
 -- why a flush is refused, as the donor answers it
@@ -134,8 +149,8 @@ ChecksAt s t did = ⊥
 abbrev pub Steps : Call → Engine → Engine → Result Done EngineRefusal → Type 0
 Steps (flush_begin space page) s t answer =
     Flushes (did_flush_begin space page) s t answer
-    (λ r. Begins (record { space = space; number = page }) (state_of s) (state_of t) r
-    × (t.disk ≡ s.disk))
+    (Begins (record { space = space; number = page }) (state_of s) (state_of t)
+    s.disk.told t.disk.told)
 Steps (flush_half space page) s t answer =
     Flushes (did_flush_half space page) s t answer
     (Halves (record { space = space; number = page }) (state_of s) (state_of t)
@@ -149,14 +164,20 @@ Steps checkpoint s t answer = AnswersWith answer (ChecksAt s t)
 Steps end s t answer = AnswersWith answer (Ends s t)
 Steps call s t answer = Transacts call s t answer
 
+-- the flush of a page began, also where it failed at once
+abbrev pub has_begun : {X : Type 0} → Result X EngineRefusal → Bool
+has_begun (Ok x) = true
+has_begun (Err (Because cause.DiskFault)) = true
+has_begun (Err refusal) = false
+
 -- WHAT A CLONE HAS of each page goes on beside the pages. The tracker notes a page whose flush
--- begins. A table may be made while no clone is in its file copy.
+-- begins. A table may be made while no clone is in the FILE COPY of its space.
 abbrev pub KeepsCopies : Call → Engine → Engine → Result Done EngineRefusal → Type 0
 KeepsCopies (create table buckets) s t answer =
-    (copies : Copies) → NoFileCopy copies → StandsBeside s copies → StandsBeside t copies
+    (copies : Copies) → NoFilesOf table copies → StandsBeside s copies → StandsBeside t copies
 KeepsCopies (flush_begin space page) s t answer =
-    (copies : Copies) → StandsBeside s copies
-    → StandsBeside t (after_begin (record { space = space; number = page }) answer copies)
+    (copies : Copies) → StandsBeside s copies → StandsBeside t
+    (after_begin (record { space = space; number = page }) (has_begun answer) copies)
 KeepsCopies call s t answer = (copies : Copies) → StandsBeside s copies → StandsBeside t copies
 
 -- A call that was made, with its answer, is a step of the engine.

@@ -17,7 +17,8 @@ use clone_ring::Ring;
 // The flushes and the checkpoint.
 impl<D: PageDisk> Engine<D> {
     /// The flush of a page begins: its image is what will be written, and the tracker of a clone
-    /// that is in its file copy notes the page.
+    /// that is in its file copy notes the page. A file that ends before the page is lengthened
+    /// first, and where the disk fails at that, the flush has begun and failed.
     pub fn flush_begin(&mut self, space: u32, page: u32) -> Result<(), EngineRefusal>
         ensures step { Steps (call.flush_begin space page) self.old self.new
             (answer_of (λ _. did_flush_begin space page) result) }
@@ -26,7 +27,10 @@ impl<D: PageDisk> Engine<D> {
     {
         self.transactions.laws();
         self.buffer.laws();
-        match self.flusher.begin(&mut self.buffer, space, page) {
+        match self
+            .flusher
+            .begin(&mut self.buffer, space, page, &mut self.disk)
+        {
             Ok(()) => Ok(()),
             Err(refusal) => Err(refused(refusal)),
         }

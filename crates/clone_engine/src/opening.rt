@@ -1,4 +1,5 @@
 ghost use Rattle.std.specs.Prelude.{◌≡◌, ◌≤◌, ◌∷◌, [], Err, IfOk, IfErr, IsTrue, OnOk, false, is_some};
+ghost use Rattle.std.specs.FinMap as finite;
 ghost use Rattle.clone_outside.specs.Causes.{HasCause, Rose};
 ghost use Rattle.clone_outside.specs.Disk.{ForTold, Steps, blank, with_created};
 ghost use Rattle.clone_model.specs.Config.{IsConfig};
@@ -14,6 +15,7 @@ ghost use Rattle.clone_engine.specs.declared.opening.OpenCause.TheVariants as ca
 
 use crate::Engine;
 use clone_buffer::Buffer;
+use clone_contents::SYSTEM_PAGES;
 use clone_flush::Flusher;
 use clone_model::Config;
 use clone_outside::{PageDisk, Refusal};
@@ -49,6 +51,8 @@ impl<D: PageDisk> Engine<D> {
         ensures floor { IfOk result (λ e. e.buffer.ring.floor ≡ first_lsn) }
         ensures size { IfOk result (λ e. e.buffer.ring.size ≡ config.ring) }
         ensures checkpoint { IfOk result (λ e. e.flights.checkpoint ≡ first_lsn) }
+        ensures files { IfOk result (λ e. e.flights.files
+            ≡ finite.insert finite.empty 0 system_size) }
         ensures empty { IfOk result (λ _. ForTold (D.told disk) (λ m. m ≡ blank)) }
         ensures visits { IfOk result (λ d. Visits (record {
           told = D.told disk;
@@ -65,12 +69,15 @@ impl<D: PageDisk> Engine<D> {
     {
         let mut disk = disk;
         match parts(alloc, &mut disk, config) {
-            Ok((transactions, buffer)) => Ok(Engine {
-                transactions,
-                buffer,
-                flusher: Flusher::new(alloc),
-                disk,
-            }),
+            Ok((transactions, buffer, flusher)) => {
+                buffer.laws();
+                Ok(Engine {
+                    transactions,
+                    buffer,
+                    flusher,
+                    disk,
+                })
+            }
             Err(cause) => Err(OpenRefusal { cause, disk }),
         }
     }
@@ -81,11 +88,15 @@ fn parts<D: PageDisk>(
     alloc: Global,
     disk: &mut D,
     config: Config,
-) -> Result<(Transactions, Buffer), OpenCause>
+) -> Result<(Transactions, Buffer, Flusher), OpenCause>
     requires config { IsConfig config }
     ensures donor { IfOk result (λ parts. parts.0 ≡ no_donor) }
     ensures log { IfOk result (λ parts. parts.1.log ≡ opening_records ∷ []) }
     ensures kept { IfOk result (λ parts. Keeps parts.0 parts.1) }
+    ensures writes { IfOk result (λ parts. parts.2.writes ≡ finite.empty) }
+    ensures checkpoint { IfOk result (λ parts. parts.2.checkpoint ≡ first_lsn) }
+    ensures files { IfOk result (λ parts. parts.2.files
+        ≡ finite.insert finite.empty 0 system_size) }
     ensures floor { IfOk result (λ parts. parts.1.ring.floor ≡ first_lsn) }
     ensures size { IfOk result (λ parts. parts.1.ring.size ≡ config.ring) }
     ensures stands { IfOk result (λ parts. Stands parts.1 at_rest (D.told disk.new)) }
@@ -102,7 +113,10 @@ fn parts<D: PageDisk>(
     if !is_empty(alloc, disk)? {
         return Err(OpenCause::NotEmpty);
     }
-    Ok(open(alloc, config.pool, config.ring, disk)?)
+    let mut flusher = Flusher::new(alloc);
+    flusher.file_made(0, SYSTEM_PAGES)?;
+    let (transactions, buffer) = open(alloc, config.pool, config.ring, disk)?;
+    Ok((transactions, buffer, flusher))
 }
 
 /// Whether a disk holds neither a space nor a mark.

@@ -1,9 +1,9 @@
 ghost use Rattle.std.specs.Prelude.{◌≡◌, IfErr, IfOk, IfSome, IsOk, OnErr, OnOk};
+ghost use Rattle.std.specs.FinMap as finite;
 ghost use Rattle.clone_outside.specs.Causes.{Rose};
 ghost use Rattle.clone_pool.specs.Pool.{AreOpenPages};
 ghost use Rattle.clone_buffer.specs.OnePage.{bytes_in, frame_of};
 ghost use Rattle.clone_plain.specs.declared.refusal.Cause.TheVariants as cause;
-ghost use Rattle.clone_trx.specs.Spaces.{spaces_of};
 ghost use Rattle.clone_engine.specs.Reading.{ListsOpen, OnlyVisits, ReadsFile, ReadsPage, read_answer};
 
 use crate::Engine;
@@ -14,11 +14,13 @@ use std::alloc::{AllocError, Global};
 
 // What a clone reads of a donor.
 impl<D: PageDisk> Engine<D> {
-    /// The system space and then the tables in ascending order, each with its number of pages.
+    /// The system space and then the tables in ascending order, each with the number of pages that
+    /// its file has.
     pub fn spaces(&self, alloc: Global) -> Result<Vec<(u32, u32)>, AllocError>
-        ensures { IfOk result (λ spaces. spaces.items ≡ spaces_of self.now.donor) }
+        ensures { IfOk result
+            (λ spaces. spaces.items ≡ finite.entries self.now.flights.files) }
     {
-        self.transactions.spaces(alloc)
+        self.flusher.files(alloc)
     }
 
     /// The pages whose write counts as open, since a flush of each has begun and not landed: each

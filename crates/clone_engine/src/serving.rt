@@ -2,32 +2,49 @@ ghost use Rattle.std.specs.Prelude.{◌≡◌, ◌≢◌, Err};
 ghost use Rattle.clone_plain.specs.Calls as call;
 ghost use Rattle.clone_plain.specs.Calls.{did_create, did_begin, did_put, did_delete, did_get, did_undo_one, did_commit};
 ghost use Rattle.clone_plain.specs.declared.refusal.EngineRefusal.TheVariants.{NoMemory};
-ghost use Rattle.clone_engine.specs.Growth.{GrowsByOne, KeepsRing};
+ghost use Rattle.clone_trx.specs.Kept.{KeptBetween};
+ghost use Rattle.clone_engine.specs.Growth.{GrowsBy, KeepsRing, PagesStay};
 ghost use Rattle.clone_engine.specs.Steps.{KeepsCopies, Steps, answer_of};
 
 use crate::Engine;
 use clone_model::{BucketCount, TableNumber, Value};
 use clone_outside::PageDisk;
-use clone_plain::{EngineRefusal, Undone};
+use clone_plain::{Cause, EngineRefusal, Undone};
 use std::alloc::Global;
 
 // The calls of transactions.
 impl<D: PageDisk> Engine<D> {
-    /// Makes an empty table.
+    /// Makes an empty table, with a file of its own.
     pub fn create(&mut self, table: TableNumber, buckets: BucketCount) -> Result<(), EngineRefusal>
         ensures step { Steps (call.create table buckets) self.old self.new
             (answer_of (λ _. did_create table buckets) result) }
         ensures copies { KeepsCopies (call.create table buckets) self.old self.new
             (answer_of (λ _. did_create table buckets) result) }
-        ensures log { GrowsByOne self.old.buffer.log self.new.buffer.log }
+        ensures log { GrowsBy 1 self.old.buffer.log self.new.buffer.log }
+        ensures pages { PagesStay self.old.buffer self.new.buffer }
         ensures ring { KeepsRing self.old.buffer.ring self.new.buffer.ring }
     {
         self.transactions.laws();
         self.buffer.laws();
         // a table's number is in its range
-        table.get();
-        self.transactions
+        let space = table.get();
+        if self.flusher.file(space).is_some() {
+            return Err(Cause::TableExists.into());
+        }
+        self.flusher.file_made(space, buckets.get())?;
+        match self
+            .transactions
             .create(&mut self.buffer, table, buckets, &mut self.disk)
+        {
+            Ok(()) => {
+                self.buffer.laws();
+                Ok(())
+            }
+            Err(refusal) => {
+                self.flusher.file_gone(space);
+                Err(refusal)
+            }
+        }
     }
 
     /// Begins a transaction of a writer, which is its transaction of this index, and answers the
@@ -37,7 +54,8 @@ impl<D: PageDisk> Engine<D> {
             (answer_of (λ trx. did_begin writer index trx) result) }
         ensures copies { KeepsCopies (call.begin writer index) self.old self.new
             (answer_of (λ trx. did_begin writer index trx) result) }
-        ensures log { GrowsByOne self.old.buffer.log self.new.buffer.log }
+        ensures log { GrowsBy 1 self.old.buffer.log self.new.buffer.log }
+        ensures pages { PagesStay self.old.buffer self.new.buffer }
         ensures ring { KeepsRing self.old.buffer.ring self.new.buffer.ring }
     {
         self.buffer.laws();
@@ -51,7 +69,9 @@ impl<D: PageDisk> Engine<D> {
             (answer_of (λ _. did_put trx table key value.now) result) }
         ensures copies { KeepsCopies (call.put trx table key value.now) self.old self.new
             (answer_of (λ _. did_put trx table key value.now) result) }
-        ensures log { GrowsByOne self.old.buffer.log self.new.buffer.log }
+        ensures log { GrowsBy 2 self.old.buffer.log self.new.buffer.log }
+        ensures between { KeptBetween self.old.donor self.old.buffer self.new.buffer }
+        ensures pages { PagesStay self.old.buffer self.new.buffer }
         ensures ring { KeepsRing self.old.buffer.ring self.new.buffer.ring }
     {
         self.transactions.laws();
@@ -66,7 +86,9 @@ impl<D: PageDisk> Engine<D> {
             (answer_of (λ _. did_delete trx table key) result) }
         ensures copies { KeepsCopies (call.delete trx table key) self.old self.new
             (answer_of (λ _. did_delete trx table key) result) }
-        ensures log { GrowsByOne self.old.buffer.log self.new.buffer.log }
+        ensures log { GrowsBy 2 self.old.buffer.log self.new.buffer.log }
+        ensures between { KeptBetween self.old.donor self.old.buffer self.new.buffer }
+        ensures pages { PagesStay self.old.buffer self.new.buffer }
         ensures ring { KeepsRing self.old.buffer.ring self.new.buffer.ring }
     {
         self.transactions.laws();
@@ -82,6 +104,7 @@ impl<D: PageDisk> Engine<D> {
         ensures copies { KeepsCopies (call.get trx table key) self.old self.new
             (answer_of (λ value. did_get trx table key value) result) }
         ensures log { self.new.buffer.log ≡ self.old.buffer.log }
+        ensures pages { PagesStay self.old.buffer self.new.buffer }
         ensures ring { KeepsRing self.old.buffer.ring self.new.buffer.ring }
         ensures memory { result ≢ Err NoMemory }
     {
@@ -96,7 +119,8 @@ impl<D: PageDisk> Engine<D> {
             (answer_of (λ undone. did_undo_one trx undone) result) }
         ensures copies { KeepsCopies (call.undo_one trx) self.old self.new
             (answer_of (λ undone. did_undo_one trx undone) result) }
-        ensures log { GrowsByOne self.old.buffer.log self.new.buffer.log }
+        ensures log { GrowsBy 1 self.old.buffer.log self.new.buffer.log }
+        ensures pages { PagesStay self.old.buffer self.new.buffer }
         ensures ring { KeepsRing self.old.buffer.ring self.new.buffer.ring }
         ensures memory { result ≢ Err NoMemory }
     {
@@ -112,7 +136,8 @@ impl<D: PageDisk> Engine<D> {
             (answer_of (λ position. did_commit trx position) result) }
         ensures copies { KeepsCopies (call.commit trx) self.old self.new
             (answer_of (λ position. did_commit trx position) result) }
-        ensures log { GrowsByOne self.old.buffer.log self.new.buffer.log }
+        ensures log { GrowsBy 1 self.old.buffer.log self.new.buffer.log }
+        ensures pages { PagesStay self.old.buffer self.new.buffer }
         ensures ring { KeepsRing self.old.buffer.ring self.new.buffer.ring }
         ensures memory { result ≢ Err NoMemory }
     {

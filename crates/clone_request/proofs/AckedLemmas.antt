@@ -40,7 +40,7 @@ use Rattle.clone_session.specs.Effects.{Becomes, acknowledged, advanced, begun, 
 use Rattle.clone_session.proofs.PartLemmas.{stands_as}
 use Rattle.clone_engine.specs.Engine.{Engine}
 use Rattle.clone_engine.proofs.DiskLemmas.{for_told}
-use Rattle.clone_engine.proofs.ReadLemmas.{told_both}
+use Rattle.clone_donor.proofs.ToldLemmas.{told_both}
 use Rattle.clone_donor.specs.Acts as act
 use Rattle.clone_donor.specs.Acts.{Acts}
 use Rattle.clone_donor.specs.Archives.{IsOfLog}

@@ -15,12 +15,12 @@ use Rattle.clone_chunk.specs.declared.chunk.Chunk.TheVariants.{Free}
 use Rattle.clone_chunk.specs.Stages.{stage_number}
 use Rattle.clone_snapshot.specs.StageLists.{Files, StageList, chunk_count, stage_of}
 use Rattle.clone_trx.specs.Kept.{IsSafe}
-use Rattle.clone_trx.specs.Spaces.{spaces_of}
 use Rattle.clone_session.specs.declared.info.StageInfo.{StageInfo}
-use Rattle.clone_engine.specs.Engine.{Engine, IsEngine}
+use Rattle.clone_engine.specs.Engine.{Engine, IsEngine, IsInFile}
 use Rattle.clone_engine.proofs.DiskLemmas.{for_told}
 use Rattle.clone_donor.specs.Copies.{first_copies}
-use Rattle.clone_donor.specs.Donor.{Donor}
+use Rattle.clone_donor.specs.Donor.{Donor, IsPageOf, known_files}
+use Rattle.clone_donor.proofs.ToldLemmas.{told_both}
 use Rattle.clone_request.specs.declared.requester.TheConstants.{SESSION}
 use Rattle.clone_request.specs.Copying.{HasBegun, IsCopying, StartsAt}
 use Rattle.clone_request.specs.Laying.{KeepsMark, with_rooms}
@@ -32,25 +32,28 @@ use Rattle.clone_request.proofs.WaitLemmas.{first_settled}
 
 module _ (d : Donor) (info : StageInfo) (begun : HasBegun d info) where
   abbrev files : List (ℕ × ℕ)
-  files = spaces_of d.engine.donor
+  files = known_files d.engine
+
+  abbrev IsWithin : Type 0
+  IsWithin = (space number : ℕ) → IsInFile d.engine space number → IsPageOf d.engine space number
 
   -- what stands on the disk with its rooms
-  begun_holds : (m : DiskImage) → IsEngine d.engine → IsSafe d.engine.donor → IsTrue d.engine.buffer.right → m ≡ marked (InProgress SESSION) blank
+  begun_holds : (m : DiskImage) → IsEngine d.engine → IsSafe d.engine.donor → IsTrue d.engine.buffer.right → IsWithin → m ≡ marked (InProgress SESSION) blank
       → HoldsStage begun.session.snap.list begun.session.snap.chunks None begun.taken d.cloning.archive (with_rooms info.spaces m)
-  begun_holds m engine safe right is = record {
+  begun_holds m engine safe right within is = record {
     pages = subst (λ (l : StageList). HoldsPages (WaitsForPage l begun.session.snap.chunks None) begun.taken.copies (with_rooms info.spaces m)) (sym begun.list)
         (subst (λ (cs : List Chunk). HoldsPages (WaitsForPage (Files files) cs None) begun.taken.copies (with_rooms info.spaces m)) (sym chunks_are)
         (subst (λ (copies : Copies). HoldsPages first copies (with_rooms info.spaces m)) (sym begun.copies)
-        (subst (λ (spaces : List (ℕ × ℕ)). HoldsPages first copied (with_rooms spaces m)) (sym begun.spaces) (files_begin d.engine d.cloning.tracking.pages m engine safe right empty))));
+        (subst (λ (spaces : List (ℕ × ℕ)). HoldsPages first copied (with_rooms spaces m)) (sym begun.spaces) (files_begin d.engine engine safe (engine.keeps.kept right) within d.cloning.tracking.pages m empty))));
     redo = subst (λ (l : StageList). HoldsListed l begun.session.snap.chunks None begun.taken.stop d.cloning.archive (with_rooms info.spaces m)) (sym begun.list)
-        (ap (λ (spaces : List (ℕ × ℕ)). pages_in (with_rooms spaces m) REDO_SPACE) begun.spaces ∙ files_beside_redo d.engine.donor m safe empty);
+        (ap (λ (spaces : List (ℕ × ℕ)). pages_in (with_rooms spaces m) REDO_SPACE) begun.spaces ∙ files_beside_redo d.engine engine safe m empty);
   }
     where
       empty : m.spaces ≡ finite.empty
       empty = ap (λ (x : DiskImage). x.spaces) is
 
       copied : Copies
-      copied = first_copies d.cloning.tracking.pages d.engine.buffer.log
+      copied = first_copies d.cloning.tracking.pages d.engine.flights.files
 
       first : ℕ → ℕ → Type 0
       first = WaitsForPage (Files files) (replicate (chunk_count (Files files)) Free) None
@@ -58,10 +61,10 @@ module _ (d : Donor) (info : StageInfo) (begun : HasBegun d info) where
       chunks_are : begun.session.snap.chunks ≡ replicate (chunk_count (Files files)) Free
       chunks_are = begun.chunks ∙ ap (λ (l : StageList). replicate (chunk_count l) Free) begun.list
 
-  begun_told : (told now : Option DiskImage) → IsEngine d.engine → IsSafe d.engine.donor → IsTrue d.engine.buffer.right → ForTold told (λ m. m ≡ marked (InProgress SESSION) blank) → Steps told now (with_rooms info.spaces)
+  begun_told : (told now : Option DiskImage) → IsEngine d.engine → IsSafe d.engine.donor → IsTrue d.engine.buffer.right → IsWithin → ForTold told (λ m. m ≡ marked (InProgress SESSION) blank) → Steps told now (with_rooms info.spaces)
       → ForTold now (HoldsStage begun.session.snap.list begun.session.snap.chunks None begun.taken d.cloning.archive)
-  begun_told None now engine safe right is steps = subst (λ (o : Option DiskImage). ForTold o (HoldsStage begun.session.snap.list begun.session.snap.chunks None begun.taken d.cloning.archive)) (sym steps) tt
-  begun_told (Some m) now engine safe right is steps = subst (λ (o : Option DiskImage). ForTold o (HoldsStage begun.session.snap.list begun.session.snap.chunks None begun.taken d.cloning.archive)) (sym steps) (begun_holds m engine safe right is)
+  begun_told None now engine safe right within is steps = subst (λ (o : Option DiskImage). ForTold o (HoldsStage begun.session.snap.list begun.session.snap.chunks None begun.taken d.cloning.archive)) (sym steps) tt
+  begun_told (Some m) now engine safe right within is steps = subst (λ (o : Option DiskImage). ForTold o (HoldsStage begun.session.snap.list begun.session.snap.chunks None begun.taken d.cloning.archive)) (sym steps) (begun_holds m engine safe right within is)
 
   pub begun_copying : (told now : Option DiskImage) (kept : PageCounts) → IsEngine d.engine → IsSafe d.engine.donor → ForTold told (λ m. m ≡ marked (InProgress SESSION) blank) → is_some now ≡ is_some told → KeepsMark told now
       → Steps told now (with_rooms info.spaces) → ForTold now (AreSizes kept) → IsCopying d now kept 1 info.checkpoint None None
@@ -74,8 +77,8 @@ module _ (d : Donor) (info : StageInfo) (begun : HasBegun d info) where
       settled = subst (λ (cs : List Chunk). AreSettled cs None) (sym begun.chunks) (first_settled begun.session.snap.list);
       is = begun.is;
       early = λ low. begun.stop;
-      disk = for_told (IsFlown d.engine.buffer d.engine.flights no_copies) (λ _. ForTold now (HoldsStage begun.session.snap.list begun.session.snap.chunks None begun.taken d.cloning.archive)) d.engine.disk.told
-          (λ x flown. begun_told told now engine safe flown.kept.right is steps) engine.stands;
+      disk = told_both (IsFlown d.engine.buffer d.engine.flights no_copies) (λ _. IsWithin) (λ _. ForTold now (HoldsStage begun.session.snap.list begun.session.snap.chunks None begun.taken d.cloning.archive)) d.engine.disk.told
+          (λ x flown within. begun_told told now engine safe flown.kept.right within is steps) engine.stands engine.within;
       mark = mark_stays (λ o. o ≡ (marked (InProgress SESSION) blank).mark) told now tells keeps
           (for_told (λ m. m ≡ marked (InProgress SESSION) blank) (λ m. m.mark ≡ (marked (InProgress SESSION) blank).mark) told (λ m same. ap (λ (x : DiskImage). x.mark) same) is);
       sized = sizes;

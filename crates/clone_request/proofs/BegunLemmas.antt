@@ -5,7 +5,6 @@ use Rattle.clone_outside.specs.Disk.{DiskImage}
 use Rattle.clone_chunk.specs.declared.chunk.Chunk.TheVariants.{Free}
 use Rattle.clone_snapshot.specs.StageLists.{Files, StageList, chunk_count}
 use Rattle.clone_plain.specs.Donor as plain
-use Rattle.clone_trx.specs.Spaces.{spaces_of}
 use Rattle.clone_session.specs.declared.caller.Hello.{Hello}
 use Rattle.clone_session.specs.declared.info.StageInfo.{StageInfo}
 use Rattle.clone_session.specs.declared.refusal.CloneRefusal.{CloneRefusal}
@@ -14,7 +13,7 @@ use Rattle.clone_session.specs.Effects.{begun, opened, told_of}
 use Rattle.clone_donor.specs.Acts as act
 use Rattle.clone_donor.specs.Acts.{Acts}
 use Rattle.clone_donor.specs.Copying.{BeginsAs, taken_at}
-use Rattle.clone_donor.specs.Donor.{Donor}
+use Rattle.clone_donor.specs.Donor.{Donor, known_files}
 use Rattle.clone_donor.specs.Taken.{IsTaken}
 use Rattle.clone_donor.proofs.BecomesLemmas.{like}
 use Rattle.clone_request.specs.declared.requester.TheConstants.{SESSION}
@@ -28,7 +27,7 @@ module _ (d : Donor) (c : Cloning) (h : Hello) (info : StageInfo) (r : Requester
   t = record { engine = d.engine; cloning = c }
 
   abbrev list : StageList
-  list = Files (spaces_of d.engine.donor)
+  list = Files (known_files d.engine)
 
   abbrev asked : Session
   asked = record { number = h.session; incarnation = h.incarnation; tasks = h.tasks; snap = begun list }
@@ -43,7 +42,7 @@ module _ (d : Donor) (c : Cloning) (h : Hello) (info : StageInfo) (r : Requester
   begins_first acts zero way =
       let (is, empty, none) = way.begun zero in
       let (in_flight, opens, becomes) = subst (BeginsAs h d t) is.session acts.does.begins in
-      let after = opened h (spaces_of d.engine.donor) in_flight d.cloning in
+      let after = opened h (known_files d.engine) in_flight d.cloning in
       let come = comes c after info asked list own acts.does.tells becomes refl in
       let stays : c.stop ≡ d.cloning.stop = (like c after becomes).stop in
       let begun_is : HasBegun t (told_of c come.session list) = record {

@@ -1,12 +1,11 @@
 -- A block that a donor gives of a stage that is being copied, and the stage once the block is laid.
 use Rattle.std.proofs.Common.{Global, Vec, ◌≡◌, ◌<◌, ◌≤◌, ◌+◌, ◌-◌, ◌*◌, ◌↔◌, ◌∷◌, [], ◌++◌, ◌∙◌, ◌⊎◌, inl, inr, ℕ, List, Bool, true, false, Option, None, Some, Result, Ok, Err, IsTrue, cond, get_or, is_some, length, min, option_map, take, drop, refl, sym, ap, subst, arith, if◌then◌else◌}
 use Rattle.std.specs.Prelude.{IfOk, MatchResult, count_by, slice_get, slice_set}
-use Rattle.std.specs.List.{All, AllByRecursion, Contains, flat_map, range_with_len}
+use Rattle.std.specs.List.{All, AllByRecursion, Contains, flat_map}
 use Rattle.std.specs.Option.{ForSome}
 use Rattle.std.proofs.lemmas.Bool.{cases_lt}
 use Rattle.std.proofs.lemmas.List.{drop-append-le, drop-take, length-drop, length-take, length-take-le, take-append-le, take_all}
-use Rattle.std.proofs.lemmas.List.Elements.{All-append, All-contains, All-contains_itself, All-from_recursion, All-head, All-map, All-nil, All-tail, All-weaker, recursion_from_All}
-use Rattle.std.proofs.lemmas.List.FromFn.{get_or-range_with_len, length-range_with_len}
+use Rattle.std.proofs.lemmas.List.Elements.{All-contains, All-from_recursion, All-nil, All-weaker, recursion_from_All}
 use Rattle.std.proofs.lemmas.List.Sums.{sum_by-set}
 use Rattle.std.proofs.lemmas.Option.{get_or_from_slice_get, slice_get_within}
 use Rattle.std.proofs.Math.Seq.{take-add}
@@ -31,7 +30,10 @@ use Rattle.clone_snapshot.specs.StageLists.{StageList, Part, PagePart, RedoPart,
 use Rattle.clone_snapshot.specs.declared.block.RedoBlock.{RedoBlock}
 use Rattle.clone_snapshot.proofs.EachBlock.{block_sized, pages_listed, redo_alone}
 use Rattle.clone_trx.specs.Kept.{IsSafe}
-use Rattle.clone_trx.specs.Spaces.{IsPageOf, spaces_of}
+use Rattle.clone_trx.specs.Sound.{IsKept}
+use Rattle.clone_buffer.specs.Buffered.{image_of}
+use Rattle.clone_buffer.specs.OnePage.{no_copies}
+use Rattle.clone_flush.specs.Flights.{IsFlown}
 use Rattle.clone_plain.specs.Donor as plain
 use Rattle.clone_session.specs.Cloning as cloning
 use Rattle.clone_session.specs.Cloning.{CopiesRedo, IsCloning, IsInSession, Session}
@@ -40,19 +42,20 @@ use Rattle.clone_session.specs.Effects.{finished}
 use Rattle.clone_session.specs.declared.copying.BlockWork.{BlockWork}
 use Rattle.clone_session.specs.declared.copying.BlockWork.TheVariants as work
 use Rattle.clone_session.proofs.PartLemmas.{in_log}
-use Rattle.clone_engine.specs.Engine.{Engine}
+use Rattle.clone_engine.specs.Engine.{Engine, IsEngine, IsInFile}
 use Rattle.clone_engine.specs.Reading.{OnlyVisits}
 use Rattle.clone_donor.specs.Acts as act
 use Rattle.clone_donor.specs.Acts.{Acts}
 use Rattle.clone_donor.specs.Archives.{IsOfLog}
 use Rattle.clone_donor.specs.Copies.{PageRead}
 use Rattle.clone_donor.specs.Copying.{IsBlock, places_of, taken_from}
-use Rattle.clone_donor.specs.Donor.{ArePages, CopiesOwn, Donor, IsDonor, list_of}
+use Rattle.clone_donor.specs.Donor.{ArePages, CopiesOwn, Donor, IsDonor, IsPageOf, list_of}
 use Rattle.clone_donor.specs.Taken.{HasStopped, IsTaken, IsTakenBy, IsTakenIn, Taken}
 use Rattle.clone_donor.specs.declared.block.Block.{Block}
 use Rattle.clone_donor.specs.declared.block.Block.TheVariants as block
 use Rattle.clone_donor.specs.declared.block.BlockPage.{BlockPage}
 use Rattle.clone_donor.specs.declared.block.BlockRefusal.{BlockRefusal}
+use Rattle.clone_donor.proofs.GivenBlocks.{InFile, OfImage, files_own}
 use Rattle.clone_donor.proofs.ToldLemmas.{of_told}
 use Rattle.clone_request.specs.Copying.{IsCopying, IsWork, StartsAt, free_left}
 use Rattle.clone_request.specs.Laying.{KeepsMark, reads_of, with_laid}
@@ -92,33 +95,25 @@ mark_stays mark (Some m) now tells keeps had =
 
 -- PAGES of a block
 
--- those of the donor's spaces
-module _ (d : plain.Donor) where
-  abbrev IsOwn : ℕ × ℕ → Type 0
-  IsOwn page = IsPageOf d page.0 page.1
+-- those of the donor's image
+module _ (e : Engine) (safe : IsSafe e.donor) (kept : IsKept e.donor (image_of e.buffer)) where
+  low_reads : (read : List BlockPage) → AllByRecursion (OfImage e) (places_of read) → AllByRecursion IsLow (reads_of read)
+  low_reads [] own = tt
+  low_reads (p ∷ ps) own = let low = own_low e safe kept p.space p.number own.0 in ((low.0, low.1), low_reads ps own.1)
 
-  space_own : (s : ℕ × ℕ) → Contains (spaces_of d) s → All IsOwn (pages_of_space s)
-  space_own s there = All-map IsOwn (λ number. (s.0, number)) (range_with_len 0 s.1)
-      (λ k other low. let within : k < s.1 = omega (arith, low, length-range_with_len 0 s.1) in
-      record { size = s.1; space_is = there; within = omega (arith, within, get_or-range_with_len 0 s.1 k other within) })
+  low_numbers : (read : List BlockPage) → AllByRecursion (OfImage e) (places_of read) → AllByRecursion (λ (p : BlockPage). p.number < MOST_PAGES) read
+  low_numbers [] own = tt
+  low_numbers (p ∷ ps) own = let low = own_low e safe kept p.space p.number own.0 in (low.2, low_numbers ps own.1)
 
-  spaces_own : (spaces : List (ℕ × ℕ)) → All (Contains (spaces_of d)) spaces → All IsOwn (flat_map pages_of_space spaces)
-  spaces_own [] all = All-nil IsOwn
-  spaces_own (s ∷ ss) all = All-append IsOwn (pages_of_space s) (flat_map pages_of_space ss) (space_own s (All-head (Contains (spaces_of d)) s ss all)) (spaces_own ss (All-tail (Contains (spaces_of d)) s ss all))
+module _ (e : Engine) (engine : IsEngine e) (m : DiskImage) (told : e.disk.told ≡ Some m) where
+  listed_own : (l : StageList) → CopiesOwn e l → All (OfImage e) (all_pages l)
+  listed_own (lists.Files spaces) own = All-weaker (InFile e) (OfImage e) (λ page is. of_told (λ _. (space number : ℕ) → IsInFile e space number → IsPageOf e space number) e.disk.told m told engine.within page.0 page.1 is) (flat_map pages_of_space spaces) (files_own e spaces own)
+  listed_own (lists.Pages list) own = All-from_recursion (OfImage e) list (of_told (λ _. ArePages e list) e.disk.told m told own)
+  listed_own (lists.Redo start end) own = All-nil (OfImage e)
+  listed_own lists.Nothing own = All-nil (OfImage e)
 
-  low_reads : (read : List BlockPage) → IsSafe d → AllByRecursion IsOwn (places_of read) → AllByRecursion IsLow (reads_of read)
-  low_reads [] safe own = tt
-  low_reads (p ∷ ps) safe own = let low = own_low d p.space p.number safe own.0 in ((low.0, low.1), low_reads ps safe own.1)
-
-  low_numbers : (read : List BlockPage) → IsSafe d → AllByRecursion IsOwn (places_of read) → AllByRecursion (λ (p : BlockPage). p.number < MOST_PAGES) read
-  low_numbers [] safe own = tt
-  low_numbers (p ∷ ps) safe own = let low = own_low d p.space p.number safe own.0 in (low.2, low_numbers ps safe own.1)
-
-listed_own : (e : Engine) (m : DiskImage) → e.disk.told ≡ Some m → (l : StageList) → CopiesOwn e l → All (IsOwn e.donor) (all_pages l)
-listed_own e m told (lists.Files spaces) own = subst (λ (l : List (ℕ × ℕ)). All (IsOwn e.donor) (flat_map pages_of_space l)) (sym own) (spaces_own e.donor (spaces_of e.donor) (All-contains_itself (spaces_of e.donor)))
-listed_own e m told (lists.Pages list) own = All-from_recursion (IsOwn e.donor) list (of_told (λ _. ArePages e.donor list) e.disk.told m told own)
-listed_own e m told (lists.Redo start end) own = All-nil (IsOwn e.donor)
-listed_own e m told lists.Nothing own = All-nil (IsOwn e.donor)
+  kept_there : IsKept e.donor (image_of e.buffer)
+  kept_there = engine.keeps.kept (of_told (IsFlown e.buffer e.flights no_copies) e.disk.told m told engine.stands).kept.right
 
 pages_beside : (pages : List PageRead) (m : DiskImage) → AllByRecursion IsLow pages → pages_in (with_laid pages m) REDO_SPACE ≡ pages_in m REDO_SPACE
 pages_beside [] m low = refl
@@ -339,12 +334,12 @@ module _ (d t : Donor) (told : Option DiskImage) (sizes : PageCounts) (stage che
     taken_in m there = subst (IsTakenBy d.cloning d.engine.buffer.log was.taken) list_here (of_told (λ _. IsTakenBy d.cloning d.engine.buffer.log was.taken (list_of d.cloning)) d.engine.disk.told m there was.in_stage.is.stage)
 
     -- PAGES
-    module _ (pages : List (ℕ × ℕ)) (read : Vec BlockPage Global) (part_is : part ≡ PagePart pages) (places : places_of read.items ≡ pages) (safe : IsSafe d.engine.donor) (is_taken : IsTaken t (taken_from (block.Pages read) was.taken)) where
+    module _ (pages : List (ℕ × ℕ)) (read : Vec BlockPage Global) (part_is : part ≡ PagePart pages) (places : places_of read.items ≡ pages) (engine : IsEngine d.engine) (safe : IsSafe d.engine.donor) (is_taken : IsTaken t (taken_from (block.Pages read) was.taken)) where
       pages_are : block_of list chunk number ≡ Some (PagePart pages)
       pages_are = block_is ∙ ap (λ (p : Part). Some p) part_is
 
-      own : (m : DiskImage) → d.engine.disk.told ≡ Some m → AllByRecursion (IsOwn d.engine.donor) (places_of read.items)
-      own m there = recursion_from_All (IsOwn d.engine.donor) (places_of read.items) (All-weaker (Contains (all_pages list)) (IsOwn d.engine.donor) (λ x has. All-contains (IsOwn d.engine.donor) (all_pages list) x (listed_own d.engine m there list (is.own list list_here)) has) (places_of read.items)
+      own : (m : DiskImage) → d.engine.disk.told ≡ Some m → AllByRecursion (OfImage d.engine) (places_of read.items)
+      own m there = recursion_from_All (OfImage d.engine) (places_of read.items) (All-weaker (Contains (all_pages list)) (OfImage d.engine) (λ x has. All-contains (OfImage d.engine) (all_pages list) x (listed_own d.engine engine m there list (is.own list list_here)) has) (places_of read.items)
           (subst (All (Contains (all_pages list))) (sym places) (pages_listed list chunk number pages pages_are)))
 
       not_part : (s n : ℕ) → IsNotOf (reads_of read.items) s n → HasPage s n part → ⊥
@@ -352,7 +347,7 @@ module _ (d t : Donor) (told : Option DiskImage) (sizes : PageCounts) (stage che
 
       pages_laid : (m : DiskImage) → d.engine.disk.told ≡ Some m → (x : DiskImage) → HoldsStage list chunks in_work was.taken d.cloning.archive x → Now (taken_from (block.Pages read) was.taken) d.cloning.archive (with_laid (reads_of read.items) x)
       pages_laid m there x held =
-          let low = low_reads d.engine.donor read.items safe (own m there) in
+          let low = low_reads d.engine safe (kept_there d.engine engine m there) read.items (own m there) in
           let some = lists_pages list chunk number pages pages_are in
           record {
             pages = holds_weaker (λ s n. WaitsForPage list chunks in_work s n × IsNotOf (reads_of read.items) s n) (WaitsForPage list (chunks_with last) (work_after chunk number last)) _ _
@@ -364,7 +359,7 @@ module _ (d t : Donor) (told : Option DiskImage) (sizes : PageCounts) (stage che
       pub pages_into : ReadsInto t told stage checkpoint chunk number last stop (block.Pages read)
       pages_into = record {
         fit = tt;
-        low = subst (λ (o : Option DiskImage). ForTold o (λ _. AreLow (block.Pages read))) (sym told_now) (for_told (λ _. AreLow (block.Pages read)) d.engine.disk.told (λ m there. low_numbers d.engine.donor read.items safe (own m there)));
+        low = subst (λ (o : Option DiskImage). ForTold o (λ _. AreLow (block.Pages read))) (sym told_now) (for_told (λ _. AreLow (block.Pages read)) d.engine.disk.told (λ m there. low_numbers d.engine safe (kept_there d.engine engine m there) read.items (own m there)));
         laid = copying_now (taken_from (block.Pages read) was.taken) (with_laid (reads_of read.items)) is_taken refl pages_laid;
       }
 
@@ -470,7 +465,7 @@ module _ (d t : Donor) (told : Option DiskImage) (sizes : PageCounts) (stage che
 -- A BLOCK IS READ
 module _ (d t : Donor) (told : Option DiskImage) (sizes : PageCounts) (stage checkpoint chunk number : ℕ) (stop : Option plain.Donor) (last : Bool) (read : Block)
     (was : IsCopying d told sizes stage checkpoint (Some (record { chunk = chunk; laid = number })) stop) (acts : Acts (act.Give CALLER chunk number read last) d t)
-    (is : IsDonor d) (safe : IsSafe d.engine.donor) (is_cloning : IsCloning d.cloning) (archives : ForSome d.cloning.archive IsArchived) (snap : ForSome d.cloning.session (λ s. IsSnap s.snap.list s.snap.chunks s.snap.room)) where
+    (is : IsDonor d) (engine : IsEngine d.engine) (safe : IsSafe d.engine.donor) (is_cloning : IsCloning d.cloning) (archives : ForSome d.cloning.archive IsArchived) (snap : ForSome d.cloning.session (λ s. IsSnap s.snap.list s.snap.chunks s.snap.room)) where
   list_same : acts.does.session.snap.list ≡ was.session.snap.list
   list_same = ap (λ (s : Session). s.snap.list) (same_session d.cloning was.session acts.does.session was.in_stage.session acts.does.stands)
 
@@ -478,7 +473,7 @@ module _ (d t : Donor) (told : Option DiskImage) (sizes : PageCounts) (stage che
   is_of w on = subst (λ (s : Session). block_of s.snap.list chunk number ≡ Some (part_of w)) (same_session d.cloning was.session on.0 was.in_stage.session on.1) on.2
 
   by : (w : BlockWork) (b : Block) → block_of was.session.snap.list chunk number ≡ Some (part_of w) → IsThere d.cloning w → IsBlock acts.does.session.snap.list d w b → IsTaken t (taken_from b was.taken) → ReadsInto t told stage checkpoint chunk number last stop b
-  by (work.Pages pages) (block.Pages pages_read) on kept made taken = pages_into d t told sizes stage checkpoint chunk number stop last (PagePart pages) was on acts.does.visits acts.does.answers is is_cloning pages pages_read refl made.0 safe taken
+  by (work.Pages pages) (block.Pages pages_read) on kept made taken = pages_into d t told sizes stage checkpoint chunk number stop last (PagePart pages) was on acts.does.visits acts.does.answers is is_cloning pages pages_read refl made.0 engine safe taken
   by (work.Pages pages) (block.Redo from bytes) on kept made taken = absurd made
   by (work.Redo redo) (block.Pages pages_read) on kept made taken = absurd made
   by (work.Redo redo) (block.Redo from bytes) on kept made taken = redo_into d t told sizes stage checkpoint chunk number stop last (RedoPart redo.from redo.length) was on acts.does.visits acts.does.answers is is_cloning redo from bytes refl made.0 made.1 kept (snap was.session was.in_stage.session).in_log archives taken
@@ -495,16 +490,16 @@ Stays before d stage chunk number =
     (told : Option DiskImage) (sizes : PageCounts) (checkpoint : ℕ) (stop : Option plain.Donor) → IsCopying before told sizes stage checkpoint (Some (record { chunk = chunk; laid = number })) stop → IsCopying d told sizes stage checkpoint (Some (record { chunk = chunk; laid = number })) stop
 
 module _ (before d t : Donor) (stage chunk number : ℕ) (into : Block) (stays : Stays before d stage chunk number)
-    (is : IsDonor d) (safe : IsSafe d.engine.donor) (is_cloning : IsCloning d.cloning) (archives : ForSome d.cloning.archive IsArchived) (snap : ForSome d.cloning.session (λ s. IsSnap s.snap.list s.snap.chunks s.snap.room)) where
+    (is : IsDonor d) (engine : IsEngine d.engine) (safe : IsSafe d.engine.donor) (is_cloning : IsCloning d.cloning) (archives : ForSome d.cloning.archive IsArchived) (snap : ForSome d.cloning.session (λ s. IsSnap s.snap.list s.snap.chunks s.snap.room)) where
   abbrev Reads : Bool → Type 0
   Reads last = (told : Option DiskImage) (sizes : PageCounts) (checkpoint : ℕ) (stop : Option plain.Donor) → IsCopying before told sizes stage checkpoint (Some (record { chunk = chunk; laid = number })) stop
       → ReadsInto t told stage checkpoint chunk number last stop into
 
   pub answer_reads : (answer : Result Bool BlockRefusal) → MatchResult answer (λ last. Acts (act.Give CALLER chunk number into last) d t) (λ _. Acts act.Miss d t) → IfOk answer Reads
-  answer_reads (Ok last) acts = λ told sizes checkpoint stop was. reads_into d t told sizes stage checkpoint chunk number stop last into (stays told sizes checkpoint stop was) acts is safe is_cloning archives snap
+  answer_reads (Ok last) acts = λ told sizes checkpoint stop was. reads_into d t told sizes stage checkpoint chunk number stop last into (stays told sizes checkpoint stop was) acts is engine safe is_cloning archives snap
   answer_reads (Err e) acts = tt
 
   pub answer_left : (told : Option DiskImage) (sizes : PageCounts) (checkpoint : ℕ) (stop : Option plain.Donor) → IsCopying before told sizes stage checkpoint (Some (record { chunk = chunk; laid = number })) stop → free_left d ≡ free_left before
       → (answer : Result Bool BlockRefusal) → MatchResult answer (λ last. Acts (act.Give CALLER chunk number into last) d t) (λ _. Acts act.Miss d t) → IfOk answer (λ last. free_left t ≡ free_left before)
-  answer_left told sizes checkpoint stop was same (Ok last) acts = reads_left d t told sizes stage checkpoint chunk number stop last into (stays told sizes checkpoint stop was) acts is safe is_cloning archives snap ∙ same
+  answer_left told sizes checkpoint stop was same (Ok last) acts = reads_left d t told sizes stage checkpoint chunk number stop last into (stays told sizes checkpoint stop was) acts is engine safe is_cloning archives snap ∙ same
   answer_left told sizes checkpoint stop was same (Err e) acts = tt

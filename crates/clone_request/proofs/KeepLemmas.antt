@@ -1,5 +1,5 @@
 -- A clone stays under way while other calls are made on the donor.
-use Rattle.std.proofs.Common.{◌≡◌, ◌≤◌, ◌<◌, ◌+◌, ◌-◌, ◌∙◌, ℕ, List, length, All, Option, None, Some, Result, Ok, Err, option_map, is_some, refl, sym, ap, subst, arith}
+use Rattle.std.proofs.Common.{◌≡◌, ◌≤◌, ◌<◌, ◌+◌, ◌-◌, ◌∙◌, ℕ, Bool, true, false, if◌then◌else◌, List, length, All, Option, None, Some, Result, Ok, Err, option_map, is_some, refl, sym, ap, subst, arith}
 use Rattle.std.proofs.lemmas.List.{length-append}
 use Rattle.std.specs.Prelude.{take, drop}
 use Rattle.clone_outside.specs.Disk.{DiskImage, ForTold}
@@ -14,10 +14,10 @@ use Rattle.clone_plain.specs.declared.refusal.EngineRefusal.{EngineRefusal}
 use Rattle.clone_session.specs.Cloning.{Cloning, Session}
 use Rattle.clone_session.specs.CloneCalls.{Archives, archived_on}
 use Rattle.clone_session.specs.CloneCauses.{donor_stage}
-use Rattle.clone_session.specs.Effects.{Becomes}
+use Rattle.clone_session.specs.Effects.{Becomes, with_noted}
 use Rattle.clone_engine.specs.Disks.{DiskState}
 use Rattle.clone_engine.specs.Engine.{Engine}
-use Rattle.clone_engine.specs.Steps.{Ends, Looks}
+use Rattle.clone_engine.specs.Steps.{Ends, Looks, has_begun}
 use Rattle.clone_engine.proofs.DiskLemmas.{for_told}
 use Rattle.clone_donor.specs.Acts as act
 use Rattle.clone_donor.specs.Acts.{Act, Acts, Does, after_act}
@@ -71,11 +71,15 @@ leaves_same old new is = record {
 
 -- a page that is noted leaves the rest
 leaves_noted : (call : Call) (answer : Result Done EngineRefusal) (old new : Cloning) → Becomes new (noted_by call answer old) → Leaves old new
-leaves_noted (flush_begin space page) (Ok did) old new is = record {
-  session = ap (λ (c : Cloning). c.session) is;
-  archive = grows_same old.archive new.archive (ap (λ (c : Cloning). c.archive) is);
-  stop = ap (λ (c : Cloning). c.stop) is;
-}
+leaves_noted (flush_begin space page) answer old new is = by (has_begun answer) is
+  where
+    by : (begun : Bool) → Becomes new (if begun then with_noted (space, page) old else old) → Leaves old new
+    by true is = record {
+      session = ap (λ (c : Cloning). c.session) is;
+      archive = grows_same old.archive new.archive (ap (λ (c : Cloning). c.archive) is);
+      stop = ap (λ (c : Cloning). c.stop) is;
+    }
+    by false is = leaves_becomes old new is
 leaves_noted call answer old new is = leaves_becomes old new is
 
 -- Each call leaves whether the disk tells what it holds.

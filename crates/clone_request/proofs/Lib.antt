@@ -5,7 +5,6 @@ mod WaitLemmas
 mod RedoBlocks
 mod RedoLemmas
 mod StageLemmas
-mod PresenceLemmas
 mod FileLemmas
 pub mod KeepLemmas
 mod ClaimLemmas

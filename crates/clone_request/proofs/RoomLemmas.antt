@@ -1,5 +1,5 @@
 -- A disk on which room was made for files: each of their pages is a zero page.
-use Rattle.std.proofs.Common.{◌≡◌, ◌<◌, ◌≢◌, ◌∷◌, ◌∙◌, ◌==◌, ◌&&◌, [], ℕ, zero, suc, Bool, false, List, length, get_or, None, Some, refl, sym, ap, subst, arith, slice_get}
+use Rattle.std.proofs.Common.{◌≡◌, ◌<◌, ◌≢◌, ◌∷◌, ◌∙◌, ◌==◌, ◌&&◌, ◌≤◌, ◌⊎◌, inl, inr, [], ℕ, zero, suc, Bool, true, false, List, length, get_or, None, Some, refl, sym, ap, subst, arith, slice_get}
 use Rattle.std.specs.Prelude.{nat_lt, unwrap_or, option_and_then, IfSome}
 use Rattle.std.specs.declared.option.Option.{Option}
 use Rattle.std.specs.FinMap as finite
@@ -7,6 +7,8 @@ use Rattle.std.specs.FinMap.{get-empty}
 use Rattle.std.specs.List.{All, Contains}
 use Rattle.std.specs.Ordering.{nat_cmp}
 use Rattle.std.proofs.lemmas.Bool.{le-ltb}
+use Rattle.std.proofs.lemmas.Bool.Decides.{eqb_tells}
+use Rattle.std.proofs.lemmas.List.Elements.{All-head, All-tail}
 use Rattle.clone_base.specs.declared.limits.TheConstants.{REDO_SPACE}
 use Rattle.clone_outside.specs.Disk as disk
 use Rattle.clone_outside.specs.Disk.{DiskImage, Spaces, extended}
@@ -19,7 +21,7 @@ use Rattle.clone_lay.specs.Laid.{pages_in, standing, with_room}
 use Rattle.clone_lay.proofs.PageLemmas.{room_place}
 use Rattle.clone_lay.proofs.SpaceLemmas.{get_there, get_here}
 use Rattle.clone_request.specs.Laying.{with_rooms}
-use Rattle.clone_request.proofs.StandingLemmas.{IsShort, given_lax, held_standing, lax_same, lax_trans, short_from, space_standing, standing_low, standing_still}
+use Rattle.clone_request.proofs.StandingLemmas.{IsShort, given_lax, held_standing, lax_same, lax_trans, short_from, short_on, space_standing, standing_low, standing_still}
 
 blank_there : (m : DiskImage) → m.spaces ≡ finite.empty → (s : ℕ) → finite.get m.spaces s ≡ None
 blank_there m empty s = ap (λ (x : Spaces). finite.get x s) empty ∙ get-empty nat_cmp s
@@ -74,17 +76,28 @@ rooms_beside (space ∷ spaces) m q others =
     rooms_beside spaces (with_room space.0 space.1 m) q (λ i d less. others (suc i) d (omega (arith, less)))
     ∙ get_there m space.0 q (extended space.1 (pages_in m space.0)) (λ same. others 0 space (omega arith) (sym same))
 
--- the system space has its pages and no others
-pub rooms_short : (tables : List (ℕ × ℕ)) (m : DiskImage) → m.spaces ≡ finite.empty → All (λ (t : ℕ × ℕ). t.0 ≢ 0) tables → IsShort (with_rooms ((0, system_size) ∷ tables) m)
-rooms_short tables m empty others number past =
-    short_from (with_rooms tables (with_room 0 system_size m)) number
-    (ap at_number (rooms_beside tables (with_room 0 system_size m) 0 others)
-    ∙ room_place m 0 system_size 0 number
-    ∙ ap (λ (b : Bool). standing None (disk.page_of m 0 number) b) (le-ltb number system_size past)
-    ∙ ap (λ (o : Option (List Held)). standing None (at_number o) false) (blank_there m empty 0))
+-- The system space gets no more pages than it may.
+
+room_short : (m : DiskImage) (space count : ℕ) → (space ≡ 0 → count ≤ system_size) → IsShort m → IsShort (with_room space count m)
+room_short m space count most short n past =
+    short_from (with_room space count m) n
+    (room_place m space count 0 n
+    ∙ ap (λ (o : Option Held). standing None o (space == 0 && nat_lt n count)) (short_on m n (short n past))
+    ∙ ap (λ (b : Bool). standing None None b) (beside (eqb_tells space 0)))
   where
-    at_number : Option (List Held) → Option Held
-    at_number o = option_and_then (λ (ps : List Held). slice_get ps number) o
+    beside : (((space == 0) ≡ true) × (space ≡ 0)) ⊎ (((space == 0) ≡ false) × (space ≢ 0)) → (space == 0 && nat_lt n count) ≡ false
+    beside (inl is) = ap (λ (x : Bool). x && nat_lt n count) is.0 ∙ le-ltb n count (omega (arith, most is.1, past))
+    beside (inr is) = ap (λ (x : Bool). x && nat_lt n count) is.0
+
+all_short : (spaces : List (ℕ × ℕ)) (m : DiskImage) → IsShort m → All (λ (t : ℕ × ℕ). t.0 ≡ 0 → t.1 ≤ system_size) spaces → IsShort (with_rooms spaces m)
+all_short [] m short most = short
+all_short (space ∷ spaces) m short most =
+    all_short spaces (with_room space.0 space.1 m) (room_short m space.0 space.1 (All-head (λ (t : ℕ × ℕ). t.0 ≡ 0 → t.1 ≤ system_size) space spaces most) short)
+    (All-tail (λ (t : ℕ × ℕ). t.0 ≡ 0 → t.1 ≤ system_size) space spaces most)
+
+pub rooms_short : (spaces : List (ℕ × ℕ)) (m : DiskImage) → m.spaces ≡ finite.empty → All (λ (t : ℕ × ℕ). t.0 ≡ 0 → t.1 ≤ system_size) spaces → IsShort (with_rooms spaces m)
+rooms_short spaces m empty most =
+    all_short spaces m (λ n past. short_from m n (ap (λ (o : Option (List Held)). option_and_then (λ (ps : List Held). slice_get ps n) o) (blank_there m empty 0))) most
 
 rooms_still : (spaces : List (ℕ × ℕ)) (m : DiskImage) → IsQuiet m → IsQuiet (with_rooms spaces m)
 rooms_still [] m quiet = quiet

@@ -1,5 +1,5 @@
 -- What a disk holds, as the stages of a clone come and go.
-use Rattle.std.proofs.Common.{◌≡◌, ℕ, List, Option, None, Some, Result, Ok, Err, ◌⊎◌, inl, inr, Bool, true, false, cond, sym, refl, subst, ◌∙◌}
+use Rattle.std.proofs.Common.{◌≡◌, ℕ, List, Option, None, Some, Result, ◌⊎◌, inl, inr, Bool, true, false, cond, sym, refl, subst, ◌∙◌}
 use Rattle.std.proofs.lemmas.Bool.{true≢false}
 use Rattle.std.proofs.lemmas.Map.Views.{Contains-from_any}
 use Rattle.std.specs.FinMap as finite
@@ -27,6 +27,8 @@ use Rattle.clone_snapshot.specs.StageLists.{chunk_count}
 use Rattle.clone_donor.specs.Copies.{AreInFiles, AreInPages, IsInFiles, files_over, is_noted, pages_over}
 use Rattle.clone_plain.specs.Calls.{Call, flush_begin, Done}
 use Rattle.clone_plain.specs.declared.refusal.EngineRefusal.{EngineRefusal}
+use Rattle.clone_flush.specs.Calls.{after_begin}
+use Rattle.clone_engine.specs.Steps.{has_begun}
 use Rattle.clone_donor.specs.Serving.{taken_by}
 use Rattle.clone_donor.specs.Taken.{Taken}
 use Rattle.clone_request.specs.Waiting.{Counts, HoldsPages, WaitsForPage}
@@ -101,8 +103,11 @@ noted_holds page waits copies m holds = holds_counts waits waits copies (with_no
 
 -- A call of the engine is made.
 pub called_holds : (call : Call) (answer : Result Done EngineRefusal) (taken : Taken) (waits : ℕ → ℕ → Type 0) (m : DiskImage) → HoldsPages waits taken.copies m → HoldsPages waits (taken_by call answer taken).copies m
-called_holds (flush_begin space page) (Ok did) taken waits m holds = noted_holds (record { space = space; number = page }) waits taken.copies m holds
-called_holds (flush_begin space page) (Err refusal) taken waits m holds = holds
+called_holds (flush_begin space page) answer taken waits m holds = by (has_begun answer)
+  where
+    by : (begun : Bool) → HoldsPages waits (after_begin (record { space = space; number = page }) begun taken.copies) m
+    by true = noted_holds (record { space = space; number = page }) waits taken.copies m holds
+    by false = holds
 called_holds call answer taken waits m holds = holds
 
 -- While files or pages are copied, an answer may count.

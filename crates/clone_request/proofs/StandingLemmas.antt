@@ -152,7 +152,7 @@ abbrev pub IsShort : DiskImage → Type 0
 IsShort m = (number : ℕ) → system_size ≤ number → page_of (image_of m) 0 number ≡ None
 
 -- the disk itself has no page of the system space there
-short_on : (m : DiskImage) (n : ℕ) → page_of (image_of m) 0 n ≡ None → disk.page_of m 0 n ≡ None
+pub short_on : (m : DiskImage) (n : ℕ) → page_of (image_of m) 0 n ≡ None → disk.page_of m 0 n ≡ None
 short_on m n none = no_page (disk.page_of m 0 n) (sym (system_page m n) ∙ none)
 
 pub short_from : (m : DiskImage) (n : ℕ) → disk.page_of m 0 n ≡ None → page_of (image_of m) 0 n ≡ None

@@ -16,14 +16,13 @@ use Rattle.clone_chunk.specs.Chunks.{is_free}
 use Rattle.clone_snapshot.specs.StageLists as lists
 use Rattle.clone_snapshot.specs.StageLists.{StageList, block_count, chunk_count}
 use Rattle.clone_plain.specs.Donor as plain
-use Rattle.clone_trx.specs.Spaces.{spaces_of}
 use Rattle.clone_session.specs.declared.info.StageInfo.{StageInfo}
 use Rattle.clone_session.specs.declared.info.Stop.{Stop}
 use Rattle.clone_session.specs.Cloning.{Session}
 use Rattle.clone_session.specs.CloneCauses.{donor_stage}
 use Rattle.clone_engine.specs.Engine.{Engine}
 use Rattle.clone_donor.specs.Copies.{first_copies}
-use Rattle.clone_donor.specs.Donor.{Donor}
+use Rattle.clone_donor.specs.Donor.{Donor, known_files}
 use Rattle.clone_donor.specs.Laid.{IsComplete}
 use Rattle.clone_donor.specs.Taken.{IsTaken, Taken}
 use Rattle.clone_request.specs.declared.requester.TheConstants.{SESSION}
@@ -69,12 +68,12 @@ pub record HasBegun (d : Donor) (info : StageInfo) : Type 0 where
   pub taken : Taken
   pub stands : d.cloning.session ≡ Some session
   pub own : IsOwn session
-  pub list : session.snap.list ≡ lists.Files (spaces_of d.engine.donor)
+  pub list : session.snap.list ≡ lists.Files (known_files d.engine)
   pub chunks : session.snap.chunks ≡ replicate (chunk_count session.snap.list) Free
   pub is : IsTaken d taken
-  pub copies : taken.copies ≡ first_copies d.cloning.tracking.pages d.engine.buffer.log
+  pub copies : taken.copies ≡ first_copies d.cloning.tracking.pages d.engine.flights.files
   pub stop : taken.stop ≡ None
-  pub spaces : info.spaces ≡ spaces_of d.engine.donor
+  pub spaces : info.spaces ≡ known_files d.engine
 
 -- the end of a clone is the one that a donor tells
 pub record IsEndOf (info : StageInfo) (end : CloneEnd) : Type 0 where

@@ -6,8 +6,15 @@ use Rattle.clone_donor.specs.Acts.{Acts}
 use Rattle.clone_donor.specs.Copying.{moment_of}
 use Rattle.clone_donor.specs.Donor.{Donor}
 use Rattle.clone_donor.proofs.AckLemmas.{acked, acks}
+use Rattle.clone_donor.proofs.LikeLemmas.{like_donor, refused_like}
 use Rattle.clone_donor.proofs.SettleLemmas.{donor_settled, settles_for}
 use Rattle.clone_donor.proofs.donor.Donor.ack.Goals as goal
+
+pub invariant_of-self : goal.invariant_of-self
+invariant_of-self g c =
+    let old = c.self.inside in
+    let new = c.acknowledge.new.self in
+    like_donor (record { engine = old.engine; cloning = old.cloning }) new (refused_like _ old.cloning new _ _ c.in_err-info.ensures.acknowledges) c.self.invariant
 
 pub invariant_of-self-2 : goal.invariant_of-self-2
 invariant_of-self-2 g c =

@@ -5,13 +5,14 @@ use Rattle.clone_engine.specs.Steps.{answer_of}
 use Rattle.clone_donor.specs.Acts as act
 use Rattle.clone_donor.specs.Acts.{Acts}
 use Rattle.clone_donor.specs.Donor.{Donor}
+use Rattle.clone_donor.proofs.GrowthLemmas.{of_two}
 use Rattle.clone_donor.proofs.ServeLemmas.{transacts_donor, transacts_taken}
 use Rattle.clone_donor.proofs.donor.Donor.delete.Goals as goal
 
 pub invariant_of-self : goal.invariant_of-self
 invariant_of-self g c =
     let d : Donor = record { engine = c.self.inside.engine; cloning = c.self.inside.cloning } in
-    transacts_donor (call.delete c.args.trx c.args.table c.args.key) d c.delete-changed.new.self (answer_of (λ (x : Unit {0}). did_delete c.args.trx c.args.table c.args.key) c.delete-changed.result) tt c.delete-changed.ensures.step c.delete-changed.ensures.log c.delete-changed.ensures.ring c.laws.ensures.engine c.laws.ensures.buffer c.self.invariant
+    transacts_donor (call.delete c.args.trx c.args.table c.args.key) d c.delete-changed.new.self (answer_of (λ (x : Unit {0}). did_delete c.args.trx c.args.table c.args.key) c.delete-changed.result) tt c.delete-changed.ensures.step (of_two d.engine c.delete-changed.new.self c.delete-changed.ensures.log c.delete-changed.ensures.between) c.delete-changed.ensures.ring c.laws.ensures.engine c.delete-changed.ensures.pages c.laws-2.ensures.engine c.laws-2.ensures.buffer c.self.invariant
 
 pub returns : goal.returns
 returns g c =
@@ -22,6 +23,6 @@ returns g c =
       acts = subst (λ (s : Donor). Acts (act.Calls call answer) s (record { engine = c.delete-changed.new.self; cloning = c.self.inside.cloning })) c.self.view_is
           (record {
             does = record { steps = c.delete-changed.ensures.step; cloning = refl };
-            taken = transacts_taken call d c.delete-changed.new.self answer tt c.delete-changed.ensures.step c.delete-changed.ensures.log c.delete-changed.ensures.ring c.delete-changed.ensures.copies;
+            taken = transacts_taken call d c.delete-changed.new.self answer tt c.delete-changed.ensures.step (of_two d.engine c.delete-changed.new.self c.delete-changed.ensures.log c.delete-changed.ensures.between) c.delete-changed.ensures.ring c.delete-changed.ensures.copies;
           });
     }

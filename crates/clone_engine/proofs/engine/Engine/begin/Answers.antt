@@ -3,10 +3,10 @@ use Rattle.clone_plain.specs.Calls as call
 use Rattle.clone_plain.specs.Donor.{Donor}
 use Rattle.clone_plain.specs.Calls.{did_begin}
 use Rattle.clone_plain.specs.Effects.{Begins}
-use Rattle.clone_engine.specs.Growth.{GrowsByOne, KeepsRing}
+use Rattle.clone_engine.specs.Growth.{GrowsBy, KeepsRing, PagesStay}
 use Rattle.clone_engine.specs.Engine.{Engine, StandsBeside}
 use Rattle.clone_engine.specs.Steps.{Transacts, answer_of}
-use Rattle.clone_engine.proofs.AnswerLemmas.{transacts}
+use Rattle.clone_engine.proofs.AnswerLemmas.{still_flown, transacts}
 use Rattle.clone_engine.proofs.CallLemmas.{begin_leaves}
 use Rattle.clone_flush.specs.Flights.{beside_of}
 use Rattle.clone_engine.proofs.DiskLemmas.{stays_flown}
@@ -19,7 +19,7 @@ invariant_of-self g c =
     let new = c.begin.new in
     let is = c.begin.ensures in
     let l = begin_leaves old.transactions new.self old.buffer new.buffer c.args.writer c.args.index c.begin.result is.answer in
-    still_engine old.transactions new.self old.buffer new.buffer old.flusher _ _ c.self.invariant is.kept l.grows (λ beside _. is.stands beside) is.told l.tables
+    still_engine 1 old.transactions new.self old.buffer new.buffer old.flusher _ _ c.self.invariant is.kept l.grows l.pages is.stands is.told l.tables
 
 pub returns-clause-step : goal.returns-clause-step
 returns-clause-step g c =
@@ -33,7 +33,7 @@ returns-clause-step g c =
     let s : Engine = engine d old.buffer old.flusher (record { told = g.D.PageDisk.told old.disk; failures = g.D.PageDisk.failures old.disk; orders = g.D.PageDisk.orders old.disk }) in
     let t : Engine = engine e new.buffer old.flusher (record { told = g.D.PageDisk.told new.disk; failures = g.D.PageDisk.failures new.disk; orders = g.D.PageDisk.orders new.disk }) in
     subst (λ (s : Engine). Transacts call s t (answer_of did c.begin.result)) c.self.view_is
-    (transacts did call s t c.begin.result (λ (trx : ℕ). Begins d c.args.writer c.args.index trx e) (λ x does. record { is = refl; does = does; sees = tt }) refl is.answer
+    (transacts did call s t c.begin.result (λ (trx : ℕ). Begins d c.args.writer c.args.index trx e) (λ x does. record { is = refl; does = does; sees = tt }) (still_flown did c.begin.result old.flusher (λ _. refl)) is.answer
     (record { later = is.later; orders = is.orders; tells = ap is_some is.told }) is.fault)
 
 pub returns-clause-copies : goal.returns-clause-copies
@@ -58,4 +58,12 @@ returns-clause-log g c =
     let new = c.begin.new in
     let is = c.begin.ensures in
     let l = begin_leaves old.transactions new.self old.buffer new.buffer c.args.writer c.args.index c.begin.result is.answer in
-    subst (λ (s : Engine). GrowsByOne s.buffer.log new.buffer.log) c.self.view_is l.grows.log
+    subst (λ (s : Engine). GrowsBy 1 s.buffer.log new.buffer.log) c.self.view_is l.grows.log
+
+pub returns-clause-pages : goal.returns-clause-pages
+returns-clause-pages g c =
+    let old = c.self.inside in
+    let new = c.begin.new in
+    let is = c.begin.ensures in
+    let l = begin_leaves old.transactions new.self old.buffer new.buffer c.args.writer c.args.index c.begin.result is.answer in
+    subst (λ (s : Engine). PagesStay s.buffer new.buffer) c.self.view_is l.pages

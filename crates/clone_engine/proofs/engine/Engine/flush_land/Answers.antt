@@ -1,4 +1,3 @@
-use Rattle.clone_buffer.specs.OnePage.{no_copies}
 use Rattle.clone_flush.specs.Calls.{State}
 use Rattle.clone_engine.proofs.FlushLemmas.{landed_is, written_engine}
 use Rattle.clone_engine.proofs.engine.Engine.flush_land.Goals as goal
@@ -10,4 +9,4 @@ invariant_of-self g c =
     let s : State = record { buffer = old.buffer; flights = old.flusher } in
     let t : State = record { buffer = new.buffer; flights = new.self } in
     let w = landed_is old.transactions (record { space = c.args.space; number = c.args.page }) s t (g.D.PageDisk.told old.disk) (g.D.PageDisk.told new.disk) c.land.result c.land.ensures.lands in
-    written_engine old.transactions s t _ _ c.self.invariant w (c.land.ensures.stands no_copies c.self.invariant.stands)
+    written_engine old.transactions s t _ _ c.self.invariant w c.land.ensures.stands

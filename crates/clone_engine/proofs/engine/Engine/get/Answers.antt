@@ -3,10 +3,10 @@ use Rattle.clone_plain.specs.Calls as call
 use Rattle.clone_plain.specs.Calls.{did_get}
 use Rattle.clone_plain.specs.Donor.{Donor}
 use Rattle.clone_plain.specs.Effects.{Gets}
-use Rattle.clone_engine.proofs.AnswerLemmas.{transacts}
-use Rattle.clone_engine.proofs.CallLemmas.{get_log, get_grows}
+use Rattle.clone_engine.proofs.AnswerLemmas.{still_flown, transacts}
+use Rattle.clone_engine.proofs.CallLemmas.{get_log, get_grows, same_pages}
 use Rattle.clone_flush.specs.Flights.{beside_of}
-use Rattle.clone_engine.specs.Growth.{KeepsRing}
+use Rattle.clone_engine.specs.Growth.{KeepsRing, PagesStay}
 use Rattle.clone_engine.specs.Engine.{Engine, StandsBeside}
 use Rattle.clone_engine.specs.Steps.{Transacts, answer_of}
 use Rattle.clone_engine.proofs.DiskLemmas.{stays_flown}
@@ -21,7 +21,7 @@ invariant_of-self g c =
     let d = old.transactions in
     let does = λ (value : Option (List ℕ)). IsTrue new.buffer.right → Gets d c.args.trx c.args.table c.args.key value in
     let grows = get_grows d c.args.trx c.args.table c.args.key old.buffer new.buffer c.get.result does is.answer in
-    still_engine d d old.buffer new.buffer old.flusher _ _ c.self.invariant is.kept grows (λ beside _. is.stands beside) is.told refl
+    still_engine 0 d d old.buffer new.buffer old.flusher _ _ c.self.invariant is.kept grows (same_pages old.buffer new.buffer (get_log d c.args.trx c.args.table c.args.key old.buffer new.buffer c.get.result does is.answer)) is.stands is.told refl
 
 pub returns-clause-step : goal.returns-clause-step
 returns-clause-step g c =
@@ -34,7 +34,7 @@ returns-clause-step g c =
     let s : Engine = engine d old.buffer old.flusher (record { told = g.D.PageDisk.told old.disk; failures = g.D.PageDisk.failures old.disk; orders = g.D.PageDisk.orders old.disk }) in
     let t : Engine = engine d new.buffer old.flusher (record { told = g.D.PageDisk.told new.disk; failures = g.D.PageDisk.failures new.disk; orders = g.D.PageDisk.orders new.disk }) in
     subst (λ (s : Engine). Transacts call s t (answer_of did c.get.result)) c.self.view_is
-    (transacts did call s t c.get.result (λ (value : Option (List ℕ)). IsTrue new.buffer.right → Gets d c.args.trx c.args.table c.args.key value) (λ value sees. record { is = refl; does = refl; sees = sees }) refl is.answer
+    (transacts did call s t c.get.result (λ (value : Option (List ℕ)). IsTrue new.buffer.right → Gets d c.args.trx c.args.table c.args.key value) (λ value sees. record { is = refl; does = refl; sees = sees }) (still_flown did c.get.result old.flusher (λ _. refl)) is.answer
     (record { later = is.later; orders = is.orders; tells = ap is_some is.told }) is.fault)
 
 pub returns-clause-copies : goal.returns-clause-copies
@@ -66,3 +66,13 @@ returns-clause-log g c =
     let does = λ (value : Option (List ℕ)). IsTrue new.buffer.right → Gets d c.args.trx c.args.table c.args.key value in
     let log = get_log d c.args.trx c.args.table c.args.key old.buffer new.buffer c.get.result does is.answer in
     subst (λ (s : Engine). new.buffer.log ≡ s.buffer.log) c.self.view_is log
+
+pub returns-clause-pages : goal.returns-clause-pages
+returns-clause-pages g c =
+    let old = c.self.inside in
+    let new = c.get.new in
+    let is = c.get.ensures in
+    let d = old.transactions in
+    let does = λ (value : Option (List ℕ)). IsTrue new.buffer.right → Gets d c.args.trx c.args.table c.args.key value in
+    let log = get_log d c.args.trx c.args.table c.args.key old.buffer new.buffer c.get.result does is.answer in
+    subst (λ (s : Engine). PagesStay s.buffer new.buffer) c.self.view_is (same_pages old.buffer new.buffer log)
