@@ -220,7 +220,7 @@ fn takes_scripts_up_to_the_longest(rt: HostRuntime) -> Result<(), Fail> {
 type Lines = (u32, &'static str, &'static str, &'static str);
 
 const LONG_SCRIPTS: [&[Lines]; 9] = [
-    // a key of a full bucket is refused
+    // a key of a full bucket gets the first place of a page behind it
     &[
         (1, "create 1 1\n", "created\n", ""),
         (
@@ -232,14 +232,14 @@ const LONG_SCRIPTS: [&[Lines]; 9] = [
         (
             1,
             "set 0 1 50 61\nclone\nrows\n",
-            "refused E7\ncomplete position 50\n",
-            "",
+            "committed 51\ncomplete position 51\n",
+            "commit 0 50 1\n1 50 61\n",
         ),
-        (50, "", "1 N 61\n", ""),
-        (1, "", "rows 50\n", ""),
+        (51, "", "1 N 61\n", ""),
+        (1, "", "rows 51\n", ""),
     ],
-    // The keys of the other bucket, and the key that has its place, go on. The transaction that was
-    // refused has its index.
+    // The keys of the other bucket, and the key that has its place, need no page. The transaction
+    // whose put was refused has its index.
     &[
         (1, "create 1 2\n", "created\n", ""),
         (
@@ -248,13 +248,14 @@ const LONG_SCRIPTS: [&[Lines]; 9] = [
             "committed S\n",
             "commit 0 N 1\n1 D 61\n",
         ),
-        (1, "set 0 1 100 61\n", "refused E7\n", ""),
         (
             1,
-            "set 0 1 1 62\n",
+            "set 0 1 100 61\n",
             "committed 51\n",
-            "commit 0 51 1\n1 1 62\n",
+            "commit 0 50 1\n1 100 61\n",
         ),
+        (1, "begin 1\nput 0 1 1 62\n", "trx 0\nok\n", ""),
+        (1, "set 0 1 1 62\n", "refused E4 0\n", ""),
         (
             1,
             "set 0 1 98 63\n",

@@ -68,21 +68,25 @@ fn go(rt: &impl Abort, donor: &mut Donor<MemDisk>, walk: &mut Walk) -> Result<()
 fn walked(rt: &impl Abort, alloc: Global, words: Pcg32, config: Config) -> Result<Counts, Fail>
     requires config { IsConfig config }
 {
+    let mut walk = Walk::new(alloc, words, config)?;
     let mut donor = opened(alloc, config)?;
-    let mut walk = Walk::new(alloc, words, config);
     let gone = go(rt, &mut donor, &mut walk);
     let _disk = donor.into_disk();
     gone?;
     Ok(walk.counts)
 }
 
-// Each clone has the rows of its stop, though pages were torn and blocks weren't archived yet.
+// Each clone has the rows of its stop, though pages were torn, blocks weren't archived yet, calls
+// of the disk failed, and chains and files got longer in each stage.
 #[test]
 fn a_random_walk_with_clones(rt: HostRuntime) -> Result<(), Fail> {
     let counts = walked(&rt, rt.alloc(), words_from(22, 28), ROOM)?;
     assert!(rt; counts.clones >= 3);
     assert!(rt; counts.behind > 0 && counts.unclaimed > 0);
     assert!(rt; counts.torn > 0 && counts.open > 0);
+    assert!(rt; counts.unread > 0 && counts.unheld > 0);
+    assert!(rt; counts.grown.iter().all(|count| *count > 0));
+    assert!(rt; counts.lengthened.iter().all(|count| *count > 0));
     Ok(())
 }
 

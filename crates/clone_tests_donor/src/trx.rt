@@ -15,15 +15,20 @@ pub mod asking;
 mod beside;
 mod calls;
 pub mod drawn;
+pub mod files;
 mod flushed_walk;
+mod growing;
 mod logged;
+mod long_chain;
 mod opening;
 mod pages;
 pub mod plain;
 mod reads;
+pub mod recovered;
 mod silent;
 mod vectors;
 mod walk;
+pub mod written;
 
 /// A call of a donor.
 #[derive(Clone, Copy)]
@@ -95,6 +100,18 @@ fn expect<D: PageDisk>(
     for (call, text) in steps {
         expect_text(rt, alloc, donor.ask(alloc, *call)?, text)?;
     }
+    Ok(())
+}
+
+fn expect_answer<D: PageDisk>(
+    rt: &impl Abort,
+    alloc: Global,
+    donor: &mut Logged<D>,
+    call: Call,
+    expected: Answer,
+) -> Result<(), Fail> {
+    let found = donor.ask(alloc, call)?;
+    assert!(rt; found == Ok(expected));
     Ok(())
 }
 

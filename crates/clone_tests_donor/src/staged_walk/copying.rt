@@ -6,6 +6,7 @@ use crate::staged_walk::requester::Requester;
 use crate::staged_walk::walk::Walk;
 use clone_donor::{Block, BlockRefusal, Donor};
 use clone_memdisk::MemDisk;
+use clone_plain::{Cause, EngineRefusal};
 use clone_session::{Caller, CloneCause, CloneRefusal};
 use std::process::Abort;
 use std::test::Fail;
@@ -13,8 +14,14 @@ use std::test::Fail;
 // More chunks than a stage has here.
 const CHUNKS: u32 = 1_000;
 
+// So many calls that a chain may get longer.
+const FAR: u32 = 80;
+
 // A chunk has no more blocks.
 const BLOCKS: u8 = 8;
+
+// More than the calls of the disk that fail one after the other.
+const TRIES: u32 = 100;
 
 // More calls than it takes until a block is archived.
 const STEPS: u64 = 1_000;
@@ -30,6 +37,14 @@ pub struct Place {
     pub chunks: u32,
     /// Where the redo begins.
     pub checkpoint: u64,
+}
+
+/// Many calls of the engine.
+pub fn go_far(rt: &impl Abort, donor: &mut Donor<MemDisk>, walk: &mut Walk) -> Result<(), Fail> {
+    for _ in 0..FAR {
+        walk.step(rt, donor)?;
+    }
+    Ok(())
 }
 
 /// A few calls of the engine.
@@ -128,17 +143,35 @@ fn copy_block(
     go_on(rt, donor, walk)?;
     walk.count_block();
     let mut block = Block::Pages(Vec::new(walk.alloc()));
-    let last = match ask(donor, walk, place, at, &mut block) {
-        Ok(last) => last,
-        Err(BlockRefusal::Clone(CloneRefusal::Because(cause))) => {
-            catch_up(rt, donor, walk, cause)?;
-            let again = ask(donor, walk, place, at, &mut block);
-            again.ok().ok_or("no block behind the archive")?
-        }
-        Err(_) => return Err(Fail::from("no block")),
-    };
+    let last = read(rt, donor, walk, place, at, &mut block)?;
     count_torn(walk, &block);
     Ok((requester.lay(place.checkpoint, &block)?, last))
+}
+
+// Asks for a block until it comes: its redo is archived first, and where the disk failed it is read
+// again.
+fn read(
+    rt: &impl Abort,
+    donor: &mut Donor<MemDisk>,
+    walk: &mut Walk,
+    place: Place,
+    at: (u32, u8),
+    block: &mut Block,
+) -> Result<bool, Fail> {
+    for _ in 0..TRIES {
+        match ask(donor, walk, place, at, block) {
+            Ok(last) => return Ok(last),
+            Err(BlockRefusal::Clone(CloneRefusal::Because(cause))) => {
+                catch_up(rt, donor, walk, cause)?;
+            }
+            Err(BlockRefusal::Engine(EngineRefusal::Because(Cause::DiskFault))) => {
+                assert!(rt; walk.takes_fault());
+                count(&mut walk.counts.unread);
+            }
+            Err(_) => break,
+        }
+    }
+    Err(Fail::from("no block"))
 }
 
 // Asks for a block by its chunk and its number there.

@@ -19,7 +19,19 @@ pub struct Counts {
     pub full: u64,
     /// Such calls that were carried out once the log had room again.
     pub relieved: u64,
+    /// Blocks for which the disk failed.
+    pub unread: u64,
+    /// Flushes for which the disk failed where the file was to get longer.
+    pub unheld: u64,
+    /// Pages that were made behind a chain's end, by the stages in which they were: without a
+    /// clone, and in the copy of files, of pages and of redo.
+    pub grown: [u64; STAGES],
+    /// Files that got longer, likewise.
+    pub lengthened: [u64; STAGES],
 }
+
+// No clone, and the stages of one.
+const STAGES: usize = 4;
 
 impl Counts {
     /// Nothing came yet.
@@ -33,7 +45,18 @@ impl Counts {
             open: 0,
             full: 0,
             relieved: 0,
+            unread: 0,
+            unheld: 0,
+            grown: [0; STAGES],
+            lengthened: [0; STAGES],
         }
+    }
+}
+
+/// One more came in this stage.
+pub fn count_in(numbers: &mut [u64; STAGES], stage: u8) {
+    if let Some(number) = numbers.get_mut(stage as usize) {
+        count(number);
     }
 }
 

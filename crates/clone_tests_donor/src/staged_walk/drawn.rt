@@ -5,31 +5,34 @@ use crate::trx::drawn::{LONGEST, below};
 use rand_pcg::Pcg32;
 
 // So few transactions that most calls find theirs open.
-const TRANSACTIONS: u32 = 10;
+const TRANSACTIONS: u32 = 5;
+
+// So many keys that chains get long.
+const KEYS: u32 = 2_000;
 
 /// The next call of a donor, by its number. A value is a front of these bytes.
 pub fn drawn_call<'a>(words: &mut Pcg32, call: u64, bytes: &'a [u8; LONGEST]) -> Call<'a> {
     let trx = below(words, TRANSACTIONS);
     let table = drawn_table(words);
-    let key = below(words, 200) as u64;
+    let key = below(words, KEYS) as u64;
     match below(words, 20) {
-        0 => Call::Create(table, 1 + table % 3),
-        1..=3 => Call::Begin(below(words, 8), call),
-        4..=11 => {
+        0 => Call::Create(table, 1 + table % 2),
+        1 | 2 => Call::Begin(below(words, 8), call),
+        3..=12 => {
             let length = below(words, 66) as usize;
             Call::Put(trx, table, key, &bytes[..length])
         }
-        12 | 13 => Call::Delete(trx, table, key),
+        13 => Call::Delete(trx, table, key),
         14 => Call::Get(trx, table, key),
-        15 | 16 => Call::Undo(trx),
+        15 => Call::Undo(trx),
         _ => Call::Commit(trx),
     }
 }
 
-// One of five tables, of which the last is seldom named.
+// One of three tables, of which the last is seldom named.
 fn drawn_table(words: &mut Pcg32) -> u32 {
     match below(words, 40) {
-        0 => 5,
-        number => 1 + number % 4,
+        0 => 3,
+        number => 1 + number % 2,
     }
 }

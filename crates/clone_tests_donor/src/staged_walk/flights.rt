@@ -34,6 +34,21 @@ impl Flights {
         }
     }
 
+    /// Whether the disk may fail in a step of a page's flush, whose file ends before the page or
+    /// not.
+    pub fn may_fail(&self, step: FlushStep, page: PageAt, is_short: bool) -> bool {
+        match (step, self.halved.get(&page).copied()) {
+            (FlushStep::Begin, None) => is_short,
+            (FlushStep::Half, Some(false)) | (FlushStep::Land, Some(true)) => true,
+            _ => false,
+        }
+    }
+
+    /// The flush of a page failed.
+    pub fn fail(&mut self, page: PageAt) {
+        let _ = self.halved.remove(&page);
+    }
+
     /// A step is carried out.
     pub fn carry_out(&mut self, step: FlushStep, page: PageAt) -> Result<(), AllocError> {
         match step {

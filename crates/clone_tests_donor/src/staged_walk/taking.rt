@@ -1,24 +1,17 @@
 //! A clone of a walk from its session to its end, and the rows that it has.
 
-use crate::staged_walk::copying::{Place, copy_stage, go_on};
+use crate::staged_walk::copying::{Place, copy_stage, go_far, go_on};
 use crate::staged_walk::counts::count;
 use crate::staged_walk::requester::Requester;
 use crate::staged_walk::walk::Walk;
+use crate::trx::recovered::Commits;
 use clone_chunk::Stage;
 use clone_donor::Donor;
 use clone_memdisk::MemDisk;
-use clone_model::Value;
 use clone_recover::{Recovered, open_rows, recover};
 use clone_session::{Caller, CloneCause, CloneRefusal, Hello, StageInfo, Stop};
 use std::process::Abort;
 use std::test::Fail;
-
-/// The rows of the commits at a stop, and how many commits these are.
-#[derive(Drop)]
-struct Expected {
-    rows: Vec<(u32, u64, Value)>,
-    position: u64,
-}
 
 /// Takes a clone, and recovers it.
 pub fn take_clone(
@@ -34,8 +27,9 @@ pub fn take_clone(
     };
     let requester = copy_files(rt, donor, walk, caller)?;
     let requester = copy_pages(rt, donor, walk, caller, requester)?;
-    let expected = expected_now(walk)?;
+    let expected = Commits::of(walk.alloc(), walk.plain())?;
     let info = stop(rt, donor, walk, caller, &expected)?;
+    go_far(rt, donor, walk)?;
     let requester = copy_redo(rt, donor, walk, &info, requester)?;
     go_on(rt, donor, walk)?;
     let mut disk = requester.complete(&info)?;
@@ -63,6 +57,8 @@ fn copy_files(
     walk.count_call();
     let info = donor.init(walk.alloc(), &hello).ok().ok_or("no session")?;
     assert!(rt; info.stage == Stage::FileCopy && info.session == caller.session);
+    assert!(rt; walk.files().are(info.spaces.as_slice()));
+    walk.enter(1);
     let requester = Requester::begin(walk.alloc(), &info)?;
     let place = Place {
         caller,
@@ -87,6 +83,8 @@ fn copy_pages(
     let info = acked.ok().ok_or("no copy of pages")?;
     assert!(rt; info.stage == Stage::PageCopy);
     walk.kept().start();
+    walk.enter(2);
+    go_far(rt, donor, walk)?;
     let place = Place {
         caller,
         stage: 2,
@@ -98,21 +96,13 @@ fn copy_pages(
     Ok(requester)
 }
 
-// The commits of the plain program.
-fn expected_now(walk: &Walk) -> Result<Expected, Fail> {
-    Ok(Expected {
-        rows: walk.plain().rows(walk.alloc())?.rows(walk.alloc())?,
-        position: walk.plain().history().len() as u64,
-    })
-}
-
 // The stop, with the last number of commits as the floor. A higher one is refused.
 fn stop(
     rt: &impl Abort,
     donor: &mut Donor<MemDisk>,
     walk: &mut Walk,
     caller: Caller,
-    expected: &Expected,
+    expected: &Commits,
 ) -> Result<StageInfo, Fail> {
     let (floor, end) = (donor.look(), donor.end());
     assert_eq!(rt; floor, expected.position);
@@ -129,6 +119,7 @@ fn stop(
     assert!(rt; info.stage == Stage::RedoCopy);
     assert_eq!(rt; (info.position, info.lsn), (expected.position, end));
     walk.kept().stop(end);
+    walk.enter(3);
     Ok(info)
 }
 
@@ -168,11 +159,12 @@ fn leave(
     donor: &mut Donor<MemDisk>,
     walk: &mut Walk,
     caller: Caller,
-    expected: &Expected,
+    expected: &Commits,
 ) -> Result<(), Fail> {
     walk.count_call();
     assert!(rt; donor.exit(caller).is_ok());
     walk.kept().leave();
+    walk.enter(0);
     let stop = Stop {
         session: caller.session,
         position: expected.position,
@@ -188,7 +180,7 @@ fn expect_rows(
     walk: &Walk,
     disk: &mut MemDisk,
     info: &StageInfo,
-    expected: &Expected,
+    expected: &Commits,
 ) -> Result<(), Fail> {
     let recovered = Recovered {
         lsn: info.lsn,

@@ -1,26 +1,32 @@
 //! A walk over a donor, and what goes on beside it: the plain program, which gets the calls of the
-//! donor, the flushes that are under way, and how much of the log is kept.
+//! donor, the flushes that are under way, how long the files are, and how much of the log is kept.
 ghost use Rattle.std.specs.Prelude.{◌<◌};
 
-use crate::staged_walk::counts::{Counts, count};
+use crate::staged_walk::counts::{Counts, count, count_in};
 use crate::staged_walk::drawn::drawn_call;
 use crate::staged_walk::flights::Flights;
 use crate::staged_walk::kept::Kept;
 use crate::trx::asking::{ask, flush};
 use crate::trx::drawn::{below, drawn_bytes};
+use crate::trx::files::Files;
 use crate::trx::plain::Plain;
+use crate::trx::written::{GROWTH, Written};
 use crate::trx::{Answer, Call, FlushStep, PageAt, answered};
 use clone_donor::Donor;
 use clone_memdisk::MemDisk;
 use clone_model::Config;
+use clone_outside::DiskOrder;
 use clone_plain::Cause;
 use rand_pcg::Pcg32;
-use std::alloc::Global;
+use std::alloc::{AllocError, Global};
 use std::process::Abort;
 use std::test::Fail;
 
 // More steps than the flushes of all frames have.
 const STEPS: u64 = 1_000;
+
+// How many pages the system space has.
+const SYSTEM_PAGES: u32 = 257;
 
 /// A walk: its words, and what goes on beside the donor.
 #[derive(Drop)]
@@ -28,7 +34,12 @@ pub struct Walk {
     words: Pcg32,
     plain: Plain,
     flights: Flights,
+    files: Files,
+    // how many calls of the disk were ordered to fail, and haven't yet
+    failing: u64,
     kept: Kept,
+    // the stage of the clone that is under way, or 0
+    stage: u8,
     config: Config,
     /// What came up.
     pub counts: Counts,
@@ -37,16 +48,21 @@ pub struct Walk {
 
 impl Walk {
     /// A walk by these words, over a donor that was opened, and of which nothing was asked.
-    pub fn new(alloc: Global, words: Pcg32, config: Config) -> Walk {
-        Walk {
+    pub fn new(alloc: Global, words: Pcg32, config: Config) -> Result<Walk, AllocError> {
+        let mut files = Files::new(alloc);
+        files.make(0, SYSTEM_PAGES)?;
+        Ok(Walk {
             words,
             plain: Plain::new(alloc),
             flights: Flights::new(alloc),
+            files,
+            failing: 0,
             kept: Kept::new(),
+            stage: 0,
             config,
             counts: Counts::new(),
             alloc,
-        }
+        })
     }
 
     /// The allocator of the walk.
@@ -72,6 +88,23 @@ impl Walk {
         &mut self.kept
     }
 
+    /// How long the files are.
+    pub fn files(&self) -> &Files {
+        &self.files
+    }
+
+    /// The clone comes to this stage, or it is over where this is 0.
+    pub fn enter(&mut self, stage: u8) {
+        self.stage = stage;
+    }
+
+    /// The disk has failed. Whether it was ordered to is answered.
+    pub fn takes_fault(&mut self) -> bool {
+        let is_ordered = self.failing > 0;
+        self.failing = self.failing.saturating_sub(1);
+        is_ordered
+    }
+
     /// A call of the donor is made.
     pub fn count_call(&mut self) {
         count(&mut self.counts.calls);
@@ -84,8 +117,8 @@ impl Walk {
         }
     }
 
-    /// A call that is drawn: of a transaction or a table, a step of a flush, a checkpoint, or
-    /// archiving.
+    /// A call that is drawn: of a transaction or a table, a step of a flush, a checkpoint,
+    /// archiving, or an order to the disk.
     pub fn step(&mut self, rt: &impl Abort, donor: &mut Donor<MemDisk>) -> Result<(), Fail> {
         match self.draw(24) {
             0 | 1 => self.drawn_flush(rt, donor, FlushStep::Begin),
@@ -96,8 +129,17 @@ impl Walk {
                 Ok(())
             }
             7 => self.archive_some(rt, donor),
+            8 if self.draw(2) == 0 => self.order_fault(donor),
             _ => self.drawn_call(rt, donor),
         }
+    }
+
+    // One of the next calls of the disk fails.
+    fn order_fault(&mut self, donor: &mut Donor<MemDisk>) -> Result<(), Fail> {
+        let call = 1 + self.draw(3) as u64;
+        donor.order(DiskOrder::FailAt { call })?;
+        self.failing = self.failing.saturating_add(1);
+        Ok(())
     }
 
     // Where the log is full, it gets room again now and then, and the call is made again.
@@ -124,17 +166,29 @@ impl Walk {
         self.count_call();
         let (start, session) = (donor.end(), donor.session());
         let expected = self.check(call, session);
-        match ask(self.alloc, donor, call)? {
+        let answer = ask(self.alloc, donor, call)?;
+        let written = Written::by_length(donor.end().saturating_sub(start));
+        self.grow(rt, call, written, answer.is_ok());
+        match answer {
             Ok(answer) => {
                 assert!(rt; expected.is_ok());
                 self.expect_answer(rt, call, answer)?;
                 Ok(false)
             }
             Err(cause) => {
-                assert!(rt; self.may_refuse(call, cause, expected, start));
-                assert_eq!(rt; donor.end(), start);
+                assert!(rt; self.may_refuse(call, cause, expected, donor.end()));
                 Ok(self.count_full(cause, session))
             }
+        }
+    }
+
+    // The chain of the call's row gets a page, if the call wrote that it does.
+    fn grow(&mut self, rt: &impl Abort, call: Call, written: Written, is_done: bool) {
+        let needs_page = self.plain.check(call).is_ok() && self.plain.needs_page(call);
+        assert!(rt; written.may_come(is_done, needs_page));
+        if written.grows {
+            self.plain.grow(call);
+            count_in(&mut self.counts.grown, self.stage);
         }
     }
 
@@ -162,29 +216,35 @@ impl Walk {
         }
     }
 
-    // The plain program answers so too.
+    // The plain program answers so too. A table has a file.
     fn expect_answer(&mut self, rt: &impl Abort, call: Call, found: Answer) -> Result<(), Fail> {
+        if let Call::Create(table, buckets) = call {
+            self.files.make(table, buckets)?;
+        }
         let expected = answered(self.plain.carry_out(self.alloc, call))?;
         assert!(rt; expected == Ok(found));
         Ok(())
     }
 
     // Whether a call may be refused so where this is expected and the log ends there: as the plain
-    // program says, or because the log or the pool is full.
-    fn may_refuse(&self, call: Call, cause: Cause, expected: Result<(), Cause>, end: u64) -> bool {
+    // program says, or because the log or the pool is full, or the disk fails.
+    fn may_refuse(
+        &mut self,
+        call: Call,
+        cause: Cause,
+        expected: Result<(), Cause>,
+        end: u64,
+    ) -> bool {
         match cause {
             Cause::LogFull { need, free } => {
                 let writes = !matches!(call, Call::Get(_, _, _));
+                let is_due = (need == GROWTH) == self.plain.needs_page(call);
                 let kept = self.kept.length(end);
-                writes
-                    && expected.is_ok()
-                    && free < need
-                    && free.saturating_add(kept) == self.config.ring
+                let is_full = free < need && free.saturating_add(kept) == self.config.ring;
+                expected.is_ok() && writes && is_due && is_full
             }
-            Cause::PoolFull { frames } => {
-                let reads = expected.is_ok() || expected == Err(Cause::SpaceFull);
-                reads && frames == self.config.pool
-            }
+            Cause::PoolFull { frames } => expected.is_ok() && frames == self.config.pool,
+            Cause::DiskFault => expected.is_ok() && self.takes_fault(),
             cause => expected == Err(cause),
         }
     }
@@ -207,7 +267,8 @@ impl Walk {
         }
     }
 
-    // A step of a flush, which is answered as the flushes under way say.
+    // A step of a flush, which is answered as the flushes under way say, or in which the disk
+    // fails.
     fn flush(
         &mut self,
         rt: &impl Abort,
@@ -216,12 +277,35 @@ impl Walk {
         page: PageAt,
     ) -> Result<(), Fail> {
         self.count_call();
+        let is_short = step == FlushStep::Begin && self.files.is_short(page);
         let answer = flush(donor, step, page)?;
+        if answer == Err(Cause::DiskFault) {
+            assert!(rt; self.takes_fault() && self.flights.may_fail(step, page, is_short));
+            self.fail(page, is_short);
+            return Ok(());
+        }
         assert!(rt; self.flights.may_answer(step, page, answer));
         if answer.is_ok() {
             self.flights.carry_out(step, page)?;
+            self.hold(page, is_short);
         }
         Ok(())
+    }
+
+    // The flush of a page failed, if in the step that makes its file longer or not.
+    fn fail(&mut self, page: PageAt, is_short: bool) {
+        self.flights.fail(page);
+        if is_short {
+            count(&mut self.counts.unheld);
+        }
+    }
+
+    // The file of a page gets longer where it ends before.
+    fn hold(&mut self, page: PageAt, is_short: bool) {
+        if is_short {
+            self.files.hold(page);
+            count_in(&mut self.counts.lengthened, self.stage);
+        }
     }
 
     // A checkpoint, below which the log goes but for what the archive needs.

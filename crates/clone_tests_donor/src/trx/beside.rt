@@ -2,10 +2,11 @@ use crate::trx::drawn::{below, drawn_bytes, drawn_call};
 use crate::trx::logged::Logged;
 use crate::trx::pages::Pages;
 use crate::trx::plain::Plain;
+use crate::trx::written::{GROWTH, Written};
 use crate::trx::{Answer, Call, FlushStep, PageAt, answered};
 use clone_base::FIRST_LSN;
 use clone_model::Config;
-use clone_mtr::decode;
+use clone_mtr::{Record, decode};
 use clone_outside::PageDisk;
 use clone_plain::Cause;
 use rand_pcg::Pcg32;
@@ -65,17 +66,39 @@ impl Beside {
         &self.pages
     }
 
-    /// Reads what a call wrote to the log from there on, whose records change their pages. Whether
-    /// it is one mini-transaction or nothing.
-    pub fn read_log(&mut self, redo: &[u8], start: u64) -> Result<bool, Fail> {
+    /// Reads what a call wrote to the log from there on, whose records change their pages.
+    pub fn read_log(&mut self, redo: &[u8], start: u64) -> Result<Written, Fail> {
         let from = start.saturating_sub(FIRST_LSN) as usize;
-        let bytes = redo.get(from..).ok_or("no such place in the log")?;
-        if bytes.is_empty() {
-            return Ok(true);
+        let mut rest = redo.get(from..).ok_or("no such place in the log")?;
+        let mut lsn = start;
+        let mut written = Written::nothing();
+        for _ in 0..2 {
+            if !rest.is_empty() && !written.changes {
+                let (grows, length) = self.read_one(rest, lsn)?;
+                written = Written {
+                    grows: written.grows || grows,
+                    changes: !grows,
+                };
+                rest = rest.get(length..).ok_or("no end")?;
+                lsn = lsn.saturating_add(length as u64);
+            }
         }
+        if !rest.is_empty() {
+            return Err(Fail::from("another mini-transaction"));
+        }
+        Ok(written)
+    }
+
+    // Reads the first mini-transaction of these bytes, which begins there. Whether it makes a space
+    // longer is answered, and how many bytes it has.
+    fn read_one(&mut self, bytes: &[u8], start: u64) -> Result<(bool, usize), Fail> {
         let (mtr, length) = decode(self.alloc, bytes).ok().ok_or("no mini-transaction")?;
         self.pages.note(mtr.records(), start)?;
-        Ok(length == bytes.len())
+        let grows = mtr
+            .records()
+            .iter()
+            .any(|entry| matches!(entry, Record::Extend { .. }));
+        Ok((grows, length))
     }
 
     // A refusal of this kind comes.
@@ -95,7 +118,7 @@ impl Beside {
     }
 
     /// A call of the donor. It answers as the plain donor does, or it is refused where that may
-    /// be, and then nothing has changed.
+    /// be, and then nothing has changed but that a chain has a page more.
     pub fn call<D: PageDisk>(
         &mut self,
         rt: &impl Abort,
@@ -104,16 +127,15 @@ impl Beside {
     ) -> Result<(), Fail> {
         let start = donor.end();
         let answer = donor.ask(self.alloc, call)?;
-        let end = donor.end();
+        let written = self.read_log(donor.redo(), start)?;
+        self.grow(rt, call, written, answer.is_ok());
         match answer {
             Ok(answer) => {
                 self.expect_answer(rt, call, answer)?;
-                assert!(rt; self.read_log(donor.redo(), start)?);
-                assert!(rt; (start < end) == writes(call));
+                assert!(rt; written.changes == writes(call));
             }
             Err(cause) => {
-                assert!(rt; self.may_refuse(call, cause, end));
-                assert!(rt; end == start);
+                assert!(rt; self.may_refuse(call, cause, donor.end()));
                 self.count(number_of(cause));
             }
         }
@@ -121,11 +143,25 @@ impl Beside {
         Ok(())
     }
 
+    // A chain gets a page where the log says so. Where the disk doesn't tell what was written, any
+    // chain may have no place.
+    fn grow(&mut self, rt: &impl Abort, call: Call, written: Written, is_done: bool) {
+        let may_need = self.plain.check(call).is_ok() && changes_row(call);
+        let needs_page = if self.is_told {
+            may_need && self.plain.needs_page(call)
+        } else {
+            written.grows && may_need
+        };
+        assert!(rt; written.may_come(is_done, needs_page));
+        if written.grows {
+            self.plain.grow(call);
+        }
+    }
+
     // The plain donor answers so too. Where the disk doesn't tell what was written, the value of a
     // row is any.
     fn expect_answer(&mut self, rt: &impl Abort, call: Call, found: Answer) -> Result<(), Fail> {
-        let cause = self.plain.check(call);
-        assert!(rt; cause.is_ok() || !self.is_told && is_behind_reads(cause));
+        assert!(rt; self.plain.check(call).is_ok());
         let expected = answered(self.plain.carry_out(self.alloc, call))?;
         if self.is_told || !matches!(&found, Answer::Shown(_)) {
             assert!(rt; expected == Ok(found));
@@ -136,21 +172,22 @@ impl Beside {
     }
 
     // Whether a call may be refused so, where the log ends there. A page is read only where the
-    // plain donor has no cause but a full bucket.
+    // plain donor has no cause.
     fn may_refuse(&self, call: Call, cause: Cause, end: u64) -> bool {
         let plain = self.plain.check(call);
-        let reads = is_behind_reads(plain);
+        let reads = plain.is_ok();
         match cause {
             Cause::LogFull { need, free } => {
-                let is_carried_out = plain.is_ok() || reads && !self.is_told;
-                is_carried_out && writes(call) && self.lacks_room(need, free, end)
+                let is_of_page = need == GROWTH;
+                let is_due = !self.is_told || is_of_page == self.plain.needs_page(call);
+                reads && writes(call) && is_due && self.lacks_room(need, free, end)
             }
             Cause::PoolFull { frames } => {
                 let dirty = self.pages.len().saturating_add(PINS);
                 reads && frames == FRAMES && dirty >= FRAMES as usize
             }
             Cause::DiskFault => reads,
-            Cause::SpaceFull if !self.is_told => reads,
+            Cause::SpaceFull if !self.is_told => reads && changes_row(call),
             cause => plain == Err(cause),
         }
     }
@@ -196,8 +233,9 @@ impl Beside {
                 self.pages.carry_out(step, page);
             }
             Err(Cause::DiskFault) => {
-                // the image is written from the second step on
-                assert!(rt; expected.is_ok() && step != FlushStep::Begin);
+                // the first step calls the disk only where it makes the file longer
+                let calls = step != FlushStep::Begin || self.pages.is_past_end(page);
+                assert!(rt; expected.is_ok() && calls);
                 self.pages.fail(page);
                 self.count(0);
             }
@@ -260,9 +298,9 @@ fn takes_checkpoints(call: u64) -> bool {
     call % 2_000 >= 1_500
 }
 
-// Whether a plain cause stands behind the reads of pages, as no cause does: the bucket is full.
-fn is_behind_reads(cause: Result<(), Cause>) -> bool {
-    cause.is_ok() || cause == Err(Cause::SpaceFull)
+// Whether the call gives a row a place where it has none.
+fn changes_row(call: Call) -> bool {
+    matches!(call, Call::Put(_, _, _, _) | Call::Delete(_, _, _))
 }
 
 // Whether the call writes to the log where it isn't refused.

@@ -1,5 +1,5 @@
 use crate::trx::logged::Logged;
-use crate::trx::vectors::{NEXT_PAGE, ONE_ROW, TAKING_BACK};
+use crate::trx::vectors::{NEXT_OF_CHAIN, NEXT_PAGE, ONE_ROW, TAKING_BACK};
 use crate::trx::{Answer, Call, ENOUGH, expect};
 use clone_memdisk::MemDisk;
 use std::alloc::{AllocError, Global};
@@ -39,7 +39,7 @@ struct Case {
     log: Log,
 }
 
-const CASES: [Case; 11] = [
+const CASES: [Case; 12] = [
     Case {
         first: &LOCKS_UNTIL_A_COMMIT,
         often: (0, Often::Puts),
@@ -86,7 +86,14 @@ const CASES: [Case; 11] = [
     Case {
         first: &TWO_TRANSACTIONS,
         often: (50, Often::PutsOthers),
-        last: &AFTER_THE_LAST_KEY,
+        last: &AFTER_THE_LAST_PLACE,
+        // three changes begin a page, of undo records or of a bucket
+        log: Log::Ends(21 + 39 + 2 * 41 + 3 * 229 + 49 * 218, &NEXT_OF_CHAIN),
+    },
+    Case {
+        first: &TWO_TRANSACTIONS,
+        often: (53, Often::PutsOthers),
+        last: &ON_THE_NEXT_PAGE,
         log: Log::Any,
     },
     Case {
@@ -212,16 +219,31 @@ const TWO_TRANSACTIONS: [Step; 3] = [
     (Call::Begin(0, 1), "trx 1"),
 ];
 
-const AFTER_THE_LAST_KEY: [Step; 7] = [
-    (Call::Put(0, 1, 101, b"hi"), "refused E7"),
-    (Call::Delete(1, 1, 101), "refused E7"),
-    // the lock of another comes before
+// Key 99 has the last place of its bucket.
+const AFTER_THE_LAST_PLACE: [Step; 7] = [
+    (Call::Get(0, 1, 101), "none"),
     (Call::Put(1, 1, 99, b"hi"), "refused E4 0"),
     // a key that has a place, and the other bucket
     (Call::Put(0, 1, 99, b"ho"), "ok"),
     (Call::Put(0, 1, 100, b"ho"), "ok"),
     (Call::Get(0, 1, 99), "value 686f"),
     (Call::Get(0, 1, 101), "none"),
+    (Call::Put(0, 1, 101, b"hi"), "ok"),
+];
+
+// Key 105 has the third place of the page behind its bucket.
+const ON_THE_NEXT_PAGE: [Step; 11] = [
+    (Call::Get(0, 1, 105), "value 6869"),
+    (Call::Get(0, 1, 1), "value 6869"),
+    (Call::Put(1, 1, 101, b"ho"), "refused E4 0"),
+    (Call::Delete(1, 1, 107), "ok"),
+    (Call::Get(1, 1, 107), "none"),
+    (Call::Put(0, 1, 107, b"ho"), "refused E4 1"),
+    (Call::Undo(0), "undone 52"),
+    (Call::Get(0, 1, 105), "none"),
+    (Call::Put(0, 1, 105, b"ho"), "ok"),
+    (Call::Get(0, 1, 105), "value 686f"),
+    (Call::Commit(0), "committed 1"),
 ];
 
 // The open transaction 0 gave key 7 the value "hi", and the log has 330 bytes.

@@ -70,7 +70,7 @@ fn drawn_row(words: &mut Pcg32, call: u64) -> Row {
         trx,
         // three of these four are there at first
         table: 1 + below(words, 4),
-        key: below(words, 120) as u64,
+        key: below(words, 200) as u64,
     }
 }
 

@@ -11,6 +11,9 @@ use clone_plain::Cause;
 use std::alloc::{AllocError, Global};
 use std::test::Fail;
 
+// More than the frames of a donor here.
+const MOST_DIRTY: u32 = 1_000;
+
 /// The engine of a donor, and the bytes of its log from the first one on.
 pub struct Logged<D: PageDisk> {
     engine: Engine<D>,
@@ -114,6 +117,19 @@ impl<D: PageDisk> Logged<D> {
             FlushStep::Half => self.engine.flush_half(space, number),
             FlushStep::Land => self.engine.flush_land(space, number),
         })
+    }
+
+    /// Each page lands that is dirty, if the disk never fails.
+    pub fn land_all(&mut self) -> Result<(), Fail> {
+        for _ in 0..MOST_DIRTY {
+            let Some(page) = self.oldest_dirty() else {
+                return Ok(());
+            };
+            for step in [FlushStep::Begin, FlushStep::Half, FlushStep::Land] {
+                self.flush(step, page)?.ok().ok_or("not flushed")?;
+            }
+        }
+        Err(Fail::from("too many pages"))
     }
 
     /// A checkpoint, below which the ring lets the log go.

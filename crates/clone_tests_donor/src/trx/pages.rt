@@ -1,3 +1,4 @@
+use crate::trx::files::Files;
 use crate::trx::{FlushStep, PageAt};
 use clone_mtr::Record;
 use clone_plain::Cause;
@@ -21,16 +22,19 @@ struct Dirty {
     flight: Option<Flight>,
 }
 
-/// The dirty pages, as the log and the steps of flushes make them, without frames.
+/// The dirty pages, as the log and the steps of flushes make them, without frames; and how long the
+/// files are.
 #[derive(Drop)]
 pub struct Pages {
     dirty: BTreeMap<PageAt, Dirty>,
+    files: Files,
 }
 
 impl Pages {
     pub fn new(alloc: Global) -> Pages {
         Pages {
             dirty: BTreeMap::new(alloc),
+            files: Files::new(alloc),
         }
     }
 
@@ -39,14 +43,16 @@ impl Pages {
         self.dirty.len()
     }
 
-    /// The records of a mini-transaction that begins there change their pages.
+    /// The records of a mini-transaction that begins there change their pages. The file of a space
+    /// that is made has all its pages; that of one that gets longer has them later.
     pub fn note(&mut self, records: &[Record], start: u64) -> Result<(), AllocError> {
         for entry in records {
             match entry {
                 Record::Init { space, page, .. } | Record::Write { space, page, .. } => {
                     self.change((*space, *page), start)?;
                 }
-                Record::Extend { .. } | Record::Create { .. } | Record::Drop { .. } => {}
+                Record::Create { space, pages } => self.files.make(*space, *pages)?,
+                Record::Extend { .. } | Record::Drop { .. } => {}
             }
         }
         Ok(())
@@ -82,6 +88,11 @@ impl Pages {
         }
     }
 
+    /// Whether the page lies past the end of its file.
+    pub fn is_past_end(&self, page: PageAt) -> bool {
+        self.files.is_short(page)
+    }
+
     /// A step against which there is no cause.
     pub fn carry_out(&mut self, step: FlushStep, page: PageAt) {
         let Some(dirty) = self.dirty.get_mut(&page) else {
@@ -93,6 +104,7 @@ impl Pages {
                     halved: false,
                     later: None,
                 });
+                self.files.hold(page);
             }
             FlushStep::Half => {
                 if let Some(flight) = &mut dirty.flight {

@@ -9,9 +9,9 @@ use clone_plain::{
 use std::alloc::{AllocError, Global};
 use std::collections::BTreeMap;
 
-/// A donor without pages and without a log: the keys that have a place in each bucket of each
-/// table, the open transactions, the locks, and the commits. Each of its calls answers as the plain
-/// donor does.
+/// A donor without pages and without a log: the keys that have a place on each chain of each table,
+/// the open transactions, the locks, and the commits. Each of its calls answers as the plain donor
+/// does.
 #[derive(Drop)]
 pub struct Plain {
     tables: BTreeMap<u32, Table>,
@@ -60,19 +60,40 @@ impl Plain {
         }
     }
 
-    /// Makes a call, whatever the buckets have room for. There is no other cause against it.
+    /// Whether a call gives a row its first place, and there is none on the row's chain.
+    pub fn needs_page(&self, call: Call) -> bool {
+        let Some((table, key)) = row_of(call) else {
+            return false;
+        };
+        match self.tables.get(&table) {
+            Some(chains) => chains.needs_page(key),
+            None => false,
+        }
+    }
+
+    /// The chain of a call's row gets a page.
+    pub fn grow(&mut self, call: Call) {
+        let Some((table, key)) = row_of(call) else {
+            return;
+        };
+        if let Some(chains) = self.tables.get_mut(&table) {
+            chains.grow(key);
+        }
+    }
+
+    /// Makes a call against which there is no cause.
     pub fn carry_out(&mut self, alloc: Global, call: Call) -> Result<Answer, EngineRefusal> {
         match call {
             Call::Create(table, count) => {
                 self.create(alloc, table, count).map(|()| Answer::Created)
             }
             Call::Begin(writer, index) => self.begin(alloc, writer, index).map(Answer::Begun),
-            Call::Put(trx, table, key, bytes) => self
-                .put(alloc, trx, table, key, bytes)
-                .map(|()| Answer::Changed),
+            Call::Put(trx, table, key, bytes) => {
+                self.put(trx, table, key, bytes).map(|()| Answer::Changed)
+            }
             Call::Delete(trx, table, key) => {
                 let value = None;
-                self.change(alloc, trx, Change { table, key, value })?;
+                self.change(trx, Change { table, key, value })?;
                 Ok(Answer::Changed)
             }
             Call::Get(trx, table, key) => self.get(alloc, trx, table, key).map(Answer::Shown),
@@ -115,17 +136,13 @@ impl Plain {
         if length > VALUE_LIMIT {
             return Err(Cause::ValueTooLong);
         }
-        let Some(buckets) = self.tables.get(&table) else {
+        if !self.tables.contains_key(&table) {
             return Err(Cause::NoSuchTable);
-        };
+        }
         if commit.changes.len() == CHANGE_LIMIT {
             return Err(Cause::UndoFull);
         }
-        self.check_lock(trx, table, key)?;
-        if buckets.is_full_for(key) {
-            return Err(Cause::SpaceFull);
-        }
-        Ok(())
+        self.check_lock(trx, table, key)
     }
 
     // The first cause against a look at a row.
@@ -182,28 +199,20 @@ impl Plain {
     }
 
     // Gives a row its value and locks it.
-    fn put(
-        &mut self,
-        alloc: Global,
-        trx: u32,
-        table: u32,
-        key: u64,
-        bytes: &[u8],
-    ) -> Result<(), EngineRefusal> {
+    fn put(&mut self, trx: u32, table: u32, key: u64, bytes: &[u8]) -> Result<(), EngineRefusal> {
         let Some(value) = Value::new(bytes) else {
             return Err(Cause::ValueTooLong.into());
         };
         let value = Some(value);
-        self.change(alloc, trx, Change { table, key, value })?;
+        self.change(trx, Change { table, key, value })?;
         Ok(())
     }
 
-    // Makes a change, and locks its row. After a refusal nothing has changed.
-    fn change(&mut self, alloc: Global, trx: u32, change: Change) -> Result<(), AllocError> {
+    // Makes a change, whose row has a place from then on and is locked.
+    fn change(&mut self, trx: u32, change: Change) -> Result<(), AllocError> {
         let (table, key) = (change.table, change.key);
-        if let Some(buckets) = self.tables.get_mut(&table) {
-            let placed = buckets.placed(alloc, key)?;
-            buckets.replace(key, placed);
+        if let Some(chains) = self.tables.get_mut(&table) {
+            chains.place(key)?;
         }
         self.locks.insert((table, key), trx)?;
         if let Some(commit) = self.active.get_mut(&trx) {
@@ -257,5 +266,13 @@ impl Plain {
     // The transaction holds no lock.
     fn release(&mut self, trx: u32) {
         self.locks.retain(|_, holder| *holder != trx);
+    }
+}
+
+// The row that a call changes, by its table and its key.
+fn row_of(call: Call) -> Option<(u32, u64)> {
+    match call {
+        Call::Put(_, table, key, _) | Call::Delete(_, table, key) => Some((table, key)),
+        _ => None,
     }
 }

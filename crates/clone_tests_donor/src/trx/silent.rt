@@ -5,6 +5,7 @@ use crate::trx::beside::{Beside, FEW};
 use crate::trx::drawn::{below, words_from};
 use crate::trx::logged::Logged;
 use crate::trx::walk::assert_same;
+use crate::trx::written::Written;
 use clone_base::{FIRST_LSN, PAGE_SIZE};
 use clone_outside::{DiskOrder, MARK_SIZE, PageDisk, Refusal};
 use rand_pcg::Pcg32;
@@ -148,7 +149,14 @@ fn walk(
 
 fn walk_beside(rt: &impl Abort, alloc: Global, donor: &mut Logged<SilentDisk>) -> Result<(), Fail> {
     let mut beside = Beside::new(alloc, false);
-    assert!(rt; beside.read_log(donor.redo(), FIRST_LSN)?);
+    let opening = beside.read_log(donor.redo(), FIRST_LSN)?;
+    assert!(rt;
+        opening
+            == Written {
+                grows: false,
+                changes: true
+            }
+    );
     walk(rt, &mut beside, donor, &mut words_from(3, 4))?;
     beside.expect_refusals(rt, &REFUSALS);
     assert_same(rt, donor.binlog(), beside.plain().history());

@@ -110,6 +110,32 @@ const ROW_ON_NEXT: [u8; 57] = [
     0, 0, 0, 0, 0, 0, 0, 6, 104, 105,
 ];
 
+// Page 2 of table 1 of two buckets, behind its page 1: a page that the chain of the odd keys gets.
+const GROWTH: [u8; 55] = [
+    2, 0, 0, 0, 0, 0, 0, 0, 0, 0, 72, 0, 4, 0, 0, 0, 3, // the table has 3 pages
+    3, 0, 0, 0, 1, 0, 0, 0, 3, // 3 pages in space 1
+    1, 0, 0, 0, 1, 0, 0, 0, 2, 0, 4, // page 2 of it is an overflow page
+    2, 0, 0, 0, 1, 0, 0, 0, 1, 0, 12, 0, 4, 0, 0, 0, 2, // behind page 1 comes page 2
+    6,
+];
+
+// The undo record of number 52, of key 101, whose slot 0 on page 2 of table 1 was absent. Behind it
+// come 72 zero bytes.
+const UNDO_BEHIND: [u8; 37] = [
+    2, 0, 0, 0, 0, 0, 0, 0, 2, 4, 192, 0, 96, // on page 2 of space 0, from 1216 on, 96 bytes
+    0, 0, 0, 1, 0, 0, 0, 2, 0, 0, 2, 0, 0, 0, 0, 0, // table, page, slot, state, length
+    0, 0, 0, 0, 0, 0, 0, 101,
+];
+
+// The count of undo records, and the row of key 101 with the value "hi". Behind it come 62 zero
+// bytes.
+const ROW_BEHIND: [u8; 46] = [
+    2, 0, 0, 0, 0, 0, 0, 0, 1, 0, 42, 0, 2, 0, 53, // the count is 53
+    2, 0, 0, 0, 1, 0, 0, 0, 2, 0, 48, 0, 80, // on page 2 of space 1, from 48 on, 80 bytes
+    1, 2, 0, 0, 0, 0, 0, 0, // present, 2 bytes
+    0, 0, 0, 0, 0, 0, 0, 101, 104, 105,
+];
+
 // The last change is taken back: behind the row's slot the count that is left.
 const LEFT_1: [u8; 16] = [2, 0, 0, 0, 0, 0, 0, 0, 1, 0, 42, 0, 2, 0, 1, 6];
 
@@ -144,6 +170,16 @@ pub const TAKING_BACK: [&[u8]; 12] = [
     &[0; 64],
     &LEFT_0,
     &ENDED,
+];
+
+/// A put of "hi" at key 101 as the change 52, whose chain gets a page first.
+pub const NEXT_OF_CHAIN: [&[u8]; 6] = [
+    &GROWTH,
+    &UNDO_BEHIND,
+    &[0; 72],
+    &ROW_BEHIND,
+    &[0; 62],
+    &[6],
 ];
 
 /// A put of "hi" at key 6 as the change 40, in an undo page and a bucket page that are both new.

@@ -1,6 +1,7 @@
 use crate::trx::asking::ask;
 use crate::trx::drawn::{drawn_bytes, drawn_call, words_from};
 use crate::trx::plain::Plain;
+use crate::trx::written::Written;
 use crate::trx::{Call, ENOUGH, answered, opened};
 use clone_donor::Donor;
 use clone_memdisk::MemDisk;
@@ -31,19 +32,27 @@ impl Followed {
         }
     }
 
-    // Makes a call of both, whose answers are equal. A refusal is noted.
+    // Makes a call of both, whose answers are equal. A refusal is noted. A page is made exactly
+    // where the chain has no place.
     fn compare(
         &mut self,
         rt: &impl Abort,
         donor: &mut Donor<MemDisk>,
         call: Call,
     ) -> Result<(), Fail> {
+        let start = donor.end();
+        let needs_page = self.plain.needs_page(call);
         let found = ask(self.alloc, donor, call)?;
         let expected = answered(self.plain.answer(self.alloc, call))?;
         if let Err(cause) = &expected {
             self.note(*cause)?;
         }
         assert!(rt; found == expected);
+        let written = Written::by_length(donor.end().saturating_sub(start));
+        assert!(rt; written.grows == (found.is_ok() && needs_page));
+        if written.grows {
+            self.plain.grow(call);
+        }
         Ok(())
     }
 
@@ -105,8 +114,8 @@ fn walk_both(rt: &impl Abort, alloc: Global, donor: &mut Donor<MemDisk>) -> Resu
     let mut followed = Followed::new(alloc);
     let mut words = words_from(20, 26);
     walk(rt, &mut followed, donor, &mut words)?;
-    // each cause came up that is of no frame, no log and no disk
-    assert_eq!(rt; followed.refused.len(), 9);
+    // each cause came up that is of no frame, no full space, no log and no disk
+    assert_eq!(rt; followed.refused.len(), 8);
     Ok(assert_equal(rt, alloc, donor.binlog(), &followed.plain)?)
 }
 

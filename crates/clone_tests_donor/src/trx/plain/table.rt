@@ -1,63 +1,83 @@
 use std::alloc::{AllocError, Global};
 
-/// How many keys have a place in a bucket.
+/// How many keys have a place on a page.
 const PLACES: usize = 50;
 
-/// The keys that have a place in a bucket, in the order in which they got it.
+/// The keys that have a place on the chain of a bucket, and how many pages the chain has.
 #[derive(Drop)]
-pub struct Bucket {
+struct Chain {
     keys: Vec<u64>,
+    pages: usize,
 }
 
-/// The buckets of a table.
+impl Chain {
+    // The bucket's page alone.
+    fn new(alloc: Global) -> Chain {
+        Chain {
+            keys: Vec::new(alloc),
+            pages: 1,
+        }
+    }
+
+    fn needs_page(&self, key: u64) -> bool {
+        self.keys.len() >= self.pages.saturating_mul(PLACES) && !self.keys.contains(&key)
+    }
+
+    fn place(&mut self, key: u64) -> Result<(), AllocError> {
+        if !self.keys.contains(&key) {
+            self.keys.push(key)?;
+        }
+        Ok(())
+    }
+}
+
+/// The buckets of a table, each with its chain.
 #[derive(Drop)]
 pub struct Table {
-    buckets: Vec<Bucket>,
+    chains: Vec<Chain>,
 }
 
 impl Table {
     /// Buckets without keys.
     pub fn new(alloc: Global, count: u32) -> Result<Table, AllocError> {
-        let mut buckets = Vec::new(alloc);
+        let mut chains = Vec::new(alloc);
         for _ in 0..count {
-            buckets.push(Bucket {
-                keys: Vec::new(alloc),
-            })?;
+            chains.push(Chain::new(alloc))?;
         }
-        Ok(Table { buckets })
+        Ok(Table { chains })
     }
 
-    /// Whether the bucket of a key has no place for it.
-    pub fn is_full_for(&self, key: u64) -> bool {
-        match self.bucket_of(key) {
-            Some(bucket) => bucket.keys.len() >= PLACES && !bucket.keys.contains(&key),
+    /// Whether a key has no place, and its chain has none that is free.
+    pub fn needs_page(&self, key: u64) -> bool {
+        match self.place_of(key).and_then(|place| self.chains.get(place)) {
+            Some(chain) => chain.needs_page(key),
             None => false,
         }
     }
 
-    /// What the bucket of a key is once the key has a place there.
-    pub fn placed(&self, alloc: Global, key: u64) -> Result<Bucket, AllocError> {
-        let mut keys = Vec::new(alloc);
-        if let Some(bucket) = self.bucket_of(key) {
-            keys.extend_from_slice(&bucket.keys)?;
-        }
-        if !keys.contains(&key) {
-            keys.push(key)?;
-        }
-        Ok(Bucket { keys })
-    }
-
-    /// Puts another bucket in the place of a key's.
-    pub fn replace(&mut self, key: u64, bucket: Bucket) {
-        let count = self.buckets.len() as u64;
-        if count > 0 {
-            self.buckets[(key % count) as usize] = bucket;
+    /// The chain of a key gets a page.
+    pub fn grow(&mut self, key: u64) {
+        if let Some(chain) = self.chain_of(key) {
+            chain.pages = chain.pages.saturating_add(1);
         }
     }
 
-    // The bucket of a key, where there is a bucket at all.
-    fn bucket_of(&self, key: u64) -> Option<&Bucket> {
-        let place = key.checked_rem(self.buckets.len() as u64)?;
-        self.buckets.get(place as usize)
+    /// The key has a place on its chain.
+    pub fn place(&mut self, key: u64) -> Result<(), AllocError> {
+        match self.chain_of(key) {
+            Some(chain) => chain.place(key),
+            None => Ok(()),
+        }
+    }
+
+    // The chain of a key, where there is a bucket at all.
+    fn chain_of(&mut self, key: u64) -> Option<&mut Chain> {
+        let place = self.place_of(key)?;
+        self.chains.get_mut(place)
+    }
+
+    fn place_of(&self, key: u64) -> Option<usize> {
+        let place = key.checked_rem(self.chains.len() as u64)?;
+        Some(place as usize)
     }
 }
