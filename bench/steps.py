@@ -1,30 +1,24 @@
-#!/bin/sh
-# Times scripts of 2,000, 8,000 and 32,000 lines: `set` lines, and transactions of 1, 16 and 160 changes
-# each with their `begin`, `put` and `commit` lines. All are over one table of 1,024 buckets with at most
-# 32 keys a bucket, and end with a clone and its rows. Head lines give the pool a frame for each page and
-# the ring room for the whole log. Prints for each script the median of the seconds of processor time of
-# five runs, in which the program waits for nothing, and the memory that is in use at most; and then how
-# the cost of a change grows with the script, and how it differs between the kinds.
-#
-# It then times two scripts of 32,000 `set` lines: the one of above, and one with a pool of 64 frames and a
-# `clean` and a `checkpoint` behind each 40 sets. An older program, built of a commit before there were such
-# lines, may be given as `bench/steps.sh PROGRAM`: it gets the same sets without them, and both are timed in
-# turn. Prints the medians of five runs of each, and how many times the older program's they are.
+#!/usr/bin/env python3
+"""Times scripts of 2,000, 8,000 and 32,000 lines: `set` lines, and transactions of 1, 16 and 160 changes
+each with their `begin`, `put` and `commit` lines. All are over one table of 1,024 buckets with at most
+32 keys a bucket, and end with a clone and its rows. Head lines give the pool a frame for each page and
+the ring room for the whole log. Prints for each script the median of the seconds of processor time of
+five runs, in which the program waits for nothing, and the memory that is in use at most; and then how
+the cost of a change grows with the script, and how it differs between the kinds.
 
-top=$(cd "$(dirname "$0")/.." && pwd) || exit 1
-scripts=$(mktemp -d) || exit 1
-trap 'rm -rf "$scripts"' EXIT
+It then times two scripts of 32,000 `set` lines: the one of above, and one with a pool of 64 frames and a
+`clean` and a `checkpoint` behind each 40 sets. An older program, built of a commit before there were such
+lines, may be given as `bench/steps.py PROGRAM`: it gets the same sets without them, and both are timed in
+turn. Prints the medians of five runs of each, and how many times the older program's they are."""
 
-# Builds the program where it is not built yet. Without words it says how it is used.
-"$top/clone" </dev/null >/dev/null
-[ $? -eq 2 ] || exit 1
-
-python3 - "$top/crates/clone_prog/out/clone_prog" "$scripts" "$@" <<'PYTHON'
 import os
 import resource
 import statistics
 import subprocess
 import sys
+import tempfile
+
+TOP = os.path.dirname(os.path.dirname(os.path.abspath(__file__)))
 
 KINDS = {"set lines": None, "1 a transaction": 1, "16 a transaction": 16, "160 a transaction": 160}
 COUNTS = [2000, 8000, 32000]
@@ -173,5 +167,12 @@ def main(program, folder, *older):
     compare_all(program, folder, *older)
 
 
-main(*sys.argv[1:])
-PYTHON
+def build():
+    """Builds the program where it isn't built yet. Without words it says how it is used."""
+    if subprocess.run([os.path.join(TOP, "clone")], stdin=subprocess.DEVNULL, stdout=subprocess.DEVNULL).returncode != 2:
+        sys.exit(1)
+    return os.path.join(TOP, "crates", "clone_prog", "out", "clone_prog")
+
+
+with tempfile.TemporaryDirectory() as scripts:
+    main(build(), scripts, *sys.argv[1:])
