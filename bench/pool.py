@@ -1,8 +1,8 @@
 #!/usr/bin/env python3
 """Times the pool and the ring. Prints the nanoseconds of a hit, of a miss and of a plain copy of a page
 over as many pages, with 16, 256 and 4,096 frames, all clean and all but one dirty; the nanoseconds of
-a change of 80 bytes; the megabytes a second through append and read of a ring, and through as many
-plain copies; and the memory that a pool of 4,096 frames takes.
+a change of 80 bytes, with the making of its record; the megabytes a second through append and read of a
+ring, and through as many plain copies; and the memory that a pool of 4,096 frames takes.
 The program that is timed is built in a copy of the crates, since it is no part of what is proved."""
 
 import os
