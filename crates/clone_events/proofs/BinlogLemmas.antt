@@ -1,21 +1,28 @@
--- What events add to the binlog: a commit each time that one is answered, and nothing else.
-use Rattle.std.proofs.Common.{◌≡◌, ℕ, ◌+◌, List, [], ◌∷◌, ◌++◌, length, refl, sym, ap, ◌∙◌, subst, zero, suc, zero-add, add-zero, arith, append_assoc, length-append, Option, Some, None, append-nil, filter_map}
-use Rattle.clone_events.proofs.Common.{cons_option, range_with_len, Commit, Donor, Undoes, Done, did_create, did_begin, did_put, did_delete, did_get, did_undo_one, did_commit, did_flush_begin, did_flush_half, did_flush_land, did_oldest_dirty, did_checkpoint, did_end, Made, done, refused, Does, PlainStep, World, Event, made, PlainEvent, Happens, Events, committed_at, AreCommits}
+-- What events add to the binlog: a commit each time that one is answered, and nothing else. To the
+-- drops they may add.
+use Rattle.std.proofs.Common.{◌≡◌, ℕ, ◌+◌, List, [], ◌∷◌, ◌++◌, length, refl, sym, ap, ◌∙◌, subst, zero, suc, zero-add, add-zero, arith, append_assoc, length-append, Option, Some, None, append-nil, filter_map, inl, inr, unwrap_or}
+use Rattle.clone_events.proofs.Common.{cons_option, range_with_len, Drops, Commit, Donor, Undoes, Done, did_create, did_drop, did_begin, did_put, did_delete, did_get, did_undo_one, did_commit, did_flush_begin, did_flush_half, did_flush_land, did_oldest_dirty, did_checkpoint, did_end, Made, done, refused, Call, drop, AfterRefusal, Cause, Does, PlainStep, World, Event, made, PlainEvent, Happens, Events, committed_at, AreCommits, MakesDrops, AreDrops}
+use Rattle.clone_plain.specs.declared.refusal.Cause.TheVariants.{DiskFault}
+use Rattle.std.proofs.lemmas.List.FromFn.{length-range_with_len}
 use Rattle.clone_plain.specs.declared.refusal.Undone.{Undone}
 use Rattle.clone_plain.specs.declared.refusal.Undone.TheVariants.{Left, Ended}
 
--- commits that were added, answered one after the other behind those before
+-- commits that were added, answered one after the other behind those before, and drops
 pub record Adds (before after : Donor) (answered : List ℕ) : Type 0 where
   pub more : List Commit
   pub binlog : after.binlog ≡ before.binlog ++ more
-  pub drops : after.drops ≡ before.drops
+  pub gone : Drops
+  pub drops : after.drops ≡ before.drops ++ gone
   pub positions : answered ≡ range_with_len (length before.binlog + 1) (length more)
 
-pub adds_none : (before after : Donor) → after.binlog ≡ before.binlog → after.drops ≡ before.drops → Adds before after []
-adds_none before after binlog drops = record { more = []; binlog = binlog ∙ sym (append-nil before.binlog); drops = drops; positions = refl }
+abbrev pub adds_none : (before after : Donor) → after.binlog ≡ before.binlog → after.drops ≡ before.drops → Adds before after []
+adds_none before after binlog drops = record { more = []; binlog = binlog ∙ sym (append-nil before.binlog); gone = []; drops = drops ∙ sym (append-nil before.drops); positions = refl }
 
-adds_one : (before after : Donor) (commit : Commit) (position : ℕ) → after.binlog ≡ before.binlog ++ commit ∷ [] → after.drops ≡ before.drops → position ≡ length before.binlog + 1 → Adds before after (position ∷ [])
-adds_one before after commit position binlog drops count = record { more = commit ∷ []; binlog = binlog; drops = drops; positions = ap (λ n. n ∷ []) count }
+abbrev adds_drop : (before after : Donor) (one : ℕ × ℕ) → after.binlog ≡ before.binlog → after.drops ≡ before.drops ++ one ∷ [] → Adds before after []
+adds_drop before after one binlog drops = record { more = []; binlog = binlog ∙ sym (append-nil before.binlog); gone = one ∷ []; drops = drops; positions = refl }
+
+abbrev adds_one : (before after : Donor) (commit : Commit) (position : ℕ) → after.binlog ≡ before.binlog ++ commit ∷ [] → after.drops ≡ before.drops → position ≡ length before.binlog + 1 → Adds before after (position ∷ [])
+adds_one before after commit position binlog drops count = record { more = commit ∷ []; binlog = binlog; gone = []; drops = drops ∙ sym (append-nil before.drops); positions = ap (λ n. n ∷ []) count }
 
 binlog_of : {d e : Donor} → d ≡ e → d.binlog ≡ e.binlog
 binlog_of is = ap (λ (d : Donor). d.binlog) is
@@ -23,32 +30,46 @@ binlog_of is = ap (λ (d : Donor). d.binlog) is
 drops_of : {d e : Donor} → d ≡ e → d.drops ≡ e.drops
 drops_of is = ap (λ (d : Donor). d.drops) is
 
-undoes_none : (d : Donor) (trx : ℕ) (undone : Undone) (after : Donor) → Undoes d trx undone after → Adds d after []
-undoes_none d trx (Left left) after is = adds_none d after (binlog_of is.is) (drops_of is.is)
-undoes_none d trx Ended after is = adds_none d after (binlog_of is.is) (drops_of is.is)
+-- what one event adds
+record AddsBy (before : Donor) (e : Event) (after : Donor) : Type 0 where
+  adds : Adds before after (cons_option (committed_at e) [])
+  made_drops : MakesDrops (length before.binlog) e adds.gone
 
-does_add : (d : Donor) (x : Done) (after : Donor) → Does d x after → Adds d after (cons_option (committed_at (made (done x))) [])
-does_add d (did_create table buckets) after is = adds_none d after (binlog_of is) (drops_of is)
-does_add d (did_begin writer index trx) after is = adds_none d after (binlog_of is.1) (drops_of is.1)
-does_add d (did_put trx table key value) after is = adds_none d after (binlog_of is.is) (drops_of is.is)
-does_add d (did_delete trx table key) after is = adds_none d after (binlog_of is.is) (drops_of is.is)
-does_add d (did_get trx table key value) after is = adds_none d after (binlog_of is) (drops_of is)
+undoes_none : (d : Donor) (trx : ℕ) (undone : Undone) (after : Donor) → Undoes d trx undone after → AddsBy d (made (done (did_undo_one trx undone))) after
+undoes_none d trx (Left left) after is = record { adds = adds_none d after (binlog_of is.is) (drops_of is.is); made_drops = refl }
+undoes_none d trx Ended after is = record { adds = adds_none d after (binlog_of is.is) (drops_of is.is); made_drops = refl }
+
+does_add : (d : Donor) (x : Done) (after : Donor) → Does d x after → AddsBy d (made (done x)) after
+does_add d (did_create table buckets) after is = record { adds = adds_none d after (binlog_of is) (drops_of is); made_drops = refl }
+does_add d (did_drop table) after is = record { adds = adds_drop d after (length d.binlog, table) (binlog_of is) (drops_of is); made_drops = refl }
+does_add d (did_begin writer index trx) after is = record { adds = adds_none d after (binlog_of is.1) (drops_of is.1); made_drops = refl }
+does_add d (did_put trx table key value) after is = record { adds = adds_none d after (binlog_of is.is) (drops_of is.is); made_drops = refl }
+does_add d (did_delete trx table key) after is = record { adds = adds_none d after (binlog_of is.is) (drops_of is.is); made_drops = refl }
+does_add d (did_get trx table key value) after is = record { adds = adds_none d after (binlog_of is) (drops_of is); made_drops = refl }
 does_add d (did_undo_one trx undone) after is = undoes_none d trx undone after is
-does_add d (did_commit trx position) after is = adds_one d after is.commit position (binlog_of is.is) (drops_of is.is) is.count
-does_add d (did_flush_begin space page) after is = adds_none d after (binlog_of is) (drops_of is)
-does_add d (did_flush_half space page) after is = adds_none d after (binlog_of is) (drops_of is)
-does_add d (did_flush_land space page) after is = adds_none d after (binlog_of is) (drops_of is)
-does_add d (did_oldest_dirty page) after is = adds_none d after (binlog_of is) (drops_of is)
-does_add d (did_checkpoint lsn) after is = adds_none d after (binlog_of is) (drops_of is)
-does_add d (did_end lsn) after is = adds_none d after (binlog_of is) (drops_of is)
+does_add d (did_commit trx position) after is = record { adds = adds_one d after is.commit position (binlog_of is.is) (drops_of is.is) is.count; made_drops = refl }
+does_add d (did_flush_begin space page) after is = record { adds = adds_none d after (binlog_of is) (drops_of is); made_drops = refl }
+does_add d (did_flush_half space page) after is = record { adds = adds_none d after (binlog_of is) (drops_of is); made_drops = refl }
+does_add d (did_flush_land space page) after is = record { adds = adds_none d after (binlog_of is) (drops_of is); made_drops = refl }
+does_add d (did_oldest_dirty page) after is = record { adds = adds_none d after (binlog_of is) (drops_of is); made_drops = refl }
+does_add d (did_checkpoint lsn) after is = record { adds = adds_none d after (binlog_of is) (drops_of is); made_drops = refl }
+does_add d (did_end lsn) after is = record { adds = adds_none d after (binlog_of is) (drops_of is); made_drops = refl }
+
+refused_add : (d : Donor) (call : Call) (cause : Cause) (after : Donor) → AfterRefusal d call cause after → AddsBy d (made (refused call cause)) after
+refused_add d (drop table) DiskFault after (inl same) = record { adds = adds_none d after (binlog_of same) (drops_of same); made_drops = inl refl }
+refused_add d (drop table) DiskFault after (inr gone) = record { adds = adds_drop d after (length d.binlog, table) (binlog_of gone) (drops_of gone); made_drops = inr refl }
+refused_add d call cause after same = record { adds = adds_none d after (binlog_of same) (drops_of same); made_drops = refl }
+
+made_add : (d : Donor) (m : Made) (after : Donor) → PlainStep d m after → AddsBy d (made m) after
+made_add d (done x) after is = does_add d x after is.1
+made_add d (refused call cause) after is = refused_add d call cause after is.1
 
 pub made_adds : (d : Donor) (m : Made) (after : Donor) → PlainStep d m after → Adds d after (cons_option (committed_at (made m)) [])
-made_adds d (done x) after is = does_add d x after is.1
-made_adds d (refused call cause) after is = adds_none d after (binlog_of is.1) (drops_of is.1)
+made_adds d m after is = (made_add d m after is).adds
 
-pub plain_adds : (d : Donor) (e : Event) (after : Donor) → PlainEvent d e after → Adds d after (cons_option (committed_at e) [])
-plain_adds d (made m) after is = made_adds d m after is
-plain_adds d e after is = adds_none d after (binlog_of is) (drops_of is)
+plain_adds : (d : Donor) (e : Event) (after : Donor) → PlainEvent d e after → AddsBy d e after
+plain_adds d (made m) after is = made_add d m after is
+plain_adds d e after is = record { adds = adds_none d after (binlog_of is) (drops_of is); made_drops = refl }
 
 -- numbers in a row, in two parts
 range-append : (a m n : ℕ) → range_with_len a (m + n) ≡ range_with_len a m ++ range_with_len (a + m) n
@@ -65,7 +86,8 @@ adds_behind a b c xs ys first second =
     record {
       more = first.more ++ second.more;
       binlog = second.binlog ∙ ap (λ h. h ++ second.more) first.binlog ∙ append_assoc a.binlog first.more second.more;
-      drops = second.drops ∙ first.drops;
+      gone = first.gone ++ second.gone;
+      drops = second.drops ∙ ap (λ h. h ++ second.gone) first.drops ∙ append_assoc a.drops first.gone second.gone;
       positions =
           ap (λ p. p ++ ys) first.positions
           ∙ ap (λ p. range_with_len (length a.binlog + 1) (length first.more) ++ p) rest
@@ -77,9 +99,26 @@ cons_option-append : {X : Type 0} (o : Option X) (xs : List X) → cons_option o
 cons_option-append None xs = refl
 cons_option-append (Some x) xs = refl
 
+-- the position behind an event
+abbrev first_of : List ℕ → ℕ
+first_of [] = 0
+first_of (n ∷ ns) = n
+
+position_behind : (o : Option ℕ) (before after : Donor) → Adds before after (cons_option o []) → length after.binlog ≡ unwrap_or o (length before.binlog)
+position_behind None before after added =
+    let none : 0 ≡ length (range_with_len (length before.binlog + 1) (length added.more)) = ap length added.positions in
+    let same : length after.binlog ≡ length before.binlog = omega (arith, ap length added.binlog, length-append before.binlog added.more, none, length-range_with_len (length before.binlog + 1) (length added.more)) in
+    same
+position_behind (Some position) before after added =
+    let count : 1 ≡ length (range_with_len (length before.binlog + 1) (length added.more)) = ap length added.positions in
+    let one : length added.more ≡ suc zero = omega (arith, count, length-range_with_len (length before.binlog + 1) (length added.more)) in
+    let next : position ≡ length before.binlog + 1 = ap first_of added.positions ∙ ap (λ n. first_of (range_with_len (length before.binlog + 1) n)) one in
+    let is : length after.binlog ≡ position = omega (arith, ap length added.binlog, length-append before.binlog added.more, one, next) in
+    is
+
 module _ {D : Type 0} (plain : D → Donor) (Step : D → Event → D → Type 0) (refines : (d e : D) (event : Event) → Step d event e → PlainEvent (plain d) event (plain e)) where
   pub event_adds : (s : World D) (e : Event) (t : World D) → Happens plain Step s e t → Adds (plain s.donor) (plain t.donor) (cons_option (committed_at e) [])
-  event_adds s e t is = plain_adds (plain s.donor) e (plain t.donor) (refines s.donor t.donor e is.step)
+  event_adds s e t is = (plain_adds (plain s.donor) e (plain t.donor) (refines s.donor t.donor e is.step)).adds
 
   pub events_add : (s : World D) (es : List Event) (t : World D) → Events plain Step s es t → Adds (plain s.donor) (plain t.donor) (filter_map committed_at es)
   events_add s [] t is = adds_none (plain s.donor) (plain t.donor) (ap (λ (w : World D). (plain w.donor).binlog) (sym is)) (ap (λ (w : World D). (plain w.donor).drops) (sym is))
@@ -87,9 +126,27 @@ module _ {D : Type 0} (plain : D → Donor) (Step : D → Event → D → Type 0
       let P : List ℕ → Type 0 = Adds (plain s.donor) (plain t.donor) in
       subst P (sym (cons_option-append (committed_at e) (filter_map committed_at es))) (adds_behind _ (plain is.0.donor) _ _ _ (event_adds s e is.0 is.1) (events_add is.0 es t is.2))
 
+  -- the drops that events make
+  pub events_drop : (s : World D) (es : List Event) (t : World D) → Events plain Step s es t → (gone : Drops) × AreDrops (length (plain s.donor).binlog) es gone × ((plain t.donor).drops ≡ (plain s.donor).drops ++ gone)
+  events_drop s [] t is = ([], refl, drops_of (ap (λ (w : World D). plain w.donor) (sym is)) ∙ sym (append-nil (plain s.donor).drops))
+  events_drop s (e ∷ es) t is =
+      let first = plain_adds (plain s.donor) e (plain is.0.donor) (refines s.donor is.0.donor e is.1.step) in
+      let rest = events_drop is.0 es t is.2 in
+      let more = subst (λ n. AreDrops n es rest.0) (position_behind (committed_at e) (plain s.donor) (plain is.0.donor) first.adds) rest.1 in (
+        first.adds.gone ++ rest.0,
+        (first.adds.gone, rest.0, first.made_drops, more, refl),
+        rest.2 ∙ ap (λ h. h ++ rest.0) first.adds.drops ∙ append_assoc (plain s.donor).drops first.adds.gone rest.0,
+      )
+
 -- a run that began with no commit
 pub are_commits : (before after : Donor) (events : List Event) → before.binlog ≡ [] → Adds before after (filter_map committed_at events) → AreCommits events after.binlog
 are_commits before after events none added =
     added.positions
     ∙ ap (λ (h : List Commit). range_with_len (length h + 1) (length added.more)) none
     ∙ ap (λ (h : List Commit). range_with_len 1 (length h)) (sym (added.binlog ∙ ap (λ (h : List Commit). h ++ added.more) none))
+
+-- a run that began with no drop
+pub are_drops : (before after : Donor) (events : List Event) → before.binlog ≡ [] → before.drops ≡ [] → (gone : Drops) × AreDrops (length before.binlog) events gone × (after.drops ≡ before.drops ++ gone) → AreDrops 0 events after.drops
+are_drops before after events no_commit no_drop has =
+    let same : after.drops ≡ has.0 = has.2 ∙ ap (λ (drops : Drops). drops ++ has.0) no_drop in
+    subst (AreDrops 0 events) (sym same) (subst (λ n. AreDrops n events has.0) (ap length no_commit) has.1)

@@ -1,7 +1,7 @@
 -- A line makes one event, or it is a `set`, or none of its events commits or begins, as those of
 -- `clean` and of `clone`.
 use Rattle.std.proofs.Common.{◌≡◌, ℕ, List, [], ◌∷◌, ◌++◌, refl, sym, ap, subst, ◌∙◌, append_assoc, None, flat_map, nat_cmp}
-use Rattle.clone_events.proofs.Common.{AllByRecursion, FinMap, Line, Cause, Call, commit, call_of, did_create, did_begin, did_put, did_delete, did_get, did_undo_one, did_commit, did_flush_begin, did_flush_half, did_flush_land, did_oldest_dirty, did_checkpoint, did_end, Made, done, refused, made_call, Event, made, showed, incomplete, hidden, damaged, ordered, counted, committed_at, Makes, MakesOne, MakesSet, MakesClean, all_clean, not_flushed, flushed, Starts, Finishes, MakesClone, MakesRows, are_shown, not_there, not_read, not_sound}
+use Rattle.clone_events.proofs.Common.{AllByRecursion, FinMap, Line, Cause, Call, commit, call_of, did_create, did_drop, did_begin, did_put, did_delete, did_get, did_undo_one, did_commit, did_flush_begin, did_flush_half, did_flush_land, did_oldest_dirty, did_checkpoint, did_end, Made, done, refused, made_call, Event, made, showed, incomplete, hidden, damaged, ordered, counted, committed_at, Makes, MakesOne, MakesSet, MakesClean, all_clean, not_flushed, flushed, Starts, Finishes, MakesClone, MakesRows, are_shown, not_there, not_read, not_sound}
 use Rattle.clone_script.specs.declared.lines.Line.TheVariants as lines
 
 -- by an event nothing commits, and no transaction begins
@@ -61,6 +61,7 @@ rows_shape events (not_sound space page why is) = one (damaged space page why) i
 
 pub shape : (next : ℕ → ℕ) (line : Line) (events : List Event) → Makes next line events → Shape events
 shape next (lines.Create table buckets) events is = call_shape _ events is
+shape next (lines.Drop table) events is = call_shape _ events is
 shape next (lines.Begin writer) events is = call_shape _ events is
 shape next (lines.Put trx table key value) events is = call_shape _ events is
 shape next (lines.Delete trx table key) events is = call_shape _ events is
@@ -97,6 +98,7 @@ same_trx call = 0
 pub commit_made : (trx : ℕ) (m : Made) → made_call m ≡ commit trx → CommitMade trx m
 commit_made trx (refused call cause) is = was_refused call cause refl
 commit_made trx (done (did_create table buckets)) is = cc
+commit_made trx (done (did_drop table)) is = cc
 commit_made trx (done (did_begin writer index t)) is = cc
 commit_made trx (done (did_put t table key value)) is = cc
 commit_made trx (done (did_delete t table key)) is = cc

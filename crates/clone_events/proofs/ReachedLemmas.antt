@@ -1,6 +1,6 @@
 -- A line adds at most one commit, and at most one transaction of each writer.
 use Rattle.std.proofs.Common.{◌≡◌, ℕ, ◌+◌, ◌≤◌, List, [], ◌∷◌, length, Bool, true, false, cond, refl, sym, ap, ◌∙◌, subst, arith, length-append, Option, Some, None, unwrap_or, inl, inr, ◌⊎◌, filter_map, nat_cmp}
-use Rattle.clone_events.proofs.Common.{cons_option, AllByRecursion, FinMap, get, get-empty, get-insert, eq_by_cmp, Line, Cause, Donor, Call, begin, put, Done, did_create, did_begin, did_put, did_delete, did_get, did_undo_one, did_commit, did_flush_begin, did_flush_half, did_flush_land, did_oldest_dirty, did_checkpoint, did_end, Made, done, refused, World, opened, index_in, IsWithin, Event, made, PlainEvent, counted, Happens, Events, MakesSet, not_begun, not_changed, set, LineStep, Runs, committed_at}
+use Rattle.clone_events.proofs.Common.{cons_option, AllByRecursion, FinMap, get, get-empty, get-insert, eq_by_cmp, Line, Cause, Donor, Call, begin, put, Done, did_create, did_drop, did_begin, did_put, did_delete, did_get, did_undo_one, did_commit, did_flush_begin, did_flush_half, did_flush_land, did_oldest_dirty, did_checkpoint, did_end, Made, done, refused, World, opened, index_in, IsWithin, Event, made, PlainEvent, counted, Happens, Events, MakesSet, not_begun, not_changed, set, LineStep, Runs, committed_at}
 use Rattle.std.specs.FinMap.{insert}
 use Rattle.std.proofs.lemmas.Cmp.{nat_cmp_total}
 use Rattle.std.proofs.lemmas.List.FromFn.{length-range_with_len}
@@ -17,6 +17,7 @@ MayBegin before after = (after ≡ before) ⊎ ((writer : ℕ) × (after ≡ ins
 done_begins : (d : Done) (begun : Begun) → MayBegin begun (counted (made (done d)) begun)
 unfolding MayBegin
 done_begins (did_create table buckets) begun = inl refl
+done_begins (did_drop table) begun = inl refl
 done_begins (did_begin writer index trx) begun = inr (writer, refl)
 done_begins (did_put trx table key value) begun = inl refl
 done_begins (did_delete trx table key) begun = inl refl

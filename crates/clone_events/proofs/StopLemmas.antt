@@ -11,13 +11,13 @@ IsStop (Some at) d = (at.position ≤ length d.binlog) × (at.drops ≤ length d
 
 stop_stays : (o : Option Stop) (d e : Donor) (answered : List ℕ) → Adds d e answered → IsStop o d → IsStop o e
 stop_stays None d e answered added is = tt
-stop_stays (Some at) d e answered added is = (omega (arith, is.0, ap length added.binlog, length-append d.binlog added.more), omega (arith, is.1, ap length added.drops))
+stop_stays (Some at) d e answered added is = (omega (arith, is.0, ap length added.binlog, length-append d.binlog added.more), omega (arith, is.1, ap length added.drops, length-append d.drops added.gone))
 
 -- the history before a stop doesn't change any more
 pub before_stop-longer : (at : Stop) (d e : Donor) (answered : List ℕ) → IsStop (Some at) d → Adds d e answered → before_stop at d ≡ history_of (take at.position e.binlog) (take at.drops e.drops)
 before_stop-longer at d e answered is added =
     ap (λ (b : List Commit). history_of b (take at.drops d.drops)) (sym (take-append-le at.position d.binlog added.more is.0) ∙ ap (take at.position) (sym added.binlog))
-    ∙ ap (λ (drops : Drops). history_of (take at.position e.binlog) (take at.drops drops)) (sym added.drops)
+    ∙ ap (λ (drops : Drops). history_of (take at.position e.binlog) drops) (sym (take-append-le at.drops d.drops added.gone is.1) ∙ ap (take at.drops) (sym added.drops))
 
 -- what is shown of a clone
 abbrev Shown : List Commit → Drops → Option Stop → Rows → Type 0

@@ -1,5 +1,5 @@
 -- What a whole run says of its binlog and of its clone.
-use Rattle.std.specs.Prelude.{ℕ, ◌≡◌, ◌≢◌, ◌≤◌, ◌-◌, ◌⊎◌, Bool, true, List, [], ◌∷◌, length, take, None, Some, MatchOption, slice_get}
+use Rattle.std.specs.Prelude.{ℕ, ◌≡◌, ◌≢◌, ◌≤◌, ◌-◌, ◌⊎◌, Bool, true, List, [], ◌∷◌, ◌++◌, length, take, None, Some, MatchOption, unwrap_or, slice_get}
 use Rattle.std.specs.declared.option.Option.{Option}
 use Rattle.std.specs.List.{filter_map, flat_map, range_with_len}
 use Rattle.clone_model.specs.History.{Drops, fold, history_of}
@@ -7,7 +7,8 @@ use Rattle.clone_model.specs.declared.change.Commit.{Commit}
 use Rattle.clone_script.specs.declared.lines.Line.{Line}
 use Rattle.clone_script.specs.declared.lines.Line.TheVariants as lines
 use Rattle.clone_plain.specs.Effects.{put_of}
-use Rattle.clone_plain.specs.Calls.{did_commit, done}
+use Rattle.clone_plain.specs.declared.refusal.Cause.TheVariants.{DiskFault}
+use Rattle.clone_plain.specs.Calls.{drop, did_commit, did_drop, done, refused}
 use Rattle.clone_outside.specs.declared.disk.DiskOrder.{DiskOrder}
 use Rattle.clone_outside.specs.declared.disk.DiskOrder.TheVariants as order
 use Rattle.clone_events.specs.World.{Stop, complete, broken, spent, copying, Clone, IsSure, stop_by, with_floor, reached, completed_at, ended_by}
@@ -25,6 +26,22 @@ committed_at event = None
 -- The positions that were answered are 1, 2, 3 and so on, one for each commit of the binlog.
 abbrev pub AreCommits : List Event → List Commit → Type 0
 AreCommits events binlog = filter_map committed_at events ≡ range_with_len 1 (length binlog)
+
+-- The drops that an event makes, behind so many commits: the one that was carried out, and maybe
+-- the one in which the disk failed.
+abbrev pub MakesDrops : ℕ → Event → Drops → Type 0
+MakesDrops position (made (done (did_drop table))) drops = drops ≡ (position, table) ∷ []
+MakesDrops position (made (refused (drop table) DiskFault)) drops =
+    (drops ≡ []) ⊎ (drops ≡ (position, table) ∷ [])
+MakesDrops position event drops = drops ≡ []
+
+-- The drops that events make, each behind the commits before it. Before the events there are so
+-- many commits.
+abbrev pub AreDrops : ℕ → List Event → Drops → Type 0
+AreDrops position [] drops = drops ≡ []
+AreDrops position (e ∷ es) drops =
+    (first rest : Drops) × MakesDrops position e first
+    × AreDrops (unwrap_or (committed_at e) position) es rest × (drops ≡ first ++ rest)
 
 -- the commit at a position is one of this writer that gives this row this value, and changes
 -- nothing else

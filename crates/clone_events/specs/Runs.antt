@@ -5,10 +5,10 @@ use Rattle.clone_outside.specs.declared.disk.DiskOrder.TheVariants as order
 use Rattle.clone_model.specs.History.{Rows}
 use Rattle.clone_model.specs.Texts.{ended}
 use Rattle.clone_script.specs.declared.lines.Line.{Line}
-use Rattle.clone_script.specs.declared.lines.Line.TheVariants.{Create, Begin, Put, Delete, Get, Undo, Commit, Set, Flush, Half, Land, Clean, Checkpoint, Lsn, Tear, FailDonor, FailRecipient, Start, Advance, Finish, Look, Archive, Clone, Rows as ShowRows}
+use Rattle.clone_script.specs.declared.lines.Line.TheVariants.{Create, Drop, Begin, Put, Delete, Get, Undo, Commit, Set, Flush, Half, Land, Clean, Checkpoint, Lsn, Tear, FailDonor, FailRecipient, Start, Advance, Finish, Look, Archive, Clone, Rows as ShowRows}
 use Rattle.clone_plain.specs.declared.refusal.Cause.{Cause}
 use Rattle.clone_plain.specs.Donor.{Donor}
-use Rattle.clone_plain.specs.Calls.{Call, create, begin, put, delete, get, undo_one, commit, flush_begin, flush_half, flush_land, checkpoint, end, Done, did_begin, did_put, did_flush_begin, did_flush_half, did_flush_land, did_oldest_dirty, Made, done, refused, made_call, call_of}
+use Rattle.clone_plain.specs.Calls.{Call, create, drop, begin, put, delete, get, undo_one, commit, flush_begin, flush_half, flush_land, checkpoint, end, Done, did_begin, did_put, did_flush_begin, did_flush_half, did_flush_land, did_oldest_dirty, Made, done, refused, made_call, call_of}
 use Rattle.clone_plain.specs.Answers.{Text}
 use Rattle.clone_events.specs.World.{World, index_in}
 use Rattle.clone_events.specs.Events.{to_donor, to_recipient, Event, made, cleaned, looked, archived, started, started_before, readied, not_started, completed, completed_before, broke, broke_before, lost, lost_before, showed, incomplete, hidden, damaged, ordered, said, Events}
@@ -97,6 +97,7 @@ pub data MakesRows (events : List Event) : Type 0 where
 -- the events of a line, where each writer's next transaction has this index
 abbrev pub Makes : (ℕ → ℕ) → Line → List Event → Type 0
 Makes next (Create table buckets) events = MakesOne (create table buckets) events
+Makes next (Drop table) events = MakesOne (drop table) events
 Makes next (Begin writer) events = MakesOne (begin writer (next writer)) events
 Makes next (Put trx table key value) events = MakesOne (put trx table key value) events
 Makes next (Delete trx table key) events = MakesOne (delete trx table key) events

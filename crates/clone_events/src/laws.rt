@@ -2,19 +2,24 @@ ghost use Rattle.std.specs.Prelude.{◌≡◌, ◌≤◌, ◌++◌, Bool, ℕ, L
 ghost use Rattle.clone_script.specs.declared.lines.Line.{Line};
 ghost use Rattle.clone_plain.specs.Donor.{Donor, no_donor};
 ghost use Rattle.clone_events.specs.Events.{Event, PlainEvent};
-ghost use Rattle.clone_events.specs.Headline.{AreCommits, AreSets, ShowsStop, all_events};
+ghost use Rattle.clone_events.specs.Headline.{AreCommits, AreDrops, AreSets, ShowsStop, all_events};
 ghost use Rattle.clone_events.specs.Runs.{Runs};
 ghost use Rattle.clone_events.specs.World.{World, IsWithin, no_clone, opened};
 
 /// Each run of the plain donor from the beginning: its binlog has a commit for each position that
-/// was answered, that of a `set` with its one change; the rows shown are those of the stop, where
-/// that is known; each line adds at most one commit, and one transaction of each writer; and
-/// whether the disks tell what they hold stays.
+/// was answered, that of a `set` with its one change; its drops are those that were answered, and
+/// maybe those in which the disk failed; the rows shown are those of the stop, where that is known;
+/// each line adds at most one commit, and one transaction of each writer; and whether the disks
+/// tell what they hold stays.
 pub fn run_laws()
     ensures commits { (lines : List Line) (events : List (List Event)) (t : World Donor)
         → (tells : Bool)
         → Runs (λ d. d) PlainEvent (opened no_donor tells) lines events t
         → AreCommits (all_events events) t.donor.binlog }
+    ensures drops { (lines : List Line) (events : List (List Event)) (t : World Donor)
+        → (tells : Bool)
+        → Runs (λ d. d) PlainEvent (opened no_donor tells) lines events t
+        → AreDrops 0 (all_events events) t.donor.drops }
     ensures sets { (lines : List Line) (events : List (List Event)) (t : World Donor)
         → (tells : Bool)
         → Runs (λ d. d) PlainEvent (opened no_donor tells) lines events t

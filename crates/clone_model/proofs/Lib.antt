@@ -10,3 +10,4 @@ pub mod Beginnings
 pub mod Values
 pub mod OneAnswer
 pub mod HistoryLemmas
+pub mod DropLemmas

@@ -1,6 +1,7 @@
 pub mod Keys
 pub mod History
 pub mod Binlog
+pub mod Drops
 pub mod Room
 pub mod Kept
 pub mod Texts

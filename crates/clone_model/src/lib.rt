@@ -4,6 +4,7 @@
 
 mod change;
 mod config;
+mod drops;
 mod history;
 mod line;
 mod list;
@@ -15,7 +16,8 @@ mod value;
 
 pub use change::{Change, Commit};
 pub use config::{Config, LEAST_POOL, LEAST_RING, MOST_POOL, MOST_RING, USUAL_POOL, USUAL_RING};
-pub use history::history_laws;
+pub use drops::Drops;
+pub use history::{drop_laws, history_laws};
 pub use line::{BucketCount, HIGHEST_TABLE, MOST_BUCKETS, MOST_CALLS, MOST_PAGES, TableNumber};
 pub use list::{Binlog, Changes};
 pub use reading::{

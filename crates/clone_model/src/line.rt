@@ -1,3 +1,5 @@
+//! The numbers of lines in their ranges: a table is from 1 to 1,000,000, and a number of buckets
+//! is from 1 to 1,024. No value of these types is outside its range.
 ghost use Rattle.std.specs.Prelude.{◌≡◌, ◌≤◌, ◌<◌, ◌⊎◌, IfSome, IfNone};
 
 use std::marker::Model;

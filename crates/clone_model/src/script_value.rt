@@ -1,3 +1,5 @@
+//! A value as a script gives it: at most 1,024 bytes. A value that a row may have stands in place,
+//! and a longer one in memory.
 ghost use Rattle.std.specs.Prelude.{◌≡◌, ◌≤◌, ◌<◌, length, IfOk, IfSome, IfNone};
 
 use crate::Value;

@@ -1,3 +1,5 @@
+//! The rows of all tables, by table and key. A slot holds a value, or nothing: then there is no
+//! row, but room for one, so that a change of that row takes no memory.
 ghost use Rattle.std.specs.Prelude.{◌≡◌, ℕ, OnOk, OnErr, IfOk};
 ghost use Rattle.std.specs.FinMap as finite;
 ghost use Rattle.clone_model.specs.History.{after_change, after_changes, after_commit, after_commits, rows_in};

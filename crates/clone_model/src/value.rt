@@ -1,3 +1,5 @@
+//! A row's value: room for 64 bytes in place, of which the first `len` count. `len` is at most 64,
+//! and what stands behind it means nothing.
 ghost use Rattle.std.specs.Prelude.{◌≡◌, ◌≤◌, ◌<◌, List, ℕ, length, IfSome, IfNone, take};
 ghost use Rattle.clone_base.specs.declared.limits.TheConstants.{VALUE_LIMIT};
 

@@ -2,3 +2,5 @@ pub mod Common
 pub mod OpenLemmas
 pub mod ValueLemmas
 pub mod LockLemmas
+pub mod HolderLemmas
+pub mod DropLemmas

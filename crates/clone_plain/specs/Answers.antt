@@ -5,10 +5,10 @@ use Rattle.std.specs.Fmt.{decimal}
 use Rattle.clone_model.specs.History.{Row}
 use Rattle.clone_model.specs.Texts.{rows_text, value_text}
 use Rattle.clone_plain.specs.declared.refusal.Cause.{Cause}
-use Rattle.clone_plain.specs.declared.refusal.Cause.TheVariants.{NoSuchTrx, NoSuchTable, TableExists, RowLocked, ValueTooLong, UndoFull, SpaceFull, LogFull, PoolFull, TooManyTransactions, TooManyTables, CloneRunning, NotDirty, InFlight, NoFlush, DiskFault}
+use Rattle.clone_plain.specs.declared.refusal.Cause.TheVariants.{NoSuchTrx, NoSuchTable, TableExists, RowLocked, ValueTooLong, UndoFull, SpaceFull, LogFull, PoolFull, TooManyTransactions, TooManyTables, CloneRunning, TableInUse, NotDirty, InFlight, NoFlush, DiskFault}
 use Rattle.clone_plain.specs.declared.refusal.Undone.{Undone}
 use Rattle.clone_plain.specs.declared.refusal.Undone.TheVariants.{Left, Ended}
-use Rattle.clone_plain.specs.Calls.{Done, did_create, did_begin, did_put, did_delete, did_get, did_undo_one, did_commit, did_flush_begin, did_flush_half, did_flush_land, did_oldest_dirty, did_checkpoint, did_end, Made, done, refused}
+use Rattle.clone_plain.specs.Calls.{Done, did_create, did_drop, did_begin, did_put, did_delete, did_get, did_undo_one, did_commit, did_flush_begin, did_flush_half, did_flush_land, did_oldest_dirty, did_checkpoint, did_end, Made, done, refused}
 
 abbrev pub Text : Type 0
 Text = List ℕ
@@ -27,6 +27,7 @@ refusal_text (PoolFull frames) = codes "refused E9 " ++ decimal frames
 refusal_text TooManyTransactions = codes "refused E10"
 refusal_text TooManyTables = codes "refused E11"
 refusal_text (CloneRunning session) = codes "refused E12 " ++ decimal session
+refusal_text (TableInUse trx) = codes "refused E13 " ++ decimal trx
 refusal_text NotDirty = codes "refused E14"
 refusal_text InFlight = codes "refused E15"
 refusal_text NoFlush = codes "refused E16"
@@ -45,6 +46,7 @@ undone_answer Ended = codes "ended"
 -- the answer of a call that was carried out; that of a look for a dirty page no line shows
 abbrev pub done_text : Done → Text
 done_text (did_create table buckets) = codes "created"
+done_text (did_drop table) = codes "dropped"
 done_text (did_begin writer index trx) = codes "trx " ++ decimal trx
 done_text (did_put trx table key value) = codes "ok"
 done_text (did_delete trx table key) = codes "ok"

@@ -3,15 +3,16 @@
 use Rattle.std.specs.Prelude.{ℕ, ◌≡◌, ◌⊎◌, Bool, true, false, List, length, None, Some}
 use Rattle.std.specs.declared.option.Option.{Option}
 use Rattle.clone_plain.specs.declared.refusal.Cause.{Cause}
-use Rattle.clone_plain.specs.declared.refusal.Cause.TheVariants.{NoSuchTrx, NoSuchTable, TableExists, RowLocked, ValueTooLong, UndoFull, SpaceFull, LogFull, PoolFull, TooManyTransactions, TooManyTables, CloneRunning, NotDirty, InFlight, NoFlush, DiskFault}
+use Rattle.clone_plain.specs.declared.refusal.Cause.TheVariants.{NoSuchTrx, NoSuchTable, TableExists, RowLocked, ValueTooLong, UndoFull, SpaceFull, LogFull, PoolFull, TooManyTransactions, TooManyTables, CloneRunning, TableInUse, NotDirty, InFlight, NoFlush, DiskFault}
 use Rattle.clone_plain.specs.declared.refusal.Undone.{Undone}
 use Rattle.clone_plain.specs.Donor.{Donor}
-use Rattle.clone_plain.specs.Causes.{create_cause, begin_cause, change_cause, get_cause, no_trx}
-use Rattle.clone_plain.specs.Effects.{created, Begins, Changes, put_of, delete_of, Undoes, Commits}
+use Rattle.clone_plain.specs.Causes.{create_cause, drop_cause, begin_cause, change_cause, get_cause, no_trx, no_table}
+use Rattle.clone_plain.specs.Effects.{created, dropped, Begins, Changes, put_of, delete_of, Undoes, Commits}
 
 -- a call
 pub data Call : Type 0 where
   create : (table buckets : ℕ) → Call
+  drop : (table : ℕ) → Call
   begin : (writer index : ℕ) → Call
   put : (trx table key : ℕ) (value : List ℕ) → Call
   delete : (trx table key : ℕ) → Call
@@ -28,6 +29,7 @@ pub data Call : Type 0 where
 -- a call that was carried out, with its answer
 pub data Done : Type 0 where
   did_create : (table buckets : ℕ) → Done
+  did_drop : (table : ℕ) → Done
   did_begin : (writer index trx : ℕ) → Done
   did_put : (trx table key : ℕ) (value : List ℕ) → Done
   did_delete : (trx table key : ℕ) → Done
@@ -48,6 +50,7 @@ pub data Made : Type 0 where
 
 abbrev pub call_of : Done → Call
 call_of (did_create table buckets) = create table buckets
+call_of (did_drop table) = drop table
 call_of (did_begin writer index trx) = begin writer index
 call_of (did_put trx table key value) = put trx table key value
 call_of (did_delete trx table key) = delete trx table key
@@ -69,6 +72,7 @@ made_call (refused call cause) = call
 -- the first cause against a call
 abbrev pub cause_of : Donor → Call → Option Cause
 cause_of d (create table buckets) = create_cause d table
+cause_of d (drop table) = drop_cause d table
 cause_of d (begin writer index) = begin_cause d
 cause_of d (put trx table key value) = change_cause d trx table key (length value)
 cause_of d (delete trx table key) = change_cause d trx table key 0
@@ -82,10 +86,11 @@ cause_of d oldest_dirty = None
 cause_of d checkpoint = None
 cause_of d end = None
 
--- What a call does that is carried out. The value that a `get` answers comes from pages, and is said
--- where these are known.
+-- What a call does that is carried out. The value that a `get` answers comes from pages, and is
+-- said where these are known.
 abbrev pub Does : Donor → Done → Donor → Type 0
 Does d (did_create table buckets) after = after ≡ created table buckets d
+Does d (did_drop table) after = after ≡ dropped table d
 Does d (did_begin writer index trx) after = Begins d writer index trx after
 Does d (did_put trx table key value) after = Changes d trx (put_of table key value) after
 Does d (did_delete trx table key) after = Changes d trx (delete_of table key) after
@@ -114,20 +119,28 @@ is_below (PoolFull frames) = true
 is_below TooManyTransactions = false
 is_below TooManyTables = false
 is_below (CloneRunning session) = true
+is_below (TableInUse trx) = false
 is_below NotDirty = true
 is_below InFlight = true
 is_below NoFlush = true
 is_below DiskFault = true
 
--- A call is refused for the cause against it. Where there is none, it may be refused for one that the
--- plain donor doesn't know; and a clone that runs is against a table ahead of all other causes.
+-- A call is refused for the cause against it. Where there is none, it may be refused for one that
+-- the plain donor doesn't know. A clone that runs is against a new table ahead of all other causes,
+-- and against a drop behind one alone, that there is no such table.
 abbrev pub IsRefused : Donor → Call → Cause → Type 0
 IsRefused d (create table buckets) (CloneRunning session) = Unit {0}
+IsRefused d (drop table) (CloneRunning session) = no_table d table ≡ None
 IsRefused d call cause =
     (cause_of d call ≡ Some cause) ⊎ ((cause_of d call ≡ None) × (is_below cause ≡ true))
 
--- A call is carried out only where there is no cause against it. Else it is refused, and nothing
--- changes.
+-- A call that is refused changes nothing. But where the disk fails in a drop, the table may be
+-- gone.
+abbrev pub AfterRefusal : Donor → Call → Cause → Donor → Type 0
+AfterRefusal d (drop table) DiskFault after = (after ≡ d) ⊎ (after ≡ dropped table d)
+AfterRefusal d call cause after = after ≡ d
+
+-- A call is carried out only where there is no cause against it. Else it is refused.
 abbrev pub PlainStep : Donor → Made → Donor → Type 0
 PlainStep d (done x) after = (cause_of d (call_of x) ≡ None) × Does d x after
-PlainStep d (refused call cause) after = IsRefused d call cause × (after ≡ d)
+PlainStep d (refused call cause) after = IsRefused d call cause × AfterRefusal d call cause after

@@ -1,16 +1,16 @@
 -- Why the plain donor refuses a call: the first cause that stands, in the order of each call, or
 -- none.
-use Rattle.std.specs.Prelude.{ℕ, ◌==◌, not, nat_lt, Bool, true, false, length, if◌then◌else◌, is_none, None, Some}
+use Rattle.std.specs.Prelude.{ℕ, ◌==◌, ◌&&◌, not, nat_lt, Bool, true, false, length, if◌then◌else◌, is_none, None, Some}
 use Rattle.std.specs.declared.option.Option.{Option}
-use Rattle.std.specs.Option.{option_or}
-use Rattle.std.specs.List.{range_with_len, find}
+use Rattle.std.specs.Option.{option_or, option_map}
+use Rattle.std.specs.List.{range_with_len, find, list_any}
 use Rattle.std.specs.FinMap as finite
 use Rattle.std.specs.Ordering.{nat_cmp}
 use Rattle.clone_base.specs.declared.limits.TheConstants.{CHANGE_LIMIT, TABLE_LIMIT, TRANSACTION_LIMIT, VALUE_LIMIT}
 use Rattle.clone_model.specs.declared.change.Commit.{Commit}
 use Rattle.clone_plain.specs.declared.refusal.Cause.{Cause}
-use Rattle.clone_plain.specs.declared.refusal.Cause.TheVariants.{NoSuchTrx, NoSuchTable, TableExists, RowLocked, ValueTooLong, UndoFull, TooManyTransactions, TooManyTables}
-use Rattle.clone_plain.specs.Donor.{Donor, changes_of}
+use Rattle.clone_plain.specs.declared.refusal.Cause.TheVariants.{NoSuchTrx, NoSuchTable, TableExists, RowLocked, ValueTooLong, UndoFull, TooManyTransactions, TooManyTables, TableInUse}
+use Rattle.clone_plain.specs.Donor.{Donor, Locks, changes_of}
 
 -- a cause where it stands
 abbrev pub whether : Bool → Cause → Option Cause
@@ -46,10 +46,23 @@ unfoldable pub least_unused : finite.FinMap nat_cmp Commit → Option ℕ
 least_unused active =
     find (λ trx. not (finite.contains_key active trx)) (range_with_len 0 TRANSACTION_LIMIT)
 
+-- whether a transaction holds the lock of a row of a table
+abbrev pub holds_in : Locks → ℕ → ℕ → Bool
+holds_in locks table trx =
+    list_any (λ e. (e.0.0 == table) && (e.1 == trx)) (finite.entries locks)
+
+-- the least transaction that holds the lock of a row of a table, or none
+unfoldable pub least_holder : Locks → ℕ → Option ℕ
+least_holder locks table = find (holds_in locks table) (range_with_len 0 TRANSACTION_LIMIT)
+
 abbrev pub create_cause : Donor → ℕ → Option Cause
 create_cause d table =
     option_or (whether (finite.contains_key d.tables table) TableExists)
     (whether (finite.len d.tables == TABLE_LIMIT) TooManyTables)
+
+abbrev pub drop_cause : Donor → ℕ → Option Cause
+drop_cause d table =
+    option_or (no_table d table) (option_map TableInUse (least_holder d.locks table))
 
 abbrev pub begin_cause : Donor → Option Cause
 begin_cause d = whether (is_none (least_unused d.active)) TooManyTransactions

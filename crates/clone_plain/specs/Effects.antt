@@ -14,6 +14,13 @@ use Rattle.clone_plain.specs.Causes.{least_unused}
 abbrev pub created : ℕ → ℕ → Donor → Donor
 created table buckets d = record d { tables = finite.insert d.tables table buckets }
 
+-- a table is dropped: it is gone, and a drop stands behind the commits and the drops before it
+abbrev pub dropped : ℕ → Donor → Donor
+dropped table d = record d {
+  tables = finite.remove d.tables table;
+  drops = d.drops ++ (length d.binlog, table) ∷ [];
+}
+
 -- a transaction is opened, with no change and no lock
 abbrev pub begun : ℕ → ℕ → ℕ → Donor → Donor
 begun trx writer index d = record d {

@@ -1,7 +1,8 @@
 use std::alloc::AllocError;
 use std::fmt;
 
-/// Why a call of the donor is refused. After a refusal nothing has changed.
+/// Why a call of the donor is refused. After a refusal nothing has changed, but for a drop in which
+/// the disk failed: it may have taken place.
 #[derive(Clone, Copy, Debug, PartialEq, Eq, Drop)]
 pub enum Cause {
     /// E1: no open transaction has this number.
@@ -37,14 +38,20 @@ pub enum Cause {
     TooManyTransactions,
     /// E11: 62 tables are there.
     TooManyTables,
-    /// E12: a session of a clone stands, so no table is made.
+    /// E12: a session of a clone stands, so no table is made, and none is dropped.
     CloneRunning {
         /// Its number.
         session: u64,
     },
+    /// E13: an open transaction holds the lock of a row of the table.
+    TableInUse {
+        /// The least transaction that does.
+        trx: u32,
+    },
     /// E14: the page isn't dirty.
     NotDirty,
-    /// E15: a flush of the page has begun, and has neither landed nor failed.
+    /// E15: a flush of the page, or of one of the table, has begun, and has neither landed nor
+    /// failed.
     InFlight,
     /// E16: no flush of the page is at this half.
     NoFlush,
@@ -73,6 +80,7 @@ impl fmt::Display for Cause {
             Cause::TooManyTransactions => f.write_str("refused E10"),
             Cause::TooManyTables => f.write_str("refused E11"),
             Cause::CloneRunning { session } => write!(f, "refused E12 {session}"),
+            Cause::TableInUse { trx } => write!(f, "refused E13 {trx}"),
             Cause::NotDirty => f.write_str("refused E14"),
             Cause::InFlight => f.write_str("refused E15"),
             Cause::NoFlush => f.write_str("refused E16"),

@@ -3,7 +3,7 @@ use Rattle.std.proofs.Common.{◌≡◌, ℕ, List, [], ◌∷◌, ◌++◌, Opt
 use Rattle.std.specs.Prelude.{codes}
 use Rattle.clone_script.specs.Lines.{line_text, IsInRange}
 use Rattle.clone_script.specs.declared.lines.Line.{Line}
-use Rattle.clone_script.specs.declared.lines.Line.TheVariants.{Put, Delete, Get, Set, Start}
+use Rattle.clone_script.specs.declared.lines.Line.TheVariants.{Drop, Put, Delete, Get, Set, Start}
 use Rattle.clone_script.specs.Fields.{IsRow, IsRowWithValue, row_text, row_with_value_text}
 use Rattle.clone_script.specs.declared.fields.Row.{Row}
 use Rattle.clone_script.specs.Reading.{Parses, ParsesLine}
@@ -44,6 +44,7 @@ Parses-set fields read h = made_line IsRowWithValue row_with_value_text (λ x. S
 
 fields-del : (fields : List ℕ) (l : Line) → IsInRange l → codes "del " ++ fields ≡ line_text l → (x : Row) × IsRow x × (fields ≡ row_text x) × (l ≡ Delete x.number x.table x.key)
 fields-del fields (Delete trx table key) r e = (record { number = trx; table = table; key = key }, r, ap (drop 4) e, refl)
+fields-del fields (Drop table) r e = absurd (omega (arith, ap (λ t. first_of (drop 1 t)) e))
 fields-del fields l r e = absurd (omega (arith, ap first_of e))
 
 pub Parses-del : (fields : List ℕ) (read : Option (Row)) → Parses IsRow row_text fields read → ParsesLine (codes "del " ++ fields) (option_map (λ x. Delete x.number x.table x.key) read)

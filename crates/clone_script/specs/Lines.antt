@@ -5,10 +5,11 @@ use Rattle.clone_model.specs.Texts.{value_text}
 use Rattle.clone_model.specs.Ranges.{IsTable, IsPlace, IsCall, IsScriptValue}
 use Rattle.clone_model.specs.declared.line.TheConstants.{MOST_BUCKETS}
 use Rattle.clone_script.specs.declared.lines.Line.{Line}
-use Rattle.clone_script.specs.declared.lines.Line.TheVariants.{Create, Begin, Put, Delete, Get, Undo, Commit, Set, Flush, Half, Land, Clean, Checkpoint, Lsn, Tear, FailDonor, FailRecipient, Start, Advance, Finish, Look, Archive, Clone, Rows}
+use Rattle.clone_script.specs.declared.lines.Line.TheVariants.{Create, Drop, Begin, Put, Delete, Get, Undo, Commit, Set, Flush, Half, Land, Clean, Checkpoint, Lsn, Tear, FailDonor, FailRecipient, Start, Advance, Finish, Look, Archive, Clone, Rows}
 
 abbrev pub line_text : Line → List ℕ
 line_text (Create table buckets) = codes "create " ++ decimal table ++ codes " " ++ decimal buckets
+line_text (Drop table) = codes "drop " ++ decimal table
 line_text (Begin writer) = codes "begin " ++ decimal writer
 line_text (Put trx table key value) =
     codes "put " ++ decimal trx ++ codes " " ++ decimal table ++ codes " " ++ decimal key
@@ -42,6 +43,7 @@ line_text Rows = codes "rows"
 -- each number of the line is in its range, and so is its value
 abbrev pub IsInRange : Line → Type 0
 IsInRange (Create table buckets) = IsTable table × (1 ≤ buckets) × (buckets ≤ MOST_BUCKETS)
+IsInRange (Drop table) = IsTable table
 IsInRange (Begin writer) = writer < 2 ^ 32
 IsInRange (Put trx table key value) =
     (trx < 2 ^ 32) × IsTable table × (key < 2 ^ 64) × IsScriptValue value

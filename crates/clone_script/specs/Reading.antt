@@ -2,7 +2,7 @@
 use Rattle.std.specs.Prelude.{ℕ, ◌≡◌, List, Option, Some, IfSome, Result, Ok, Err, Bool, true, false, ⊤}
 use Rattle.clone_script.specs.Lines.{line_text, IsInRange}
 use Rattle.clone_script.specs.declared.lines.Line.{Line}
-use Rattle.clone_script.specs.declared.lines.Line.TheVariants.{Create, Begin, Put, Delete, Get, Undo, Commit, Set, Clean, Checkpoint, Lsn, Start, Advance, Finish, Look, Clone, Rows}
+use Rattle.clone_script.specs.declared.lines.Line.TheVariants.{Create, Drop, Begin, Put, Delete, Get, Undo, Commit, Set, Clean, Checkpoint, Lsn, Start, Advance, Finish, Look, Clone, Rows}
 use Rattle.clone_script.specs.Given.{Given}
 use Rattle.clone_script.specs.Script.{IsScript, IsFirstBad, Gives, GivesSize}
 use Rattle.clone_script.specs.declared.head.HeadLine.{HeadLine}
@@ -39,6 +39,7 @@ ParsesLine text result = Parses IsInRange line_text text result
 -- a line of the disk, of the log or of a clone, or one without fields
 abbrev pub IsOfDisk : Line → Type 0
 IsOfDisk (Create table buckets) = ⊥
+IsOfDisk (Drop table) = ⊥
 IsOfDisk (Begin writer) = ⊥
 IsOfDisk (Put trx table key value) = ⊥
 IsOfDisk (Delete trx table key) = ⊥

@@ -1,3 +1,5 @@
+//! What a script has given so far: its lines in their order, and the sizes of pool and ring. A
+//! size that is given is one that a pool or a ring may have.
 ghost use Rattle.std.specs.Prelude.{◌≡◌, ◌↔◌, IfOk, IsTrue};
 ghost use Rattle.clone_model.specs.Config.{IsConfig};
 ghost use Rattle.clone_script.specs.Given.{nothing, config_of};

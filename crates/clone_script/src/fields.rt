@@ -2,7 +2,7 @@ ghost use Rattle.std.specs.Prelude.{ℕ, ◌≡◌, ◌≤◌, ◌<◌, ◌^◌,
 ghost use Rattle.std.specs.Option.{SomeIff};
 ghost use Rattle.std.specs.Fmt.{decimal};
 ghost use Rattle.clone_model.specs.Config.{IsPoolSize, IsRingSize};
-ghost use Rattle.clone_model.specs.Ranges.{IsCall};
+ghost use Rattle.clone_model.specs.Ranges.{IsCall, IsTable};
 ghost use Rattle.clone_model.specs.declared.line.TheConstants.{HIGHEST_TABLE, MOST_BUCKETS, MOST_PAGES};
 ghost use Rattle.clone_script.specs.Fields.{IsRow, IsRowWithValue, row_text, row_with_value_text};
 ghost use Rattle.clone_script.specs.Reading.{Parses};
@@ -93,6 +93,13 @@ pub fn table_number(number: u64) -> Option<TableNumber>
     ensures { SomeIff result ((1 ≤ number) × (number ≤ HIGHEST_TABLE)) number }
 {
     TableNumber::new(as_u32(number)?)
+}
+
+/// The table whose number the whole text shows.
+pub fn table_of(text: &[u8]) -> Option<TableNumber>
+    ensures { Parses IsTable decimal text.now result }
+{
+    table_number(number_of(text)?)
 }
 
 /// So many buckets.

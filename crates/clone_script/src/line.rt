@@ -5,7 +5,7 @@ ghost use Rattle.clone_script.specs.Reading.{Parses, ParsesLine, IsOfDisk, IsBar
 use crate::Line;
 use crate::fields::{
     bucket_count, byte_of, call_of, page_number, read_row, read_row_with_value, small_number,
-    space_number, table_number,
+    space_number, table_number, table_of,
 };
 use clone_model::{leading_number, number_of};
 use std::alloc::{AllocError, Global};
@@ -16,6 +16,9 @@ pub fn parse_line(alloc: Global, text: &[u8]) -> Result<Option<Line>, AllocError
 {
     if let Some(fields) = text.strip_prefix(b"create ") {
         return Ok(create(fields));
+    }
+    if let Some(field) = text.strip_prefix(b"drop ") {
+        return Ok(drop_table(field));
     }
     if let Some(field) = text.strip_prefix(b"begin ") {
         return Ok(begin(field));
@@ -112,6 +115,14 @@ fn create(fields: &[u8]) -> Option<Line>
         table: table_number(table)?,
         buckets: bucket_count(number_of(buckets)?)?,
     })
+}
+
+/// The `drop` with this field: a table.
+fn drop_table(field: &[u8]) -> Option<Line>
+    ensures { ParsesLine (codes "drop " ++ field.now) result }
+{
+    let table = table_of(field)?;
+    Some(Line::Drop { table })
 }
 
 /// The `begin` with this field: a writer.

@@ -10,6 +10,11 @@ pub enum Line {
         /// How many buckets it gets.
         buckets: BucketCount,
     },
+    /// `drop T`: table T is dropped.
+    Drop {
+        /// The number of the table.
+        table: TableNumber,
+    },
     /// `begin W`: writer W begins a transaction.
     Begin {
         /// The writer.

@@ -24,6 +24,7 @@ fn push_line(text: &mut String, line: &Line) -> Result<(), AllocError>
 {
     match line {
         Line::Create { table, buckets } => write!(text, "create {} {}", table.get(), buckets.get()),
+        Line::Drop { table } => write!(text, "drop {}", table.get()),
         Line::Begin { writer } => write!(text, "begin {writer}"),
         Line::Put {
             trx,

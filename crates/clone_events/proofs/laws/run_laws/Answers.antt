@@ -1,6 +1,6 @@
 use Rattle.std.proofs.Common.{refl}
 use Rattle.clone_events.proofs.Common.{PlainEvent, no_donor, all_events, opened}
-use Rattle.clone_events.proofs.BinlogLemmas.{events_add, are_commits}
+use Rattle.clone_events.proofs.BinlogLemmas.{events_add, events_drop, are_commits, are_drops}
 use Rattle.clone_events.proofs.ReachedLemmas.{Runs-IsWithin}
 use Rattle.clone_events.proofs.RunLemmas.{Runs-Events, Runs-tells}
 use Rattle.clone_events.proofs.SetLemmas.{are_sets}
@@ -9,6 +9,9 @@ use Rattle.clone_events.proofs.laws.run_laws.Goals as goal
 
 pub returns-clause-commits : goal.returns-clause-commits
 returns-clause-commits c lines events t tells run = are_commits no_donor t.donor (all_events events) refl (events_add (λ d. d) PlainEvent (λ d e event step. step) (opened no_donor tells) (all_events events) t (Runs-Events (λ d. d) PlainEvent (opened no_donor tells) lines events t run))
+
+pub returns-clause-drops : goal.returns-clause-drops
+returns-clause-drops c lines events t tells run = are_drops no_donor t.donor (all_events events) refl refl (events_drop (λ d. d) PlainEvent (λ d e event step. step) (opened no_donor tells) (all_events events) t (Runs-Events (λ d. d) PlainEvent (opened no_donor tells) lines events t run))
 
 pub returns-clause-sets : goal.returns-clause-sets
 returns-clause-sets c lines events t tells run = are_sets (λ d. d) PlainEvent (λ d e event step. step) (opened no_donor tells) lines events t run
