@@ -1,6 +1,6 @@
 -- A mini-transaction that drops a space, once the frames of its pages were given up.
 use Rattle.std.proofs.Common.{◌≡◌, ◌≢◌, ◌<◌, ◌≤◌, ◌&&◌, ◌⊎◌, inl, inr, ◌++◌, ℕ, Bool, true, false, List, [], ◌∷◌, length, refl, sym, ap, subst, ◌∙◌, arith, Option, Some, None, Result, Ok, Err, nat_lt, IsSome, IfSome, IsTrue, if◌then◌else◌}
-use Rattle.clone_buffer.proofs.Common.{Writes, cases_eq, cases_lt, false≢true, true≢false, AllByRecursion, DiskImage, Record, spelling, Image, replayed, IsSpelled, no_space, redone, ends, touches, passes, free_in, LogFull, Frame, Content, Unused, Fresh, PageName, frame_at, name_in, name_of, is_begun, holder, IsPool, Buffered, IsBuffer, Shown, Shows, Beside, frame_in, frame_of, IsKeptPage, IsKept, HasFrame, IsOnPage, any_names, written}
+use Rattle.clone_buffer.proofs.Common.{Writes, cases_eq, cases_lt, false≢true, true≢false, AllByRecursion, DiskImage, Record, spelling, Image, replayed, IsSpelled, no_space, redone, ends, touches, passes, free_in, LogFull, Frame, Content, Unused, Fresh, PageName, frame_at, name_in, name_of, is_begun, holder, IsPool, Buffered, IsBuffer, Shown, Shows, Beside, frame_of, IsKeptPage, IsKept, HasFrame, IsOnPage, any_names, written}
 use Rattle.std.proofs.lemmas.Bool.{eq-eqb, lt-ltb}
 use Rattle.clone_mtr.specs.declared.record.Record.TheVariants.{Drop}
 use Rattle.clone_image.specs.Image.{page_of}
@@ -9,12 +9,11 @@ use Rattle.clone_law.specs.Touches.{becomes, applied}
 use Rattle.clone_law.proofs.AppendLemmas.{appended, suits_unnamed}
 use Rattle.clone_pool.specs.declared.frame.Content.TheVariants.{Held}
 use Rattle.clone_pool.specs.Frames.{page_changed, discarded}
-use Rattle.clone_buffer.specs.OnePage.{NoFilesOf, flush_in}
+use Rattle.clone_buffer.specs.OnePage.{NoFilesOf, NoFlightsOf, flush_in}
 use Rattle.clone_buffer.specs.Keeping.{Stands}
 use Rattle.clone_buffer.specs.Dropping.{is_page_below, given_up, without_pages, DropsSpace, WritesWithout}
 use Rattle.clone_buffer.proofs.MoveLemmas.{stands_by}
 use Rattle.clone_buffer.proofs.PageLemmas.{dropped_page}
-use Rattle.clone_buffer.proofs.FrameLemmas.{holder_name, counted_state}
 use Rattle.clone_buffer.proofs.ShownLemmas.{frame_of_absent}
 use Rattle.clone_buffer.proofs.WriteLemmas.{of_named, applied_passing, unnamed_all, passes_all, ready_there}
 use Rattle.clone_buffer.proofs.WrittenLemmas.{KeptAt, small, frame_of-passed, IsBuffer-written}
@@ -89,7 +88,7 @@ module _ (space pages : ℕ) (v : Buffered) (records : List Record) (d : DropsSp
       by None framed on = tt
       by (Some page) framed on = subst IsSome (sym (holder_left space pages v.pool p q page (apart page on))) framed
 
-  module _ (beside : Beside) (m : DiskImage) (after : IsBuffer (written all u)) (calm : NoFilesOf space beside.copy) (k : IsKept v beside m) where
+  module _ (beside : Beside) (m : DiskImage) (after : IsBuffer (written all u)) (calm : NoFilesOf space beside.copy) (quiet : NoFlightsOf space beside) (k : IsKept v beside m) where
     abbrev buffer : IsBuffer u
     buffer = buffer_without space pages v b
 
@@ -109,14 +108,11 @@ module _ (space pages : ℕ) (v : Buffered) (records : List Record) (d : DropsSp
 
     -- a page of the space isn't on its way to the disk
     landed : (n : ℕ) → is_begun (flush_in (frame_of v.pool.frames space n)) ≡ false
-    landed n = by (holder v.pool.frames page) refl
+    landed n = by (is_begun (flush_in (frame_of v.pool.frames space n))) refl
       where
-        page : PageName
-        page = record { space = space; number = n }
-
-        by : (o : Option ℕ) → holder v.pool.frames page ≡ o → is_begun (flush_in (frame_in v.pool.frames o)) ≡ false
-        by None is = refl
-        by (Some at) is = ap is_begun (counted_state v.pool.uses (frame_at v.pool.frames at) (p.frame at)).1 ∙ d.landed at page (holder_name v.pool.frames page at is).1 refl
+        by : (t : Bool) → is_begun (flush_in (frame_of v.pool.frames space n)) ≡ t → is_begun (flush_in (frame_of v.pool.frames space n)) ≡ false
+        by false is = is
+        by true is = absurd (false≢true (subst IsSome (quiet n) ((k.page space n).flights.0 is)))
 
     own_page : (n : ℕ) → (t : Bool) → any_names (record { space = space; number = n }) all ≡ t → Kept space n
     own_page n true hits = absurd (false≢true (subst IsSome (gone image space n) (named_there space n hits)))
@@ -135,10 +131,10 @@ module _ (space pages : ℕ) (v : Buffered) (records : List Record) (d : DropsSp
         by s n (inl same) = subst (λ (x : ℕ). Kept x n) (sym same) (own_page n (any_names (record { space = space; number = n }) all) refl)
         by s n (inr other) = other_page s n other
 
-  pub kept_dropped : IsSpelled records → length (spelling records) ≤ free_in v.ring → (beside : Beside) (m : DiskImage) → NoFilesOf space beside.copy → IsKept v beside m → IsKept (written records u) beside m
-  kept_dropped spelled room beside m calm k =
+  pub kept_dropped : IsSpelled records → length (spelling records) ≤ free_in v.ring → (beside : Beside) (m : DiskImage) → NoFilesOf space beside.copy → NoFlightsOf space beside → IsKept v beside m → IsKept (written records u) beside m
+  kept_dropped spelled room beside m calm quiet k =
       let after = IsBuffer-written u all (buffer_without space pages v b) (subst IsSpelled d.is spelled) (subst (λ (rs : List Record). length (spelling rs) ≤ free_in v.ring) d.is room) shows_all in
-      subst (λ (rs : List Record). IsKept (written rs u) beside m) (sym d.is) (kept_all beside m after calm k)
+      subst (λ (rs : List Record). IsKept (written rs u) beside m) (sym d.is) (kept_all beside m after calm quiet k)
 
 -- where there is room the mini-transaction is written
 pub writes_without : (space pages : ℕ) (v w : Buffered) (records : List Record) (result : Result ℕ LogFull) → length (spelling records) ≤ free_in v.ring → Writes records (without_pages space pages v) w result → WritesWithout space pages records v w result
@@ -147,7 +143,7 @@ writes_without space pages v w records (Err full) room writes = absurd (omega (a
 
 -- a buffer over a disk stands after it
 pub stands_dropped : (space pages : ℕ) (v w : Buffered) (beside : Beside) (told : Option DiskImage) (records : List Record) (result : Result ℕ LogFull) → IsPool v.pool → IsPool (given_up space pages v.pool) → IsBuffer v → IsSpelled records → (IsTrue v.right → DropsSpace v space pages records)
-    → WritesWithout space pages records v w result → NoFilesOf space beside.copy → Stands v beside told → Stands w beside told
-stands_dropped space pages v w beside told records (Ok lsn) p q b spelled drops writes calm st =
-    subst (λ (x : Buffered). Stands x beside told) (sym writes.1) (stands_by v (written records (without_pages space pages v)) beside told (λ m k. kept_dropped space pages v records (drops k.right) p q b spelled writes.0 beside m calm k) st)
-stands_dropped space pages v w beside told records (Err full) p q b spelled drops writes calm st = subst (λ (x : Buffered). Stands x beside told) (sym writes.2) st
+    → WritesWithout space pages records v w result → NoFilesOf space beside.copy → NoFlightsOf space beside → Stands v beside told → Stands w beside told
+stands_dropped space pages v w beside told records (Ok lsn) p q b spelled drops writes calm quiet st =
+    subst (λ (x : Buffered). Stands x beside told) (sym writes.1) (stands_by v (written records (without_pages space pages v)) beside told (λ m k. kept_dropped space pages v records (drops k.right) p q b spelled writes.0 beside m calm quiet k) st)
+stands_dropped space pages v w beside told records (Err full) p q b spelled drops writes calm quiet st = subst (λ (x : Buffered). Stands x beside told) (sym writes.2) st

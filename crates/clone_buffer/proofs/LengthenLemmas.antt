@@ -1,6 +1,6 @@
 -- A file gets longer by zero pages, and a flush fails before any of the page is written.
 use Rattle.std.proofs.Common.{◌≡◌, ◌<◌, ◌≤◌, ◌-◌, ◌⊎◌, inl, inr, ◌&&◌, ◌++◌, ℕ, Bool, true, false, List, length, replicate, slice_get, set, not, refl, sym, ap, subst, ◌∙◌, arith, Option, Some, None, option_and_then, IsSome}
-use Rattle.clone_buffer.proofs.Common.{cases_eq, cases_lt, and_parts, false≢true, true≢false, length-append, length-replicate, get_or-replicate, zero_page, DiskImage, Record, past_end, stands, redone, Rule, Copy, Engine, rule_kept, Frame, Flush, PageName, frame_at, name_of, no_frame, is_begun, Frames, IsPool, with_frame, within, get_or-set_same, Buffered, Beside, disk_standing, is_open, has_space, frame_of, flight_of, engine_with, IsKeptPage, IsKept}
+use Rattle.clone_buffer.proofs.Common.{cases_eq, cases_lt, and_parts, false≢true, true≢false, length-append, length-replicate, get_or-replicate, zero_page, DiskImage, Record, past_end, stands, redone, Engine, rule_kept, Frame, Flush, frame_at, no_frame, is_begun, Frames, IsPool, with_frame, within, get_or-set_same, Beside, disk_standing, is_open, has_space, frame_of, flight_of, engine_with, IsKeptPage, IsKept}
 use Rattle.std.proofs.lemmas.List.{set-set}
 use Rattle.std.proofs.lemmas.Option.{slice_get_past, slice_get-get_or}
 use Rattle.circular_buffer.proofs.Places.{slice_get-append_left, slice_get-append_right}
@@ -12,8 +12,8 @@ use Rattle.clone_outside.specs.declared.disk.Held.{Held}
 use Rattle.clone_law.specs.Machine.{Lengthened}
 use Rattle.clone_pool.specs.declared.frame.Flush.TheVariants as flush
 use Rattle.clone_pool.specs.Frames.{is_dirty, begun, failed}
-use Rattle.clone_buffer.specs.OnePage.{standing_at, standing_in, flush_in}
-use Rattle.clone_buffer.specs.Flushing.{with_change, Changes, FaultKeeps, LengthenKeeps}
+use Rattle.clone_buffer.specs.OnePage.{standing_at, standing_in}
+use Rattle.clone_buffer.specs.Flushing.{FaultKeeps, LengthenKeeps}
 use Rattle.clone_buffer.proofs.FlushLemmas.{undisturbed, changed_frame}
 use Rattle.clone_buffer.proofs.PageLemmas.{world, Ruled}
 

@@ -1,6 +1,6 @@
 -- What was read of a page, and the pages whose write counts as open.
 use Rattle.std.proofs.Common.{◌≡◌, ◌<◌, ◌^◌, ◌&&◌, inl, inr, ℕ, Bool, true, false, List, slice_get, refl, sym, ap, subst, ◌∙◌, arith, Option, Some, None, option_map, option_and_then, IsSome, IfSome, IsTrue, if◌then◌else◌}
-use Rattle.clone_buffer.proofs.Common.{false≢true, true≢false, DiskImage, ForTold, GivesQuiet, replayed, Standing, stands, redone, ends, HasSpace, Frame, Flush, PageName, frame_at, name_of, is_fresh, holder, Buffered, IsBuffer, Beside, disk_standing, is_open, has_space, frame_in, frame_of, flight_of, IsKeptPage, IsKept}
+use Rattle.clone_buffer.proofs.Common.{false≢true, true≢false, DiskImage, ForTold, GivesQuiet, replayed, stands, redone, ends, Frame, Flush, PageName, frame_at, name_of, is_fresh, holder, Buffered, IsBuffer, Beside, disk_standing, is_open, frame_in, frame_of, flight_of, IsKeptPage, IsKept}
 use Rattle.std.specs.FinMap as finite
 use Rattle.std.specs.List.{Contains}
 use Rattle.clone_outside.specs.Disk as disk

@@ -9,7 +9,7 @@ use Rattle.clone_image.specs.Image.{page_count, EditsPages}
 use Rattle.clone_ring.specs.declared.log_full.LogFull.{LogFull}
 use Rattle.clone_pool.specs.declared.frame.Frame.{Frame}
 use Rattle.clone_pool.specs.declared.frame.PageName.{PageName}
-use Rattle.clone_pool.specs.Frames.{frame_at, name_of, is_begun, discarded}
+use Rattle.clone_pool.specs.Frames.{frame_at, name_of, discarded}
 use Rattle.clone_pool.specs.Pool.{Frames}
 use Rattle.clone_buffer.specs.Buffered.{Buffered, image_of}
 use Rattle.clone_buffer.specs.Writing.{HasFrame, IsOnPage, Writes}
@@ -37,14 +37,8 @@ AreUnpinned space frames =
     (at : ℕ) (name : PageName) → name_of (frame_at frames at) ≡ Some name → name.space ≡ space
     → (frame_at frames at).pins ≡ 0
 
--- no page of the space is on its way to the disk
-abbrev pub AreLanded : ℕ → List Frame → Type 0
-AreLanded space frames =
-    (at : ℕ) (name : PageName) → name_of (frame_at frames at) ≡ Some name → name.space ≡ space
-    → is_begun (frame_at frames at).flush ≡ false
-
--- A space of so many pages is dropped, none of which is on its way to the disk. The other records
--- change pages that are there then, each in its frame.
+-- A space of so many pages is dropped. The other records change pages that are there then, each in
+-- its frame.
 pub record DropsSpace (v : Buffered) (space pages : ℕ) (records : List Record) : Type 0 where
   pub rest : List Record
   pub is : records ≡ Drop space ∷ rest
@@ -52,7 +46,6 @@ pub record DropsSpace (v : Buffered) (space pages : ℕ) (records : List Record)
   pub framed : AllByRecursion (HasFrame v.pool.frames) rest
   pub there : AllByRecursion (IsOnPage (finite.remove (image_of v) space)) rest
   pub size : page_count (image_of v) space ≡ Some pages
-  pub landed : AreLanded space v.pool.frames
 
 -- The space's pages below this number were given up, and a mini-transaction was written; or there
 -- was no room in the ring, and nothing has changed.

@@ -1,5 +1,5 @@
 -- One page of a buffer over a disk that tells what it holds, in the words of the law of one page.
-use Rattle.std.specs.Prelude.{ℕ, ◌&&◌, Bool, true, false, List, None, Some, slice_get, option_map, if◌then◌else◌}
+use Rattle.std.specs.Prelude.{ℕ, ◌≡◌, ◌&&◌, Bool, true, false, List, None, Some, slice_get, option_map, if◌then◌else◌}
 use Rattle.std.specs.declared.option.Option.{Option}
 use Rattle.std.specs.FinMap as finite
 use Rattle.clone_outside.specs.Disk.{DiskImage, page_of}
@@ -33,6 +33,10 @@ pub record Beside : Type 0 where
   pub checkpoint : ℕ
   pub image : ℕ → ℕ → Option (List ℕ)
   pub copy : Copies
+
+-- no page of the space is on its way to the disk
+abbrev pub NoFlightsOf : ℕ → Beside → Type 0
+NoFlightsOf space beside = (number : ℕ) → beside.image space number ≡ None
 
 -- no checkpoint since the log began, no flush, and no clone
 abbrev pub at_rest : Beside

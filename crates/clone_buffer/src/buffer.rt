@@ -1,3 +1,7 @@
+//! The pool, the ring and the log that they come from, which proofs alone read. The ring holds the
+//! bytes of the log from the ring's floor on, and ends where the log ends, below LSN 2^39. As long
+//! as each page that was read was right, each frame that holds a page has the page that the log
+//! makes.
 ghost use Rattle.std.specs.Prelude.{◌≡◌, ◌≢◌, ◌<◌, ◌≤◌, ◌+◌, ◌-◌, ◌^◌, ◌↔◌, ℕ, true, [], None, Some, IfOk, IfNone, IfSome, IsOk, OnOk, OnErr, IfErr, IsSome, IsTrue, length, option_copied, take, drop, replicate};
 ghost use Rattle.std.specs.Option.{ForSome};
 ghost use Rattle.clone_outside.specs.Causes.{Rose};
@@ -67,7 +71,7 @@ impl Buffer {
     ghost use Rattle.clone_buffer.specs.Writing.{HasFrame, IsOnPage, Creates, HasMade, Lengthens, NoFilesOfMade, Writes, written};
     ghost use Rattle.clone_buffer.specs.Dropping.{DropsSpace, WritesWithout};
     ghost use Rattle.clone_buffer.specs.Buffered.{image_of, IsBuffer, Shows};
-    ghost use Rattle.clone_buffer.specs.OnePage.{Beside, NoFilesOf, at_rest, bytes_in, frame_of};
+    ghost use Rattle.clone_buffer.specs.OnePage.{Beside, NoFilesOf, NoFlightsOf, at_rest, bytes_in, frame_of};
     ghost use Rattle.clone_buffer.specs.Keeping.{IsKept, Stands, DiskIsFrames};
     ghost use Rattle.clone_buffer.specs.Reading.{OthersAreClosed, ReadsLatest};
 
@@ -318,7 +322,8 @@ impl Buffer {
         requires drops { IsTrue self.old.right → DropsSpace self.old space pages records.now }
         ensures written { WritesWithout space pages records.now self.old self.new result }
         ensures stands { (beside : Beside) (told : Option DiskImage) → NoFilesOf space beside.copy
-            → Stands self.old beside told → Stands self.new beside told }
+            → NoFlightsOf space beside → Stands self.old beside told
+            → Stands self.new beside told }
     {
         self.room_for(records)?;
         self.pool.laws();

@@ -1,3 +1,4 @@
 pub mod FlightLemmas
 pub mod FileLemmas
 pub mod BeginLemmas
+pub mod SpaceLemmas

@@ -1,5 +1,5 @@
 -- The pages on their way to the disk, each with its image, the checkpoint, and the files.
-use Rattle.std.specs.Prelude.{ℕ, ◌≡◌, ◌≤◌, ◌∷◌, [], nat_le, Bool, true, false, List, take, None, Some, option_map, if◌then◌else◌, refl}
+use Rattle.std.specs.Prelude.{ℕ, ◌≡◌, ◌≤◌, ◌∷◌, [], nat_le, Bool, true, false, List, take, None, Some, IsSome, option_map, if◌then◌else◌, refl}
 use Rattle.std.specs.declared.option.Option.{Option}
 use Rattle.std.specs.FinMap as finite
 use Rattle.std.specs.Ordering.{nat_cmp}
@@ -55,6 +55,11 @@ flights_code =
 -- the write of a page that is under way, if there is one
 abbrev pub write_of : Flights → PageName → Option PageWrite
 write_of f page = finite.get f.writes (page.space, page.number)
+
+-- the write of a page of the space is under way
+abbrev pub HasWriteOf : ℕ → Flights → Type 0
+HasWriteOf space f =
+    (number : ℕ) × IsSome (write_of f (record { space = space; number = number }))
 
 -- what a buffer is kept with, where a clone has this of each page
 abbrev pub beside_of : Flights → Copies → Beside

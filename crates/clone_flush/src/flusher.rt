@@ -1,7 +1,12 @@
 //! The writes of pages that are under way, and the files. A page's write is kept here exactly while
 //! its frame's flush has begun. A file that is known has at least so many pages on the disk.
-ghost use Rattle.std.specs.Prelude.{ℕ, ◌≡◌, ◌≢◌, ◌<◌, ◌≤◌, Err, IfErr, IfNone, IfOk, IfSome, IsErrOf, IsSome, OnErr, OnOk, Some, false, option_copied, true};
+ghost use Rattle.std.specs.Prelude.{ℕ, ◌≡◌, ◌≢◌, ◌↔◌, ◌==◌, ◌<◌, ◌≤◌, Err, IfErr, IfNone, IfOk, IfSome, IsErrOf, IsSome, IsTrue, OnErr, OnOk, Some, false, option_copied, is_some, true};
 ghost use Rattle.std.specs.FinMap as finite;
+ghost use Rattle.std.specs.BTreeMap.{keys};
+ghost use Rattle.std.specs.List.{list_any};
+ghost use Rattle.std.specs.Ordering.{eq_by_cmp};
+ghost use Rattle.std.specs.Set.{is_member};
+ghost use Rattle.clone_model.specs.Keys.{row_cmp};
 ghost use Rattle.clone_outside.specs.Causes.{HasCause, Rose};
 ghost use Rattle.clone_outside.specs.Disk.{DiskImage, ForTold, IsBeforeOrAfter, Opens, page_of};
 ghost use Rattle.clone_image.specs.Replay.{first_lsn};
@@ -13,7 +18,7 @@ ghost use Rattle.clone_ring.specs.Window.{end_of};
 ghost use Rattle.clone_buffer.specs.OnePage.{Copies};
 ghost use Rattle.clone_buffer.specs.Flushing.{IsReached};
 ghost use Rattle.clone_flush.specs.Calls.{Begins, RefusesBegin, Waits, Halves, Lands, Lengthens, IsUnderWay, after_begin, after_failure, checked, ends_short, floored, has_begun, lengthened, settled, needed_from, nearest_in, reaching, with_file, with_write, without_file, without_write};
-ghost use Rattle.clone_flush.specs.Flights.{Flights, HasFiles, StandsFlown, write_of, writes_of};
+ghost use Rattle.clone_flush.specs.Flights.{Flights, HasFiles, HasWriteOf, StandsFlown, write_of, writes_of};
 ghost use Rattle.clone_model.specs.declared.line.TheConstants.{MOST_PAGES};
 ghost use Rattle.clone_flush.specs.declared.flusher.PageWrite.{PageWrite};
 
@@ -103,6 +108,13 @@ impl Flusher {
         ensures { self.new ≡ without_file space self.old }
     {
         self.files.remove(space);
+    }
+
+    /// Whether a page of the space is on its way to the disk.
+    pub fn write_under_way(&self, space: u32) -> bool
+        ensures { IsTrue result ↔ HasWriteOf space self.now }
+    {
+        names_space(&self.writes, space)
     }
 
     /// The LSN of the last checkpoint.
@@ -493,6 +505,15 @@ impl Flusher {
         buffer.laws();
         self.checkpoint.min(buffer.end()).max(buffer.floor())
     }
+}
+
+// Whether one of the writes is that of a page of the space.
+fn names_space(writes: &BTreeMap<(u32, u32), PageWrite>, space: u32) -> bool
+    ensures any { result ≡ list_any (λ page. page.0 == space) (keys writes.now) }
+    ensures there { (page : ℕ × ℕ) → is_some (finite.get (writes_of writes.now.entries) page)
+        ≡ is_member (eq_by_cmp row_cmp) (keys writes.now) page }
+{
+    writes.keys().any(|page| page.0 == space)
 }
 
 // The first half of a page is written, where its write is under way.

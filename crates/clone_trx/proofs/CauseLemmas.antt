@@ -28,7 +28,7 @@ pub is_not : (b : Bool) (cause : Cause) → whether b cause ≡ None → b ≡ f
 is_not true cause none = absurd (let e = none in cc)
 is_not false cause none = refl
 
-held_there : {X : Type 0} (o : Option X) → not (is_some o) ≡ false → (x : X) × (o ≡ Some x)
+pub held_there : {X : Type 0} (o : Option X) → not (is_some o) ≡ false → (x : X) × (o ≡ Some x)
 held_there None is = absurd (let e = is in cc)
 held_there (Some x) is = (x, refl)
 

@@ -2,6 +2,7 @@
 use Rattle.std.proofs.Common.{◌≡◌, ◌≢◌, ◌<◌, ◌≤◌, ℕ, List, length, refl, sym, ap, subst, ◌∙◌, arith, Option, Some, None, Result, nat_cmp, option_map, option_and_then, slice_get, IsTrue, is_some, ◌==◌}
 use Rattle.std.proofs.lemmas.Bool.{eqb-false}
 use Rattle.std.specs.FinMap as finite
+use Rattle.clone_model.specs.History.{Drops}
 use Rattle.clone_image.proofs.Images.{page_of-elsewhere}
 use Rattle.clone_pool.specs.declared.frame.Content.{Content}
 use Rattle.clone_pool.specs.declared.frame.PageName.{PageName}
@@ -58,12 +59,12 @@ creates d v table buckets b kept some none held fresh right place =
     }
 
 -- The table is taken away again where the disk fails.
-pub donor_again : (tables inserted removed : finite.FinMap nat_cmp ℕ) (active : Opened) (locks : Locks) (binlog : List Commit) (d : Donor) (table buckets : ℕ) → donor_of tables active locks binlog ≡ d → finite.get d.tables table ≡ None
-    → inserted ≡ finite.insert tables table buckets → removed ≡ finite.remove inserted table → donor_of removed active locks binlog ≡ d
-donor_again tables inserted removed active locks binlog d table buckets is none put taken =
+pub donor_again : (tables inserted removed : finite.FinMap nat_cmp ℕ) (active : Opened) (locks : Locks) (binlog : List Commit) (drops : Drops) (d : Donor) (table buckets : ℕ) → donor_of tables active locks binlog drops ≡ d → finite.get d.tables table ≡ None
+    → inserted ≡ finite.insert tables table buckets → removed ≡ finite.remove inserted table → donor_of removed active locks binlog drops ≡ d
+donor_again tables inserted removed active locks binlog drops d table buckets is none put taken =
     let free : finite.get tables table ≡ None = ap (λ (e : Donor). finite.get e.tables table) is ∙ none in
     let same : removed ≡ tables = taken ∙ ap (λ m. finite.remove m table) put ∙ removed_again nat_cmp_total exact_unsigned tables table buckets free in
-    ap (λ (m : finite.FinMap nat_cmp ℕ). donor_of m active locks binlog) same ∙ is
+    ap (λ (m : finite.FinMap nat_cmp ℕ). donor_of m active locks binlog drops) same ∙ is
 
 -- The way of the call.
 

@@ -8,9 +8,11 @@ use Rattle.clone_pool.specs.declared.frame.PageName.{PageName}
 use Rattle.clone_pool.specs.declared.pool.FetchRefusal.{FetchRefusal}
 use Rattle.clone_pool.specs.declared.pool.FetchRefusal.TheVariants as fetch
 use Rattle.clone_pool.specs.declared.frame.Content.TheVariants.{Unused}
-use Rattle.clone_pool.specs.Frames.{no_frame, frame_at, is_fresh, holder, changed, filled, emptied, touched, unpinned, next_use}
+use Rattle.clone_pool.specs.Frames.{no_frame, frame_at, is_fresh, holder, name_of, changed, discarded, filled, emptied, touched, unpinned, next_use}
 use Rattle.clone_pool.specs.Pool.{Frames, Fetches, Misses, used}
 use Rattle.clone_buffer.proofs.FrameLemmas.{holder_name}
+use Rattle.clone_buffer.proofs.GivenLemmas.{freed_at}
+use Rattle.clone_buffer.specs.Dropping.{freed, given_up, is_page_below}
 use Rattle.clone_buffer.specs.Writing.{after_records, changed_at, named_frame}
 
 abbrev pub pins : List Frame → ℕ → ℕ
@@ -82,3 +84,10 @@ pinned_within frames at n more = by (cases_lt at (length frames))
     by : (at < length frames) ⊎ (length frames ≤ at) → at < length frames
     by (inl low) = low
     by (inr past) = absurd (let none = ap (λ (f : Frame). f.pins) (get_or_past frames at no_frame past) in omega (arith, none, more))
+
+-- frames that are given up keep their pins
+pub given_pins : (space pages : ℕ) (v : Frames) → SamePins v.frames (given_up space pages v).frames
+given_pins space pages v = record { at = λ other. ap (λ (f : Frame). f.pins) (freed_at space pages v other) ∙ by (frame_at v.frames other) }
+  where
+    by : (f : Frame) → (freed space pages f).pins ≡ f.pins
+    by f = cond_both (is_page_below space pages (name_of f)) (discarded f) f (λ (g : Frame). g.pins ≡ f.pins) (λ is. refl) (λ is. refl)

@@ -44,3 +44,7 @@ pub mod GrowthKeptLemmas
 pub mod LongerWayLemmas
 pub mod GrowthWrittenLemmas
 pub mod BetweenLemmas
+pub mod DroppedLemmas
+pub mod DroppedDonorLemmas
+pub mod DropLemmas
+pub mod HolderListLemmas

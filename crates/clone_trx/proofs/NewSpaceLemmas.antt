@@ -1,9 +1,10 @@
--- A disk gets a space that the log doesn't have yet: a buffer that stood over the disk stands.
+-- A disk gets a space, or loses it, that the log doesn't have: a buffer that stood over the disk
+-- stands.
 use Rattle.std.proofs.Common.{◌≡◌, ◌≢◌, ◌&&◌, ◌⊎◌, inl, inr, ℕ, Bool, true, false, List, ◌∷◌, replicate, slice_get, refl, sym, ap, subst, ◌∙◌, arith, Option, Some, None, option_map, option_and_then, IsSome, IsTrue}
 use Rattle.std.proofs.Math.Bool.{and-false}
 use Rattle.std.proofs.lemmas.Bool.{cases_eq, false≢true}
 use Rattle.std.specs.FinMap as finite
-use Rattle.clone_outside.specs.Disk.{DiskImage, ForTold, Steps, IsBeforeOrAfter, with_created, page_of, zero_page}
+use Rattle.clone_outside.specs.Disk.{DiskImage, ForTold, Steps, IsBeforeOrAfter, with_created, with_removed, page_of, zero_page}
 use Rattle.clone_outside.specs.declared.Refusal.{Refusal}
 use Rattle.clone_outside.specs.declared.Refusal.TheVariants.{Fault, NoMemory}
 use Rattle.clone_outside.specs.declared.disk.Held.{Held}
@@ -22,6 +23,7 @@ use Rattle.clone_buffer.specs.OnePage.{Beside, engine_with, frame_of, bytes_in, 
 use Rattle.clone_buffer.specs.Keeping.{IsKept, IsKeptPage, Stands}
 use Rattle.clone_buffer.specs.Writing.{HasMade}
 use Rattle.clone_buffer.proofs.PageLemmas.{world, copy_stays}
+use Rattle.clone_trx.proofs.Common.{nat_cmp_total, nat_cmp-IsAntisymmetric, get-removed_other}
 use Rattle.clone_trx.specs.Ways.{StaysStanding}
 
 module _ (log : List (List Record)) (beside : Beside) (m n : DiskImage) (space number : ℕ) (frame : Option Frame) where
@@ -72,25 +74,36 @@ module _ (log : List (List Record)) (beside : Beside) (m n : DiskImage) (space n
     flights = k.flights;
   }
 
-module _ (v : Buffered) (space count : ℕ) (b : IsBuffer v) (absent : IsTrue v.right → finite.get (image_of v) space ≡ None) where
+module _ (v : Buffered) (space : ℕ) (b : IsBuffer v) (absent : IsTrue v.right → finite.get (image_of v) space ≡ None) where
   -- no page of it is in the log
   off : (number : ℕ) → IsTrue v.right → redone space number v.log ≡ no_space
   off number right = let below = b.below in sym (replayed_is_redone v.log space number (omega (arith, below))) ∙ ap (λ (o : Option (List (List ℕ))). image.standing_in o number) (absent right)
 
-  kept : (beside : Beside) (m : DiskImage) → IsKept v beside m → IsKept v beside (with_created m space count)
-  kept beside m k = record { right = k.right; page = λ s n. by s n (cases_eq s space) (k.page s n) }
+  -- a disk that has the other spaces as before
+  kept : (beside : Beside) (m n : DiskImage) → ((s : ℕ) → s ≢ space → finite.get n.spaces s ≡ finite.get m.spaces s) → IsKept v beside m → IsKept v beside n
+  kept beside m n others k = record { right = k.right; page = λ s number. by s number (cases_eq s space) (k.page s number) }
     where
-      by : (s n : ℕ) → (s ≡ space) ⊎ (s ≢ space) → IsKeptPage v.log beside m s n (frame_of v.pool.frames s n) → IsKeptPage v.log beside (with_created m space count) s n (frame_of v.pool.frames s n)
-      by s n (inl same) page = off_log v.log beside m (with_created m space count) s n (frame_of v.pool.frames s n) (ap (λ (x : ℕ). redone x n v.log) same ∙ off n k.right) page
-      by s n (inr other) page = same_space v.log beside m (with_created m space count) s n (frame_of v.pool.frames s n) (get-put_other m.spaces space s (replicate count zero_page) other) page
+      by : (s number : ℕ) → (s ≡ space) ⊎ (s ≢ space) → IsKeptPage v.log beside m s number (frame_of v.pool.frames s number) → IsKeptPage v.log beside n s number (frame_of v.pool.frames s number)
+      by s number (inl same) page = off_log v.log beside m n s number (frame_of v.pool.frames s number) (ap (λ (x : ℕ). redone x number v.log) same ∙ off number k.right) page
+      by s number (inr other) page = same_space v.log beside m n s number (frame_of v.pool.frames s number) (others s other) page
 
+  -- the disk has changed the space alone
+  pub disk_changed : (step : DiskImage → DiskImage) → ((m : DiskImage) (s : ℕ) → s ≢ space → finite.get (step m).spaces s ≡ finite.get m.spaces s) → (before after : Option DiskImage) → Steps before after step → StaysStanding v v before after
+  disk_changed step others before after is = λ beside st. subst (λ (t : Option DiskImage). Stands v beside t) (sym is) (by beside before st)
+    where
+      by : (beside : Beside) (t : Option DiskImage) → Stands v beside t → Stands v beside (option_map step t)
+      by beside None st = tt
+      by beside (Some m) k = kept beside m (step m) (others m) k
+
+  -- it has removed the space, or it hasn't
+  pub disk_removed : (before after : Option DiskImage) → IsBeforeOrAfter before after (λ m. with_removed m space) → StaysStanding v v before after
+  disk_removed before after (inl same) = λ beside st. subst (λ (t : Option DiskImage). Stands v beside t) (sym same) st
+  disk_removed before after (inr step) = disk_changed (λ m. with_removed m space) (λ m s other. get-removed_other nat_cmp_total nat_cmp-IsAntisymmetric m.spaces space s other) before after step
+
+module _ (v : Buffered) (space count : ℕ) (b : IsBuffer v) (absent : IsTrue v.right → finite.get (image_of v) space ≡ None) where
   -- the disk has made the space
   pub disk_made : (before after : Option DiskImage) → Steps before after (λ m. with_created m space count) → StaysStanding v v before after
-  disk_made before after step = λ beside st. subst (λ (t : Option DiskImage). Stands v beside t) (sym step) (by beside before st)
-    where
-      by : (beside : Beside) (t : Option DiskImage) → Stands v beside t → Stands v beside (option_map (λ m. with_created m space count) t)
-      by beside None st = tt
-      by beside (Some m) k = kept beside m k
+  disk_made before after step = disk_changed v space b absent (λ m. with_created m space count) (λ m s other. get-put_other m.spaces space s (replicate count zero_page) other) before after step
 
   -- or it has failed, and may have made the space or not
   pub disk_failed : (before after : Option DiskImage) (refusal : Refusal) → (refusal ≡ Fault → IsBeforeOrAfter before after (λ m. with_created m space count)) → (refusal ≡ NoMemory → after ≡ before) → StaysStanding v v before after

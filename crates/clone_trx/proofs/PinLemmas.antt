@@ -4,20 +4,31 @@ use Rattle.clone_model.specs.declared.line.TheConstants.{MOST_PAGES}
 use Rattle.clone_mtr.specs.declared.record.Record.{Record}
 use Rattle.clone_pool.specs.Frames.{frame_at}
 use Rattle.clone_buffer.specs.Buffered.{Buffered}
+use Rattle.clone_buffer.specs.Dropping.{given_up}
 use Rattle.clone_buffer.specs.Writing.{written}
 use Rattle.clone_plain.specs.declared.refusal.EngineRefusal.{EngineRefusal}
 use Rattle.clone_plain.specs.declared.refusal.EngineRefusal.TheVariants.{Because, NoMemory}
-use Rattle.clone_trx.proofs.FramePinLemmas.{SamePins, pins, trans, same, fetch_pins, records_pins}
+use Rattle.clone_trx.proofs.FramePinLemmas.{SamePins, pins, trans, same, fetch_pins, records_pins, given_pins}
 use Rattle.clone_trx.proofs.HeldPageLemmas.{pin_here, held_pins, released_pins, taken_pins}
 use Rattle.clone_trx.proofs.WalkLemmas.{walk_pins}
 use Rattle.clone_trx.specs.Kept.{AreLoose}
-use Rattle.clone_trx.specs.Ways.{Way, reads, walks, stops, writes, freshens, lengthens, makes, ends, Goes, Writes, held, page_in}
+use Rattle.clone_trx.specs.Ways.{Way, reads, walks, stops, writes, freshens, lengthens, makes, drops, ends, Goes, Writes, WritesWithout, Drops, held, page_in}
 
 -- what a mini-transaction leaves, or a refusal
 writes_pins : {X : Type 0} (records : List Record) (old new : Buffered) (result : Result X EngineRefusal) → Writes records old new result → SamePins old.pool.frames new.pool.frames
 writes_pins records old new (Ok x) w = trans (records_pins records _ _ old.pool) (same (ap (λ (b : Buffered). b.pool.frames) w.1))
 writes_pins records old new (Err (Because cause)) w = same (ap (λ (b : Buffered). b.pool.frames) w.1)
 writes_pins records old new (Err NoMemory) w = same (ap (λ (b : Buffered). b.pool.frames) w.1)
+
+-- what the drop of a space leaves
+without_pins : (space pages : ℕ) (records : List Record) (old new : Buffered) → WritesWithout space pages records old new → SamePins old.pool.frames new.pool.frames
+without_pins space pages records old new w = trans (given_pins space pages old.pool) (trans (records_pins records _ _ (given_up space pages old.pool)) (same (ap (λ (b : Buffered). b.pool.frames) w.1)))
+
+drops_pins : {X : Type 0} (space pages : ℕ) (records : List Record) (old new : Buffered) (result : Result X EngineRefusal) → Drops space pages records old new result → SamePins old.pool.frames new.pool.frames
+drops_pins space pages records old new (Ok x) w = without_pins space pages records old new w
+drops_pins space pages records old new (Err (Because cause)) (inl full) = same (ap (λ (b : Buffered). b.pool.frames) full.1)
+drops_pins space pages records old new (Err (Because cause)) (inr failed) = without_pins space pages records old new failed.1
+drops_pins space pages records old new (Err NoMemory) w = same (ap (λ (b : Buffered). b.pool.frames) w.1)
 
 -- what a way leaves
 pub goes_pins : {X : Type 0} (w : Way) (old new : Buffered) (result : Result X EngineRefusal) → Goes w old new result → SamePins old.pool.frames new.pool.frames
@@ -49,6 +60,7 @@ goes_pins (stops cause) old new result stopped = same (ap (λ (b : Buffered). b.
 goes_pins (writes records) old new result written = writes_pins records old new result written
 goes_pins (makes records) old new result (inl written) = writes_pins records old new result written
 goes_pins (makes records) old new result (inr failed) = same (ap (λ (b : Buffered). b.pool.frames) failed.2)
+goes_pins (drops space pages records) old new result dropped = drops_pins space pages records old new result dropped
 goes_pins ends old new result ended = same (ap (λ (b : Buffered). b.pool.frames) ended.1)
 
 -- a frame that was pinned before is pinned afterwards

@@ -1,9 +1,14 @@
 -- What each call keeps of transactions, whatever the pages are.
-use Rattle.std.proofs.Common.{◌≡◌, ◌≢◌, ◌<◌, ◌≤◌, ◌+◌, ◌⊎◌, inl, inr, ℕ, length, refl, sym, ap, subst, ◌∙◌, arith, Option, Some, None, IsSome, is_some, cond, nat_cmp}
+use Rattle.std.proofs.Common.{◌≡◌, ◌≢◌, ◌<◌, ◌≤◌, ◌+◌, ◌-◌, ◌⊎◌, inl, inr, ℕ, length, refl, sym, ap, subst, ◌∙◌, arith, Option, Some, None, IsSome, is_some, cond, nat_cmp}
 use Rattle.clone_base.specs.declared.limits.TheConstants.{TABLE_LIMIT}
 use Rattle.clone_model.specs.declared.line.TheConstants.{HIGHEST_TABLE, MOST_BUCKETS}
-use Rattle.clone_trx.proofs.Common.{nat_cmp-IsAntisymmetric, nat_cmp_total, len-insert, len-empty, get-empty, none-some, same_Some, cases_eq, get-set_same, get-set_other, Change, Donor, no_donor, Changes, TakesBack, Leaves, Commits, Releases, Locks, row_cmp, row_cmp_total, row_cmp_exact, cases_row, begun, created, TRANSACTION_LIMIT, CHANGE_LIMIT, changes_of, changed_locked, taken_locked, left_locked, begun_locked, committed_locked, IsSafe, AreTables}
+use Rattle.clone_trx.proofs.Common.{nat_cmp-IsAntisymmetric, nat_cmp_total, len-insert, len-empty, get-empty, none-some, same_Some, cases_eq, get-set_same, get-set_other, get-removed_same, get-removed_other, Change, Donor, no_donor, Changes, TakesBack, Leaves, Commits, Releases, Locks, row_cmp, row_cmp_total, row_cmp_exact, cases_row, begun, created, TRANSACTION_LIMIT, CHANGE_LIMIT, changes_of, changed_locked, taken_locked, left_locked, begun_locked, committed_locked, IsSafe, AreTables}
+use Rattle.std.proofs.lemmas.Bool.{cond_both}
 use Rattle.std.specs.FinMap as finite
+use Rattle.std.specs.FinMap.{len-remove}
+use Rattle.clone_plain.proofs.DropLemmas.{dropped_free, dropped_locked}
+use Rattle.clone_plain.specs.Causes.{drop_cause}
+use Rattle.clone_plain.specs.Effects.{dropped}
 use Rattle.clone_trx.proofs.CommitLemmas.{opened_sound}
 
 pub no_safe : IsSafe no_donor
@@ -87,3 +92,19 @@ created_safe d table buckets safe none room low high some few = record {
     still : (t : ℕ) → IsSome (finite.get d.tables t) → (t ≡ table) ⊎ (t ≢ table) → IsSome (finite.get (finite.insert d.tables table buckets) t)
     still t there (inl same) = ap (λ n. is_some (finite.get (finite.insert d.tables table buckets) n)) same ∙ ap is_some (get-set_same nat_cmp_total nat_cmp-IsAntisymmetric d.tables table buckets)
     still t there (inr other) = ap is_some (get-set_other nat_cmp_total nat_cmp-IsAntisymmetric d.tables table buckets t other) ∙ there
+
+pub dropped_safe : (d : Donor) (table : ℕ) → IsSafe d → drop_cause d table ≡ None → IsSafe (dropped table d)
+dropped_safe d table safe free = record {
+  locked = dropped_locked d table safe.locked;
+  tables = record {
+    few = subst (λ n. n ≤ TABLE_LIMIT) (sym (len-remove nat_cmp_total d.tables table)) (cond_both (finite.contains_key d.tables table) (finite.len d.tables - 1) (finite.len d.tables) (λ n. n ≤ TABLE_LIMIT) (λ _. omega (arith, safe.tables.few)) (λ _. safe.tables.few));
+    ranges = λ t count is. safe.tables.ranges t count (sym (stays t (λ same. none-some count (sym (ap (finite.get (finite.remove d.tables table)) same ∙ gone) ∙ is))) ∙ is);
+  };
+  rows = λ t key trx is. ap is_some (stays t (λ same. none-some trx (sym (ap (λ n. finite.get d.locks (n, key)) same ∙ dropped_free d table key safe.locked free) ∙ is))) ∙ safe.rows t key trx is;
+}
+  where
+    gone : finite.get (finite.remove d.tables table) table ≡ None
+    gone = get-removed_same nat_cmp_total nat_cmp-IsAntisymmetric d.tables table
+
+    stays : (t : ℕ) → t ≢ table → finite.get (finite.remove d.tables table) t ≡ finite.get d.tables t
+    stays t other = get-removed_other nat_cmp_total nat_cmp-IsAntisymmetric d.tables table t other

@@ -1,5 +1,5 @@
 -- The way of each call: which pages it reads, in their order, and what it writes.
-use Rattle.std.specs.Prelude.{ℕ, ◌==◌, ◌&&◌, ◌-◌, ◌+◌, nat_lt, nat_le, Bool, true, false, if◌then◌else◌, List, length, None, Some, unwrap_or, slice_get}
+use Rattle.std.specs.Prelude.{ℕ, ◌==◌, ◌&&◌, ◌-◌, ◌+◌, nat_lt, nat_le, Bool, true, false, if◌then◌else◌, List, length, None, Some, unwrap_or, slice_get, min}
 use Rattle.std.specs.declared.option.Option.{Option}
 use Rattle.clone_base.specs.declared.limits.TheConstants.{VALUE_LIMIT}
 use Rattle.clone_model.specs.declared.change.Change.{Change}
@@ -13,14 +13,14 @@ use Rattle.clone_undo.specs.Places.{header_page, record_page}
 use Rattle.clone_undo.specs.Slots.{entry_on}
 use Rattle.clone_undo.specs.Changes.{records_of_begin, records_of_change, records_of_taking_back, records_of_end}
 use Rattle.clone_space.specs.Entries.{dictionary, entry_in}
-use Rattle.clone_space.specs.Records.{records_of_create, records_of_growth}
+use Rattle.clone_space.specs.Records.{records_of_create, records_of_drop, records_of_growth}
 use Rattle.clone_contents.specs.Records.{commit_records}
 use Rattle.clone_plain.specs.declared.refusal.Cause.TheVariants.{SpaceFull}
 use Rattle.clone_plain.specs.Causes.{least_unused}
 use Rattle.clone_plain.specs.Donor.{Donor, changes_of}
 use Rattle.clone_trx.specs.declared.walk.Course.{Course}
 use Rattle.clone_trx.specs.Places.{named_entry, held_value, told, page_number}
-use Rattle.clone_trx.specs.Ways.{Way, reads, walks, stops, writes, freshens, lengthens, makes, ends}
+use Rattle.clone_trx.specs.Ways.{Way, reads, walks, stops, writes, freshens, lengthens, makes, drops, ends}
 
 -- the walk along the chain of a row's bucket
 abbrev pub row_walk : Donor → ℕ → ℕ → Bool → Course
@@ -56,6 +56,16 @@ pages_told page place = (entry_in (dictionary page) place).pages
 abbrev pub create_way : ℕ → ℕ → Way
 create_way table buckets =
     reads (system_page 0) (λ page. makes (records_of_create (free_place page) table buckets))
+
+-- A table that is dropped gives up the pages of its space, as many as its entry tells, but no more
+-- than a space may have. Its entry is free then.
+abbrev pub drop_at : ℕ → ℕ → ℕ → Way
+drop_at table place pages = drops table (min pages MOST_PAGES) (records_of_drop place table)
+
+abbrev pub drop_way : ℕ → Way
+drop_way table =
+    reads (system_page 0)
+    (λ page. let place = entry_place table page in drop_at table place (pages_told page place))
 
 -- A transaction that begins takes its undo slot. The slot's first page is made first where it is
 -- new.

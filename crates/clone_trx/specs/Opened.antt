@@ -1,8 +1,9 @@
 -- The open transactions, and how the last change of one is taken away.
-use Rattle.std.specs.Prelude.{ℕ, ◌≡◌, ◌-◌, ◌++◌, List, [], length, take, None, MatchOption, option_to_list}
+use Rattle.std.specs.Prelude.{ℕ, ◌≡◌, ◌-◌, ◌++◌, List, length, take, None, MatchOption, option_to_list}
 use Rattle.std.specs.declared.option.Option.{Option}
 use Rattle.std.specs.FinMap as finite
 use Rattle.std.specs.Ordering.{nat_cmp}
+use Rattle.clone_model.specs.History.{Drops}
 use Rattle.clone_model.specs.declared.change.Change.{Change}
 use Rattle.clone_model.specs.declared.change.Commit.{Commit}
 use Rattle.clone_plain.specs.Donor.{Donor, Locks}
@@ -28,7 +29,7 @@ Pops trx old new last =
     MatchOption (finite.get old trx) ((last ≡ None) × (new ≡ old))
     (λ commit. TakesLast trx commit old new last)
 
--- the donor of these parts, which drops no table
-abbrev pub donor_of : finite.FinMap nat_cmp ℕ → Opened → Locks → List Commit → Donor
-donor_of tables active locks binlog =
-    record { tables = tables; active = active; locks = locks; binlog = binlog; drops = [] }
+-- the donor of these parts
+abbrev pub donor_of : finite.FinMap nat_cmp ℕ → Opened → Locks → List Commit → Drops → Donor
+donor_of tables active locks binlog drops =
+    record { tables = tables; active = active; locks = locks; binlog = binlog; drops = drops }

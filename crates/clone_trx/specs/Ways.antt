@@ -1,5 +1,5 @@
 -- What a call does to the pages and the log, step by step.
-use Rattle.std.specs.Prelude.{ℕ, ◌≡◌, ◌<◌, ◌≤◌, ◌-◌, ◌⊎◌, ◌↔◌, ◌&&◌, Bool, true, false, List, length, None, Some, IsTrue, IsOk, Result, Ok, Err, nat_lt, is_some, not, option_and_then, if◌then◌else◌}
+use Rattle.std.specs.Prelude.{ℕ, ◌≡◌, ◌≢◌, ◌<◌, ◌≤◌, ◌-◌, ◌⊎◌, ◌↔◌, ◌&&◌, Bool, true, false, List, length, None, Some, IsTrue, IsOk, Result, Ok, Err, nat_lt, is_some, not, option_and_then, if◌then◌else◌}
 use Rattle.std.specs.declared.option.Option.{Option}
 use Rattle.clone_model.specs.declared.line.TheConstants.{MOST_PAGES}
 use Rattle.clone_mtr.specs.declared.record.Record.{Record}
@@ -17,9 +17,11 @@ use Rattle.clone_pool.specs.Frames.{frame_at, holder, pinned, unpinned}
 use Rattle.clone_pool.specs.Pool.{AreKept, Fetches, Freshens, with_frame}
 use Rattle.clone_buffer.specs.Buffered.{Buffered, image_of}
 use Rattle.clone_buffer.specs.Writing.{written}
-use Rattle.clone_buffer.specs.OnePage.{Beside, NoFilesOf}
+use Rattle.clone_buffer.specs.Dropping.{without_pages}
+use Rattle.clone_buffer.specs.OnePage.{Beside, NoFilesOf, NoFlightsOf}
 use Rattle.clone_buffer.specs.Keeping.{Stands}
 use Rattle.clone_plain.specs.Donor.{Donor}
+use Rattle.clone_plain.specs.Effects.{dropped}
 use Rattle.clone_plain.specs.declared.refusal.Cause.{Cause}
 use Rattle.clone_plain.specs.declared.refusal.Cause.TheVariants.{LogFull, PoolFull, DiskFault}
 use Rattle.clone_plain.specs.declared.refusal.EngineRefusal.{EngineRefusal}
@@ -44,6 +46,9 @@ pub data Way : Type 0 where
   lengthens : List Record → Way → Way
   -- the disk makes a space, and the mini-transaction that makes it is written
   makes : List Record → Way
+  -- The pages of a space below a number are given up, the mini-transaction that drops the space is
+  -- written, and the disk removes it.
+  drops : ℕ → ℕ → List Record → Way
   -- nothing more is done
   ends : Way
 
@@ -201,6 +206,21 @@ Makes records old new result =
     Writes records old new result
     ⊎ (HasRoom records old × (result ≡ Err (Because DiskFault)) × (new ≡ old))
 
+-- the mini-transaction was written, without the pages of the space below a number
+abbrev pub WritesWithout : ℕ → ℕ → List Record → Buffered → Buffered → Type 0
+WritesWithout space pages records old new =
+    HasRoom records old × (new ≡ written records (without_pages space pages old))
+
+-- A space is dropped where the log has room for that. The disk may fail to remove the space then.
+-- Else the call is refused, and nothing has changed. It may want memory where there is room.
+abbrev pub Drops : {X : Type 0} → ℕ → ℕ → List Record → Buffered → Buffered
+    → Result X EngineRefusal → Type 0
+Drops space pages records old new (Ok x) = WritesWithout space pages records old new
+Drops space pages records old new (Err (Because cause)) =
+    (IsFull records old cause × (new ≡ old))
+    ⊎ ((cause ≡ DiskFault) × WritesWithout space pages records old new)
+Drops space pages records old new (Err NoMemory) = HasRoom records old × (new ≡ old)
+
 -- THE WAY IS GONE, up to this answer. Where a new page wasn't made by then, the frame that was
 -- taken for it is free again.
 abbrev pub Goes : {X : Type 0} → Way → Buffered → Buffered → Result X EngineRefusal → Type 0
@@ -224,6 +244,7 @@ Goes (lengthens records rest) old new result =
 Goes (stops cause) old new result = (result ≡ Err (Because cause)) × (new ≡ old)
 Goes (writes records) old new result = Writes records old new result
 Goes (makes records) old new result = Makes records old new result
+Goes (drops space pages records) old new result = Drops space pages records old new result
 Goes ends old new result = IsOk result × (new ≡ old)
 
 -- what the donor is afterwards: a call that was refused leaves it
@@ -238,6 +259,15 @@ abbrev pub Answers : {X : Type 0} → Option Cause → Way → Donor → Donor �
 Answers (Some cause) way d e old new result Does =
     (result ≡ Err (Because cause)) × (e ≡ d) × (new ≡ old)
 Answers None way d e old new result Does = Goes way old new result × Carries d e result Does
+
+-- A table is dropped where its mini-transaction was written, also where the disk then fails to
+-- remove its space. A call that wrote none leaves the donor.
+abbrev pub CarriesDrop : {X : Type 0} → ℕ → Donor → Donor → Buffered → Buffered
+    → Result X EngineRefusal → Type 0
+CarriesDrop table d after old new (Ok x) = after ≡ dropped table d
+CarriesDrop table d after old new (Err refusal) =
+    ((new.log ≡ old.log) × (after ≡ d))
+    ⊎ ((refusal ≡ Because DiskFault) × (new.log ≢ old.log) × (after ≡ dropped table d))
 
 -- so many pins has each frame at most
 abbrev pub PinsAtMost : ℕ → List Frame → Type 0
@@ -254,3 +284,9 @@ abbrev pub StaysOutsideFiles : ℕ → Buffered → Buffered → Option DiskImag
 StaysOutsideFiles space old new before after =
     (beside : Beside) → NoFilesOf space beside.copy → Stands old beside before
     → Stands new beside after
+
+-- so does one that is beside no FILE COPY of a space and no flush of a page of it
+abbrev pub StaysOutside : ℕ → Buffered → Buffered → Option DiskImage → Option DiskImage → Type 0
+StaysOutside space old new before after =
+    (beside : Beside) → NoFilesOf space beside.copy → NoFlightsOf space beside
+    → Stands old beside before → Stands new beside after

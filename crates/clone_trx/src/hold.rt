@@ -10,13 +10,14 @@ ghost use Rattle.clone_pool.specs.Frames.{frame_at};
 ghost use Rattle.clone_buffer.specs.Buffered.{image_of};
 ghost use Rattle.clone_buffer.specs.Keeping.{Stands};
 ghost use Rattle.clone_buffer.specs.OnePage.{Beside};
+ghost use Rattle.clone_buffer.specs.Dropping.{AreUnpinned, DropsSpace, without_pages};
 ghost use Rattle.clone_buffer.specs.Writing.{Creates, HasFrame, HasMade, IsOnPage, Lengthens, NoFilesOfMade, written};
 ghost use Rattle.clone_plain.specs.declared.refusal.EngineRefusal.TheVariants.{Because, NoMemory};
 ghost use Rattle.clone_plain.specs.declared.refusal.Cause.{Cause};
 ghost use Rattle.clone_plain.specs.declared.refusal.Cause.TheVariants.{DiskFault};
 ghost use Rattle.clone_trx.specs.Calls.{is_new};
 ghost use Rattle.clone_trx.specs.Kept.{Has};
-ghost use Rattle.clone_trx.specs.Ways.{HasNoFrame, HasRoom, Holds, IsFull, MissesBy, PinsAtMost, StaysStanding, Takes, let_go, page_in};
+ghost use Rattle.clone_trx.specs.Ways.{HasNoFrame, HasRoom, Holds, IsFull, MissesBy, PinsAtMost, StaysOutside, StaysStanding, Takes, let_go, page_in};
 
 use clone_buffer::Buffer;
 use clone_mtr::Record;
@@ -181,6 +182,25 @@ pub fn write_longer_held(buffer: &mut Buffer, records: &[Record])
 {
     match buffer.write_longer(records) {
         Ok(_) => buffer.laws(),
+        Err(_) => unreachable!(),
+    }
+}
+
+/// Gives up the pages of a space below a number, and writes the mini-transaction that drops the
+/// space, for which the log has room.
+pub fn write_drop_held(buffer: &mut Buffer, space: u32, pages: u32, records: &[Record])
+    requires some { 1 ≤ length records.now }
+    requires short { length (spelling records.now) ≤ longest }
+    requires room { HasRoom records.now buffer.old }
+    requires unpinned { AreUnpinned space buffer.old.pool.frames }
+    requires drops { IsTrue buffer.old.right → DropsSpace buffer.old space pages records.now }
+    ensures written { buffer.new
+        ≡ written records.now (without_pages space pages buffer.old) }
+    ensures stands { (told : Option DiskImage)
+        → StaysOutside space buffer.old buffer.new told told }
+{
+    match buffer.drop_space(space, pages, records) {
+        Ok(_) => {}
         Err(_) => unreachable!(),
     }
 }

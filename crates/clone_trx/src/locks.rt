@@ -1,6 +1,11 @@
-ghost use Rattle.std.specs.Prelude.{◌≡◌, ◌<◌, [], Some, IfOk, OnOk, OnErr, IsOk, IfSome};
+//! The locks of rows, kept twice: who holds each row, and for each of the 64 transactions the rows
+//! that it holds. A row stands in the list of a transaction exactly where that transaction holds
+//! it.
+ghost use Rattle.std.specs.Prelude.{◌≡◌, ◌<◌, ◌==◌, [], Some, IfOk, OnOk, OnErr, IsOk, IfSome};
+ghost use Rattle.std.specs.List.{list_any};
 ghost use Rattle.std.specs.FinMap as finite;
 ghost use Rattle.clone_base.specs.declared.limits.TheConstants.{TRANSACTION_LIMIT};
+ghost use Rattle.clone_plain.specs.Causes.{least_holder};
 ghost use Rattle.clone_plain.specs.Effects.{Releases};
 ghost use Rattle.clone_trx.specs.Locked.{holders_of, without};
 
@@ -57,6 +62,18 @@ impl Locks {
         self.holders.get(&(table, key)).copied()
     }
 
+    /// The least transaction that holds the lock of a row of the table, if one does.
+    pub fn least_holder(&self, table: u32) -> Option<u32>
+        ensures { result ≡ least_holder self.now table }
+    {
+        for trx in 0..TRANSACTION_LIMIT {
+            if has_row_of(&self.rows[trx as usize], table) {
+                return Some(trx);
+            }
+        }
+        None
+    }
+
     /// The transaction holds the row's lock, which no other does. Where it holds it already this
     /// takes no memory. After a refusal the locks are as before.
     pub fn lock(&mut self, trx: u32, table: u32, key: u64) -> Result<(), AllocError>
@@ -93,4 +110,11 @@ fn remove_all(holders: &mut BTreeMap<Row, u32>, rows: &[Row])
     for row in rows {
         holders.remove(row);
     }
+}
+
+// Whether one of the rows is one of the table.
+fn has_row_of(rows: &[Row], table: u32) -> bool
+    ensures { result ≡ list_any (λ row. row.0 == table) rows.now }
+{
+    rows.iter().any(|row| row.0 == table)
 }

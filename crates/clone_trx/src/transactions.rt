@@ -1,4 +1,8 @@
-ghost use Rattle.std.specs.Prelude.{◌≡◌, ◌<◌, ◌≤◌, ◌%◌, ℕ, [], None, Some, length, option_map, unwrap_or, IfOk, OnOk, IfSome, IsSome, IsTrue, MatchResult};
+//! The state of a donor's transactions. At most 64 are open, each with at most 160 changes; each
+//! row that one changed is locked by it, each lock is held by an open transaction, and its row is
+//! of a table that is there. The binlog has room for the commit of each open transaction, so that
+//! a commit takes no memory.
+ghost use Rattle.std.specs.Prelude.{◌≡◌, ◌<◌, ◌≤◌, ◌%◌, ℕ, None, Some, length, option_map, unwrap_or, IfOk, OnOk, IfSome, IsSome, IsTrue, MatchResult};
 ghost use Rattle.std.specs.Option.{option_copied};
 ghost use Rattle.std.specs.List.{AllByRecursion};
 ghost use Rattle.std.specs.FinMap as finite;
@@ -14,7 +18,7 @@ ghost use Rattle.clone_image.specs.Rows.{HasRows};
 ghost use Rattle.clone_contents.specs.Contents.{contents_of};
 ghost use Rattle.clone_buffer.specs.Buffered.{Buffered, image_of};
 ghost use Rattle.clone_plain.specs.Donor.{Donor, no_donor, history};
-ghost use Rattle.clone_plain.specs.Causes.{create_cause, begin_cause, row_locked, least_unused};
+ghost use Rattle.clone_plain.specs.Causes.{create_cause, drop_cause, begin_cause, row_locked, least_unused};
 ghost use Rattle.clone_plain.specs.Effects.{created, Begins};
 ghost use Rattle.clone_plain.specs.declared.refusal.Cause.TheVariants.{DiskFault};
 ghost use Rattle.clone_plain.specs.declared.refusal.EngineRefusal.TheVariants.{Because};
@@ -25,6 +29,7 @@ ghost use Rattle.clone_trx.specs.Ways.{Answers, StaysStanding};
 
 mod change;
 mod creating;
+mod dropping;
 mod ending;
 mod getting;
 mod growing;
@@ -35,14 +40,14 @@ use crate::active::Active;
 use crate::locks::Locks;
 use crate::tables::Tables;
 use clone_buffer::Buffer;
-use clone_model::{Binlog, BucketCount, Commit, TableNumber};
+use clone_model::{Binlog, BucketCount, Commit, Drops, TableNumber};
 use clone_outside::PageDisk;
 use clone_plain::{Cause, EngineRefusal, TABLE_LIMIT};
 use std::alloc::{AllocError, Global};
 use std::marker::Model;
 
-/// A donor's tables, open transactions, locks and binlog. The rows stand on the pages of a buffer,
-/// which each call is given. Between calls no frame is pinned.
+/// A donor's tables, open transactions, locks, binlog and drops. The rows stand on the pages of a
+/// buffer, which each call is given. Between calls no frame is pinned.
 #[derive(Drop)]
 pub struct Transactions {
     tables: Tables,
@@ -50,6 +55,7 @@ pub struct Transactions {
     locks: Locks,
     // with room for the commit of each open transaction
     binlog: Binlog,
+    drops: Drops,
 }
 
 impl Model for Transactions {
@@ -63,9 +69,10 @@ impl Model for Transactions {
 
     ghost coded = { donor_code };
 
-    ghost view = { λ t. donor_of t.tables t.active t.locks t.binlog.commits };
+    ghost view = { λ t. donor_of t.tables t.active t.locks t.binlog.commits t.drops.list };
 
-    ghost invariant = { λ t. IsSafe (donor_of t.tables t.active t.locks t.binlog.commits)
+    ghost invariant = { λ t.
+        IsSafe (donor_of t.tables t.active t.locks t.binlog.commits t.drops.list)
         × (finite.len t.active ≤ t.binlog.room) };
 }
 
@@ -79,6 +86,7 @@ impl Transactions {
             active: Active::new(alloc),
             locks: Locks::new(alloc)?,
             binlog: Binlog::new(alloc),
+            drops: Drops::new(alloc),
         })
     }
 
@@ -87,6 +95,27 @@ impl Transactions {
         ensures { result.now.commits ≡ self.now.binlog }
     {
         &self.binlog
+    }
+
+    /// The drops of tables in their order, each behind as many commits as there were.
+    pub fn drops(&self) -> &Drops
+        ensures { result.now.list ≡ self.now.drops }
+    {
+        &self.drops
+    }
+
+    /// Gives the drops back. All else is let go.
+    pub fn into_drops(self) -> Drops
+        ensures { result.list ≡ self.drops }
+    {
+        let Transactions {
+            tables: _,
+            active: _,
+            locks: _,
+            binlog: _,
+            drops,
+        } = self;
+        drops
     }
 
     /// The open transaction of this number, as the commit that it would be, or none where none is
@@ -105,12 +134,33 @@ impl Transactions {
         self.active.least_free()
     }
 
-    /// What holds between calls, whatever the pages are. No table was dropped.
+    /// What holds between calls, whatever the pages are.
     pub fn laws(&self)
         ensures safe { IsSafe self.now }
-        ensures drops { self.now.drops ≡ [] }
     {
         let _ = &self.tables;
+    }
+
+    /// Whether a table has this number.
+    pub fn has_table(&self, table: u32) -> bool
+        ensures { result ≡ finite.contains_key self.now.tables table }
+    {
+        self.tables.get(table).is_some()
+    }
+
+    /// Refuses to drop a table where none has this number, and where a transaction holds the lock
+    /// of a row of it, for the least of these.
+    pub fn check_drop(&self, table: u32) -> Result<(), Cause>
+        ensures { MatchResult result (λ _. drop_cause self.now table ≡ None)
+            (λ cause. drop_cause self.now table ≡ Some cause) }
+    {
+        if self.tables.get(table).is_none() {
+            return Err(Cause::NoSuchTable);
+        }
+        match self.locks.least_holder(table) {
+            Some(trx) => Err(Cause::TableInUse { trx }),
+            None => Ok(()),
+        }
     }
 
     // The page of a row's bucket, by its number, or none where no table has this number.

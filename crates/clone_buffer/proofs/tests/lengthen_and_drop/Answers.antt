@@ -1,15 +1,13 @@
-use Rattle.std.proofs.Common.{◌≡◌, ◌+◌, ℕ, zero, suc, List, [], ◌∷◌, ◌++◌, Some, true, IsSome, length, refl, ap, sym, subst, ◌∙◌, arith}
-use Rattle.clone_buffer.proofs.Common.{Record, Init, spelling, effect, replayed, Frame, Frames, PageName, no_frame, freshened, holder, with_frame, after_records, any_names, Buffered}
+use Rattle.std.proofs.Common.{◌≡◌, ℕ, List, [], ◌∷◌, ◌++◌, Some, true, IsSome, refl, ap, sym, subst, ◌∙◌, arith}
+use Rattle.clone_buffer.proofs.Common.{Record, Init, effect, replayed, Frame, PageName, no_frame, freshened, holder, with_frame, any_names, Buffered}
 use Rattle.clone_page.specs.declared.kind.PageKind.TheVariants.{Overflow}
 use Rattle.clone_mtr.specs.declared.record.Record.TheVariants.{Extend}
 use Rattle.clone_image.specs.Image.{page_count}
 use Rattle.clone_image.specs.Replay.{end_of}
 use Rattle.clone_image.proofs.Pages.{page_count-edited}
 use Rattle.clone_law.specs.Since.{ends}
-use Rattle.clone_ring.specs.Window as ring
 use Rattle.clone_pool.specs.Frames.{unpinned}
 use Rattle.clone_buffer.specs.Buffered.{image_of}
-use Rattle.clone_buffer.specs.Dropping.{AreLanded}
 use Rattle.clone_buffer.proofs.ImageLemmas.{longer, longer_new, longer_count}
 use Rattle.clone_buffer.proofs.WrittenLemmas.{replayed-push}
 use Rattle.clone_buffer.proofs.tests.lengthen_and_drop.Goals as goal
@@ -41,11 +39,6 @@ write_longer-requires-clause-longer c =
       named = λ number high low. let one : 1 ≡ number = omega (arith, high, low) in subst (λ (n : ℕ). any_names (record { space = 4; number = n }) (Init 4 1 Overflow ∷ []) ≡ true) one refl;
     }
 
--- no page is on its way to the disk
-idle : (start end uses : ℕ) → AreLanded 4 (with_frame 0 unpinned (after_records makes start end (record { frames = taken ∷ []; uses = uses }))).frames
-idle start end uses zero name holds same = refl
-idle start end uses (suc at) name holds same = refl
-
 size_then : (log : List (List Record)) → page_count (replayed log) 4 ≡ Some 1 → page_count (replayed (log ++ makes ∷ [])) 4 ≡ Some 2
 size_then log size =
     ap (λ image. page_count image 4) (replayed-push log makes (end_of (ends log) makes) refl) ∙ page_count-edited (longer (replayed log) 4 2) 4 1 4 (effect (end_of (ends log) makes) (Init 4 1 Overflow)) ∙ longer_count (replayed log) 4 1 2 size
@@ -54,7 +47,6 @@ pub drop_space-requires-clause-drops : goal.drop_space-requires-clause-drops
 drop_space-requires-clause-drops c =
     let v = c.args.buffer.now in
     let then : c.unpin.new.self ≡ _ = c.unpin.ensures.unpinned ∙ ap (λ (b : Buffered). record b { pool = with_frame 0 unpinned b.pool }) c.in_ok-write_longer.ensures.written.1 in
-    let one : v.pool ≡ record { frames = taken ∷ []; uses = v.pool.uses } = λ i. record { frames = c.requires.frames i; uses = v.pool.uses } in
     λ right. record {
       rest = [];
       is = refl;
@@ -62,5 +54,4 @@ drop_space-requires-clause-drops c =
       framed = tt;
       there = tt;
       size = ap (λ (b : Buffered). page_count (image_of b) 4) then ∙ size_then v.log c.requires.size;
-      landed = subst (λ (b : Buffered). AreLanded 4 b.pool.frames) (sym then) (subst (λ (w : Frames). AreLanded 4 (with_frame 0 unpinned (after_records makes (ring.end_of v.ring) (ring.end_of v.ring + length (spelling makes)) w)).frames) (sym one) (idle _ _ v.pool.uses));
     }

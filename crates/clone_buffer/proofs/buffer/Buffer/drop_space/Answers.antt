@@ -31,5 +31,5 @@ returns-clause-stands c =
     let drops = subst (λ (s : Buffered). IsTrue s.right → DropsSpace s c.args.space c.args.pages records) (sym c.self.view_is) c.requires.drops in
     let writes = subst (λ (w : Frames). Writes records (record v { pool = w }) c.append.new.self c.append.result) c.give_up.ensures c.append.ensures.written in
     let room = subst (λ (s : Buffered). length (spelling records) ≤ free_in s.ring) (sym c.self.view_is) c.in_ok-room_for.ensures.room in
-    λ beside told calm st. stands_dropped c.args.space c.args.pages v c.append.new.self beside told records c.append.result c.laws.ensures (subst IsPool c.give_up.ensures c.laws-2.ensures) c.self.invariant c.append.ensures.spelled drops
-    (writes_without c.args.space c.args.pages v c.append.new.self records c.append.result room writes) calm (subst (λ (s : Buffered). Stands s beside told) (sym c.self.view_is) st)
+    λ beside told calm quiet st. stands_dropped c.args.space c.args.pages v c.append.new.self beside told records c.append.result c.laws.ensures (subst IsPool c.give_up.ensures c.laws-2.ensures) c.self.invariant c.append.ensures.spelled drops
+    (writes_without c.args.space c.args.pages v c.append.new.self records c.append.result room writes) calm quiet (subst (λ (s : Buffered). Stands s beside told) (sym c.self.view_is) st)

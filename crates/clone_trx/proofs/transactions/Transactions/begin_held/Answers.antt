@@ -26,11 +26,11 @@ write_held-requires-clause-there c = λ right.
     subst (λ (rs : List Record). AllByRecursion (IsOnPage image) rs) (sym records) (begin_there image (is_new page) c.args.trx c.args.writer c.args.index there)
 
 abbrev new : goal.After-array_drop-records-2 → Donor
-new c = donor_of c.self.inside.tables c.begin.new.self c.self.inside.locks c.reserve.new.self.commits
+new c = donor_of c.self.inside.tables c.begin.new.self c.self.inside.locks c.reserve.new.self.commits c.self.inside.drops.list
 
 made : (c : goal.After-array_drop-records-2) → new c ≡ begun c.args.trx c.args.writer c.args.index c.args.self.now
 made c =
-    (λ i. donor_of c.self.inside.tables (c.in_ok-begin.ensures.ok i) c.self.inside.locks (c.in_ok-reserve.ensures.same i))
+    (λ i. donor_of c.self.inside.tables (c.in_ok-begin.ensures.ok i) c.self.inside.locks (c.in_ok-reserve.ensures.same i) c.self.inside.drops.list)
     ∙ ap (begun c.args.trx c.args.writer c.args.index) c.self.view_is
 
 records : (c : goal.After-array_drop-records-2) → c.records_from-records.result.now ≡ records_of_begin (is_new (page_in c.args.at c.args.buffer.now)) c.args.trx c.args.writer c.args.index
@@ -38,7 +38,7 @@ records c = begin_written (page_in c.args.at c.args.buffer.now) c.frame.result.n
 
 pub invariant_of-self-2 : goal.invariant_of-self-2
 invariant_of-self-2 c =
-    let d = donor_of c.self.inside.tables c.self.inside.active c.self.inside.locks c.self.inside.binlog.commits in
+    let d = donor_of c.self.inside.tables c.self.inside.active c.self.inside.locks c.self.inside.binlog.commits c.self.inside.drops.list in
     let small = (least_free_is c.args.self.now c.args.trx c.requires.number).0 in
     let is : begun c.args.trx c.args.writer c.args.index d ≡ new c = ap (begun c.args.trx c.args.writer c.args.index) c.self.view_is ∙ sym (made c) in
     let safe : IsSafe (new c) = subst IsSafe is (begun_safe d c.args.trx c.args.writer c.args.index small c.self.invariant.0) in

@@ -32,10 +32,10 @@ records_are : (c : goal.After-array_drop-records-2) → c.end_record.result ∷ 
 records_are c = commit_written c.args.trx (length c.as_slice.result.now + 1) c.end_record.result c.position.result c.end_record.ensures c.position.ensures
 
 abbrev before : goal.After-array_drop-records-2 → Donor
-before c = donor_of c.self.inside.tables c.self.inside.active c.self.inside.locks c.self.inside.binlog.commits
+before c = donor_of c.self.inside.tables c.self.inside.active c.self.inside.locks c.self.inside.binlog.commits c.self.inside.drops.list
 
 abbrev after : goal.After-array_drop-records-2 → Donor
-after c = donor_of c.self.inside.tables c.remove.new.self c.release.new.self c.push_within.new.self.commits
+after c = donor_of c.self.inside.tables c.remove.new.self c.release.new.self c.push_within.new.self.commits c.self.inside.drops.list
 
 commits : (c : goal.After-array_drop-records-2) → Commits (before c) c.args.trx (length c.as_slice.result.now + 1) (after c)
 commits c = record {
@@ -44,7 +44,7 @@ commits c = record {
   locks = c.release.new.self;
   released = c.release.ensures;
   count = ap (λ xs. length xs + 1) c.as_slice.ensures;
-  is = λ i. donor_of c.self.inside.tables (c.remove.ensures.removed i) c.release.new.self (c.push_within.ensures.commits i);
+  is = λ i. donor_of c.self.inside.tables (c.remove.ensures.removed i) c.release.new.self (c.push_within.ensures.commits i) c.self.inside.drops.list;
 }
 
 pub invariant_of-self : goal.invariant_of-self

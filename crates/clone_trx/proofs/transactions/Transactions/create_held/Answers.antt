@@ -23,7 +23,7 @@ invariant_of-self-in-Err g c =
     let s = c.self.inside in
     let safe : IsSafe c.args.self.now = subst IsSafe c.self.view_is c.self.invariant.0 in
     let may = may_create c.args.self.now c.args.table safe.tables.few c.requires.cause in
-    let again = donor_again s.tables c.insert.new.self c.remove.new.self s.active s.locks s.binlog.commits c.args.self.now c.args.table c.args.buckets c.self.view_is may.0 c.in_ok-insert.ensures.ok c.remove.ensures in
+    let again = donor_again s.tables c.insert.new.self c.remove.new.self s.active s.locks s.binlog.commits s.drops.list c.args.self.now c.args.table c.args.buckets c.self.view_is may.0 c.in_ok-insert.ensures.ok c.remove.ensures in
     (subst IsSafe (sym again) safe, c.self.invariant.1)
 
 pub returns-in-Err-clause-donor : goal.returns-in-Err-clause-donor
@@ -31,14 +31,14 @@ returns-in-Err-clause-donor g c =
     let s = c.self.inside in
     let safe : IsSafe c.args.self.now = subst IsSafe c.self.view_is c.self.invariant.0 in
     let may = may_create c.args.self.now c.args.table safe.tables.few c.requires.cause in
-    donor_again s.tables c.insert.new.self c.remove.new.self s.active s.locks s.binlog.commits c.args.self.now c.args.table c.args.buckets c.self.view_is may.0 c.in_ok-insert.ensures.ok c.remove.ensures
+    donor_again s.tables c.insert.new.self c.remove.new.self s.active s.locks s.binlog.commits s.drops.list c.args.self.now c.args.table c.args.buckets c.self.view_is may.0 c.in_ok-insert.ensures.ok c.remove.ensures
 
 pub returns-in-Err-clause-kept : goal.returns-in-Err-clause-kept
 returns-in-Err-clause-kept g c = λ right.
     let s = c.self.inside in
     let safe : IsSafe c.args.self.now = subst IsSafe c.self.view_is c.self.invariant.0 in
     let may = may_create c.args.self.now c.args.table safe.tables.few c.requires.cause in
-    let again = donor_again s.tables c.insert.new.self c.remove.new.self s.active s.locks s.binlog.commits c.args.self.now c.args.table c.args.buckets c.self.view_is may.0 c.in_ok-insert.ensures.ok c.remove.ensures in
+    let again = donor_again s.tables c.insert.new.self c.remove.new.self s.active s.locks s.binlog.commits s.drops.list c.args.self.now c.args.table c.args.buckets c.self.view_is may.0 c.in_ok-insert.ensures.ok c.remove.ensures in
     subst (λ (d : Donor). IsKept d (image_of c.args.buffer.now)) (sym again) (c.requires.kept right)
 
 pub returns-in-Err-clause-stands : goal.returns-in-Err-clause-stands
@@ -55,8 +55,8 @@ invariant_of-self-in_default g c =
     let s = c.self.inside in
     let safe : IsSafe c.args.self.now = subst IsSafe c.self.view_is c.self.invariant.0 in
     let may = may_create c.args.self.now c.args.table safe.tables.few c.requires.cause in
-    let made : donor_of c.insert.new.self s.active s.locks s.binlog.commits ≡ created c.args.table c.args.buckets c.args.self.now =
-    ap (λ m. donor_of m s.active s.locks s.binlog.commits) c.in_ok-insert.ensures.ok ∙ ap (created c.args.table c.args.buckets) c.self.view_is in
+    let made : donor_of c.insert.new.self s.active s.locks s.binlog.commits s.drops.list ≡ created c.args.table c.args.buckets c.args.self.now =
+    ap (λ m. donor_of m s.active s.locks s.binlog.commits s.drops.list) c.in_ok-insert.ensures.ok ∙ ap (created c.args.table c.args.buckets) c.self.view_is in
     (subst IsSafe (sym made) (created_safe c.args.self.now c.args.table c.args.buckets safe may.0 may.1 c.requires.table.0 c.requires.table.1 c.requires.buckets.0 c.requires.buckets.1), c.self.invariant.1)
 
 -- the records are those of the first free entry of the page that is held
@@ -92,10 +92,10 @@ returns-clause-kept g c =
     let may = may_create d c.args.table safe.tables.few c.requires.cause in
     let finds : FindsFree (dictionary page) c.least_free.result = subst (λ (p : List ℕ). FindsFree (dictionary p) c.least_free.result) c.frame.ensures.bytes c.least_free.ensures in
     let place : ℕ = unwrap_or c.least_free.result 0 in
-    let made : donor_of c.insert.new.self s.active s.locks s.binlog.commits ≡ created c.args.table c.args.buckets d =
-    ap (λ m. donor_of m s.active s.locks s.binlog.commits) c.in_ok-insert.ensures.ok ∙ ap (created c.args.table c.args.buckets) c.self.view_is in
+    let made : donor_of c.insert.new.self s.active s.locks s.binlog.commits s.drops.list ≡ created c.args.table c.args.buckets d =
+    ap (λ m. donor_of m s.active s.locks s.binlog.commits s.drops.list) c.in_ok-insert.ensures.ok ∙ ap (created c.args.table c.args.buckets) c.self.view_is in
     let same : c.create_records-records.result ≡ records_of_create place c.args.table c.args.buckets = c.create_records-records.ensures ∙ ap (λ (n : ℕ). records_of_create n c.args.table c.args.buckets) c.unwrap_or-place.ensures in
-    written_kept (donor_of c.insert.new.self s.active s.locks s.binlog.commits) old c.write_space_held.new.buffer c.create_records-records.result c.write_space_held.ensures.written
+    written_kept (donor_of c.insert.new.self s.active s.locks s.binlog.commits s.drops.list) old c.write_space_held.new.buffer c.create_records-records.result c.write_space_held.ensures.written
     (λ right lsn.
     let kept = c.requires.kept right in
     let shown : page_of (image_of old) 0 0 ≡ Some page = page_shown (image_of old) old.pool.frames (system_page 0) c.args.at (c.laws.ensures.buffer.shows right) c.requires.held (system_there (image_of old) 0 kept.formed (omega arith)) in

@@ -22,10 +22,10 @@ write_held-requires-clause-there c = λ right.
     subst (λ (rs : List Record). AllByRecursion (IsOnPage image) rs) (sym c.end_record.ensures) (header_there image c.args.trx (c.requires.kept right).formed small, tt)
 
 abbrev before : goal.After-array_drop-records-2 → Donor
-before c = donor_of c.self.inside.tables c.self.inside.active c.self.inside.locks c.self.inside.binlog.commits
+before c = donor_of c.self.inside.tables c.self.inside.active c.self.inside.locks c.self.inside.binlog.commits c.self.inside.drops.list
 
 abbrev after : goal.After-array_drop-records-2 → Donor
-after c = donor_of c.self.inside.tables c.remove.new.self c.release.new.self c.self.inside.binlog.commits
+after c = donor_of c.self.inside.tables c.remove.new.self c.release.new.self c.self.inside.binlog.commits c.self.inside.drops.list
 
 leaves : (c : goal.After-array_drop-records-2) → Leaves (before c) c.args.trx (after c)
 leaves c =
@@ -37,7 +37,7 @@ leaves c =
       nothing = sym (changes_of_active (before c) c.args.trx active.0 active.1) ∙ none_last _ nothing;
       locks = c.release.new.self;
       released = c.release.ensures;
-      is = λ i. donor_of c.self.inside.tables (c.remove.ensures.removed i) c.release.new.self c.self.inside.binlog.commits;
+      is = λ i. donor_of c.self.inside.tables (c.remove.ensures.removed i) c.release.new.self c.self.inside.binlog.commits c.self.inside.drops.list;
     }
 
 pub invariant_of-self : goal.invariant_of-self

@@ -22,7 +22,7 @@ pub write_held-requires-clause-there : goal.write_held-requires-clause-there
 write_held-requires-clause-there c = λ right.
     let image = image_of c.args.buffer.now in
     let e = c.args.entry.now in
-    let d : Donor = donor_of c.self.inside.tables c.self.inside.active c.self.inside.locks c.self.inside.binlog.commits in
+    let d : Donor = donor_of c.self.inside.tables c.self.inside.active c.self.inside.locks c.self.inside.binlog.commits c.self.inside.drops.list in
     let kept : IsKept d image = subst (λ (d : Donor). IsKept d image) (sym c.self.view_is) (c.requires.kept right) in
     let last : IsLast d c.args.trx c.args.count e.table e.key = subst (λ (d : Donor). IsLast d c.args.trx c.args.count e.table e.key) (sym c.self.view_is) c.requires.last in
     let takes = taken_back d c.args.trx c.args.count e.table e.key c.pop.new.self c.pop.result last c.pop.ensures in
@@ -30,11 +30,11 @@ write_held-requires-clause-there c = λ right.
     subst (AllByRecursion (buffer.IsOnPage image)) (sym c.take_back_records-records.ensures)
     (taking_back_there image c.args.trx c.args.count e row (header_there image c.args.trx kept.formed (last_small d c.args.trx c.args.count e.table e.key last c.self.invariant.0.locked).2))
 
-made : (c : goal.After-array_drop-records-2) → TakesBack (donor_of c.self.inside.tables c.self.inside.active c.self.inside.locks c.self.inside.binlog.commits) c.args.trx (c.args.count - 1)
-    (donor_of c.self.inside.tables c.pop.new.self c.self.inside.locks c.self.inside.binlog.commits)
+made : (c : goal.After-array_drop-records-2) → TakesBack (donor_of c.self.inside.tables c.self.inside.active c.self.inside.locks c.self.inside.binlog.commits c.self.inside.drops.list) c.args.trx (c.args.count - 1)
+    (donor_of c.self.inside.tables c.pop.new.self c.self.inside.locks c.self.inside.binlog.commits c.self.inside.drops.list)
 made c =
     let e = c.args.entry.now in
-    let d : Donor = donor_of c.self.inside.tables c.self.inside.active c.self.inside.locks c.self.inside.binlog.commits in
+    let d : Donor = donor_of c.self.inside.tables c.self.inside.active c.self.inside.locks c.self.inside.binlog.commits c.self.inside.drops.list in
     taken_back d c.args.trx c.args.count e.table e.key c.pop.new.self c.pop.result (subst (λ (d : Donor). IsLast d c.args.trx c.args.count e.table e.key) (sym c.self.view_is) c.requires.last) c.pop.ensures
 
 pub invariant_of-self : goal.invariant_of-self
@@ -50,14 +50,14 @@ returns-clause-written c =
     (subst (λ (rs : List Record). HasRoom rs b) same c.in_ok-check_room.ensures.room, c.write_held.ensures.written ∙ ap (λ (rs : List Record). buffer.written rs b) same)
 
 pub returns-clause-donor : goal.returns-clause-donor
-returns-clause-donor c = subst (λ (d : Donor). TakesBack d c.args.trx (c.args.count - 1) (donor_of c.self.inside.tables c.pop.new.self c.self.inside.locks c.self.inside.binlog.commits)) c.self.view_is (made c)
+returns-clause-donor c = subst (λ (d : Donor). TakesBack d c.args.trx (c.args.count - 1) (donor_of c.self.inside.tables c.pop.new.self c.self.inside.locks c.self.inside.binlog.commits c.self.inside.drops.list)) c.self.view_is (made c)
 
 pub returns-clause-kept : goal.returns-clause-kept
 returns-clause-kept c =
     let b = c.args.buffer.now in
     let e = c.args.entry.now in
-    let d : Donor = donor_of c.self.inside.tables c.self.inside.active c.self.inside.locks c.self.inside.binlog.commits in
-    let after : Donor = donor_of c.self.inside.tables c.pop.new.self c.self.inside.locks c.self.inside.binlog.commits in
+    let d : Donor = donor_of c.self.inside.tables c.self.inside.active c.self.inside.locks c.self.inside.binlog.commits c.self.inside.drops.list in
+    let after : Donor = donor_of c.self.inside.tables c.pop.new.self c.self.inside.locks c.self.inside.binlog.commits c.self.inside.drops.list in
     let some = (last_small c.args.self.now c.args.trx c.args.count e.table e.key c.requires.last c.laws.ensures.safe.locked).0 in
     let one : c.args.count ≡ c.args.count - 1 + 1 = omega (arith, some) in
     let same = c.take_back_records-records.ensures ∙ ap (λ n. records_of_taking_back c.args.trx n e) one in

@@ -9,15 +9,15 @@ use Rattle.clone_trx.proofs.transactions.Transactions.write_change.Goals as goal
 
 -- The lock wanted memory, and the change was taken away again.
 
-state_kept : (c : goal.After-pop) → donor_of c.self.inside.tables c.pop.new.self c.lock.new.self c.self.inside.binlog.commits ≡ c.args.self.now
+state_kept : (c : goal.After-pop) → donor_of c.self.inside.tables c.pop.new.self c.lock.new.self c.self.inside.binlog.commits c.self.inside.drops.list ≡ c.args.self.now
 state_kept c =
     let old = c.self.inside in
-    let d : Donor = donor_of old.tables old.active old.locks old.binlog.commits in
+    let d : Donor = donor_of old.tables old.active old.locks old.binlog.commits old.drops.list in
     let may = may_change d c.args.trx c.args.change.table c.args.change.key c.requires.cause.0 c.self.invariant.0.locked
     (subst (λ (t : Donor). change_cause t c.args.trx c.args.change.table c.args.change.key c.requires.cause.0 ≡ None) (sym c.self.view_is) c.requires.cause.1) in
     let active : c.pop.new.self ≡ old.active = left_again old.active c.push.new.self c.pop.new.self c.args.trx may.commit c.args.change c.pop.result may.was_active c.in_ok-push.ensures.ok c.pop.ensures in
     let locks : c.lock.new.self ≡ old.locks = refused c.lock.result (sym c.is_err.ensures.value ∙ c.if-is_err.true) c.lock.ensures.err in
-    (λ i. donor_of old.tables (active i) (locks i) old.binlog.commits) ∙ c.self.view_is
+    (λ i. donor_of old.tables (active i) (locks i) old.binlog.commits old.drops.list) ∙ c.self.view_is
 
 pub invariant_of-self-then-is_err : goal.invariant_of-self-then-is_err
 invariant_of-self-then-is_err c =
@@ -31,7 +31,7 @@ returns-then-is_err-clause-donor c = state_kept c
 
 pub invariant_of-self-else-is_err : goal.invariant_of-self-else-is_err
 invariant_of-self-else-is_err c =
-    let d : Donor = donor_of c.self.inside.tables c.self.inside.active c.self.inside.locks c.self.inside.binlog.commits in
+    let d : Donor = donor_of c.self.inside.tables c.self.inside.active c.self.inside.locks c.self.inside.binlog.commits c.self.inside.drops.list in
     let may = may_change d c.args.trx c.args.change.table c.args.change.key c.requires.cause.0 c.self.invariant.0.locked
     (subst (λ (t : Donor). change_cause t c.args.trx c.args.change.table c.args.change.key c.requires.cause.0 ≡ None) (sym c.self.view_is) c.requires.cause.1) in
     let made = made_change d c.args.trx c.args.change c.push.new.self c.lock.new.self may c.in_ok-push.ensures.ok (done c.lock.result (sym c.is_err.ensures.value ∙ c.if-is_err.false) c.lock.ensures.ok) in
@@ -41,8 +41,8 @@ invariant_of-self-else-is_err c =
 pub returns-clause-donor : goal.returns-clause-donor
 returns-clause-donor c =
     let old = c.self.inside in
-    let before : Donor = donor_of old.tables old.active old.locks old.binlog.commits in
+    let before : Donor = donor_of old.tables old.active old.locks old.binlog.commits old.drops.list in
     let may = may_change before c.args.trx c.args.change.table c.args.change.key c.requires.cause.0 c.self.invariant.0.locked
     (subst (λ (t : Donor). change_cause t c.args.trx c.args.change.table c.args.change.key c.requires.cause.0 ≡ None) (sym c.self.view_is) c.requires.cause.1) in
-    subst (λ (t : Donor). Changes t c.args.trx c.args.change (donor_of old.tables c.push.new.self c.lock.new.self old.binlog.commits)) c.self.view_is
+    subst (λ (t : Donor). Changes t c.args.trx c.args.change (donor_of old.tables c.push.new.self c.lock.new.self old.binlog.commits old.drops.list)) c.self.view_is
     (made_change before c.args.trx c.args.change c.push.new.self c.lock.new.self may c.in_ok-push.ensures.ok (done c.lock.result (sym c.is_err.ensures.value ∙ c.if-is_err.false) c.lock.ensures.ok))

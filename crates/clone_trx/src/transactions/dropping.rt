@@ -1,0 +1,124 @@
+ghost use Rattle.std.specs.Prelude.{Err, IsTrue, None, OnErr, ◌<◌, ◌≡◌, ◌≤◌};
+ghost use Rattle.clone_outside.specs.Causes.{Rose};
+ghost use Rattle.clone_outside.specs.Disk.{IsBeforeOrAfter, with_removed};
+ghost use Rattle.clone_page.specs.Dictionary.{entry_count};
+ghost use Rattle.clone_contents.specs.Contents.{contents_of};
+ghost use Rattle.clone_buffer.specs.Buffered.{image_of};
+ghost use Rattle.clone_buffer.specs.Dropping.{AreUnpinned};
+ghost use Rattle.clone_plain.specs.Causes.{drop_cause};
+ghost use Rattle.clone_plain.specs.declared.refusal.Cause.TheVariants.{DiskFault};
+ghost use Rattle.clone_plain.specs.declared.refusal.EngineRefusal.TheVariants.{Because};
+ghost use Rattle.clone_trx.specs.Calls.{drop_at, drop_way, system_page};
+ghost use Rattle.clone_trx.specs.Ways.{CarriesDrop, Goes, StaysOutside, StaysStanding};
+ghost use Rattle.clone_trx.specs.Kept.{IsHeld, Keeps, TellsPages};
+ghost use Rattle.clone_trx.specs.Sound.{IsKept};
+
+use crate::Transactions;
+use crate::hold::{check_room, hold, refused_by, release, write_drop_held};
+use clone_buffer::Buffer;
+use clone_model::MOST_PAGES;
+use clone_outside::{PageDisk, Refusal};
+use clone_plain::{Cause, EngineRefusal};
+use clone_space::{drop_records, entry_at, find};
+
+impl Transactions {
+    /// Drops a table: its pages are given up, its entry is free, and its file goes. There is no
+    /// cause of `check_drop` against it.
+    ///
+    /// Refused where there is no frame for the system page, where the disk fails to read it, and
+    /// where the log has no room; then the table stays. Where the disk fails to remove the file,
+    /// the table is gone all the same. A file that the disk has no memory to remove stays, and the
+    /// table is dropped.
+    pub fn drop_table<D: PageDisk>(
+        &mut self,
+        buffer: &mut Buffer,
+        table: u32,
+        disk: &mut D,
+    ) -> Result<(), EngineRefusal>
+        requires cause { drop_cause self.old table ≡ None }
+        requires kept { Keeps self.old buffer.old }
+        ensures way { Goes (drop_way table) buffer.old buffer.new result }
+        ensures donor { CarriesDrop table self.old self.new buffer.old buffer.new result }
+        ensures kept { Keeps self.new buffer.new }
+        ensures fault { result ≡ Err (Because DiskFault)
+            → Rose (D.failures disk.old) (D.failures disk.new) }
+        ensures later { D.failures disk.old ≤ D.failures disk.new }
+        ensures orders { D.orders disk.new ≡ D.orders disk.old }
+        ensures removed { IsBeforeOrAfter (D.told disk.old) (D.told disk.new)
+            (λ m. with_removed m table) }
+        ensures same { buffer.new.log ≡ buffer.old.log → D.told disk.new ≡ D.told disk.old }
+        ensures stays { buffer.new.log ≡ buffer.old.log → StaysStanding buffer.old buffer.new
+            (D.told disk.old) (D.told disk.new) }
+        ensures stands { StaysOutside table buffer.old buffer.new
+            (D.told disk.old) (D.told disk.new) }
+    {
+        self.laws();
+        let at = hold(buffer, disk, 0, 0)?;
+        buffer.laws();
+        let page = buffer.frame(at);
+        let place = find(page, table).unwrap_or(0);
+        let pages = entry_at(page, place).pages;
+        let dropped = self.drop_held(buffer, table, place, pages, disk);
+        release(buffer, at);
+        dropped
+    }
+
+    // Drops a table by its entry in the dictionary, with the system page held. The room of the drop
+    // is made before anything changes, and the file goes last.
+    fn drop_held<D: PageDisk>(
+        &mut self,
+        buffer: &mut Buffer,
+        table: u32,
+        place: usize,
+        pages: u32,
+        disk: &mut D,
+    ) -> Result<(), EngineRefusal>
+        requires cause { drop_cause self.old table ≡ None }
+        requires place { place < entry_count }
+        requires tells { IsTrue buffer.old.right
+            → TellsPages (contents_of (image_of buffer.old)) table place pages }
+        requires kept { IsTrue buffer.old.right → IsKept self.old (image_of buffer.old) }
+        requires held { IsHeld (system_page 0) buffer.old.pool.frames }
+        requires unpinned { AreUnpinned table buffer.old.pool.frames }
+        ensures way { Goes (drop_at table place pages) buffer.old buffer.new result }
+        ensures donor { CarriesDrop table self.old self.new buffer.old buffer.new result }
+        ensures kept { IsTrue buffer.new.right → IsKept self.new (image_of buffer.new) }
+        ensures fault { result ≡ Err (Because DiskFault)
+            → Rose (D.failures disk.old) (D.failures disk.new) }
+        ensures later { D.failures disk.old ≤ D.failures disk.new }
+        ensures orders { D.orders disk.new ≡ D.orders disk.old }
+        ensures removed { IsBeforeOrAfter (D.told disk.old) (D.told disk.new)
+            (λ m. with_removed m table) }
+        ensures same { buffer.new.log ≡ buffer.old.log → D.told disk.new ≡ D.told disk.old }
+        ensures stays { buffer.new.log ≡ buffer.old.log → StaysStanding buffer.old buffer.new
+            (D.told disk.old) (D.told disk.new) }
+        ensures stands { StaysOutside table buffer.old buffer.new
+            (D.told disk.old) (D.told disk.new) }
+    {
+        let records = drop_records(place, table);
+        check_room(buffer, &records)?;
+        self.drops.reserve(1)?;
+        write_drop_held(buffer, table, pages.min(MOST_PAGES), &records);
+        buffer.laws();
+        self.tables.remove(table);
+        self.drops.push_within(self.binlog.len() as u64, table);
+        remove_file(disk, table)
+    }
+}
+
+// The disk removes the file of a table that was dropped. It may want memory for that, and then the
+// file stays.
+fn remove_file<D: PageDisk>(disk: &mut D, table: u32) -> Result<(), EngineRefusal>
+    ensures refused { OnErr result (result ≡ Err (Because DiskFault)) }
+    ensures fault { result ≡ Err (Because DiskFault)
+        → Rose (D.failures disk.old) (D.failures disk.new) }
+    ensures later { D.failures disk.old ≤ D.failures disk.new }
+    ensures orders { D.orders disk.new ≡ D.orders disk.old }
+    ensures removed { IsBeforeOrAfter (D.told disk.old) (D.told disk.new)
+        (λ m. with_removed m table) }
+{
+    match disk.remove(table) {
+        Ok(()) | Err(Refusal::NoMemory) => Ok(()),
+        Err(Refusal::Fault) => Err(Cause::DiskFault.into()),
+    }
+}
