@@ -126,7 +126,7 @@ module _ (d e : Donor) (answered : List ℕ) (added : Adds d e answered) where
   commits_longer n low = omega (arith, low, ap length added.binlog, length-append d.binlog added.more)
 
   drops_longer : (n : ℕ) → n ≤ length d.drops → n ≤ length e.drops
-  drops_longer n low = omega (arith, low, ap length added.drops)
+  drops_longer n low = omega (arith, low, ap length added.drops, length-append d.drops added.gone)
 
   stop_longer : (stop : Stop) (m : DiskImage) → stop.position ≤ length d.binlog → stop.drops ≤ length d.drops → HoldsStop d stop m → HoldsStop e stop m
   stop_longer stop m commits drops is =

@@ -7,6 +7,7 @@ use Rattle.clone_script.specs.declared.lines.Line.TheVariants as lines
 use Rattle.clone_pool.specs.declared.frame.Frame.{Frame}
 use Rattle.clone_pool.specs.Frames.{frame_at}
 use Rattle.clone_flush.specs.Calls as flushes
+use Rattle.clone_plain.specs.declared.refusal.Cause.{Cause}
 use Rattle.clone_plain.specs.declared.refusal.Cause.TheVariants as causes
 use Rattle.clone_plain.specs.declared.refusal.EngineRefusal.{EngineRefusal}
 use Rattle.clone_plain.specs.declared.refusal.EngineRefusal.TheVariants.{Because, NoMemory}
@@ -20,7 +21,7 @@ use Rattle.clone_engine.specs.Engine.{Engine}
 use Rattle.clone_core.specs.System.{SystemStep, donor_of}
 use Rattle.clone_core.specs.Lines.{State, Answers, BreaksOff}
 use Rattle.clone_core.specs.Called.{Called, SaysCause, CleansAll, StopsCleaning, Cleans}
-use Rattle.clone_core.proofs.LineLemmas.{refused_stays}
+use Rattle.clone_core.proofs.LineLemmas.{ChangesNothing, refused_stays}
 use Rattle.clone_core.proofs.SetLemmas.{is_done, said-last, Events-split}
 use Rattle.clone_core.proofs.WaitingLemmas.{waiting, waiting-le, waits_for, one_fewer}
 
@@ -193,13 +194,26 @@ pub stop_answers : {A : Type 0} (bytes : A → Text) (s t : State) (refusal : En
 stop_answers bytes s t refusal (Err e) is says = tt
 stop_answers bytes s t refusal (Ok a) is says = refusal_answers s t refusal (bytes a) is says
 
+-- a call of a flush drops nothing
+abbrev DropsNone : Event → Type 0
+DropsNone (made (done did)) = (cause : Cause) → ChangesNothing (call_of did) cause
+DropsNone e = Unit {0}
+
+in_middle : (front rest : List Event) (e : Event) → AllByRecursion DropsNone (front ++ e ∷ rest) → DropsNone e
+in_middle [] rest e all = all.0
+in_middle (x ∷ front) rest e all = in_middle front rest e all.1
+
+flush_nothing : (page : ℕ × ℕ) (front rest : List Event) (next : Done) (cause : Cause) → flushed page ≡ front ++ made (done next) ∷ rest → ChangesNothing (call_of next) cause
+flush_nothing page front rest next cause split =
+    in_middle front rest (made (done next)) (subst (AllByRecursion DropsNone) split ((λ why. tt), ((λ why. tt), ((λ why. tt), ((λ why. tt), tt))))) cause
+
 stopped_breaks : (s t : State) (refusal : EngineRefusal) → Cleans s (Err refusal) t → BreaksOff s lines.Clean t
 stopped_breaks s t (Because cause) is =
     let last = made (refused (call_of is.next) cause) in
     let before = flat_map flushed is.pages ++ is.front in
     let at = Events-split s before (last ∷ []) t is.happened in
     let P : State → Type 0 = λ w. Happens donor_of SystemStep at.0 last w in
-    let stays = refused_stays at.0 t (call_of is.next) cause (subst P at.2.2 at.2.1) in
+    let stays = refused_stays at.0 t (call_of is.next) cause (flush_nothing is.page is.front is.rest is.next cause is.split) (subst P at.2.2 at.2.1) in
     record {
       front = before;
       next = last;

@@ -1,14 +1,14 @@
 -- What lines do, by what their calls answered.
-use Rattle.std.proofs.Common.{◌≡◌, ℕ, List, [], ◌∷◌, refl, sym, ap, ◌∙◌, subst, Option, None, Result, Ok, Err, IfOk, OnErr, MatchResult, IsErr}
+use Rattle.std.proofs.Common.{◌≡◌, ◌≢◌, ℕ, List, [], ◌∷◌, refl, sym, ap, ◌∙◌, subst, Option, None, Result, Ok, Err, IfOk, OnErr, MatchResult, IsErr}
 use Rattle.std.specs.declared.alloc.AllocError.{AllocError}
 use Rattle.clone_script.specs.declared.lines.Line.{Line}
 use Rattle.clone_script.specs.declared.lines.Line.TheVariants as lines
 use Rattle.clone_plain.specs.declared.refusal.Cause.{Cause}
-use Rattle.clone_plain.specs.declared.refusal.Cause.TheVariants.{NoSuchTrx}
+use Rattle.clone_plain.specs.declared.refusal.Cause.TheVariants.{NoSuchTrx, DiskFault}
 use Rattle.clone_plain.specs.declared.refusal.EngineRefusal.{EngineRefusal}
 use Rattle.clone_plain.specs.declared.refusal.EngineRefusal.TheVariants.{Because, NoMemory}
 use Rattle.clone_plain.specs.Answers.{Text, done_text, undone_answer}
-use Rattle.clone_plain.specs.Calls.{Call, create, begin, put, delete, get, undo_one, commit, flush_begin, flush_half, flush_land, checkpoint, end, Done, did_get, did_undo_one, Made, done, refused, call_of, PlainStep}
+use Rattle.clone_plain.specs.Calls.{Call, create, drop, begin, put, delete, get, undo_one, commit, flush_begin, flush_half, flush_land, checkpoint, end, Done, did_get, did_undo_one, Made, done, refused, call_of, AfterRefusal, PlainStep}
 use Rattle.clone_plain.specs.declared.refusal.Undone.{Undone}
 use Rattle.clone_plain.specs.Donor.{Donor}
 use Rattle.clone_plain.specs.Effects.{Undoes}
@@ -31,9 +31,18 @@ made_step s t m is = refines s.donor t.donor (made m) is.step
 pub same_stays : (s : State) → Stays s s
 same_stays s = record { donor = refl; begun = refl }
 
--- a refusal leaves the donor and the writers' counts
-pub refused_stays : (s t : State) (call : Call) (cause : Cause) → Happens donor_of SystemStep s (made (refused call cause)) t → Stays s t
-refused_stays s t call cause is = record { donor = (made_step s t (refused call cause) is).1; begun = is.begun }
+-- a refusal that changes nothing: any but that of a drop in which the disk failed
+abbrev pub ChangesNothing : Call → Cause → Type 0
+ChangesNothing (drop table) cause = cause ≡ DiskFault → ⊥
+ChangesNothing call cause = Unit {0}
+
+stays_after : (d : Donor) (call : Call) (cause : Cause) (after : Donor) → ChangesNothing call cause → AfterRefusal d call cause after → after ≡ d
+stays_after d (drop table) DiskFault after nothing is = absurd (nothing refl)
+stays_after d call cause after nothing is = is
+
+-- it leaves the donor and the writers' counts
+pub refused_stays : (s t : State) (call : Call) (cause : Cause) → ChangesNothing call cause → Happens donor_of SystemStep s (made (refused call cause)) t → Stays s t
+refused_stays s t call cause nothing is = record { donor = stays_after (donor_of s.donor) call cause (donor_of t.donor) nothing (made_step s t (refused call cause) is).1; begun = is.begun }
 
 -- a line of one event
 pub event_answers : {A : Type 0} (bytes : A → Text) (s t : State) (line : Line) (e : Event) (result : Result A AllocError) → Makes (index_in s.begun) line (e ∷ []) → Happens donor_of SystemStep s e t → IfOk result (λ a. bytes a ≡ event_text e)
@@ -52,6 +61,7 @@ call_at_once s t line call makes stays = at_once s t line (made (refused call No
 -- before a call was carried out that does something to the plain donor
 pub breaks_at_once : (s t : State) (line : Line) → Stays s t → BreaksOff s line t
 breaks_at_once s t (lines.Create table buckets) stays = call_at_once s t _ (create table buckets) (λ es m. m) stays
+breaks_at_once s t (lines.Drop table) stays = call_at_once s t _ (drop table) (λ es m. m) stays
 breaks_at_once s t (lines.Begin writer) stays = call_at_once s t _ (begin writer (index_in s.begun writer)) (λ es m. m) stays
 breaks_at_once s t (lines.Put trx table key value) stays = call_at_once s t _ (put trx table key value) (λ es m. m) stays
 breaks_at_once s t (lines.Delete trx table key) stays = call_at_once s t _ (delete trx table key) (λ es m. m) stays
@@ -106,14 +116,14 @@ call_answers bytes s t line call did called text (Ok a) makes same is told says 
 call_answers bytes s t line call did called text (Err e) makes same is told says = tt
 
 -- a call that was refused, or for which there was no memory, leaves the plain donor
-pub not_called : {X : Type 0} (s t : State) (call : Call) (did : X → Done) (called : Result X EngineRefusal) → Called s call did called t → IsErr called → Stays s t
-not_called s t call did (Ok x) is failed = absurd (let e = failed in cc)
-not_called s t call did (Err (Because cause)) is failed = refused_stays s t call cause is
-not_called s t call did (Err NoMemory) is failed = is
+pub not_called : {X : Type 0} (s t : State) (call : Call) (did : X → Done) (called : Result X EngineRefusal) → ((cause : Cause) → ChangesNothing call cause) → Called s call did called t → IsErr called → Stays s t
+not_called s t call did (Ok x) nothing is failed = absurd (let e = failed in cc)
+not_called s t call did (Err (Because cause)) nothing is failed = refused_stays s t call cause (nothing cause) is
+not_called s t call did (Err NoMemory) nothing is failed = is
 
-pub call_breaks : {X A : Type 0} (s t : State) (line : Line) (call : Call) (did : X → Done) (called : Result X EngineRefusal) (result : Result A AllocError) → Called s call did called t → OnErr result (IsErr called) → OnErr result (BreaksOff s line t)
-call_breaks s t line call did called (Ok a) is failed = tt
-call_breaks s t line call did called (Err e) is failed = breaks_at_once s t line (not_called s t call did called is failed)
+pub call_breaks : {X A : Type 0} (s t : State) (line : Line) (call : Call) (did : X → Done) (called : Result X EngineRefusal) (result : Result A AllocError) → ((cause : Cause) → ChangesNothing call cause) → Called s call did called t → OnErr result (IsErr called) → OnErr result (BreaksOff s line t)
+call_breaks s t line call did called (Ok a) nothing is failed = tt
+call_breaks s t line call did called (Err e) nothing is failed = breaks_at_once s t line (not_called s t call did called nothing is failed)
 
 -- a call was refused, and its refusal is shown
 pub refusal_answers : {X A : Type 0} (bytes : A → Text) (s t : State) (line : Line) (call : Call) (did : X → Done) (refusal : EngineRefusal) (result : Result A AllocError) → ((es : List Event) → MakesOne call es → Makes (index_in s.begun) line es) → Called {X = X} s call did (Err refusal) t
@@ -123,8 +133,14 @@ refusal_answers {X} bytes s t line call did refusal (Ok a) makes is says =
     let P : EngineRefusal → Type 0 = λ r. Called {X = X} s call did (Err r) t in
     record { events = made (refused call says.cause) ∷ []; step = (makes _ (refused call says.cause, refl, refl), (t, subst P says.is is, refl)); is = says.same }
 
-pub refusal_breaks : {X A : Type 0} (s t : State) (line : Line) (call : Call) (did : X → Done) (refusal : EngineRefusal) (result : Result A AllocError) → Called {X = X} s call did (Err refusal) t → OnErr result (BreaksOff s line t)
-refusal_breaks {X} s t line call did refusal result is = stays_breaks s t line result (not_called {X = X} s t call did (Err refusal) is refl)
+pub refusal_breaks : {X A : Type 0} (s t : State) (line : Line) (call : Call) (did : X → Done) (refusal : EngineRefusal) (result : Result A AllocError) → ((cause : Cause) → ChangesNothing call cause) → Called {X = X} s call did (Err refusal) t → OnErr result (BreaksOff s line t)
+refusal_breaks {X} s t line call did refusal result nothing is = stays_breaks s t line result (not_called {X = X} s t call did (Err refusal) nothing is refl)
+
+-- a drop was refused, and not because the disk failed
+pub drop_breaks : {X A : Type 0} (s t : State) (line : Line) (table : ℕ) (did : X → Done) (refusal : EngineRefusal) (result : Result A AllocError) → Called {X = X} s (drop table) did (Err refusal) t → OnErr result (refusal ≢ Because DiskFault) → OnErr result (BreaksOff s line t)
+drop_breaks s t line table did refusal (Ok a) is other = tt
+drop_breaks s t line table did (Because cause) (Err e) is other = breaks_at_once s t line (refused_stays s t (drop table) cause (λ fault. other (ap (λ (c : Cause). Because c) fault)) is)
+drop_breaks s t line table did NoMemory (Err e) is other = breaks_at_once s t line is
 
 -- a value that was got leaves the plain donor
 pub got_stays : (s t : State) (trx table key : ℕ) (value : Option (List ℕ)) → Happens donor_of SystemStep s (made (done (did_get trx table key value))) t → Stays s t

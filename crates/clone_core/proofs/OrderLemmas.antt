@@ -196,6 +196,7 @@ to_recipient_line to_recipient line order es donor recipient is = ap (filter_map
 
 line_orders : (side : Side) (next : ℕ → ℕ) (line : Line) (es : List Event) → Makes next line es → OfLine side line es
 line_orders side next (lines.Create table buckets) es is = no_order side _ es refl refl (call_none side _ es is)
+line_orders side next (lines.Drop table) es is = no_order side _ es refl refl (call_none side _ es is)
 line_orders side next (lines.Begin writer) es is = no_order side _ es refl refl (call_none side _ es is)
 line_orders side next (lines.Put trx table key value) es is = no_order side _ es refl refl (call_none side _ es is)
 line_orders side next (lines.Delete trx table key) es is = no_order side _ es refl refl (call_none side _ es is)

@@ -4,10 +4,10 @@ use Rattle.clone_outside.specs.Causes.{Rose}
 use Rattle.clone_script.specs.declared.lines.Line.{Line}
 use Rattle.clone_plain.specs.Donor.{Donor}
 use Rattle.clone_events.specs.Events.{Side, Event}
-use Rattle.clone_events.specs.Headline.{AreCommits, AreSets, ShowsStop, all_events}
+use Rattle.clone_events.specs.Headline.{AreCommits, AreDrops, AreSets, ShowsStop, all_events}
 use Rattle.clone_events.specs.World.{Stop, Clone, IsWithin, no_clone, opened}
 use Rattle.std.specs.declared.option.Option.{Option}
-use Rattle.clone_events.proofs.BinlogLemmas.{events_add, are_commits}
+use Rattle.clone_events.proofs.BinlogLemmas.{events_add, events_drop, are_commits, are_drops}
 use Rattle.clone_events.proofs.ReachedLemmas.{Runs-IsWithin}
 use Rattle.clone_events.proofs.RunLemmas.{Runs-Events, Runs-tells}
 use Rattle.clone_events.proofs.SetLemmas.{are_sets}
@@ -22,6 +22,11 @@ pub run_commits : (s : State) (lines : List Line) (events : List (List Event)) (
 run_commits s lines events t new run =
     let whole = Runs-Events donor_of SystemStep s lines events t run in
     are_commits (donor_of s.donor) (donor_of t.donor) (all_events events) (ap (λ (d : Donor). d.binlog) new.donor.donor) (events_add donor_of SystemStep refines s (all_events events) t whole)
+
+pub run_drops : (s : State) (lines : List Line) (events : List (List Event)) (t : State) → IsNew s → Runs s lines events t → AreDrops 0 (all_events events) (donor_of t.donor).drops
+run_drops s lines events t new run =
+    let whole = Runs-Events donor_of SystemStep s lines events t run in
+    are_drops (donor_of s.donor) (donor_of t.donor) (all_events events) (ap (λ (d : Donor). d.binlog) new.donor.donor) (ap (λ (d : Donor). d.drops) new.donor.donor) (events_drop donor_of SystemStep refines s (all_events events) t whole)
 
 pub run_sets : (s : State) (lines : List Line) (events : List (List Event)) (t : State) → Runs s lines events t → AreSets lines events (donor_of t.donor).binlog
 run_sets s lines events t run = are_sets donor_of SystemStep refines s lines events t run

@@ -2,20 +2,21 @@
 use Rattle.std.proofs.Common.{◌≡◌, ℕ, ◌+◌, List, [], ◌∷◌, ◌++◌, length, refl, sym, ap, ◌∙◌, subst, Result, Ok, Err, IfOk, OnErr, MatchResult, IsErr, IsErrAnd, codes, decimal}
 use Rattle.std.specs.declared.alloc.AllocError.{AllocError}
 use Rattle.clone_script.specs.declared.lines.Line.TheVariants as lines
+use Rattle.clone_plain.specs.declared.refusal.Cause.{Cause}
 use Rattle.clone_plain.specs.declared.refusal.Cause.TheVariants.{NoSuchTrx}
 use Rattle.clone_plain.specs.declared.refusal.EngineRefusal.{EngineRefusal}
 use Rattle.clone_plain.specs.declared.refusal.EngineRefusal.TheVariants.{Because, NoMemory}
 use Rattle.clone_plain.specs.Answers.{Text}
 use Rattle.clone_plain.specs.Donor.{Donor}
-use Rattle.clone_plain.specs.Calls.{begin, put, commit, Done, did_begin, did_put, did_commit, done, refused}
+use Rattle.clone_plain.specs.Calls.{Call, begin, put, commit, end, made_call, Done, did_begin, did_put, did_commit, done, refused}
 use Rattle.clone_events.specs.World.{index_in}
 use Rattle.clone_events.specs.Events.{Event, made, event_text, said, Happens, Events}
-use Rattle.clone_events.specs.Runs.{not_begun, not_changed, set}
+use Rattle.clone_events.specs.Runs.{MakesSet, not_begun, not_changed, set}
 use Rattle.clone_events.specs.BreaksOff.{IsDone}
 use Rattle.clone_core.specs.System.{SystemStep, donor_of}
 use Rattle.clone_core.specs.Lines.{State, Answers, BreaksOff}
 use Rattle.clone_core.specs.Called.{Called, SaysCause, RefusesSet, Sets}
-use Rattle.clone_core.proofs.LineLemmas.{breaks_at_once, made_step, refused_stays}
+use Rattle.clone_core.proofs.LineLemmas.{ChangesNothing, breaks_at_once, made_step, refused_stays}
 
 pub is_done : (d : Done) → IsDone (made (done d))
 is_done d = (d, refl)
@@ -118,13 +119,37 @@ pub set_answers : {A : Type 0} (bytes : A → Text) (s t : State) (writer table 
 set_answers bytes s t writer table key value called text (Err e) is told says = tt
 set_answers bytes s t writer table key value called text (Ok a) is told says = set_answer s t writer table key value called text (bytes a) is told says
 
+-- the call of the last event, which is a call
+abbrev call_in : Event → Call
+call_in (made m) = made_call m
+call_in e = end
+
+abbrev last_call : List Event → Call
+last_call [] = end
+last_call (e ∷ []) = call_in e
+last_call (e ∷ f ∷ es) = last_call (f ∷ es)
+
+last_pushed : (front : List Event) (e : Event) → last_call (front ++ e ∷ []) ≡ call_in e
+last_pushed [] e = refl
+last_pushed (x ∷ []) e = refl
+last_pushed (x ∷ y ∷ front) e = last_pushed (y ∷ front) e
+
+-- a `set` drops nothing
+last_drops_none : (writer index table key : ℕ) (value : List ℕ) (events : List Event) (cause : Cause) → MakesSet writer index table key value events → ChangesNothing (last_call events) cause
+last_drops_none writer index table key value events cause (not_begun why is) = subst (λ es. ChangesNothing (last_call es) cause) (sym is) tt
+last_drops_none writer index table key value events cause (not_changed trx why is) = subst (λ es. ChangesNothing (last_call es) cause) (sym is) tt
+last_drops_none writer index table key value events cause (set trx last commits is) = subst (λ es. ChangesNothing (last_call es) cause) (sym is) (subst (λ c. ChangesNothing c cause) (sym commits) tt)
+
+set_nothing : (writer index table key : ℕ) (value : List ℕ) (front : List Event) (call : Call) (cause : Cause) → MakesSet writer index table key value (front ++ made (refused call cause) ∷ []) → ChangesNothing call cause
+set_nothing writer index table key value front call cause makes = subst (λ c. ChangesNothing c cause) (last_pushed front (made (refused call cause))) (last_drops_none writer index table key value _ cause makes)
+
 refused_breaks : (s t : State) (writer table key : ℕ) (value : List ℕ) (called : Result ℕ EngineRefusal) → Sets s writer table key value called t → IsErr called → BreaksOff s (lines.Set writer table key value) t
 refused_breaks s t writer table key value (Ok position) is failed = absurd (let e = failed in cc)
 refused_breaks s t writer table key value (Err (Because cause)) is failed =
     let last = made (refused is.call cause) in
     let at = Events-split s is.front (last ∷ []) t is.happened in
     let P : State → Type 0 = λ w. Happens donor_of SystemStep at.0 last w in
-    let stays = refused_stays at.0 t is.call cause (subst P at.2.2 at.2.1) in
+    let stays = refused_stays at.0 t is.call cause (set_nothing writer _ table key value is.front is.call cause is.makes) (subst P at.2.2 at.2.1) in
     record { front = is.front; next = last; rest = []; makes = is.makes; carried = is.carried; then = at.0; happened = at.1; donor = stays.donor; begun = stays.begun }
 refused_breaks s t writer table key value (Err NoMemory) is failed = is
 

@@ -1,6 +1,8 @@
 -- A step of a donor and the disk of a recipient is one of the plain donor, and its disks stay
 -- theirs.
-use Rattle.std.proofs.Common.{◌≡◌, ◌-◌, ◌⊎◌, inl, inr, ℕ, List, Bool, true, false, nat_le, if◌then◌else◌, refl, sym, ap, ◌∙◌, subst, arith, Option, None, Some, is_some, Result, Ok, Err}
+use Rattle.std.proofs.Common.{◌≡◌, ◌-◌, ◌⊎◌, inl, inr, ℕ, List, Bool, true, false, nat_le, not, unwrap_or, if◌then◌else◌, refl, sym, ap, ◌∙◌, subst, arith, Option, None, Some, is_some, Result, Ok, Err}
+use Rattle.std.specs.FinMap as finite
+use Rattle.std.specs.Option.{option_map, option_or}
 use Rattle.clone_model.specs.declared.change.Change.{Change}
 use Rattle.clone_model.specs.declared.line.TheConstants.{MOST_PAGES}
 use Rattle.clone_buffer.specs.Buffered.{Buffered}
@@ -8,12 +10,14 @@ use Rattle.clone_plain.specs.declared.refusal.Cause.{Cause}
 use Rattle.clone_plain.specs.declared.refusal.Cause.TheVariants as causes
 use Rattle.clone_plain.specs.declared.refusal.EngineRefusal.{EngineRefusal}
 use Rattle.clone_plain.specs.declared.refusal.EngineRefusal.TheVariants.{Because, NoMemory}
+use Rattle.clone_plain.specs.Causes.{drop_cause, least_holder, no_table, whether}
 use Rattle.clone_plain.specs.Donor.{Donor}
-use Rattle.clone_plain.specs.Effects.{put_of, delete_of}
-use Rattle.clone_plain.specs.Calls.{Call, create, begin, put, delete, get, undo_one, commit, flush_begin, flush_half, flush_land, oldest_dirty, checkpoint, end, Done, did_create, did_begin, did_put, did_delete, did_get, did_undo_one, did_commit, did_flush_begin, did_flush_half, did_flush_land, did_oldest_dirty, did_checkpoint, did_end, Made, done, refused, call_of, cause_of, is_below, IsRefused, PlainStep}
+use Rattle.clone_plain.specs.Effects.{dropped, put_of, delete_of}
+use Rattle.clone_plain.specs.Calls.{Call, create, drop, begin, put, delete, get, undo_one, commit, flush_begin, flush_half, flush_land, oldest_dirty, checkpoint, end, Done, did_create, did_drop, did_begin, did_put, did_delete, did_get, did_undo_one, did_commit, did_flush_begin, did_flush_half, did_flush_land, did_oldest_dirty, did_checkpoint, did_end, Made, done, refused, call_of, cause_of, is_below, AfterRefusal, IsRefused, PlainStep}
 use Rattle.clone_events.specs.Events.{to_donor, to_recipient, Event, made, cleaned, looked, archived, started, started_before, readied, not_started, completed, completed_before, broke, broke_before, lost, lost_before, showed, incomplete, hidden, damaged, ordered, PlainEvent}
+use Rattle.clone_trx.proofs.CauseLemmas.{both_none}
 use Rattle.clone_trx.proofs.WalkLemmas.{walk_missed}
-use Rattle.clone_trx.specs.Ways.{Way, reads, walks, stops, writes, freshens, lengthens, makes, ends, Goes, Writes, Misses, Answers, held, page_in}
+use Rattle.clone_trx.specs.Ways.{Way, reads, walks, stops, writes, freshens, lengthens, makes, drops, ends, CarriesDrop, Goes, Writes, Misses, Answers, held, page_in}
 use Rattle.clone_trx.specs.Ways as ways
 use Rattle.clone_trx.specs.Calls.{undo_last, change_at, entry_place, grown_way, pages_told, slot_way}
 use Rattle.clone_buffer.specs.Writing.{written}
@@ -24,10 +28,10 @@ use Rattle.clone_pool.specs.declared.pool.FetchRefusal.{FetchRefusal}
 use Rattle.clone_pool.specs.declared.pool.FetchRefusal.TheVariants as fetch
 use Rattle.clone_engine.specs.Disks.{DiskState, Visits}
 use Rattle.clone_engine.specs.Engine.{Engine}
-use Rattle.clone_engine.specs.Steps.{Looks, Ends, Flushes, Transacts, Did, way_of, refusal_of}
+use Rattle.clone_engine.specs.Steps.{AnswersDrop, Looks, Ends, Flushes, Transacts, Did, way_of, refusal_of}
 use Rattle.clone_session.specs.Cloning.{Session}
 use Rattle.clone_donor.specs.Donor as staged
-use Rattle.clone_donor.specs.Serving.{AnswersCall, Creates, Serves, ServesAs}
+use Rattle.clone_donor.specs.Serving.{AnswersCall, Creates, Drops, Serves, ServesAs}
 use Rattle.clone_core.specs.System.{System, SystemStep, CallStep, donor_of}
 
 -- whatever is read, the way stops for a cause below alone
@@ -39,6 +43,7 @@ StopsBelow (writes records) = Unit {0}
 StopsBelow (freshens page rest) = StopsBelow rest
 StopsBelow (lengthens records rest) = StopsBelow rest
 StopsBelow (makes records) = Unit {0}
+StopsBelow (drops space pages records) = Unit {0}
 StopsBelow ends = Unit {0}
 
 because : {a b : Cause} → ◌≡◌ {A = EngineRefusal} (Because a) (Because b) → a ≡ b
@@ -70,6 +75,8 @@ goes_below X (lengthens records rest) old new cause stops_below (inl full) = bel
 goes_below X (lengthens records rest) old new cause stops_below (inr on) = goes_below X rest (written records old) new cause stops_below on.1
 goes_below X (makes records) old new cause stops_below (inl is) = below_of cause _ is.0.is refl
 goes_below X (makes records) old new cause stops_below (inr is) = below_of cause causes.DiskFault (same_because is.1) refl
+goes_below X (drops space pages records) old new cause stops_below (inl full) = below_of cause _ full.0.is refl
+goes_below X (drops space pages records) old new cause stops_below (inr failed) = below_of cause causes.DiskFault failed.0 refl
 goes_below X ends old new cause stops_below is = absurd (let e = is.0 in cc)
 
 -- a space that gets a page more
@@ -91,6 +98,7 @@ undo_below d trx (Some change) = λ page row. tt
 -- each stop of the way of a call is a cause below
 pub way_below : (d : Donor) (call : Call) → StopsBelow (way_of d call)
 way_below d (create table buckets) = λ page. tt
+way_below d (drop table) = λ page. tt
 way_below d (begin writer index) = λ page. tt
 way_below d (put trx table key value) = λ number place row. change_below d trx (put_of table key value) number place row
 way_below d (delete trx table key) = λ number place row. change_below d trx (delete_of table key) number place row
@@ -121,15 +129,31 @@ answered_refused None way d e old new cause P below is = (inr (refl, goes_below 
 pub transacted : (call : Call) (s t : Engine) (did : Done) → Transacts call s t (Ok did) → (cause_of s.donor call ≡ None) × Did call s t did
 transacted call s t did is = answered_done (cause_of s.donor call) (way_of s.donor call) s.donor t.donor s.buffer t.buffer did (Did call s t) is.goes
 
+-- a session isn't what the plain donor has against a drop
+running_drop : (d : Donor) (table session : ℕ) → (drop_cause d table ≡ Some (causes.CloneRunning session)) ⊎ ((drop_cause d table ≡ None) × (is_below (causes.CloneRunning session) ≡ true)) → no_table d table ≡ None
+running_drop d table session (inl is) = absurd (by (not (finite.contains_key d.tables table)) (least_holder d.locks table) is)
+  where
+    by : (none : Bool) (holder : Option ℕ) → option_or (whether none causes.NoSuchTable) (option_map causes.TableInUse holder) ≡ Some (causes.CloneRunning session) → ⊥
+    by true holder is = cc
+    by false None is = cc
+    by false (Some trx) is = cc
+running_drop d table session (inr none) = (both_none (no_table d table) _ none.0).0
+
 -- what is against a call refuses it
 is_refused : (d : Donor) (call : Call) (cause : Cause) → (cause_of d call ≡ Some cause) ⊎ ((cause_of d call ≡ None) × (is_below cause ≡ true)) → IsRefused d call cause
 is_refused d (create table buckets) (causes.CloneRunning session) why = tt
+is_refused d (drop table) (causes.CloneRunning session) why = running_drop d table session why
 is_refused d call cause why = why
+
+-- and then nothing has changed
+after_same : (d : Donor) (call : Call) (cause : Cause) (after : Donor) → after ≡ d → AfterRefusal d call cause after
+after_same d (drop table) causes.DiskFault after same = inl same
+after_same d call cause after same = same
 
 not_transacted : (call : Call) (s t : Engine) (cause : Cause) → Transacts call s t (Err (Because cause)) → PlainStep s.donor (refused call cause) t.donor
 not_transacted call s t cause is =
     let at = answered_refused (cause_of s.donor call) (way_of s.donor call) s.donor t.donor s.buffer t.buffer cause (Did call s t) (way_below s.donor call) is.goes in
-    (is_refused s.donor call cause at.0, at.1)
+    (is_refused s.donor call cause at.0, after_same s.donor call cause t.donor at.1)
 
 not_memory : {a : Cause} → ◌≡◌ {A = EngineRefusal} (Because a) NoMemory → ⊥
 not_memory is = cc
@@ -143,7 +167,49 @@ flush_below cause flush.DiskFault is = below_of cause _ (because is) refl
 flush_below cause flush.NoMemory is = absurd (not_memory is)
 
 not_flushed : (did : Done) (call : Call) (s t : Engine) (cause : Cause) (Does : Result (Unit {0}) FlushRefusal → Type 0) → cause_of s.donor call ≡ None → Flushes did s t (Err (Because cause)) Does → PlainStep s.donor (refused call cause) t.donor
-not_flushed did call s t cause Does none is = (is_refused s.donor call cause (inr (none, flush_below cause is.does.0 is.does.1)), is.donor)
+not_flushed did call s t cause Does none is = (is_refused s.donor call cause (inr (none, flush_below cause is.does.0 is.does.1)), after_same s.donor call cause t.donor is.donor)
+
+-- a drop
+record HasDropped (o : Option Cause) (table : ℕ) (s t : Engine) (did : Done) : Type 0 where
+  free : o ≡ None
+  is : did ≡ did_drop table
+  donor : t.donor ≡ dropped table s.donor
+
+has_dropped : (o : Option Cause) (table : ℕ) (s t : Engine) (did : Done) → AnswersDrop o table s t (Ok did) → HasDropped o table s t did
+has_dropped (Some why) table s t did is = absurd (not_ok is.0)
+has_dropped None table s t did (inl flies) = absurd (not_ok flies.1)
+has_dropped None table s t did (inr goes) = record { free = refl; is = goes.did; donor = goes.donor }
+
+-- one that was refused: the table may be gone only where the disk failed
+abbrev MayBeGone : ℕ → Donor → Donor → Cause → Type 0
+MayBeGone table d after cause = (after ≡ d) ⊎ ((cause ≡ causes.DiskFault) × (after ≡ dropped table d))
+
+may_be_gone : (table : ℕ) (d after : Donor) (old new : Buffered) (cause : Cause) → CarriesDrop {X = Done} table d after old new (Err (Because cause)) → MayBeGone table d after cause
+may_be_gone table d after old new cause (inl left) = inl left.1
+may_be_gone table d after old new cause (inr failed) = inr (because failed.0, failed.2)
+
+refused_drop : (o : Option Cause) (table : ℕ) (s t : Engine) (cause : Cause) → AnswersDrop o table s t (Err (Because cause)) → ((o ≡ Some cause) ⊎ ((o ≡ None) × (is_below cause ≡ true))) × MayBeGone table s.donor t.donor cause
+refused_drop (Some why) table s t cause is = (inl (ap (λ x. Some x) (sym (same_because is.0))), inl (ap (λ (e : Engine). e.donor) is.1))
+refused_drop None table s t cause (inl flies) = (inr (refl, below_of cause causes.InFlight (same_because flies.1) refl), inl (ap (λ (e : Engine). e.donor) flies.2))
+refused_drop None table s t cause (inr goes) = (inr (refl, goes_below Done (way_of s.donor (drop table)) s.buffer t.buffer cause (way_below s.donor (drop table)) goes.way), may_be_gone table s.donor t.donor s.buffer t.buffer cause goes.donor)
+
+after_drop : (table : ℕ) (d after : Donor) (cause : Cause) → MayBeGone table d after cause → AfterRefusal d (drop table) cause after
+after_drop table d after cause (inl same) = after_same d (drop table) cause after same
+after_drop table d after cause (inr gone) = subst (λ (c : Cause). AfterRefusal d (drop table) c after) (sym gone.0) (inr gone.1)
+
+not_dropped : (table : ℕ) (s t : Engine) (cause : Cause) → AnswersDrop (drop_cause s.donor table) table s t (Err (Because cause)) → PlainStep s.donor (refused (drop table) cause) t.donor
+not_dropped table s t cause is =
+    let at = refused_drop (drop_cause s.donor table) table s t cause is in
+    (is_refused s.donor (drop table) cause at.0, after_drop table s.donor t.donor cause at.1)
+
+drop_wants : (o : Option Cause) (table : ℕ) (s t : Engine) → AnswersDrop o table s t (Err NoMemory) → t.donor ≡ s.donor
+drop_wants (Some why) table s t is = ap (λ (e : Engine). e.donor) is.1
+drop_wants None table s t (inl flies) = ap (λ (e : Engine). e.donor) flies.2
+drop_wants None table s t (inr goes) = by goes.donor
+  where
+    by : CarriesDrop {X = Done} table s.donor t.donor s.buffer t.buffer (Err NoMemory) → t.donor ≡ s.donor
+    by (inl left) = left.1
+    by (inr failed) = absurd (not_memory (sym failed.0))
 
 -- a look for the oldest dirty page, and the log's end
 looks_same : (s t : Engine) (did : Done) → Looks s t did → t ≡ s
@@ -159,6 +225,7 @@ ends_same s t did is = absurd is
 -- the engine's step
 served_done : (d : staged.Donor) (e : Engine) (did : Done) → ServesAs (call_of did) d e (Ok did) → PlainStep d.engine.donor (done did) e.donor
 served_done d e (did_create table buckets) is = let at = transacted _ d.engine e _ is in (at.0, at.1.does)
+served_done d e (did_drop table) is = let at = has_dropped (drop_cause d.engine.donor table) table d.engine e _ is.answers in (at.free, at.donor)
 served_done d e (did_begin writer index trx) is = let at = transacted _ d.engine e _ is in (at.0, at.1.does)
 served_done d e (did_put trx table key value) is = let at = transacted _ d.engine e _ is in (at.0, at.1.does)
 served_done d e (did_delete trx table key) is = let at = transacted _ d.engine e _ is in (at.0, at.1.does)
@@ -174,6 +241,7 @@ served_done d e (did_end lsn) is = (refl, ap (λ (x : Engine). x.donor) is.1)
 
 served_refused : (d : staged.Donor) (e : Engine) (call : Call) (cause : Cause) → ServesAs call d e (Err (Because cause)) → PlainStep d.engine.donor (refused call cause) e.donor
 served_refused d e (create table buckets) cause is = not_transacted _ d.engine e cause is
+served_refused d e (drop table) cause is = not_dropped table d.engine e cause is.answers
 served_refused d e (begin writer index) cause is = not_transacted _ d.engine e cause is
 served_refused d e (put trx table key value) cause is = not_transacted _ d.engine e cause is
 served_refused d e (delete trx table key) cause is = not_transacted _ d.engine e cause is
@@ -187,22 +255,29 @@ served_refused d e oldest_dirty cause is = absurd is
 served_refused d e checkpoint cause is = absurd is
 served_refused d e end cause is = absurd is
 
--- no table is made while a clone runs
+-- no table is made while a clone runs, and none is dropped
 pub record IsRunning (call : Call) (d t : staged.Donor) (answer : Result Done EngineRefusal) : Type 0 where
-  pub table : ℕ
-  pub buckets : ℕ
-  pub is : call ≡ create table buckets
-  pub session : ℕ
-  pub refused : answer ≡ Err (Because (causes.CloneRunning session))
+  pub cause : Cause
+  pub refused : answer ≡ Err (Because cause)
+  pub plain : IsRefused d.engine.donor call cause
   pub same : t ≡ d
 
 created : (o : Option Session) (table buckets : ℕ) (d t : staged.Donor) (answer : Result Done EngineRefusal) → Creates o table buckets d t answer → Serves (create table buckets) d t answer ⊎ IsRunning (create table buckets) d t answer
 created None table buckets d t answer is = inl is
-created (Some s) table buckets d t answer is = inr (record { table = table; buckets = buckets; is = refl; session = s.number; refused = is.0; same = is.1 })
+created (Some s) table buckets d t answer is = inr (record { cause = causes.CloneRunning s.number; refused = is.0; plain = tt; same = is.1 })
+
+kept : (o : Option Session) (table : ℕ) (d t : staged.Donor) (answer : Result Done EngineRefusal) → Drops o table d t answer → Serves (drop table) d t answer ⊎ IsRunning (drop table) d t answer
+kept None table d t answer is = inl is
+kept (Some s) table d t answer is = inr (by (no_table d.engine.donor table) refl is.0)
+  where
+    by : (o : Option Cause) → no_table d.engine.donor table ≡ o → answer ≡ Err (Because (unwrap_or o (causes.CloneRunning s.number))) → IsRunning (drop table) d t answer
+    by None there answers = record { cause = causes.CloneRunning s.number; refused = answers; plain = there; same = is.1 }
+    by (Some why) none answers = record { cause = why; refused = answers; plain = is_refused d.engine.donor (drop table) why (inl (ap (λ (o : Option Cause). option_or o (option_map causes.TableInUse (least_holder d.engine.donor.locks table))) none)); same = is.1 }
 
 -- else a call is the engine's
 pub served : (call : Call) (d t : staged.Donor) (answer : Result Done EngineRefusal) → AnswersCall call d t answer → Serves call d t answer ⊎ IsRunning call d t answer
 served (create table buckets) d t answer is = created d.cloning.session table buckets d t answer is
+served (drop table) d t answer is = kept d.cloning.session table d t answer is
 served call d t answer is = inl is
 
 done_refines : (d t : staged.Donor) (did : Done) → AnswersCall (call_of did) d t (Ok did) → PlainStep d.engine.donor (done did) t.engine.donor
@@ -211,13 +286,10 @@ done_refines d t did is = elim (served (call_of did) d t (Ok did) is) [
   | inr running ↦ absurd (not_ok running.refused)
 ]
 
-running_refused : (d : Donor) (table buckets session : ℕ) (cause : Cause) → cause ≡ causes.CloneRunning session → IsRefused d (create table buckets) cause
-running_refused d table buckets session cause is = subst (IsRefused d (create table buckets)) (sym is) tt
-
 refused_refines : (d t : staged.Donor) (call : Call) (cause : Cause) → AnswersCall call d t (Err (Because cause)) → PlainStep d.engine.donor (refused call cause) t.engine.donor
 refused_refines d t call cause is = elim (served call d t (Err (Because cause)) is) [
   | inl serves ↦ served_refused d t.engine call cause serves.steps
-  | inr running ↦ (subst (λ (c : Call). IsRefused d.engine.donor c cause) (sym running.is) (running_refused d.engine.donor running.table running.buckets running.session cause (same_because running.refused)), ap (λ (x : staged.Donor). x.engine.donor) running.same)
+  | inr running ↦ (subst (IsRefused d.engine.donor call) (sym (same_because running.refused)) running.plain, after_same d.engine.donor call cause t.engine.donor (ap (λ (x : staged.Donor). x.engine.donor) running.same))
 ]
 
 pub made_refines : (d t : staged.Donor) (m : Made) → CallStep d m t → PlainStep d.engine.donor m t.engine.donor
@@ -266,6 +338,7 @@ engine_visits s t is = same_visits s.disk t.disk (ap (λ (e : Engine). e.disk) i
 
 served_visits : (call : Call) (d : staged.Donor) (e : Engine) (answer : Result Done EngineRefusal) → ServesAs call d e answer → Visits d.engine.disk e.disk
 served_visits (create table buckets) d e answer is = is.disk.visits
+served_visits (drop table) d e answer is = is.disk.visits
 served_visits (begin writer index) d e answer is = is.disk.visits
 served_visits (put trx table key value) d e answer is = is.disk.visits
 served_visits (delete trx table key) d e answer is = is.disk.visits
@@ -296,6 +369,7 @@ made_visits d t (refused call cause) is = answered_visits call d t (Err (Because
 
 served_wants : (call : Call) (d : staged.Donor) (e : Engine) → ServesAs call d e (Err NoMemory) → e.donor ≡ d.engine.donor
 served_wants (create table buckets) d e is = is.goes.donor
+served_wants (drop table) d e is = drop_wants (drop_cause d.engine.donor table) table d.engine e is.answers
 served_wants (begin writer index) d e is = is.goes.donor
 served_wants (put trx table key value) d e is = is.goes.donor
 served_wants (delete trx table key) d e is = is.goes.donor
@@ -327,6 +401,7 @@ ends_call s t did is = absurd is
 
 served_call : (call : Call) (d : staged.Donor) (e : Engine) (did : Done) → ServesAs call d e (Ok did) → call_of did ≡ call
 served_call (create table buckets) d e did is = (transacted _ d.engine e did is).1.is
+served_call (drop table) d e did is = ap call_of (has_dropped (drop_cause d.engine.donor table) table d.engine e did is.answers).is
 served_call (begin writer index) d e did is = (transacted _ d.engine e did is).1.is
 served_call (put trx table key value) d e did is = (transacted _ d.engine e did is).1.is
 served_call (delete trx table key) d e did is = (transacted _ d.engine e did is).1.is

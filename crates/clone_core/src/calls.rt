@@ -1,6 +1,6 @@
 ghost use Rattle.std.specs.Prelude.{◌^◌, ◌-◌, Ok};
 ghost use Rattle.clone_plain.specs.Calls as call;
-ghost use Rattle.clone_plain.specs.Calls.{did_create, did_begin, did_put, did_delete, did_get, did_undo_one, did_commit, did_flush_begin, did_flush_half, did_flush_land, did_oldest_dirty, did_checkpoint, did_end};
+ghost use Rattle.clone_plain.specs.Calls.{did_create, did_drop, did_begin, did_put, did_delete, did_get, did_undo_one, did_commit, did_flush_begin, did_flush_half, did_flush_land, did_oldest_dirty, did_checkpoint, did_end};
 ghost use Rattle.clone_events.specs.World.{index_in, IsWithin};
 ghost use Rattle.clone_core.specs.System.{donor_of};
 ghost use Rattle.clone_core.specs.Called.{Called};
@@ -23,6 +23,13 @@ impl<D: PageDisk, R: PageDisk> World<D, R> {
             self.new }
     {
         self.donor.create(table, buckets)
+    }
+
+    // Drops a table.
+    pub(crate) fn drop_table(&mut self, table: TableNumber) -> Result<(), EngineRefusal>
+        ensures { Called self.old (call.drop table) (λ _. did_drop table) result self.new }
+    {
+        self.donor.drop_table(table.get())
     }
 
     // Begins a transaction of a writer, and counts it. Where none begins nothing is counted.

@@ -3,7 +3,7 @@ ghost use Rattle.std.specs.List.{filter_map};
 ghost use Rattle.clone_outside.specs.Causes.{Rose};
 ghost use Rattle.clone_script.specs.declared.lines.Line.{Line};
 ghost use Rattle.clone_events.specs.Events.{Event};
-ghost use Rattle.clone_events.specs.Headline.{AreCommits, AreSets, ShowsStop, all_events, donor_order, recipient_order};
+ghost use Rattle.clone_events.specs.Headline.{AreCommits, AreDrops, AreSets, ShowsStop, all_events, donor_order, recipient_order};
 ghost use Rattle.clone_events.specs.World.{IsWithin, no_clone};
 ghost use Rattle.clone_core.specs.System.{donor_of};
 ghost use Rattle.clone_core.specs.Ending.{ending_of};
@@ -11,14 +11,18 @@ ghost use Rattle.clone_core.specs.Lines.{State, IsNew, Runs};
 ghost use Rattle.clone_core.specs.declared.world.Ending.TheVariants.{RecipientFault, RestartsSpent};
 
 /// Each run of a world from the beginning: its binlog has a commit for each position that was
-/// answered, that of a `set` with its one change; the rows shown are those of the stop, where they
-/// are known; each line adds at most one commit, and one transaction of each writer; each disk got
-/// the orders of the lines that are for it, and no others; and a fault of a disk by which
-/// a clone ended is in its count.
+/// answered, that of a `set` with its one change; its drops are those that were answered, and maybe
+/// those in which the disk failed; the rows shown are those of the stop, where they are known; each
+/// line adds at most one commit, and one transaction of each writer; each disk got the orders of
+/// the lines that are for it, and no others; and a fault of a disk by which a clone ended is in its
+/// count.
 pub fn run_laws()
     ensures commits { (s : State) (lines : List Line) (events : List (List Event)) (t : State)
         → IsNew s → Runs s lines events t
         → AreCommits (all_events events) (donor_of t.donor).binlog }
+    ensures drops { (s : State) (lines : List Line) (events : List (List Event)) (t : State)
+        → IsNew s → Runs s lines events t
+        → AreDrops 0 (all_events events) (donor_of t.donor).drops }
     ensures sets { (s : State) (lines : List Line) (events : List (List Event)) (t : State)
         → IsNew s → Runs s lines events t → AreSets lines events (donor_of t.donor).binlog }
     ensures stop { (s : State) (lines : List Line) (events : List (List Event)) (t : State)

@@ -9,10 +9,12 @@ ghost use Rattle.clone_core.specs.Lines.{Answers, BreaksOff};
 ghost use Rattle.clone_core.specs.Called.{Cleans, Notes, Sets};
 
 use crate::World;
-use crate::texts::{answered, begun_text, committed_text, refused, undone_text, value_shown};
+use crate::texts::{
+    answered, begun_text, committed_text, drop_refused, refused, undone_text, value_shown,
+};
 use clone_model::{BucketCount, TableNumber};
 use clone_outside::{DiskOrder, PageDisk};
-use clone_plain::EngineRefusal;
+use clone_plain::{Cause, EngineRefusal};
 use std::alloc::{AllocError, Global};
 
 // What each line of a script does, and its answer, which is made before its call.
@@ -31,6 +33,25 @@ impl<D: PageDisk, R: PageDisk> World<D, R> {
         let text = String::from_str(alloc, "created")?;
         let called = self.create(table, buckets);
         answered(alloc, called, text)
+    }
+
+    // Drops a table. The text of a failure of the disk is made ahead, since the table may be gone
+    // then.
+    pub(crate) fn drop_line(
+        &mut self,
+        alloc: Global,
+        table: TableNumber,
+    ) -> Result<String, AllocError>
+        ensures ok { IfOk result (λ text. Answers self.old (lines.Drop table)
+            (string_bytes text) self.new) }
+        ensures err { OnErr result (BreaksOff self.old (lines.Drop table) self.new) }
+    {
+        let text = String::from_str(alloc, "dropped")?;
+        let fault = refused(alloc, Cause::DiskFault.into())?;
+        match self.drop_table(table) {
+            Ok(()) => Ok(text),
+            Err(refusal) => drop_refused(alloc, refusal, fault),
+        }
     }
 
     // Begins a transaction.

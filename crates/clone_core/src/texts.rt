@@ -1,6 +1,8 @@
-ghost use Rattle.std.specs.Prelude.{◌≡◌, ◌<◌, ◌+◌, ◌-◌, ◌^◌, ◌++◌, ℕ, Some, length, IfOk, OnErr, IsErr, MatchResult, option_copied, codes};
+ghost use Rattle.std.specs.Prelude.{◌≡◌, ◌≢◌, ◌<◌, ◌+◌, ◌-◌, ◌^◌, ◌++◌, ℕ, Some, length, IfOk, OnErr, IsErr, MatchResult, option_copied, codes};
 ghost use Rattle.std.specs.Fmt.{decimal};
 ghost use Rattle.std.specs.String.{string_bytes};
+ghost use Rattle.clone_plain.specs.declared.refusal.Cause.TheVariants.{DiskFault};
+ghost use Rattle.clone_plain.specs.declared.refusal.EngineRefusal.TheVariants.{Because};
 ghost use Rattle.clone_plain.specs.declared.refusal.Undone.{Undone};
 ghost use Rattle.clone_plain.specs.Donor as plain;
 ghost use Rattle.clone_plain.specs.Causes.{least_unused};
@@ -13,7 +15,7 @@ ghost use Rattle.clone_core.specs.Called.{SaysCause};
 use clone_donor::Donor;
 use clone_model::{Value, push_value, rows_text};
 use clone_outside::PageDisk;
-use clone_plain::EngineRefusal;
+use clone_plain::{Cause, EngineRefusal};
 use clone_recover::Why;
 use std::alloc::{AllocError, Global};
 
@@ -81,6 +83,23 @@ pub fn refused(alloc: Global, refusal: EngineRefusal) -> Result<String, AllocErr
         EngineRefusal::Because(cause) => format!(in alloc; "{cause}"),
         EngineRefusal::NoMemory => Err(AllocError),
     }
+}
+
+/// The text of a drop's refusal, where that of a failure of the disk was made ahead. For that one
+/// there is memory.
+pub fn drop_refused(
+    alloc: Global,
+    refusal: EngineRefusal,
+    fault: String,
+) -> Result<String, AllocError>
+    requires fault { SaysCause (Because DiskFault) (string_bytes fault) }
+    ensures ok { IfOk result (λ text. SaysCause refusal (string_bytes text)) }
+    ensures err { OnErr result (refusal ≢ Because DiskFault) }
+{
+    if refusal == EngineRefusal::Because(Cause::DiskFault) {
+        return Ok(fault);
+    }
+    refused(alloc, refusal)
 }
 
 /// A value, or that there is none.

@@ -1,4 +1,8 @@
-ghost use Rattle.std.specs.Prelude.{◌≡◌, ◌^◌, ◌-◌, IfOk, None, OnErr};
+//! The world between two lines of a script. The stop of a clone is within the donor's history, and
+//! so is the floor, which is not past the stop. Until a clone is begun the recipient's disk is
+//! blank; a complete clone is complete at its stop. What the recipient's disk holds, where that is
+//! told, is what the course of the clone says.
+ghost use Rattle.std.specs.Prelude.{◌≡◌, ◌^◌, ◌-◌, IfOk, None, OnErr, option_map};
 ghost use Rattle.std.specs.String.{string_bytes};
 ghost use Rattle.clone_outside.specs.Disk.{ForTold, blank};
 ghost use Rattle.clone_outside.specs.declared.disk.DiskOrder.TheVariants as order;
@@ -7,15 +11,16 @@ ghost use Rattle.clone_engine.specs.Opened.{IsOpened};
 ghost use Rattle.clone_donor.specs.Taken.{IsTaken, nothing};
 ghost use Rattle.clone_core.specs.System.{donor_of};
 ghost use Rattle.clone_core.specs.Lines.{Answers, BreaksOff, IsNew};
-ghost use Rattle.clone_core.specs.Copied.{KeepsClone};
+ghost use Rattle.clone_core.specs.Copied.{KeepsClone, stop_of};
 ghost use Rattle.clone_core.specs.Ending.{ending_of};
 
 use crate::begun::Begun;
 use clone_donor::Donor;
-use clone_model::Binlog;
+use clone_model::{Binlog, Drops};
 use clone_outside::{DiskOrder, PageDisk};
 use clone_request::{Requester, keeping_laws};
 use clone_script::Line;
+use clone_session::Stop;
 use std::alloc::{AllocError, Global};
 use std::marker::Model;
 
@@ -146,14 +151,22 @@ impl<D: PageDisk, R: PageDisk> World<D, R> {
         }
     }
 
-    /// Gives the donor's disk and the recipient's back.
-    pub fn into_disks(self) -> (D, R)
+    /// The stop of the clone, if it has come to that: how many commits and drops there were.
+    pub fn stop(&self) -> Option<Stop>
+        ensures { option_map stop_of result ≡ self.now.clone.stop }
+    {
+        self.donor.stop()
+    }
+
+    /// Gives the donor's disk and the recipient's back, and the drops.
+    pub fn into_disks(self) -> (D, R, Drops)
         ensures donor_told { D.told result.0 ≡ self.donor.donor.engine.disk.told }
         ensures donor_failures { D.failures result.0 ≡ self.donor.donor.engine.disk.failures }
         ensures donor_orders { D.orders result.0 ≡ self.donor.donor.engine.disk.orders }
         ensures recipient_told { R.told result.1 ≡ self.donor.recipient.told }
         ensures recipient_failures { R.failures result.1 ≡ self.donor.recipient.failures }
         ensures recipient_orders { R.orders result.1 ≡ self.donor.recipient.orders }
+        ensures drops { result.2.list ≡ (donor_of self.donor).drops }
     {
         let World {
             donor,
@@ -164,7 +177,8 @@ impl<D: PageDisk, R: PageDisk> World<D, R> {
             doubted: _,
             shown: _,
         } = self;
-        (donor.into_disk(), recipient)
+        let (disk, drops) = donor.into_disk();
+        (disk, recipient, drops)
     }
 
     /// What the recipient's disk holds of the clone.
@@ -184,6 +198,7 @@ impl<D: PageDisk, R: PageDisk> World<D, R> {
     {
         match line {
             Line::Create { table, buckets } => self.create_line(alloc, *table, *buckets),
+            Line::Drop { table } => self.drop_line(alloc, *table),
             Line::Begin { writer } => self.begin_line(alloc, *writer),
             Line::Put {
                 trx,

@@ -18,7 +18,7 @@ pub mod BlockLemmas
 pub mod SettleLemmas
 pub mod NoteLemmas
 pub mod FlushBeginLemmas
-pub mod CreateLemmas
+pub mod TableLemmas
 pub mod CheckpointLemmas
 pub mod MomentLemmas
 pub mod GivenLemmas

@@ -1,14 +1,18 @@
 -- What each call of transactions leaves: the checkpoint, the files but for that of a table that is
--- made, and whether the disk tells what it holds.
-use Rattle.std.proofs.Common.{◌≡◌, ◌∙◌, refl, sym, ap, subst, Option, Some, None, Result, Ok, Err, is_some}
+-- made or dropped, and whether the disk tells what it holds.
+use Rattle.std.proofs.Common.{◌≡◌, ◌∙◌, ℕ, Bool, true, false, refl, sym, ap, subst, inl, inr, if◌then◌else◌, Option, Some, None, Result, Ok, Err, is_some}
+use Rattle.std.specs.FinMap as finite
+use Rattle.clone_flush.specs.Calls.{without_file}
 use Rattle.clone_flush.specs.Flights.{Flights}
 use Rattle.clone_plain.specs.Calls.{Call, create, Done, did_create, call_of, cause_of}
+use Rattle.clone_plain.specs.Causes.{drop_cause}
+use Rattle.clone_plain.specs.Donor.{Donor}
 use Rattle.clone_plain.specs.declared.refusal.Cause.{Cause}
 use Rattle.clone_plain.specs.declared.refusal.EngineRefusal.{EngineRefusal}
 use Rattle.clone_trx.specs.Ways.{Way, Answers}
 use Rattle.clone_engine.specs.Engine.{Engine, IsEngine}
 use Rattle.clone_engine.specs.Growth.{PagesStay}
-use Rattle.clone_engine.specs.Steps.{Did, Goes, Transacts, flown, way_of}
+use Rattle.clone_engine.specs.Steps.{AnswersDrop, Did, Drops, Goes, Transacts, flown, left_by, way_of}
 use Rattle.clone_donor.proofs.OwnLemmas.{KeepsPages, image_stays, same_files}
 
 -- the call makes no table
@@ -46,6 +50,22 @@ flown_checkpoint (Err refusal) f = refl
 
 pub transacts_on : (call : Call) (s t : Engine) (answer : Result Done EngineRefusal) → Transacts call s t answer → GoesOn s t
 transacts_on call s t answer does = record { checkpoint = ap (λ f. f.checkpoint) does.flights ∙ flown_checkpoint answer s.flights; tells = does.disk.visits.tells }
+
+-- so does a file that goes
+left_checkpoint : (d : Donor) (table : ℕ) (f : Flights) → (left_by d table f).checkpoint ≡ f.checkpoint
+left_checkpoint d table f = by (finite.contains_key d.tables table)
+  where
+    by : (b : Bool) → (if b then f else without_file table f).checkpoint ≡ f.checkpoint
+    by true = refl
+    by false = refl
+
+drop_checkpoint : (cause : Option Cause) (table : ℕ) (s t : Engine) (answer : Result Done EngineRefusal) → AnswersDrop cause table s t answer → t.flights.checkpoint ≡ s.flights.checkpoint
+drop_checkpoint (Some why) table s t answer refused = ap (λ (e : Engine). e.flights.checkpoint) refused.1
+drop_checkpoint None table s t answer (inl flies) = ap (λ (e : Engine). e.flights.checkpoint) flies.2
+drop_checkpoint None table s t answer (inr goes) = ap (λ (f : Flights). f.checkpoint) goes.flights ∙ left_checkpoint t.donor table s.flights
+
+pub drops_on : (table : ℕ) (s t : Engine) (answer : Result Done EngineRefusal) → Drops table s t answer → GoesOn s t
+drops_on table s t answer does = record { checkpoint = drop_checkpoint (drop_cause s.donor table) table s t answer does.answers; tells = does.disk.visits.tells }
 
 -- its files and its image stay, but for a table that is made
 pub transacts_keeps : (call : Call) (s t : Engine) (answer : Result Done EngineRefusal) → MakesNone call → IsEngine s → Transacts call s t answer → PagesStay s.buffer t.buffer → KeepsPages s t

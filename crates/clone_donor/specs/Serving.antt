@@ -1,9 +1,10 @@
 -- The calls of the engine, made on a donor of clones.
-use Rattle.std.specs.Prelude.{ℕ, ◌≡◌, None, Some, Result, Ok, Err, if◌then◌else◌}
+use Rattle.std.specs.Prelude.{ℕ, ◌≡◌, None, Some, Result, Ok, Err, unwrap_or, if◌then◌else◌}
 use Rattle.std.specs.declared.option.Option.{Option}
 use Rattle.clone_archive.specs.Archived.{kept_from}
 use Rattle.clone_flush.specs.Calls.{after_begin}
-use Rattle.clone_plain.specs.Calls.{Call, create, flush_begin, checkpoint, Done, did_checkpoint}
+use Rattle.clone_plain.specs.Calls.{Call, create, drop, flush_begin, checkpoint, Done, did_checkpoint}
+use Rattle.clone_plain.specs.Causes.{no_table}
 use Rattle.clone_plain.specs.declared.refusal.Cause.TheVariants.{CloneRunning}
 use Rattle.clone_plain.specs.declared.refusal.EngineRefusal.{EngineRefusal}
 use Rattle.clone_plain.specs.declared.refusal.EngineRefusal.TheVariants.{Because}
@@ -45,6 +46,14 @@ Creates None table buckets d t answer = Serves (create table buckets) d t answer
 Creates (Some s) table buckets d t answer =
     (answer ≡ Err (Because (CloneRunning s.number))) × (t ≡ d)
 
+-- No table is dropped then either, and where there is none, that is the cause.
+abbrev pub Drops : Option Session → ℕ → Donor → Donor → Result Done EngineRefusal → Type 0
+Drops None table d t answer = Serves (drop table) d t answer
+Drops (Some s) table d t answer =
+    (answer ≡ Err (Because (unwrap_or (no_table d.engine.donor table) (CloneRunning s.number))))
+    × (t ≡ d)
+
 abbrev pub AnswersCall : Call → Donor → Donor → Result Done EngineRefusal → Type 0
 AnswersCall (create table buckets) d t answer = Creates d.cloning.session table buckets d t answer
+AnswersCall (drop table) d t answer = Drops d.cloning.session table d t answer
 AnswersCall call d t answer = Serves call d t answer

@@ -80,7 +80,7 @@ impl<D: PageDisk> Donor<D> {
             checkpoint: self.engine.checkpoint_within(),
             end: self.engine.ring().end(),
             position: self.engine.binlog().len() as u64,
-            drops: 0,
+            drops: self.engine.drops().len() as u64,
         }
     }
 

@@ -23,7 +23,7 @@ ghost use Rattle.clone_donor.specs.Donor.{IsDonor};
 ghost use Rattle.clone_donor.specs.Taken.{IsTaken, nothing};
 
 use clone_engine::{Engine, OpenRefusal};
-use clone_model::{Binlog, Commit, Config};
+use clone_model::{Binlog, Commit, Config, Drops};
 use clone_outside::{DiskOrder, PageDisk};
 use clone_session::{Cloning, Stop};
 use std::alloc::{AllocError, Global};
@@ -95,6 +95,13 @@ impl<D: PageDisk> Donor<D> {
         self.engine.binlog()
     }
 
+    /// The drops of tables in their order.
+    pub fn drops(&self) -> &Drops
+        ensures { result.now.list ≡ self.now.engine.donor.drops }
+    {
+        self.engine.drops()
+    }
+
     /// The open transaction of this number, as the commit that it would be, or none where none is
     /// open.
     pub fn transaction(&self, trx: u32) -> Option<&Commit>
@@ -147,11 +154,12 @@ impl<D: PageDisk> Donor<D> {
         self.engine.order(order)
     }
 
-    /// Gives the disk back.
-    pub fn into_disk(self) -> D
-        ensures told { D.told result ≡ self.engine.disk.told }
-        ensures failures { D.failures result ≡ self.engine.disk.failures }
-        ensures orders { D.orders result ≡ self.engine.disk.orders }
+    /// Gives the disk back, and the drops.
+    pub fn into_disk(self) -> (D, Drops)
+        ensures told { D.told result.0 ≡ self.engine.disk.told }
+        ensures failures { D.failures result.0 ≡ self.engine.disk.failures }
+        ensures orders { D.orders result.0 ≡ self.engine.disk.orders }
+        ensures drops { result.1.list ≡ self.engine.donor.drops }
     {
         let Donor { engine, cloning: _ } = self;
         engine.into_disk()

@@ -1,6 +1,8 @@
-ghost use Rattle.std.specs.Prelude.{◌≢◌, Err};
+ghost use Rattle.std.specs.Prelude.{◌≡◌, ◌≢◌, Err, unwrap_or};
 ghost use Rattle.clone_plain.specs.Calls as call;
-ghost use Rattle.clone_plain.specs.Calls.{did_create, did_begin, did_put, did_delete, did_get, did_undo_one, did_commit};
+ghost use Rattle.clone_plain.specs.Causes.{no_table};
+ghost use Rattle.clone_plain.specs.Calls.{did_create, did_drop, did_begin, did_put, did_delete, did_get, did_undo_one, did_commit};
+ghost use Rattle.clone_plain.specs.declared.refusal.Cause.TheVariants.{CloneRunning};
 ghost use Rattle.clone_plain.specs.declared.refusal.EngineRefusal.TheVariants.{NoMemory};
 ghost use Rattle.clone_engine.specs.Steps.{answer_of};
 ghost use Rattle.clone_donor.specs.Acts as act;
@@ -26,6 +28,33 @@ impl<D: PageDisk> Donor<D> {
         let created = self.engine.create(table, buckets);
         self.engine.laws();
         created
+    }
+
+    /// Drops a table with its pages and its file, unless a session stands. Where the disk fails to
+    /// remove the file, the table is gone all the same.
+    pub fn drop_table(&mut self, table: u32) -> Result<(), EngineRefusal>
+        ensures acts { Acts (act.Calls (call.drop table)
+            (answer_of (λ _. did_drop table) result)) self.old self.new }
+    {
+        if let Some(session) = self.cloning.session() {
+            return Err(self.kept_by(table, session).into());
+        }
+        self.cloning.laws();
+        let dropped = self.engine.drop_table(table);
+        self.engine.laws();
+        dropped
+    }
+
+    // Why a table isn't dropped while this session stands: there is none, or the session keeps it.
+    fn kept_by(&self, table: u32, session: u64) -> Cause
+        ensures { result
+            ≡ unwrap_or (no_table self.now.engine.donor table) (CloneRunning session) }
+    {
+        if self.engine.has_table(table) {
+            Cause::CloneRunning { session }
+        } else {
+            Cause::NoSuchTable
+        }
     }
 
     /// Begins a transaction of a writer, which is its transaction of this index, and answers the

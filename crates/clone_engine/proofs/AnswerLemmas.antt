@@ -8,7 +8,7 @@ use Rattle.clone_buffer.specs.Buffered.{Buffered}
 use Rattle.clone_buffer.specs.Writing.{written}
 use Rattle.clone_outside.specs.Causes.{Rose}
 use Rattle.clone_flush.specs.Flights.{Flights}
-use Rattle.clone_plain.specs.Calls.{Call, create, begin, put, delete, get, undo_one, commit, flush_begin, flush_half, flush_land, oldest_dirty, checkpoint, end, Done, cause_of}
+use Rattle.clone_plain.specs.Calls.{Call, create, drop, begin, put, delete, get, undo_one, commit, flush_begin, flush_half, flush_land, oldest_dirty, checkpoint, end, Done, cause_of}
 use Rattle.clone_plain.specs.Effects.{put_of, delete_of}
 use Rattle.clone_plain.specs.Donor.{Donor}
 use Rattle.clone_plain.specs.declared.refusal.Cause.{Cause}
@@ -17,7 +17,7 @@ use Rattle.clone_plain.specs.declared.refusal.EngineRefusal.{EngineRefusal}
 use Rattle.clone_plain.specs.declared.refusal.EngineRefusal.TheVariants.{Because, NoMemory}
 use Rattle.clone_trx.proofs.SpotLemmas.{all_stays}
 use Rattle.clone_trx.specs.Calls.{change_at, entry_place, grown_way, last_change, pages_told, slot_way, undo_last}
-use Rattle.clone_trx.specs.Ways.{Way, reads, walks, stops, writes, freshens, lengthens, makes, ends, Goes, Writes, Carries, Answers, held, page_in}
+use Rattle.clone_trx.specs.Ways.{Way, reads, walks, stops, writes, freshens, lengthens, makes, drops, ends, Goes, Writes, Drops, Carries, Answers, held, page_in}
 use Rattle.clone_engine.specs.Disks.{Visits}
 use Rattle.clone_engine.specs.Engine.{Engine}
 use Rattle.clone_engine.specs.Steps as steps
@@ -45,7 +45,7 @@ module _ {X : Type 0} (did : X → Done) where
   was_ok (Err refusal) is = is
 
   -- THE WAY IS GONE
-  goes_to : (w : Way) (old new : Buffered) (result : Result X EngineRefusal) → Goes w old new result → Goes w old new (answer_of did result)
+  pub goes_to : (w : Way) (old new : Buffered) (result : Result X EngineRefusal) → Goes w old new result → Goes w old new (answer_of did result)
   goes_to (reads page rest) old new result (inl miss) = inl (miss.0, refused result (Because miss.0) miss.1, miss.2)
   goes_to (reads page rest) old new result (inr on) = inr (on.0, on.1, on.2, on.3, goes_to (rest (page_in on.0 on.1)) (held on.0 on.1) on.2 result on.4, on.5)
   goes_to (walks course rest) old new result (inl miss) = inl (miss.0, refused result (Because miss.0) miss.1, miss.2)
@@ -58,6 +58,9 @@ module _ {X : Type 0} (did : X → Done) where
   goes_to (lengthens records rest) old new result (inr on) = inr (on.0, goes_to rest (written records old) new result on.1)
   goes_to (makes records) old new result (inl w) = inl (wrote records old new result w)
   goes_to (makes records) old new result (inr failed) = inr (failed.0, refused result _ failed.1, failed.2)
+  goes_to (drops table pages records) old new (Ok x) d = d
+  goes_to (drops table pages records) old new (Err (Because cause)) d = d
+  goes_to (drops table pages records) old new (Err NoMemory) d = d
   goes_to ends old new result ended = (was_ok result ended.0, ended.1)
 
   carries_to : (d e : Donor) (result : Result X EngineRefusal) (Does : X → Type 0) (Did : Done → Type 0) → ((x : X) → Does x → Did (did x)) → Carries d e result Does → Carries d e (answer_of did result) Did
@@ -75,6 +78,11 @@ memory_same records old new (Ok x) is w = absurd (let e = is in cc)
 memory_same records old new (Err (Because cause)) is w = w.1
 memory_same records old new (Err NoMemory) is w = w.1
 
+drop_same : {X : Type 0} (table pages : ℕ) (records : List Record) (old new : Buffered) (result : Result X EngineRefusal) → result ≡ Err NoMemory → Drops table pages records old new result → new ≡ old
+drop_same table pages records old new (Ok x) is d = absurd (let e = is in cc)
+drop_same table pages records old new (Err (Because cause)) is d = absurd (let e = is in cc)
+drop_same table pages records old new (Err NoMemory) is d = d.1
+
 -- the way makes a space longer so many times at most
 abbrev LengthensAtMost : ℕ → Way → Type 0
 LengthensAtMost most (reads page rest) = (bytes : List ℕ) → LengthensAtMost most (rest bytes)
@@ -84,6 +92,7 @@ LengthensAtMost most (writes records) = Unit {0}
 LengthensAtMost most (freshens page rest) = LengthensAtMost most rest
 LengthensAtMost most (lengthens records rest) = (1 ≤ most) × LengthensAtMost (most - 1) rest
 LengthensAtMost most (makes records) = Unit {0}
+LengthensAtMost most (drops table pages records) = Unit {0}
 LengthensAtMost most ends = Unit {0}
 
 same_frames : (most : ℕ) (old new : Buffered) → new ≡ old → GrowsBy most old.log new.log
@@ -118,6 +127,7 @@ memory_log most (lengthens records rest) old new result few is (inl full) = absu
 memory_log most (lengthens records rest) old new result few is (inr on) = one_more most records old new few.0 (memory_log (most - 1) rest (written records old) new result few.1 is on.1)
 memory_log most (makes records) old new result few is (inl w) = same_frames most old new (memory_same records old new result is w)
 memory_log most (makes records) old new result few is (inr failed) = same_frames most old new failed.2
+memory_log most (drops table pages records) old new result few is d = same_frames most old new (drop_same table pages records old new result is d)
 memory_log most ends old new result few is ended = same_frames most old new ended.1
 
 -- a change makes a space longer once at most
@@ -139,6 +149,7 @@ undo_never d trx (Some change) = λ page row. tt
 -- and no other call does
 way_lengthens : (d : Donor) (call : Call) → LengthensAtMost (written_before call) (way_of d call)
 way_lengthens d (create table buckets) = λ page. tt
+way_lengthens d (drop table) = λ page. tt
 way_lengthens d (begin writer index) = λ page. tt
 way_lengthens d (put trx table key value) = change_once d trx (put_of table key value)
 way_lengthens d (delete trx table key) = change_once d trx (delete_of table key)

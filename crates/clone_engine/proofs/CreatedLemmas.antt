@@ -21,7 +21,7 @@ use Rattle.clone_model.specs.declared.line.TheConstants.{MOST_PAGES}
 use Rattle.clone_plain.specs.Donor.{Donor}
 use Rattle.clone_plain.specs.Effects.{created}
 use Rattle.clone_plain.specs.declared.refusal.Cause.{Cause}
-use Rattle.clone_plain.specs.declared.refusal.Cause.TheVariants.{NoSuchTrx, NoSuchTable, TableExists, RowLocked, ValueTooLong, UndoFull, SpaceFull, LogFull, PoolFull, TooManyTransactions, TooManyTables, CloneRunning, NotDirty, InFlight, NoFlush, DiskFault}
+use Rattle.clone_plain.specs.declared.refusal.Cause.TheVariants.{NoSuchTrx, NoSuchTable, TableExists, RowLocked, ValueTooLong, UndoFull, SpaceFull, LogFull, PoolFull, TooManyTransactions, TooManyTables, CloneRunning, TableInUse, NotDirty, InFlight, NoFlush, DiskFault}
 use Rattle.clone_plain.specs.declared.refusal.EngineRefusal.{EngineRefusal}
 use Rattle.clone_plain.specs.declared.refusal.EngineRefusal.TheVariants.{Because, NoMemory}
 use Rattle.clone_contents.specs.Contents.{contents_of}
@@ -40,7 +40,7 @@ use Rattle.clone_engine.proofs.PageLemmas.{spaced_page, is_there}
 use Rattle.clone_engine.proofs.WayLemmas.{Grows}
 
 -- the disk failed, or the cause is another
-is_fault : (cause : Cause) → (cause ≡ DiskFault) ⊎ (cause ≡ DiskFault → ⊥)
+pub is_fault : (cause : Cause) → (cause ≡ DiskFault) ⊎ (cause ≡ DiskFault → ⊥)
 is_fault NoSuchTrx = inr (λ e. cc)
 is_fault NoSuchTable = inr (λ e. cc)
 is_fault TableExists = inr (λ e. cc)
@@ -53,6 +53,7 @@ is_fault (PoolFull frames) = inr (λ e. cc)
 is_fault TooManyTransactions = inr (λ e. cc)
 is_fault TooManyTables = inr (λ e. cc)
 is_fault (CloneRunning session) = inr (λ e. cc)
+is_fault (TableInUse trx) = inr (λ e. cc)
 is_fault NotDirty = inr (λ e. cc)
 is_fault InFlight = inr (λ e. cc)
 is_fault NoFlush = inr (λ e. cc)

@@ -9,6 +9,7 @@ pub mod EngineLemmas
 pub mod BeyondLemmas
 pub mod CallLemmas
 pub mod CreatedLemmas
+pub mod DroppedLemmas
 pub mod FlushLemmas
 pub mod OpenLemmas
 pub mod ReadLemmas

@@ -32,7 +32,7 @@ use Rattle.clone_plain.specs.declared.refusal.Cause.TheVariants.{SpaceFull}
 use Rattle.clone_buffer.specs.Writing.{written}
 use Rattle.clone_trx.specs.Calls.{create_way, free_place, begin_way, change_way, change_at, entry_place, grown_way, pages_told, slot_way, get_way, undo_way, undo_last, commit_way, last_change, is_new}
 use Rattle.clone_trx.specs.Places.{told, held_value}
-use Rattle.clone_trx.specs.Ways.{Way, reads, walks, stops, writes, freshens, lengthens, makes, ends, Answers, Goes, Writes, held, page_in}
+use Rattle.clone_trx.specs.Ways.{Way, reads, walks, stops, writes, freshens, lengthens, makes, drops, ends, Answers, Goes, Writes, held, page_in}
 use Rattle.clone_trx.proofs.PlacedLemmas.{change_edits}
 use Rattle.clone_trx.proofs.SpotLemmas.{all_stays}
 use Rattle.clone_engine.specs.Growth.{PagesStay}
@@ -72,7 +72,7 @@ record_stays lsn image (Extend space count) s n keeps there = by (finite.get ima
 record_stays lsn image (Create space count) s n keeps there = absurd keeps
 record_stays lsn image (Drop space) s n keeps there = absurd keeps
 
-records_stay : (lsn : ℕ) (image : Image) (rs : List Record) (s n : ℕ) → AllByRecursion KeepsPages rs → IsSome (page_of image s n) → IsSome (page_of (after_records lsn image rs) s n)
+pub records_stay : (lsn : ℕ) (image : Image) (rs : List Record) (s n : ℕ) → AllByRecursion KeepsPages rs → IsSome (page_of image s n) → IsSome (page_of (after_records lsn image rs) s n)
 records_stay lsn image [] s n keeps there = there
 records_stay lsn image (r ∷ rs) s n keeps there = records_stay lsn (after_record lsn image r) rs s n keeps.1 (record_stays lsn image r s n keeps.0 there)
 
@@ -96,6 +96,7 @@ WritesStay (writes records) = AllByRecursion KeepsPages records
 WritesStay (freshens page rest) = WritesStay rest
 WritesStay (lengthens records rest) = AllByRecursion KeepsPages records × WritesStay rest
 WritesStay (makes records) = ⊥
+WritesStay (drops table pages records) = ⊥
 WritesStay ends = Unit {0}
 
 abbrev log_of : Buffered → List (List Record)
@@ -127,6 +128,7 @@ goes_stay (lengthens records rest) old new result all (inr on) =
     let longer : Buffered = written records old in
     λ s n there. goes_stay rest longer new result all.1 on.1 s n (pushed_stay old.log longer.log records all.0 refl s n there)
 goes_stay (makes records) old new result all made = absurd all
+goes_stay (drops table pages records) old new result all wrote = absurd all
 goes_stay ends old new result all ended = same_stay old.log new.log (ap log_of ended.1)
 
 -- by the answer

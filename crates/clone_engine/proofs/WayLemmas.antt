@@ -7,13 +7,14 @@ use Rattle.clone_mtr.specs.declared.record.Record.{Record}
 use Rattle.clone_mtr.specs.Spelling.{spelling}
 use Rattle.clone_ring.specs.Window.{Window}
 use Rattle.clone_buffer.specs.Buffered.{Buffered}
+use Rattle.clone_buffer.specs.Dropping.{without_pages}
 use Rattle.clone_buffer.specs.Writing.{written}
 use Rattle.clone_recover.specs.Reading.{IsOfTable, AreOfTables}
 use Rattle.clone_plain.specs.declared.refusal.EngineRefusal.{EngineRefusal}
 use Rattle.clone_plain.specs.declared.refusal.EngineRefusal.TheVariants.{Because, NoMemory}
 use Rattle.clone_engine.specs.Growth.{GrowsBy, KeepsRing}
 use Rattle.clone_trx.proofs.SpotLemmas.{all_stays}
-use Rattle.clone_trx.specs.Ways.{Way, reads, walks, stops, writes, freshens, lengthens, makes, ends, Goes, Writes, held, page_in}
+use Rattle.clone_trx.specs.Ways.{Way, reads, walks, stops, writes, freshens, lengthens, makes, drops, ends, Goes, Writes, Drops, WritesWithout, held, page_in}
 
 -- Whatever is read, the way writes so many mini-transactions at most, and in them records of tables
 -- and of the system space alone.
@@ -25,6 +26,7 @@ WritesOfTables most (writes records) = AllByRecursion IsOfTable records × (1 �
 WritesOfTables most (freshens page rest) = WritesOfTables most rest
 WritesOfTables most (lengthens records rest) = AllByRecursion IsOfTable records × (1 ≤ most) × WritesOfTables (most - 1) rest
 WritesOfTables most (makes records) = AllByRecursion IsOfTable records × (1 ≤ most)
+WritesOfTables most (drops table pages records) = AllByRecursion IsOfTable records × (1 ≤ most)
 WritesOfTables most ends = Unit {0}
 
 -- what becomes of a log and its ring
@@ -86,6 +88,18 @@ written_grows most records old new (Ok x) all w = one_grows most records old new
 written_grows most records old new (Err (Because cause)) all w = same_grows most old new w.1
 written_grows most records old new (Err NoMemory) all w = same_grows most old new w.1
 
+-- without the pages of a space
+gone_grows : (most table pages : ℕ) (records : List Record) (old new : Buffered) → AllByRecursion IsOfTable records × (1 ≤ most) → WritesWithout table pages records old new → Grows most old new
+gone_grows most table pages records old new all w =
+    let left : Buffered = without_pages table pages old in
+    around most old left new new refl refl refl refl (one_grows most records left new all.1 all.0 w.1)
+
+dropped_grows : {X : Type 0} (most table pages : ℕ) (records : List Record) (old new : Buffered) (result : Result X EngineRefusal) → AllByRecursion IsOfTable records × (1 ≤ most) → Drops table pages records old new result → Grows most old new
+dropped_grows most table pages records old new (Ok x) all w = gone_grows most table pages records old new all w
+dropped_grows most table pages records old new (Err (Because cause)) all (inl full) = same_grows most old new full.1
+dropped_grows most table pages records old new (Err (Because cause)) all (inr failed) = gone_grows most table pages records old new all failed.1
+dropped_grows most table pages records old new (Err NoMemory) all none = same_grows most old new none.1
+
 -- THE LOG THAT A WAY LEAVES
 pub goes_grows : {X : Type 0} (most : ℕ) (w : Way) (old new : Buffered) (result : Result X EngineRefusal) → WritesOfTables most w → Goes w old new result → Grows most old new
 goes_grows most (reads page rest) old new result all (inl miss) = stays most old new (ap (λ (b : Buffered). b.log) miss.2.same) (ap (λ (b : Buffered). b.ring) miss.2.same)
@@ -115,4 +129,5 @@ goes_grows most (lengthens records rest) old new result all (inr on) =
     and_then 1 (most - 1) most old longer new (omega (arith, all.1)) (one_grows 1 records old longer (omega arith) all.0 refl) (goes_grows (most - 1) rest longer new result all.2 on.1)
 goes_grows most (makes records) old new result all (inl w) = written_grows most records old new result all w
 goes_grows most (makes records) old new result all (inr failed) = same_grows most old new failed.2
+goes_grows most (drops table pages records) old new result all d = dropped_grows most table pages records old new result all d
 goes_grows most ends old new result all ended = same_grows most old new ended.1

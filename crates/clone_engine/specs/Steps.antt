@@ -1,6 +1,7 @@
 -- What the calls of a donor do, by what they answer.
-use Rattle.std.specs.Prelude.{ℕ, ◌≡◌, Bool, true, false, None, Some, IsTrue, Result, Ok, Err}
+use Rattle.std.specs.Prelude.{ℕ, ◌≡◌, ◌⊎◌, Bool, true, false, None, Some, IsTrue, IfOk, Result, Ok, Err, if◌then◌else◌}
 use Rattle.std.specs.declared.option.Option.{Option}
+use Rattle.std.specs.FinMap as finite
 use Rattle.clone_outside.specs.Causes.{Rose}
 use Rattle.clone_ring.specs.Window.{end_of}
 use Rattle.clone_pool.specs.Frames.{frame_at, name_of}
@@ -8,18 +9,21 @@ use Rattle.clone_pool.specs.Pool.{AreNotWaiting, IsNextToFlush}
 use Rattle.clone_buffer.specs.Buffered.{Buffered}
 use Rattle.clone_buffer.specs.Flushing.{IsReached}
 use Rattle.clone_buffer.specs.OnePage.{Copies, NoFilesOf}
-use Rattle.clone_flush.specs.Calls.{Begins, Halves, Lands, after_begin, checked, with_file}
-use Rattle.clone_flush.specs.Flights.{Flights}
+use Rattle.clone_flush.specs.Calls.{Begins, Halves, Lands, after_begin, checked, with_file, without_file}
+use Rattle.clone_flush.specs.Flights.{Flights, HasWriteOf}
 use Rattle.clone_flush.specs.declared.refusal.FlushRefusal.{FlushRefusal}
 use Rattle.clone_flush.specs.declared.refusal.FlushRefusal.TheVariants as flush
 use Rattle.clone_plain.specs.Donor.{Donor}
+use Rattle.clone_plain.specs.Causes.{drop_cause}
 use Rattle.clone_plain.specs.Effects.{Gets, put_of, delete_of}
-use Rattle.clone_plain.specs.Calls.{Call, create, begin, put, delete, get, undo_one, commit, flush_begin, flush_half, flush_land, oldest_dirty, checkpoint, end, Done, did_create, did_get, did_flush_begin, did_flush_half, did_flush_land, did_oldest_dirty, did_checkpoint, did_end, Made, done, refused, call_of, cause_of, Does}
+use Rattle.clone_plain.specs.Calls.{Call, create, drop, begin, put, delete, get, undo_one, commit, flush_begin, flush_half, flush_land, oldest_dirty, checkpoint, end, Done, did_create, did_drop, did_get, did_flush_begin, did_flush_half, did_flush_land, did_oldest_dirty, did_checkpoint, did_end, Made, done, refused, call_of, cause_of, Does}
+use Rattle.clone_plain.specs.declared.refusal.Cause.{Cause}
 use Rattle.clone_plain.specs.declared.refusal.Cause.TheVariants as cause
 use Rattle.clone_plain.specs.declared.refusal.EngineRefusal.{EngineRefusal}
 use Rattle.clone_plain.specs.declared.refusal.EngineRefusal.TheVariants.{Because, NoMemory}
-use Rattle.clone_trx.specs.Calls.{create_way, begin_way, change_way, get_way, undo_way, commit_way}
-use Rattle.clone_trx.specs.Ways.{Way, ends, Answers}
+use Rattle.clone_trx.specs.Calls.{create_way, drop_way, begin_way, change_way, get_way, undo_way, commit_way}
+use Rattle.clone_trx.specs.Ways as ways
+use Rattle.clone_trx.specs.Ways.{Way, ends, Answers, CarriesDrop}
 use Rattle.clone_engine.specs.Growth.{GrowsBy}
 use Rattle.clone_engine.specs.Disks.{DiskState, Visits}
 use Rattle.clone_engine.specs.Engine.{Engine, StandsBeside, state_of}
@@ -33,6 +37,7 @@ answer_of did (Err refusal) = Err refusal
 -- the way over pages of a call of transactions
 abbrev pub way_of : Donor → Call → Way
 way_of d (create table buckets) = create_way table buckets
+way_of d (drop table) = drop_way table
 way_of d (begin writer index) = begin_way d writer index
 way_of d (put trx table key value) = change_way d trx (put_of table key value)
 way_of d (delete trx table key) = change_way d trx (delete_of table key)
@@ -87,6 +92,31 @@ pub record Transacts (call : Call) (s t : Engine) (answer : Result Done EngineRe
     : Type 0 where
   pub goes : Goes call s t answer
   pub flights : t.flights ≡ flown answer s.flights
+  pub disk : Serves s.disk t.disk answer
+
+-- The files, where a table may have been dropped: that of a table which is gone isn't known any
+-- more.
+abbrev pub left_by : Donor → ℕ → Flights → Flights
+left_by d table f = if finite.contains_key d.tables table then f else without_file table f
+
+-- A drop goes its way, with no page of the table on its way to the disk.
+pub record GoesDrop (table : ℕ) (s t : Engine) (answer : Result Done EngineRefusal) : Type 0 where
+  pub quiet : ¬ HasWriteOf table s.flights
+  pub way : ways.Goes (way_of s.donor (drop table)) s.buffer t.buffer answer
+  pub donor : CarriesDrop table s.donor t.donor s.buffer t.buffer answer
+  pub flights : t.flights ≡ left_by t.donor table s.flights
+  pub did : IfOk answer (λ did. did ≡ did_drop table)
+
+-- It is refused for the plain donor's cause, and then where a page of the table is on its way.
+abbrev pub AnswersDrop : Option Cause → ℕ → Engine → Engine → Result Done EngineRefusal → Type 0
+AnswersDrop (Some why) table s t answer = (answer ≡ Err (Because why)) × (t ≡ s)
+AnswersDrop None table s t answer =
+    (HasWriteOf table s.flights × (answer ≡ Err (Because cause.InFlight)) × (t ≡ s))
+    ⊎ GoesDrop table s t answer
+
+-- A DROP of a table
+pub record Drops (table : ℕ) (s t : Engine) (answer : Result Done EngineRefusal) : Type 0 where
+  pub answers : AnswersDrop (drop_cause s.donor table) table s t answer
   pub disk : Serves s.disk t.disk answer
 
 -- why a flush is refused, as the donor answers it
@@ -147,6 +177,7 @@ ChecksAt s t did = ⊥
 
 -- THE STEP OF A CALL, by what it answers
 abbrev pub Steps : Call → Engine → Engine → Result Done EngineRefusal → Type 0
+Steps (drop table) s t answer = Drops table s t answer
 Steps (flush_begin space page) s t answer =
     Flushes (did_flush_begin space page) s t answer
     (Begins (record { space = space; number = page }) (state_of s) (state_of t)
@@ -171,9 +202,11 @@ has_begun (Err (Because cause.DiskFault)) = true
 has_begun (Err refusal) = false
 
 -- WHAT A CLONE HAS of each page goes on beside the pages. The tracker notes a page whose flush
--- begins. A table may be made while no clone is in the FILE COPY of its space.
+-- begins. A table may be made or dropped while no clone is in the FILE COPY of its space.
 abbrev pub KeepsCopies : Call → Engine → Engine → Result Done EngineRefusal → Type 0
 KeepsCopies (create table buckets) s t answer =
+    (copies : Copies) → NoFilesOf table copies → StandsBeside s copies → StandsBeside t copies
+KeepsCopies (drop table) s t answer =
     (copies : Copies) → NoFilesOf table copies → StandsBeside s copies → StandsBeside t copies
 KeepsCopies (flush_begin space page) s t answer =
     (copies : Copies) → StandsBeside s copies → StandsBeside t

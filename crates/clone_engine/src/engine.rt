@@ -1,6 +1,6 @@
 //! The state of an engine. Between calls no frame is pinned, and the pages stand over the disk
 //! where that tells what it holds.
-ghost use Rattle.std.specs.Prelude.{◌≡◌, ◌<◌, ◌^◌, [], length, option_copied};
+ghost use Rattle.std.specs.Prelude.{◌≡◌, ◌<◌, ◌^◌, length, option_copied};
 ghost use Rattle.std.specs.FinMap as finite;
 ghost use Rattle.clone_pool.specs.Pool.{IsPool};
 ghost use Rattle.clone_buffer.specs.Buffered.{IsBuffer};
@@ -11,7 +11,7 @@ ghost use Rattle.clone_engine.specs.Engine.{IsEngine};
 
 use clone_buffer::Buffer;
 use clone_flush::Flusher;
-use clone_model::{Binlog, Commit};
+use clone_model::{Binlog, Commit, Drops};
 use clone_outside::{DiskOrder, PageDisk};
 use clone_trx::Transactions;
 use std::alloc::AllocError;
@@ -65,6 +65,20 @@ impl<D: PageDisk> Engine<D> {
         self.transactions.binlog()
     }
 
+    /// The drops of tables in their order.
+    pub fn drops(&self) -> &Drops
+        ensures { result.now.list ≡ self.now.donor.drops }
+    {
+        self.transactions.drops()
+    }
+
+    /// Whether a table has this number.
+    pub fn has_table(&self, table: u32) -> bool
+        ensures { result ≡ finite.contains_key self.now.donor.tables table }
+    {
+        self.transactions.has_table(table)
+    }
+
     /// The open transaction of this number, as the commit that it would be, or none where none is
     /// open.
     pub fn transaction(&self, trx: u32) -> Option<&Commit>
@@ -89,28 +103,28 @@ impl<D: PageDisk> Engine<D> {
         self.disk.order(order)
     }
 
-    /// Gives the disk back.
-    pub fn into_disk(self) -> D
-        ensures told { D.told result ≡ self.disk.told }
-        ensures failures { D.failures result ≡ self.disk.failures }
-        ensures orders { D.orders result ≡ self.disk.orders }
+    /// Gives the disk back, and the drops.
+    pub fn into_disk(self) -> (D, Drops)
+        ensures told { D.told result.0 ≡ self.disk.told }
+        ensures failures { D.failures result.0 ≡ self.disk.failures }
+        ensures orders { D.orders result.0 ≡ self.disk.orders }
+        ensures drops { result.1.list ≡ self.donor.drops }
     {
         let Engine {
-            transactions: _,
+            transactions,
             buffer: _,
             flusher: _,
             disk,
         } = self;
-        disk
+        (disk, transactions.into_drops())
     }
 
-    /// What holds of every engine. No table was dropped.
+    /// What holds of every engine.
     pub fn laws(&self)
         ensures engine { IsEngine self.now }
         ensures buffer { IsBuffer self.now.buffer }
         ensures pool { IsPool self.now.buffer.pool }
         ensures safe { IsSafe self.now.donor }
-        ensures drops { self.now.donor.drops ≡ [] }
         ensures few { length self.now.buffer.pool.frames < 2 ^ 32 }
     {
         self.transactions.laws();

@@ -1,15 +1,17 @@
 ghost use Rattle.std.specs.Prelude.{◌≡◌, ◌≢◌, Err};
 ghost use Rattle.clone_plain.specs.Calls as call;
-ghost use Rattle.clone_plain.specs.Calls.{did_create, did_begin, did_put, did_delete, did_get, did_undo_one, did_commit};
+ghost use Rattle.clone_plain.specs.Calls.{did_create, did_drop, did_begin, did_put, did_delete, did_get, did_undo_one, did_commit};
 ghost use Rattle.clone_plain.specs.declared.refusal.EngineRefusal.TheVariants.{NoMemory};
 ghost use Rattle.clone_trx.specs.Kept.{KeptBetween};
 ghost use Rattle.clone_engine.specs.Growth.{GrowsBy, KeepsRing, PagesStay};
-ghost use Rattle.clone_engine.specs.Steps.{KeepsCopies, Steps, answer_of};
+ghost use Rattle.clone_engine.specs.Steps.{KeepsCopies, Steps, answer_of, left_by};
 
 use crate::Engine;
+use clone_flush::Flusher;
 use clone_model::{BucketCount, TableNumber, Value};
 use clone_outside::PageDisk;
 use clone_plain::{Cause, EngineRefusal, Undone};
+use clone_trx::Transactions;
 use std::alloc::Global;
 
 // The calls of transactions.
@@ -45,6 +47,29 @@ impl<D: PageDisk> Engine<D> {
                 Err(refusal)
             }
         }
+    }
+
+    /// Drops a table with its pages and its file. Refused where there is none, where an open
+    /// transaction holds the lock of a row of it, and where a page of it is on its way to the disk.
+    /// Where the disk fails to remove the file, the table is gone all the same.
+    pub fn drop_table(&mut self, table: u32) -> Result<(), EngineRefusal>
+        ensures step { Steps (call.drop table) self.old self.new
+            (answer_of (λ _. did_drop table) result) }
+        ensures copies { KeepsCopies (call.drop table) self.old self.new
+            (answer_of (λ _. did_drop table) result) }
+        ensures log { GrowsBy 1 self.old.buffer.log self.new.buffer.log }
+        ensures ring { KeepsRing self.old.buffer.ring self.new.buffer.ring }
+    {
+        self.transactions.laws();
+        self.transactions.check_drop(table)?;
+        if self.flusher.write_under_way(table) {
+            return Err(Cause::InFlight.into());
+        }
+        let dropped = self
+            .transactions
+            .drop_table(&mut self.buffer, table, &mut self.disk);
+        forget_dropped(&mut self.flusher, &self.transactions, table);
+        dropped
     }
 
     /// Begins a transaction of a writer, which is its transaction of this index, and answers the
@@ -144,5 +169,14 @@ impl<D: PageDisk> Engine<D> {
         self.buffer.laws();
         self.transactions
             .commit(&mut self.buffer, trx, &mut self.disk)
+    }
+}
+
+// The file of a table that was dropped isn't known any more.
+fn forget_dropped(flusher: &mut Flusher, transactions: &Transactions, table: u32)
+    ensures { flusher.new ≡ left_by transactions.now table flusher.old }
+{
+    if !transactions.has_table(table) {
+        flusher.file_gone(table);
     }
 }

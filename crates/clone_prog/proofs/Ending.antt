@@ -7,14 +7,15 @@ use Rattle.clone_outside.specs.Causes.{Rose}
 use Rattle.clone_outside.specs.Bytes.{appended}
 use Rattle.clone_outside.specs.Disk.{DiskImage}
 use Rattle.clone_outside.specs.declared.disk.DiskOrder.{DiskOrder}
+use Rattle.clone_model.specs.History.{Drops}
 use Rattle.clone_model.specs.Texts.{ended, binlog_text}
 use Rattle.clone_model.specs.declared.config.Config.{Config}
 use Rattle.clone_script.specs.declared.lines.Line.{Line}
 use Rattle.clone_plain.specs.Answers.{Text}
 use Rattle.clone_events.specs.Events.{Event, recipient_fault}
-use Rattle.clone_events.specs.Headline.{AreCommits, AreSets, ShowsStop, all_events, donor_order, recipient_order}
+use Rattle.clone_events.specs.Headline.{AreCommits, AreDrops, AreSets, ShowsStop, all_events, donor_order, recipient_order}
 use Rattle.clone_events.specs.Runs.{output}
-use Rattle.clone_events.specs.World.{no_clone}
+use Rattle.clone_events.specs.World.{Stop, no_clone}
 use Rattle.clone_engine.specs.Disks.{DiskState, Visits}
 use Rattle.clone_core.specs.System.{donor_of}
 use Rattle.clone_core.specs.Lines.{State, IsNew, Runs}
@@ -32,7 +33,7 @@ use Rattle.clone_prog.specs.Carrying.{AnsweredAll, Stopped, in_lines, in_binlog}
 use Rattle.clone_prog.specs.Ended.{EndsLines}
 use Rattle.clone_prog.specs.Looking.{IsUnread, IsUnready}
 use Rattle.clone_prog.specs.Saying.{Says, SaysUnread, SaysUnready}
-use Rattle.clone_prog.specs.Main.{End, disk_of, ends, Ends, IsUntouched, IsRead, IsSaid, WereEmpty, Carried, Steps, Due, Front, Outcome}
+use Rattle.clone_prog.specs.Main.{End, disk_of, ends, Ends, TellsNothing, IsUntouched, IsRead, IsSaid, WereEmpty, Carried, Steps, Due, Front, Outcome}
 
 -- all that was due by a status was written
 abbrev Whole : Status → List (List ℕ) → Ends → Ends → Type 0
@@ -76,15 +77,15 @@ not_read words old new unread.Memory got is kept says same = silent words old ne
 
 -- its lines weren't begun
 pub not_begun : (words : List (List ℕ)) (old new : Ends) (config : Config) (lines : List Line) (why : Unready) (got : Status) → IsRead words old.source new.source config lines
-    → IsUnready old.donor old.recipient new.donor new.recipient why
+    → IsUnready old.donor old.recipient new.donor new.recipient why → TellsNothing new
     → SaysUnready why got old.out.told new.out.told old.out.faults new.out.faults → new.binlog.told ≡ old.binlog.told → Outcome got words old new
-not_begun words old new config lines unready.DonorFault got read is says same =
-    said words old new DonorFault got (codes "donor disk fault") says same (config, lines, read, record { donor = is.0; recipient = is.1 }, is.2, is_said (codes "donor disk fault")) (λ w. w)
-not_begun words old new config lines unready.RecipientFault got read is says same =
-    said words old new RecipientFault got recipient_fault says same (inl (config, lines, read, record { donor = is.0; recipient = is.1 }, is.2, is_said recipient_fault)) (λ w. w)
-not_begun words old new config lines unready.NotEmpty got read is says same =
-    said words old new NotEmpty got (codes "not empty") says same (config, lines, read, record { donor = is.0; recipient = is.1 }, is.2, is_said (codes "not empty")) (λ w. w)
-not_begun words old new config lines unready.Memory got read is says same = silent words old new got says.0 says.1 same
+not_begun words old new config lines unready.DonorFault got read is nothing says same =
+    said words old new DonorFault got (codes "donor disk fault") says same (config, lines, read, record { donor = is.0; recipient = is.1; nothing = nothing }, is.2, is_said (codes "donor disk fault")) (λ w. w)
+not_begun words old new config lines unready.RecipientFault got read is nothing says same =
+    said words old new RecipientFault got recipient_fault says same (inl (config, lines, read, record { donor = is.0; recipient = is.1; nothing = nothing }, is.2, is_said recipient_fault)) (λ w. w)
+not_begun words old new config lines unready.NotEmpty got read is nothing says same =
+    said words old new NotEmpty got (codes "not empty") says same (config, lines, read, record { donor = is.0; recipient = is.1; nothing = nothing }, is.2, is_said (codes "not empty")) (λ w. w)
+not_begun words old new config lines unready.Memory got read is nothing says same = silent words old new got says.0 says.1 same
 
 -- a world was begun over the disks
 pub record Began (old : Ends) (first : State) : Type 0 where
@@ -97,26 +98,32 @@ pub record Began (old : Ends) (first : State) : Type 0 where
 pub record Left (new : Ends) (final : State) : Type 0 where
   pub donor : new.donor ≡ final.donor.donor.engine.disk
   pub recipient : new.recipient ≡ final.donor.recipient
+  pub drops : new.drops ≡ (donor_of final.donor).drops
+  pub stop : new.stop ≡ final.clone.stop
   pub clone : KeepsClone (donor_of final.donor) final.tells final.clone final.donor.recipient.told
 
 -- a disk, by what is told of it
 same_disk : (told : Option DiskImage) (failures : ℕ) (orders : List DiskOrder) (d : DiskState) → told ≡ d.told → failures ≡ d.failures → orders ≡ d.orders → disk_of told failures orders ≡ d
 same_disk told failures orders d t f o = λ i. record { told = t i; failures = f i; orders = o i }
 
-pub left_so : (source out binlog : End) (final : State) (a b : Option DiskImage) (m n : ℕ) (xs ys : List DiskOrder)
+pub left_so : (source out binlog : End) (final : State) (a b : Option DiskImage) (m n : ℕ) (xs ys : List DiskOrder) (drops : Drops) (stop : Option Stop)
     → a ≡ final.donor.donor.engine.disk.told → m ≡ final.donor.donor.engine.disk.failures → xs ≡ final.donor.donor.engine.disk.orders
     → b ≡ final.donor.recipient.told → n ≡ final.donor.recipient.failures → ys ≡ final.donor.recipient.orders
+    → drops ≡ (donor_of final.donor).drops → stop ≡ final.clone.stop
     → KeepsClone (donor_of final.donor) final.tells final.clone final.donor.recipient.told
-    → Left (ends source out binlog (disk_of a m xs) (disk_of b n ys)) final
-left_so source out binlog final a b m n xs ys da dm dx rb rn ry holds = record {
+    → Left (ends source out binlog (disk_of a m xs) (disk_of b n ys) drops stop) final
+left_so source out binlog final a b m n xs ys drops stop da dm dx rb rn ry dropped stopped holds = record {
   donor = same_disk a m xs final.donor.donor.engine.disk da dm dx;
   recipient = same_disk b n ys final.donor.recipient rb rn ry;
+  drops = dropped;
+  stop = stopped;
   clone = holds;
 }
 
 -- what holds of each run from a world
 pub record LawsFrom (first : State) : Type 0 where
   pub commits : (lines : List Line) (events : List (List Event)) (t : State) → Runs first lines events t → AreCommits (all_events events) (donor_of t.donor).binlog
+  pub dropped : (lines : List Line) (events : List (List Event)) (t : State) → Runs first lines events t → AreDrops 0 (all_events events) (donor_of t.donor).drops
   pub sets : (lines : List Line) (events : List (List Event)) (t : State) → Runs first lines events t → AreSets lines events (donor_of t.donor).binlog
   pub stop : (lines : List Line) (events : List (List Event)) (t : State) → Runs first lines events t → ShowsStop (donor_of t.donor).binlog (donor_of t.donor).drops t.tells no_clone (all_events events)
   pub donor_orders : (lines : List Line) (events : List (List Event)) (t : State) → Runs first lines events t → t.donor.donor.engine.disk.orders ≡ first.donor.donor.engine.disk.orders ++ filter_map donor_order lines
@@ -143,12 +150,15 @@ steps words old new config lines first final read began laws left is = record {
   empty = began.empty;
   run = record { first = first; new = began.new; donor = began.donor; recipient = began.recipient; run = is.run };
   commits = laws.commits lines is.events final is.run;
+  dropped = laws.dropped lines is.events final is.run;
   sets = laws.sets lines is.events final is.run;
   shows = laws.stop lines is.events final is.run;
   answers = refl;
   texts = refl;
   donor = left.donor;
   recipient = left.recipient;
+  drops = left.drops;
+  stop = left.stop;
   donor_orders = orders_since _ _ _ _ _ began.donor left.donor (laws.donor_orders lines is.events final is.run);
   recipient_orders = orders_since _ _ _ _ _ began.recipient left.recipient (laws.recipient_orders lines is.events final is.run);
   tells = laws.tells lines is.events final is.run ∙ began.new.tells ∙ both_tell old old _ _ began.donor began.recipient;

@@ -1,6 +1,6 @@
 -- What a run of the program is: when each status comes, what was written by then, and what the disks
 -- hold.
-use Rattle.std.specs.Prelude.{ℕ, ◌≡◌, ◌⊎◌, ◌<◌, ◌≤◌, ◌&&◌, is_some, List, [], ◌∷◌, ◌++◌, length, take, codes}
+use Rattle.std.specs.Prelude.{ℕ, ◌≡◌, ◌⊎◌, ◌<◌, ◌≤◌, ◌&&◌, is_some, List, [], ◌∷◌, ◌++◌, length, take, codes, None}
 use Rattle.std.specs.Fmt.{decimal}
 use Rattle.std.specs.List.{filter_map}
 use Rattle.std.specs.declared.option.Option.{Option}
@@ -8,14 +8,15 @@ use Rattle.clone_outside.specs.Causes.{Rose}
 use Rattle.clone_outside.specs.Bytes.{appended, prepended, IsSpent, TakesSome}
 use Rattle.clone_outside.specs.Disk.{DiskImage, ForTold, blank}
 use Rattle.clone_outside.specs.declared.disk.DiskOrder.{DiskOrder}
+use Rattle.clone_model.specs.History.{Drops}
 use Rattle.clone_model.specs.Texts.{ended, binlog_text}
 use Rattle.clone_model.specs.declared.config.Config.{Config}
 use Rattle.clone_script.specs.declared.lines.Line.{Line}
 use Rattle.clone_plain.specs.Answers.{Text}
 use Rattle.clone_events.specs.Events.{Event, recipient_fault}
 use Rattle.clone_events.specs.Runs.{output}
-use Rattle.clone_events.specs.World.{no_clone}
-use Rattle.clone_events.specs.Headline.{AreCommits, AreSets, ShowsStop, all_events, donor_order, recipient_order}
+use Rattle.clone_events.specs.World.{Stop, no_clone}
+use Rattle.clone_events.specs.Headline.{AreCommits, AreDrops, AreSets, ShowsStop, all_events, donor_order, recipient_order}
 use Rattle.clone_engine.specs.Disks.{DiskState, Visits}
 use Rattle.clone_engine.specs.Opened.{IsNotEmpty}
 use Rattle.clone_core.specs.System.{donor_of}
@@ -33,13 +34,16 @@ pub record End : Type 0 where
   pub told : Option (List ℕ)
   pub faults : ℕ
 
--- the source, the sinks and the disks before a run, or after it
+-- the source, the sinks and the disks before a run, or after it, and what a donor tells by then: the
+-- drops of its tables, and the stop of its clone
 pub record Ends : Type 0 where
   pub source : End
   pub out : End
   pub binlog : End
   pub donor : DiskState
   pub recipient : DiskState
+  pub drops : Drops
+  pub stop : Option Stop
 
 abbrev pub end_of : Option (List ℕ) → ℕ → End
 end_of told faults = record { told = told; faults = faults }
@@ -47,14 +51,21 @@ end_of told faults = record { told = told; faults = faults }
 abbrev pub disk_of : Option DiskImage → ℕ → List DiskOrder → DiskState
 disk_of told failures orders = record { told = told; failures = failures; orders = orders }
 
-abbrev pub ends : End → End → End → DiskState → DiskState → Ends
-ends source out binlog donor recipient = record {
+abbrev pub ends : End → End → End → DiskState → DiskState → Drops → Option Stop → Ends
+ends source out binlog donor recipient drops stop = record {
   source = source;
   out = out;
   binlog = binlog;
   donor = donor;
   recipient = recipient;
+  drops = drops;
+  stop = stop;
 }
+
+-- no donor was opened
+pub record TellsNothing (e : Ends) : Type 0 where
+  pub drops : e.drops ≡ []
+  pub stop : e.stop ≡ None
 
 -- the words of a command line
 abbrev pub IsCommand : List (List ℕ) → Type 0
@@ -85,6 +96,7 @@ pub record IsRead (words : List (List ℕ)) (before after : End) (config : Confi
 pub record IsUntouched (before after : Ends) : Type 0 where
   pub donor : after.donor ≡ before.donor
   pub recipient : after.recipient ≡ before.recipient
+  pub nothing : TellsNothing after
 
 -- a disk was asked and wasn't written: it tells what it told, and got no order
 pub record Looks (before after : DiskState) : Type 0 where
@@ -96,11 +108,13 @@ pub record Looks (before after : DiskState) : Type 0 where
 pub record LooksAtDisks (before after : Ends) : Type 0 where
   pub donor : Looks before.donor after.donor
   pub recipient : Looks before.recipient after.recipient
+  pub nothing : TellsNothing after
 
 -- the recipient's disk was, and the donor's got no order
 pub record LooksAtRecipient (before after : Ends) : Type 0 where
   pub donor : Visits before.donor after.donor
   pub recipient : Looks before.recipient after.recipient
+  pub nothing : TellsNothing after
 
 -- as far as the disks tell what they hold, they held no space and no mark
 pub record WereEmpty (before : Ends) : Type 0 where
@@ -124,7 +138,8 @@ pub record Carried (before : Ends) (lines : List Line) (events : List (List Even
 -- The script was carried out to its end. The output is the answers of its lines, whose events are a
 -- run of a donor over a disk, and so of the plain donor. The binlog is the text of the commits of
 -- that run: one for each position that was answered, in order, that of a `set` with its one change.
--- Where a clone is complete at position n, that is at least what was looked up before its stop; the
+-- The drops are those that were answered, each behind the commits before it, and maybe those in which
+-- the disk failed. Where a clone is complete at position n, that is at least what was looked up before its stop; the
 -- rows shown behind it are, in ascending order, exactly those that the first n commits leave, with
 -- the tables dropped before it, and nothing of a transaction that was open then; and the
 -- recipient's disk holds a complete clone at n, which recovers to these rows whenever it is
@@ -138,6 +153,7 @@ pub record Steps (words : List (List ℕ)) (before after : Ends) (final : State)
   pub empty : WereEmpty before
   pub run : Carried before lines events final
   pub commits : AreCommits (all_events events) (donor_of final.donor).binlog
+  pub dropped : AreDrops 0 (all_events events) (donor_of final.donor).drops
   pub sets : AreSets lines events (donor_of final.donor).binlog
   pub shows : ShowsStop (donor_of final.donor).binlog (donor_of final.donor).drops final.tells
       no_clone (all_events events)
@@ -145,6 +161,8 @@ pub record Steps (words : List (List ℕ)) (before after : Ends) (final : State)
   pub texts : binlog ≡ binlog_text (donor_of final.donor).binlog
   pub donor : after.donor ≡ final.donor.donor.engine.disk
   pub recipient : after.recipient ≡ final.donor.recipient
+  pub drops : after.drops ≡ (donor_of final.donor).drops
+  pub stop : after.stop ≡ final.clone.stop
   pub donor_orders : after.donor.orders
       ≡ before.donor.orders ++ filter_map donor_order lines
   pub recipient_orders : after.recipient.orders

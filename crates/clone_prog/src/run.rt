@@ -1,4 +1,4 @@
-ghost use Rattle.std.specs.Prelude.{◌≡◌, ◌++◌, ◌⊎◌, ◌^◌, ◌-◌, ◌≤◌, ℕ, Err, List, IfErr, IfOk, OnOk, OnErr, IsErrOf, codes, map};
+ghost use Rattle.std.specs.Prelude.{◌≡◌, ◌++◌, ◌⊎◌, ◌^◌, ◌-◌, ◌≤◌, ℕ, [], Err, List, IfErr, IfOk, None, OnOk, OnErr, IsErrOf, codes, map, option_map};
 ghost use Rattle.std.specs.Fmt.{decimal};
 ghost use Rattle.std.specs.String.{string_bytes};
 ghost use Rattle.clone_outside.specs.Causes.{HasCause, Rose};
@@ -8,6 +8,7 @@ ghost use Rattle.clone_engine.specs.Opened.{IsNotEmpty};
 ghost use Rattle.clone_model.specs.Config.{IsConfig};
 ghost use Rattle.clone_model.specs.Texts.{ended};
 ghost use Rattle.clone_events.specs.World.{IsWithin};
+ghost use Rattle.clone_core.specs.Copied.{stop_of};
 ghost use Rattle.clone_core.specs.System.{donor_of};
 ghost use Rattle.clone_core.specs.Lines.{IsNew};
 ghost use Rattle.clone_prog.specs.Carrying.{Answered, AnsweredAll, AnsweredSome, Finished, Stopped, StoppedAtLine};
@@ -22,12 +23,13 @@ use crate::status::Status;
 use clone_core::{World, run_laws};
 use clone_donor::Donor;
 use clone_engine::{OpenCause, OpenRefusal, is_empty};
-use clone_model::{Config, binlog_text};
+use clone_model::{Config, Drops, binlog_text};
 use clone_outside::{PageDisk, Refusal, Sink, Source, write_all};
 use clone_script::{Line, Script};
+use clone_session::Stop;
 use std::alloc::Global;
 
-/// How a run ended, and the disks that it was given.
+/// How a run ended, the disks that it was given, and what its donor told of drops and of a stop.
 #[derive(Drop)]
 pub struct Ended<D, R> {
     /// The status.
@@ -36,6 +38,10 @@ pub struct Ended<D, R> {
     pub donor: D,
     /// The recipient's disk.
     pub recipient: R,
+    /// The drops of tables: none where no donor was opened.
+    pub drops: Drops,
+    /// The stop of the clone, if it came to that.
+    pub stop: Option<Stop>,
 }
 
 /// Runs the program: reads the script that the words ask for from the source, carries out its lines
@@ -56,23 +62,46 @@ pub fn clone_main<S: Source, K: Sink, B: Sink, D: PageDisk, R: PageDisk>(
         (end_of (K.taken out.old) (K.failures out.old))
         (end_of (B.taken binlog.old) (B.failures binlog.old))
         (disk_of (D.told donor) (D.failures donor) (D.orders donor))
-        (disk_of (R.told recipient) (R.failures recipient) (R.orders recipient)))
+        (disk_of (R.told recipient) (R.failures recipient) (R.orders recipient)) [] None)
         (ends (end_of (S.left source.new) (S.failures source.new))
         (end_of (K.taken out.new) (K.failures out.new))
         (end_of (B.taken binlog.new) (B.failures binlog.new))
         (disk_of (D.told result.donor) (D.failures result.donor) (D.orders result.donor))
         (disk_of (R.told result.recipient) (R.failures result.recipient)
-        (R.orders result.recipient))) }
+        (R.orders result.recipient)) result.drops.list (option_map stop_of result.stop)) }
 {
-    let (status, donor, recipient) = match read_words(alloc, words, source) {
+    let Left {
+        status,
+        donor,
+        recipient,
+        drops,
+        stop,
+    } = match read_words(alloc, words, source) {
         Ok(script) => run_script(alloc, &script, out, binlog, donor, recipient),
-        Err(unread) => (say_unread(alloc, out, unread), donor, recipient),
+        Err(unread) => Left {
+            status: say_unread(alloc, out, unread),
+            donor,
+            recipient,
+            drops: Drops::new(alloc),
+            stop: None,
+        },
     };
     Ended {
         status: status.number(),
         donor,
         recipient,
+        drops,
+        stop,
     }
+}
+
+/// What a run leaves, with its status as it is.
+struct Left<D, R> {
+    status: Status,
+    donor: D,
+    recipient: R,
+    drops: Drops,
+    stop: Option<Stop>,
 }
 
 /// Why the lines of a script aren't begun.
@@ -103,19 +132,20 @@ fn run_script<K: Sink, B: Sink, D: PageDisk, R: PageDisk>(
     binlog: &mut B,
     donor: D,
     recipient: R,
-) -> (Status, D, R)
+) -> Left<D, R>
     requires config { IsConfig script.now.config }
     ensures { (words : List (List ℕ)) (before after : End)
         → IsRead words before after script.now.config script.now.lines.items
-        → Outcome result.0 words
+        → Outcome result.status words
         (ends before (end_of (K.taken out.old) (K.failures out.old))
         (end_of (B.taken binlog.old) (B.failures binlog.old))
         (disk_of (D.told donor) (D.failures donor) (D.orders donor))
-        (disk_of (R.told recipient) (R.failures recipient) (R.orders recipient)))
+        (disk_of (R.told recipient) (R.failures recipient) (R.orders recipient)) [] None)
         (ends after (end_of (K.taken out.new) (K.failures out.new))
         (end_of (B.taken binlog.new) (B.failures binlog.new))
-        (disk_of (D.told result.1) (D.failures result.1) (D.orders result.1))
-        (disk_of (R.told result.2) (R.failures result.2) (R.orders result.2))) }
+        (disk_of (D.told result.donor) (D.failures result.donor) (D.orders result.donor))
+        (disk_of (R.told result.recipient) (R.failures result.recipient)
+        (R.orders result.recipient)) result.drops.list (option_map stop_of result.stop)) }
 {
     let mut world = match begin(alloc, script.config, donor, recipient) {
         Ok(world) => world,
@@ -125,13 +155,28 @@ fn run_script<K: Sink, B: Sink, D: PageDisk, R: PageDisk>(
                 donor,
                 recipient,
             },
-        ) => return (say_unready(out, why), donor, recipient),
+        ) => {
+            return Left {
+                status: say_unready(out, why),
+                donor,
+                recipient,
+                drops: Drops::new(alloc),
+                stop: None,
+            };
+        }
     };
     let status = run_lines(alloc, &script.lines, out, binlog, &mut world);
     run_laws();
     world.laws();
-    let (donor, recipient) = world.into_disks();
-    (status, donor, recipient)
+    let stop = world.stop();
+    let (donor, recipient, drops) = world.into_disks();
+    Left {
+        status,
+        donor,
+        recipient,
+        drops,
+        stop,
+    }
 }
 
 /// Looks whether both disks are empty, and opens a donor over the one.

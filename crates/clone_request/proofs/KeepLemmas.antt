@@ -8,7 +8,7 @@ use Rattle.clone_chunk.specs.declared.chunk.Chunk.{Chunk}
 use Rattle.clone_chunk.specs.declared.chunk.Chunk.TheVariants.{Finished}
 use Rattle.clone_snapshot.specs.StageLists as lists
 use Rattle.clone_snapshot.specs.StageLists.{StageList}
-use Rattle.clone_plain.specs.Calls.{Call, create, begin, put, delete, get, undo_one, commit, flush_begin, flush_half, flush_land, oldest_dirty, checkpoint, end, Done, did_oldest_dirty, did_checkpoint, did_end}
+use Rattle.clone_plain.specs.Calls.{Call, create, drop as drop_call, begin, put, delete, get, undo_one, commit, flush_begin, flush_half, flush_land, oldest_dirty, checkpoint, end, Done, did_oldest_dirty, did_checkpoint, did_end}
 use Rattle.clone_plain.specs.Donor as plain
 use Rattle.clone_plain.specs.declared.refusal.EngineRefusal.{EngineRefusal}
 use Rattle.clone_session.specs.Cloning.{Cloning, Session}
@@ -22,7 +22,7 @@ use Rattle.clone_engine.proofs.DiskLemmas.{for_told}
 use Rattle.clone_donor.specs.Acts as act
 use Rattle.clone_donor.specs.Acts.{Act, Acts, Does, after_act}
 use Rattle.clone_donor.specs.Donor.{Donor}
-use Rattle.clone_donor.specs.Serving.{AnswersCall, Creates, Serves, ServesAs, noted_by, taken_by}
+use Rattle.clone_donor.specs.Serving.{AnswersCall, Creates, Drops, Serves, ServesAs, noted_by, taken_by}
 use Rattle.clone_donor.specs.Taken.{IsTaken, Taken}
 use Rattle.clone_donor.proofs.ToldLemmas.{told_stays}
 use Rattle.clone_request.specs.Advancing.{IsOutside}
@@ -99,6 +99,7 @@ same_tells s t is = ap (λ (e : Engine). is_some e.disk.told) is
 
 steps_tells : (call : Call) (d : Donor) (e : Engine) (answer : Result Done EngineRefusal) → ServesAs call d e answer → Tells d.engine e
 steps_tells (create table buckets) d e answer steps = steps.disk.visits.tells
+steps_tells (drop_call table) d e answer steps = steps.disk.visits.tells
 steps_tells (begin writer index) d e answer steps = steps.disk.visits.tells
 steps_tells (put trx table key value) d e answer steps = steps.disk.visits.tells
 steps_tells (delete trx table key) d e answer steps = steps.disk.visits.tells
@@ -124,15 +125,23 @@ module _ (d t : Donor) where
   serves : (call : Call) (answer : Result Done EngineRefusal) → Serves call d t answer → Spares
   serves call answer did = record { leaves = leaves_noted call answer d.cloning t.cloning did.cloning; tells = steps_tells call d t.engine answer did.steps }
 
+  nothing : t ≡ d → Spares
+  nothing same = record {
+    leaves = leaves_same d.cloning t.cloning (ap (λ (x : Donor). x.cloning) same);
+    tells = same_tells d.engine t.engine (ap (λ (x : Donor). x.engine) same);
+  }
+
   creates : (o : Option Session) (table buckets : ℕ) (answer : Result Done EngineRefusal) → Creates o table buckets d t answer → Spares
   creates None table buckets answer did = serves (create table buckets) answer did
-  creates (Some s) table buckets answer did = record {
-    leaves = leaves_same d.cloning t.cloning (ap (λ (x : Donor). x.cloning) did.1);
-    tells = same_tells d.engine t.engine (ap (λ (x : Donor). x.engine) did.1);
-  }
+  creates (Some s) table buckets answer did = nothing did.1
+
+  drops : (o : Option Session) (table : ℕ) (answer : Result Done EngineRefusal) → Drops o table d t answer → Spares
+  drops None table answer did = serves (drop_call table) answer did
+  drops (Some s) table answer did = nothing did.1
 
   calls : (call : Call) (answer : Result Done EngineRefusal) → AnswersCall call d t answer → Spares
   calls (create table buckets) answer did = creates d.cloning.session table buckets answer did
+  calls (drop_call table) answer did = drops d.cloning.session table answer did
   calls call answer did = serves call answer did
 
   archives : (limit : ℕ) (reached : Option ℕ) → Archives {E = Unit {0}} limit d.engine.buffer.ring d.cloning t.cloning (Ok reached) → Leaves d.cloning t.cloning

@@ -1,11 +1,14 @@
 use Rattle.clone_events.specs.Events.{to_donor, to_recipient}
 use Rattle.clone_core.proofs.FaultLemmas.{donor_met, recipient_met}
 use Rattle.clone_core.proofs.OrderLemmas.{run_orders}
-use Rattle.clone_core.proofs.RunLemmas.{run_commits, run_sets, run_stop, run_within, run_tells, run_fault}
+use Rattle.clone_core.proofs.RunLemmas.{run_commits, run_drops, run_sets, run_stop, run_within, run_tells, run_fault}
 use Rattle.clone_core.proofs.laws.run_laws.Goals as goal
 
 pub returns-clause-commits : goal.returns-clause-commits
 returns-clause-commits c = run_commits
+
+pub returns-clause-drops : goal.returns-clause-drops
+returns-clause-drops c = run_drops
 
 pub returns-clause-sets : goal.returns-clause-sets
 returns-clause-sets c s lines events t new run = run_sets s lines events t run

@@ -16,4 +16,4 @@ returns-clause-ok g c =
     call_answers string_bytes c.args.self.now _ (lines.Begin c.args.writer) (begin c.args.writer (index_in c.args.self.now.begun c.args.writer)) (λ trx. did_begin c.args.writer (index_in c.args.self.now.begun c.args.writer) trx) c.begin-called.result _ c.answered.result (λ es m. m) (λ _. refl) c.begin-called.ensures (λ trx is happened. c.in_ok-text.ensures trx (ap (λ (s : State). least_unused (donor_of s.donor).active) c.self.view_is ∙ (made_step _ _ _ happened).1.0)) c.answered.ensures.ok
 
 pub returns-clause-err : goal.returns-clause-err
-returns-clause-err g c = call_breaks c.args.self.now _ (lines.Begin c.args.writer) (begin c.args.writer (index_in c.args.self.now.begun c.args.writer)) (λ trx. did_begin c.args.writer (index_in c.args.self.now.begun c.args.writer) trx) c.begin-called.result c.answered.result c.begin-called.ensures c.answered.ensures.err
+returns-clause-err g c = call_breaks c.args.self.now _ (lines.Begin c.args.writer) (begin c.args.writer (index_in c.args.self.now.begun c.args.writer)) (λ trx. did_begin c.args.writer (index_in c.args.self.now.begun c.args.writer) trx) c.begin-called.result c.answered.result (λ cause. tt) c.begin-called.ensures c.answered.ensures.err

@@ -14,4 +14,4 @@ returns-clause-ok g c =
     call_answers string_bytes c.args.self.now _ (lines.Commit c.args.trx) (commit c.args.trx) (λ position. did_commit c.args.trx position) c.commit-called.result _ c.answered.result (λ es m. m) (λ _. refl) c.commit-called.ensures (λ position is happened. c.in_ok-text.ensures ∙ ap (λ n. codes "committed " ++ decimal n) (ap (λ (s : State). length (donor_of s.donor).binlog + 1) c.self.view_is ∙ sym (made_step _ _ _ happened).1.count)) c.answered.ensures.ok
 
 pub returns-clause-err : goal.returns-clause-err
-returns-clause-err g c = call_breaks c.args.self.now _ (lines.Commit c.args.trx) (commit c.args.trx) (λ position. did_commit c.args.trx position) c.commit-called.result c.answered.result c.commit-called.ensures c.answered.ensures.err
+returns-clause-err g c = call_breaks c.args.self.now _ (lines.Commit c.args.trx) (commit c.args.trx) (λ position. did_commit c.args.trx position) c.commit-called.result c.answered.result (λ cause. tt) c.commit-called.ensures c.answered.ensures.err

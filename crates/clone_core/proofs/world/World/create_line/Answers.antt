@@ -12,4 +12,4 @@ returns-clause-ok g c =
     call_answers string_bytes c.args.self.now _ (lines.Create c.args.table c.args.buckets) (create c.args.table c.args.buckets) (λ _. did_create c.args.table c.args.buckets) c.create-called.result _ c.answered.result (λ es m. m) (λ _. refl) c.create-called.ensures (λ x is happened. c.in_ok-text.ensures.ok) c.answered.ensures.ok
 
 pub returns-clause-err : goal.returns-clause-err
-returns-clause-err g c = call_breaks c.args.self.now _ (lines.Create c.args.table c.args.buckets) (create c.args.table c.args.buckets) (λ _. did_create c.args.table c.args.buckets) c.create-called.result c.answered.result c.create-called.ensures c.answered.ensures.err
+returns-clause-err g c = call_breaks c.args.self.now _ (lines.Create c.args.table c.args.buckets) (create c.args.table c.args.buckets) (λ _. did_create c.args.table c.args.buckets) c.create-called.result c.answered.result (λ cause. tt) c.create-called.ensures c.answered.ensures.err

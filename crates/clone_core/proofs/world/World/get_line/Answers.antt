@@ -17,4 +17,4 @@ pub returns-in-Err-clause-ok : goal.returns-in-Err-clause-ok
 returns-in-Err-clause-ok g c = refusal_answers string_bytes c.args.self.now _ (lines.Get c.args.trx c.args.table c.args.key) (get c.args.trx c.args.table c.args.key) (λ value. did_get c.args.trx c.args.table c.args.key value) _ c.refused.result (λ es m. m) c.in-Err.ensures c.refused.ensures
 
 pub returns-in-Err-clause-err : goal.returns-in-Err-clause-err
-returns-in-Err-clause-err g c = refusal_breaks c.args.self.now _ (lines.Get c.args.trx c.args.table c.args.key) (get c.args.trx c.args.table c.args.key) (λ value. did_get c.args.trx c.args.table c.args.key value) _ c.refused.result c.in-Err.ensures
+returns-in-Err-clause-err g c = refusal_breaks c.args.self.now _ (lines.Get c.args.trx c.args.table c.args.key) (get c.args.trx c.args.table c.args.key) (λ value. did_get c.args.trx c.args.table c.args.key value) _ c.refused.result (λ cause. tt) c.in-Err.ensures

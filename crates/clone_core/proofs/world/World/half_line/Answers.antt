@@ -12,4 +12,4 @@ returns-clause-ok g c =
     call_answers string_bytes c.args.self.now _ (lines.Half c.args.space c.args.page) (flush_half c.args.space c.args.page) (λ _. did_flush_half c.args.space c.args.page) c.flush_half-called.result _ c.answered.result (λ es m. m) (λ _. refl) c.flush_half-called.ensures (λ x is happened. c.in_ok-text.ensures.ok) c.answered.ensures.ok
 
 pub returns-clause-err : goal.returns-clause-err
-returns-clause-err g c = call_breaks c.args.self.now _ (lines.Half c.args.space c.args.page) (flush_half c.args.space c.args.page) (λ _. did_flush_half c.args.space c.args.page) c.flush_half-called.result c.answered.result c.flush_half-called.ensures c.answered.ensures.err
+returns-clause-err g c = call_breaks c.args.self.now _ (lines.Half c.args.space c.args.page) (flush_half c.args.space c.args.page) (λ _. did_flush_half c.args.space c.args.page) c.flush_half-called.result c.answered.result (λ cause. tt) c.flush_half-called.ensures c.answered.ensures.err

@@ -12,4 +12,4 @@ returns-clause-ok g c =
     call_answers string_bytes c.args.self.now _ (lines.Put c.args.trx c.args.table c.args.key c.args.value.now) (put c.args.trx c.args.table c.args.key c.args.value.now) (λ _. did_put c.args.trx c.args.table c.args.key c.args.value.now) c.put-called.result _ c.answered.result (λ es m. m) (λ _. refl) c.put-called.ensures (λ x is happened. c.in_ok-text.ensures.ok) c.answered.ensures.ok
 
 pub returns-clause-err : goal.returns-clause-err
-returns-clause-err g c = call_breaks c.args.self.now _ (lines.Put c.args.trx c.args.table c.args.key c.args.value.now) (put c.args.trx c.args.table c.args.key c.args.value.now) (λ _. did_put c.args.trx c.args.table c.args.key c.args.value.now) c.put-called.result c.answered.result c.put-called.ensures c.answered.ensures.err
+returns-clause-err g c = call_breaks c.args.self.now _ (lines.Put c.args.trx c.args.table c.args.key c.args.value.now) (put c.args.trx c.args.table c.args.key c.args.value.now) (λ _. did_put c.args.trx c.args.table c.args.key c.args.value.now) c.put-called.result c.answered.result (λ cause. tt) c.put-called.ensures c.answered.ensures.err

@@ -12,4 +12,4 @@ returns-clause-ok g c =
     call_answers string_bytes c.args.self.now _ (lines.Undo c.args.trx) (undo_one c.args.trx) (λ undone. did_undo_one c.args.trx undone) c.undo_one-called.result _ c.answered.result (λ es m. m) (λ _. refl) c.undo_one-called.ensures (λ undone is happened. undo_told _ _ _ c.args.trx undone _ c.self.view_is c.in_ok-text.ensures happened) c.answered.ensures.ok
 
 pub returns-clause-err : goal.returns-clause-err
-returns-clause-err g c = call_breaks c.args.self.now _ (lines.Undo c.args.trx) (undo_one c.args.trx) (λ undone. did_undo_one c.args.trx undone) c.undo_one-called.result c.answered.result c.undo_one-called.ensures c.answered.ensures.err
+returns-clause-err g c = call_breaks c.args.self.now _ (lines.Undo c.args.trx) (undo_one c.args.trx) (λ undone. did_undo_one c.args.trx undone) c.undo_one-called.result c.answered.result (λ cause. tt) c.undo_one-called.ensures c.answered.ensures.err

@@ -10,7 +10,7 @@ returns-clause-is g c =
     let is = c.self.invariant in
     let buffer = c.laws.ensures.buffer in
     let room = subst (λ (w : Window). length w.bytes + c.free.result ≤ w.size) c.ring.ensures c.free.ensures.room in
-    subst (λ (d : Donor). IsMoment d.cloning (record { checkpoint = c.checkpoint_within.result; end = c.end.result; position = c.len.result; drops = 0 })) c.self.view_is
+    subst (λ (d : Donor). IsMoment d.cloning (record { checkpoint = c.checkpoint_within.result; end = c.end.result; position = c.len.result; drops = c.len-2.result })) c.self.view_is
     (record {
       checkpoint = omega (arith, c.checkpoint_within.ensures.below, buffer.end, buffer.below);
       end = c.end.ensures.below;

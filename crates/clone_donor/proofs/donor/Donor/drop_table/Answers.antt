@@ -1,0 +1,35 @@
+use Rattle.std.proofs.Common.{◌∙◌, refl, sym, subst, Option}
+use Rattle.clone_plain.specs.Calls as call
+use Rattle.clone_plain.specs.Calls.{did_drop}
+use Rattle.clone_session.specs.Cloning.{Session}
+use Rattle.clone_engine.specs.Steps.{answer_of}
+use Rattle.clone_donor.specs.Acts as act
+use Rattle.clone_donor.specs.Acts.{Acts}
+use Rattle.clone_donor.specs.Donor.{Donor}
+use Rattle.clone_donor.specs.Serving.{Drops}
+use Rattle.clone_donor.proofs.GrowthLemmas.{of_one}
+use Rattle.clone_donor.proofs.StepLemmas.{drops_on}
+use Rattle.clone_donor.proofs.TableLemmas.{no_session, tables_donor, tables_taken}
+use Rattle.clone_donor.proofs.donor.Donor.drop_table.Goals as goal
+
+pub invariant_of-self : goal.invariant_of-self
+invariant_of-self g c =
+    let d : Donor = record { engine = c.self.inside.engine; cloning = c.self.inside.cloning } in
+    let b = c.drop_table-dropped in
+    let none = no_session c.self.inside.cloning.session (sym c.session.ensures ∙ c.in_default.is) in
+    let on = drops_on c.args.table d.engine b.new.self (answer_of (λ (x : Unit {0}). did_drop c.args.table) b.result) b.ensures.step in
+    tables_donor c.args.table d b.new.self on (of_one d.engine b.new.self b.ensures.log) none b.ensures.ring c.laws-2.ensures.engine c.laws-2.ensures.buffer c.laws.ensures c.self.invariant
+
+pub returns : goal.returns
+returns g c =
+    let d : Donor = record { engine = c.self.inside.engine; cloning = c.self.inside.cloning } in
+    let b = c.drop_table-dropped in
+    let answer = answer_of (λ (x : Unit {0}). did_drop c.args.table) b.result in
+    let none = no_session c.self.inside.cloning.session (sym c.session.ensures ∙ c.in_default.is) in
+    record {
+      acts = subst (λ (s : Donor). Acts (act.Calls (call.drop c.args.table) answer) s (record { engine = b.new.self; cloning = c.self.inside.cloning })) c.self.view_is
+          (record {
+            does = subst (λ (o : Option Session). Drops o c.args.table d (record { engine = b.new.self; cloning = c.self.inside.cloning }) answer) (sym none) (record { steps = b.ensures.step; cloning = refl });
+            taken = tables_taken c.args.table d b.new.self (drops_on c.args.table d.engine b.new.self answer b.ensures.step) (of_one d.engine b.new.self b.ensures.log) none b.ensures.copies;
+          });
+    }
