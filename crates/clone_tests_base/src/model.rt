@@ -1,6 +1,6 @@
 use clone_model::{
-    Binlog, Change, Changes, Commit, Config, ReadRefusal, ScriptValue, Tables, Value, binlog_text,
-    fold, read_binlog, rows_text, script_value_of,
+    Binlog, Change, Changes, Commit, Config, Drops, ReadRefusal, ScriptValue, Tables, Value,
+    binlog_text, fold, read_binlog, rows_text, script_value_of,
 };
 use std::alloc::Global;
 use std::process::Abort;
@@ -171,6 +171,18 @@ fn what_a_history_leaves(rt: HostRuntime) -> Result<(), Fail> {
     let text = rows_text(alloc, &tables.rows(alloc)?)?;
     assert_eq!(rt; text.as_str(), "1 7 63\n");
     assert!(rt; tables.get(1, 8).is_none());
+    Ok(())
+}
+
+#[test]
+fn drops_in_order(rt: HostRuntime) -> Result<(), Fail> {
+    let mut drops = Drops::new(rt.alloc());
+    assert!(rt; drops.is_empty());
+    drops.reserve(2)?;
+    drops.push_within(3, 1_000_000);
+    drops.push_within(3, 7);
+    assert_eq!(rt; drops.len(), 2);
+    assert_eq!(rt; drops.as_slice(), [(3, 1_000_000), (3, 7)].as_slice());
     Ok(())
 }
 

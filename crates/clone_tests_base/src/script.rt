@@ -21,9 +21,11 @@ const GOOD: [(&[u8], usize); 8] = [
 ];
 
 /// Texts of lines, each of which is read and shown again.
-const LINES: [&str; 37] = [
+const LINES: [&str; 39] = [
     "create 1 1",
     "create 1000000 1024",
+    "drop 1",
+    "drop 1000000",
     "begin 0",
     "begin 4294967295",
     "put 0 1 0 -",
@@ -62,7 +64,7 @@ const LINES: [&str; 37] = [
 ];
 
 /// Texts that are no lines.
-const BAD: [&[u8]; 96] = [
+const BAD: [&[u8]; 106] = [
     b" clone",
     b"clone ",
     b"clone\r",
@@ -80,6 +82,16 @@ const BAD: [&[u8]; 96] = [
     b"create\t1 4",
     b"create 01 4",
     b"create 1000001 4",
+    b"drop",
+    b"drop ",
+    b"drop 0",
+    b"drop 01",
+    b"drop 1 1",
+    b"drop  1",
+    b"drop\t1",
+    b"drop 1000001",
+    b"drop 4294967297",
+    b"Drop 1",
     b"begin",
     b"begin 3 1",
     b"begin  3",

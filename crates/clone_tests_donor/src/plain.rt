@@ -2,7 +2,7 @@ use clone_plain::Cause;
 use std::test::Fail;
 
 /// Each refusal with its text.
-const REFUSALS: [(Cause, &str); 15] = [
+const REFUSALS: [(Cause, &str); 17] = [
     (Cause::NoSuchTrx, "refused E1"),
     (Cause::NoSuchTable, "refused E2"),
     (Cause::TableExists, "refused E3"),
@@ -26,6 +26,8 @@ const REFUSALS: [(Cause, &str); 15] = [
     (Cause::TooManyTransactions, "refused E10"),
     (Cause::TooManyTables, "refused E11"),
     (Cause::CloneRunning { session: 3 }, "refused E12 3"),
+    (Cause::TableInUse { trx: 0 }, "refused E13 0"),
+    (Cause::TableInUse { trx: 63 }, "refused E13 63"),
     (Cause::DiskFault, "refused E17"),
 ];
 

@@ -85,6 +85,7 @@ fn a_random_walk_with_clones(rt: HostRuntime) -> Result<(), Fail> {
     assert!(rt; counts.behind > 0 && counts.unclaimed > 0);
     assert!(rt; counts.torn > 0 && counts.open > 0);
     assert!(rt; counts.unread > 0 && counts.unheld > 0);
+    assert!(rt; counts.dropped > 0 && counts.undropped > 0);
     assert!(rt; counts.grown.iter().all(|count| *count > 0));
     assert!(rt; counts.lengthened.iter().all(|count| *count > 0));
     Ok(())

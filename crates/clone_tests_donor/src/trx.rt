@@ -35,6 +35,8 @@ pub mod written;
 pub enum Call<'a> {
     // a table and its buckets
     Create(u32, u32),
+    // a table
+    Drop(u32),
     // a writer and the index of its transaction
     Begin(u32, u64),
     // a transaction, a table, a key and a value
@@ -51,6 +53,7 @@ pub enum Call<'a> {
 #[derive(Debug, PartialEq, Drop)]
 pub enum Answer {
     Created,
+    Dropped,
     // the number of the transaction
     Begun(u32),
     Changed,
@@ -137,6 +140,7 @@ fn text_of(alloc: Global, answer: Result<Answer, Cause>) -> Result<String, Alloc
 fn answer_text(alloc: Global, answer: &Answer) -> Result<String, AllocError> {
     match answer {
         Answer::Created => String::from_str(alloc, "created"),
+        Answer::Dropped => String::from_str(alloc, "dropped"),
         Answer::Begun(trx) => format!(in alloc; "trx {trx}"),
         Answer::Changed => String::from_str(alloc, "ok"),
         Answer::Shown(None) => String::from_str(alloc, "none"),

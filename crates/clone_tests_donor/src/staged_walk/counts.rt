@@ -23,6 +23,10 @@ pub struct Counts {
     pub unread: u64,
     /// Flushes for which the disk failed where the file was to get longer.
     pub unheld: u64,
+    /// Tables that were dropped, also where the disk failed to remove the file.
+    pub dropped: u64,
+    /// Drops that were refused while a clone was under way.
+    pub undropped: u64,
     /// Pages that were made behind a chain's end, by the stages in which they were: without a
     /// clone, and in the copy of files, of pages and of redo.
     pub grown: [u64; STAGES],
@@ -47,6 +51,8 @@ impl Counts {
             relieved: 0,
             unread: 0,
             unheld: 0,
+            dropped: 0,
+            undropped: 0,
             grown: [0; STAGES],
             lengthened: [0; STAGES],
         }

@@ -16,7 +16,7 @@ pub fn drawn_call<'a>(words: &mut Pcg32, call: u64, bytes: &'a [u8; LONGEST]) ->
     let table = drawn_table(words);
     let key = below(words, KEYS) as u64;
     match below(words, 20) {
-        0 => Call::Create(table, 1 + table % 2),
+        0 => drawn_call_of_table(words),
         1 | 2 => Call::Begin(below(words, 8), call),
         3..=12 => {
             let length = below(words, 66) as usize;
@@ -26,6 +26,15 @@ pub fn drawn_call<'a>(words: &mut Pcg32, call: u64, bytes: &'a [u8; LONGEST]) ->
         14 => Call::Get(trx, table, key),
         15 => Call::Undo(trx),
         _ => Call::Commit(trx),
+    }
+}
+
+// One of three tables is made, or dropped.
+fn drawn_call_of_table<'a>(words: &mut Pcg32) -> Call<'a> {
+    let table = 1 + below(words, 3);
+    match below(words, 2) {
+        0 => Call::Drop(table),
+        _ => Call::Create(table, 1 + below(words, 2)),
     }
 }
 

@@ -24,6 +24,11 @@ impl Flights {
         self.halved.is_empty()
     }
 
+    /// Whether a flush of a page of this space is under way.
+    pub fn has_page_of(&self, space: u32) -> bool {
+        self.halved.keys().any(|page| page.0 == space)
+    }
+
     /// Whether a step of a page's flush may be answered so. Whether a page is dirty isn't known.
     pub fn may_answer(&self, step: FlushStep, page: PageAt, answer: Result<(), Cause>) -> bool {
         match (step, self.halved.get(&page).copied()) {

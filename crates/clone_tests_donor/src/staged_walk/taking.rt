@@ -168,7 +168,7 @@ fn leave(
     let stop = Stop {
         session: caller.session,
         position: expected.position,
-        drops: 0,
+        drops: expected.drops,
     };
     assert_eq!(rt; (donor.session(), donor.stop()), (None, Some(stop)));
     Ok(())

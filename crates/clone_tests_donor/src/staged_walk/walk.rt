@@ -168,7 +168,8 @@ impl Walk {
         let expected = self.check(call, session);
         let answer = ask(self.alloc, donor, call)?;
         let written = Written::by_length(donor.end().saturating_sub(start));
-        self.grow(rt, call, written, answer.is_ok());
+        let is_gone = written.changes && fails_to_remove(call, &answer);
+        self.grow(rt, call, written, is_gone || answer.is_ok());
         match answer {
             Ok(answer) => {
                 assert!(rt; expected.is_ok());
@@ -177,6 +178,9 @@ impl Walk {
             }
             Err(cause) => {
                 assert!(rt; self.may_refuse(call, cause, expected, donor.end()));
+                if is_gone {
+                    self.expect_answer(rt, call, Answer::Dropped)?;
+                }
                 Ok(self.count_full(cause, session))
             }
         }
@@ -208,18 +212,38 @@ impl Walk {
         }
     }
 
-    // The first cause against a call, if there is one. No table is made while a session stands.
-    fn check(&self, call: Call, session: Option<u64>) -> Result<(), Cause> {
+    // The first cause against a call, if there is one. No table is made or dropped while a session
+    // stands.
+    fn check(&mut self, call: Call, session: Option<u64>) -> Result<(), Cause> {
         match (call, session) {
             (Call::Create(_, _), Some(session)) => Err(Cause::CloneRunning { session }),
+            (Call::Drop(table), Some(session)) if self.plain.has_table(table) => {
+                count(&mut self.counts.undropped);
+                Err(Cause::CloneRunning { session })
+            }
+            (Call::Drop(table), _) => self.check_drop(table),
             _ => self.plain.check(call),
         }
     }
 
-    // The plain program answers so too. A table has a file.
+    // The first cause against a drop while no session stands, if there is one.
+    fn check_drop(&self, table: u32) -> Result<(), Cause> {
+        self.plain.check(Call::Drop(table))?;
+        if self.flights.has_page_of(table) {
+            return Err(Cause::InFlight);
+        }
+        Ok(())
+    }
+
+    // The plain program answers so too. A table has a file as long as it is there.
     fn expect_answer(&mut self, rt: &impl Abort, call: Call, found: Answer) -> Result<(), Fail> {
-        if let Call::Create(table, buckets) = call {
-            self.files.make(table, buckets)?;
+        match call {
+            Call::Create(table, buckets) => self.files.make(table, buckets)?,
+            Call::Drop(table) => {
+                self.files.remove(table);
+                count(&mut self.counts.dropped);
+            }
+            _ => {}
         }
         let expected = answered(self.plain.carry_out(self.alloc, call))?;
         assert!(rt; expected == Ok(found));
@@ -361,4 +385,9 @@ impl Walk {
         }
         donor.oldest_dirty().map(|page| (FlushStep::Begin, page))
     }
+}
+
+// Whether a drop was refused because the disk failed. Then the table may be gone.
+fn fails_to_remove(call: Call, answer: &Result<Answer, Cause>) -> bool {
+    matches!(call, Call::Drop(_)) && matches!(answer, Err(Cause::DiskFault))
 }

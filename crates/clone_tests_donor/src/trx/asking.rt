@@ -20,6 +20,7 @@ pub fn ask(
             let buckets = BucketCount::new(buckets).ok_or("no number of buckets")?;
             donor.create(table, buckets).map(|()| Answer::Created)
         }
+        Call::Drop(table) => donor.drop_table(table).map(|()| Answer::Dropped),
         Call::Begin(writer, index) => donor.begin(alloc, writer, index).map(Answer::Begun),
         Call::Put(trx, table, key, value) => {
             donor.put(trx, table, key, value).map(|()| Answer::Changed)

@@ -323,6 +323,7 @@ fn number_of(cause: Cause) -> usize {
         Cause::TooManyTransactions => 10,
         Cause::TooManyTables => 11,
         Cause::CloneRunning { .. } => 12,
+        Cause::TableInUse { .. } => 13,
         Cause::NotDirty => 14,
         Cause::InFlight => 15,
         Cause::NoFlush => 16,

@@ -22,6 +22,11 @@ impl Files {
         Ok(())
     }
 
+    /// The file of a space is gone.
+    pub fn remove(&mut self, space: u32) {
+        let _ = self.pages.remove(&space);
+    }
+
     /// Whether the page lies past the end of its file.
     pub fn is_short(&self, page: PageAt) -> bool {
         let (space, number) = page;

@@ -74,6 +74,7 @@ impl<D: PageDisk> Logged<D> {
                 let buckets = BucketCount::new(buckets).ok_or("no number of buckets")?;
                 engine.create(table, buckets).map(|()| Answer::Created)
             }
+            Call::Drop(table) => engine.drop_table(table).map(|()| Answer::Dropped),
             Call::Begin(writer, index) => engine.begin(alloc, writer, index).map(Answer::Begun),
             Call::Put(trx, table, key, value) => {
                 engine.put(trx, table, key, value).map(|()| Answer::Changed)
@@ -145,6 +146,7 @@ impl<D: PageDisk> Logged<D> {
     /// Gives the disk back.
     pub fn into_disk(self) -> D {
         let Logged { engine, redo: _ } = self;
-        engine.into_disk()
+        let (disk, _) = engine.into_disk();
+        disk
     }
 }

@@ -110,7 +110,11 @@ fn commits_of(alloc: Global, chain: Chain) -> Result<Commits, Fail> {
         rows.push((1, key, value))?;
     }
     let position = chain.transactions.saturating_add(1);
-    Ok(Commits { rows, position })
+    Ok(Commits {
+        rows,
+        position,
+        drops: 0,
+    })
 }
 
 // The log alone gives the rows.

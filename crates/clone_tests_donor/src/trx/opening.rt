@@ -15,7 +15,10 @@ fn open_over(alloc: Global, disk: MemDisk, config: Config) -> (Option<OpenCause>
     requires config { IsConfig config }
 {
     match Donor::open(alloc, disk, config) {
-        Ok(donor) => (None, donor.into_disk()),
+        Ok(donor) => {
+            let (disk, _) = donor.into_disk();
+            (None, disk)
+        }
         Err(refusal) => {
             let OpenRefusal { cause, disk } = refusal;
             (Some(cause), disk)

@@ -44,7 +44,8 @@ impl Pages {
     }
 
     /// The records of a mini-transaction that begins there change their pages. The file of a space
-    /// that is made has all its pages; that of one that gets longer has them later.
+    /// that is made has all its pages; that of one that gets longer has them later. A space that is
+    /// dropped has no dirty page any more.
     pub fn note(&mut self, records: &[Record], start: u64) -> Result<(), AllocError> {
         for entry in records {
             match entry {
@@ -52,10 +53,17 @@ impl Pages {
                     self.change((*space, *page), start)?;
                 }
                 Record::Create { space, pages } => self.files.make(*space, *pages)?,
-                Record::Extend { .. } | Record::Drop { .. } => {}
+                Record::Drop { space } => self.drop_space(*space),
+                Record::Extend { .. } => {}
             }
         }
         Ok(())
+    }
+
+    // A space is gone, with its pages and its file.
+    fn drop_space(&mut self, space: u32) {
+        self.dirty.retain(|page, _| page.0 != space);
+        self.files.remove(space);
     }
 
     // A change of a page begins there.

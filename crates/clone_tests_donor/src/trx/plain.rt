@@ -2,7 +2,7 @@ mod table;
 
 use crate::trx::plain::table::Table;
 use crate::trx::{Answer, Call};
-use clone_model::{Binlog, Change, Changes, Commit, Tables, Value, fold};
+use clone_model::{Binlog, Change, Changes, Commit, Tables, Value};
 use clone_plain::{
     CHANGE_LIMIT, Cause, EngineRefusal, TABLE_LIMIT, TRANSACTION_LIMIT, Undone, VALUE_LIMIT,
 };
@@ -10,8 +10,8 @@ use std::alloc::{AllocError, Global};
 use std::collections::BTreeMap;
 
 /// A donor without pages and without a log: the keys that have a place on each chain of each table,
-/// the open transactions, the locks, and the commits. Each of its calls answers as the plain donor
-/// does.
+/// the open transactions, the locks, the commits, and the rows that these and the drops leave. Each
+/// of its calls answers as the plain donor does.
 #[derive(Drop)]
 pub struct Plain {
     tables: BTreeMap<u32, Table>,
@@ -19,6 +19,9 @@ pub struct Plain {
     // by row, the transaction that holds its lock
     locks: BTreeMap<(u32, u64), u32>,
     history: Binlog,
+    rows: Tables,
+    // how many tables were dropped
+    drops: u64,
 }
 
 impl Plain {
@@ -29,6 +32,8 @@ impl Plain {
             active: BTreeMap::new(alloc),
             locks: BTreeMap::new(alloc),
             history: Binlog::new(alloc),
+            rows: Tables::new(alloc),
+            drops: 0,
         }
     }
 
@@ -37,9 +42,19 @@ impl Plain {
         &self.history
     }
 
-    /// The rows that the commits leave.
+    /// How many tables were dropped.
+    pub fn drops(&self) -> u64 {
+        self.drops
+    }
+
+    /// Whether a table has this number.
+    pub fn has_table(&self, table: u32) -> bool {
+        self.tables.contains_key(&table)
+    }
+
+    /// The rows that the commits and the drops leave.
     pub fn rows(&self, alloc: Global) -> Result<Tables, AllocError> {
-        fold(alloc, self.history.as_slice())
+        rows_but(alloc, &self.rows, None)
     }
 
     /// Makes a call, if there is no cause against it.
@@ -52,6 +67,7 @@ impl Plain {
     pub fn check(&self, call: Call) -> Result<(), Cause> {
         match call {
             Call::Create(table, _) => self.check_table(table),
+            Call::Drop(table) => self.check_drop(table),
             Call::Begin(_, _) => self.check_number(),
             Call::Put(trx, table, key, bytes) => self.check_change(trx, table, key, bytes.len()),
             Call::Delete(trx, table, key) => self.check_change(trx, table, key, 0),
@@ -87,6 +103,7 @@ impl Plain {
             Call::Create(table, count) => {
                 self.create(alloc, table, count).map(|()| Answer::Created)
             }
+            Call::Drop(table) => self.drop_table(alloc, table).map(|()| Answer::Dropped),
             Call::Begin(writer, index) => self.begin(alloc, writer, index).map(Answer::Begun),
             Call::Put(trx, table, key, bytes) => {
                 self.put(trx, table, key, bytes).map(|()| Answer::Changed)
@@ -110,6 +127,28 @@ impl Plain {
             return Err(Cause::TooManyTables);
         }
         Ok(())
+    }
+
+    // Refuses where no table has the number, and where a transaction holds the lock of a row of it.
+    fn check_drop(&self, table: u32) -> Result<(), Cause> {
+        if !self.has_table(table) {
+            return Err(Cause::NoSuchTable);
+        }
+        match self.least_holder(table) {
+            Some(trx) => Err(Cause::TableInUse { trx }),
+            None => Ok(()),
+        }
+    }
+
+    // The least transaction that holds the lock of a row of the table.
+    fn least_holder(&self, table: u32) -> Option<u32> {
+        let mut least = None;
+        for ((locked, _), holder) in &self.locks {
+            if *locked == table {
+                least = Some(least.unwrap_or(*holder).min(*holder));
+            }
+        }
+        least
     }
 
     // Refuses where each transaction is open.
@@ -179,6 +218,14 @@ impl Plain {
             Ok(_) => Ok(()),
             Err(_) => Err(EngineRefusal::NoMemory),
         }
+    }
+
+    // A table is gone, and so are its rows.
+    fn drop_table(&mut self, alloc: Global, table: u32) -> Result<(), EngineRefusal> {
+        self.rows = rows_but(alloc, &self.rows, Some(table))?;
+        let _ = self.tables.remove(&table);
+        self.drops = self.drops.saturating_add(1);
+        Ok(())
     }
 
     // Begins a transaction, and answers its number.
@@ -258,6 +305,7 @@ impl Plain {
         let Some(commit) = self.active.remove(&trx) else {
             return Err(Cause::NoSuchTrx.into());
         };
+        self.rows.apply(&commit)?;
         self.history.push(commit)?;
         self.release(trx);
         Ok(self.history.len() as u64)
@@ -267,6 +315,17 @@ impl Plain {
     fn release(&mut self, trx: u32) {
         self.locks.retain(|_, holder| *holder != trx);
     }
+}
+
+// These rows, but for those of a table where one is named.
+fn rows_but(alloc: Global, rows: &Tables, dropped: Option<u32>) -> Result<Tables, AllocError> {
+    let mut left = Tables::new(alloc);
+    for (table, key, value) in rows.rows(alloc)? {
+        if Some(table) != dropped {
+            left.set(table, key, value)?;
+        }
+    }
+    Ok(left)
 }
 
 // The row that a call changes, by its table and its key.

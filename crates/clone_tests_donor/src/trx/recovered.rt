@@ -17,11 +17,12 @@ pub struct Redo<'a> {
     pub bytes: &'a [u8],
 }
 
-/// The rows of all commits, and how many commits these are.
+/// The rows that all commits and drops leave, and how many of each there are.
 #[derive(Drop)]
 pub struct Commits {
     pub rows: Vec<(u32, u64, Value)>,
     pub position: u64,
+    pub drops: u64,
 }
 
 impl Commits {
@@ -30,6 +31,7 @@ impl Commits {
         Ok(Commits {
             rows: plain.rows(alloc)?.rows(alloc)?,
             position: plain.history().len() as u64,
+            drops: plain.drops(),
         })
     }
 }
