@@ -1,3 +1,6 @@
+//! The redo that a session keeps beside the ring. While an archive stands, its bytes follow one
+//! another from its first LSN on, as a copy of the log keeps them; else nothing is held. That the
+//! bytes are those of the donor's log is the rule of the donor.
 ghost use Rattle.std.specs.Prelude.{◌≡◌, ◌↔◌, ◌≤◌, ◌<◌, ◌+◌, ◌^◌, None, Some, length};
 ghost use Rattle.std.specs.Prelude.{IsSome, IfSome, IfOk, OnOk, OnErr, option_map};
 ghost use Rattle.std.specs.Option.{ForSome};

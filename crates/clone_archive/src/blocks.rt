@@ -1,3 +1,6 @@
+//! Bytes in blocks of 16,384. Every block has its whole size, and the bytes are the first `len` of
+//! all blocks together, so that byte i stands in block i / 16,384 at i mod 16,384. There is room
+//! for all of them; the room is at most 2^39 bytes.
 ghost use Rattle.std.specs.Prelude.{◌≡◌, ◌≤◌, ◌<◌, ◌+◌, ◌-◌, ◌++◌, [], length, take, drop};
 ghost use Rattle.std.specs.Prelude.{OnOk, OnErr};
 ghost use Rattle.clone_base.specs.declared.limits.TheConstants.{LSN_LIMIT};

@@ -1,3 +1,5 @@
+//! A copy of the log from the LSN `start` on: byte i is the one at LSN `start` + i. It ends below
+//! 2^39 and, once the end is fixed, not past that; the fixed end is below 2^39, too.
 ghost use Rattle.std.specs.Prelude.{◌≡◌, ◌≤◌, ◌<◌, ◌+◌, ◌^◌, Some, length, IfOk, OnOk, OnErr};
 ghost use Rattle.std.specs.Option.{ForSome};
 ghost use Rattle.clone_ring.specs.Window.{end_of};

@@ -1,3 +1,5 @@
+//! Fields of fixed width at the front of bytes. A number of 1, 2, 4 or 8 bytes has its highest
+//! byte first. What was read is behind the reader, and it holds what is left.
 ghost use Rattle.std.specs.Prelude.{◌≡◌, length, take};
 ghost use Rattle.byteorder.specs.Endian.{big_number};
 ghost use Rattle.clone_bytes.specs.Fields.{Reads};

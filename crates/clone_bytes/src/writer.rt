@@ -1,3 +1,5 @@
+//! Fields of fixed width, one behind the other. A number of 1, 2, 4 or 8 bytes has its highest
+//! byte first, and nothing stands between two fields.
 ghost use Rattle.std.specs.Prelude.{◌≡◌, ◌++◌, ◌∷◌, [], OnOk, OnErr};
 ghost use Rattle.byteorder.specs.Endian.{big_bytes};
 

@@ -1,3 +1,6 @@
+//! The states of the chunks of a stage, by their numbers; there are fewer than 2^32. No chunk below
+//! `searched` is free, so that a search for a free one may begin there. `left` is always how many
+//! chunks aren't finished, free or claimed.
 ghost use Rattle.std.specs.Prelude.{◌≡◌, ◌↔◌, ◌<◌, ◌≤◌, ◌^◌, Some, length, replicate, position};
 ghost use Rattle.std.specs.Prelude.{slice_get, slice_set, All};
 ghost use Rattle.std.specs.Prelude.{IsTrue, IsNone, IfSome, IfNone, IfOk, OnOk, OnErr};

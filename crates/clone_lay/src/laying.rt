@@ -1,3 +1,6 @@
+//! Where a clone stands on a disk: page n of a space is at n of that space, and redo byte i,
+//! counted from the checkpoint, is in the redo's space on page i / 4,096 at i mod 4,096. Behind
+//! the last redo byte its page has zero bytes. A page that is made to give room has zero bytes.
 ghost use Rattle.std.specs.Prelude.{◌≡◌, ◌<◌, ◌≤◌, ◌+◌, ◌-◌, ◌*◌, ◌%◌, ◌^◌, OnOk, OnErr, is_some, length};
 ghost use Rattle.std.specs.FinMap as finite;
 ghost use Rattle.clone_base.specs.declared.limits.TheConstants.{LSN_LIMIT, PAGE_SIZE, REDO_SPACE};

@@ -1,3 +1,6 @@
+//! An end of a connection in memory. It holds one half of the right to call the connection, and
+//! each call that was made by that half is of the end's own side. The connection began with
+//! nothing on the way to either end.
 ghost use Rattle.std.specs.Prelude.{◌≡◌, [], ◌<◌, ◌≤◌, ◌+◌, ◌++◌, List, ℕ, Bool, true, false, IfOk, IsOk, OnOk, OnErr, Ok, Err, Some, take, length};
 ghost use Rattle.std.specs.Arc.{arc_value};
 ghost use Rattle.clone_turn.specs.Seats.{MakesCall};

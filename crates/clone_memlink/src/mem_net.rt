@@ -1,3 +1,5 @@
+//! What makes connections in memory. Those that were made stand in the order of their making, and
+//! the first `settled` of them are settled: never more than there are.
 ghost use Rattle.std.specs.Prelude.{◌≡◌, ◌+◌, ◌-◌, ◌^◌, ◌≤◌, min, true, Some, IfOk, OnOk, OnErr, length};
 ghost use Rattle.std.specs.FinMap as finite;
 ghost use Rattle.clone_outside.specs.Causes.{HasCause};

@@ -1,3 +1,5 @@
+//! A piece of what is sent: room for 4,096 bytes in place, of which the first `len` count. `len`
+//! is at most 4,096, and what stands behind it means nothing.
 ghost use Rattle.std.specs.Prelude.{◌≡◌, ◌≤◌, length, take};
 
 use std::marker::Model;

@@ -1,4 +1,6 @@
-//! Records where they stand in their spelling: the bytes of a write are lent, not copied.
+//! Records where they stand in their spelling: the bytes of a write are lent, not copied. They
+//! keep the rule of a patch: at most `LONGEST_PATCH` bytes, within the bytes of a page that a
+//! write may name.
 ghost use Rattle.std.specs.Prelude.{◌≡◌, ◌≤◌, IfOk, length};
 ghost use Rattle.clone_page.specs.Header.{IsAllowed};
 ghost use Rattle.clone_mtr.specs.Reading.{found_record};

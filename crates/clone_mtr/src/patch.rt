@@ -1,3 +1,7 @@
+//! The bytes that a write puts on a page: 1 to `LONGEST_PATCH` of them, in place up to
+//! `SHORT_PATCH`. From the offset on they lie either within the numbers of the pages before and
+//! behind, at 8 to 15, or within the body, at 38 to 4,087. So no write reaches a page's LSN, its
+//! kind or its trailer.
 ghost use Rattle.std.specs.Prelude.{◌≡◌, ◌≤◌, IfOk, length};
 ghost use Rattle.clone_page.specs.Header.{IsAllowed};
 ghost use Rattle.clone_mtr.specs.Patches.{AreBytes};

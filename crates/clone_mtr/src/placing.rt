@@ -1,3 +1,5 @@
+//! The spelling of a mini-transaction, laid at the front of bytes that are there: the same bytes
+//! as in memory of its own. Where it would be longer than 1,024 bytes, nothing is laid.
 ghost use Rattle.std.specs.Prelude.{◌≡◌, ◌≤◌, ◌+◌, ◌++◌, ◌∷◌, length, min};
 ghost use Rattle.byteorder.specs.Endian.{big_bytes};
 ghost use Rattle.clone_page.specs.Bytes.{put_at};

@@ -1,3 +1,5 @@
+//! Redo records, and mini-transactions of them. A mini-transaction has one record at least, each
+//! with its numbers in their ranges; its records count together or not at all.
 ghost use Rattle.std.specs.Prelude.{◌≡◌, ◌++◌, ◌∷◌, [], OnOk, OnErr, IfOk};
 ghost use Rattle.clone_mtr.specs.Records.{IsRecord, IsMtr};
 

@@ -1,3 +1,8 @@
+//! The spelling of a mini-transaction: its records in their order, then the byte 6; at most 1,024
+//! bytes, numbers big-endian. A record is a code of 1 byte and its fields. 1 is INIT with space,
+//! page and, in 2 bytes, kind; 2 is WRITE with space, page, and in 2 bytes each offset and length,
+//! then the bytes; 3 is EXTEND and 4 CREATE, with space and number of pages; 5 is DROP with a
+//! space. Spaces, pages and numbers of pages have 4 bytes.
 ghost use Rattle.std.specs.Prelude.{◌≡◌, ◌++◌, ◌∷◌, length, IfOk, OnOk};
 ghost use Rattle.byteorder.specs.Endian.{big_bytes};
 ghost use Rattle.clone_mtr.specs.Answers.{Encodes};

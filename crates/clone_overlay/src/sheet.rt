@@ -1,3 +1,6 @@
+//! The pages of a space over those of a disk. `count` is how many there are, and of the disk's own
+//! only the first `kept` count, never more than `count`. A page that is held stands for the
+//! disk's.
 ghost use Rattle.std.specs.Prelude.{◌≡◌, ◌↔◌, ◌≤◌, ◌<◌, IsTrue, IsSome, is_some, OnOk, OnErr, IsOk, IfOk, IsErrOf, option_copied, length, None};
 ghost use Rattle.std.specs.FinMap as finite;
 ghost use Rattle.clone_page.specs.Bytes.{put_at};

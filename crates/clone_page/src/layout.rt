@@ -1,4 +1,8 @@
-//! Where things stand on pages, in bytes from a page's beginning, and how many there are.
+//! The layout of a page, in bytes from its beginning: constant 0, number 4, page before 8, next
+//! page 12, LSN 16, kind 24, space 34, body 38 to 4,087; in the trailer the constant again at
+//! 4,088, and at 4,092 the low half of the LSN. A page of rows has 50 slots of 80 bytes from 48
+//! on, each with state 0, length 1, key 8 and value 16. The system page has the number of commits
+//! at 40, and from 64 on 62 entries of 16 bytes.
 use clone_base::{PAGE_SIZE, TABLE_LIMIT, VALUE_LIMIT};
 
 /// Where the page's number within its space stands.

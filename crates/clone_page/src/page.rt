@@ -1,3 +1,6 @@
+//! A page in memory: 4,096 bytes, laid out as `layout` says. A well-formed page has the constant
+//! in the place of both checksums, its own number and space, one of the four kinds, and in its
+//! trailer the low 32 bits of its LSN.
 ghost use Rattle.std.specs.Prelude.{◌≡◌, ◌↔◌, ◌≤◌, ◌+◌, ◌⊎◌, length, IsTrue};
 ghost use Rattle.byteorder.specs.Endian.{big_bytes};
 ghost use Rattle.clone_page.specs.Bytes.{put_at, field};

@@ -1,3 +1,6 @@
+//! A frame of the pool. Without a page it is neither pinned nor dirty, and was never used; with
+//! one it was. A new page is pinned, and clean until a change makes it. Only a dirty page has a
+//! flush, which is under way or failed. The pool keeps this rule of each of its frames.
 ghost use Rattle.std.specs.Prelude.{◌≡◌, ◌<◌, ◌-◌, ◌^◌};
 ghost use Rattle.clone_pool.specs.Index.{is_same};
 ghost use Rattle.clone_pool.specs.Frames.{no_frame, name_of, is_dirty, may_go, is_waiting, is_begun, is_fresh, counts_as_open, open_page, made, noted, later_in, touched, pinned, unpinned, freshened, changed, begun, landed, failed, discarded};

@@ -1,3 +1,6 @@
+//! The frames, and the orders beside them. No page has two frames, and no frame was used later
+//! than the count of uses says. The orders are always those of the frames as they are. A frame
+//! keeps the rule of `frame`. There are fewer than 2^32 frames.
 ghost use Rattle.std.specs.Prelude.{◌≡◌, ◌<◌, ◌≤◌, ◌-◌, ◌^◌, ℕ, None, true, false, IfOk, IfErr, IfNone, IfSome, OnOk, OnErr, length, replicate, slice_set};
 ghost use Rattle.std.specs.Option.{ForSome};
 ghost use Rattle.std.specs.List.{filter_map};

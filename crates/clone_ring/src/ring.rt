@@ -1,3 +1,5 @@
+//! The log from its floor to its end. The first byte held is the one at the LSN `floor`, and each
+//! next byte has the next LSN. The end, the floor and as many as are held, is below 2^39.
 ghost use Rattle.std.specs.Prelude.{◌≡◌, ◌≤◌, ◌<◌, ◌+◌, ◌-◌, ◌++◌, length, take, drop, IfOk};
 ghost use Rattle.clone_ring.specs.Window.{Appends, empty, end_of, free_in, raised};
 

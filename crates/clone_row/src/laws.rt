@@ -64,8 +64,8 @@ pub fn row_laws()
         (λ v. length v ≤ VALUE_LIMIT) → slot_of (image key value) ≡ row_slot key value }
 {}
 
-/// What stands in the place of the next page: a write of it in the header sets it and nothing else,
-/// and a write of a slot leaves it. A page that is made has none, and an unused page has none.
+/// What stands in the place of the next page: a write of a slot leaves it, a page that is made has
+/// none, and a page of zero bytes has none.
 pub fn chain_laws()
     ensures slots { (lsn space number j key : ℕ) (value : Option (List ℕ)) (patch : Patched)
         (page : List ℕ) → WritesSlot j key value patch → length page ≡ PAGE_SIZE

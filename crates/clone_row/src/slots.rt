@@ -1,3 +1,7 @@
+//! The 50 slots of a bucket page or an overflow page, 80 bytes each, from byte 48 on. A slot has
+//! its state at 0 (0 never used, 1 present, 2 absent), the length of its value at 1, its key in 8
+//! bytes at 8, and its value from 16 on, at most 64 bytes. An absent slot has no value, but keeps
+//! its key. What is written has zero bytes elsewhere.
 ghost use Rattle.std.specs.Prelude.{◌≡◌, ◌+◌, ◌*◌, ◌↔◌, ◌<◌, ◌≤◌, IsTrue, length};
 ghost use Rattle.std.specs.Option.{option_copied};
 ghost use Rattle.clone_page.specs.Slots.{slot_count, slot_at, state_of, length_of, key_of, present_slot};

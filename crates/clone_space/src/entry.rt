@@ -1,3 +1,6 @@
+//! An entry of the dictionary: 16 bytes, big-endian. The table is at 0, the number of buckets at
+//! 4, the number of pages at 8, 4 bytes each, and the last 4 bytes are zero. A table of 0 says
+//! that the entry is free.
 ghost use Rattle.std.specs.Prelude.{◌≡◌, ◌↔◌, ◌≤◌, IsTrue};
 ghost use Rattle.clone_model.specs.declared.line.TheConstants.{MOST_PAGES};
 ghost use Rattle.clone_space.specs.Records.{entry_bytes};

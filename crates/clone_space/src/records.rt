@@ -1,3 +1,7 @@
+//! The records that make, lengthen and drop a table's space, in their order. Made: the space, then
+//! its entry. Longer by a page: the number of pages in the entry, the space, the new overflow
+//! page, and the page before it, which names it. Dropped: the space, then its entry as zero bytes.
+//! Those of one list are one mini-transaction.
 ghost use Rattle.std.specs.Prelude.{◌≡◌, ◌<◌, ◌≤◌, length};
 ghost use Rattle.clone_model.specs.declared.line.TheConstants.{MOST_PAGES};
 ghost use Rattle.clone_page.specs.Dictionary.{entry_count};

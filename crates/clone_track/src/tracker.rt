@@ -1,3 +1,6 @@
+//! The pages that were noted since tracking began, as a set, in sorted runs; while it is idle
+//! there is no set at all. A page may stand in several runs, so more notes may be kept than there
+//! are pages.
 ghost use Rattle.std.specs.Prelude.{◌≡◌, ◌+◌, ◌≤◌, ◌↔◌, None, Some, length, IsTrue, IsSome, IsOk, OnOk, OnErr};
 ghost use Rattle.std.specs.FinMap as finite;
 ghost use Rattle.clone_track.specs.Tracking.{all_noted, listed, noted};

@@ -1,3 +1,6 @@
+//! A cell and its seats. Between calls a seat has no ticket, holds nothing of the cell's table,
+//! has no state lifted and no seat half joined, and its share is above 0. It knows a first state,
+//! from which the run that it has seen begins.
 ghost use Rattle.std.specs.Prelude.{◌≡◌, ◌++◌, IfOk, IfErr, IsPermutation};
 ghost use mathlib.Core.List.{IsPrefix};
 ghost use Rattle.clone_turn.specs.Runs.{Agree, calls, entries, end_of};

@@ -1,3 +1,5 @@
+//! A seat in a type that holds no state of a machine. It keeps the rule of a seat between calls:
+//! one view, no ticket, no state lifted, and a share above 0.
 ghost use Rattle.std.specs.Prelude.{◌≡◌, [], ◌∷◌};
 ghost use Rattle.clone_turn.specs.declared.view.View.{View};
 ghost use Rattle.clone_turn.specs.Rule.{Idle};

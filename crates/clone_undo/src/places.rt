@@ -1,5 +1,8 @@
-//! Where the undo slots stand in the system space: four pages each, of which the first has the
-//! header, and forty records on each page. Places on a page are in bytes from its beginning.
+//! Where the undo slots stand in the system space. There are 64 slots of four pages: slot s has
+//! pages 1 + 4s to 4 + 4s. Its header of 16 bytes is at 40 of the first: active 0, count 2, writer
+//! 4, index 8. Each page has 40 records of 96 bytes from 64 on: table 0, page 4, slot 8, state 10,
+//! length 11, key 16, value 24. Record i stands on page i / 40 of the slot, as its record i mod
+//! 40.
 ghost use Rattle.std.specs.Prelude.{◌≡◌, ◌<◌, ◌+◌, ◌*◌};
 ghost use Rattle.clone_undo.specs.Places as places;
 

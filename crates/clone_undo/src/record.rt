@@ -1,3 +1,5 @@
+//! An undo record: which row slot was changed, and what it held before. The table is from 1 to
+//! 1,000,000, the page below 65,536 and the slot below 50. A slot that was absent held no value.
 ghost use Rattle.std.specs.Prelude.{◌≡◌, ◌≤◌, ◌<◌, ◌↔◌, IsTrue, length};
 ghost use Rattle.clone_page.specs.Slots.{slot_count};
 ghost use Rattle.clone_undo.specs.Entries.{IsPlace, IsBefore, IsEntry, state_number, value_before, entry_bytes};

@@ -1,3 +1,7 @@
+//! The records of each mini-transaction, in their order. Begin: the header, with no records.
+//! Change: the undo record, the new count, then the row slot. Take back: the row slot as before,
+//! then the count, one less. End: the header as zero bytes. Ahead of a page's first write it is
+//! made, where it is unused. Those of one list are one mini-transaction.
 ghost use Rattle.std.specs.Prelude.{◌≡◌, ◌<◌, ◌≤◌, ◌∷◌, [], true, false};
 ghost use Rattle.clone_undo.specs.Entries.{entry_bytes};
 ghost use Rattle.clone_undo.specs.Places as places;

@@ -1,3 +1,5 @@
+//! A bit for each of at most 8,388,608 chunks. Chunk i has bit i mod 8 of byte i / 8, the lowest
+//! first. There are as many bytes as the bits need and no more, and the bits past the count are 0.
 ghost use Rattle.std.specs.Prelude.{◌≡◌, ◌≢◌, ◌<◌, ◌≤◌, ℕ, true, false, length, IfOk};
 ghost use Rattle.clone_chunk.specs.Chunks.{has_bit};
 ghost use Rattle.clone_wire.specs.Bitmaps.{Bits, IsBitmap, ends_at};

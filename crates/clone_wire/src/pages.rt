@@ -1,3 +1,5 @@
+//! The pages of a block: 1 to 8 of them, each with its space and its number. There is no list of
+//! none, nor of more.
 ghost use Rattle.std.specs.Prelude.{◌≡◌, ◌≤◌, length};
 ghost use Rattle.clone_wire.specs.declared.limits.TheConstants.{MOST_PAGES};
 

@@ -1,3 +1,6 @@
+//! The fields of each payload, at their distances from the beginning of the frame, in the order
+//! that `specs/Spelling.antt` gives. The payload begins at 5. A field out of its range is named by
+//! where it stands.
 ghost use Rattle.std.specs.Prelude.{◌≡◌, ◌≤◌, ◌+◌, ◌/◌};
 ghost use Rattle.clone_base.specs.declared.limits.TheConstants.{PAGE_SIZE};
 ghost use Rattle.clone_wire.specs.Bitmaps.{HasLength};

@@ -1,3 +1,5 @@
+//! The bytes of redo in a block: 1 to 16,384 of them, in the order of the log. There is no list of
+//! none, nor of more.
 ghost use Rattle.std.specs.Prelude.{◌≡◌, ◌≤◌, length, IfOk};
 ghost use Rattle.clone_wire.specs.declared.limits.TheConstants.{MOST_REDO};
 

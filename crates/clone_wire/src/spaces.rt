@@ -1,3 +1,5 @@
+//! The spaces of a stage: at most 63 of them, those of the tables and the system space, each with
+//! its number of pages.
 ghost use Rattle.std.specs.Prelude.{◌≡◌, ◌≤◌, ◌<◌, ◌++◌, ◌∷◌, ◌↔◌, [], length, OnOk, OnErr, IsTrue};
 ghost use Rattle.clone_wire.specs.declared.limits.TheConstants.{MOST_SPACES};
 

@@ -1,3 +1,7 @@
+//! The spelling of a frame: code in 1 byte, length of the payload in 4, then the payload's fields
+//! in the order that `specs/Spelling.antt` gives, with nothing between them. Numbers have
+//! their highest byte first, and a list stands behind its length. A payload that names an attempt
+//! begins with it, 12 bytes, but for INIT, where it is the last field.
 ghost use Rattle.std.specs.Prelude.{◌≡◌, ◌≤◌, ◌+◌, ◌*◌, ◌++◌, length, vec_len, OnOk};
 ghost use Rattle.std.specs.List.{flat_map};
 ghost use Rattle.byteorder.specs.Endian.{big_bytes};
