@@ -28,6 +28,7 @@ use Rattle.clone_pool.specs.declared.pool.FetchRefusal.{FetchRefusal}
 use Rattle.clone_pool.specs.declared.pool.FetchRefusal.TheVariants as fetch
 use Rattle.clone_engine.specs.Disks.{DiskState, Visits}
 use Rattle.clone_engine.specs.Engine.{Engine}
+use Rattle.clone_engine.specs.Steps as steps
 use Rattle.clone_engine.specs.Steps.{AnswersDrop, Looks, Ends, Flushes, Transacts, Did, way_of, refusal_of}
 use Rattle.clone_session.specs.Cloning.{Session}
 use Rattle.clone_donor.specs.Donor as staged
@@ -367,15 +368,23 @@ made_visits d t (refused call cause) is = answered_visits call d t (Err (Because
 
 -- WHERE MEMORY RAN OUT the plain donor is as before
 
+wants_donor : (call : Call) (s t : Engine) → steps.Goes call s t (Err NoMemory) → t.donor ≡ s.donor
+wants_donor call s t (inl same) = ap (λ (e : Engine). e.donor) same
+wants_donor call s t (inr follows) = by (cause_of s.donor call) follows
+  where
+    by : (o : Option Cause) → Answers o (way_of s.donor call) s.donor t.donor s.buffer t.buffer (Err NoMemory) (Did call s t) → t.donor ≡ s.donor
+    by (Some why) answers = answers.1
+    by None answers = answers.1
+
 served_wants : (call : Call) (d : staged.Donor) (e : Engine) → ServesAs call d e (Err NoMemory) → e.donor ≡ d.engine.donor
-served_wants (create table buckets) d e is = is.goes.donor
+served_wants (create table buckets) d e is = wants_donor _ d.engine e is.goes
 served_wants (drop table) d e is = drop_wants (drop_cause d.engine.donor table) table d.engine e is.answers
-served_wants (begin writer index) d e is = is.goes.donor
-served_wants (put trx table key value) d e is = is.goes.donor
-served_wants (delete trx table key) d e is = is.goes.donor
-served_wants (get trx table key) d e is = is.goes.donor
-served_wants (undo_one trx) d e is = is.goes.donor
-served_wants (commit trx) d e is = is.goes.donor
+served_wants (begin writer index) d e is = wants_donor _ d.engine e is.goes
+served_wants (put trx table key value) d e is = wants_donor _ d.engine e is.goes
+served_wants (delete trx table key) d e is = wants_donor _ d.engine e is.goes
+served_wants (get trx table key) d e is = wants_donor _ d.engine e is.goes
+served_wants (undo_one trx) d e is = wants_donor _ d.engine e is.goes
+served_wants (commit trx) d e is = wants_donor _ d.engine e is.goes
 served_wants (flush_begin space page) d e is = is.donor
 served_wants (flush_half space page) d e is = is.donor
 served_wants (flush_land space page) d e is = is.donor

@@ -1,5 +1,5 @@
 -- What holds of every donor after a table was dropped, or wasn't.
-use Rattle.std.proofs.Common.{◌≡◌, ◌≢◌, ◌≤◌, ◌<◌, ◌+◌, ◌-◌, ◌++◌, ◌⊎◌, inl, inr, ℕ, List, [], ◌∷◌, Bool, true, false, refl, sym, ap, subst, ◌∙◌, arith, Option, None, Some, IsSome, IsTrue, is_some, min, option_map, option_and_then, slice_get, Result, Ok, Err, IfOk, not, if◌then◌else◌, length, append-nil, length-append, cond}
+use Rattle.std.proofs.Common.{◌≡◌, ◌≢◌, ◌≤◌, ◌<◌, ◌+◌, ◌-◌, ◌++◌, ◌⊎◌, inl, inr, ℕ, List, [], ◌∷◌, Bool, true, false, refl, sym, ap, subst, ◌∙◌, arith, Option, None, Some, IsSome, IsTrue, is_some, min, option_map, option_and_then, slice_get, Result, Ok, Err, IfOk, OnOk, not, if◌then◌else◌, length, append-nil, length-append, cond}
 use Rattle.std.proofs.lemmas.Bool.{cases_eq, true≢false}
 use Rattle.std.specs.FinMap as finite
 use Rattle.std.specs.Option.{option_or}
@@ -293,6 +293,7 @@ module _ (d e : Donor) (old new : Buffered) (f : Flights) (k l : DiskState) (tab
     pub way : Goes (drop_way table) old new result
     pub donor : CarriesDrop table d e old new result
     pub keeps : Keeps e new
+    pub file : OnOk result (disk.Steps k.told l.told (λ m. with_removed m table))
     pub removed : IsBeforeOrAfter k.told l.told (λ m. with_removed m table)
     pub same : new.log ≡ old.log → l.told ≡ k.told
     pub stays : new.log ≡ old.log → StaysStanding old new k.told l.told
@@ -353,6 +354,10 @@ module _ (d e : Donor) (old new : Buffered) (f : Flights) (k l : DiskState) (tab
     answered (Ok x) = refl
     answered (Err refusal) = tt
 
+    removed_file : (r : Result (Unit {0}) EngineRefusal) → OnOk r (disk.Steps k.told l.told (λ m. with_removed m table)) → IfOk (answer_of did r) (λ _. disk.Steps k.told l.told (λ m. with_removed m table))
+    removed_file (Ok x) is = is
+    removed_file (Err refusal) is = tt
+
     pub drop_step : k.failures ≤ l.failures → l.orders ≡ k.orders → (result ≡ Err (Because DiskFault) → Rose k.failures l.failures) → steps.Drops table s t (answer_of did result)
     drop_step later orders fault = record {
       answers = subst (λ (o : Option Cause). steps.AnswersDrop o table s t (answer_of did result)) (sym call.free) (inr (record {
@@ -362,6 +367,7 @@ module _ (d e : Donor) (old new : Buffered) (f : Flights) (k l : DiskState) (tab
         flights = refl;
         did = answered result;
       }));
+      file = removed_file result call.file;
       disk = record {
         visits = record { later = later; orders = orders; tells = either_tells k.told l.told (λ m. with_removed m table) call.removed };
         fault = λ is. fault (same_refusal did result (Because DiskFault) is);

@@ -3,6 +3,7 @@ use Rattle.std.specs.Prelude.{ℕ, ◌≡◌, ◌⊎◌, Bool, true, false, None
 use Rattle.std.specs.declared.option.Option.{Option}
 use Rattle.std.specs.FinMap as finite
 use Rattle.clone_outside.specs.Causes.{Rose}
+use Rattle.clone_outside.specs.Disk as outside
 use Rattle.clone_ring.specs.Window.{end_of}
 use Rattle.clone_pool.specs.Frames.{frame_at, name_of}
 use Rattle.clone_pool.specs.Pool.{AreNotWaiting, IsNextToFlush}
@@ -24,7 +25,6 @@ use Rattle.clone_plain.specs.declared.refusal.EngineRefusal.TheVariants.{Because
 use Rattle.clone_trx.specs.Calls.{create_way, drop_way, begin_way, change_way, get_way, undo_way, commit_way}
 use Rattle.clone_trx.specs.Ways as ways
 use Rattle.clone_trx.specs.Ways.{Way, ends, Answers, CarriesDrop}
-use Rattle.clone_engine.specs.Growth.{GrowsBy}
 use Rattle.clone_engine.specs.Disks.{DiskState, Visits}
 use Rattle.clone_engine.specs.Engine.{Engine, StandsBeside, state_of}
 
@@ -62,25 +62,16 @@ pub record Did (call : Call) (s t : Engine) (did : Done) : Type 0 where
   pub does : Does s.donor did t.donor
   pub sees : Sees s.donor t.buffer did
 
--- so many mini-transactions a call may have written when it wants memory: a change may have made a
--- page for its row by then
-abbrev pub written_before : Call → ℕ
-written_before (put trx table key value) = 1
-written_before (delete trx table key) = 1
-written_before call = 0
-
--- for want of memory, nothing has changed but frames and the pages of tables
-pub record Wants (call : Call) (s t : Engine) : Type 0 where
-  pub donor : t.donor ≡ s.donor
-  pub log : GrowsBy (written_before call) s.buffer.log t.buffer.log
-  pub flights : t.flights ≡ s.flights
-
--- A CALL OF TRANSACTIONS goes its way. Want of memory is free.
-abbrev pub Goes : Call → Engine → Engine → Result Done EngineRefusal → Type 0
-Goes call s t (Err NoMemory) = Wants call s t
-Goes call s t answer =
+-- a call of transactions answers for its cause or goes its way, up to this answer
+abbrev pub FollowsItsWay : Call → Engine → Engine → Result Done EngineRefusal → Type 0
+FollowsItsWay call s t answer =
     Answers (cause_of s.donor call) (way_of s.donor call) s.donor t.donor s.buffer t.buffer answer
     (Did call s t)
+
+-- A CALL OF TRANSACTIONS. Want of memory is free: on the way, or before anything has changed.
+abbrev pub Goes : Call → Engine → Engine → Result Done EngineRefusal → Type 0
+Goes call s t (Err NoMemory) = (t ≡ s) ⊎ FollowsItsWay call s t (Err NoMemory)
+Goes call s t answer = FollowsItsWay call s t answer
 
 -- what becomes of the files: one is made of each table that is
 abbrev pub flown : Result Done EngineRefusal → Flights → Flights
@@ -114,9 +105,11 @@ AnswersDrop None table s t answer =
     (HasWriteOf table s.flights × (answer ≡ Err (Because cause.InFlight)) × (t ≡ s))
     ⊎ GoesDrop table s t answer
 
--- A DROP of a table
+-- A DROP of a table: where it is carried out, the disk has removed the table's file.
 pub record Drops (table : ℕ) (s t : Engine) (answer : Result Done EngineRefusal) : Type 0 where
   pub answers : AnswersDrop (drop_cause s.donor table) table s t answer
+  pub file : IfOk answer
+      (λ _. outside.Steps s.disk.told t.disk.told (λ m. outside.with_removed m table))
   pub disk : Serves s.disk t.disk answer
 
 -- why a flush is refused, as the donor answers it

@@ -214,8 +214,7 @@ impl PageDisk for MemDisk {
             (Some self.new.image ≡ Some (with_removed self.old.image space)) }
         ensures fault { IsErrOf result Refusal.Fault → IsBeforeOrAfter (Some self.old.image)
             (Some self.new.image) (λ m. with_removed m space) }
-        ensures memory { IsErrOf result Refusal.NoMemory
-            → Some self.new.image ≡ Some self.old.image }
+        ensures memory { result ≢ Err Refusal.NoMemory }
         ensures cause { HasCause self.old.calls.faults self.new.calls.faults result }
         ensures orders { self.new.orders ≡ self.old.orders }
 

@@ -134,14 +134,14 @@ pub trait PageDisk {
         ensures cause { HasCause (failures self.old) (failures self.new) result }
         ensures orders { orders self.new ≡ orders self.old };
 
-    /// Takes a space away, if it is there. After `Fault` the space is as before or as the call
-    /// leaves it.
+    /// Takes a space away, if it is there. It takes no memory, so each error is `Fault`, and after
+    /// it the space is as before or as the call leaves it.
     fn remove(&mut self, space: u32) -> Result<(), Refusal>
         ensures removed { OnOk result
             (Steps (told self.old) (told self.new) (λ m. with_removed m space)) }
         ensures fault { IsErrOf result Refusal.Fault
             → IsBeforeOrAfter (told self.old) (told self.new) (λ m. with_removed m space) }
-        ensures memory { IsErrOf result Refusal.NoMemory → told self.new ≡ told self.old }
+        ensures memory { result ≢ Err Refusal.NoMemory }
         ensures cause { HasCause (failures self.old) (failures self.new) result }
         ensures orders { orders self.new ≡ orders self.old };
 

@@ -1,6 +1,6 @@
-ghost use Rattle.std.specs.Prelude.{Err, IsTrue, None, OnErr, ◌<◌, ◌≡◌, ◌≤◌};
+ghost use Rattle.std.specs.Prelude.{Err, IsTrue, None, OnErr, OnOk, ◌<◌, ◌≡◌, ◌≤◌};
 ghost use Rattle.clone_outside.specs.Causes.{Rose};
-ghost use Rattle.clone_outside.specs.Disk.{IsBeforeOrAfter, with_removed};
+ghost use Rattle.clone_outside.specs.Disk.{IsBeforeOrAfter, Steps, with_removed};
 ghost use Rattle.clone_page.specs.Dictionary.{entry_count};
 ghost use Rattle.clone_contents.specs.Contents.{contents_of};
 ghost use Rattle.clone_buffer.specs.Buffered.{image_of};
@@ -14,10 +14,10 @@ ghost use Rattle.clone_trx.specs.Kept.{IsHeld, Keeps, TellsPages};
 ghost use Rattle.clone_trx.specs.Sound.{IsKept};
 
 use crate::Transactions;
-use crate::hold::{check_room, hold, refused_by, release, write_drop_held};
+use crate::hold::{check_room, hold, release, write_drop_held};
 use clone_buffer::Buffer;
 use clone_model::MOST_PAGES;
-use clone_outside::{PageDisk, Refusal};
+use clone_outside::PageDisk;
 use clone_plain::{Cause, EngineRefusal};
 use clone_space::{drop_records, entry_at, find};
 
@@ -27,8 +27,7 @@ impl Transactions {
     ///
     /// Refused where there is no frame for the system page, where the disk fails to read it, and
     /// where the log has no room; then the table stays. Where the disk fails to remove the file,
-    /// the table is gone all the same. A file that the disk has no memory to remove stays, and the
-    /// table is dropped.
+    /// the table is gone all the same.
     pub fn drop_table<D: PageDisk>(
         &mut self,
         buffer: &mut Buffer,
@@ -44,6 +43,8 @@ impl Transactions {
             → Rose (D.failures disk.old) (D.failures disk.new) }
         ensures later { D.failures disk.old ≤ D.failures disk.new }
         ensures orders { D.orders disk.new ≡ D.orders disk.old }
+        ensures gone { OnOk result
+            (Steps (D.told disk.old) (D.told disk.new) (λ m. with_removed m table)) }
         ensures removed { IsBeforeOrAfter (D.told disk.old) (D.told disk.new)
             (λ m. with_removed m table) }
         ensures same { buffer.new.log ≡ buffer.old.log → D.told disk.new ≡ D.told disk.old }
@@ -87,6 +88,8 @@ impl Transactions {
             → Rose (D.failures disk.old) (D.failures disk.new) }
         ensures later { D.failures disk.old ≤ D.failures disk.new }
         ensures orders { D.orders disk.new ≡ D.orders disk.old }
+        ensures gone { OnOk result
+            (Steps (D.told disk.old) (D.told disk.new) (λ m. with_removed m table)) }
         ensures removed { IsBeforeOrAfter (D.told disk.old) (D.told disk.new)
             (λ m. with_removed m table) }
         ensures same { buffer.new.log ≡ buffer.old.log → D.told disk.new ≡ D.told disk.old }
@@ -106,19 +109,20 @@ impl Transactions {
     }
 }
 
-// The disk removes the file of a table that was dropped. It may want memory for that, and then the
-// file stays.
+// The disk removes the file of a table that was dropped.
 fn remove_file<D: PageDisk>(disk: &mut D, table: u32) -> Result<(), EngineRefusal>
     ensures refused { OnErr result (result ≡ Err (Because DiskFault)) }
     ensures fault { result ≡ Err (Because DiskFault)
         → Rose (D.failures disk.old) (D.failures disk.new) }
     ensures later { D.failures disk.old ≤ D.failures disk.new }
     ensures orders { D.orders disk.new ≡ D.orders disk.old }
+    ensures gone { OnOk result
+        (Steps (D.told disk.old) (D.told disk.new) (λ m. with_removed m table)) }
     ensures removed { IsBeforeOrAfter (D.told disk.old) (D.told disk.new)
         (λ m. with_removed m table) }
 {
     match disk.remove(table) {
-        Ok(()) | Err(Refusal::NoMemory) => Ok(()),
-        Err(Refusal::Fault) => Err(Cause::DiskFault.into()),
+        Ok(()) => Ok(()),
+        Err(_) => Err(Cause::DiskFault.into()),
     }
 }

@@ -41,4 +41,4 @@ returns-clause-removed g c =
     c.remove.ensures.removed
 
 pub returns-clause-tells : goal.returns-clause-tells
-returns-clause-tells g c = written_tells c.remove.result _ _ _ c.remove.ensures.removed c.remove.ensures.fault c.remove.ensures.memory
+returns-clause-tells g c = written_tells c.remove.result _ _ _ c.remove.ensures.removed c.remove.ensures.fault (λ none. absurd (c.remove.ensures.memory none))

@@ -21,7 +21,7 @@ invariant_of-self g c =
     let k : DiskState = record { told = g.D.PageDisk.told old.disk; failures = g.D.PageDisk.failures old.disk; orders = g.D.PageDisk.orders old.disk } in
     let l : DiskState = record { told = g.D.PageDisk.told b.new.disk; failures = g.D.PageDisk.failures b.new.disk; orders = g.D.PageDisk.orders b.new.disk } in
     let is = b.ensures in
-    let dropping : Dropping d b.new.self old.buffer b.new.buffer f k l c.args.table b.result = record { free = c.in_ok-check_drop.ensures; quiet = λ has. true≢false (sym (c.write_under_way.ensures.1 has) ∙ c.if-write_under_way.false); way = is.way; donor = is.donor; keeps = is.kept; removed = is.removed; same = is.same; stays = is.stays; stands = is.stands } in
+    let dropping : Dropping d b.new.self old.buffer b.new.buffer f k l c.args.table b.result = record { free = c.in_ok-check_drop.ensures; quiet = λ has. true≢false (sym (c.write_under_way.ensures.1 has) ∙ c.if-write_under_way.false); way = is.way; donor = is.donor; keeps = is.kept; file = is.gone; removed = is.removed; same = is.same; stays = is.stays; stands = is.stands } in
     subst (λ (x : Flights). IsEngine (engine b.new.self b.new.buffer x l)) (sym c.forget_dropped.ensures)
     (drop_engine d b.new.self old.buffer b.new.buffer f k l c.args.table b.result c.self.invariant c.laws.ensures.safe dropping)
 
@@ -34,7 +34,7 @@ returns-clause-step g c =
     let k : DiskState = record { told = g.D.PageDisk.told old.disk; failures = g.D.PageDisk.failures old.disk; orders = g.D.PageDisk.orders old.disk } in
     let l : DiskState = record { told = g.D.PageDisk.told b.new.disk; failures = g.D.PageDisk.failures b.new.disk; orders = g.D.PageDisk.orders b.new.disk } in
     let is = b.ensures in
-    let dropping : Dropping d b.new.self old.buffer b.new.buffer f k l c.args.table b.result = record { free = c.in_ok-check_drop.ensures; quiet = λ has. true≢false (sym (c.write_under_way.ensures.1 has) ∙ c.if-write_under_way.false); way = is.way; donor = is.donor; keeps = is.kept; removed = is.removed; same = is.same; stays = is.stays; stands = is.stands } in
+    let dropping : Dropping d b.new.self old.buffer b.new.buffer f k l c.args.table b.result = record { free = c.in_ok-check_drop.ensures; quiet = λ has. true≢false (sym (c.write_under_way.ensures.1 has) ∙ c.if-write_under_way.false); way = is.way; donor = is.donor; keeps = is.kept; file = is.gone; removed = is.removed; same = is.same; stays = is.stays; stands = is.stands } in
     let answer = answer_of (λ (x : Unit {0}). did_drop c.args.table) b.result in
     subst (λ (s : Engine). steps.Drops c.args.table s (engine b.new.self b.new.buffer c.forget_dropped.new.flusher l) answer) c.self.view_is
     (subst (λ (x : Flights). steps.Drops c.args.table (engine d old.buffer f k) (engine b.new.self b.new.buffer x l) answer) (sym c.forget_dropped.ensures)
@@ -49,6 +49,6 @@ returns-clause-copies g c =
     let k : DiskState = record { told = g.D.PageDisk.told old.disk; failures = g.D.PageDisk.failures old.disk; orders = g.D.PageDisk.orders old.disk } in
     let l : DiskState = record { told = g.D.PageDisk.told b.new.disk; failures = g.D.PageDisk.failures b.new.disk; orders = g.D.PageDisk.orders b.new.disk } in
     let is = b.ensures in
-    let dropping : Dropping d b.new.self old.buffer b.new.buffer f k l c.args.table b.result = record { free = c.in_ok-check_drop.ensures; quiet = λ has. true≢false (sym (c.write_under_way.ensures.1 has) ∙ c.if-write_under_way.false); way = is.way; donor = is.donor; keeps = is.kept; removed = is.removed; same = is.same; stays = is.stays; stands = is.stands } in
+    let dropping : Dropping d b.new.self old.buffer b.new.buffer f k l c.args.table b.result = record { free = c.in_ok-check_drop.ensures; quiet = λ has. true≢false (sym (c.write_under_way.ensures.1 has) ∙ c.if-write_under_way.false); way = is.way; donor = is.donor; keeps = is.kept; file = is.gone; removed = is.removed; same = is.same; stays = is.stays; stands = is.stands } in
     λ copies calm st. subst (λ (x : Flights). StandsFlown b.new.buffer x copies l.told) (sym c.forget_dropped.ensures)
     (drop_copies d b.new.self old.buffer b.new.buffer f k l c.args.table b.result c.self.invariant c.laws.ensures.safe dropping copies calm (subst (λ (s : Engine). StandsBeside s copies) (sym c.self.view_is) st))
