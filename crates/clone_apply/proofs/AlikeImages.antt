@@ -26,13 +26,13 @@ module _ (copy image : Image) (alike : Alike copy image) where
   -- a space that the dictionary of the copy names and that isn't there
   pub missing_alike : ((s n : ℕ) → Lax (standing_of copy s n) (standing_of image s n)) → NamesMissing copy → NamesMissing image
   missing_alike each missing =
-      let s : ℕ = entry_space missing.names.place missing.system in
+      let s : ℕ = entry_space missing.names.entry_number missing.system in
       let none : standing_of image s 0 ≡ no_space =
       none_there (standing_of image s 0) (subst (λ (v : Standing). Lax v (standing_of image s 0)) (ap (λ o. standing_in o 0) missing.names.missing) (each s 0)) in
       record {
         system = missing.system;
         there = sym (alike.system 0) ∙ missing.there;
-        names = record { place = missing.names.place; within = missing.names.within; used = missing.names.used; missing = no_space_none (finite.get image s) none };
+        names = record { entry_number = missing.names.entry_number; within = missing.names.within; used = missing.names.used; missing = no_space_none (finite.get image s) none };
       }
 
   -- an undo record that is sound in the image is so in the copy

@@ -64,22 +64,22 @@ module _ (d : Donor) (image : Image) (is : IsKept d image) where
 
   -- the dictionary names only spaces that are there
   pub none_missing : NamesMissing image → ⊥
-  none_missing missing = let sized = (is.sound.tables.sizes (named c place) count.0 count.1).0 in none-some sized.pages (sym gone ∙ sized.size)
+  none_missing missing = let sized = (is.sound.tables.sizes (named c entry_number) count.0 count.1).0 in none-some sized.pages (sym gone ∙ sized.size)
     where
-      place : ℕ
-      place = missing.names.place
+      entry_number : ℕ
+      entry_number = missing.names.entry_number
 
-      listed : named c place ≡ entry_space place missing.system
-      listed = named_on image place missing.names.within ∙ ap (entry_space place) (all_pages-is image 0 0 missing.system missing.there)
+      listed : named c entry_number ≡ entry_space entry_number missing.system
+      listed = named_on image entry_number missing.names.within ∙ ap (entry_space entry_number) (all_pages-is image 0 0 missing.system missing.there)
 
       value : (o : Option ℕ) → IsSome o → (n : ℕ) × (o ≡ Some n)
       value None some = cc
       value (Some n) some = (n, refl)
 
-      count : (n : ℕ) × (finite.get d.tables (named c place) ≡ Some n)
-      count = value (finite.get d.tables (named c place)) (is.sound.tables.tables place (λ z. missing.names.used (sym listed ∙ z)))
+      count : (n : ℕ) × (finite.get d.tables (named c entry_number) ≡ Some n)
+      count = value (finite.get d.tables (named c entry_number)) (is.sound.tables.tables entry_number (λ z. missing.names.used (sym listed ∙ z)))
 
-      gone : page_count image (named c place) ≡ None
+      gone : page_count image (named c entry_number) ≡ None
       gone = ap (page_count image) listed ∙ ap (option_map length) missing.names.missing
 
   -- no undo slot counts more records than fit
@@ -95,15 +95,15 @@ module _ (d : Donor) (image : Image) (is : IsKept d image) where
   listed_there table count some =
       let system = there image 0 0 257 is.formed.size (omega arith) in
       let ranges = is.sound.tables.sizes table count some in
-      let place = is.sound.tables.listed table (ap is_some some) in
-      elim (cases_lt place.0 62) [
+      let entry = is.sound.tables.listed table (ap is_some some) in
+      elim (cases_lt entry.0 62) [
         | inl low ↦ subst (λ (o : Option (List ℕ)). IsSomeAnd o (λ page. Lists page table)) (sym system.1) (record {
-          place = place.0;
+          entry_number = entry.0;
           within = low;
           used = omega (arith, ranges.1);
-          named = ap (entry_space place.0) (sym (all_pages-is image 0 0 system.0 system.1)) ∙ sym (named_on image place.0 low) ∙ place.1;
+          named = ap (entry_space entry.0) (sym (all_pages-is image 0 0 system.0 system.1)) ∙ sym (named_on image entry.0 low) ∙ entry.1;
         })
-        | inr high ↦ absurd (let none = sym place.1 ∙ named_past image place.0 high in omega (arith, none, ranges.1))
+        | inr high ↦ absurd (let none = sym entry.1 ∙ named_past image entry.0 high in omega (arith, none, ranges.1))
       ]
 
   -- a record that tells of a change is sound

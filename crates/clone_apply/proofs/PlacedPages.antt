@@ -25,4 +25,4 @@ placed_lax s n (stands page) (stands other) lax placed = subst (IsPlaced s n) (s
 
 -- A page as it was at a moment that isn't before the base is one from which redo may start.
 pub may_start : (s n base : ℕ) (u : Standing) (log : List (List Record)) → AllFit s n log → WasPlaced s n log → Since s n base u log → Gives s n base log u × IsPlaced s n u
-may_start s n base u log fits was since = (λ front rest split place. since_redone s n base u log front rest fits since split place, placed_lax s n u _ since.was (was since.before since.behind since.split))
+may_start s n base u log fits was since = (λ front rest split moment. since_redone s n base u log front rest fits since split moment, placed_lax s n u _ since.was (was since.before since.behind since.split))

@@ -69,7 +69,7 @@ module _ (log : List (List Record)) (end : CloneEnd) (m : DiskImage) (to : IsLog
   small = omega (arith, to.stop, end.within)
 
   long : redo_length e ≡ length (log_of rest)
-  long = omega (arith, one.lsn, one.checkpoint, to.stop, staged.begin.place, ap (λ (x : List (List Record)). length (log_of x)) staged.begin.split, ap length (log_of-append front rest), length-append (log_of front) (log_of rest))
+  long = omega (arith, one.lsn, one.checkpoint, to.stop, staged.begin.moment, ap (λ (x : List (List Record)). length (log_of x)) staged.begin.split, ap length (log_of-append front rest), length-append (log_of front) (log_of rest))
 
   each : AllByRecursion IsSpelled rest
   each = recursion-rest IsSpelled front rest (subst (AllByRecursion IsSpelled) staged.begin.split to.each)
@@ -99,7 +99,7 @@ module _ (log : List (List Record)) (end : CloneEnd) (m : DiskImage) (to : IsLog
     pages s n = elim (cases_lt s redo_space) [
       | inl low ↦
           subst (λ (v : Standing). Lax v (standing_of (replayed log) s n)) (sym (left_is s n))
-          (subst (λ (v : Standing). Lax (redone_from end.checkpoint s n (standing_of (image_of m) s n) rest) v) (sym (log_is s n)) (staged.gives s n low front rest staged.begin.split staged.begin.place))
+          (subst (λ (v : Standing). Lax (redone_from end.checkpoint s n (standing_of (image_of m) s n) rest) v) (sym (log_is s n)) (staged.gives s n low front rest staged.begin.split staged.begin.moment))
       | inr high ↦
           Lax-same (standing_of left s n) (standing_of (replayed log) s n)
           (left_is s n ∙ none_log end.checkpoint s n (standing_of (image_of m) s n) rest high tables (base_none m s n high)
@@ -118,7 +118,7 @@ module _ (log : List (List Record)) (end : CloneEnd) (m : DiskImage) (to : IsLog
             let old : Standing = standing_of (image_of m) 0 n in
             let was : IsNothing old = nothing_at old (sym (page_stands (image_of m) 0 n) ∙ none) in
             let now : redone_from (ends front) 0 n (redone 0 n front) rest ≡ past_end = sym (in_parts 0 n front rest) ∙ ap (redone 0 n) (sym staged.begin.split) ∙ sym (log_is 0 n) ∙ is in
-            let left_end : standing_of left 0 n ≡ redone_from (ends front) 0 n old rest = left_is 0 n ∙ ap (λ c. redone_from c 0 n old rest) (sym staged.begin.place) in
+            let left_end : standing_of left 0 n ≡ redone_from (ends front) 0 n old rest = left_is 0 n ∙ ap (λ c. redone_from c 0 n old rest) (sym staged.begin.moment) in
             subst (λ (u : Standing). IsWithin u past_end) (sym left_end)
             (subst (λ (v : Standing). IsWithin (redone_from (ends front) 0 n old rest) v) now (redone_within (ends front) 0 n old (redone 0 n front) rest (nothing_within old (redone 0 n front) was)))
 

@@ -77,22 +77,22 @@ module _ (d : Donor) (copy image : Image) (tables : HoldsTables d (contents_of i
       same = ap dictionary (sym (all_pages-is image 0 0 system (sym (alike.system 0) ∙ there)))
 
       entry : TableEntry
-      entry = entry_in c.dictionary tells.place
+      entry = entry_in c.dictionary tells.entry_number
 
       named : entry.table ≡ table
-      named = ap (λ (list : List TableEntry). (entry_in list tells.place).table) (sym same) ∙ tells.named
+      named = ap (λ (list : List TableEntry). (entry_in list tells.entry_number).table) (sym same) ∙ tells.named
 
       count : (n : ℕ) × (finite.get d.tables table ≡ Some n)
-      count = some_value (finite.get d.tables table) (subst (λ (t : ℕ). IsSome (finite.get d.tables t)) named (tables.tables tells.place (λ free. tells.used (sym named ∙ free))))
+      count = some_value (finite.get d.tables table) (subst (λ (t : ℕ). IsSome (finite.get d.tables t)) named (tables.tables tells.entry_number (λ free. tells.used (sym named ∙ free))))
 
       sized : HasSize c table count.0
       sized = (tables.sizes table count.0 count.1).0
 
       told : entry ≡ record { table = table; buckets = count.0; pages = sized.pages }
-      told = tables.told table count.0 sized.pages tells.place count.1 sized.size named
+      told = tables.told table count.0 sized.pages tells.entry_number count.1 sized.size named
 
       counted : bucket < count.0
-      counted = subst (λ (e : TableEntry). bucket < e.buckets) (ap (λ (list : List TableEntry). entry_in list tells.place) same ∙ told) tells.counted
+      counted = subst (λ (e : TableEntry). bucket < e.buckets) (ap (λ (list : List TableEntry). entry_in list tells.entry_number) same ∙ told) tells.counted
 
   none_first : (table page : ℕ) → IsFirstBrokenChain copy table page → ⊥
   none_first table page is =

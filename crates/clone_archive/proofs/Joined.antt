@@ -1,4 +1,4 @@
--- Lists of one length, joined end to end: what stands at a place.
+-- Lists of one length, joined end to end: what stands at an index.
 use Rattle.std.proofs.Common.{◌≡◌, ℕ, zero, suc, ◌+◌, ◌*◌, ◌<◌, ◌≤◌, List, [], ◌∷◌, ◌++◌, length}
 use Rattle.std.proofs.Common.{take, drop, get_or, arith, ◌∙◌, ap, sym, length-append, append_assoc}
 use Rattle.std.specs.List.{flat_map, All}
@@ -17,7 +17,7 @@ length-joined f n (x ∷ xs) long =
     let rest = length-joined f n xs (All-tail (λ x. length (f x) ≡ n) x xs long) in
     omega (arith, length-append (f x) (flat_map f xs))
 
--- from a place in the i-th list on, there are the rest of that list and the lists behind it
+-- from an index in the i-th list on, there are the rest of that list and the lists behind it
 pub drop-joined : {X : Type 0} (f : X → List ℕ) (n : ℕ) (xs : List X) → AreLong f n xs → (i at : ℕ) (d : X) → i < length xs → at ≤ n
     → drop (n * i + at) (flat_map f xs) ≡ drop at (f (get_or xs i d)) ++ flat_map f (drop (suc i) xs)
 drop-joined f n [] long i at d below within = absurd (omega arith)
@@ -32,7 +32,7 @@ drop-joined f n (x ∷ xs) long (suc i) at d below within =
     (drop-append-add (f x) (flat_map f xs) (n * i + at)
     ∙ drop-joined f n xs (All-tail (λ x. length (f x) ≡ n) x xs long) i at d (omega arith) within)
 
--- up to a place in the i-th list, there are the lists before it and its front
+-- up to an index in the i-th list, there are the lists before it and its front
 pub take-joined : {X : Type 0} (f : X → List ℕ) (n : ℕ) (xs : List X) → AreLong f n xs → (i at : ℕ) (d : X) → i < length xs → at ≤ n
     → take (n * i + at) (flat_map f xs) ≡ flat_map f (take i xs) ++ take at (f (get_or xs i d))
 take-joined f n [] long i at d below within = absurd (omega arith)

@@ -1,4 +1,4 @@
 pub mod Ends
 pub mod Joined
 pub mod Pieces
-pub mod RowLemmas
+pub mod BlockListLemmas

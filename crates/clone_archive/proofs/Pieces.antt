@@ -12,8 +12,8 @@ pub appended_more : (bytes from_list : List ℕ) (floor from at count : ℕ) →
 appended_more bytes from_list floor from at count above later =
     let rest = drop (from - floor) from_list in
     let longer : at + count - from ≡ (at - from) + count = omega arith in
-    let place : at - floor ≡ (from - floor) + (at - from) = omega arith in
-    let behind : drop (at - floor) from_list ≡ drop (at - from) rest = ap (λ n. drop n from_list) place ∙ sym (drop-drop (at - from) (from - floor) from_list) in
+    let offset : at - floor ≡ (from - floor) + (at - from) = omega arith in
+    let behind : drop (at - floor) from_list ≡ drop (at - from) rest = ap (λ n. drop n from_list) offset ∙ sym (drop-drop (at - from) (from - floor) from_list) in
     let split = take-add (at - from) count rest in
     let joined = append_assoc bytes (take (at - from) rest) (take count (drop (at - from) rest)) in
     cc

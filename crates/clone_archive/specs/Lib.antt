@@ -1,2 +1,2 @@
 pub mod Archived
-pub mod Row
+pub mod BlockList

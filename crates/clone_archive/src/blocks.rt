@@ -11,7 +11,7 @@ use clone_ring::Ring;
 use std::alloc::{AllocError, Global};
 use std::marker::Model;
 
-// The bytes stand in a row of blocks of one size, each of which is made once and never moved. All
+// The bytes stand in a list of blocks of one size, each of which is made once and never moved. All
 // but the last that are in use are full; what stands behind the last byte is room.
 
 /// How many bytes a block of an archive has.
@@ -26,16 +26,16 @@ pub(crate) struct Blocks {
 }
 
 impl Model for Blocks {
-    ghost use Rattle.clone_archive.specs.Row.{Row, IsRow, bytes_in, room_in};
+    ghost use Rattle.clone_archive.specs.BlockList.{BlockBytes, AreBlocks, bytes_in, room_in};
 
-    ghost Value = { Row };
+    ghost Value = { BlockBytes };
 
     ghost view = { λ b. record {
       bytes = bytes_in b.blocks.items b.len;
       room = room_in b.blocks.items;
     } };
 
-    ghost invariant = { λ b. IsRow b.blocks.items b.len };
+    ghost invariant = { λ b. AreBlocks b.blocks.items b.len };
 }
 
 impl Blocks {
@@ -83,7 +83,7 @@ impl Blocks {
         Ok(())
     }
 
-    /// Fills the slice with the bytes from a place on.
+    /// Fills the slice with the bytes from an offset on.
     pub(crate) fn read(&self, at: usize, into: &mut [u8])
         requires { at + length into.old ≤ length self.now.bytes }
         ensures { into.new ≡ take (length into.old) (drop at self.now.bytes) }
@@ -126,7 +126,7 @@ impl Blocks {
         Ok(())
     }
 
-    // Puts bytes of the ring behind the others, as many of these as one block has place for, and
+    // Puts bytes of the ring behind the others, as many of these as one block has room for, and
     // answers how many.
     fn append_piece(&mut self, ring: &Ring, from: u64, limit: usize) -> usize
         requires above { ring.now.floor ≤ from }
@@ -147,8 +147,8 @@ impl Blocks {
         count
     }
 
-    // Fills a front of the slice with the bytes from a place on, as far as one block has them, and
-    // answers how many.
+    // Fills a front of the slice with the bytes from an offset on, as far as one block has them,
+    // and answers how many.
     fn read_piece(&self, from: usize, into: &mut [u8]) -> usize
         requires within { from + length into.old ≤ length self.now.bytes }
         requires some { 0 < length into.old }

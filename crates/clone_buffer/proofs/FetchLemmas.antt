@@ -19,7 +19,7 @@ clean_goes true None go = refl
 clean_goes true (Some x) go = absurd (false≢true go)
 clean_goes false o go = absurd (false≢true go)
 
--- what makes place has no change and no flush
+-- what makes way has no change and no flush
 pub victim_clean : (v : Frames) (at : ℕ) → may_go (frame_at v.frames at) ≡ true → (frame_at v.frames at).oldest ≡ None
 victim_clean v at go = clean_goes _ _ go
 
@@ -46,16 +46,16 @@ module _ (v : Buffered) (beside : Beside) (m : DiskImage) (new : Frames) (target
       let to = set_becomes v.pool.frames new.frames at f (holder_name v.pool.frames target at held).0 (ap (λ (w : Frames). w.frames) is) in
       held_on v.pool new at p q f to (Kept s n) (Kept s n) (record { space = s; number = n }) refl (λ _ had. like_page v.log beside m s n (was at) (was at).pins (next_use v.pool.uses) had) (λ _ o had. had) (k.page s n)
 
-  -- the page that makes place, if it has one
-  pub makes_place : (at : ℕ) → may_go (was at) ≡ true → (s n : ℕ) → Kept s n (counted (was at)) → Kept s n None
-  makes_place at go s n had = lost_page v.log beside m s n (was at) (victim_clean v.pool at go) (victim_idle v.pool at p go) had
+  -- the page that makes way, if it has one
+  pub makes_way : (at : ℕ) → may_go (was at) ≡ true → (s n : ℕ) → Kept s n (counted (was at)) → Kept s n None
+  makes_way at go s n had = lost_page v.log beside m s n (was at) (victim_clean v.pool at go) (victim_idle v.pool at p go) had
 
   filled_page : (at : ℕ) → holder v.pool.frames target ≡ None → IsVictim v.pool.frames at → Fills target at v.pool new → ends v.log < 2 ^ 64
       → page_of (replayed v.log) target.space target.number ≡ Some (frame_at new.frames at).page → GivesQuiet m target.space target.number (frame_at new.frames at).page → AllKept
   filled_page at none victim fills small page quiet s n =
       moved v.pool new at p q f to (Kept s n) (Kept s n) (record { space = s; number = n })
       (λ had has _. absurd (none_some (holder v.pool.frames target) at none (p.once target at (had ∙ sym has))))
-      (λ _ _ had. makes_place at victim.free s n had) (λ _ has bare. here (some_name target (record { space = s; number = n }) has) bare) (λ _ o had. had) (k.page s n)
+      (λ _ _ had. makes_way at victim.free s n had) (λ _ has bare. here (some_name target (record { space = s; number = n }) has) bare) (λ _ o had. had) (k.page s n)
     where
       f : Frame
       f = filled target fills.bytes (next_use v.pool.uses) (was at)
@@ -74,7 +74,7 @@ module _ (v : Buffered) (beside : Beside) (m : DiskImage) (new : Frames) (target
   emptied_page : (at : ℕ) (bytes : List ℕ) → IsVictim v.pool.frames at → new.frames ≡ set v.pool.frames at (emptied bytes (was at)) → AllKept
   emptied_page at bytes victim is s n =
       moved v.pool new at p q (emptied bytes (was at)) (set_becomes v.pool.frames new.frames at (emptied bytes (was at)) victim.within is) (Kept s n) (Kept s n) (record { space = s; number = n })
-      (λ _ has _. absurd (no_name _ has)) (λ _ _ had. makes_place at victim.free s n had) (λ _ has _. absurd (no_name _ has)) (λ _ o had. had) (k.page s n)
+      (λ _ has _. absurd (no_name _ has)) (λ _ _ had. makes_way at victim.free s n had) (λ _ has _. absurd (no_name _ has)) (λ _ o had. had) (k.page s n)
 
   -- what a fetch leaves is kept
   pub kept_fetched : (result : Result ℕ FetchRefusal) → Fetches target v.pool new result → ends v.log < 2 ^ 64

@@ -314,7 +314,7 @@ fail_keeps v beside m page at c flies k =
 
 -- a log ends no earlier than where a mini-transaction ends
 pub at_most : (lsn : ℕ) (log : List (List Record)) → IsAt lsn log → lsn ≤ ends log
-at_most lsn log is = omega (arith, is.place, ap (λ (l : List (List Record)). length (log_of l)) is.split, ap length (log_of-append is.before is.behind), length-append (log_of is.before) (log_of is.behind))
+at_most lsn log is = omega (arith, is.moment, ap (λ (l : List (List Record)). length (log_of l)) is.split, ap length (log_of-append is.before is.behind), length-append (log_of is.before) (log_of is.behind))
 
 -- the frame of a page is one of the frames
 from_frame : (frames : List Frame) (s n : ℕ) (f : Frame) → frame_of frames s n ≡ Some f → (at : ℕ) × ((at < length frames) × (frame_at frames at ≡ f))

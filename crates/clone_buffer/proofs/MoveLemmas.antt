@@ -7,7 +7,7 @@ use Rattle.clone_pool.specs.Pool.{Freshens, TakesFrame, with_fresh}
 use Rattle.clone_buffer.specs.Keeping.{Stands}
 use Rattle.clone_buffer.proofs.PageLemmas.{like_page}
 use Rattle.clone_buffer.proofs.FrameLemmas.{holder_name, no_name, counted, Becomes, set_becomes, moved, held_on}
-use Rattle.clone_buffer.proofs.FetchLemmas.{makes_place}
+use Rattle.clone_buffer.proofs.FetchLemmas.{makes_way}
 
 -- Where each image that a disk may tell keeps one buffer, if it keeps the other, it stands over the disk.
 pub stands_by : (v w : Buffered) (beside : Beside) (told : Option DiskImage) → ((m : DiskImage) → IsKept v beside m → IsKept w beside m) → Stands v beside told → Stands w beside told
@@ -74,7 +74,7 @@ module _ (v : Buffered) (new : Frames) (beside : Beside) (target : PageName) (p 
   taken at victim is m k s n =
       let f : Frame = freshened target (next_use v.pool.uses) (was at) in
       let to = set_becomes v.pool.frames new.frames at f victim.within (ap (λ (w : Frames). w.frames) is) in
-      let gone = makes_place v beside m new target p q k at victim.free s n in
+      let gone = makes_way v beside m new target p q k at victim.free s n in
       moved v.pool new at p q f to (IsKeptPage v.log beside m s n) (IsKeptPage v.log beside m s n) (record { space = s; number = n }) (λ _ _ had. gone had) (λ _ _ had. gone had) (λ _ _ had. had) (λ _ o had. had) (k.page s n)
 
   hit : (at : ℕ) → holder v.pool.frames target ≡ Some at → new ≡ used at (with_frame at pinned v.pool) → (m : DiskImage) → IsKept v beside m → AllKept m

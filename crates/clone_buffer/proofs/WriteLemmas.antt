@@ -13,7 +13,7 @@ use Rattle.clone_image.proofs.Images.{page_of-edited_other}
 use Rattle.clone_law.specs.Touches.{Touch, becomes, reaches, applied}
 use Rattle.clone_pool.specs.declared.frame.Content.TheVariants.{Held}
 use Rattle.clone_pool.specs.declared.frame.Flush.TheVariants as flush
-use Rattle.clone_pool.specs.Index.{place_of}
+use Rattle.clone_pool.specs.Index.{frame_number_of}
 use Rattle.clone_pool.specs.Frames.{page_changed, changed, made}
 use Rattle.clone_buffer.specs.Writing.{named_frame, changed_at}
 use Rattle.clone_buffer.proofs.FrameLemmas.{holder_name, some_name}
@@ -45,14 +45,14 @@ names_at (Some at) r start end v = by (cases_lt at (length v.frames))
     by (inr past) = ap (map name_of) (set_past v.frames at (changed r start end f) past)
 
 pub holder-step : (r : Record) (start end : ℕ) (v : Frames) (page : PageName) → holder (step r start end v).frames page ≡ holder v.frames page
-holder-step r start end v page = ap (place_of page) (names_at (named_frame v.frames r) r start end v)
+holder-step r start end v page = ap (frame_number_of page) (names_at (named_frame v.frames r) r start end v)
 
 names-after : (rs : List Record) (start end : ℕ) (v : Frames) → map name_of (after_records rs start end v).frames ≡ map name_of v.frames
 names-after [] start end v = refl
 names-after (r ∷ rs) start end v = names-after rs start end (step r start end v) ∙ names_at (named_frame v.frames r) r start end v
 
 pub holder-after : (rs : List Record) (start end : ℕ) (v : Frames) (page : PageName) → holder (after_records rs start end v).frames page ≡ holder v.frames page
-holder-after rs start end v page = ap (place_of page) (names-after rs start end v)
+holder-after rs start end v page = ap (frame_number_of page) (names-after rs start end v)
 
 pub name_at-after : (rs : List Record) (start end : ℕ) (v : Frames) (b : ℕ) → name_of (frame_at (after_records rs start end v).frames b) ≡ name_of (frame_at v.frames b)
 name_at-after rs start end v b = sym (get_or-map name_of (after_records rs start end v).frames b no_frame) ∙ ap (λ names. get_or names b None) (names-after rs start end v) ∙ get_or-map name_of v.frames b no_frame

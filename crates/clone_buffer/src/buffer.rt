@@ -94,7 +94,7 @@ impl Buffer {
     /// Brings a page into a frame, and answers the frame's number. It counts as a use of the frame.
     ///
     /// The error is `PoolFull` exactly where the page has no frame and each frame is pinned or
-    /// dirty, and nothing has changed then; or `DiskFault`, and the frame that was to make place
+    /// dirty, and nothing has changed then; or `DiskFault`, and the frame that was to make way
     /// has no page then.
     pub fn fetch<D: PageDisk>(
         &mut self,

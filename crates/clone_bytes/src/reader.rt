@@ -16,7 +16,7 @@ pub struct Short {
     pub have: usize,
 }
 
-/// A place in bytes, from which fields are read one after the other. It is seen as the bytes that
+/// An offset in bytes, from which fields are read one after the other. It is seen as the bytes that
 /// are left.
 #[derive(Drop)]
 pub struct Reader<'a> {

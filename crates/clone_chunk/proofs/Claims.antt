@@ -8,7 +8,7 @@ use Rattle.std.proofs.lemmas.Option.{slice_get-get_or, slice_get_within, get_or_
 use Rattle.clone_chunk.specs.declared.chunk.Chunk.{Chunk}
 use Rattle.clone_chunk.specs.declared.chunk.Chunk.TheVariants.{Free, Claimed, Finished}
 use Rattle.clone_chunk.specs.Chunks.{is_free, is_unfinished, left_of, IsTaken, IsLeastFree, IsMap}
-use Rattle.clone_chunk.proofs.Places.{slice_get-drop, slice_get-set_same, slice_get-set_other}
+use Rattle.clone_chunk.proofs.Indexes.{slice_get-drop, slice_get-set_same, slice_get-set_other}
 
 abbrev answer : Option ℕ → Option ℕ
 answer x = x
@@ -55,7 +55,7 @@ none_found states e k free =
       | inr past ↦ none_before states k (let within : k < length states = slice_get_within states k Free free in omega arith) free
     ]
 
--- what the search finds behind the place that it has come to
+-- what the search finds behind the index that it has come to
 pub found_least : (states : List Chunk) (searched ahead left : ℕ) → IsMap states searched left → position is_free (drop searched states) ≡ Some ahead → IsLeastFree states (searched + ahead)
 found_least states searched ahead left map e =
     let behind = found (drop searched states) ahead e in
@@ -78,7 +78,7 @@ found_none states searched left map e k =
           none_found (drop searched states) e (k - searched) (slice_get-drop searched states (k - searched) ∙ ap (slice_get states) there ∙ free)
     ]
 
--- a chunk is free at its place exactly where the place holds a free chunk
+-- a chunk is free at its index exactly where the index holds a free chunk
 pub all_taken : (states : List Chunk) → ((k : ℕ) → slice_get states k ≢ Some Free) → All IsTaken states
 all_taken states none k d within free = none k (slice_get-get_or states k d within ∙ ap (λ c. Some c) free)
 

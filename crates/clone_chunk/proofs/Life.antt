@@ -7,7 +7,7 @@ use Rattle.std.proofs.lemmas.Option.{slice_get_within}
 use Rattle.clone_chunk.specs.declared.chunk.Chunk.{Chunk}
 use Rattle.clone_chunk.specs.declared.chunk.Chunk.TheVariants.{Free, Claimed, Finished}
 use Rattle.clone_chunk.specs.Lives.{Event, claims, finishes, IsLife, claims_of}
-use Rattle.clone_chunk.proofs.Places.{slice_get-set_same, slice_get-set_other}
+use Rattle.clone_chunk.proofs.Indexes.{slice_get-set_same, slice_get-set_other}
 
 -- a chunk that was written isn't free, and the others are as they were
 stays_taken : (states : List Chunk) (n k : ℕ) (new : Chunk) → new ≢ Free → slice_get states k ≢ Some Free → slice_get (set states n new) k ≢ Some Free

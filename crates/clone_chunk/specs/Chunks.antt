@@ -44,7 +44,7 @@ pub record IsMarked (bitmap : List ℕ) (old new : List Chunk) : Type 0 where
   pub each : (i : ℕ) → i < length old →
       slice_get new i ≡ Some (if has_bit bitmap i then Finished else Free)
 
--- what a map keeps: no chunk below the place that the search has come to is free
+-- what a map keeps: no chunk below the index that the search has come to is free
 pub record IsMap (states : List Chunk) (searched left : ℕ) : Type 0 where
   pub small : length states < 2 ^ 32
   pub far : searched ≤ length states

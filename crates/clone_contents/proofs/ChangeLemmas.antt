@@ -60,7 +60,7 @@ module _ (image : Image) (lsn s : ℕ) (slot : UndoSlot) (e : UndoEntry) (value 
   eighty = length-image e.key value may.short
 
   in_table : e.table ≢ 0
-  in_table = λ zero. omega (arith, zero, may.in_range.place.0)
+  in_table = λ zero. omega (arith, zero, may.in_range.row_slot.0)
 
   found : (page : List ℕ) × (page_of image e.table e.page ≡ Some page)
   found = page_there image e.table e.page may.there

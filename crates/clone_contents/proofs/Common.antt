@@ -17,16 +17,16 @@ pub use Rattle.clone_mtr.specs.declared.record.Record.{Record}
 pub use Rattle.clone_mtr.specs.declared.record.Record.TheVariants.{Init, Write, Extend, Create, Drop}
 pub use Rattle.clone_space.proofs.EntryLemmas.{length-dictionary, entry_in-dictionary, dictionary-entry, dictionary-size, dictionary-before, dictionary-initialised}
 pub use Rattle.clone_space.specs.declared.entry.TableEntry.{TableEntry}
-pub use Rattle.clone_space.specs.Entries.{dictionary, entry_in, free, place_at, pages_at, IsEntry as IsTableEntry}
+pub use Rattle.clone_space.specs.Entries.{dictionary, entry_in, free, entry_at_offset, pages_at, IsEntry as IsTableEntry}
 pub use Rattle.clone_space.specs.Records.{entry_bytes as table_bytes, entry_record as table_record, size_record, link_record, records_of_create, records_of_growth, records_of_drop}
 pub use Rattle.clone_row.proofs.ChainLemmas.{behind-same, behind-made}
 pub use Rattle.clone_row.proofs.Rows.{header-WritesSlot, length-image, slots-zero, slot_in-past, slot_in-slots, slot_of-unused, slots-WritesSlot, slots-initialised, slots-set, slot_of-image, row_in-slot_of, length-slots}
 pub use Rattle.clone_row.specs.Chains.{behind}
 pub use Rattle.clone_row.specs.Slots.{slots, slot_in, unused, Slot, row_slot, bound_key, slot_of, image, Finds, FindsFree, present, absent, damaged, row_in}
 pub use Rattle.clone_undo.proofs.Headers.{slot-tells, slot-free, not_in_use, field-stamped}
-pub use Rattle.clone_undo.specs.Changes.{after, AreWhole, after_row, slot_before, records_of_change, row_record, after_record, records_of_end, made_first, count_record, entry_record, after_edit, records_of_taking_back, records_of_begin}
+pub use Rattle.clone_undo.specs.Changes.{after, AreWhole, after_row, slot_before, records_of_change, row_record, pages_after_record, records_of_end, made_first, count_record, entry_record, pages_after_edit, records_of_taking_back, records_of_begin}
 pub use Rattle.clone_undo.specs.Entries.{UndoEntry, IsEntry, entry_bytes}
-pub use Rattle.clone_undo.specs.Places.{header_page, record_page, record_place, header_place}
+pub use Rattle.clone_undo.specs.Places.{header_page, record_page, record_offset, header_offset}
 pub use Rattle.clone_undo.specs.Slots.{UndoSlot, undo_slot, active_of, is_in_use, entries, writer_of, index_of, count_of}
 pub use Rattle.clone_image.proofs.Images.{page_of-edited_same, page_of-edited_other, get-put_same, get-put_other, page_of-elsewhere, page_of-made}
 pub use Rattle.clone_image.proofs.Pages.{all_pages-is, page_count-edited, records_counts, records_pages}

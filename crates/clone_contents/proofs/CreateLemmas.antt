@@ -1,6 +1,6 @@
 -- A table is made, for the contents: its space is made, and it is named in the dictionary.
 use Rattle.std.proofs.Common.{◌≡◌, ◌≢◌, ◌<◌, ◌≤◌, ℕ, List, [], ◌∷◌, length, get_or, set, replicate, refl, sym, ap, ◌∙◌, arith, inl, inr, Option, Some, None, option_map, option_and_then, slice_get}
-use Rattle.clone_contents.proofs.Common.{cases_eq, get_or-replicate, length-replicate, same_Some, slice_get_within, slice_get-get_or, position_at, zero_page, field-put_at_other, TableEntry, dictionary, place_at, table_bytes, table_record, IsTableEntry, dictionary-entry, Image, page_of, all_pages, after_records, get-put_same, get-put_other, page_of-elsewhere, Contents, contents_of, set_at, IsFormed, HasContents, records_of_create, MayCreate, created}
+use Rattle.clone_contents.proofs.Common.{cases_eq, get_or-replicate, length-replicate, same_Some, slice_get_within, slice_get-get_or, position_at, zero_page, field-put_at_other, TableEntry, dictionary, entry_at_offset, table_bytes, table_record, IsTableEntry, dictionary-entry, Image, page_of, all_pages, after_records, get-put_same, get-put_other, page_of-elsewhere, Contents, contents_of, set_at, IsFormed, HasContents, records_of_create, MayCreate, created}
 use Rattle.std.specs.FinMap as finite
 use Rattle.clone_contents.proofs.SameContents.{set_at-same, set_at-other}
 use Rattle.clone_contents.proofs.SystemLemmas.{system_long, system_written}
@@ -49,20 +49,20 @@ module _ (image : Image) (table buckets : ℕ) (formed : IsFormed image) (in_tab
   space_made = zeros_come image made gets (set_at table (Some buckets) (contents_of image).size) size_is
 
 -- a table is named
-pub table_named : (image : Image) (lsn place : ℕ) (e : TableEntry) → IsFormed image → place < 62 → IsTableEntry e
-    → HasContents (after_records lsn image (table_record place e ∷ [])) (record (contents_of image) { dictionary = set (contents_of image).dictionary place e })
-table_named image lsn place e formed room fits =
+pub table_named : (image : Image) (lsn entry_number : ℕ) (e : TableEntry) → IsFormed image → entry_number < 62 → IsTableEntry e
+    → HasContents (after_records lsn image (table_record entry_number e ∷ [])) (record (contents_of image) { dictionary = set (contents_of image).dictionary entry_number e })
+table_named image lsn entry_number e formed room fits =
     let piece = table_bytes e in
     let page = all_pages image 0 0 in
-    let on : place_at place ≤ length page = omega (arith, system_long image formed, room) in
-    system_written image lsn (place_at place) piece formed (omega arith, inr (omega (arith, room), omega (arith, room))) (set (dictionary page) place e) (contents_of image).position
-    (dictionary-entry lsn place e page room fits (system_long image formed))
-    (field-put_at_other position_at 8 (place_at place) piece page (inl (omega arith)) on)
+    let on : entry_at_offset entry_number ≤ length page = omega (arith, system_long image formed, room) in
+    system_written image lsn (entry_at_offset entry_number) piece formed (omega arith, inr (omega (arith, room), omega (arith, room))) (set (dictionary page) entry_number e) (contents_of image).position
+    (dictionary-entry lsn entry_number e page room fits (system_long image formed))
+    (field-put_at_other position_at 8 (entry_at_offset entry_number) piece page (inl (omega arith)) on)
 
 -- both together
-pub create_is : (image : Image) (lsn place table buckets : ℕ) → IsFormed image → MayCreate (contents_of image) place table buckets → HasContents (after_records lsn image (records_of_create place table buckets)) (created place table buckets (contents_of image))
-create_is image lsn place table buckets formed may =
+pub create_is : (image : Image) (lsn entry_number table buckets : ℕ) → IsFormed image → MayCreate (contents_of image) entry_number table buckets → HasContents (after_records lsn image (records_of_create entry_number table buckets)) (created entry_number table buckets (contents_of image))
+create_is image lsn entry_number table buckets formed may =
     let told : TableEntry = record { table = table; buckets = buckets; pages = buckets } in
     let space = space_made image table buckets formed (λ z. omega (arith, z, may.used)) may.free in
-    let named = table_named (finite.insert image table (replicate buckets zero_page)) lsn place told space.0 may.room (omega (arith, may.low), may.fits, may.fits) in
-    (named.0, named.1 ∙ ap (λ (c : Contents). record c { dictionary = set c.dictionary place told }) space.1)
+    let named = table_named (finite.insert image table (replicate buckets zero_page)) lsn entry_number told space.0 may.room (omega (arith, may.low), may.fits, may.fits) in
+    (named.0, named.1 ∙ ap (λ (c : Contents). record c { dictionary = set c.dictionary entry_number told }) space.1)

@@ -8,7 +8,7 @@ use Rattle.clone_contents.proofs.Common.{cases_eq, field, position_at, kind_of, 
 use Rattle.clone_undo.proofs.Effects as undo
 use Rattle.clone_contents.specs.Spaces.{MayDrop, dropped}
 use Rattle.clone_contents.proofs.SameContents.{set_at-same, set_at-other, same_contents}
-use Rattle.clone_contents.proofs.SystemLemmas.{place_within}
+use Rattle.clone_contents.proofs.SystemLemmas.{entry_within}
 use Rattle.clone_contents.proofs.NextPages.{next_is, next_at, no_next}
 use Rattle.clone_contents.proofs.RowSlots.{slot_is}
 use Rattle.clone_contents.proofs.ZeroPages.{no_slot, none_is}
@@ -78,9 +78,9 @@ module _ (image : Image) (table : ℕ) (formed : IsFormed image) (in_table : tab
   )
 
 -- both together
-pub dropped_is : (image : Image) (lsn place table : ℕ) → IsFormed image → MayDrop (contents_of image) place table → HasContents (after_records lsn image (records_of_drop place table)) (dropped place table (contents_of image))
-dropped_is image lsn place table formed may =
-    let room = place_within image place table may.named may.used in
+pub dropped_is : (image : Image) (lsn entry_number table : ℕ) → IsFormed image → MayDrop (contents_of image) entry_number table → HasContents (after_records lsn image (records_of_drop entry_number table)) (dropped entry_number table (contents_of image))
+dropped_is image lsn entry_number table formed may =
+    let room = entry_within image entry_number table may.named may.used in
     let space = space_gone image table formed may.used in
-    let named = table_named (finite.remove image table) lsn place free space.0 room (omega arith, omega arith, omega arith) in
-    (named.0, named.1 ∙ ap (λ (c : Contents). record c { dictionary = set c.dictionary place free }) space.1)
+    let named = table_named (finite.remove image table) lsn entry_number free space.0 room (omega arith, omega arith, omega arith) in
+    (named.0, named.1 ∙ ap (λ (c : Contents). record c { dictionary = set c.dictionary entry_number free }) space.1)

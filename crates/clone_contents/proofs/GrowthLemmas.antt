@@ -12,23 +12,23 @@ use Rattle.clone_contents.proofs.SameContents.{set_at-same, set_at-other}
 use Rattle.clone_contents.proofs.ImagePages.{there}
 use Rattle.clone_contents.proofs.FittingRecords.{table_page}
 use Rattle.clone_contents.proofs.ChangeRecords.{used_kind}
-use Rattle.clone_contents.proofs.SystemLemmas.{place_within, system_long, system_written, others}
+use Rattle.clone_contents.proofs.SystemLemmas.{entry_within, system_long, system_written, others}
 use Rattle.clone_contents.proofs.NextPages.{next_is, next_at, next_kept, behind-zero}
 use Rattle.clone_contents.proofs.ExtendLemmas.{space_longer, page_stays, page_comes}
 use Rattle.clone_contents.proofs.TablePages.{EditsTable, next_changes, page_now, all_kept}
 
 -- an entry tells another number of pages
-size_allowed : (place pages : ℕ) → place < 62 → IsAllowed (pages_at place) (length (big_bytes 4 pages))
-size_allowed place pages room = (omega arith, inr (omega (arith, room), omega (arith, room)))
+size_allowed : (entry_number pages : ℕ) → entry_number < 62 → IsAllowed (pages_at entry_number) (length (big_bytes 4 pages))
+size_allowed entry_number pages room = (omega arith, inr (omega (arith, room), omega (arith, room)))
 
-size_written : (image : Image) (lsn place pages : ℕ) → IsFormed image → place < 62 → pages < 2 ^ 32
-    → HasContents (after_records lsn image (size_record place pages ∷ [])) (record (contents_of image) { dictionary = set (contents_of image).dictionary place (record (entry_in (contents_of image).dictionary place) { pages = pages }) })
-size_written image lsn place pages formed room fits =
+size_written : (image : Image) (lsn entry_number pages : ℕ) → IsFormed image → entry_number < 62 → pages < 2 ^ 32
+    → HasContents (after_records lsn image (size_record entry_number pages ∷ [])) (record (contents_of image) { dictionary = set (contents_of image).dictionary entry_number (record (entry_in (contents_of image).dictionary entry_number) { pages = pages }) })
+size_written image lsn entry_number pages formed room fits =
     let page = all_pages image 0 0 in
-    let on : pages_at place ≤ length page = omega (arith, system_long image formed, room) in
-    system_written image lsn (pages_at place) (big_bytes 4 pages) formed (size_allowed place pages room) (set (dictionary page) place (record (entry_in (dictionary page) place) { pages = pages })) (contents_of image).position
-    (dictionary-size lsn place pages page room fits (system_long image formed))
-    (field-put_at_other position_at 8 (pages_at place) (big_bytes 4 pages) page (inl (omega arith)) on)
+    let on : pages_at entry_number ≤ length page = omega (arith, system_long image formed, room) in
+    system_written image lsn (pages_at entry_number) (big_bytes 4 pages) formed (size_allowed entry_number pages room) (set (dictionary page) entry_number (record (entry_in (dictionary page) entry_number) { pages = pages })) (contents_of image).position
+    (dictionary-size lsn entry_number pages page room fits (system_long image formed))
+    (field-put_at_other position_at 8 (pages_at entry_number) (big_bytes 4 pages) page (inl (omega arith)) on)
 
 -- An unused page of a table is made as an overflow page, which changes no contents.
 
@@ -111,15 +111,15 @@ module _ (image : Image) (lsn table last n : ℕ) (formed : IsFormed image) (in_
   page_linked = next_changes image lsn linked table last linking next (λ u m. next_now u m (cases_eq u table) (cases_eq m last))
 
 -- ALL OF THEM TOGETHER
-module _ (image : Image) (lsn place table pages last : ℕ) (formed : IsFormed image) (may : MayGrow (contents_of image) place table pages last) (was_used : is_unused image table last ≡ false) where
-  room : place < 62
-  room = place_within image place table may.named may.used
+module _ (image : Image) (lsn entry_number table pages last : ℕ) (formed : IsFormed image) (may : MayGrow (contents_of image) entry_number table pages last) (was_used : is_unused image table last ≡ false) where
+  room : entry_number < 62
+  room = entry_within image entry_number table may.named may.used
 
   low : last < pages
   low = omega (arith, may.there.2, same_Some may.there.0 pages (sym may.there.1 ∙ may.size))
 
   abbrev told : Image
-  told = after_records lsn image (size_record place (pages + 1) ∷ [])
+  told = after_records lsn image (size_record entry_number (pages + 1) ∷ [])
 
   abbrev longer : Image
   longer = after_records lsn told (Extend table (pages + 1) ∷ [])
@@ -127,8 +127,8 @@ module _ (image : Image) (lsn place table pages last : ℕ) (formed : IsFormed i
   abbrev made_last : Image
   made_last = after_records lsn longer (Init table pages Overflow ∷ [])
 
-  one : HasContents told (record (contents_of image) { dictionary = set (contents_of image).dictionary place (record (entry_in (contents_of image).dictionary place) { pages = pages + 1 }) })
-  one = size_written image lsn place (pages + 1) formed room (omega (arith, may.room))
+  one : HasContents told (record (contents_of image) { dictionary = set (contents_of image).dictionary entry_number (record (entry_in (contents_of image).dictionary entry_number) { pages = pages + 1 }) })
+  one = size_written image lsn entry_number (pages + 1) formed room (omega (arith, may.room))
 
   size : page_count told table ≡ Some pages
   size = ap (λ (c : Contents). c.size table) one.1 ∙ may.size
@@ -149,7 +149,7 @@ module _ (image : Image) (lsn place table pages last : ℕ) (formed : IsFormed i
       all_kept longer lsn (Init table pages Overflow) table pages (making longer lsn table pages two.0 may.used zeros) table last (λ same page. omega (arith, page, low))
       ∙ all_pages-is longer table last found.0 (page_stays told lsn table pages (pages + 1) one.0 may.used size (omega arith) last found.0 found.1)
       ∙ sym (all_pages-is told table last found.0 found.1)
-      ∙ others image lsn (pages_at place) (big_bytes 4 (pages + 1)) formed (size_allowed place (pages + 1) room) table last (λ zero first. may.used zero)
+      ∙ others image lsn (pages_at entry_number) (big_bytes 4 (pages + 1)) formed (size_allowed entry_number (pages + 1) room) table last (λ zero first. may.used zero)
 
   four : HasContents (after_records lsn made_last (link_record table last pages ∷ [])) (record (contents_of made_last) { next = set_at table (set_at last (Some pages) ((contents_of made_last).next table)) (contents_of made_last).next })
   four =
@@ -159,7 +159,7 @@ module _ (image : Image) (lsn place table pages last : ℕ) (formed : IsFormed i
       page_linked made_last lsn table last pages three.0 may.used page.0 page.1 (used_kind page.0 (three.0.tables table last page.0 may.used page.1) is_used)
       (eqb-false (kind_of (all_pages made_last table last)) 0 (ap (λ p. kind_of p == 0) last_stays ∙ was_used)) may.room
 
-  pub grown_is : HasContents (after_records lsn image (records_of_growth place table pages last)) (grown place table pages last (contents_of image))
+  pub grown_is : HasContents (after_records lsn image (records_of_growth entry_number table pages last)) (grown entry_number table pages last (contents_of image))
   grown_is = (
     four.0,
     four.1

@@ -1,6 +1,6 @@
 -- What recovery's edits of pages do to contents.
 use Rattle.std.proofs.Common.{◌≡◌, ◌≢◌, ◌<◌, ◌≤◌, ◌+◌, ◌⊎◌, ℕ, cond, ltb, List, [], length, replicate, set, refl, sym, ap, subst, ◌∙◌, arith, inl, inr, Option, Some, None, unwrap_or}
-use Rattle.clone_contents.proofs.Common.{cases_eq, put_at, field, dictionary, position_at, kind_of, slot_at, length-put_at, kind_of-put_body, slot-put_same, slot-put_other, field-put_front, behind, Slot, slots, slot_of, row_slot, slots-set, length-image, slot_of-image, UndoEntry, header_page, header_place, UndoSlot, is_in_use, entries, writer_of, index_of, count_of, slot_before, not_in_use, Image, page_of, all_pages, with_edit, edited, undo_slot_of, page_of-edited_same, page_of-edited_other, all_pages-is, page_count-edited, contents_of, told_value, undone, with_undo, HoldsSlots, IsFormed, IsOrUnused, MayUndo}
+use Rattle.clone_contents.proofs.Common.{cases_eq, put_at, field, dictionary, position_at, kind_of, slot_at, length-put_at, kind_of-put_body, slot-put_same, slot-put_other, field-put_front, behind, Slot, slots, slot_of, row_slot, slots-set, length-image, slot_of-image, UndoEntry, header_page, header_offset, UndoSlot, is_in_use, entries, writer_of, index_of, count_of, slot_before, not_in_use, Image, page_of, all_pages, with_edit, edited, undo_slot_of, page_of-edited_same, page_of-edited_other, all_pages-is, page_count-edited, contents_of, told_value, undone, with_undo, HoldsSlots, IsFormed, IsOrUnused, MayUndo}
 use Rattle.clone_row.specs.Slots as rows
 use Rattle.clone_undo.proofs.Effects as undo
 use Rattle.clone_image.specs.Recovered as recovered
@@ -91,7 +91,7 @@ module _ (image : Image) (space number at : ℕ) (piece : List ℕ) (g : PutsOn 
 
 module _ (image : Image) (e : UndoEntry) (formed : IsFormed image) (may : MayUndo (contents_of image) e) where
   in_table : e.table ≢ 0
-  in_table = λ zero. omega (arith, zero, may.in_range.place.0)
+  in_table = λ zero. omega (arith, zero, may.in_range.row_slot.0)
 
   found : (page : List ℕ) × (page_of image e.table e.page ≡ Some page)
   found = page_there image e.table e.page may.there
@@ -109,21 +109,21 @@ module _ (image : Image) (e : UndoEntry) (formed : IsFormed image) (may : MayUnd
     page = found.0;
     is_there = found.1;
     low = omega arith;
-    high = omega (arith, eighty, may.in_range.place.3);
+    high = omega (arith, eighty, may.in_range.row_slot.3);
     system = λ z. absurd (in_table z);
-    table = λ behind. bound_kind image e.table e.page e.slot e.key found.0 formed in_table may.in_range.place.3 found.1 may.bound;
+    table = λ behind. bound_kind image e.table e.page e.slot e.key found.0 formed in_table may.in_range.row_slot.3 found.1 may.bound;
   }
 
   abbrev new : Image
   new = recovered.undone image e
 
   fits : slot_at e.slot ≤ length puts.page
-  fits = omega (arith, formed.whole e.table e.page puts.page puts.is_there, may.in_range.place.3)
+  fits = omega (arith, formed.whole e.table e.page puts.page puts.is_there, may.in_range.row_slot.3)
 
   slots_now : slots (all_pages new e.table e.page) ≡ set (slots (all_pages image e.table e.page)) e.slot (row_slot e.key (told_value e))
   slots_now =
       ap slots (all_pages-is new e.table e.page (put_at (slot_at e.slot) (slot_before e) puts.page) (now image e.table e.page (slot_at e.slot) (slot_before e) puts))
-      ∙ slots-set e.slot (row_slot e.key (told_value e)) puts.page (put_at (slot_at e.slot) (slot_before e) puts.page) may.in_range.place.3
+      ∙ slots-set e.slot (row_slot e.key (told_value e)) puts.page (put_at (slot_at e.slot) (slot_before e) puts.page) may.in_range.row_slot.3
       (ap slot_of (slot-put_same e.slot (slot_before e) puts.page eighty fits ∙ bytes_are) ∙ slot_of-image e.key (told_value e) may.in_range.key (told_short e may.in_range))
       (λ k low other. slot-put_other k e.slot (slot_before e) puts.page other eighty fits)
       ∙ ap (λ p. set (slots p) e.slot (row_slot e.key (told_value e))) (sym (all_pages-is image e.table e.page puts.page puts.is_there))
@@ -132,7 +132,7 @@ module _ (image : Image) (e : UndoEntry) (formed : IsFormed image) (may : MayUnd
   undone_is = (
     put_formed image e.table e.page (slot_at e.slot) (slot_before e) puts,
     put_contents image e.table e.page (slot_at e.slot) (slot_before e) puts (undone e (contents_of image)).slot (contents_of image).undo
-        (slot_set image new e.table e.page e.slot (row_slot e.key (told_value e)) in_table may.in_range.place.3 slots_now (λ t n behind other. all_others image e.table e.page (slot_at e.slot) (slot_before e) puts t n other))
+        (slot_set image new e.table e.page e.slot (row_slot e.key (told_value e)) in_table may.in_range.row_slot.3 slots_now (λ t n behind other. all_others image e.table e.page (slot_at e.slot) (slot_before e) puts t n other))
         (λ s. ap (λ o. cond (ltb s 64) o None) (undo.own s (all_pages new 0) (all_pages image 0) (λ m low high. all_others image e.table e.page (slot_at e.slot) (slot_before e) puts 0 m (λ z n. in_table (sym z))))),
   )
 
@@ -145,7 +145,7 @@ module _ (image : Image) (s : ℕ) (slot : UndoSlot) (formed : IsFormed image) (
   header : (page : List ℕ) × (page_of image 0 (header_page s) ≡ Some page)
   header = there image 0 (header_page s) 257 formed.size (omega (arith, small))
 
-  freeing : PutsOn image 0 (header_page s) header_place zeros
+  freeing : PutsOn image 0 (header_page s) header_offset zeros
   freeing = record {
     formed = formed;
     apart = λ z n. omega (arith, n);
@@ -163,10 +163,10 @@ module _ (image : Image) (s : ℕ) (slot : UndoSlot) (formed : IsFormed image) (
   -- the undo slot isn't in use
   free : undo_slot_of freed_image s ≡ None
   free =
-      let header_now = all_pages-is freed_image 0 (header_page s) (put_at header_place zeros freeing.page) (now image 0 (header_page s) header_place zeros freeing) in
+      let header_now = all_pages-is freed_image 0 (header_page s) (put_at header_offset zeros freeing.page) (now image 0 (header_page s) header_offset zeros freeing) in
       let long = formed.whole 0 (header_page s) freeing.page freeing.is_there in
-      let active : field 40 1 (put_at header_place zeros freeing.page) ≡ 0 = field-put_front 40 1 0 (replicate 15 0) freeing.page (omega (arith, long)) (omega arith) in
-      ap (λ page. if_used page) header_now ∙ ap (λ b. cond b (Some (told_by (put_at header_place zeros freeing.page))) None) (not_in_use (put_at header_place zeros freeing.page) active)
+      let active : field 40 1 (put_at header_offset zeros freeing.page) ≡ 0 = field-put_front 40 1 0 (replicate 15 0) freeing.page (omega (arith, long)) (omega arith) in
+      ap (λ page. if_used page) header_now ∙ ap (λ b. cond b (Some (told_by (put_at header_offset zeros freeing.page))) None) (not_in_use (put_at header_offset zeros freeing.page) active)
     where
       told_by : List ℕ → UndoSlot
       told_by page = record { writer = writer_of page; index = index_of page; records = entries s (all_pages freed_image 0) (count_of page) }
@@ -176,8 +176,8 @@ module _ (image : Image) (s : ℕ) (slot : UndoSlot) (formed : IsFormed image) (
 
   pub freed_is : IsFormed freed_image × (contents_of freed_image ≡ with_undo s None (contents_of image))
   freed_is = (
-    put_formed image 0 (header_page s) header_place zeros freeing,
-    put_contents image 0 (header_page s) header_place zeros freeing (contents_of image).slot (with_undo s None (contents_of image)).undo
-        (slots_same image freed_image (λ t p behind. all_others image 0 (header_page s) header_place zeros freeing t p (λ z n. behind z)))
-        (undo_set_at image freed_image s None small free (λ n other low. undo.own n (all_pages freed_image 0) (all_pages image 0) (λ m above below. all_others image 0 (header_page s) header_place zeros freeing 0 m (λ z h. other (omega (arith, above, below, h)))))),
+    put_formed image 0 (header_page s) header_offset zeros freeing,
+    put_contents image 0 (header_page s) header_offset zeros freeing (contents_of image).slot (with_undo s None (contents_of image)).undo
+        (slots_same image freed_image (λ t p behind. all_others image 0 (header_page s) header_offset zeros freeing t p (λ z n. behind z)))
+        (undo_set_at image freed_image s None small free (λ n other low. undo.own n (all_pages freed_image 0) (all_pages image 0) (λ m above below. all_others image 0 (header_page s) header_offset zeros freeing 0 m (λ z h. other (omega (arith, above, below, h)))))),
   )

@@ -1,7 +1,7 @@
 -- One slot of a page of a table was set.
 use Rattle.std.proofs.Common.{◌≡◌, ◌≢◌, ◌<◌, ◌⊎◌, ℕ, cond, eqb, set, sym, ap, ◌∙◌, arith, inl, inr, eq-eqb, ne_eqb, get_or-set_same, get_or-set_other}
 use Rattle.clone_contents.proofs.Common.{cases_eq, Slot, unused, slots, slot_in, length-slots, Image, all_pages, contents_of, with_slot}
-use Rattle.clone_contents.proofs.SameContents.{cases_place, slot-same, slot-other}
+use Rattle.clone_contents.proofs.SameContents.{cases_slot, slot-same, slot-other}
 
 -- the slot of a table that is on a page
 pub slot_is : (image : Image) (t p j : ℕ) → t ≢ 0 → (contents_of image).slot t p j ≡ slot_in (slots (all_pages image t p)) j
@@ -41,7 +41,7 @@ module _ (image new : Image) (t p j : ℕ) (x : Slot) (in_table : t ≢ 0) (low 
 
   pub slot_set : (u n i : ℕ) → (contents_of new).slot u n i ≡ (with_slot t p j x (contents_of image)).slot u n i
   slot_set u n i =
-      elim (cases_place u n i t p j) [
+      elim (cases_slot u n i t p j) [
         | inl same ↦ slot_is new u n i (λ z. in_table (sym same.0 ∙ z)) ∙ (λ k. on new (same.0 k) (same.1 k) (same.2 k)) ∙ own ∙ sym (slot-same t p j u n i x (contents_of image) same.0 same.1 same.2)
         | inr apart ↦ still apart (cases_eq u 0) ∙ sym (slot-other t p j u n i x (contents_of image) apart)
       ]

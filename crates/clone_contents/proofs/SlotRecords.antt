@@ -63,15 +63,15 @@ module _ (image : Image) (lsn : ℕ) (rs : List Record) (s : ℕ) (found : Optio
   -- the slot of a key is set on one page of a table
   pub one_set : (e : UndoEntry) (value : Option (List ℕ)) (none : Bool) → SetsOne image lsn rs e value none → HasContents new (with_slot e.table e.page e.slot (row_slot e.key value) (with_undo s found (contents_of image)))
   one_set e value none row =
-      let in_table : e.table ≢ 0 = λ zero. omega (arith, zero, row.in_range.place.0) in
+      let in_table : e.table ≢ 0 = λ zero. omega (arith, zero, row.in_range.row_slot.0) in
       let same = all_pages-is image e.table e.page row.page row.is_there in
       let now : all_pages new e.table e.page ≡ after_row none lsn e (rows.image e.key value) row.page = all_after lsn image rs e.table e.page row.page edits row.is_there ∙ row.row ∙ ap (after_row none lsn e (rows.image e.key value)) same in
       let long = g.formed.whole e.table e.page row.page row.is_there in
       let kind = g.formed.tables e.table e.page row.page in_table row.is_there in
-      let is_set = row_set lsn e.key value e row.page row.in_range.place.3 row.in_range.key row.short long kind none row.told in
-      let next_stays = row_next lsn e.key value e row.page row.in_range.place.3 row.in_range.key row.short long kind none row.told in
+      let is_set = row_set lsn e.key value e row.page row.in_range.row_slot.3 row.in_range.key row.short long kind none row.told in
+      let next_stays = row_next lsn e.key value e row.page row.in_range.row_slot.3 row.in_range.key row.short long kind none row.told in
       with_slots (with_slot e.table e.page e.slot (row_slot e.key value) (contents_of image)).slot
-      (slot_set image new e.table e.page e.slot (row_slot e.key value) in_table row.in_range.place.3
+      (slot_set image new e.table e.page e.slot (row_slot e.key value) in_table row.in_range.row_slot.3
       (ap slots now ∙ is_set ∙ ap (λ p. set (slots p) e.slot (row_slot e.key value)) (sym same))
       (λ t m behind other. all_kept t m (row.elsewhere t m behind other)))
       (next_kept image new e.table e.page (ap behind now ∙ next_stays ∙ ap behind (sym same)) (λ t m first other. all_kept t m (row.elsewhere t m first other)))

@@ -18,9 +18,9 @@ named_past image j high =
     let list = dictionary (all_pages image 0 0) in
     ap (λ (e : TableEntry). e.table) (get_or_past list j free (omega (arith, high, length-dictionary (all_pages image 0 0))))
 
--- a place that names a table is one of the dictionary
-pub place_within : (image : Image) (place table : ℕ) → named (contents_of image) place ≡ table → table ≢ 0 → place < 62
-place_within image place table is used = elim (cases_lt place 62) [ inl low ↦ low | inr high ↦ absurd (used (sym is ∙ named_past image place high)) ]
+-- the number of an entry that names a table is one of the dictionary
+pub entry_within : (image : Image) (entry_number table : ℕ) → named (contents_of image) entry_number ≡ table → table ≢ 0 → entry_number < 62
+entry_within image entry_number table is used = elim (cases_lt entry_number 62) [ inl low ↦ low | inr high ↦ absurd (used (sym is ∙ named_past image entry_number high)) ]
 
 pub system_long : (image : Image) → IsFormed image → length (all_pages image 0 0) ≡ 4096
 system_long image formed =

@@ -1,7 +1,7 @@
 -- One page of a table is made or written, and its slots stay: all that changes of the contents is
 -- the page behind it.
 use Rattle.std.proofs.Common.{◌≡◌, ◌≢◌, ℕ, List, [], ◌∷◌, sym, ap, ◌∙◌, cond, Option, Some, None, unwrap_or, nat_lt}
-use Rattle.clone_contents.proofs.Common.{AllByRecursion, field, position_at, dictionary, Record, slots, after_record, Image, page_of, all_pages, after_records, EditsPages, records_counts, contents_of, IsFormed, HasContents}
+use Rattle.clone_contents.proofs.Common.{AllByRecursion, field, position_at, dictionary, Record, slots, pages_after_record, Image, page_of, all_pages, after_records, EditsPages, records_counts, contents_of, IsFormed, HasContents}
 use Rattle.clone_undo.proofs.Effects as undo
 use Rattle.clone_contents.proofs.SameContents.{same_contents}
 use Rattle.clone_contents.proofs.ImagePages.{page_kept, all_after}
@@ -15,8 +15,8 @@ pub record EditsTable (image : Image) (lsn : ℕ) (r : Record) (t n : ℕ) : Typ
   pub page : List ℕ
   pub is_there : page_of image t n ≡ Some page
   pub fits : FitsOn r (all_pages image)
-  pub others : (u m : ℕ) → (u ≡ t → m ≡ n → ⊥) → after_record lsn r (all_pages image) u m ≡ all_pages image u m
-  pub slots_stay : slots (after_record lsn r (all_pages image) t n) ≡ slots (all_pages image t n)
+  pub others : (u m : ℕ) → (u ≡ t → m ≡ n → ⊥) → pages_after_record lsn r (all_pages image) u m ≡ all_pages image u m
+  pub slots_stay : slots (pages_after_record lsn r (all_pages image) t n) ≡ slots (all_pages image t n)
 
 module _ (image : Image) (lsn : ℕ) (r : Record) (t n : ℕ) (g : EditsTable image lsn r t n) where
   abbrev new : Image
@@ -25,7 +25,7 @@ module _ (image : Image) (lsn : ℕ) (r : Record) (t n : ℕ) (g : EditsTable im
   edits : AllByRecursion EditsPages (r ∷ [])
   edits = all_edits lsn (r ∷ []) (all_pages image) (g.fits, tt)
 
-  pub page_now : all_pages new t n ≡ after_record lsn r (all_pages image) t n
+  pub page_now : all_pages new t n ≡ pages_after_record lsn r (all_pages image) t n
   page_now = all_after lsn image (r ∷ []) t n g.page edits g.is_there
 
   pub all_kept : (u m : ℕ) → (u ≡ t → m ≡ n → ⊥) → all_pages new u m ≡ all_pages image u m

@@ -33,7 +33,7 @@ module _ (image : Image) (lsn s : ℕ) (slot : UndoSlot) (front : List UndoEntry
   used = undo_there image s slot may.small may.used
 
   in_table : e.table ≢ 0
-  in_table = λ zero. omega (arith, zero, may.in_range.place.0)
+  in_table = λ zero. omega (arith, zero, may.in_range.row_slot.0)
 
   whole : AreWhole s (pages 0)
   whole = whole_slot image s formed.whole formed.size may.small
@@ -48,11 +48,11 @@ module _ (image : Image) (lsn s : ℕ) (slot : UndoSlot) (front : List UndoEntry
   found = page_there image e.table e.page may.there
 
   used_row : HoldsSlots found.0
-  used_row = bound_kind image e.table e.page e.slot e.key found.0 formed in_table may.in_range.place.3 found.1 may.bound
+  used_row = bound_kind image e.table e.page e.slot e.key found.0 formed in_table may.in_range.row_slot.3 found.1 may.bound
 
   fits : FitAll lsn written pages
   fits =
-      let row : FitsOn (row_record e (slot_before e)) pages = (row_allowed e.slot (slot_before e) may.in_range.place.3 eighty, table_page image e.table e.page found.0 formed in_table found.1 used_row) in
+      let row : FitsOn (row_record e (slot_before e)) pages = (row_allowed e.slot (slot_before e) may.in_range.row_slot.3 eighty, table_page image e.table e.page found.0 formed in_table found.1 used_row) in
       (row, ((count_allowed (count - 1), stays lsn (row_record e (slot_before e)) pages 0 (header_page s) row (header_stands image s slot formed may.small used)), tt))
 
   stay : (t m : ℕ) → (t ≡ 0 → m ≡ 0) → (t ≡ e.table → m ≡ e.page → ⊥) → after lsn written pages t m ≡ pages t m

@@ -12,13 +12,13 @@ use Rattle.clone_row.specs.Chains.{behind}
 use Rattle.clone_row.specs.Slots as rows
 use Rattle.clone_row.specs.Slots.{slots, slot_in, Finds, FindsFree}
 use Rattle.clone_undo.specs.Entries.{UndoEntry}
-use Rattle.clone_undo.specs.Places.{slot_count, header_page, record_page}
+use Rattle.clone_undo.specs.Places.{undo_slot_count, header_page, record_page}
 use Rattle.clone_undo.specs.Slots.{UndoSlot}
 use Rattle.clone_undo.specs.Changes.{records_of_begin, records_of_change, records_of_taking_back, records_of_end}
 use Rattle.clone_image.specs.Image.{Image, page_of, after_records}
 use Rattle.clone_image.specs.Recovered as recovered
 use Rattle.clone_image.specs.Replay.{first_lsn, replayed, IsSpelled}
-use Rattle.clone_image.specs.Rows.{IsRow}
+use Rattle.clone_image.specs.Rows.{HoldsRow}
 use Rattle.clone_contents.specs.Contents.{contents_of, undone, with_undo}
 use Rattle.clone_contents.specs.Finding.{FindsIn, FindsFreeIn}
 use Rattle.clone_contents.specs.Formed.{IsFormed, HasContents}
@@ -34,10 +34,10 @@ OpeningLaw = (lsn : ℕ) → HasContents (after_records lsn finite.empty opening
 
 abbrev pub CreateLaw : Type 0
 CreateLaw =
-    (lsn place table buckets : ℕ) (image : Image) → IsFormed image
-    → MayCreate (contents_of image) place table buckets
-    → HasContents (after_records lsn image (records_of_create place table buckets))
-    (created place table buckets (contents_of image))
+    (lsn entry_number table buckets : ℕ) (image : Image) → IsFormed image
+    → MayCreate (contents_of image) entry_number table buckets
+    → HasContents (after_records lsn image (records_of_create entry_number table buckets))
+    (created entry_number table buckets (contents_of image))
 
 abbrev pub BeginLaw : Type 0
 BeginLaw =
@@ -65,13 +65,13 @@ TakingBackLaw =
 
 abbrev pub EndLaw : Type 0
 EndLaw =
-    (lsn s : ℕ) (image : Image) (slot : UndoSlot) → IsFormed image → s < slot_count
+    (lsn s : ℕ) (image : Image) (slot : UndoSlot) → IsFormed image → s < undo_slot_count
     → (contents_of image).undo s ≡ Some slot
     → HasContents (after_records lsn image (records_of_end s)) (ended s (contents_of image))
 
 abbrev pub CommitLaw : Type 0
 CommitLaw =
-    (lsn s position : ℕ) (image : Image) (slot : UndoSlot) → IsFormed image → s < slot_count
+    (lsn s position : ℕ) (image : Image) (slot : UndoSlot) → IsFormed image → s < undo_slot_count
     → (contents_of image).undo s ≡ Some slot → position < 2 ^ 64
     → HasContents (after_records lsn image (commit_records s position))
     (committed s position (contents_of image))
@@ -85,7 +85,7 @@ UndoingLaw =
 
 abbrev pub FreeingLaw : Type 0
 FreeingLaw =
-    (image : Image) (s : ℕ) (slot : UndoSlot) → IsFormed image → s < slot_count
+    (image : Image) (s : ℕ) (slot : UndoSlot) → IsFormed image → s < undo_slot_count
     → (contents_of image).undo s ≡ Some slot
     → HasContents (recovered.freed image s) (with_undo s None (contents_of image))
 
@@ -95,12 +95,12 @@ FreeingLaw =
 abbrev pub RowsShown : Type 0
 RowsShown =
     (image : Image) (row : Row) → IsFormed image → IsRowIn (contents_of image) row
-    → IsRow (page_of image) row
+    → HoldsRow (page_of image) row
 
 -- a row of the image is one of the contents
 abbrev pub RowsContained : Type 0
 RowsContained =
-    (image : Image) (row : Row) → IsFormed image → IsRow (page_of image) row
+    (image : Image) (row : Row) → IsFormed image → HoldsRow (page_of image) row
     → IsRowIn (contents_of image) row
 
 -- a slot of a table's page is that of the contents

@@ -12,10 +12,10 @@ use Rattle.clone_contents.specs.Steps.{is_unused}
 
 -- The space of a table gets one page more.
 
--- the table that is named in the entry of this place has a space of so many pages, which may have
--- one more, and in it this page
-pub record MayGrow (c : Contents) (place table pages last : ℕ) : Type 0 where
-  pub named : named c place ≡ table
+-- the table that is named in the entry with this number has a space of so many pages, which may
+-- have one more, and in it this page
+pub record MayGrow (c : Contents) (entry_number table pages last : ℕ) : Type 0 where
+  pub named : named c entry_number ≡ table
   pub used : table ≢ 0
   pub size : c.size table ≡ Some pages
   pub room : pages < MOST_PAGES
@@ -23,10 +23,10 @@ pub record MayGrow (c : Contents) (place table pages last : ℕ) : Type 0 where
 
 -- the space has one page more, as its entry tells, and the new page is behind this one
 abbrev pub grown : ℕ → ℕ → ℕ → ℕ → Contents → Contents
-grown place table pages last c =
+grown entry_number table pages last c =
     record c {
-      dictionary = slice_set c.dictionary place
-          (record (entry_in c.dictionary place) { pages = pages + 1 });
+      dictionary = slice_set c.dictionary entry_number
+          (record (entry_in c.dictionary entry_number) { pages = pages + 1 });
       size = set_at table (Some (pages + 1)) c.size;
       next = set_at table (set_at last (Some pages) (c.next table)) c.next;
     }
@@ -34,23 +34,23 @@ grown place table pages last c =
 -- an unused page has no page behind it, whatever is written there
 abbrev pub GrowthLaw : Type 0
 GrowthLaw =
-    (lsn place table pages last : ℕ) (image : Image) → IsFormed image
-    → MayGrow (contents_of image) place table pages last → is_unused image table last ≡ false
-    → HasContents (after_records lsn image (records_of_growth place table pages last))
-    (grown place table pages last (contents_of image))
+    (lsn entry_number table pages last : ℕ) (image : Image) → IsFormed image
+    → MayGrow (contents_of image) entry_number table pages last → is_unused image table last ≡ false
+    → HasContents (after_records lsn image (records_of_growth entry_number table pages last))
+    (grown entry_number table pages last (contents_of image))
 
 -- A table is dropped.
 
--- the table is named in the entry of this place
-pub record MayDrop (c : Contents) (place table : ℕ) : Type 0 where
-  pub named : named c place ≡ table
+-- the table is named in the entry with this number
+pub record MayDrop (c : Contents) (entry_number table : ℕ) : Type 0 where
+  pub named : named c entry_number ≡ table
   pub used : table ≢ 0
 
 -- the entry is free, and the table has no space, no slot in use and no chain
 abbrev pub dropped : ℕ → ℕ → Contents → Contents
-dropped place table c =
+dropped entry_number table c =
     record c {
-      dictionary = slice_set c.dictionary place free;
+      dictionary = slice_set c.dictionary entry_number free;
       size = set_at table None c.size;
       slot = set_at table (λ page j. unused) c.slot;
       next = set_at table (λ page. None) c.next;
@@ -58,7 +58,7 @@ dropped place table c =
 
 abbrev pub DropLaw : Type 0
 DropLaw =
-    (lsn place table : ℕ) (image : Image) → IsFormed image
-    → MayDrop (contents_of image) place table
-    → HasContents (after_records lsn image (records_of_drop place table))
-    (dropped place table (contents_of image))
+    (lsn entry_number table : ℕ) (image : Image) → IsFormed image
+    → MayDrop (contents_of image) entry_number table
+    → HasContents (after_records lsn image (records_of_drop entry_number table))
+    (dropped entry_number table (contents_of image))

@@ -8,7 +8,7 @@ use Rattle.clone_page.specs.Dictionary.{entry_count}
 use Rattle.clone_space.specs.Entries.{free}
 use Rattle.clone_row.specs.Slots.{unused, row_slot, bound_key}
 use Rattle.clone_undo.specs.Entries.{UndoEntry, IsEntry}
-use Rattle.clone_undo.specs.Places.{slot_count, capacity}
+use Rattle.clone_undo.specs.Places.{undo_slot_count, capacity}
 use Rattle.clone_undo.specs.Slots.{UndoSlot}
 use Rattle.clone_image.specs.Image.{Image, all_pages}
 use Rattle.clone_contents.specs.Contents.{Contents, set_at, with_slot, with_undo, undone, HasPage}
@@ -29,26 +29,26 @@ opened = record {
   position = 0;
 }
 
--- a table of this number and of so many buckets may be made, and named in the entry of this place
-pub record MayCreate (c : Contents) (place table buckets : ℕ) : Type 0 where
-  pub room : place < entry_count
+-- a table of this number and of so many buckets may be made, and named in this entry
+pub record MayCreate (c : Contents) (entry_number table buckets : ℕ) : Type 0 where
+  pub room : entry_number < entry_count
   pub used : 1 ≤ table
   pub low : table ≤ HIGHEST_TABLE
   pub fits : buckets < 2 ^ 32
   pub free : c.size table ≡ None
 
--- a table is named at a place of the dictionary, and has a space with a page for each bucket
+-- a table is named in this entry of the dictionary, and has a space with a page for each bucket
 abbrev pub created : ℕ → ℕ → ℕ → Contents → Contents
-created place table buckets c =
+created entry_number table buckets c =
     record c {
-      dictionary = slice_set c.dictionary place
+      dictionary = slice_set c.dictionary entry_number
           (record { table = table; buckets = buckets; pages = buckets });
       size = set_at table (Some buckets) c.size;
     }
 
 -- a transaction of this writer and index may begin
 pub record MayBegin (s writer index : ℕ) : Type 0 where
-  pub small : s < slot_count
+  pub small : s < undo_slot_count
   pub writer_fits : writer < 2 ^ 32
   pub index_fits : index < 2 ^ 64
 
@@ -72,7 +72,7 @@ telling slot records = Some (record slot { records = records })
 -- a change may be written, with an undo record behind those of its undo slot
 pub record MayChange (c : Contents) (s : ℕ) (slot : UndoSlot) (e : UndoEntry)
     (value : Option (List ℕ)) : Type 0 where
-  pub small : s < slot_count
+  pub small : s < undo_slot_count
   pub used : c.undo s ≡ Some slot
   pub known : AllByRecursion IsEntry slot.records
   pub room : length slot.records < capacity
@@ -88,7 +88,7 @@ changed s slot e value c =
 -- the last record of an undo slot may be taken back
 pub record MayTakeBack (c : Contents) (s : ℕ) (slot : UndoSlot) (front : List UndoEntry)
     (e : UndoEntry) : Type 0 where
-  pub small : s < slot_count
+  pub small : s < undo_slot_count
   pub used : c.undo s ≡ Some slot
   pub last : slot.records ≡ front ++ e ∷ []
   pub few : length slot.records ≤ capacity

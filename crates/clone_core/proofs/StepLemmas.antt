@@ -19,7 +19,7 @@ use Rattle.clone_trx.proofs.CauseLemmas.{both_none}
 use Rattle.clone_trx.proofs.WalkLemmas.{walk_missed}
 use Rattle.clone_trx.specs.Ways.{Way, reads, walks, stops, writes, freshens, lengthens, makes, drops, ends, CarriesDrop, Goes, Writes, Misses, Answers, held, page_in}
 use Rattle.clone_trx.specs.Ways as ways
-use Rattle.clone_trx.specs.Calls.{undo_last, change_at, entry_place, grown_way, pages_told, slot_way}
+use Rattle.clone_trx.specs.Calls.{undo_last, change_at, number_of_entry, grown_way, pages_told, slot_way}
 use Rattle.clone_buffer.specs.Writing.{written}
 use Rattle.clone_space.specs.Records.{records_of_growth}
 use Rattle.clone_flush.specs.declared.refusal.FlushRefusal.{FlushRefusal}
@@ -81,16 +81,16 @@ goes_below X (drops space pages records) old new cause stops_below (inr failed) 
 goes_below X ends old new cause stops_below is = absurd (let e = is.0 in cc)
 
 -- a space that gets a page more
-grown_below : (d : Donor) (trx : ℕ) (change : Change) (last place pages : ℕ) → StopsBelow (grown_way d trx change last place pages)
-grown_below d trx change last place pages = by (nat_le MOST_PAGES pages)
+grown_below : (d : Donor) (trx : ℕ) (change : Change) (last entry_number pages : ℕ) → StopsBelow (grown_way d trx change last entry_number pages)
+grown_below d trx change last entry_number pages = by (nat_le MOST_PAGES pages)
   where
-    by : (b : Bool) → StopsBelow (if b then stops causes.SpaceFull else lengthens (records_of_growth place change.table pages last) (slot_way d trx change pages 0 false None))
+    by : (b : Bool) → StopsBelow (if b then stops causes.SpaceFull else lengthens (records_of_growth entry_number change.table pages last) (slot_way d trx change pages 0 false None))
     by true = refl
     by false = λ header page. tt
 
-change_below : (d : Donor) (trx : ℕ) (change : Change) (number : ℕ) (place : Option ℕ) (row : List ℕ) → StopsBelow (change_at d trx change number place row)
-change_below d trx change number None row = λ page. let place = entry_place change.table page in grown_below d trx change number place (pages_told page place)
-change_below d trx change number (Some place) row = λ header page. tt
+change_below : (d : Donor) (trx : ℕ) (change : Change) (number : ℕ) (slot : Option ℕ) (row : List ℕ) → StopsBelow (change_at d trx change number slot row)
+change_below d trx change number None row = λ page. let entry_number = number_of_entry change.table page in grown_below d trx change number entry_number (pages_told page entry_number)
+change_below d trx change number (Some slot_number) row = λ header page. tt
 
 undo_below : (d : Donor) (trx : ℕ) (change : Option Change) → StopsBelow (undo_last d trx change)
 undo_below d trx None = tt
@@ -101,9 +101,9 @@ pub way_below : (d : Donor) (call : Call) → StopsBelow (way_of d call)
 way_below d (create table buckets) = λ page. tt
 way_below d (drop table) = λ page. tt
 way_below d (begin writer index) = λ page. tt
-way_below d (put trx table key value) = λ number place row. change_below d trx (put_of table key value) number place row
-way_below d (delete trx table key) = λ number place row. change_below d trx (delete_of table key) number place row
-way_below d (get trx table key) = λ number place row. tt
+way_below d (put trx table key value) = λ number slot row. change_below d trx (put_of table key value) number slot row
+way_below d (delete trx table key) = λ number slot row. change_below d trx (delete_of table key) number slot row
+way_below d (get trx table key) = λ number slot row. tt
 way_below d (undo_one trx) = λ header. undo_below d trx _
 way_below d (commit trx) = λ header page. tt
 way_below d (flush_begin space page) = tt
@@ -377,14 +377,14 @@ wants_donor call s t (inr follows) = by (cause_of s.donor call) follows
     by None answers = answers.1
 
 served_wants : (call : Call) (d : staged.Donor) (e : Engine) → ServesAs call d e (Err NoMemory) → e.donor ≡ d.engine.donor
-served_wants (create table buckets) d e is = wants_donor _ d.engine e is.goes
+served_wants (create table buckets) d e is = wants_donor (create table buckets) d.engine e is.goes
 served_wants (drop table) d e is = drop_wants (drop_cause d.engine.donor table) table d.engine e is.answers
-served_wants (begin writer index) d e is = wants_donor _ d.engine e is.goes
-served_wants (put trx table key value) d e is = wants_donor _ d.engine e is.goes
-served_wants (delete trx table key) d e is = wants_donor _ d.engine e is.goes
-served_wants (get trx table key) d e is = wants_donor _ d.engine e is.goes
-served_wants (undo_one trx) d e is = wants_donor _ d.engine e is.goes
-served_wants (commit trx) d e is = wants_donor _ d.engine e is.goes
+served_wants (begin writer index) d e is = wants_donor (begin writer index) d.engine e is.goes
+served_wants (put trx table key value) d e is = wants_donor (put trx table key value) d.engine e is.goes
+served_wants (delete trx table key) d e is = wants_donor (delete trx table key) d.engine e is.goes
+served_wants (get trx table key) d e is = wants_donor (get trx table key) d.engine e is.goes
+served_wants (undo_one trx) d e is = wants_donor (undo_one trx) d.engine e is.goes
+served_wants (commit trx) d e is = wants_donor (commit trx) d.engine e is.goes
 served_wants (flush_begin space page) d e is = is.donor
 served_wants (flush_half space page) d e is = is.donor
 served_wants (flush_land space page) d e is = is.donor

@@ -9,7 +9,7 @@ use Rattle.std.proofs.lemmas.Option.{same_Some}
 use Rattle.clone_pool.specs.declared.frame.Frame.{Frame}
 use Rattle.clone_pool.specs.declared.frame.PageName.{PageName}
 use Rattle.clone_pool.specs.Frames.{no_frame, frame_at, name_of, holder, is_dirty, is_begun, is_waiting, begun, landed}
-use Rattle.clone_pool.specs.Index.{place_of}
+use Rattle.clone_pool.specs.Index.{frame_number_of}
 
 -- a frame counts where its page waits
 abbrev waits : Frame → ℕ
@@ -63,7 +63,7 @@ landed_waits frames at f low is =
 
 -- the page has its frame where it had it
 same_holder : (frames : List Frame) (at : ℕ) (page : PageName) → holder (begun_at at frames) page ≡ holder frames page
-same_holder frames at page = ap (place_of page) (map-set_same name_of frames at (begun (frame_at frames at)) no_frame refl)
+same_holder frames at page = ap (frame_number_of page) (map-set_same name_of frames at (begun (frame_at frames at)) no_frame refl)
 
 -- A WHOLE FLUSH: it begins and lands in the frame of its page.
 flushed_waits : (frames : List Frame) (at to : ℕ) (page : PageName) → at < length frames → holder frames page ≡ Some at → is_waiting (frame_at frames at) ≡ true → holder (begun_at at frames) page ≡ Some to → to < length (begun_at at frames)

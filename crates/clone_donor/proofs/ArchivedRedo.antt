@@ -60,11 +60,11 @@ module _ (v : Buffered) (a : Archived) (n : ℕ) (buffer : IsBuffer v) (is : IsO
   next zero kept = refl
   next (suc count) kept =
       let above : v.ring.floor ≤ archived_of a = kept (omega arith) in
-      let place : (v.ring.floor - first_lsn) + (archived_of a - v.ring.floor) ≡ (a.start - first_lsn) + length a.bytes = omega (arith, above, is.start, held, buffer.end) in
+      let offset : (v.ring.floor - first_lsn) + (archived_of a - v.ring.floor) ≡ (a.start - first_lsn) + length a.bytes = omega (arith, above, is.start, held, buffer.end) in
       ap (take (suc count))
       (ap (drop (archived_of a - v.ring.floor)) buffer.bytes
       ∙ drop-drop (archived_of a - v.ring.floor) (v.ring.floor - first_lsn) (log_of v.log)
-      ∙ ap (λ from. drop from (log_of v.log)) place
+      ∙ ap (λ from. drop from (log_of v.log)) offset
       ∙ sym (drop-drop (length a.bytes) (a.start - first_lsn) (log_of v.log)))
 
   size : length (a.bytes ++ piece) ≡ length a.bytes + n
@@ -91,8 +91,8 @@ redo_of_stop log rest a is whole at =
     let back : List ℕ = log_of at.behind in
     let parts : log_of log ≡ front ++ back = ap log_of at.split ∙ log_of-append at.before at.behind in
     let long = length-append front back in
-    let from : a.start - first_lsn ≡ length front = omega (arith, at.place) in
-    let count : length a.bytes ≡ length back = omega (arith, whole, at.place, ap length parts, long) in
+    let from : a.start - first_lsn ≡ length front = omega (arith, at.moment) in
+    let count : length a.bytes ≡ length back = omega (arith, whole, at.moment, ap length parts, long) in
     is.bytes
     ∙ longer log rest (a.start - first_lsn) (length a.bytes) (omega (arith, is.start, whole))
     ∙ ap (λ bytes. take (length a.bytes) (drop (a.start - first_lsn) bytes)) parts

@@ -1,18 +1,17 @@
 -- The answer of a call of transactions, as the call that was carried out or why it wasn't.
-use Rattle.std.proofs.Common.{◌≡◌, inl, inr, List, refl, sym, ap, ◌∙◌, Option, None, Some, Result, Ok, Err, IsOk, ◌≤◌, ◌-◌, ◌∷◌, ℕ, Bool, true, false, nat_le, if◌then◌else◌, [], subst, arith, append_assoc}
+use Rattle.std.proofs.Common.{◌≡◌, inl, inr, List, refl, sym, ap, Option, None, Some, Result, Ok, Err, IsOk}
 use Rattle.clone_mtr.specs.declared.record.Record.{Record}
 use Rattle.clone_buffer.specs.Buffered.{Buffered}
 use Rattle.clone_buffer.specs.Writing.{written}
 use Rattle.clone_outside.specs.Causes.{Rose}
 use Rattle.clone_flush.specs.Flights.{Flights}
-use Rattle.clone_plain.specs.Calls.{Call, create, drop, begin, put, delete, get, undo_one, commit, flush_begin, flush_half, flush_land, oldest_dirty, checkpoint, end, Done, cause_of}
-use Rattle.clone_plain.specs.Effects.{put_of, delete_of}
+use Rattle.clone_plain.specs.Calls.{Call, Done, cause_of}
 use Rattle.clone_plain.specs.Donor.{Donor}
 use Rattle.clone_plain.specs.declared.refusal.Cause.{Cause}
-use Rattle.clone_plain.specs.declared.refusal.Cause.TheVariants.{DiskFault, SpaceFull}
+use Rattle.clone_plain.specs.declared.refusal.Cause.TheVariants.{DiskFault}
 use Rattle.clone_plain.specs.declared.refusal.EngineRefusal.{EngineRefusal}
 use Rattle.clone_plain.specs.declared.refusal.EngineRefusal.TheVariants.{Because, NoMemory}
-use Rattle.clone_trx.specs.Ways.{Way, reads, walks, stops, writes, freshens, lengthens, makes, drops, ends, Goes, Writes, Drops, Carries, Answers, held, page_in}
+use Rattle.clone_trx.specs.Ways.{Way, reads, walks, stops, writes, freshens, lengthens, makes, drops, ends, Goes, Writes, Carries, Answers, held, page_in}
 use Rattle.clone_engine.specs.Disks.{Visits}
 use Rattle.clone_engine.specs.Engine.{Engine}
 use Rattle.clone_engine.specs.Steps as steps

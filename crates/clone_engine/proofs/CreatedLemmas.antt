@@ -19,24 +19,29 @@ use Rattle.clone_flush.specs.Flights.{Flights, HasFiles, IsFlown, StandsFlown, b
 use Rattle.clone_flush.proofs.FlightLemmas.{told_stepped}
 use Rattle.clone_model.specs.declared.line.TheConstants.{MOST_PAGES}
 use Rattle.clone_plain.specs.Donor.{Donor}
+use Rattle.clone_plain.specs.Causes.{create_cause}
 use Rattle.clone_plain.specs.Effects.{created}
 use Rattle.clone_plain.specs.declared.refusal.Cause.{Cause}
 use Rattle.clone_plain.specs.declared.refusal.Cause.TheVariants.{NoSuchTrx, NoSuchTable, TableExists, RowLocked, ValueTooLong, UndoFull, SpaceFull, LogFull, PoolFull, TooManyTransactions, TooManyTables, CloneRunning, TableInUse, NotDirty, InFlight, NoFlush, DiskFault}
 use Rattle.clone_plain.specs.declared.refusal.EngineRefusal.{EngineRefusal}
 use Rattle.clone_plain.specs.declared.refusal.EngineRefusal.TheVariants.{Because, NoMemory}
 use Rattle.clone_contents.specs.Contents.{contents_of}
+use Rattle.clone_trx.specs.Calls.{create_way}
 use Rattle.clone_trx.specs.Kept.{Keeps}
 use Rattle.clone_trx.specs.Sound.{HasSize}
 use Rattle.clone_trx.specs.Ways.{Way, Answers, StaysOutsideFiles}
 use Rattle.clone_trx.proofs.Common.{same_Some}
+use Rattle.clone_trx.proofs.CreateLemmas.{no_space}
 use Rattle.clone_engine.specs.Disks.{DiskState}
 use Rattle.clone_engine.specs.Engine.{AreOfDonor, IsEngine, IsInFile}
 use Rattle.clone_engine.specs.Growth.{PagesStay}
 use Rattle.clone_engine.proofs.BeyondLemmas.{stands_with, past_rule}
+use Rattle.clone_engine.proofs.CallLemmas.{create_grows}
 use Rattle.clone_engine.proofs.DiskLemmas.{step_tells, either_tells, stays_flown, made_flown}
 use Rattle.clone_engine.proofs.EngineLemmas.{engine, right_told}
 use Rattle.clone_engine.proofs.FileLemmas.{made_files, no_table, past_made, space_left, space_made}
 use Rattle.clone_engine.proofs.PageLemmas.{spaced_page, is_there}
+use Rattle.clone_engine.proofs.StayLemmas.{create_stay}
 use Rattle.clone_engine.proofs.WayLemmas.{Grows}
 
 -- the disk failed, or the cause is another
@@ -108,16 +113,40 @@ module _ (k l : DiskState) (table buckets : ℕ) {X : Type 0} (result : Result X
         by (Ok x) is = step_tells k.told l.told made (subst (λ (r : Result X EngineRefusal). OnOk r (Steps k.told l.told made)) is on.made_is)
         by (Err refusal) is = either_tells k.told l.told made (told_left refusal is)
 
--- A table whose file isn't known.
-module _ (d e : Donor) (old new : Buffered) (f : Flights) (k l : DiskState) (table buckets : ℕ) (is : IsEngine (engine d old f k)) (b : IsBuffer old) (low : 1 ≤ table) (unknown : finite.get f.files table ≡ None) (keeps : Keeps e new) (grows : Grows 1 old new) (pages : PagesStay old new) (stays : StaysOutsideFiles table old new k.told l.told) where
+-- What a call that makes a table is told, where its file isn't known.
+pub record Creating (d e : Donor) (old new : Buffered) (f : Flights) (k l : DiskState) (table : ℕ) : Type 0 where
+  pub is : IsEngine (engine d old f k)
+  pub buffer : IsBuffer old
+  pub low : 1 ≤ table
+  pub unknown : finite.get f.files table ≡ None
+  pub keeps : Keeps e new
+  pub grows : Grows 1 old new
+  pub pages : PagesStay old new
+  pub stays : StaysOutsideFiles table old new k.told l.told
+
+-- So it is by what the transactions answer.
+pub creating : (d e : Donor) (old new : Buffered) (f : Flights) (k l : DiskState) (table buckets : ℕ) (result : Result (Unit {0}) EngineRefusal) → IsEngine (engine d old f k) → IsBuffer old → 1 ≤ table → table ≤ 1000000 → finite.get f.files table ≡ None → Keeps e new
+    → Answers (create_cause d table) (create_way table buckets) d e old new result (λ _. e ≡ created table buckets d) → StaysOutsideFiles table old new k.told l.told → Creating d e old new f k l table
+creating d e old new f k l table buckets result is buffer low high unknown keeps answer stays = record {
+  is = is;
+  buffer = buffer;
+  low = low;
+  unknown = unknown;
+  keeps = keeps;
+  grows = create_grows d e old new table buckets result high answer;
+  pages = create_stay (create_cause d table) d e old new table buckets result (λ _. e ≡ created table buckets d) (λ right. no_space d (image_of old) table (is.keeps.kept right) low (no_table d f.files table is.spaces unknown)) answer;
+  stays = stays;
+}
+
+module _ {d e : Donor} {old new : Buffered} {f : Flights} {k l : DiskState} {table : ℕ} (buckets : ℕ) (call : Creating d e old new f k l table) where
   abbrev after : DiskImage → DiskImage
   after m = with_created m table buckets
 
   none : finite.get d.tables table ≡ None
-  none = no_table d f.files table is.spaces unknown
+  none = no_table d f.files table call.is.spaces call.unknown
 
   calm : NoFilesOf table (beyond f.files)
-  calm number = by (ends_before (finite.get f.files table) number) (ap (λ (o : Option ℕ). ends_before o number) unknown)
+  calm number = by (ends_before (finite.get f.files table) number) (ap (λ (o : Option ℕ). ends_before o number) call.unknown)
     where
       by : (t : Bool) → t ≡ false → NoFiles (if t then Untracked (past_end ∷ []) else Idle)
       by true e = absurd (true≢false e)
@@ -125,12 +154,12 @@ module _ (d e : Donor) (old new : Buffered) (f : Flights) (k l : DiskState) (tab
 
   -- its space is made on the disk, or isn't
   pub either_copies : IsBeforeOrAfter k.told l.told after → (copies : Copies) → NoFilesOf table copies → StandsFlown old f copies k.told → StandsFlown new f copies l.told
-  either_copies (inl same) copies quiet = stays_flown f copies old new k.told l.told same (stays (beside_of f copies) quiet) grows.floor
-  either_copies (inr step) copies quiet = made_flown d f copies old new table buckets b is.keeps.kept low none grows.floor k.told l.told step (stays (beside_of f copies) quiet)
+  either_copies (inl same) copies quiet = stays_flown f copies old new k.told l.told same (call.stays (beside_of f copies) quiet) call.grows.floor
+  either_copies (inr step) copies quiet = made_flown d f copies old new table buckets call.buffer call.is.keeps.kept call.low none call.grows.floor k.told l.told step (call.stays (beside_of f copies) quiet)
 
   files_left : IsBeforeOrAfter k.told l.told after → ForTold l.told (HasFiles f.files)
-  files_left (inl same) = subst (λ (t : Option DiskImage). ForTold t (HasFiles f.files)) (sym same) is.files
-  files_left (inr step) = told_stepped (HasFiles f.files) (HasFiles f.files) k.told l.told after step (λ m h. space_left m table buckets f.files unknown h) is.files
+  files_left (inl same) = subst (λ (t : Option DiskImage). ForTold t (HasFiles f.files)) (sym same) call.is.files
+  files_left (inr step) = told_stepped (HasFiles f.files) (HasFiles f.files) k.told l.told after step (λ m h. space_left m table buckets f.files call.unknown h) call.is.files
 
   -- the pages of known files are there still
   abbrev Makes : Type 0
@@ -138,25 +167,25 @@ module _ (d e : Donor) (old new : Buffered) (f : Flights) (k l : DiskState) (tab
 
   old_within : (told : Option DiskImage) → ForTold told (λ _. (space number : ℕ) → IsInFile (engine d old f k) space number → IsSome (page_of (image_of old) space number)) → ForTold told (λ _. IsTrue old.right) → ForTold told (λ _. Makes)
   old_within None within right = tt
-  old_within (Some m) within right = λ space number inside. pages right space number (within space number inside)
+  old_within (Some m) within right = λ space number inside. call.pages right space number (within space number inside)
 
   told_either : (P : Type 0) → IsBeforeOrAfter k.told l.told after → ForTold k.told (λ _. P) → ForTold l.told (λ _. P)
   told_either P (inl same) had = subst (λ (t : Option DiskImage). ForTold t (λ _. P)) (sym same) had
   told_either P (inr step) had = told_stepped (λ _. P) (λ _. P) k.told l.told after step (λ m p. p) had
 
   makes : IsBeforeOrAfter k.told l.told after → ForTold l.told (λ _. Makes)
-  makes either = told_either Makes either (old_within k.told is.within (right_told old f no_copies k.told is.stands))
+  makes either = told_either Makes either (old_within k.told call.is.within (right_told old f no_copies k.told call.is.stands))
 
   -- THE CALL WAS REFUSED
   pub refused_engine : e ≡ d → IsBeforeOrAfter k.told l.told after → IsEngine (engine e new f l)
   refused_engine same either = subst (λ (x : Donor). IsEngine (engine x new f l)) (sym same) (record {
-    keeps = subst (λ (x : Donor). Keeps x new) same keeps;
-    stands = either_copies either no_copies (λ number. tt) is.stands;
+    keeps = subst (λ (x : Donor). Keeps x new) same call.keeps;
+    stands = either_copies either no_copies (λ number. tt) call.is.stands;
     files = files_left either;
-    spaces = is.spaces;
+    spaces = call.is.spaces;
     within = each l.told (makes either);
-    short = either_copies either (beyond f.files) calm is.short;
-    tables = grows.tables is.tables;
+    short = either_copies either (beyond f.files) calm call.is.short;
+    tables = call.grows.tables call.is.tables;
   })
     where
       each : (told : Option DiskImage) → ForTold told (λ _. Makes) → ForTold told (λ _. (space number : ℕ) → IsInFile (engine d new f l) space number → IsSome (page_of (image_of new) space number))
@@ -176,7 +205,7 @@ module _ (d e : Donor) (old new : Buffered) (f : Flights) (k l : DiskState) (tab
     made_copies copies quiet st = refiled copies l.told (either_copies (inr step) copies quiet st)
 
     sized : IsTrue new.right → HasSize (contents_of (image_of new)) table buckets
-    sized right = ((keeps.kept right).sound.tables.sizes table buckets (ap (λ (x : Donor). finite.get x.tables table) becomes ∙ get-put_same d.tables table buckets)).0
+    sized right = ((call.keeps.kept right).sound.tables.sizes table buckets (ap (λ (x : Donor). finite.get x.tables table) becomes ∙ get-put_same d.tables table buckets)).0
 
     -- a page past the end of the new file
     short_rule : (m : DiskImage) → IsFlown new g (beyond f.files) (after m) → (space number : ℕ) → CopyRule space number (engine_of new (beside_of g (beyond f.files)) (after m) space number) (beyond g.files space number)
@@ -198,7 +227,7 @@ module _ (d e : Donor) (old new : Buffered) (f : Flights) (k l : DiskState) (tab
             (copy_kept new (beside_of g (beyond f.files)) (after m) space number flown.kept).copy
 
     made_short : StandsFlown new g (beyond g.files) l.told
-    made_short = by k.told step (made_copies (beyond f.files) calm is.short)
+    made_short = by k.told step (made_copies (beyond f.files) calm call.is.short)
       where
         by : (before : Option DiskImage) → Steps before l.told after → StandsFlown new g (beyond f.files) l.told → StandsFlown new g (beyond g.files) l.told
         by None stepped st = subst (StandsFlown new g (beyond g.files)) (sym stepped) tt
@@ -206,7 +235,7 @@ module _ (d e : Donor) (old new : Buffered) (f : Flights) (k l : DiskState) (tab
             (stands_with new g (beyond f.files) (beyond g.files) (after m) (subst (StandsFlown new g (beyond f.files)) stepped st) (short_rule m (subst (StandsFlown new g (beyond f.files)) stepped st)))
 
     made_within : ForTold l.told (λ _. (space number : ℕ) → IsInFile (engine e new g l) space number → IsSome (page_of (image_of new) space number))
-    made_within = by l.told (makes (inr step)) (right_told new f no_copies l.told (either_copies (inr step) no_copies (λ number. tt) is.stands))
+    made_within = by l.told (makes (inr step)) (right_told new f no_copies l.told (either_copies (inr step) no_copies (λ number. tt) call.is.stands))
       where
         one : Makes → IsTrue new.right → (space number : ℕ) → IsInFile (engine e new g l) space number → (space ≡ table) ⊎ (space ≢ table) → IsSome (page_of (image_of new) space number)
         one had right space number inside (inl same) =
@@ -221,11 +250,11 @@ module _ (d e : Donor) (old new : Buffered) (f : Flights) (k l : DiskState) (tab
 
     pub made_engine : IsEngine (engine e new g l)
     made_engine = record {
-      keeps = keeps;
-      stands = made_copies no_copies (λ number. tt) is.stands;
-      files = told_stepped (HasFiles f.files) (HasFiles g.files) k.told l.told after step (λ m h. space_made m table buckets f.files h) is.files;
-      spaces = subst (λ (x : Donor). AreOfDonor x g.files) (sym becomes) (made_files d f.files table buckets low most unknown is.spaces);
+      keeps = call.keeps;
+      stands = made_copies no_copies (λ number. tt) call.is.stands;
+      files = told_stepped (HasFiles f.files) (HasFiles g.files) k.told l.told after step (λ m h. space_made m table buckets f.files h) call.is.files;
+      spaces = subst (λ (x : Donor). AreOfDonor x g.files) (sym becomes) (made_files d f.files table buckets call.low most call.unknown call.is.spaces);
       within = made_within;
       short = made_short;
-      tables = grows.tables is.tables;
+      tables = call.grows.tables call.is.tables;
     }

@@ -1,15 +1,13 @@
 -- What holds of every donor after a table was dropped, or wasn't.
-use Rattle.std.proofs.Common.{◌≡◌, ◌≢◌, ◌≤◌, ◌<◌, ◌+◌, ◌-◌, ◌++◌, ◌⊎◌, inl, inr, ℕ, List, [], ◌∷◌, Bool, true, false, refl, sym, ap, subst, ◌∙◌, arith, Option, None, Some, IsSome, IsTrue, is_some, min, option_map, option_and_then, slice_get, Result, Ok, Err, IfOk, OnOk, not, if◌then◌else◌, length, append-nil, length-append, cond}
+use Rattle.std.proofs.Common.{◌≡◌, ◌≢◌, ◌≤◌, ◌<◌, ◌+◌, ◌++◌, ◌⊎◌, inl, inr, ℕ, List, [], ◌∷◌, Bool, false, refl, sym, ap, subst, ◌∙◌, arith, Option, None, Some, IsSome, is_some, min, option_map, option_and_then, slice_get, Result, Ok, Err, IfOk, OnOk, not, if◌then◌else◌, length, length-append}
 use Rattle.std.proofs.lemmas.Bool.{cases_eq, true≢false}
 use Rattle.std.specs.FinMap as finite
-use Rattle.std.specs.Option.{option_or}
 use Rattle.std.specs.Ordering.{nat_cmp}
 use Rattle.clone_outside.specs.Disk as disk
 use Rattle.clone_outside.specs.Disk.{DiskImage, ForTold, IsBeforeOrAfter, with_removed}
 use Rattle.clone_outside.specs.declared.disk.Held.{Held}
 use Rattle.clone_mtr.specs.declared.record.Record.{Record}
-use Rattle.clone_mtr.specs.declared.record.Record.TheVariants.{Drop}
-use Rattle.clone_image.specs.Image.{Image, page_of, after_records}
+use Rattle.clone_image.specs.Image.{Image, page_of}
 use Rattle.clone_image.specs.Replay.{replayed}
 use Rattle.clone_image.specs.Redone.{past_end}
 use Rattle.clone_law.specs.Machine.{Copy, Idle, NoFiles, Untracked}
@@ -17,9 +15,9 @@ use Rattle.clone_law.specs.Rule.{CopyRule}
 use Rattle.clone_overlay.specs.Images.{redo_space}
 use Rattle.clone_space.specs.Records.{records_of_drop, free_record}
 use Rattle.clone_pool.specs.declared.frame.PageName.{PageName}
-use Rattle.clone_buffer.specs.Buffered.{Buffered, IsBuffer, image_of}
+use Rattle.clone_buffer.specs.Buffered.{Buffered, image_of}
 use Rattle.clone_buffer.specs.Keeping.{Stands}
-use Rattle.clone_buffer.specs.OnePage.{Beside, Copies, NoFilesOf, NoFlightsOf, engine_of, no_copies}
+use Rattle.clone_buffer.specs.OnePage.{Copies, NoFilesOf, NoFlightsOf, engine_of, no_copies}
 use Rattle.clone_buffer.proofs.LawLemmas.{copy_kept}
 use Rattle.clone_buffer.proofs.WrittenLemmas.{replayed-push}
 use Rattle.clone_flush.specs.Calls.{without_file}
@@ -28,19 +26,19 @@ use Rattle.clone_flush.specs.declared.flusher.PageWrite.{PageWrite}
 use Rattle.clone_flush.proofs.FlightLemmas.{told_stepped}
 use Rattle.clone_outside.specs.Causes.{Rose}
 use Rattle.clone_plain.specs.Calls.{Done, did_drop}
-use Rattle.clone_plain.specs.Causes.{drop_cause, least_holder, whether}
+use Rattle.clone_plain.specs.Causes.{drop_cause}
 use Rattle.clone_plain.specs.Donor.{Donor}
 use Rattle.clone_plain.specs.Effects.{dropped}
 use Rattle.clone_plain.specs.declared.refusal.Cause.{Cause}
-use Rattle.clone_plain.specs.declared.refusal.Cause.TheVariants.{DiskFault, InFlight, NoSuchTable, TableInUse}
+use Rattle.clone_plain.specs.declared.refusal.Cause.TheVariants.{DiskFault}
 use Rattle.clone_plain.specs.declared.refusal.EngineRefusal.{EngineRefusal}
 use Rattle.clone_plain.specs.declared.refusal.EngineRefusal.TheVariants.{Because, NoMemory}
 use Rattle.clone_model.specs.declared.line.TheConstants.{MOST_PAGES}
-use Rattle.clone_trx.specs.Calls.{drop_way, entry_place, pages_told}
+use Rattle.clone_trx.specs.Calls.{drop_way, number_of_entry, pages_told}
 use Rattle.clone_trx.specs.Kept.{IsSafe, Keeps}
 use Rattle.clone_trx.specs.Ways.{CarriesDrop, Drops, Goes, StaysOutside, StaysStanding, held, page_in}
 use Rattle.clone_trx.proofs.CauseLemmas.{both_none, is_not}
-use Rattle.clone_trx.proofs.Common.{get-removed_other, get-removed_same, nat_cmp-IsAntisymmetric, nat_cmp_total, none-some, len-without}
+use Rattle.clone_trx.proofs.Common.{get-removed_other, get-removed_same, nat_cmp-IsAntisymmetric, nat_cmp_total, len-without}
 use Rattle.clone_engine.specs.Disks.{DiskState}
 use Rattle.clone_engine.specs.Engine.{AreOfDonor, Engine, IsEngine, IsInFile}
 use Rattle.clone_engine.specs.Steps as steps
@@ -111,11 +109,11 @@ left_on_disk files table before after (inr step) has = told_stepped (HasFiles fi
 
 -- No page of another space goes.
 
-dropped_pages : (log new : List (List Record)) (place table : ℕ) → new ≡ log ++ records_of_drop place table ∷ [] → (s n : ℕ) → s ≢ table → IsSome (page_of (replayed log) s n) → IsSome (page_of (replayed new) s n)
-dropped_pages log new place table is s n other there =
+dropped_pages : (log new : List (List Record)) (entry_number table : ℕ) → new ≡ log ++ records_of_drop entry_number table ∷ [] → (s n : ℕ) → s ≢ table → IsSome (page_of (replayed log) s n) → IsSome (page_of (replayed new) s n)
+dropped_pages log new entry_number table is s n other there =
     subst (λ (l : List (List Record)). IsSome (page_of (replayed l) s n)) (sym is)
-    (subst (λ (i : Image). IsSome (page_of i s n)) (sym (replayed-push log (records_of_drop place table) _ refl))
-    (records_stay _ (finite.remove (replayed log) table) (free_record place ∷ []) s n (tt, tt)
+    (subst (λ (i : Image). IsSome (page_of i s n)) (sym (replayed-push log (records_of_drop entry_number table) _ refl))
+    (records_stay _ (finite.remove (replayed log) table) (free_record entry_number ∷ []) s n (tt, tt)
     (subst IsSome (sym (ap (λ (o : Option (List (List ℕ))). option_and_then (λ pages. slice_get pages n) o) (get-removed_other nat_cmp_total nat_cmp-IsAntisymmetric (replayed log) table s other))) there)))
 
 -- Where the way of a drop has written, it has dropped the table.
@@ -124,20 +122,20 @@ log_of b = b.log
 
 -- the log has one mini-transaction more, which drops the table
 abbrev HasDropped : ℕ → Buffered → Buffered → Type 0
-HasDropped table old new = (place : ℕ) × (new.log ≡ old.log ++ records_of_drop place table ∷ [])
+HasDropped table old new = (entry_number : ℕ) × (new.log ≡ old.log ++ records_of_drop entry_number table ∷ [])
 
-wrote_drop : {X : Type 0} (table pages place : ℕ) (old new : Buffered) (result : Result X EngineRefusal) → Drops table pages (records_of_drop place table) old new result → (new.log ≡ old.log) ⊎ HasDropped table old new
-wrote_drop table pages place old new (Ok x) d = inr (place, ap log_of d.1)
-wrote_drop table pages place old new (Err (Because cause)) (inl full) = inl (ap log_of full.1)
-wrote_drop table pages place old new (Err (Because cause)) (inr failed) = inr (place, ap log_of failed.1.1)
-wrote_drop table pages place old new (Err NoMemory) d = inl (ap log_of d.1)
+wrote_drop : {X : Type 0} (table pages entry_number : ℕ) (old new : Buffered) (result : Result X EngineRefusal) → Drops table pages (records_of_drop entry_number table) old new result → (new.log ≡ old.log) ⊎ HasDropped table old new
+wrote_drop table pages entry_number old new (Ok x) d = inr (entry_number, ap log_of d.1)
+wrote_drop table pages entry_number old new (Err (Because cause)) (inl full) = inl (ap log_of full.1)
+wrote_drop table pages entry_number old new (Err (Because cause)) (inr failed) = inr (entry_number, ap log_of failed.1.1)
+wrote_drop table pages entry_number old new (Err NoMemory) d = inl (ap log_of d.1)
 
 pub drop_log : {X : Type 0} (table : ℕ) (old new : Buffered) (result : Result X EngineRefusal) → Goes (drop_way table) old new result → (new.log ≡ old.log) ⊎ HasDropped table old new
 drop_log table old new result (inl miss) = inl (ap log_of miss.2.same)
 drop_log table old new result (inr on) =
     let page : List ℕ = page_in on.0 on.1 in
-    let place : ℕ = entry_place table page in
-    elim (wrote_drop table (min (pages_told page place) MOST_PAGES) place (held on.0 on.1) on.2 result on.4) [
+    let entry_number : ℕ = number_of_entry table page in
+    elim (wrote_drop table (min (pages_told page entry_number) MOST_PAGES) entry_number (held on.0 on.1) on.2 result on.4) [
       | inl same ↦ inl (ap log_of on.5 ∙ same ∙ on.3.log)
       | inr wrote ↦ inr (wrote.0, ap log_of on.5 ∙ wrote.1 ∙ ap (λ (l : List (List Record)). l ++ records_of_drop wrote.0 table ∷ []) on.3.log)
     ]
@@ -157,15 +155,15 @@ pub data Became {X : Type 0} (table : ℕ) (d e : Donor) (old new : Buffered) (r
   stayed : e ≡ d → new.log ≡ old.log → Became table d e old new result
   went : e ≡ dropped table d → HasDropped table old new → Became table d e old new result
 
-ok_drops : {X : Type 0} (x : X) (table pages place : ℕ) (old new : Buffered) → Drops table pages (records_of_drop place table) old new (Ok x) → HasDropped table old new
-ok_drops x table pages place old new d = (place, ap log_of d.1)
+ok_drops : {X : Type 0} (x : X) (table pages entry_number : ℕ) (old new : Buffered) → Drops table pages (records_of_drop entry_number table) old new (Ok x) → HasDropped table old new
+ok_drops x table pages entry_number old new d = (entry_number, ap log_of d.1)
 
 pub became : {X : Type 0} (table : ℕ) (d e : Donor) (old new : Buffered) (result : Result X EngineRefusal) → Goes (drop_way table) old new result → CarriesDrop table d e old new result → Became table d e old new result
 became table d e old new (Ok x) (inl miss) is = absurd (let e = miss.1 in cc)
 became {X} table d e old new (Ok x) (inr on) is =
     let page : List ℕ = page_in on.0 on.1 in
-    let place : ℕ = entry_place table page in
-    let wrote = ok_drops x table (min (pages_told page place) MOST_PAGES) place (held on.0 on.1) on.2 on.4 in
+    let entry_number : ℕ = number_of_entry table page in
+    let wrote = ok_drops x table (min (pages_told page entry_number) MOST_PAGES) entry_number (held on.0 on.1) on.2 on.4 in
     went is (wrote.0, ap log_of on.5 ∙ wrote.1 ∙ ap (λ (l : List (List Record)). l ++ records_of_drop wrote.0 table ∷ []) on.3.log)
 became table d e old new (Err refusal) way (inl left) = stayed left.1 left.0
 became table d e old new (Err refusal) way (inr failed) = elim (drop_log table old new (Err refusal) way) [

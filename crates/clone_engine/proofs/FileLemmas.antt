@@ -1,7 +1,7 @@
 -- The files of the tables and of the system space, as far as they are known and as the disk has
 -- them.
-use Rattle.std.proofs.Common.{◌≡◌, ◌≢◌, ◌≤◌, ◌<◌, ◌+◌, ◌⊎◌, inl, inr, ℕ, Bool, true, false, List, length, replicate, slice_get, refl, sym, ap, subst, ◌∙◌, arith, Option, None, Some, IsSome, is_some, option_map, option_and_then}
-use Rattle.std.proofs.lemmas.Bool.{cases_eq, true≢false}
+use Rattle.std.proofs.Common.{◌≡◌, ◌≢◌, ◌≤◌, ◌+◌, ◌⊎◌, inl, inr, ℕ, List, length, replicate, slice_get, refl, sym, ap, subst, ◌∙◌, arith, Option, None, Some, IsSome, option_map, option_and_then}
+use Rattle.std.proofs.lemmas.Bool.{cases_eq}
 use Rattle.std.proofs.lemmas.List.{length-set}
 use Rattle.std.proofs.lemmas.Option.{slice_get_past}
 use Rattle.std.specs.Cmp.{nat_cmp_total}

@@ -1,5 +1,5 @@
 -- No page of the image goes by what a call of transactions writes.
-use Rattle.std.proofs.Common.{◌≡◌, ◌≢◌, ◌-◌, ◌==◌, ◌⊎◌, inl, inr, ℕ, Bool, true, false, nat_le, if◌then◌else◌, List, [], ◌∷◌, ◌++◌, length, replicate, refl, sym, ap, subst, ◌∙◌, Option, None, Some, IsSome, IsTrue, option_map, option_and_then, slice_get, unwrap_or, Result, Ok, Err}
+use Rattle.std.proofs.Common.{◌≡◌, ◌≢◌, ◌⊎◌, inl, inr, ℕ, Bool, true, false, nat_le, if◌then◌else◌, List, [], ◌∷◌, ◌++◌, length, replicate, refl, sym, ap, subst, ◌∙◌, Option, None, Some, IsSome, IsTrue, option_map, option_and_then, slice_get, unwrap_or, Result, Ok, Err}
 use Rattle.std.proofs.lemmas.Bool.{cases_eq}
 use Rattle.std.specs.FinMap as finite
 use Rattle.std.specs.List.{AllByRecursion}
@@ -14,7 +14,7 @@ use Rattle.clone_image.specs.Image.{Image, page_of, page_count, with_pages, exte
 use Rattle.clone_image.specs.Replay.{replayed}
 use Rattle.clone_image.proofs.Images.{page_of-elsewhere}
 use Rattle.clone_image.proofs.Pages.{records_pages}
-use Rattle.clone_undo.specs.Places.{header_page, header_place}
+use Rattle.clone_undo.specs.Places.{header_page, header_offset}
 use Rattle.clone_undo.specs.Slots.{header_bytes}
 use Rattle.clone_undo.specs.Changes.{made_first, system_write}
 use Rattle.clone_row.specs.Slots as rows
@@ -30,8 +30,8 @@ use Rattle.clone_space.specs.Records.{records_of_create, records_of_growth}
 use Rattle.clone_model.specs.declared.line.TheConstants.{MOST_PAGES}
 use Rattle.clone_plain.specs.declared.refusal.Cause.TheVariants.{SpaceFull}
 use Rattle.clone_buffer.specs.Writing.{written}
-use Rattle.clone_trx.specs.Calls.{create_way, free_place, begin_way, change_way, change_at, entry_place, grown_way, pages_told, slot_way, get_way, undo_way, undo_last, commit_way, last_change, is_new}
-use Rattle.clone_trx.specs.Places.{told, held_value}
+use Rattle.clone_trx.specs.Calls.{create_way, number_of_free_entry, begin_way, change_way, change_at, number_of_entry, grown_way, pages_told, slot_way, undo_way, undo_last, commit_way, last_change, is_new}
+use Rattle.clone_trx.specs.RowSlots.{told, held_value}
 use Rattle.clone_trx.specs.Ways.{Way, reads, walks, stops, writes, freshens, lengthens, makes, drops, ends, Answers, Goes, Writes, held, page_in}
 use Rattle.clone_trx.proofs.PlacedLemmas.{change_edits}
 use Rattle.clone_trx.proofs.SpotLemmas.{all_stays}
@@ -157,16 +157,16 @@ create_stay {X = X} None d e old new table buckets result Does none a = λ right
         gone : finite.get (replayed (held on.0 on.1).log) table ≡ None
         gone = subst (λ (l : List (List Record)). finite.get (replayed l) table ≡ None) (sym on.3.log) (none right)
 
-        by : (r : Result X EngineRefusal) (last : Buffered) (place : ℕ) → Writes (records_of_create place table buckets) (held on.0 on.1) last r → Stay (held on.0 on.1).log last.log
-        by (Ok x) last place w = made_stay (held on.0 on.1).log last.log table buckets _ gone (tt, tt) (ap log_of w.1)
-        by (Err (Because cause)) last place w = same_stay (held on.0 on.1).log last.log (ap log_of w.1)
-        by (Err NoMemory) last place w = same_stay (held on.0 on.1).log last.log (ap log_of w.1)
+        by : (r : Result X EngineRefusal) (last : Buffered) (entry_number : ℕ) → Writes (records_of_create entry_number table buckets) (held on.0 on.1) last r → Stay (held on.0 on.1).log last.log
+        by (Ok x) last entry_number w = made_stay (held on.0 on.1).log last.log table buckets _ gone (tt, tt) (ap log_of w.1)
+        by (Err (Because cause)) last entry_number w = same_stay (held on.0 on.1).log last.log (ap log_of w.1)
+        by (Err NoMemory) last entry_number w = same_stay (held on.0 on.1).log last.log (ap log_of w.1)
 
-        place : ℕ
-        place = free_place (page_in on.0 on.1)
+        entry_number : ℕ
+        entry_number = number_of_free_entry (page_in on.0 on.1)
 
-        wrote : Goes (makes (records_of_create place table buckets)) (held on.0 on.1) on.2 result → Stay (held on.0 on.1).log on.2.log
-        wrote (inl w) = by result on.2 place w
+        wrote : Goes (makes (records_of_create entry_number table buckets)) (held on.0 on.1) on.2 result → Stay (held on.0 on.1).log on.2.log
+        wrote (inl w) = by result on.2 entry_number w
         wrote (inr failed) = same_stay (held on.0 on.1).log on.2.log (ap log_of failed.2)
 
 -- The records of each way.
@@ -178,24 +178,24 @@ first_keeps false space page kind = tt
 pub begin_stay : (d : Donor) (writer index : ℕ) → WritesStay (begin_way d writer index)
 begin_stay d writer index page =
     let trx = unwrap_or (least_unused d.active) 0 in
-    recursion-append KeepsPages (made_first (is_new page) 0 (header_page trx) Undo) (system_write (header_page trx) header_place (header_bytes 0 writer index) ∷ []) (first_keeps (is_new page) 0 (header_page trx) Undo) (tt, tt)
+    recursion-append KeepsPages (made_first (is_new page) 0 (header_page trx) Undo) (system_write (header_page trx) header_offset (header_bytes 0 writer index) ∷ []) (first_keeps (is_new page) 0 (header_page trx) Undo) (tt, tt)
 
-slot_stay : (d : Donor) (trx : ℕ) (change : Change) (page place : ℕ) (new : Bool) (value : Option (List ℕ)) → WritesStay (slot_way d trx change page place new value)
-slot_stay d trx change page place new value = λ header undo. edit_keeps _ (change_edits (is_new undo) new trx (length (changes_of d trx)) (told change.table page change.key place value) (rows.image change.key change.value))
+slot_stay : (d : Donor) (trx : ℕ) (change : Change) (page slot_number : ℕ) (new : Bool) (value : Option (List ℕ)) → WritesStay (slot_way d trx change page slot_number new value)
+slot_stay d trx change page slot_number new value = λ header undo. edit_keeps _ (change_edits (is_new undo) new trx (length (changes_of d trx)) (told change.table page change.key slot_number value) (rows.image change.key change.value))
 
-grown_stay : (d : Donor) (trx : ℕ) (change : Change) (last place pages : ℕ) → WritesStay (grown_way d trx change last place pages)
-grown_stay d trx change last place pages = by (nat_le MOST_PAGES pages)
+grown_stay : (d : Donor) (trx : ℕ) (change : Change) (last entry_number pages : ℕ) → WritesStay (grown_way d trx change last entry_number pages)
+grown_stay d trx change last entry_number pages = by (nat_le MOST_PAGES pages)
   where
-    by : (b : Bool) → WritesStay (if b then stops SpaceFull else lengthens (records_of_growth place change.table pages last) (slot_way d trx change pages 0 false None))
+    by : (b : Bool) → WritesStay (if b then stops SpaceFull else lengthens (records_of_growth entry_number change.table pages last) (slot_way d trx change pages 0 false None))
     by true = tt
     by false = ((tt, (tt, (tt, (tt, tt)))), slot_stay d trx change pages 0 false None)
 
-change_at_stay : (d : Donor) (trx : ℕ) (change : Change) (number : ℕ) (place : Option ℕ) (row : List ℕ) → WritesStay (change_at d trx change number place row)
-change_at_stay d trx change number None row = λ page. let place = entry_place change.table page in grown_stay d trx change number place (pages_told page place)
-change_at_stay d trx change number (Some place) row = slot_stay d trx change number place (is_new row) (held_value row place)
+change_at_stay : (d : Donor) (trx : ℕ) (change : Change) (number : ℕ) (slot : Option ℕ) (row : List ℕ) → WritesStay (change_at d trx change number slot row)
+change_at_stay d trx change number None row = λ page. let entry_number = number_of_entry change.table page in grown_stay d trx change number entry_number (pages_told page entry_number)
+change_at_stay d trx change number (Some slot_number) row = slot_stay d trx change number slot_number (is_new row) (held_value row slot_number)
 
 pub change_stay : (d : Donor) (trx : ℕ) (change : Change) → WritesStay (change_way d trx change)
-change_stay d trx change number place row = change_at_stay d trx change number place row
+change_stay d trx change number slot row = change_at_stay d trx change number slot row
 
 undo_last_stay : (d : Donor) (trx : ℕ) (o : Option Change) → WritesStay (undo_last d trx o)
 undo_last_stay d trx None = (tt, tt)

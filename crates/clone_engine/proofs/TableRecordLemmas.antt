@@ -14,7 +14,7 @@ use Rattle.clone_page.specs.declared.kind.PageKind.{PageKind}
 use Rattle.clone_page.specs.declared.kind.PageKind.TheVariants.{Undo, Bucket}
 use Rattle.clone_mtr.specs.declared.record.Record.{Record}
 use Rattle.clone_undo.specs.Entries.{UndoEntry}
-use Rattle.clone_undo.specs.Places.{header_page, record_page, header_place}
+use Rattle.clone_undo.specs.Places.{header_page, record_page, header_offset}
 use Rattle.clone_undo.specs.Slots.{header_bytes, entry_on}
 use Rattle.clone_undo.specs.Changes.{made_first, records_of_change, entry_record, count_record, row_record, system_write}
 use Rattle.clone_space.specs.Records.{records_of_growth}
@@ -23,9 +23,9 @@ use Rattle.clone_recover.specs.Reading.{IsOfTable}
 use Rattle.clone_plain.specs.declared.refusal.Cause.TheVariants.{SpaceFull}
 use Rattle.clone_plain.specs.Causes.{change_cause, least_unused}
 use Rattle.clone_plain.specs.Donor.{Donor, changes_of}
-use Rattle.clone_trx.specs.Calls.{create_way, begin_way, change_way, change_at, slot_way, grown_way, entry_place, pages_told, get_way, undo_way, undo_last, commit_way, before_change, tells_of, last_change, is_new}
+use Rattle.clone_trx.specs.Calls.{create_way, begin_way, change_way, change_at, slot_way, grown_way, number_of_entry, pages_told, get_way, undo_way, undo_last, commit_way, before_change, tells_of, last_change, is_new}
 use Rattle.clone_trx.specs.Ways.{stops, lengthens}
-use Rattle.clone_trx.specs.Places.{told, page_number, held_value}
+use Rattle.clone_trx.specs.RowSlots.{told, page_number, held_value}
 use Rattle.clone_trx.proofs.CauseLemmas.{may_change}
 use Rattle.clone_trx.specs.Kept.{IsSafe}
 use Rattle.clone_engine.proofs.WayLemmas.{WritesOfTables}
@@ -55,30 +55,30 @@ create_tables table buckets high page = ((below high, (system, tt)), omega arith
 pub begin_tables : (d : Donor) (writer index : ℕ) → WritesOfTables 1 (begin_way d writer index)
 begin_tables d writer index page =
     let trx = unwrap_or (least_unused d.active) 0 in
-    let last : AllOfTables (system_write (header_page trx) header_place (header_bytes 0 writer index) ∷ []) = (system, tt) in
-    (recursion-append IsOfTable (made_first (is_new page) 0 (header_page trx) Undo) (system_write (header_page trx) header_place (header_bytes 0 writer index) ∷ []) (first_tables (is_new page) 0 (header_page trx) Undo system) last, omega arith)
+    let last : AllOfTables (system_write (header_page trx) header_offset (header_bytes 0 writer index) ∷ []) = (system, tt) in
+    (recursion-append IsOfTable (made_first (is_new page) 0 (header_page trx) Undo) (system_write (header_page trx) header_offset (header_bytes 0 writer index) ∷ []) (first_tables (is_new page) 0 (header_page trx) Undo system) last, omega arith)
 
-slot_tables : (most : ℕ) (d : Donor) (trx : ℕ) (change : Change) (page place : ℕ) (new : Bool) (value : Option (List ℕ)) → 1 ≤ most → change.table ≤ 1000000 → WritesOfTables most (slot_way d trx change page place new value)
-slot_tables most d trx change page place new value some high = λ header undo.
-    (change_tables (is_new undo) new trx (length (changes_of d trx)) (told change.table page change.key place value) (rows.image change.key change.value) (below high), some)
+slot_tables : (most : ℕ) (d : Donor) (trx : ℕ) (change : Change) (page slot_number : ℕ) (new : Bool) (value : Option (List ℕ)) → 1 ≤ most → change.table ≤ 1000000 → WritesOfTables most (slot_way d trx change page slot_number new value)
+slot_tables most d trx change page slot_number new value some high = λ header undo.
+    (change_tables (is_new undo) new trx (length (changes_of d trx)) (told change.table page change.key slot_number value) (rows.image change.key change.value) (below high), some)
 
 -- a space that gets a page more
-grown_tables : (d : Donor) (trx : ℕ) (change : Change) (last place pages : ℕ) → change.table ≤ 1000000 → WritesOfTables 2 (grown_way d trx change last place pages)
-grown_tables d trx change last place pages high = by (nat_le MOST_PAGES pages)
+grown_tables : (d : Donor) (trx : ℕ) (change : Change) (last entry_number pages : ℕ) → change.table ≤ 1000000 → WritesOfTables 2 (grown_way d trx change last entry_number pages)
+grown_tables d trx change last entry_number pages high = by (nat_le MOST_PAGES pages)
   where
-    by : (b : Bool) → WritesOfTables 2 (if b then stops SpaceFull else lengthens (records_of_growth place change.table pages last) (slot_way d trx change pages 0 false None))
+    by : (b : Bool) → WritesOfTables 2 (if b then stops SpaceFull else lengthens (records_of_growth entry_number change.table pages last) (slot_way d trx change pages 0 false None))
     by true = tt
     by false = ((system, (below high, (below high, (below high, tt)))), omega arith, slot_tables 1 d trx change pages 0 false None (omega arith) high)
 
-change_at_tables : (d : Donor) (trx : ℕ) (change : Change) (number : ℕ) (place : Option ℕ) (row : List ℕ) → change.table ≤ 1000000 → WritesOfTables 2 (change_at d trx change number place row)
-change_at_tables d trx change number None row high = λ page. let place = entry_place change.table page in grown_tables d trx change number place (pages_told page place) high
-change_at_tables d trx change number (Some place) row high = slot_tables 2 d trx change number place (is_new row) (held_value row place) (omega arith) high
+change_at_tables : (d : Donor) (trx : ℕ) (change : Change) (number : ℕ) (slot : Option ℕ) (row : List ℕ) → change.table ≤ 1000000 → WritesOfTables 2 (change_at d trx change number slot row)
+change_at_tables d trx change number None row high = λ page. let entry_number = number_of_entry change.table page in grown_tables d trx change number entry_number (pages_told page entry_number) high
+change_at_tables d trx change number (Some slot_number) row high = slot_tables 2 d trx change number slot_number (is_new row) (held_value row slot_number) (omega arith) high
 
 pub change_way_tables : (d : Donor) (trx : ℕ) (change : Change) → change.table ≤ 1000000 → WritesOfTables 2 (change_way d trx change)
-change_way_tables d trx change high number place row = change_at_tables d trx change number place row high
+change_way_tables d trx change high number slot row = change_at_tables d trx change number slot row high
 
 pub get_tables : (d : Donor) (table key : ℕ) → WritesOfTables 0 (get_way d table key)
-get_tables d table key number place row = tt
+get_tables d table key number slot row = tt
 
 -- an undo record that counts as one of a row names the row's table
 before_table : (d : Donor) (table key : ℕ) (e : UndoEntry) → (before_change d table key e).table ≡ table

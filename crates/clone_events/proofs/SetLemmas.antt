@@ -24,9 +24,9 @@ get_behind xs x ys = let within : length xs < length (xs ++ x ∷ ys) = omega (a
 set_stands : (writer index table key : ℕ) (value : List ℕ) (before : List Commit) (commit : Commit) (after more : List Commit) (position : ℕ) → commit ≡ record { writer = writer; index = index; changes = put_of table key value ∷ [] }
     → after ≡ (before ++ commit ∷ []) ++ more → position ≡ length before + 1 → IsSet writer table key value after position
 set_stands writer index table key value before commit after more position is grown count =
-    let place : position - 1 ≡ length before = omega (arith, count) in (
+    let at : position - 1 ≡ length before = omega (arith, count) in (
       index,
-      ap (λ n. slice_get after n) place
+      ap (λ n. slice_get after n) at
           ∙ ap (λ h. slice_get h (length before)) (grown ∙ append_assoc before (commit ∷ []) more)
           ∙ get_behind before commit more
           ∙ ap Some is,

@@ -9,7 +9,7 @@ use Rattle.std.specs.Ordering.{eq_by_cmp}
 use Rattle.clone_model.specs.Keys.{row_cmp}
 use Rattle.clone_model.specs.History.{Row, Rows}
 use Rattle.clone_model.proofs.RowMaps.{row_cmp_total, row_cmp_exact}
-use Rattle.clone_page.specs.Slots.{slot_count, slot, row_of}
+use Rattle.clone_page.specs.Slots.{row_slot_count, slot, row_of}
 use Rattle.clone_image.specs.Rows.{HoldsSlots}
 use Rattle.clone_image.specs.Added.{Adds, Below, InSlot, InPage, AtPage}
 
@@ -29,14 +29,14 @@ adds_same old new Found Other is to from = record {
   complete = λ t k v f. is.complete t k v (from (t, k, v) f);
 }
 
--- no place is below 0
+-- no index is below 0
 pub adds_none : (rows : Rows) (At : ℕ → Row → Type 0) → Adds rows rows (Below 0 At)
-adds_none rows At = adds_nothing rows (Below 0 At) (λ row f. let no_place : f.place < 0 = f.within in absurd (omega arith))
+adds_none rows At = adds_nothing rows (Below 0 At) (λ row f. let no_index : f.index < 0 = f.within in absurd (omega arith))
 
 above : (n i : ℕ) → n < i + 1 → (n < i) ⊎ (n ≡ i)
 above n i lt = grind arith
 
--- the rows of one place more
+-- the rows of one index more
 pub adds_next : (old middle new : Rows) (At : ℕ → Row → Type 0) (i : ℕ) → Adds old middle (Below i At) → Adds middle new (At i) → Adds old new (Below (i + 1) At)
 adds_next old middle new At i first second = record {
   sound = λ t k v e. elim (second.sound t k v e) [
@@ -44,17 +44,17 @@ adds_next old middle new At i first second = record {
     | inr f ↦ inr (here (t, k, v) f)
   ];
   stays = λ t k h. second.stays t k (first.stays t k h);
-  complete = λ t k v f. elim (above f.place i f.within) [
-    | inl lt ↦ second.stays t k (first.complete t k v (record { place = f.place; within = lt; held = f.held }))
+  complete = λ t k v f. elim (above f.index i f.within) [
+    | inl lt ↦ second.stays t k (first.complete t k v (record { index = f.index; within = lt; held = f.held }))
     | inr e ↦ second.complete t k v (subst (λ n. At n (t, k, v)) e f.held)
   ];
 }
   where
     further : (row : Row) → Below i At row → Below (i + 1) At row
-    further row f = record { place = f.place; within = let lt : f.place < i = f.within in omega arith; held = f.held }
+    further row f = record { index = f.index; within = let lt : f.index < i = f.within in omega arith; held = f.held }
 
     here : (row : Row) → At i row → Below (i + 1) At row
-    here row f = record { place = i; within = omega arith; held = f }
+    here row f = record { index = i; within = omega arith; held = f }
 
 chosen : (b : Bool) (v w : List ℕ) (o : Option (List ℕ)) → cond b (Some v) o ≡ Some w → (o ≡ Some w) ⊎ ((b ≡ true) × (v ≡ w))
 chosen true v w o e = inr (refl, same_Some v w e)
@@ -98,12 +98,12 @@ adds_one rows table key value Found here only = record {
     at t k = get-insert row_cmp_total rows (table, key) value (t, k)
 
 -- the row that a slot holds
-pub adds_slot : (rows new : Rows) (table place : ℕ) (page : List ℕ) (key : ℕ) (value : List ℕ) → Some (key, value) ≡ row_of (slot place page) → new ≡ finite.insert rows (table, key) value → Adds rows new (InSlot table page place)
-adds_slot rows new table place page key value is set =
-    subst (λ m. Adds rows m (InSlot table page place)) (sym set)
-    (adds_one rows table key value (InSlot table page place) (record { own = refl; held = sym is }) (λ row f. (f.own, (some_pair_parts row.1 key row.2 value (sym f.held ∙ sym is)).0)))
+pub adds_slot : (rows new : Rows) (table slot_number : ℕ) (page : List ℕ) (key : ℕ) (value : List ℕ) → Some (key, value) ≡ row_of (slot slot_number page) → new ≡ finite.insert rows (table, key) value → Adds rows new (InSlot table page slot_number)
+adds_slot rows new table slot_number page key value is set =
+    subst (λ m. Adds rows m (InSlot table page slot_number)) (sym set)
+    (adds_one rows table key value (InSlot table page slot_number) (record { own = refl; held = sym is }) (λ row f. (f.own, (some_pair_parts row.1 key row.2 value (sym f.held ∙ sym is)).0)))
 
--- the page that stands at a place
+-- the page with this number
 pub adds_page : (old new : Rows) (table i : ℕ) (pages : List (List ℕ)) (page : List ℕ) → i < length pages → page ≡ get_or pages i page → Adds old new (InPage table page) → Adds old new (AtPage table pages i)
 adds_page old new table i pages page lt is adds =
     let there = slice_get_read pages (length pages) i page refl lt is in
@@ -112,6 +112,6 @@ adds_page old new table i pages page lt is adds =
     (λ row h. subst (λ o. IsSomeAnd o (λ p. InPage table p row)) there h)
 
 -- a page of a kind that holds slots
-pub adds_kind : (old new : Rows) (table : ℕ) (page : List ℕ) → HoldsSlots page → Adds old new (Below slot_count (InSlot table page)) → Adds old new (InPage table page)
+pub adds_kind : (old new : Rows) (table : ℕ) (page : List ℕ) → HoldsSlots page → Adds old new (Below row_slot_count (InSlot table page)) → Adds old new (InPage table page)
 adds_kind old new table page kind adds =
-    adds_same old new (Below slot_count (InSlot table page)) (InPage table page) adds (λ row h. record { kind = kind; slots = h }) (λ row h. h.slots)
+    adds_same old new (Below row_slot_count (InSlot table page)) (InPage table page) adds (λ row h. record { kind = kind; slots = h }) (λ row h. h.slots)

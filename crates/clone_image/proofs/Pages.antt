@@ -74,18 +74,18 @@ kept image s n = at (page_of image s n) refl
     at (Some page) some = some ∙ ap (λ p. Some p) (sym (all_pages-is image s n page some)) ∙ sym (ap (option_map (λ _. all_pages image s n)) some)
 
 -- an edit, page by page
-edit_pages : (image : Image) (space number : ℕ) (edit : List ℕ → List ℕ) (s n : ℕ) → page_of (with_edit image space (edited number edit)) s n ≡ option_map (λ _. undo.after_edit space number edit (all_pages image) s n) (page_of image s n)
+edit_pages : (image : Image) (space number : ℕ) (edit : List ℕ → List ℕ) (s n : ℕ) → page_of (with_edit image space (edited number edit)) s n ≡ option_map (λ _. undo.pages_after_edit space number edit (all_pages image) s n) (page_of image s n)
 edit_pages image space number edit s n = at (cases_eq s space) (cases_eq n number)
   where
     Goal : ℕ → ℕ → Type 0
-    Goal t m = page_of (with_edit image space (edited number edit)) t m ≡ option_map (λ _. undo.after_edit space number edit (all_pages image) t m) (page_of image t m)
+    Goal t m = page_of (with_edit image space (edited number edit)) t m ≡ option_map (λ _. undo.pages_after_edit space number edit (all_pages image) t m) (page_of image t m)
 
     here : (o : Option (List ℕ)) → page_of image space number ≡ o → Goal space number
-    here None none = page_of-edited_absent image space number edit none ∙ sym (ap (option_map (λ _. undo.after_edit space number edit (all_pages image) space number)) none)
+    here None none = page_of-edited_absent image space number edit none ∙ sym (ap (option_map (λ _. undo.pages_after_edit space number edit (all_pages image) space number)) none)
     here (Some page) some =
         page_of-edited_same image space number edit page some
         ∙ ap (λ p. Some p) (ap edit (sym (all_pages-is image space number page some)) ∙ sym (edit-same space number edit (all_pages image)))
-        ∙ sym (ap (option_map (λ _. undo.after_edit space number edit (all_pages image) space number)) some)
+        ∙ sym (ap (option_map (λ _. undo.pages_after_edit space number edit (all_pages image) space number)) some)
 
     there : (s ≡ space → n ≡ number → ⊥) → Goal s n
     there other =
@@ -97,7 +97,7 @@ edit_pages image space number edit s n = at (cases_eq s space) (cases_eq n numbe
     at (inl first) (inr second) = there (λ e f. second f)
     at (inr first) second = there (λ e f. first e)
 
-record_pages : (lsn : ℕ) (image : Image) (r : Record) (s n : ℕ) → EditsPages r → page_of (after_record lsn image r) s n ≡ option_map (λ _. undo.after_record lsn r (all_pages image) s n) (page_of image s n)
+record_pages : (lsn : ℕ) (image : Image) (r : Record) (s n : ℕ) → EditsPages r → page_of (after_record lsn image r) s n ≡ option_map (λ _. undo.pages_after_record lsn r (all_pages image) s n) (page_of image s n)
 record_pages lsn image (Init space number kind) s n only = edit_pages image space number (effect lsn (Init space number kind)) s n
 record_pages lsn image (Write space number patch) s n only = edit_pages image space number (effect lsn (Write space number patch)) s n
 record_pages lsn image (Extend space count) s n only = absurd only
@@ -105,10 +105,10 @@ record_pages lsn image (Create space count) s n only = absurd only
 record_pages lsn image (Drop space) s n only = absurd only
 
 -- what a record does to a page rests on that page alone
-local_edit : (space number : ℕ) (edit : List ℕ → List ℕ) (p q : Pages) (s n : ℕ) → p s n ≡ q s n → undo.after_edit space number edit p s n ≡ undo.after_edit space number edit q s n
+local_edit : (space number : ℕ) (edit : List ℕ → List ℕ) (p q : Pages) (s n : ℕ) → p s n ≡ q s n → undo.pages_after_edit space number edit p s n ≡ undo.pages_after_edit space number edit q s n
 local_edit space number edit p q s n same = λ i. if (s == space) && (n == number) then edit (same i) else same i
 
-local_record : (lsn : ℕ) (r : Record) (p q : Pages) (s n : ℕ) → p s n ≡ q s n → undo.after_record lsn r p s n ≡ undo.after_record lsn r q s n
+local_record : (lsn : ℕ) (r : Record) (p q : Pages) (s n : ℕ) → p s n ≡ q s n → undo.pages_after_record lsn r p s n ≡ undo.pages_after_record lsn r q s n
 local_record lsn (Init space number kind) p q s n same = local_edit space number (effect lsn (Init space number kind)) p q s n same
 local_record lsn (Write space number patch) p q s n same = local_edit space number (effect lsn (Write space number patch)) p q s n same
 local_record lsn (Extend space count) p q s n same = same
@@ -117,7 +117,7 @@ local_record lsn (Drop space) p q s n same = same
 
 local : (lsn : ℕ) (rs : List Record) (p q : Pages) (s n : ℕ) → p s n ≡ q s n → undo.after lsn rs p s n ≡ undo.after lsn rs q s n
 local lsn [] p q s n same = same
-local lsn (r ∷ rs) p q s n same = local lsn rs (undo.after_record lsn r p) (undo.after_record lsn r q) s n (local_record lsn r p q s n same)
+local lsn (r ∷ rs) p q s n same = local lsn rs (undo.pages_after_record lsn r p) (undo.pages_after_record lsn r q) s n (local_record lsn r p q s n same)
 
 -- a record, and then the records behind it
 followed : (lsn : ℕ) (image : Image) (r : Record) (rs : List Record) (s n : ℕ) → EditsPages r
@@ -129,20 +129,20 @@ followed lsn image r rs s n edits rest = at (page_of image s n) refl
     next = after_record lsn image r
 
     one : Option (List ℕ) → Option (List ℕ)
-    one o = option_map (λ _. undo.after_record lsn r (all_pages image) s n) o
+    one o = option_map (λ _. undo.pages_after_record lsn r (all_pages image) s n) o
 
     more : Option (List ℕ) → Option (List ℕ)
     more o = option_map (λ _. undo.after lsn rs (all_pages next) s n) o
 
     whole : Option (List ℕ) → Option (List ℕ)
-    whole o = option_map (λ _. undo.after lsn rs (undo.after_record lsn r (all_pages image)) s n) o
+    whole o = option_map (λ _. undo.after lsn rs (undo.pages_after_record lsn r (all_pages image)) s n) o
 
     at : (o : Option (List ℕ)) → page_of image s n ≡ o → page_of (after_records lsn next rs) s n ≡ whole (page_of image s n)
     at None none = rest ∙ ap more (record_pages lsn image r s n edits ∙ ap one none) ∙ sym (ap whole none)
     at (Some page) some =
-        let there : page_of next s n ≡ Some (undo.after_record lsn r (all_pages image) s n) = record_pages lsn image r s n edits ∙ ap one some in
+        let there : page_of next s n ≡ Some (undo.pages_after_record lsn r (all_pages image) s n) = record_pages lsn image r s n edits ∙ ap one some in
         rest ∙ ap more there
-        ∙ ap (λ p. Some p) (local lsn rs (all_pages next) (undo.after_record lsn r (all_pages image)) s n (all_pages-is next s n (undo.after_record lsn r (all_pages image) s n) there))
+        ∙ ap (λ p. Some p) (local lsn rs (all_pages next) (undo.pages_after_record lsn r (all_pages image)) s n (all_pages-is next s n (undo.pages_after_record lsn r (all_pages image) s n) there))
         ∙ sym (ap whole some)
 
 pub records_pages : (lsn : ℕ) (image : Image) (rs : List Record) (s n : ℕ) → AllByRecursion EditsPages rs → page_of (after_records lsn image rs) s n ≡ option_map (λ _. undo.after lsn rs (all_pages image) s n) (page_of image s n)

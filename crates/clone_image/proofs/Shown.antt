@@ -9,7 +9,7 @@ use Rattle.clone_model.specs.History.{Row, Rows}
 use Rattle.clone_model.proofs.RowMaps.{row_cmp_total, row_cmp_exact}
 use Rattle.clone_page.specs.Dictionary.{Lists, entry_space}
 use Rattle.clone_image.specs.Image.{Image, page_of}
-use Rattle.clone_image.specs.Rows.{Pages, IsListed, IsRow, AreOnce, ShowsRows}
+use Rattle.clone_image.specs.Rows.{Pages, IsListed, HoldsRow, AreOnce, ShowsRows}
 use Rattle.clone_image.specs.Added.{Adds, InPage, InPages, InTable, InTables}
 
 -- what holds of the value that is there
@@ -21,36 +21,36 @@ there_is : {A : Type 0} (o : Option A) (P : A → Type 0) (x : A) → o ≡ Some
 there_is o P x e h = subst (λ p. IsSomeAnd p P) (sym e) h
 
 -- a row that is found in a table that is listed
-row_in_table : (image : Image) (table : ℕ) (row : Row) → IsListed (page_of image) table → InTable image table row → IsRow (page_of image) row
+row_in_table : (image : Image) (table : ℕ) (row : Row) → IsListed (page_of image) table → InTable image table row → HoldsRow (page_of image) row
 row_in_table image table row listed is =
     let space = value_there (finite.get image table) (λ pages. InPages table pages row) is in
     let at = space.2 in
-    let found = value_there (slice_get space.0 at.place) (λ page. InPage table page row) at.held in
+    let found = value_there (slice_get space.0 at.index) (λ page. InPage table page row) at.held in
     let inside = found.2.slots in
     record {
       listed = subst (IsListed (page_of image)) (sym inside.held.own) listed;
-      number = at.place;
+      number = at.index;
       page = found.0;
-      found = ap (λ t. page_of image t at.place) inside.held.own ∙ ap (option_and_then (λ pages. slice_get pages at.place)) space.1 ∙ found.1;
+      found = ap (λ t. page_of image t at.index) inside.held.own ∙ ap (option_and_then (λ pages. slice_get pages at.index)) space.1 ∙ found.1;
       holds = found.2.kind;
-      place = inside.place;
+      slot_number = inside.index;
       within = inside.within;
       held = inside.held.held;
     }
 
 -- a row that the dictionary leads to
-row_found : (image : Image) (system : List ℕ) (row : Row) → page_of image 0 0 ≡ Some system → InTables image system row → IsRow (page_of image) row
+row_found : (image : Image) (system : List ℕ) (row : Row) → page_of image 0 0 ≡ Some system → InTables image system row → HoldsRow (page_of image) row
 row_found image system row there is =
-    row_in_table image (entry_space is.place system) row
-    (there_is (page_of image 0 0) (λ page. Lists page (entry_space is.place system)) system there (record { place = is.place; within = is.within; used = is.held.used; named = refl }))
+    row_in_table image (entry_space is.index system) row
+    (there_is (page_of image 0 0) (λ page. Lists page (entry_space is.index system)) system there (record { entry_number = is.index; within = is.within; used = is.held.used; named = refl }))
     is.held.rows
 
 -- the dictionary leads to each row
-found_row : (image : Image) (system : List ℕ) (row : Row) → page_of image 0 0 ≡ Some system → IsRow (page_of image) row → InTables image system row
+found_row : (image : Image) (system : List ℕ) (row : Row) → page_of image 0 0 ≡ Some system → HoldsRow (page_of image) row → InTables image system row
 found_row image system row there is =
     let lists = subst (λ o. IsSomeAnd o (λ page. Lists page row.0)) there is.listed in
     record {
-      place = lists.place;
+      index = lists.entry_number;
       within = lists.within;
       held = record {
         used = subst (λ t. 0 < t) (sym lists.named) lists.used;
@@ -59,13 +59,13 @@ found_row image system row there is =
     }
   where
     in_page : InPage row.0 is.page row
-    in_page = record { kind = is.holds; slots = record { place = is.place; within = is.within; held = record { own = refl; held = is.held } } }
+    in_page = record { kind = is.holds; slots = record { index = is.slot_number; within = is.within; held = record { own = refl; held = is.held } } }
 
     in_table : InTable image row.0 row
     in_table =
         option_and_then_some (λ pages. slice_get pages is.number) (finite.get image row.0) is.page is.found
         (λ pages has at. there_is (finite.get image row.0) (λ ps. InPages row.0 ps row) pages has (record {
-          place = is.number;
+          index = is.number;
           within = slice_get_within pages is.number is.page at;
           held = there_is (slice_get pages is.number) (λ page. InPage row.0 page row) is.page at in_page;
         }))
@@ -78,11 +78,11 @@ some_value None some = cc
 some_value (Some v) some = (v, refl)
 
 -- what is sound and complete shows the rows
-shows : (pages : Pages) (rows : Rows) → ((t k : ℕ) (v : List ℕ) → finite.get rows (t, k) ≡ Some v → IsRow pages (t, k, v))
-    → ((t k : ℕ) (v : List ℕ) → IsRow pages (t, k, v) → IsSome (finite.get rows (t, k))) → ShowsRows pages rows
+shows : (pages : Pages) (rows : Rows) → ((t k : ℕ) (v : List ℕ) → finite.get rows (t, k) ≡ Some v → HoldsRow pages (t, k, v))
+    → ((t k : ℕ) (v : List ℕ) → HoldsRow pages (t, k, v) → IsSome (finite.get rows (t, k))) → ShowsRows pages rows
 shows pages rows sound complete = record { sound = sound; complete = complete; all = λ once. record { here = λ t k v. here once t k v; there = sound } }
   where
-    here : AreOnce pages → (t k : ℕ) (v : List ℕ) → IsRow pages (t, k, v) → finite.get rows (t, k) ≡ Some v
+    here : AreOnce pages → (t k : ℕ) (v : List ℕ) → HoldsRow pages (t, k, v) → finite.get rows (t, k) ≡ Some v
     here once t k v is =
         let found = some_value (finite.get rows (t, k)) (complete t k v is) in
         found.1 ∙ ap Some (once t k found.0 v (sound t k found.0 found.1) is)
@@ -111,8 +111,8 @@ same_value None (Some v) to from = let some = from v refl in cc
 
 -- Where the rows of the image are those of a map, what shows them is that map.
 pub shown_map : (pages : Pages) (rows m : Rows) → ShowsRows pages rows
-    → ((t k : ℕ) (v : List ℕ) → IsRow pages (t, k, v) → finite.get m (t, k) ≡ Some v)
-    → ((t k : ℕ) (v : List ℕ) → finite.get m (t, k) ≡ Some v → IsRow pages (t, k, v))
+    → ((t k : ℕ) (v : List ℕ) → HoldsRow pages (t, k, v) → finite.get m (t, k) ≡ Some v)
+    → ((t k : ℕ) (v : List ℕ) → finite.get m (t, k) ≡ Some v → HoldsRow pages (t, k, v))
     → rows ≡ m
 shown_map pages rows m shows to from =
     same_map row_cmp_total row_cmp_exact rows m (λ q. same_value (finite.get rows q) (finite.get m q)

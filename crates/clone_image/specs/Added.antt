@@ -4,7 +4,7 @@ use Rattle.std.specs.Prelude.{ℕ, ◌≡◌, ◌<◌, ◌⊎◌, List, length, 
 use Rattle.std.specs.FinMap as finite
 use Rattle.clone_model.specs.History.{Row, Rows}
 use Rattle.clone_page.specs.Dictionary.{entry_count, entry_space}
-use Rattle.clone_page.specs.Slots.{slot_count, slot, row_of}
+use Rattle.clone_page.specs.Slots.{row_slot_count, slot, row_of}
 use Rattle.clone_image.specs.Image.{Image}
 use Rattle.clone_image.specs.Rows.{HoldsSlots}
 
@@ -18,21 +18,21 @@ pub record Adds (old new : Rows) (Found : Row → Type 0) : Type 0 where
   pub complete : (table key : ℕ) (value : List ℕ) → Found (table, key, value)
       → IsSome (finite.get new (table, key))
 
--- a row that is found at some place below the count
+-- a row that is found at some index below the count
 pub record Below (count : ℕ) (At : ℕ → Row → Type 0) (row : Row) : Type 0 where
-  pub place : ℕ
-  pub within : place < count
-  pub held : At place row
+  pub index : ℕ
+  pub within : index < count
+  pub held : At index row
 
 -- the table's row that a slot of a page holds
-pub record InSlot (table : ℕ) (page : List ℕ) (place : ℕ) (row : Row) : Type 0 where
+pub record InSlot (table : ℕ) (page : List ℕ) (slot_number : ℕ) (row : Row) : Type 0 where
   pub own : row.0 ≡ table
-  pub held : row_of (slot place page) ≡ Some (row.1, row.2)
+  pub held : row_of (slot slot_number page) ≡ Some (row.1, row.2)
 
 -- a row that a page of the table holds
 pub record InPage (table : ℕ) (page : List ℕ) (row : Row) : Type 0 where
   pub kind : HoldsSlots page
-  pub slots : Below slot_count (InSlot table page) row
+  pub slots : Below row_slot_count (InSlot table page) row
 
 -- a row of the page of this number, if there is one
 abbrev pub AtPage : ℕ → List (List ℕ) → ℕ → Row → Type 0
@@ -47,9 +47,9 @@ abbrev pub InTable : Image → ℕ → Row → Type 0
 InTable image table row = IsSomeAnd (finite.get image table) (λ pages. InPages table pages row)
 
 -- a row of the table that this entry of the dictionary names, if it names one
-pub record AtEntry (image : Image) (system : List ℕ) (place : ℕ) (row : Row) : Type 0 where
-  pub used : 0 < entry_space place system
-  pub rows : InTable image (entry_space place system) row
+pub record AtEntry (image : Image) (system : List ℕ) (entry_number : ℕ) (row : Row) : Type 0 where
+  pub used : 0 < entry_space entry_number system
+  pub rows : InTable image (entry_space entry_number system) row
 
 -- a row of some table that the dictionary names
 abbrev pub InTables : Image → List ℕ → Row → Type 0

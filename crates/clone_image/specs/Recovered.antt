@@ -6,7 +6,7 @@ use Rattle.std.specs.declared.option.Option.{Option}
 use Rattle.clone_page.specs.Bytes.{put_at}
 use Rattle.clone_page.specs.Slots.{slot_at}
 use Rattle.clone_undo.specs.Entries.{UndoEntry}
-use Rattle.clone_undo.specs.Places.{slot_count, header_page, header_place}
+use Rattle.clone_undo.specs.Places.{undo_slot_count, header_page, header_offset}
 use Rattle.clone_undo.specs.Slots.{UndoSlot, undo_slot}
 use Rattle.clone_undo.specs.Changes.{slot_before}
 use Rattle.clone_image.specs.Image.{Image, page_of, with_edit, edited}
@@ -30,7 +30,7 @@ all_undone image (e ∷ es) = undone (all_undone image es) e
 
 -- the header of an undo slot becomes zero bytes
 abbrev pub freed : Image → ℕ → Image
-freed image s = with_edit image 0 (edited (header_page s) (put_at header_place (replicate 16 0)))
+freed image s = with_edit image 0 (edited (header_page s) (put_at header_offset (replicate 16 0)))
 
 -- an undo slot that is in use has its changes taken back and is freed, and a free one stays
 abbrev pub taken_back : Image → ℕ → Option UndoSlot → Image
@@ -44,4 +44,4 @@ taken_back_below (suc s) image =
     taken_back (taken_back_below s image) s (undo_slot_of (taken_back_below s image) s)
 
 unfoldable pub recovered : Image → Image
-recovered image = taken_back_below slot_count image
+recovered image = taken_back_below undo_slot_count image

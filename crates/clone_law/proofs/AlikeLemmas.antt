@@ -10,13 +10,13 @@ use Rattle.clone_page.specs.Header.{zero_page, kind_of}
 use Rattle.clone_page.specs.Dictionary.{Lists}
 use Rattle.clone_page.specs.Slots.{slot_at}
 use Rattle.clone_undo.specs.Entries.{UndoEntry}
-use Rattle.clone_undo.specs.Places.{slot_count, header_page, header_place}
+use Rattle.clone_undo.specs.Places.{undo_slot_count, header_page, header_offset}
 use Rattle.clone_undo.specs.Slots.{UndoSlot, undo_slot}
 use Rattle.clone_undo.specs.Changes.{slot_before}
 use Rattle.clone_image.specs.Image.{Image, page_of, with_edit, edited}
 use Rattle.clone_image.specs.Redone.{Standing, no_space, past_end, stands, standing_at, standing_in, standing_of}
 use Rattle.clone_image.specs.Recovered.{system_pages, undo_slot_of, all_undone, taken_back, taken_back_below, recovered}
-use Rattle.clone_image.specs.Rows.{HoldsSlots, IsRow, HasRows}
+use Rattle.clone_image.specs.Rows.{HoldsSlots, HoldsRow, HasRows}
 use Rattle.clone_image.proofs.Images.{page_of-edited_same, page_of-edited_other}
 use Rattle.clone_image.specs.Redone.{redone_from}
 use Rattle.clone_image.specs.Replay.{replayed}
@@ -120,14 +120,14 @@ undone_alike copy image (e ∷ es) each alike =
 slot_alike : (copy image : Image) (s : ℕ) (slot : Option UndoSlot) → AreThere image s slot → Alike copy image → Alike (taken_back copy s slot) (taken_back image s slot)
 slot_alike copy image s None there alike = alike
 slot_alike copy image s (Some slot) there alike =
-    edit_alike (all_undone copy slot.records) (all_undone image slot.records) 0 (header_page s) (put_at header_place (replicate 16 0)) (all_still image slot.records 0 (header_page s) there.1 there.0) (undone_alike copy image slot.records there.1 alike)
+    edit_alike (all_undone copy slot.records) (all_undone image slot.records) 0 (header_page s) (put_at header_offset (replicate 16 0)) (all_still image slot.records 0 (header_page s) there.1 there.0) (undone_alike copy image slot.records there.1 alike)
 
 same_slot : (copy image : Image) (s : ℕ) → Alike copy image → undo_slot_of copy s ≡ undo_slot_of image s
 same_slot copy image s alike =
     let same : system_pages copy ≡ system_pages image = λ i n. unwrap_or (alike.system n i) [] in
     ap (undo_slot s) same
 
-below_alike : (copy image : Image) (count : ℕ) → count ≤ slot_count → CanTakeBack image → Alike copy image → Alike (taken_back_below count copy) (taken_back_below count image)
+below_alike : (copy image : Image) (count : ℕ) → count ≤ undo_slot_count → CanTakeBack image → Alike copy image → Alike (taken_back_below count copy) (taken_back_below count image)
 unfolding taken_back_below
 below_alike copy image zero le can alike = alike
 below_alike copy image (suc s) le can alike =
@@ -138,7 +138,7 @@ below_alike copy image (suc s) le can alike =
 
 pub recovered_alike : (copy image : Image) → CanTakeBack image → Alike copy image → Alike (recovered copy) (recovered image)
 unfolding recovered
-recovered_alike copy image can alike = below_alike copy image slot_count (omega arith) can alike
+recovered_alike copy image can alike = below_alike copy image undo_slot_count (omega arith) can alike
 
 -- The rows are the same.
 
@@ -151,26 +151,26 @@ own_page None None page lax is holds = let e : None ≡ Some page = is in cc
 own_page (Some x) None page lax is holds = let e : x ≡ page = cc in absurd (no_rows page (sym e ∙ lax) holds)
 own_page o (Some x) page lax is holds = sym lax ∙ is
 
-there : (copy image : Image) (row : Row) → Alike copy image → IsRow (page_of copy) row → IsRow (page_of image) row
+there : (copy image : Image) (row : Row) → Alike copy image → HoldsRow (page_of copy) row → HoldsRow (page_of image) row
 there copy image row alike is = record {
   listed = subst (λ (o : Option (List ℕ)). IsSomeAnd o (λ page. Lists page row.0)) (alike.system 0) is.listed;
   number = is.number;
   page = is.page;
   found = own_page _ _ is.page (alike.pages row.0 is.number) is.found is.holds;
   holds = is.holds;
-  place = is.place;
+  slot_number = is.slot_number;
   within = is.within;
   held = is.held;
 }
 
-here : (copy image : Image) (row : Row) → Alike copy image → IsRow (page_of image) row → IsRow (page_of copy) row
+here : (copy image : Image) (row : Row) → Alike copy image → HoldsRow (page_of image) row → HoldsRow (page_of copy) row
 here copy image row alike is = record {
   listed = subst (λ (o : Option (List ℕ)). IsSomeAnd o (λ page. Lists page row.0)) (sym (alike.system 0)) is.listed;
   number = is.number;
   page = is.page;
   found = lax_some _ _ is.page is.found (alike.pages row.0 is.number);
   holds = is.holds;
-  place = is.place;
+  slot_number = is.slot_number;
   within = is.within;
   held = is.held;
 }
@@ -198,5 +198,5 @@ same_system copy image each bare n = at (page_of image 0 n) refl (page_lax copy 
 pub copy_recovers : (base : ℕ) (log : List (List Record)) (copy : Image) (rows : Rows) → IsLaid base log copy → CanTakeBack (replayed log) → HasRows (page_of (recovered (replayed log))) rows → HasRows (page_of (recovered copy)) rows
 copy_recovers base log copy rows laid can has =
     let each : (s n : ℕ) → Lax (standing_of copy s n) (standing_of (replayed log) s n) =
-    λ s n. subst (λ (v : Standing). Lax v (standing_of (replayed log) s n)) (sym (laid.pages s n)) (subst (λ (v : Standing). Lax (redone_from base s n (laid.start s n) laid.rest) v) (sym (replayed_is_redone log s n laid.small)) (laid.gives s n laid.front laid.rest laid.split laid.place)) in
+    λ s n. subst (λ (v : Standing). Lax v (standing_of (replayed log) s n)) (sym (laid.pages s n)) (subst (λ (v : Standing). Lax (redone_from base s n (laid.start s n) laid.rest) v) (sym (replayed_is_redone log s n laid.small)) (laid.gives s n laid.front laid.rest laid.split laid.moment)) in
     recovered_rows copy (replayed log) rows (same_system copy (replayed log) each laid.system) each can has

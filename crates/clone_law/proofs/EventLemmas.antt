@@ -26,17 +26,17 @@ since_longer space number from s log m since =
     record { before = since.before; behind = since.behind ++ m ∷ []; split = ap (λ l. l ++ m ∷ []) since.split ∙ append_assoc since.before since.behind (m ∷ []); late = since.late; was = since.was }
 
 at_longer : (at : ℕ) (log : List (List Record)) (m : List Record) → IsAt at log → IsAt at (log ++ m ∷ [])
-at_longer at log m is = record { before = is.before; behind = is.behind ++ m ∷ []; split = ap (λ l. l ++ m ∷ []) is.split ∙ append_assoc is.before is.behind (m ∷ []); place = is.place }
+at_longer at log m is = record { before = is.before; behind = is.behind ++ m ∷ []; split = ap (λ l. l ++ m ∷ []) is.split ∙ append_assoc is.before is.behind (m ∷ []); moment = is.moment }
 
 -- where the log ended
 at_joint : (log : List (List Record)) (m : List Record) → IsAt (ends log) (log ++ m ∷ [])
-at_joint log m = record { before = log; behind = m ∷ []; split = refl; place = refl }
+at_joint log m = record { before = log; behind = m ∷ []; split = refl; moment = refl }
 
 since_now : (space number from : ℕ) (s : Standing) (log : List (List Record)) → from ≤ ends log → Lax s (redone space number log) → Since space number from s log
 since_now space number from s log late lax = record { before = log; behind = []; split = sym (append-nil log); late = late; was = lax }
 
 at_low : (at : ℕ) (log : List (List Record)) → IsAt at log → at ≤ ends log
-at_low at log is = omega (arith, is.place, ap (λ (l : List (List Record)). length (log_of l)) is.split, ap length (log_of-append is.before is.behind), length-append (log_of is.before) (log_of is.behind))
+at_low at log is = omega (arith, is.moment, ap (λ (l : List (List Record)). length (log_of l)) is.split, ap length (log_of-append is.before is.behind), length-append (log_of is.before) (log_of is.behind))
 
 Lax-trans : (u v w : Standing) → Lax u v → Lax v w → Lax u w
 Lax-trans u v (stands page) a b = subst (λ (x : Standing). Lax u x) b a
@@ -500,14 +500,14 @@ module _ (space number : ℕ) where
       bare = (refl, refl, refl);
       order = tt;
       low = omega arith;
-      aligned = record { before = []; behind = []; split = refl; place = omega arith };
+      aligned = record { before = []; behind = []; split = refl; moment = omega arith };
     };
     copy = tt;
   }
 
   pub given : (base : ℕ) (log : List (List Record)) (starts : List Standing) (u : Standing) → AllFit space number log → AllByRecursion (λ s. Since space number base s log) starts → IsStart starts u → Gives space number base log u
   given base log [] u fits all is = absurd is
-  given base log (s ∷ starts) u fits all (inl lax) = λ front rest split place. since_redone space number base u log front rest fits (since_lax space number base u s log lax all.0) split place
+  given base log (s ∷ starts) u fits all (inl lax) = λ front rest split moment. since_redone space number base u log front rest fits (since_lax space number base u s log lax all.0) split moment
   given base log (s ∷ starts) u fits all (inr later) = given base log starts u fits all.1 later
 
   -- THE CENTRAL LAW
@@ -525,7 +525,7 @@ module _ (space number : ℕ) where
 
   pub dirty_is_redone : (e : Engine) (bytes : List ℕ) (o : ℕ) → EngineRule space number e → e.writing ≡ false → e.frame ≡ Some bytes → e.oldest ≡ Some o
       → (front rest : List (List Record)) → e.log ≡ front ++ rest → ends front ≡ o → redone_from o space number e.disk rest ≡ stands bytes
-  dirty_is_redone e bytes o r closed framed dirty front rest split place =
+  dirty_is_redone e bytes o r closed framed dirty front rest split moment =
       let now = has_space e.frame bytes _ framed r.framed in
       let held = subst (λ (x : Option ℕ). Held space number x e.disk e.log) dirty (r.quiet closed (subst (λ (v : Standing). HasSpace v) (sym now) tt)) in
-      subst (λ (v : Standing). Lax (redone_from o space number e.disk rest) v) now (since_redone space number o e.disk e.log front rest r.fits held split place)
+      subst (λ (v : Standing). Lax (redone_from o space number e.disk rest) v) now (since_redone space number o e.disk e.log front rest r.fits held split moment)

@@ -52,7 +52,7 @@ second_now = appended 1 0 changed_log second_change first_fits second_suits ∙ 
 
 -- a mini-transaction ends where a log does
 pub at_end : (log : List (List Record)) → IsAt (ends log) log
-at_end log = record { before = log; behind = []; split = sym (append-nil log); place = refl }
+at_end log = record { before = log; behind = []; split = sym (append-nil log); moment = refl }
 
 -- THE RUN OF A PAGE THAT IS FLUSHED IN FILE COPY
 

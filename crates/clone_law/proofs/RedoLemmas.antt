@@ -153,21 +153,21 @@ cuts (m ∷ front) rest (n ∷ before) behind same le =
 -- THE LAW OF REDO. What the page was at a moment of the log that isn't before the redo's start, redone up to the log's end, is what the whole log makes of the page.
 pub since_redone : (space number from : ℕ) (s : Standing) (log front rest : List (List Record)) → AllFit space number log → Since space number from s log → log ≡ front ++ rest → ends front ≡ from
     → Lax (redone_from from space number s rest) (redone space number log)
-since_redone space number from s log front rest fits since split place =
-    let b = cuts front rest since.before since.behind (sym split ∙ since.split) (omega (arith, place, since.late)) in
+since_redone space number from s log front rest fits since split moment =
+    let b = cuts front rest since.before since.behind (sym split ∙ since.split) (omega (arith, moment, since.late)) in
     let begin = steps first_lsn space number front in
     let mid = steps from space number b.mid in
     let behind = steps (ends since.before) space number since.behind in
     let v : Standing = runs no_space begin in
-    let joint : ends since.before ≡ from + length (log_of b.mid) = omega (arith, place, ap (λ (x : List (List Record)). length (log_of x)) b.longer, ap length (log_of-append front b.mid), length-append (log_of front) (log_of b.mid)) in
+    let joint : ends since.before ≡ from + length (log_of b.mid) = omega (arith, moment, ap (λ (x : List (List Record)). length (log_of x)) b.longer, ap length (log_of-append front b.mid), length-append (log_of front) (log_of b.mid)) in
     let cut : steps from space number rest ≡ mid ++ behind = ap (λ (x : List (List Record)). steps from space number x) b.shorter ∙ steps-append from (ends since.before) space number b.mid since.behind joint in
     let whole : steps first_lsn space number log ≡ begin ++ (mid ++ behind) =
-    ap (λ (x : List (List Record)). steps first_lsn space number x) split ∙ steps-append first_lsn from space number front rest (sym place) ∙ ap (λ (x : List Step). begin ++ x) cut in
+    ap (λ (x : List (List Record)). steps first_lsn space number x) split ∙ steps-append first_lsn from space number front rest (sym moment) ∙ ap (λ (x : List Step). begin ++ x) cut in
     let all : Fits first_lsn no_space (begin ++ (mid ++ behind)) = subst (λ (x : List Step). Fits first_lsn no_space x) whole fits in
     let was : Lax s (runs v mid) = subst (λ (x : Standing). Lax s x)
     (by_steps first_lsn space number no_space since.before
     ∙ ap (λ (x : List (List Record)). runs no_space (steps first_lsn space number x)) b.longer
-    ∙ ap (λ (x : List Step). runs no_space x) (steps-append first_lsn from space number front b.mid (sym place))
+    ∙ ap (λ (x : List Step). runs no_space x) (steps-append first_lsn from space number front b.mid (sym moment))
     ∙ runs-append no_space begin mid) since.was in
     let done = caught_up (last first_lsn begin) s v mid behind (not_above first_lsn no_space begin tt (fits_front first_lsn no_space begin (mid ++ behind) all)) (fits_rest first_lsn no_space begin (mid ++ behind) all) was in
     let left : redone_from from space number s rest ≡ runs s (mid ++ behind) = by_steps from space number s rest ∙ ap (λ (x : List Step). runs s x) cut in

@@ -173,7 +173,7 @@ pub record IsLaid (base : ℕ) (log : List (List Record)) (copy : Image) : Type 
   pub front : List (List Record)
   pub rest : List (List Record)
   pub split : log ≡ front ++ rest
-  pub place : ends front ≡ base
+  pub moment : ends front ≡ base
   pub start : ℕ → ℕ → Standing
   pub gives : (s n : ℕ) → Gives s n base log (start s n)
   pub pages : (s n : ℕ) → standing_of copy s n ≡ redone_from base s n (start s n) rest

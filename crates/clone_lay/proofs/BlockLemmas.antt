@@ -12,7 +12,7 @@ use Rattle.clone_lay.specs.Faults.{IsSameBut}
 use Rattle.clone_lay.specs.Laid.{laid_over, pages_in, whole}
 use Rattle.clone_lay.specs.Redo.{filled, laid_blocks, laid_redo, pages_for, redo_block, redo_page, redo_pages}
 use Rattle.clone_lay.proofs.LaidLemmas.{extended_there, laid_before, laid_behind, laid_here, length-laid_over}
-use Rattle.clone_lay.proofs.PlaceLemmas.{same_places}
+use Rattle.clone_lay.proofs.IndexLemmas.{same_elements}
 use Rattle.clone_lay.proofs.RedoLemmas.{length-redo_pages}
 use Rattle.clone_lay.proofs.SpaceLemmas.{get_there, pages_here}
 
@@ -73,12 +73,12 @@ module _ (redo : List ℕ) where
             laid_before (4 * k) new old i before
             ∙ extended_there (4 * k) old i (slice_get_within old i (whole (redo_page redo i)) (same ∙ page_at redo i low)) ∙ same
         at (inr after) (inl here) either =
-            let place : 4 * k + (i - 4 * k) ≡ i = omega (arith, after) in
+            let number : 4 * k + (i - 4 * k) ≡ i = omega (arith, after) in
             let inside : i - 4 * k < pages_for (length (redo_block redo k)) = omega (arith, after, here) in
             let pages = few_pages within in
-            laid_here (4 * k) new old i (i - 4 * k) place (omega (arith, inside, long))
+            laid_here (4 * k) new old i (i - 4 * k) number (omega (arith, inside, long))
             ∙ page_at (redo_block redo k) (i - 4 * k) inside
-            ∙ ap (λ (page : List ℕ). Some (whole page)) (block_page (i - 4 * k) (omega (arith, inside, pages.1)) ∙ ap (redo_page redo) place)
+            ∙ ap (λ (page : List ℕ). Some (whole page)) (block_page (i - 4 * k) (omega (arith, inside, pages.1)) ∙ ap (redo_page redo) number)
             ∙ sym (page_at redo i low)
         at (inr after) (inr past) (inl own) = absurd (let none = last_pages i within past own.1 in omega (arith, none, low))
         at (inr after) (inr past) (inr same) = laid_behind (4 * k) new old i (omega (arith, past, long)) ∙ same
@@ -108,10 +108,10 @@ module _ (redo : List ℕ) where
       right_now : ((4 * k ≤ i) × (i < 4 * k + 4)) ⊎ (slice_get (pages_in m REDO_SPACE) i ≡ slice_get (redo_pages redo) i) → slice_get (pages_in (laid_redo (16384 * k) (redo_block redo k) m) REDO_SPACE) i ≡ slice_get (redo_pages redo) i
       right_now either = ap (λ (pages : List Held). slice_get pages i) (block_pages m k) ∙ block_right k (pages_in m REDO_SPACE) i (all 0 0 (omega arith)) low either
 
-      found : (q : ℕ) → 4 * q ≤ i → i < 4 * q + 4 → (place : ℕ) → place < length (k ∷ ks) → get_or (k ∷ ks) place q ≡ q
+      found : (q : ℕ) → 4 * q ≤ i → i < 4 * q + 4 → (index : ℕ) → index < length (k ∷ ks) → get_or (k ∷ ks) index q ≡ q
           → ((q : ℕ) × Contains ks q × (4 * q ≤ i) × (i < 4 * q + 4)) ⊎ (slice_get (pages_in (laid_redo (16384 * k) (redo_block redo k) m) REDO_SPACE) i ≡ slice_get (redo_pages redo) i)
       found q high less zero within is = inr (right_now (inl (omega (arith, high, is), omega (arith, less, is))))
-      found q high less (suc place) within is = inl (q, (place, omega (arith, within), is), high, less)
+      found q high less (suc index) within is = inl (q, (index, omega (arith, within), is), high, less)
 
       next : ((q : ℕ) × Contains (k ∷ ks) q × (4 * q ≤ i) × (i < 4 * q + 4)) ⊎ (slice_get (pages_in m REDO_SPACE) i ≡ slice_get (redo_pages redo) i)
           → ((q : ℕ) × Contains ks q × (4 * q ≤ i) × (i < 4 * q + 4)) ⊎ (slice_get (pages_in (laid_redo (16384 * k) (redo_block redo k) m) REDO_SPACE) i ≡ slice_get (redo_pages redo) i)
@@ -120,7 +120,7 @@ module _ (redo : List ℕ) where
 
   -- all blocks were laid, over no pages
   pub blocks_are_pages : (ks : List ℕ) (m : DiskImage) → pages_in m REDO_SPACE ≡ [] → All (λ k. 16384 * k < length redo) ks → ((k : ℕ) → 16384 * k < length redo → Contains ks k) → after ks m ≡ redo_pages redo
-  blocks_are_pages ks m blank all each = same_places (after ks m) (redo_pages redo) (λ i. at i (cases_lt i count))
+  blocks_are_pages ks m blank all each = same_elements (after ks m) (redo_pages redo) (λ i. at i (cases_lt i count))
     where
       few : length (after ks m) ≤ count
       few = all_within ks m all (subst (λ (pages : List Held). length pages ≤ count) (sym blank) (omega arith))

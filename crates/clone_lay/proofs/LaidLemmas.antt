@@ -7,7 +7,7 @@ use Rattle.clone_base.proofs.MapEntries.{slice_get-pushed_front, slice_get-pushe
 use Rattle.clone_outside.specs.Disk.{zero_page, extended, edited}
 use Rattle.clone_outside.specs.declared.disk.Held.{Held}
 use Rattle.clone_lay.specs.Laid.{laid_over}
-use Rattle.clone_lay.proofs.PlaceLemmas.{slice_get-append_left, slice_get-append_right, slice_get-take, slice_get-drop, slice_get-replicate, same_places}
+use Rattle.clone_lay.proofs.IndexLemmas.{slice_get-append_left, slice_get-append_right, slice_get-take, slice_get-drop, slice_get-replicate, same_elements}
 
 -- Pages behind which there are zero pages.
 
@@ -56,7 +56,7 @@ module _ (first : ℕ) (new old : List Held) where
 
 -- no page is laid
 pub laid_none : (first : ℕ) (old : List Held) → first ≤ length old → laid_over first [] old ≡ old
-laid_none first old within = same_places (laid_over first [] old) old (λ i. at i (cases_lt i first))
+laid_none first old within = same_elements (laid_over first [] old) old (λ i. at i (cases_lt i first))
   where
     at : (i : ℕ) → (i < first) ⊎ (first ≤ i) → slice_get (laid_over first [] old) i ≡ slice_get old i
     at i (inl low) = laid_before first [] old i low ∙ extended_there first old i (omega arith)
@@ -65,7 +65,7 @@ laid_none first old within = same_places (laid_over first [] old) old (λ i. at 
 -- one page more is laid, where there is room for it
 pub laid_next : (first n : ℕ) (new old : List Held) (page : Held) → first + length new ≡ n → n < length old → edited n (λ _. page) (laid_over first new old) ≡ laid_over first (new ++ page ∷ []) old
 laid_next first n new old page is within =
-    same_places (edited n (λ _. page) before) after (λ i. at i (cases_eq i n) (cases_lt i n) (cases_lt i first))
+    same_elements (edited n (λ _. page) before) after (λ i. at i (cases_eq i n) (cases_lt i n) (cases_lt i first))
   where
     before : List Held
     before = laid_over first new old
@@ -95,7 +95,7 @@ laid_next first n new old page is within =
 -- room that was made before doesn't show
 pub laid_in_room : (first count : ℕ) (new old : List Held) → first + length new ≡ count → laid_over first new (extended count old) ≡ laid_over first new old
 laid_in_room first count new old is =
-    same_places (laid_over first new roomy) (laid_over first new old) (λ i. at i (cases_lt i first) (cases_lt i count) (cases_lt i (length old)))
+    same_elements (laid_over first new roomy) (laid_over first new old) (λ i. at i (cases_lt i first) (cases_lt i count) (cases_lt i (length old)))
   where
     roomy : List Held
     roomy = extended count old

@@ -1,4 +1,4 @@
-pub mod PlaceLemmas
+pub mod IndexLemmas
 pub mod LaidLemmas
 pub mod SpaceLemmas
 pub mod HalfLemmas

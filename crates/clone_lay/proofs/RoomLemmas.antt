@@ -12,7 +12,7 @@ use Rattle.clone_outside.specs.Disk.{DiskImage, extended, page_of}
 use Rattle.clone_outside.specs.declared.disk.Held.{Held}
 use Rattle.clone_lay.specs.Laid.{PageAt, bytes_at, laid_over, laid_page, laid_pages, last_bytes, pages_in, reaches_past, standing, whole, with_room}
 use Rattle.clone_lay.proofs.PageLemmas.{page_in_pages, pages_mark, pages_place, room_place, standing_twice}
-use Rattle.clone_lay.proofs.PlaceLemmas.{same_places}
+use Rattle.clone_lay.proofs.IndexLemmas.{same_elements}
 use Rattle.clone_lay.proofs.SpaceLemmas.{get_here, get_there}
 
 -- what a space has once pages were laid follows from what it had
@@ -115,7 +115,7 @@ module _ (space number : ℕ) where
         marks = pages_mark roomy pages ∙ sym (pages_mark m pages)
 
         own : pages_in (laid_pages pages roomy) space ≡ pages_in (laid_pages pages m) space
-        own = same_places _ _ (λ k. sym (page_in_pages (finite.get (laid_pages pages roomy).spaces space) k) ∙ place_unseen m space k ∙ page_in_pages (finite.get (laid_pages pages m).spaces space) k)
+        own = same_elements _ _ (λ k. sym (page_in_pages (finite.get (laid_pages pages roomy).spaces space) k) ∙ place_unseen m space k ∙ page_in_pages (finite.get (laid_pages pages m).spaces space) k)
 
         at : (q : ℕ) → (q ≡ space) ⊎ (q ≢ space) → finite.get (laid_pages pages roomy).spaces q ≡ finite.get (laid_pages pages m).spaces q
         at q (inl same) =

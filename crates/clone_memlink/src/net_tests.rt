@@ -16,8 +16,8 @@ const STEP: usize = 4_000;
 // The bytes that either end sends from here on.
 fn piece(from: usize) -> [u8; STEP] {
     let mut bytes = [0; STEP];
-    for (place, byte) in bytes.iter_mut().enumerate() {
-        *byte = (from.wrapping_add(place) % 251) as u8;
+    for (offset, byte) in bytes.iter_mut().enumerate() {
+        *byte = (from.wrapping_add(offset) % 251) as u8;
     }
     bytes
 }
@@ -105,7 +105,7 @@ fn is_front(received: &[u8]) -> bool {
     received
         .iter()
         .enumerate()
-        .all(|(place, byte)| *byte == (place % 251) as u8)
+        .all(|(offset, byte)| *byte == (offset % 251) as u8)
 }
 
 // Sends more than there is room for.

@@ -8,8 +8,8 @@ abbrev pub IsTable : ℕ → Type 0
 IsTable table = (1 ≤ table) × (table ≤ HIGHEST_TABLE)
 
 -- the page of this number may stand in this space
-abbrev pub IsPlace : ℕ → ℕ → Type 0
-IsPlace space page = (space ≤ HIGHEST_TABLE) × (page < MOST_PAGES)
+abbrev pub IsPageName : ℕ → ℕ → Type 0
+IsPageName space page = (space ≤ HIGHEST_TABLE) × (page < MOST_PAGES)
 
 -- a call that a line may let fail
 abbrev pub IsCall : ℕ → Type 0

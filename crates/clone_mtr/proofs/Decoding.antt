@@ -14,7 +14,7 @@ use Rattle.clone_mtr.specs.Reading.{item_at}
 use Rattle.clone_bytes.specs.Fields.{IsBytes}
 use Rattle.clone_bytes.proofs.Numbers.{IsBytes-take}
 use Rattle.std.proofs.Math.Seq.{take-append-add}
-use Rattle.clone_mtr.proofs.FirstPlaces.{turns}
+use Rattle.clone_mtr.proofs.FirstOffsets.{turns}
 use Rattle.clone_mtr.proofs.Items.{IsShort, Found, answer, not_found, item_takes, item_ends, item_again, end_again}
 use Rattle.clone_mtr.proofs.Fronts.{item_grown}
 use Rattle.clone_mtr.proofs.Openings.{bytes_append, item_opens}
@@ -71,7 +71,7 @@ begun bytes rest front after rs all each small parts split spells =
     let short : length (spelling all) ≤ 1024 = rw (← spells.text) spells.short in
     goes_on rs all rest after each small spells.mtr.1 short (sym parts ∙ split ∙ ap (λ t. t ++ after) spells.text)
 
--- what stands in a spelling's place is read
+-- what stands at a spelling's offset is read
 item_there : (at : ℕ) (more : List Record) (after : List ℕ) → AllByRecursion IsRecord more → at + length (spelling more) ≤ 1024 → (x : Found) × (item_at at (spelling more ++ after) ≡ answer x)
 item_there at [] after each short = (None, end_again at after)
 item_there at (r ∷ more) after each short =
@@ -114,8 +114,8 @@ pub Splits-none : (bytes : List ℕ) → IsBytes bytes → Splits bytes [] bytes
 Splits-none bytes fits = record { parts = refl; below = omega arith; each = tt; short = tt; fits = fits }
 
 -- how far the reading has come
-pub place : (bytes rest : List ℕ) (rs : List Record) → Splits bytes rs rest → length bytes - length rest ≡ length (text_of rs)
-place bytes rest rs so_far = let whole = ap length so_far.parts ∙ length-append (text_of rs) rest in omega arith
+pub offset_is : (bytes rest : List ℕ) (rs : List Record) → Splits bytes rs rest → length bytes - length rest ≡ length (text_of rs)
+offset_is bytes rest rs so_far = let whole = ap length so_far.parts ∙ length-append (text_of rs) rest in omega arith
 
 record_some : (r : Record) → 1 ≤ length (record_spelling r)
 record_some (Init space page kind) = omega arith
@@ -174,7 +174,7 @@ stops bytes rest rs at e other here so_far failed =
       parts = so_far.parts;
       below = omega (arith, so_far.below);
       refused = subst (λ n. item_at n rest ≡ Err e) here failed;
-      place = length (text_of rs) + turn.count;
+      offset = length (text_of rs) + turn.count;
       within = omega (arith, long, turn.within);
       before = front (take (length (text_of rs) + turn.count) bytes) (take turn.count rest) rs at here (cut bytes rest rs turn.count so_far) turn.short;
       with_it = subst (λ n. IsLost (take n bytes)) next (lost (take (length (text_of rs) + (turn.count + 1)) bytes) (take (turn.count + 1) rest) rs at e other here (cut bytes rest rs (turn.count + 1) so_far) turn.refused);
@@ -183,8 +183,8 @@ stops bytes rest rs at e other here so_far failed =
 -- the answer where an item is refused
 pub refuses : (bytes rest : List ℕ) (rs : List Record) (at : ℕ) (e : DecodeRefusal) → at ≡ length (text_of rs) → Splits bytes rs rest → item_at at rest ≡ Err e → Decodes bytes (Err e)
 refuses bytes rest rs at Short here so_far failed = (refused bytes rest rs at Short here so_far.each so_far.short so_far.parts failed, front bytes rest rs at here so_far failed)
-refuses bytes rest rs at (BadKind place) here so_far failed = (refused bytes rest rs at (BadKind place) here so_far.each so_far.short so_far.parts failed, lost bytes rest rs at (BadKind place) (λ d. cc) here so_far failed, inl (stops bytes rest rs at (BadKind place) (λ d. cc) here so_far failed))
-refuses bytes rest rs at (OutOfPage place) here so_far failed = (refused bytes rest rs at (OutOfPage place) here so_far.each so_far.short so_far.parts failed, lost bytes rest rs at (OutOfPage place) (λ d. cc) here so_far failed, stops bytes rest rs at (OutOfPage place) (λ d. cc) here so_far failed)
+refuses bytes rest rs at (BadKind offset) here so_far failed = (refused bytes rest rs at (BadKind offset) here so_far.each so_far.short so_far.parts failed, lost bytes rest rs at (BadKind offset) (λ d. cc) here so_far failed, inl (stops bytes rest rs at (BadKind offset) (λ d. cc) here so_far failed))
+refuses bytes rest rs at (OutOfPage offset) here so_far failed = (refused bytes rest rs at (OutOfPage offset) here so_far.each so_far.short so_far.parts failed, lost bytes rest rs at (OutOfPage offset) (λ d. cc) here so_far failed, stops bytes rest rs at (OutOfPage offset) (λ d. cc) here so_far failed)
 refuses bytes rest rs at TooLong here so_far failed = (refused bytes rest rs at TooLong here so_far.each so_far.short so_far.parts failed, lost bytes rest rs at TooLong (λ d. cc) here so_far failed, stops bytes rest rs at TooLong (λ d. cc) here so_far failed)
 refuses bytes rest rs at NoMemory here so_far failed = tt
 
@@ -196,7 +196,7 @@ ends_first bytes e =
 
 -- the next item is refused
 pub next_refused : (bytes rest : List ℕ) (rs : List Record) (e : DecodeRefusal) → Splits bytes rs rest → item_at (length bytes - length rest) rest ≡ Err e → Decodes bytes (Err e)
-next_refused bytes rest rs e so_far failed = refuses bytes rest rs (length bytes - length rest) e (place bytes rest rs so_far) so_far failed
+next_refused bytes rest rs e so_far failed = refuses bytes rest rs (length bytes - length rest) e (offset_is bytes rest rs so_far) so_far failed
 
 pub next_more : (bytes rest after : List ℕ) (rs : List Record) (r : Record) → Splits bytes rs rest → item_at (length bytes - length rest) rest ≡ answer (Some (r, after)) → Splits bytes (rs ++ r ∷ []) after × (length after < length rest)
 next_more bytes rest after rs r so_far found =
@@ -204,12 +204,12 @@ next_more bytes rest after rs r so_far found =
     let taken = item_takes at rest (r, after) so_far.fits found in
     let whole = ap length taken.0.parts ∙ length-append (record_spelling r) after in
     let some = record_some r in
-    (Splits-more bytes rest after rs r at (place bytes rest rs so_far) so_far found, omega arith)
+    (Splits-more bytes rest after rs r at (offset_is bytes rest rs so_far) so_far found, omega arith)
 
 pub next_ended : (bytes rest : List ℕ) (rs : List Record) → Splits bytes rs rest → item_at (length bytes - length rest) rest ≡ answer None → 1 ≤ length rs
     → Spells (take (length bytes - length rest + 1) bytes) rs × (length bytes - length rest + 1 ≤ length bytes)
 next_ended bytes rest rs so_far found some =
     let at = length bytes - length rest in
-    let stands = place bytes rest rs so_far in
+    let stands = offset_is bytes rest rs so_far in
     let P : ℕ → Type 0 = λ n. Spells (take (n + 1) bytes) rs × (n + 1 ≤ length bytes) in
     subst P (sym stands) (ended bytes rest rs at so_far found some so_far.below)

@@ -207,7 +207,7 @@ patch_again at patch rest allowed short =
 abbrev pub IsShort : Record → Type 0
 IsShort r = length (record_spelling r) ≤ 1023
 
--- a record was read behind the byte of its kind, which stands at this place
+-- a record was read behind the byte of its kind, which stands at this offset
 abbrev Reads : ℕ → ℕ → List ℕ → Record × List ℕ → Type 0
 Reads kind at bytes x = Takes (kind ∷ bytes) (record_spelling x.0) x.1 × IsRecord x.0 × (at + length (record_spelling x.0) ≤ 1023)
 
@@ -345,7 +345,7 @@ end_again at rest = refl
 let_pass : (at least : ℕ) (read : Result (Record × List ℕ) DecodeRefusal) → at + least ≤ 1023 → room at least read ≡ read
 let_pass at least read short = let within : ltb 1023 (at + least) ≡ false = le-ltb _ _ short in rw within refl
 
--- a record that leaves place for an end mark is read again
+-- a record that leaves room for an end mark is read again
 pub item_again : (at : ℕ) (r : Record) (rest : List ℕ) → IsRecord r → at + length (record_spelling r) ≤ 1023 → item_at at (record_spelling r ++ rest) ≡ Ok (Some (r, rest))
 unfolding item_at record_at init_at write_at extend_at create_at drop_at
 item_again at (Init space page kind) rest fits short =

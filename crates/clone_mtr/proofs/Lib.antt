@@ -1,7 +1,7 @@
 pub mod Numbers
 pub mod Items
 pub mod Spellings
-pub mod FirstPlaces
+pub mod FirstOffsets
 pub mod Decoding
 pub mod Pieces
 pub mod Fronts

@@ -26,17 +26,17 @@ pub two_pieces : (at behind : ℕ) (x y old middle new : List ℕ) → at + leng
 two_pieces at behind x y old middle new fits far first second = second ∙ rw (far, first) (put_at-then at x y old fits)
 
 -- one record more was put
-pub more_placed : (at behind i : ℕ) (entries : List Record) (entry : Record) (into new old : List ℕ) → i < length entries → entry ≡ get_or entries i entry → length (spelling entries) ≤ length into
+pub more_laid : (at behind i : ℕ) (entries : List Record) (entry : Record) (into new old : List ℕ) → i < length entries → entry ≡ get_or entries i entry → length (spelling entries) ≤ length into
     → behind ≡ at + length (record_spelling entry) → new ≡ put_at at (record_spelling entry) into
     → at + length (spelling (drop i entries)) ≡ length (spelling entries) → put_at at (spelling (drop i entries)) into ≡ put_at 0 (spelling entries) old
     → (behind + length (spelling (drop (i + 1) entries)) ≡ length (spelling entries)) × (put_at behind (spelling (drop (i + 1) entries)) new ≡ put_at 0 (spelling entries) old)
-more_placed at behind i entries entry into new old within item room far placed long text =
+more_laid at behind i entries entry into new old within item room far laid long text =
     let more = spelling (drop (i + 1) entries) in
     let split : drop i entries ≡ entry ∷ drop (i + 1) entries = rw add-one (drop-cons entries i entry within ∙ ap (λ r. r ∷ drop (suc i) entries) (sym item)) in
     let whole : spelling (drop i entries) ≡ record_spelling entry ++ more = ap spelling split in
     let lengths : length (spelling (drop i entries)) ≡ length (record_spelling entry) + length more = ap length whole ∙ length-append (record_spelling entry) more in
-    (omega arith, two_pieces at behind (record_spelling entry) more into new (put_at behind more new) (omega arith) far placed refl ∙ ap (λ t. put_at at t into) (sym whole) ∙ text)
+    (omega arith, two_pieces at behind (record_spelling entry) more into new (put_at behind more new) (omega arith) far laid refl ∙ ap (λ t. put_at at t into) (sym whole) ∙ text)
 
 -- the end mark is all that is left
-pub all_placed : (at i : ℕ) (entries : List Record) (into old : List ℕ) → length entries ≤ i → put_at at (spelling (drop i entries)) into ≡ put_at 0 (spelling entries) old → put_at at (6 ∷ []) into ≡ put_at 0 (spelling entries) old
-all_placed at i entries into old past text = ap (λ rs. put_at at (spelling rs) into) (sym (drop_of_length-le entries past)) ∙ text
+pub all_laid : (at i : ℕ) (entries : List Record) (into old : List ℕ) → length entries ≤ i → put_at at (spelling (drop i entries)) into ≡ put_at 0 (spelling entries) old → put_at at (6 ∷ []) into ≡ put_at 0 (spelling entries) old
+all_laid at i entries into old past text = ap (λ rs. put_at at (spelling rs) into) (sym (drop_of_length-le entries past)) ∙ text

@@ -41,8 +41,8 @@ abbrev pub IsLost : List ℕ → Type 0
 IsLost bytes = (more : List ℕ) → BeginsNone (bytes ++ more)
 
 -- Whole records stand at the front, and what stands behind them, read from left to right, is
--- refused first for this cause. It is refused with the byte at a place: the bytes before that place
--- are the front of some spelling, and with the byte they are of none.
+-- refused first for this cause. It is refused with the byte at an offset: the bytes before that
+-- offset are the front of some spelling, and with the byte they are of none.
 pub record Stops (bytes : List ℕ) (cause : DecodeRefusal) : Type 0 where
   pub records : List Record
   pub rest : List ℕ
@@ -50,10 +50,10 @@ pub record Stops (bytes : List ℕ) (cause : DecodeRefusal) : Type 0 where
   pub parts : bytes ≡ flat_map record_spelling records ++ rest
   pub below : length (flat_map record_spelling records) < longest
   pub refused : item_at (length (flat_map record_spelling records)) rest ≡ Err cause
-  pub place : ℕ
-  pub within : place < length bytes
-  pub before : IsFront (take place bytes)
-  pub with_it : IsLost (take (place + 1) bytes)
+  pub offset : ℕ
+  pub within : offset < length bytes
+  pub before : IsFront (take offset bytes)
+  pub with_it : IsLost (take (offset + 1) bytes)
 
 -- The mini-transaction whose spelling is at the front, and the length of that front. A refusal
 -- other than want of memory comes only where no front is one: `Short` exactly where further bytes

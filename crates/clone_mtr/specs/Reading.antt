@@ -48,7 +48,7 @@ number_at n bytes =
 abbrev pub bytes_at : ℕ → List ℕ → Result (List ℕ × List ℕ) DecodeRefusal
 bytes_at n bytes = if nat_lt (length bytes) n then Err Short else Ok (take n bytes, drop n bytes)
 
--- the kind of this number, which stands at this place
+-- the kind of this number, which stands at this offset
 abbrev pub kind_numbered : ℕ → ℕ → Result PageKind DecodeRefusal
 kind_numbered at n =
     if n == 1 then Ok System
@@ -69,7 +69,7 @@ pair_at bytes = do
   second ← number_at 4 first.1
   Ok (first.0, second.0, second.1)
 
--- the kind of a page, a number of two bytes that begins at this place
+-- the kind of a page, a number of two bytes that begins at this offset
 unfoldable pub kind_at : ℕ → List ℕ → Result (PageKind × List ℕ) DecodeRefusal
 kind_at at bytes = do
   high ← byte_at bytes
@@ -78,22 +78,22 @@ kind_at at bytes = do
     kind ← kind_numbered at low.0
     Ok (kind, low.1))
 
--- The fields of each record behind the byte of its kind. The record begins at this place.
+-- The fields of each record behind the byte of its kind. The record begins at this offset.
 unfoldable pub init_at : ℕ → List ℕ → Result (Record × List ℕ) DecodeRefusal
 init_at at bytes = do
   page ← pair_at bytes
   kind ← kind_at (at + 9) page.2
   Ok (Init page.0 page.1 kind.0, kind.1)
 
--- A write whose offset stands at this place may have so many bytes: they lie where a write may, and
--- there is place for an end mark behind them.
+-- A write whose offset stands at this byte may have so many bytes: they lie where a write may, and
+-- there is room for an end mark behind them.
 abbrev pub fits : ℕ → ℕ → ℕ → Result (Unit {0}) DecodeRefusal
 fits at offset long =
     if allows offset long
     then (if nat_lt (LONGEST_MTR - 1) (at + (4 + long)) then Err TooLong else Ok tt)
     else Err (OutOfPage at)
 
--- The length and the bytes of a patch, whose offset stands at this place. Each byte of the length
+-- The length and the bytes of a patch, whose offset stands at this byte. Each byte of the length
 -- is refused where no length that begins so fits.
 unfoldable pub long_at : ℕ → ℕ → List ℕ → Result (Patched × List ℕ) DecodeRefusal
 long_at at offset bytes = do
@@ -104,7 +104,7 @@ long_at at offset bytes = do
   body ← bytes_at (high.0 * 256 + low.0) low.1
   Ok (record { offset = offset; bytes = body.0 }, body.1)
 
--- a patch, whose offset stands at this place
+-- a patch, whose offset stands at this byte
 unfoldable pub patch_at : ℕ → List ℕ → Result (Patched × List ℕ) DecodeRefusal
 patch_at at bytes = do
   high ← byte_at bytes
@@ -135,7 +135,7 @@ drop_at bytes = do
   space ← number_at 4 bytes
   Ok (Drop space.0, space.1)
 
--- a record of so many bytes or more, which has to leave place for an end mark
+-- a record of so many bytes or more, which has to leave room for an end mark
 abbrev pub room : ℕ → ℕ → Result (Record × List ℕ) DecodeRefusal
     → Result (Record × List ℕ) DecodeRefusal
 room at least read = if nat_lt (LONGEST_MTR - 1) (at + least) then Err TooLong else read

@@ -6,7 +6,7 @@ use crate::{DecodeRefusal, LONGEST_MTR};
 use clone_bytes::Reader;
 use clone_page::{PageKind, is_allowed};
 
-// Each function answers a value, which the reader is behind then. `at` is the place where the
+// Each function answers a value, which the reader is behind then. `at` is the offset where the
 // record begins.
 
 #[tactic(auto, unfolding(crate::specs::Reading::init_at))]
@@ -53,7 +53,7 @@ pub(crate) fn drop_of<'a>(reader: &mut Reader<'a>) -> Result<Found<'a>, DecodeRe
     Ok(Found::Drop { space })
 }
 
-// `at` is the place of the offset.
+// `at` is where the offset stands.
 #[tactic(auto, unfolding(crate::specs::Reading::patch_at))]
 fn patch_of<'a>(at: usize, reader: &mut Reader<'a>) -> Result<Span<'a>, DecodeRefusal>
     requires low { 9 ≤ at }

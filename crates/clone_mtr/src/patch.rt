@@ -9,7 +9,7 @@ ghost use Rattle.clone_mtr.specs.Patches.{AreBytes};
 use std::alloc::{AllocError, Global};
 use std::marker::Model;
 
-/// The most bytes that a write may have: as many as a mini-transaction of one write has place for.
+/// The most bytes that a write may have: as many as a mini-transaction of one write has room for.
 pub const LONGEST_PATCH: usize = 1_010;
 
 /// The most bytes that a patch keeps in place, without memory of its own.

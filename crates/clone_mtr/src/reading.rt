@@ -28,7 +28,7 @@ pub fn decode(alloc: Global, bytes: &[u8]) -> Result<(Mtr, usize), DecodeRefusal
     }
 }
 
-// The record at the front, or none where the end mark stands. `at` is the place where it begins.
+// The record at the front, or none where the end mark stands. `at` is the offset where it begins.
 #[tactic(auto, unfolding(crate::specs::Reading::item_at))]
 fn item_of<'a>(at: usize, reader: &mut Reader<'a>) -> Result<Option<Found<'a>>, DecodeRefusal>
     requires { at ≤ LONGEST_MTR }

@@ -26,9 +26,9 @@ pub struct TooLong {
 pub enum DecodeRefusal {
     /// The bytes end inside a record, or before the end mark.
     Short,
-    /// The byte at this place begins no record, or names no kind of page.
+    /// The byte at this offset begins no record, or names no kind of page.
     BadKind { at: usize },
-    /// The write whose offset is at this place lies outside the bytes that a write may name.
+    /// The write whose offset is at this byte lies outside the bytes that a write may name.
     OutOfPage { at: usize },
     /// More than 1,024 bytes would be needed.
     TooLong,

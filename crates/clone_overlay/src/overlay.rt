@@ -164,7 +164,7 @@ impl Overlay {
         }
     }
 
-    /// Puts bytes on a page from a place on, if the page is there. The page LSN stays.
+    /// Puts bytes on a page from an offset on, if the page is there. The page LSN stays.
     pub fn lay(&mut self, space: u32, number: u32, offset: u16, bytes: &[u8])
         requires ready { IsReady self.old space number }
         requires allowed { IsAllowed offset (length bytes.now) }

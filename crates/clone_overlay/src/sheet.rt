@@ -176,7 +176,7 @@ impl Sheet {
         change_in(&mut self.leaves, number, entry, lsn);
     }
 
-    /// Puts bytes on a page from a place on, if the page is held. The page LSN stays.
+    /// Puts bytes on a page from an offset on, if the page is held. The page LSN stays.
     pub fn lay(&mut self, number: u32, offset: u16, bytes: &[u8])
         requires { IsAllowed offset (length bytes.now) }
         ensures { self.new ≡ with_leaf number (put_at offset bytes.now) self.old }

@@ -25,7 +25,7 @@ entry space buckets pages =
 
 -- the system page lists the table
 pub record Lists (page : List ℕ) (table : ℕ) : Type 0 where
-  pub place : ℕ
-  pub within : place < entry_count
+  pub entry_number : ℕ
+  pub within : entry_number < entry_count
   pub used : 0 < table
-  pub named : entry_space place page ≡ table
+  pub named : entry_space entry_number page ≡ table

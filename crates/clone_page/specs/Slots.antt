@@ -4,10 +4,10 @@ use Rattle.std.specs.declared.option.Option.{Option}
 use Rattle.byteorder.specs.Endian.{big_bytes}
 use Rattle.clone_page.specs.Bytes.{part, field}
 use Rattle.clone_base.specs.declared.limits.TheConstants.{VALUE_LIMIT}
-use Rattle.clone_page.specs.declared.layout.TheConstants.{SLOT_COUNT, SLOTS_AT, SLOT_BYTES, SLOT_LENGTH_AT, SLOT_KEY_AT, SLOT_VALUE_AT}
+use Rattle.clone_page.specs.declared.layout.TheConstants.{ROW_SLOT_COUNT, SLOTS_AT, SLOT_BYTES, SLOT_LENGTH_AT, SLOT_KEY_AT, SLOT_VALUE_AT}
 
-abbrev pub slot_count : ℕ
-slot_count = SLOT_COUNT
+abbrev pub row_slot_count : ℕ
+row_slot_count = ROW_SLOT_COUNT
 
 abbrev pub slot_at : ℕ → ℕ
 slot_at j = SLOTS_AT + SLOT_BYTES * j

@@ -1,10 +1,10 @@
-//! Numbers and pieces at a place of some bytes. Numbers are big-endian.
+//! Numbers and pieces at an offset of some bytes. Numbers are big-endian.
 ghost use Rattle.std.specs.Prelude.{◌≡◌, ◌≤◌, ◌+◌, length};
 ghost use Rattle.clone_page.specs.Bytes.{put_at, field};
 
 use byteorder::{BigEndian, ByteOrder};
 
-/// The number of one byte at a place.
+/// The number of one byte at an offset.
 pub fn u8_at(bytes: &[u8], at: usize) -> u8
     requires { at + 1 ≤ length bytes.now }
     ensures { result ≡ field at 1 bytes.now }
@@ -12,7 +12,7 @@ pub fn u8_at(bytes: &[u8], at: usize) -> u8
     bytes[at]
 }
 
-/// The number of two bytes from a place on.
+/// The number of two bytes from an offset on.
 pub fn u16_at(bytes: &[u8], at: usize) -> u16
     requires { at + 2 ≤ length bytes.now }
     ensures { result ≡ field at 2 bytes.now }
@@ -20,7 +20,7 @@ pub fn u16_at(bytes: &[u8], at: usize) -> u16
     BigEndian::read_u16(&bytes[at..at + 2])
 }
 
-/// The number of four bytes from a place on.
+/// The number of four bytes from an offset on.
 pub fn u32_at(bytes: &[u8], at: usize) -> u32
     requires { at + 4 ≤ length bytes.now }
     ensures { result ≡ field at 4 bytes.now }
@@ -28,7 +28,7 @@ pub fn u32_at(bytes: &[u8], at: usize) -> u32
     BigEndian::read_u32(&bytes[at..at + 4])
 }
 
-/// The number of eight bytes from a place on.
+/// The number of eight bytes from an offset on.
 pub fn u64_at(bytes: &[u8], at: usize) -> u64
     requires { at + 8 ≤ length bytes.now }
     ensures { result ≡ field at 8 bytes.now }
@@ -36,7 +36,7 @@ pub fn u64_at(bytes: &[u8], at: usize) -> u64
     BigEndian::read_u64(&bytes[at..at + 8])
 }
 
-/// Writes a piece from a place on. All other bytes stay.
+/// Writes a piece from an offset on. All other bytes stay.
 pub fn put(bytes: &mut [u8], at: usize, piece: &[u8])
     requires { at + length piece.now ≤ length bytes.old }
     ensures { bytes.new ≡ put_at at piece.now bytes.old }

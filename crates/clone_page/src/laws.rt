@@ -6,7 +6,7 @@ ghost use Rattle.clone_page.specs.declared.layout.TheConstants.{ENTRY_BYTES, SLO
 ghost use Rattle.clone_page.specs.Bytes.{part, field, put_at};
 ghost use Rattle.clone_page.specs.Kinds.{kind_number};
 ghost use Rattle.clone_page.specs.Header.{zero_page, lsn_of, kind_of, with_lsn, initialised, IsAllowed, IsWellFormed};
-ghost use Rattle.clone_page.specs.Slots.{slot, slot_at, slot_count, row_of, present_slot};
+ghost use Rattle.clone_page.specs.Slots.{slot, slot_at, row_slot_count, row_of, present_slot};
 ghost use Rattle.clone_page.specs.Dictionary.{entry, entry_at, entry_count, entry_space, position_at};
 
 /// What a write does to a part of a list of bytes, and to a number that is read there.
@@ -46,11 +46,11 @@ pub fn slot_laws()
         → slot_at j ≤ length page → slot j (put_at (slot_at j) bytes page) ≡ bytes }
     ensures other { (j k : ℕ) (bytes page : List ℕ) → j ≢ k → length bytes ≡ SLOT_BYTES
         → slot_at k ≤ length page → slot j (put_at (slot_at k) bytes page) ≡ slot j page }
-    ensures lsn { (j lsn : ℕ) (page : List ℕ) → j < slot_count → length page ≡ PAGE_SIZE
+    ensures lsn { (j lsn : ℕ) (page : List ℕ) → j < row_slot_count → length page ≡ PAGE_SIZE
         → slot j (with_lsn lsn page) ≡ slot j page }
-    ensures made { (j space number lsn : ℕ) (kind : PageKind) → j < slot_count
+    ensures made { (j space number lsn : ℕ) (kind : PageKind) → j < row_slot_count
         → slot j (initialised space number kind lsn) ≡ replicate SLOT_BYTES 0 }
-    ensures unused { (j : ℕ) → j < slot_count → slot j zero_page ≡ replicate SLOT_BYTES 0 }
+    ensures unused { (j : ℕ) → j < row_slot_count → slot j zero_page ≡ replicate SLOT_BYTES 0 }
 
     // Which row a slot holds.
     ensures present { (key : ℕ) (value : List ℕ) → key < 2 ^ 64 → length value ≤ VALUE_LIMIT

@@ -39,7 +39,7 @@ pub const CHECKSUM: u32 = 0xDEAD_BEEF;
 pub const NO_PAGE: u32 = 0xFFFF_FFFF;
 
 /// How many slots a bucket page or an overflow page has.
-pub const SLOT_COUNT: u16 = 50;
+pub const ROW_SLOT_COUNT: u16 = 50;
 
 /// Where the first slot stands.
 pub const SLOTS_AT: usize = 48;

@@ -12,7 +12,7 @@ pub use kind::PageKind;
 pub use laws::{dictionary_laws, header_laws, part_laws, slot_laws};
 pub use layout::{
     BODY_AT, CHECKSUM, END_LSN_AT, ENTRIES_AT, ENTRY_BYTES, ENTRY_COUNT, KIND_AT, LSN_AT, NEXT_AT,
-    NO_PAGE, NUMBER_AT, POSITION_AT, PREVIOUS_AT, SLOT_BYTES, SLOT_COUNT, SLOT_KEY_AT,
+    NO_PAGE, NUMBER_AT, POSITION_AT, PREVIOUS_AT, ROW_SLOT_COUNT, SLOT_BYTES, SLOT_KEY_AT,
     SLOT_LENGTH_AT, SLOT_VALUE_AT, SLOTS_AT, SPACE_AT, TRAILER_AT,
 };
 pub use page::{Page, is_allowed};

@@ -114,7 +114,7 @@ impl Page {
         self.bytes[END_LSN_AT..].copy_from_slice(&bytes[4..]);
     }
 
-    /// Writes bytes from a place on.
+    /// Writes bytes from an offset on.
     pub fn write_at(&mut self, offset: u16, bytes: &[u8])
         requires { IsAllowed offset (length bytes.now) }
         ensures { self.new ≡ put_at offset bytes.now self.old }

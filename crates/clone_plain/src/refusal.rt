@@ -20,7 +20,7 @@ pub enum Cause {
     ValueTooLong,
     /// E6: the transaction has 160 changes.
     UndoFull,
-    /// E7: the row's bucket has no place for its key and no free one.
+    /// E7: the row's bucket has no slot for its key and no free one.
     SpaceFull,
     /// E8: the log has no room for the mini-transaction.
     LogFull {

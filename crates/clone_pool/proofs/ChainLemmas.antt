@@ -1,4 +1,4 @@
--- A place is taken out of its chain, and put into one.
+-- A frame is taken out of its chain, and put into one.
 use Rattle.std.proofs.Common.{◌≡◌, ◌≢◌, ◌<◌, ◌≤◌, ◌+◌, ◌-◌, ◌*◌, ◌⊎◌, inl, inr, ℕ, cond, nat_lt, List, length, get_or, set, Option, Some, None, option_map, sym, ap, subst, ◌∙◌, arith}
 use Rattle.std.proofs.lemmas.Bool.{cases_eq, cases_lt}
 use Rattle.std.proofs.lemmas.List.{length-set, get_or-set_same, get_or-set_other, get_or_past}
@@ -19,7 +19,7 @@ bucket_within count names at b is = by (cases_lt at (length names))
     by (inr past) = let none : bucket_at count names at ≡ None = ap (option_map (bucket_of count)) (get_or_past names at None past) in let no : None ≡ Some b = sym none ∙ is in absurd (cc)
 
 module _ (count : ℕ) (names : Names) (cells : List ℕ) (x : IsIndex count names cells) (b : ℕ) (low_b : b ≤ count) (at : ℕ) (low : at < count) (cell : ℕ) (l : LeadsTo count names cells b at cell) where
-  -- any other place before this one in the bucket leads to one before it
+  -- any other frame before this one in the bucket leads to one before it
   pub passes : (i : ℕ) → bucket_at count names i ≡ Some b → i < at → i ≢ cell → at ≤ cell_at cells i → ⊥
   passes i is less other reaches = by l.cell_of (cases_lt i cell)
     where
@@ -49,7 +49,7 @@ module _ (count : ℕ) (names : Names) (cells : List ℕ) (x : IsIndex count nam
   other_head b' other (inl e) same = other (omega (arith, e, same))
   other_head b' other (inr s) same = omega (arith, s.0, same)
 
-  -- a place that has the cell is in the bucket
+  -- a frame that has the cell is in the bucket
   cell_bucket : (i b' : ℕ) → i < count → i ≡ cell → bucket_at count names i ≡ Some b' → IsCellOf count names b at cell → (b' ≡ b) × (i < at)
   cell_bucket i b' there same is (inl e) = absurd (omega (arith, e, same))
   cell_bucket i b' there same is (inr s) = (one_of b' b (sym is ∙ ap (bucket_at count names) same ∙ s.1), omega (arith, s.0, same))
@@ -64,7 +64,7 @@ module _ (count : ℕ) (names : Names) (cells : List ℕ) (x : IsIndex count nam
     new_other : (i : ℕ) → i ≢ at → new i ≡ bucket_at count names i
     new_other i other = ap (option_map (bucket_of count)) (get_or-set_other names at i n None other)
 
-    -- what was next still is, where the place is neither it nor before it in its bucket
+    -- what was next still is, where the frame is neither it nor before it in its bucket
     moved : (b' from next : ℕ) → IsNext count names b' from next → (from ≤ at → at < next → new at ≢ Some b') → next ≢ at → IsNext count (set names at n) b' from next
     moved b' from next old inside other = record {
       past = old.past;
@@ -77,7 +77,7 @@ module _ (count : ℕ) (names : Names) (cells : List ℕ) (x : IsIndex count nam
         clear i above below (inl e) is = inside (omega (arith, above, e)) (omega (arith, below, e)) (subst (λ (z : ℕ). new z ≡ Some b') e is)
         clear i above below (inr apart) is = old.between i above below (sym (new_other i apart) ∙ is)
 
-  -- the place is taken out of the chain
+  -- the frame is taken out of the chain
   pub unlinked : bucket_at count names at ≡ Some b → IsIndex count (set names at None) (set cells cell (cell_at cells at))
   unlinked is = record {
     few = x.few;
@@ -93,7 +93,7 @@ module _ (count : ℕ) (names : Names) (cells : List ℕ) (x : IsIndex count nam
       none : (b' : ℕ) → new None at ≢ Some b'
       none b' some = let no : None ≡ Some b' = sym (new_here None) ∙ some in absurd (cc)
 
-      -- the cell leads to what the place led to
+      -- the cell leads to what the frame led to
       skips : (from : ℕ) → from ≤ at → IsNext count names b from (cell_at cells cell) → IsNext count (set names at None) b from (cell_at cells at)
       skips from le old = record {
         past = omega (arith, le, onward.past);
@@ -138,7 +138,7 @@ module _ (count : ℕ) (names : Names) (cells : List ℕ) (x : IsIndex count nam
           let old = x.next i b' was in
           stays b' (i + 1) i old (λ same reaches. passes i (was ∙ ap (λ (z : ℕ). Some z) same) (omega (arith, old.past, reaches)) apart (omega (arith, reaches))) apart
 
-  -- the place is put into the chain
+  -- the frame is put into the chain
   pub linked : (page : PageName) → bucket_of count page ≡ b → bucket_at count names at ≡ None → IsIndex count (set names at (Some page)) (set (set cells at (cell_at cells cell)) cell at)
   linked page is was_none = record {
     few = x.few;
@@ -160,11 +160,11 @@ module _ (count : ℕ) (names : Names) (cells : List ℕ) (x : IsIndex count nam
       value : (i : ℕ) → i ≢ cell → i ≢ at → cell_at (set (set cells at (cell_at cells cell)) cell at) i ≡ cell_at cells i
       value i apart other = get_or-set_other (set cells at (cell_at cells cell)) cell i at 0 apart ∙ get_or-set_other cells at i (cell_at cells cell) 0 other
 
-      -- nothing leads to a place without a name
+      -- nothing leads to a frame without a name
       not_next : (b' from next : ℕ) → IsNext count names b' from next → next ≢ at
       not_next b' from next old e = let no : None ≡ Some b' = sym was_none ∙ ap (bucket_at count names) (sym e) ∙ old.there (omega (arith, low, e)) in absurd (cc)
 
-      -- the cell leads to the place
+      -- the cell leads to the frame
       ends : (from : ℕ) → from ≤ at → IsNext count names b from (cell_at cells cell) → IsNext count (set names at (Some page)) b from at
       ends from le old = record {
         past = le;
@@ -173,7 +173,7 @@ module _ (count : ℕ) (names : Names) (cells : List ℕ) (x : IsIndex count nam
         there = λ less. this;
       }
 
-      -- and the place to what the cell led to
+      -- and the frame to what the cell led to
       leads : (from : ℕ) → from ≤ at → IsNext count names b from (cell_at cells cell) → IsNext count (set names at (Some page)) b (at + 1) (cell_at cells cell)
       leads from le old = record {
         past = omega (arith, l.reaches, not_next b from (cell_at cells cell) old);
@@ -214,6 +214,6 @@ module _ (count : ℕ) (names : Names) (cells : List ℕ) (x : IsIndex count nam
           let was : bucket_at count names i ≡ Some b' = sym (new_other (Some page) i other) ∙ is' in
           stays b' (i + 1) i (x.next i b' was) (λ same above below. passes i (was ∙ ap (λ (z : ℕ). Some z) same) (omega (arith, above)) apart (omega (arith, below))) apart other
 
--- how far a cell is from a place
+-- how far a cell is from a frame
 abbrev pub way_left : ℕ → ℕ → ℕ → ℕ
 way_left count at cell = cond (nat_lt cell count) (at - cell) (at + 1)

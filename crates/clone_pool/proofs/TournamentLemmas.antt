@@ -27,10 +27,10 @@ top_first count nodes matched (suc fuel) node le some low = by (cases_lt 1 node)
     by (inr one) above = let e : node ≡ 1 = omega arith in subst After (sym e) (rank_irrefl (rank_at nodes 1))
 
 -- no rank goes before that of the top
-pub top_of_ranks : (count : ℕ) (nodes : List Rank) → IsTournament count nodes → (place : ℕ) → place < length (drop count nodes) → is_before (rank_at (drop count nodes) place) (rank_at nodes 1) ≡ false
-top_of_ranks count nodes t place low =
+pub top_of_ranks : (count : ℕ) (nodes : List Rank) → IsTournament count nodes → (frame_number : ℕ) → frame_number < length (drop count nodes) → is_before (rank_at (drop count nodes) frame_number) (rank_at nodes 1) ≡ false
+top_of_ranks count nodes t frame_number low =
     let long = length-drop count nodes in
-    subst (λ (r : Rank). is_before r (rank_at nodes 1) ≡ false) (sym (get_or-drop count nodes place no_rank)) (top_first count nodes t.matched (count + place) (count + place) (omega arith) (omega (arith, long, t.long)) (omega (arith, long, t.long)))
+    subst (λ (r : Rank). is_before r (rank_at nodes 1) ≡ false) (sym (get_or-drop count nodes frame_number no_rank)) (top_first count nodes t.matched (count + frame_number) (count + frame_number) (omega arith) (omega (arith, long, t.long)) (omega (arith, long, t.long)))
 
 -- nodes that have one rank are matched
 pub one_rank : (count : ℕ) (r : Rank) → IsTournament count (replicate (2 * count) r)

@@ -11,7 +11,7 @@ use Rattle.clone_pool.specs.declared.frame.Content.TheVariants.{Unused, Fresh, H
 use Rattle.clone_pool.specs.declared.frame.Flush.{Flush}
 use Rattle.clone_pool.specs.declared.frame.Flush.TheVariants.{Idle, Begun, Failed}
 use Rattle.clone_pool.specs.declared.frame.PageName.{PageName}
-use Rattle.clone_pool.specs.Index.{place_of}
+use Rattle.clone_pool.specs.Index.{frame_number_of}
 
 -- a frame without a page
 abbrev pub no_frame : Frame
@@ -41,7 +41,7 @@ HoldsPage f = IsSome (name_of f)
 
 -- the number of the frame that holds the page
 abbrev pub holder : List Frame → PageName → Option ℕ
-holder frames page = place_of page (map name_of frames)
+holder frames page = frame_number_of page (map name_of frames)
 
 abbrev pub is_dirty : Frame → Bool
 is_dirty f = is_some f.oldest

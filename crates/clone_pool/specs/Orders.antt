@@ -31,7 +31,7 @@ orders_of frames = record {
   waiting = map waiting_rank frames;
 }
 
--- the frame at this place is now this one
+-- the frame of this number is now this one
 abbrev pub refreshed : ℕ → Frame → Orders → Orders
 refreshed at f orders = record {
   names = slice_set orders.names at (name_of f);
@@ -40,7 +40,7 @@ refreshed at f orders = record {
   waiting = slice_set orders.waiting at (waiting_rank f);
 }
 
--- each has so many places
+-- each is of so many frames
 pub record AreLong (count : ℕ) (orders : Orders) : Type 0 where
   pub names : length orders.names ≡ count
   pub going : length orders.going ≡ count

@@ -114,7 +114,7 @@ pub record Empties (at : ℕ) (old new : Frames) : Type 0 where
   pub frames : new.frames ≡ slice_set old.frames at (emptied bytes (frame_at old.frames at))
   pub uses : new.uses ≡ old.uses
 
--- a page that has no frame gets the one that makes place, if there is one; after a fault that has
+-- a page that has no frame gets the one that makes way, if there is one; after a fault that has
 -- no page
 abbrev pub Misses : PageName → Frames → Frames → Result ℕ FetchRefusal → Type 0
 Misses page old new (Ok at) = IsVictim old.frames at × Fills page at old new
@@ -134,7 +134,7 @@ with_fresh page at v = record (with_frame at (freshened page (next_use v.uses)) 
   uses = next_use v.uses;
 }
 
--- a new page that has no frame gets the one that makes place, if there is one
+-- a new page that has no frame gets the one that makes way, if there is one
 abbrev pub TakesFrame : PageName → Frames → Frames → Result ℕ FetchRefusal → Type 0
 TakesFrame page old new (Ok at) = IsVictim old.frames at × (new ≡ with_fresh page at old)
 TakesFrame page old new (Err refusal) =

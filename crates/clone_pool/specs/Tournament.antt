@@ -1,4 +1,4 @@
--- Ranks by their places, the first of which is wanted.
+-- Ranks by their frame numbers, the first of which is wanted.
 use Rattle.std.specs.Prelude.{ℕ, ◌≡◌, ◌≢◌, ◌<◌, ◌≤◌, ◌+◌, ◌*◌, ◌==◌, Bool, false, nat_lt, if◌then◌else◌, List, length, get_or}
 use Rattle.clone_pool.specs.declared.frame.PageName.{PageName}
 use Rattle.clone_pool.specs.declared.tournament.Rank.{Rank}
@@ -13,7 +13,7 @@ abbrev pub is_before : Rank → Rank → Bool
 is_before a b =
     if a.number == b.number then name_is_before a.name b.name else nat_lt a.number b.number
 
--- the rank of a place that takes no part
+-- the rank of a frame that takes no part
 abbrev pub no_rank : Rank
 no_rank = record { number = NO_NUMBER; name = record { space = 0; number = 0 } }
 
@@ -24,16 +24,18 @@ rank_at ranks at = get_or ranks at no_rank
 abbrev pub first_of : Rank → Rank → Rank
 first_of a b = if is_before b a then b else a
 
--- the place takes part, and no other goes before it
-pub record IsFirst (ranks : List Rank) (place : ℕ) : Type 0 where
-  pub within : place < length ranks
-  pub part : (rank_at ranks place).number < NO_NUMBER
+-- the frame takes part, and no other goes before it
+pub record IsFirst (ranks : List Rank) (frame_number : ℕ) : Type 0 where
+  pub within : frame_number < length ranks
+  pub part : (rank_at ranks frame_number).number < NO_NUMBER
   pub first : (other : ℕ) → other < length ranks
-      → is_before (rank_at ranks other) (rank_at ranks place) ≡ false
+      → is_before (rank_at ranks other) (rank_at ranks frame_number) ≡ false
 
--- no place takes part
+-- no frame takes part
 abbrev pub HasNoRank : List Rank → Type 0
-HasNoRank ranks = (place : ℕ) → place < length ranks → NO_NUMBER ≤ (rank_at ranks place).number
+HasNoRank ranks =
+    (frame_number : ℕ) → frame_number < length ranks
+    → NO_NUMBER ≤ (rank_at ranks frame_number).number
 
 -- each node between but one has the winner of the two below it
 abbrev pub AreMatchedBut : ℕ → ℕ → List Rank → Type 0

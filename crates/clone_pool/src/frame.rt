@@ -130,7 +130,7 @@ impl Frame {
         Some((name.space, name.number))
     }
 
-    // Whether it may make place for another page.
+    // Whether it may make way for another page.
     pub(crate) fn may_go(&self) -> bool
         ensures { result ≡ may_go self.now }
     {

@@ -1,10 +1,11 @@
-//! The places of names, found by a hash.
+//! The frame numbers of names, found by a hash.
 //!
-//! Each bucket has a chain of the places whose names fall into it, in ascending order. With n
-//! places there are n + 1 buckets and 2n + 1 cells. Cell i has the place that follows place i in
-//! its chain, and cell n + b the first place of bucket b; n stands for the end of a chain.
+//! Each bucket has a chain of the frames whose names fall into it, in ascending order. With n
+//! frames there are n + 1 buckets and 2n + 1 cells. Cell i has the number of the frame that follows
+//! frame i in its chain, and cell n + b that of the first frame of bucket b; n stands for the end
+//! of a chain.
 ghost use Rattle.std.specs.Prelude.{◌≡◌, ◌<◌, ◌≤◌, ◌+◌, ◌^◌, true, None, Some, IfOk, length, get_or, replicate, slice_set};
-ghost use Rattle.clone_pool.specs.Index.{place_of, is_name_of, bucket_of, IsIndex, LeadsTo};
+ghost use Rattle.clone_pool.specs.Index.{frame_number_of, is_name_of, bucket_of, IsIndex, LeadsTo};
 
 use crate::PageName;
 use std::alloc::{AllocError, Global};
@@ -13,7 +14,7 @@ use std::marker::Model;
 // By what the number of a space is multiplied, so that the pages of several spaces mix.
 const SPREAD: u64 = 0x9E37_79B1;
 
-/// Names of pages by places.
+/// Names of pages by frame numbers.
 #[derive(Drop)]
 pub struct Index {
     names: Vec<Option<PageName>>,
@@ -32,7 +33,7 @@ impl Model for Index {
 }
 
 impl Index {
-    /// So many places without a name. No later call takes memory.
+    /// So many frames without a name. No later call takes memory.
     pub fn new(alloc: Global, count: u32) -> Result<Index, AllocError>
         ensures { IfOk result (λ index. index ≡ replicate count None) }
     {
@@ -44,9 +45,9 @@ impl Index {
         Ok(Index { names, cells })
     }
 
-    /// The first place that has the page's name.
+    /// The number of the first frame that has the page's name.
     pub fn find(&self, page: PageName) -> Option<usize>
-        ensures { result ≡ place_of page self.now }
+        ensures { result ≡ frame_number_of page self.now }
     {
         let count = self.names.len();
         let mut at = self.cells[count + bucket_of(page, count)] as usize;
@@ -59,7 +60,7 @@ impl Index {
         None
     }
 
-    /// Gives a place this name, or none.
+    /// Gives a frame this name, or none.
     pub fn set(&mut self, at: usize, name: Option<PageName>)
         requires { at < length self.old }
         ensures { self.new ≡ slice_set self.old at name }
@@ -73,7 +74,7 @@ impl Index {
         }
     }
 
-    // Takes a place out of the chain that it is in, if it has a name.
+    // Takes a frame out of the chain that it is in, if it has a name.
     fn unlink(&mut self, at: usize)
         requires { at < length self.old }
         ensures { self.new ≡ slice_set self.old at None }
@@ -86,7 +87,7 @@ impl Index {
         self.names[at] = None;
     }
 
-    // Puts a place without a name into the chain of this one.
+    // Puts a frame without a name into the chain of this one.
     fn link(&mut self, at: usize, name: PageName)
         requires at { at < length self.old }
         requires unnamed { get_or self.old at None ≡ None }
@@ -99,7 +100,7 @@ impl Index {
     }
 }
 
-// The cell, of those of a name's chain, that leads to this place or past it.
+// The cell, of those of a name's chain, that leads to this frame or past it.
 fn cell_before(names: &[Option<PageName>], cells: &[u32], name: PageName, at: usize) -> usize
     requires index { IsIndex (length names.now) names.now cells.now }
     requires at { at < length names.now }

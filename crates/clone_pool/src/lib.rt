@@ -1,4 +1,4 @@
-//! Pages of a disk in frames, of which the one used least recently makes place.
+//! Pages of a disk in frames, of which the one used least recently makes way.
 #![tactic(auto)]
 
 mod frame;

@@ -1,7 +1,7 @@
-//! What is kept beside the frames, place by place: frame i has place i in each part. `names` has
-//! its page; `going` ranks the frames that may go by their last use; `dirty` ranks the dirty ones
-//! by their oldest change, then by page; `waiting` does so for those with no flush under way. Any
-//! other frame has the last rank.
+//! What is kept beside the frames, by their numbers: each part has something for frame i at i.
+//! `names` has its page; `going` ranks the frames that may go by their last use; `dirty` ranks the
+//! dirty ones by their oldest change, then by page; `waiting` does so for those with no flush under
+//! way. Any other frame has the last rank.
 ghost use Rattle.std.specs.Prelude.{◌≡◌, ◌<◌, length, replicate, IfOk};
 ghost use Rattle.clone_pool.specs.Frames.{no_frame, frame_at};
 ghost use Rattle.clone_pool.specs.Orders.{AreLong, orders_of, refreshed, no_name, use_rank, age_rank, waiting_rank};

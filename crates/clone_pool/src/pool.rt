@@ -73,7 +73,7 @@ impl Pool {
     /// A page without a frame gets one that has no page, or else the one used least recently of
     /// those that are neither pinned nor dirty, and is read straight into it. The error is
     /// `PoolFull` exactly where there is none, and nothing has changed then; or `DiskFault`, and
-    /// the frame that was to make place has no page then.
+    /// the frame that was to make way has no page then.
     pub fn fetch<D: PageDisk>(
         &mut self,
         disk: &mut D,
@@ -167,7 +167,7 @@ impl Pool {
         requires { HoldsPage (frame_at self.now.frames at) }
         ensures { result.now ≡ (frame_at self.now.frames at).page }
     {
-        &self.frames[self.place(at)].page
+        &self.frames[self.frame_number(at)].page
     }
 
     /// How the page in a frame stands to the disk, with the page.
@@ -175,7 +175,7 @@ impl Pool {
         requires { HoldsPage (frame_at self.now.frames at) }
         ensures { result.now ≡ frame_at self.now.frames at }
     {
-        &self.frames[self.place(at)]
+        &self.frames[self.frame_number(at)]
     }
 
     /// Keeps the page in its frame until it is unpinned as often.
@@ -184,7 +184,7 @@ impl Pool {
         requires room { HasPinRoom (frame_at self.old.frames at) }
         ensures { self.new ≡ with_frame at pinned self.old }
     {
-        let at = self.place(at);
+        let at = self.frame_number(at);
         self.frames[at].pin();
         self.orders.refresh(&self.frames, at);
     }
@@ -195,7 +195,7 @@ impl Pool {
         requires pinned { 0 < (frame_at self.old.frames at).pins }
         ensures { self.new ≡ with_frame at unpinned self.old }
     {
-        let at = self.place(at);
+        let at = self.frame_number(at);
         self.frames[at].unpin();
         self.orders.refresh(&self.frames, at);
     }
@@ -208,7 +208,7 @@ impl Pool {
         requires order { start < end }
         ensures { self.new ≡ with_frame at (changed entry.now start end) self.old }
     {
-        let at = self.place(at);
+        let at = self.frame_number(at);
         self.frames[at].change(entry, start, end);
         self.orders.refresh(&self.frames, at);
     }
@@ -219,7 +219,7 @@ impl Pool {
         requires waits { is_waiting (frame_at self.old.frames at) ≡ true }
         ensures { self.new ≡ with_frame at begun self.old }
     {
-        let at = self.place(at);
+        let at = self.frame_number(at);
         self.frames[at].begin_flush();
         self.orders.refresh(&self.frames, at);
     }
@@ -231,7 +231,7 @@ impl Pool {
         requires flight { IsInFlight (frame_at self.old.frames at) }
         ensures { self.new ≡ with_frame at landed self.old }
     {
-        let at = self.place(at);
+        let at = self.frame_number(at);
         self.frames[at].land_flush();
         self.orders.refresh(&self.frames, at);
     }
@@ -242,7 +242,7 @@ impl Pool {
         requires flight { IsInFlight (frame_at self.old.frames at) }
         ensures { self.new ≡ with_frame at failed self.old }
     {
-        let at = self.place(at);
+        let at = self.frame_number(at);
         self.frames[at].fail_flush();
         self.orders.refresh(&self.frames, at);
     }
@@ -289,7 +289,7 @@ impl Pool {
         requires free { (frame_at self.old.frames at).pins ≡ 0 }
         ensures { self.new ≡ with_frame at discarded self.old }
     {
-        let at = self.place(at);
+        let at = self.frame_number(at);
         self.frames[at].discard();
         self.orders.refresh(&self.frames, at);
     }
@@ -301,8 +301,8 @@ impl Pool {
         let _ = &self.uses;
     }
 
-    // The place of a frame that holds a page.
-    fn place(&self, at: u32) -> usize
+    // The number of a frame that holds a page.
+    fn frame_number(&self, at: u32) -> usize
         requires { HoldsPage (frame_at self.now.frames at) }
         ensures same { result ≡ at }
         ensures within { result < length self.now.frames }
@@ -327,7 +327,7 @@ impl Pool {
         requires { HoldsPage (frame_at self.old.frames at) }
         ensures { self.new ≡ used at self.old }
     {
-        let at = self.place(at);
+        let at = self.frame_number(at);
         self.uses = next_use(self.uses);
         self.frames[at].touch(self.uses);
         self.orders.refresh(&self.frames, at);

@@ -1,6 +1,6 @@
 //! Ranks in a tournament, which has the first of them at its top.
 //!
-//! With n places there are 2n nodes, of which node 0 is unused. Node n + i has the rank of place i,
+//! With n frames there are 2n nodes, of which node 0 is unused. Node n + i has the rank of frame i,
 //! and each node between has the winner of nodes 2j and 2j + 1. So the top, node 1, has the first
 //! rank of all, and a rank that changes is carried up by at most as many matches as 2n has binary
 //! digits.
@@ -21,7 +21,7 @@ pub struct Rank {
     pub name: PageName,
 }
 
-/// Ranks by their places.
+/// Ranks by their frame numbers.
 #[derive(Drop)]
 pub struct Tournament {
     nodes: Vec<Rank>,
@@ -41,7 +41,7 @@ impl Model for Tournament {
 }
 
 impl Tournament {
-    /// So many places, each with this rank. No later call takes memory.
+    /// So many frames, each with this rank. No later call takes memory.
     pub fn new(alloc: Global, count: u32, rank: Rank) -> Result<Tournament, AllocError>
         ensures { IfOk result (λ t. t ≡ replicate count rank) }
     {
@@ -53,19 +53,20 @@ impl Tournament {
         Ok(Tournament { nodes, count })
     }
 
-    /// Gives a place this rank.
-    pub fn set(&mut self, place: usize, rank: Rank)
-        requires { place < length self.old }
-        ensures { self.new ≡ slice_set self.old place rank }
+    /// Gives a frame this rank.
+    pub fn set(&mut self, frame_number: usize, rank: Rank)
+        requires { frame_number < length self.old }
+        ensures { self.new ≡ slice_set self.old frame_number rank }
     {
-        if is_same(self.nodes[self.count + place], rank) {
+        if is_same(self.nodes[self.count + frame_number], rank) {
             return;
         }
-        self.nodes[self.count + place] = rank;
-        rematch(&mut self.nodes, self.count, (self.count + place) / 2);
+        self.nodes[self.count + frame_number] = rank;
+        rematch(&mut self.nodes, self.count, (self.count + frame_number) / 2);
     }
 
-    /// A place that goes before the others, or none exactly where no place takes part.
+    /// The number of a frame that goes before the others, or none exactly where no frame takes
+    /// part.
     pub fn first(&self) -> Option<usize>
         ensures none { IfNone result (HasNoRank self.now) }
         ensures some { IfSome result (IsFirst self.now) }

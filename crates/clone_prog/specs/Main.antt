@@ -1,5 +1,5 @@
--- What a run of the program is: when each status comes, what was written by then, and what the disks
--- hold.
+-- What a run of the program is: when each status comes, what was written by then, and what the
+-- disks hold.
 use Rattle.std.specs.Prelude.{ℕ, ◌≡◌, ◌⊎◌, ◌<◌, ◌≤◌, ◌&&◌, is_some, List, [], ◌∷◌, ◌++◌, length, take, codes, None}
 use Rattle.std.specs.Fmt.{decimal}
 use Rattle.std.specs.List.{filter_map}
@@ -34,8 +34,8 @@ pub record End : Type 0 where
   pub told : Option (List ℕ)
   pub faults : ℕ
 
--- the source, the sinks and the disks before a run, or after it, and what a donor tells by then: the
--- drops of its tables, and the stop of its clone
+-- the source, the sinks and the disks before a run, or after it, and what a donor tells by then:
+-- the drops of its tables, and the stop of its clone
 pub record Ends : Type 0 where
   pub source : End
   pub out : End
@@ -138,12 +138,12 @@ pub record Carried (before : Ends) (lines : List Line) (events : List (List Even
 -- The script was carried out to its end. The output is the answers of its lines, whose events are a
 -- run of a donor over a disk, and so of the plain donor. The binlog is the text of the commits of
 -- that run: one for each position that was answered, in order, that of a `set` with its one change.
--- The drops are those that were answered, each behind the commits before it, and maybe those in which
--- the disk failed. Where a clone is complete at position n, that is at least what was looked up before its stop; the
--- rows shown behind it are, in ascending order, exactly those that the first n commits leave, with
--- the tables dropped before it, and nothing of a transaction that was open then; and the
--- recipient's disk holds a complete clone at n, which recovers to these rows whenever it is
--- recovered.
+-- The drops are those that were answered, each behind the commits before it, and maybe those in
+-- which the disk failed. Where a clone is complete at position n, that is at least what was looked
+-- up before its stop; the rows shown behind it are, in ascending order, exactly those that the
+-- first n commits leave, with the tables dropped before it, and nothing of a transaction that was
+-- open then; and the recipient's disk holds a complete clone at n, which recovers to these rows
+-- whenever it is recovered.
 pub record Steps (words : List (List ℕ)) (before after : Ends) (final : State)
     (out binlog : List ℕ) : Type 0 where
   pub config : Config

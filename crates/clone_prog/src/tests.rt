@@ -220,7 +220,7 @@ fn takes_scripts_up_to_the_longest(rt: HostRuntime) -> Result<(), Fail> {
 type Lines = (u32, &'static str, &'static str, &'static str);
 
 const LONG_SCRIPTS: [&[Lines]; 9] = [
-    // a key of a full bucket gets the first place of a page behind it
+    // a key of a full bucket gets the first slot of a page behind it
     &[
         (1, "create 1 1\n", "created\n", ""),
         (
@@ -238,7 +238,7 @@ const LONG_SCRIPTS: [&[Lines]; 9] = [
         (51, "", "1 N 61\n", ""),
         (1, "", "rows 51\n", ""),
     ],
-    // The keys of the other bucket, and the key that has its place, need no page. The transaction
+    // The keys of the other bucket, and the key that has its slot, need no page. The transaction
     // whose put was refused has its index.
     &[
         (1, "create 1 2\n", "created\n", ""),

@@ -5,7 +5,7 @@ use Rattle.std.specs.declared.option.Option.{Option}
 use Rattle.std.proofs.lemmas.Bool.{cases_lt}
 use Rattle.std.proofs.lemmas.Option.{none-some}
 use Rattle.clone_outside.specs.Disk.{DiskImage}
-use Rattle.clone_undo.specs.Places.{slot_count, capacity, header_page}
+use Rattle.clone_undo.specs.Places.{undo_slot_count, capacity, header_page}
 use Rattle.clone_undo.specs.Slots.{is_in_use, count_of}
 use Rattle.clone_undo.specs.declared.reading.SlotHeader.{SlotHeader}
 use Rattle.clone_undo.proofs.Headers.{slot_of, slot-tells}
@@ -69,7 +69,7 @@ fits_go_on told now s next first old o same is shows few header before =
     (λ m image has fits. one_more image s next is (λ page many. header_counted image s page o few has many) fits)
     (for_same told now first old (λ m image. HasHeader image s o) same shows header) before
 
-pub fits_end : (told : Option DiskImage) (s : ℕ) (first : Overlay) → s ≡ slot_count → FitsOn told s first → ForImage told first (λ m image. CountsFit image)
+pub fits_end : (told : Option DiskImage) (s : ℕ) (first : Overlay) → s ≡ undo_slot_count → FitsOn told s first → ForImage told first (λ m image. CountsFit image)
 fits_end told s first all fits =
     weaker_for told first (λ m image. FitsBelow s image) (λ m image. CountsFit image) (λ m image below slot page many. below slot page (omega (arith, all, many.within)) many) fits
 

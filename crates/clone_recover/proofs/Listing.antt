@@ -79,7 +79,7 @@ pages_go_on told counted now table number count first old new page same again lo
 
 in_space : (o : Option (List (List ℕ))) (table number : ℕ) (old new : Rows) → number ≡ length (unwrap_or o []) → Adds old new (Below number (AtPage table (unwrap_or o []))) → Adds old new (λ row. IsSomeAnd o (λ pages. InPages table pages row))
 in_space None table number old new is adds =
-    adds_same old new (Below number (AtPage table [])) (λ row. ⊥) adds (λ row f. let low : f.place < number = f.within in absurd (omega (arith, low, is))) (λ row f. absurd f)
+    adds_same old new (Below number (AtPage table [])) (λ row. ⊥) adds (λ row f. let low : f.index < number = f.within in absurd (omega (arith, low, is))) (λ row f. absurd f)
 in_space (Some pages) table number old new is adds = subst (λ (n : ℕ). Adds old new (Below n (AtPage table pages))) is adds
 
 pub pages_end : (told counted : Option DiskImage) (table number : ℕ) (count : Option ℕ) (old new : Rows) → counted ≡ told → table < redo_space → number ≡ unwrap_or count 0 → ForTold counted (λ m. count ≡ page_count m table) → AddsPages told table number old new → AddsTable told table old new
@@ -93,39 +93,39 @@ pages_end told counted table number count old new same low all is adds = at told
 
 -- those of the first entries of the dictionary are added
 abbrev pub AddsEntries : Option DiskImage → ℕ → List ℕ → Rows → Rows → Type 0
-AddsEntries told place system old new = ForTold told (λ m. IsQuiet m → Adds old new (Below place (AtEntry (image_of m) system)))
+AddsEntries told entry_number system old new = ForTold told (λ m. IsQuiet m → Adds old new (Below entry_number (AtEntry (image_of m) system)))
 
 -- an entry that names a table
-pub entries_go_on : (told now : Option DiskImage) (place table : ℕ) (system : List ℕ) (first old new : Rows) → now ≡ told → table ≡ entry_space place system → table ≢ 0 → AddsTable now table old new → AddsEntries told place system first old
-    → AddsEntries told (place + 1) system first new
-entries_go_on told now place table system first old new same is used adds before = at told (subst (λ t. AddsTable t table old new) same adds) before
+pub entries_go_on : (told now : Option DiskImage) (entry_number table : ℕ) (system : List ℕ) (first old new : Rows) → now ≡ told → table ≡ entry_space entry_number system → table ≢ 0 → AddsTable now table old new → AddsEntries told entry_number system first old
+    → AddsEntries told (entry_number + 1) system first new
+entries_go_on told now entry_number table system first old new same is used adds before = at told (subst (λ t. AddsTable t table old new) same adds) before
   where
-    at : (t : Option DiskImage) → AddsTable t table old new → AddsEntries t place system first old → AddsEntries t (place + 1) system first new
+    at : (t : Option DiskImage) → AddsTable t table old new → AddsEntries t entry_number system first old → AddsEntries t (entry_number + 1) system first new
     at None adds before = tt
     at (Some m) adds before = λ quiet.
-        adds_next first old new (AtEntry (image_of m) system) place (before quiet)
-        (adds_same old new (InTable (image_of m) table) (AtEntry (image_of m) system place) (adds quiet)
+        adds_next first old new (AtEntry (image_of m) system) entry_number (before quiet)
+        (adds_same old new (InTable (image_of m) table) (AtEntry (image_of m) system entry_number) (adds quiet)
         (λ row f. record { used = subst (λ (t : ℕ). 0 < t) is (omega (arith, used)); rows = subst (λ (t : ℕ). InTable (image_of m) t row) is f })
         (λ row f. subst (λ (t : ℕ). InTable (image_of m) t row) (sym is) f.rows))
 
 -- an entry that names none
-pub entries_pass : (told : Option DiskImage) (place table : ℕ) (system : List ℕ) (first old : Rows) → table ≡ entry_space place system → (table ≡ 0) ⊎ (redo_space ≤ table) → AddsEntries told place system first old → AddsEntries told (place + 1) system first old
-entries_pass None place table system first old is none before = tt
-entries_pass (Some m) place table system first old is none before = λ quiet.
-    adds_next first old old (AtEntry (image_of m) system) place (before quiet) (adds_nothing old (AtEntry (image_of m) system place) (λ row f. elim none [
-      | inl free ↦ let used : 0 < entry_space place system = f.used in absurd (omega (arith, used, is, free))
+pub entries_pass : (told : Option DiskImage) (entry_number table : ℕ) (system : List ℕ) (first old : Rows) → table ≡ entry_space entry_number system → (table ≡ 0) ⊎ (redo_space ≤ table) → AddsEntries told entry_number system first old → AddsEntries told (entry_number + 1) system first old
+entries_pass None entry_number table system first old is none before = tt
+entries_pass (Some m) entry_number table system first old is none before = λ quiet.
+    adds_next first old old (AtEntry (image_of m) system) entry_number (before quiet) (adds_nothing old (AtEntry (image_of m) system entry_number) (λ row f. elim none [
+      | inl free ↦ let used : 0 < entry_space entry_number system = f.used in absurd (omega (arith, used, is, free))
       | inr high ↦ absurd (subst (λ o. IsSomeAnd o (λ pages. InPages table pages row)) (get_high m table high) (subst (λ (t : ℕ). InTable (image_of m) t row) (sym is) f.rows))
     ]))
 
 listed_in : (o : Option (List ℕ)) (image : Image) (system : List ℕ) (old new : Rows) → o ≡ Some system → Adds old new (InTables image system) → Adds old new (λ row. IsSomeAnd o (λ page. InTables image page row))
 listed_in o image system old new is adds = subst (λ (x : Option (List ℕ)). Adds old new (λ row. IsSomeAnd x (λ page. InTables image page row))) (sym is) adds
 
-pub entries_end : (told counted now : Option DiskImage) (place : ℕ) (system : List ℕ) (count : Option ℕ) (old new : Rows) → counted ≡ told → now ≡ told → place ≡ entry_count → 0 < unwrap_or count 0 → ForTold counted (λ m. count ≡ page_count m 0)
-    → ForTold now (λ m. GivesQuiet m 0 0 system) → AddsEntries told place system old new → AddsListed told old new
-entries_end told counted now place system count old new same again all some is gives adds =
+pub entries_end : (told counted now : Option DiskImage) (entry_number : ℕ) (system : List ℕ) (count : Option ℕ) (old new : Rows) → counted ≡ told → now ≡ told → entry_number ≡ entry_count → 0 < unwrap_or count 0 → ForTold counted (λ m. count ≡ page_count m 0)
+    → ForTold now (λ m. GivesQuiet m 0 0 system) → AddsEntries told entry_number system old new → AddsListed told old new
+entries_end told counted now entry_number system count old new same again all some is gives adds =
     at told (subst (λ t. ForTold t (λ m. count ≡ page_count m 0)) same is) (subst (λ t. ForTold t (λ m. GivesQuiet m 0 0 system)) again gives) adds
   where
-    at : (t : Option DiskImage) → ForTold t (λ m. count ≡ page_count m 0) → ForTold t (λ m. GivesQuiet m 0 0 system) → AddsEntries t place system old new → AddsListed t old new
+    at : (t : Option DiskImage) → ForTold t (λ m. count ≡ page_count m 0) → ForTold t (λ m. GivesQuiet m 0 0 system) → AddsEntries t entry_number system old new → AddsListed t old new
     at None is gives adds = tt
     at (Some m) is gives adds = λ quiet.
         let there : 0 < length (pages_in (image_of m) 0) = omega (arith, some, count_low m 0 count (omega arith) is) in

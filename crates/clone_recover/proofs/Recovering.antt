@@ -16,7 +16,7 @@ use Rattle.clone_outside.specs.declared.mark.CloneEnd.{CloneEnd}
 use Rattle.clone_outside.specs.declared.mark.Mark.TheVariants as mark
 use Rattle.clone_undo.specs.Changes.{slot_before}
 use Rattle.clone_undo.specs.Entries.{UndoEntry}
-use Rattle.clone_undo.specs.Places.{slot_count, header_page, header_place}
+use Rattle.clone_undo.specs.Places.{undo_slot_count, header_page, header_offset}
 use Rattle.clone_undo.specs.Slots.{UndoSlot}
 use Rattle.clone_image.specs.Image.{Image, with_edit, edited}
 use Rattle.clone_image.specs.Recovered.{undo_slot_of, all_undone, taken_back, taken_back_below, recovered}
@@ -186,7 +186,7 @@ undone_none image (e ∷ es) none = edit_none (all_undone image es) e.table e.pa
 
 slot_none : (image : Image) (s : ℕ) (slot : Option UndoSlot) → HasNone image → HasNone (taken_back image s slot)
 slot_none image s None none = none
-slot_none image s (Some u) none = edit_none (all_undone image u.records) 0 (header_page s) (put_at header_place (replicate 16 0)) (undone_none image u.records none)
+slot_none image s (Some u) none = edit_none (all_undone image u.records) 0 (header_page s) (put_at header_offset (replicate 16 0)) (undone_none image u.records none)
 
 below_none : (s : ℕ) (image : Image) → HasNone image → HasNone (taken_back_below s image)
 unfolding taken_back_below
@@ -195,7 +195,7 @@ below_none (suc s) image none = slot_none (taken_back_below s image) s (undo_slo
 
 recovered_none : (image : Image) → HasNone image → HasNone (recovered image)
 unfolding recovered
-recovered_none image none = below_none slot_count image none
+recovered_none image none = below_none undo_slot_count image none
 
 tables_only : (m : DiskImage) (end : CloneEnd) (left : Image) → IsLeft m end left → HasTablesOnly (recovered left)
 tables_only m end left is s high = no_space_none (finite.get (recovered left) s) (recovered_none left (left_none m end left is) s 0 high)

@@ -4,7 +4,7 @@ use Rattle.std.specs.Prelude.{unwrap_or, IfSome, ⊤}
 use Rattle.std.specs.declared.option.Option.{Option}
 use Rattle.clone_outside.specs.Disk.{DiskImage}
 use Rattle.clone_undo.specs.Entries.{UndoEntry}
-use Rattle.clone_undo.specs.Places.{slot_count, capacity, header_page, record_page}
+use Rattle.clone_undo.specs.Places.{undo_slot_count, capacity, header_page, record_page}
 use Rattle.clone_undo.specs.Slots.{is_in_use, count_of, entry_on}
 use Rattle.clone_undo.specs.declared.reading.SlotHeader.{SlotHeader}
 use Rattle.clone_undo.proofs.Headers.{slot_of}
@@ -90,7 +90,7 @@ pub header_there : (image : Image) (s n : ℕ) (page : List ℕ) (r : Option Slo
 header_there image s n page None is there used count free = free_slot image s (ap is_in_use (system_is image n (header_page s) page is (sym there)) ∙ free refl)
 header_there image s n page (Some h) is there used count free = has_changes image s page (Some h) (ap (page_of image 0) (sym is) ∙ sym there) used count
 
-pub too_many : (image : Image) (s n : ℕ) (page : List ℕ) (count : ℕ) → s < slot_count → n ≡ header_page s → Some page ≡ page_of image 0 n → is_in_use page ≡ true → count ≡ count_of page → capacity < count → CountsTooMany image s n
+pub too_many : (image : Image) (s n : ℕ) (page : List ℕ) (count : ℕ) → s < undo_slot_count → n ≡ header_page s → Some page ≡ page_of image 0 n → is_in_use page ≡ true → count ≡ count_of page → capacity < count → CountsTooMany image s n
 too_many image s n page count low is there used has many = record { within = low; is = is; bytes = page; there = sym there; used = used; many = subst (λ (c : ℕ). capacity < c) has many }
 
 -- Undo records.

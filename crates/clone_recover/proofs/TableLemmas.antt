@@ -23,12 +23,12 @@ use Rattle.clone_recover.specs.Refusals.{IsOfDisk}
 use Rattle.clone_recover.proofs.ChainLemmas.{whole_unbroken}
 use Rattle.clone_recover.proofs.Shown.{both_for, weaker_for}
 
-at_place : (system : List ℕ) (place other : ℕ) → place ≡ other → (entry_in (dictionary system) place).table ≡ (entry_in (dictionary system) other).table
-at_place system place other same = ap (λ (k : ℕ). (entry_in (dictionary system) k).table) same
+at_entry : (system : List ℕ) (entry_number other : ℕ) → entry_number ≡ other → (entry_in (dictionary system) entry_number).table ≡ (entry_in (dictionary system) other).table
+at_entry system entry_number other same = ap (λ (k : ℕ). (entry_in (dictionary system) k).table) same
 
 -- behind the last entry there is none
-past_free : (system : List ℕ) (place : ℕ) → entry_count ≤ place → (entry_in (dictionary system) place).table ≡ 0
-past_free system place past = ap (λ (e : TableEntry). e.table) (get_or_past (dictionary system) place free (omega (arith, past, length-dictionary system)))
+past_free : (system : List ℕ) (entry_number : ℕ) → entry_count ≤ entry_number → (entry_in (dictionary system) entry_number).table ≡ 0
+past_free system entry_number past = ap (λ (e : TableEntry). e.table) (get_or_past (dictionary system) entry_number free (omega (arith, past, length-dictionary system)))
 
 -- Refusals.
 
@@ -56,19 +56,19 @@ chain_or P Q NoMemory m gives is = is
 
 -- as IsNextTable, of the first entries, so many
 abbrev pub IsNextBelow : List ℕ → ℕ → ℕ → Option ℕ → Type 0
-IsNextBelow system above count None = (place : ℕ) → place < count → (entry_in (dictionary system) place).table ≤ above
+IsNextBelow system above count None = (entry_number : ℕ) → entry_number < count → (entry_in (dictionary system) entry_number).table ≤ above
 IsNextBelow system above count (Some table) =
     (above < table)
-    × ((place : ℕ) × ((entry_in (dictionary system) place).table ≡ table))
-    × ((place : ℕ) → place < count → above < (entry_in (dictionary system) place).table → table ≤ (entry_in (dictionary system) place).table)
+    × ((entry_number : ℕ) × ((entry_in (dictionary system) entry_number).table ≡ table))
+    × ((entry_number : ℕ) → entry_number < count → above < (entry_in (dictionary system) entry_number).table → table ≤ (entry_in (dictionary system) entry_number).table)
 
 pub next_more : (system : List ℕ) (above count table : ℕ) (o : Option ℕ) → table ≡ (entry_in (dictionary system) count).table → above < table → IsNextBelow system above count o → IsNextBelow system above (count + 1) (Some (min (unwrap_or o table) table))
 next_more system above count table None is high before = (
   omega (arith, high),
   (count, let e : table ≡ min table table = omega arith in sym is ∙ e),
-  λ place low named. elim (cases_lt place count) [
-    | inl earlier ↦ absurd (omega (arith, before place earlier, named))
-    | inr now ↦ let e = at_place system place count (omega (arith, low, now)) in omega (arith, e, is)
+  λ entry_number low named. elim (cases_lt entry_number count) [
+    | inl earlier ↦ absurd (omega (arith, before entry_number earlier, named))
+    | inr now ↦ let e = at_entry system entry_number count (omega (arith, low, now)) in omega (arith, e, is)
   ],
 )
 next_more system above count table (Some least) is high before = (
@@ -77,62 +77,62 @@ next_more system above count table (Some least) is high before = (
     | inl lower ↦ (count, let e : table ≡ min least table = omega (arith, lower) in sym is ∙ e)
     | inr higher ↦ (before.1.0, let e : least ≡ min least table = omega (arith, higher) in before.1.1 ∙ e)
   ],
-  λ place low named. elim (cases_lt place count) [
-    | inl earlier ↦ omega (arith, before.2 place earlier named)
-    | inr now ↦ let e = at_place system place count (omega (arith, low, now)) in omega (arith, e, is)
+  λ entry_number low named. elim (cases_lt entry_number count) [
+    | inl earlier ↦ omega (arith, before.2 entry_number earlier named)
+    | inr now ↦ let e = at_entry system entry_number count (omega (arith, low, now)) in omega (arith, e, is)
   ],
 )
 
 pub next_same : (system : List ℕ) (above count table : ℕ) (o : Option ℕ) → table ≡ (entry_in (dictionary system) count).table → table ≤ above → IsNextBelow system above count o → IsNextBelow system above (count + 1) o
-next_same system above count table None is low before = λ place within. elim (cases_lt place count) [
-  | inl earlier ↦ before place earlier
-  | inr now ↦ let e = at_place system place count (omega (arith, within, now)) in omega (arith, e, is, low)
+next_same system above count table None is low before = λ entry_number within. elim (cases_lt entry_number count) [
+  | inl earlier ↦ before entry_number earlier
+  | inr now ↦ let e = at_entry system entry_number count (omega (arith, within, now)) in omega (arith, e, is, low)
 ]
 next_same system above count table (Some least) is low before = (
   before.0,
   before.1,
-  λ place within named. elim (cases_lt place count) [
-    | inl earlier ↦ before.2 place earlier named
-    | inr now ↦ let e = at_place system place count (omega (arith, within, now)) in absurd (omega (arith, e, is, low, named))
+  λ entry_number within named. elim (cases_lt entry_number count) [
+    | inl earlier ↦ before.2 entry_number earlier named
+    | inr now ↦ let e = at_entry system entry_number count (omega (arith, within, now)) in absurd (omega (arith, e, is, low, named))
   ],
 )
 
 pub next_all : (system : List ℕ) (above count : ℕ) (o : Option ℕ) → count ≡ entry_count → IsNextBelow system above count o → IsNextTable system above o
-next_all system above count None all before = λ place. elim (cases_lt place count) [
-  | inl low ↦ before place low
-  | inr past ↦ omega (arith, past_free system place (omega (arith, past, all)))
+next_all system above count None all before = λ entry_number. elim (cases_lt entry_number count) [
+  | inl low ↦ before entry_number low
+  | inr past ↦ omega (arith, past_free system entry_number (omega (arith, past, all)))
 ]
 next_all system above count (Some table) all before = (
   before.0,
   before.1,
-  λ place named. elim (cases_lt place count) [
-    | inl low ↦ before.2 place low named
-    | inr past ↦ absurd (omega (arith, past_free system place (omega (arith, past, all)), named))
+  λ entry_number named. elim (cases_lt entry_number count) [
+    | inl low ↦ before.2 entry_number low named
+    | inr past ↦ absurd (omega (arith, past_free system entry_number (omega (arith, past, all)), named))
   ],
 )
 
 -- as HasBuckets, of the first entries, so many
 pub record HasBucketsBelow (system : List ℕ) (table count buckets : ℕ) : Type 0 where
-  pub all : (place : ℕ) → place < count → (entry_in (dictionary system) place).table ≡ table → (entry_in (dictionary system) place).buckets ≤ buckets
+  pub all : (entry_number : ℕ) → entry_number < count → (entry_in (dictionary system) entry_number).table ≡ table → (entry_in (dictionary system) entry_number).buckets ≤ buckets
   pub each : (bucket : ℕ) → bucket < buckets → TellsBucket system table bucket
 
 pub no_buckets : (system : List ℕ) (table : ℕ) → HasBucketsBelow system table 0 0
-no_buckets system table = record { all = λ place none. absurd (omega (arith, none)); each = λ bucket none. absurd (omega (arith, none)) }
+no_buckets system table = record { all = λ entry_number none. absurd (omega (arith, none)); each = λ bucket none. absurd (omega (arith, none)) }
 
 module _ (system : List ℕ) (table count old : ℕ) (e : TableEntry) (is : e ≡ entry_in (dictionary system) count) (h : HasBucketsBelow system table count old) where
-  entry_is : (place : ℕ) → place ≡ count → entry_in (dictionary system) place ≡ e
-  entry_is place same = ap (entry_in (dictionary system)) same ∙ sym is
+  entry_is : (entry_number : ℕ) → entry_number ≡ count → entry_in (dictionary system) entry_number ≡ e
+  entry_is entry_number same = ap (entry_in (dictionary system)) same ∙ sym is
 
   pub buckets_more : (new : ℕ) → 0 < table → e.table ≡ table → new ≡ max e.buckets old → HasBucketsBelow system table (count + 1) new
   buckets_more new some named made = record {
-    all = λ place within other. elim (cases_lt place count) [
-      | inl earlier ↦ omega (arith, h.all place earlier other, made)
-      | inr now ↦ let same : place ≡ count = omega (arith, within, now) in omega (arith, made, ap (λ (x : TableEntry). x.buckets) (entry_is place same))
+    all = λ entry_number within other. elim (cases_lt entry_number count) [
+      | inl earlier ↦ omega (arith, h.all entry_number earlier other, made)
+      | inr now ↦ let same : entry_number ≡ count = omega (arith, within, now) in omega (arith, made, ap (λ (x : TableEntry). x.buckets) (entry_is entry_number same))
     ];
     each = λ bucket low. elim (cases_lt bucket old) [
       | inl earlier ↦ h.each bucket earlier
       | inr here ↦ record {
-        place = count;
+        entry_number = count;
         named = ap (λ (x : TableEntry). x.table) (sym is) ∙ named;
         used = λ none. omega (arith, none, some);
         counted = omega (arith, low, here, made, ap (λ (x : TableEntry). x.buckets) is);
@@ -142,18 +142,18 @@ module _ (system : List ℕ) (table count old : ℕ) (e : TableEntry) (is : e �
 
   pub buckets_same : (new : ℕ) → (e.table ≡ table → ⊥) → new ≡ old → HasBucketsBelow system table (count + 1) new
   buckets_same new other made = record {
-    all = λ place within named. elim (cases_lt place count) [
-      | inl earlier ↦ omega (arith, h.all place earlier named, made)
-      | inr now ↦ let same : place ≡ count = omega (arith, within, now) in absurd (other (ap (λ (x : TableEntry). x.table) (sym (entry_is place same)) ∙ named))
+    all = λ entry_number within named. elim (cases_lt entry_number count) [
+      | inl earlier ↦ omega (arith, h.all entry_number earlier named, made)
+      | inr now ↦ let same : entry_number ≡ count = omega (arith, within, now) in absurd (other (ap (λ (x : TableEntry). x.table) (sym (entry_is entry_number same)) ∙ named))
     ];
     each = λ bucket low. h.each bucket (omega (arith, low, made));
   }
 
 pub buckets_all : (system : List ℕ) (table count buckets : ℕ) → count ≡ entry_count → HasBucketsBelow system table count buckets → HasBuckets system table buckets
 buckets_all system table count buckets all h = record {
-  all = λ bucket tells. elim (cases_lt tells.place count) [
-    | inl low ↦ omega (arith, h.all tells.place low tells.named, tells.counted)
-    | inr past ↦ absurd (tells.used (sym tells.named ∙ past_free system tells.place (omega (arith, past, all))))
+  all = λ bucket tells. elim (cases_lt tells.entry_number count) [
+    | inl low ↦ omega (arith, h.all tells.entry_number low tells.named, tells.counted)
+    | inr past ↦ absurd (tells.used (sym tells.named ∙ past_free system tells.entry_number (omega (arith, past, all))))
   ];
   each = h.each;
 }
@@ -250,7 +250,7 @@ none_told image system above is table bucket low tells = absurd (tells.used (ome
 
 -- a table that is told is no lower than the next one, or was tested
 next_told : (system : List ℕ) (above table other bucket : ℕ) → IsNextTable system above (Some table) → TellsBucket system other bucket → above < other → table ≤ other
-next_told system above table other bucket next tells high = omega (arith, next.2 tells.place (omega (arith, tells.named, high)), tells.named)
+next_told system above table other bucket next tells high = omega (arith, next.2 tells.entry_number (omega (arith, tells.named, high)), tells.named)
 
 pub one_told : (image : Image) (system : List ℕ) (above table buckets : ℕ) → IsNextTable system above (Some table) → HasBuckets system table buckets → AreWhole image table buckets → AreWholeUpTo above system image → AreWholeUpTo table system image
 one_told image system above table buckets next has whole before other bucket low tells = elim (cases_lt above other) [
@@ -261,7 +261,7 @@ one_told image system above table buckets next has whole before other bucket low
 ]
 
 pub all_told : (image : Image) (system : List ℕ) (above : ℕ) → IsNextTable system above None → AreWholeUpTo above system image → AreAllWhole image system
-all_told image system above none before table bucket tells = before table bucket (omega (arith, none tells.place, tells.named)) tells
+all_told image system above none before table bucket tells = before table bucket (omega (arith, none tells.entry_number, tells.named)) tells
 
 breaks_first : (image : Image) (system : List ℕ) (above table buckets s p : ℕ) → IsNextTable system above (Some table) → HasBuckets system table buckets → AreWholeUpTo above system image → BreaksBelow table buckets image s p → BreaksFirst image system s p
 breaks_first image system above table buckets s p next has before b = record {

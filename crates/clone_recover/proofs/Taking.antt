@@ -4,7 +4,7 @@ use Rattle.std.specs.declared.option.Option.{Option}
 use Rattle.std.specs.List.{AllByRecursion}
 use Rattle.clone_outside.specs.Disk.{DiskImage}
 use Rattle.clone_undo.specs.Entries.{UndoEntry, IsEntry}
-use Rattle.clone_undo.specs.Places.{slot_count, capacity, header_page}
+use Rattle.clone_undo.specs.Places.{undo_slot_count, capacity, header_page}
 use Rattle.clone_undo.specs.Slots.{UndoSlot, entries}
 use Rattle.clone_undo.specs.declared.reading.SlotHeader.{SlotHeader}
 use Rattle.clone_undo.proofs.Headers.{in_use, slot-tells}
@@ -80,14 +80,14 @@ unbroken told second s count old mid same few has shows sound =
 
 -- Refusals.
 
-is_unsound : (image : Image) (s count page : ℕ) → s < slot_count → HasChanges count s image → IsUnsoundBelow image s count page → IsUnsound image s page
+is_unsound : (image : Image) (s count page : ℕ) → s < undo_slot_count → HasChanges count s image → IsUnsoundBelow image s count page → IsUnsound image s page
 is_unsound image s count page low h below = record {
   within = low;
   used = in_use (system_pages image (header_page s)) (slot-tells s (system_pages image) h.slot h.is).active;
   below = record { number = below.number; counted = subst (λ (c : ℕ). below.number < c) (sym (counted_is image s count h)) below.counted; at = below.at };
 }
 
-pub undo_fails : (told second : Option DiskImage) (s count : ℕ) (old mid : Overlay) (e : RecoverRefusal) → s < slot_count → second ≡ told → ForImage told old (λ m image. HasChanges count s image) → ShowsSame told old mid
+pub undo_fails : (told second : Option DiskImage) (s count : ℕ) (old mid : Overlay) (e : RecoverRefusal) → s < undo_slot_count → second ≡ told → ForImage told old (λ m image. HasChanges count s image) → ShowsSame told old mid
     → PageOrOn second mid (λ image. IsUnsoundBelow image s count) e → PageOrOn told old (λ image. IsBroken image s) e
 undo_fails told second s count old mid e low same has shows unsound =
     both_for told old (λ m image. HasChanges count s image) (λ m image. IsPageOr (IsUnsoundBelow image s count) m e) (λ m image. IsPageOr (IsBroken image s) m e)

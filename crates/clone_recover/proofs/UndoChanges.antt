@@ -22,7 +22,7 @@ all_undone-push image (x ∷ es) e = ap (λ i. undone i x) (all_undone-push imag
 -- a row stands in no page of the system space
 undone_system : (image : Image) (e : UndoEntry) (m : ℕ) → IsEntry e → system_pages (undone image e) m ≡ system_pages image m
 undone_system image e m is =
-    ap (λ o. unwrap_or o []) (page_of-edited_other image e.table e.page 0 m (put_at (slot_at e.slot) (slot_before e)) (λ t n. omega (arith, t, is.place.0)))
+    ap (λ o. unwrap_or o []) (page_of-edited_other image e.table e.page 0 m (put_at (slot_at e.slot) (slot_before e)) (λ t n. omega (arith, t, is.row_slot.0)))
 
 pub all_undone_system : (image : Image) (es : List UndoEntry) (m : ℕ) → AllByRecursion IsEntry es → system_pages (all_undone image es) m ≡ system_pages image m
 all_undone_system image [] m each = refl

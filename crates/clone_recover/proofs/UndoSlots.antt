@@ -4,7 +4,7 @@ use Rattle.std.specs.Prelude.{unwrap_or, IfSome}
 use Rattle.std.specs.declared.option.Option.{Option}
 use Rattle.std.proofs.lemmas.Bool.{cases_lt}
 use Rattle.clone_page.specs.Bytes.{put_at}
-use Rattle.clone_undo.specs.Places.{slot_count, header_page, header_place}
+use Rattle.clone_undo.specs.Places.{undo_slot_count, header_page, header_offset}
 use Rattle.clone_undo.specs.Slots.{UndoSlot, is_in_use, count_of}
 use Rattle.clone_undo.specs.declared.reading.SlotHeader.{SlotHeader}
 use Rattle.clone_undo.proofs.Effects.{own}
@@ -16,7 +16,7 @@ use Rattle.clone_recover.specs.Undoing.{HasChanges, IsSlotInRange, InRange}
 use Rattle.clone_recover.proofs.UndoChanges.{all_undone_system}
 
 freed_system : (image : Image) (s m : ℕ) → (m ≡ header_page s → ⊥) → system_pages (freed image s) m ≡ system_pages image m
-freed_system image s m other = ap (λ o. unwrap_or o []) (page_of-edited_other image 0 (header_page s) 0 m (put_at header_place (replicate 16 0)) (λ t n. other n))
+freed_system image s m other = ap (λ o. unwrap_or o []) (page_of-edited_other image 0 (header_page s) 0 m (put_at header_offset (replicate 16 0)) (λ t n. other n))
 
 -- a slot that is taken back leaves the later ones
 kept_slot : (image : Image) (s t : ℕ) (slot : Option UndoSlot) → s < t → IsSlotInRange slot → undo_slot_of (taken_back image s slot) t ≡ undo_slot_of image t
@@ -58,7 +58,7 @@ taking_goes_on s next start image new more is range t = subst (λ n. TakingBack 
     at i lt (inr high) = let e : s ≡ i = omega (arith, lt, high) in subst (λ k. IsSlotInRange (undo_slot_of start k)) e (subst IsSlotInRange (same_slot s start image t) range)
 
 -- at the end all of them were taken back
-pub taking_ends : (s : ℕ) (start image : Image) → s ≡ slot_count → TakingBack s start image → (image ≡ recovered start) × InRange slot_count start
+pub taking_ends : (s : ℕ) (start image : Image) → s ≡ undo_slot_count → TakingBack s start image → (image ≡ recovered start) × InRange undo_slot_count start
 unfolding recovered
 taking_ends s start image all t =
     (t.made ∙ ap (λ n. taken_back_below n start) all, subst (λ n. InRange n start) all t.ranges)

@@ -10,7 +10,7 @@ use Rattle.clone_page.specs.Slots.{slot_at}
 use Rattle.clone_outside.specs.Disk.{DiskImage}
 use Rattle.clone_undo.specs.Changes.{slot_before}
 use Rattle.clone_undo.specs.Entries.{UndoEntry, IsEntry}
-use Rattle.clone_undo.specs.Places.{slot_count, header_page, header_place}
+use Rattle.clone_undo.specs.Places.{undo_slot_count, header_page, header_offset}
 use Rattle.clone_undo.specs.Slots.{UndoSlot, is_in_use, count_of, entry_on, entries}
 use Rattle.clone_image.specs.Image.{Image, page_of, with_edit, edited}
 use Rattle.clone_image.specs.Recovered.{system_pages, undo_slot_of, undone, all_undone, taken_back, recovered}
@@ -58,7 +58,7 @@ edit_there image s k edit t n =
 
 keeps_undone : (from : ℕ) (start image : Image) (e : UndoEntry) → IsEntry e → Keeps from start image → Keeps from start (undone image e)
 keeps_undone from start image e is k = record {
-  pages = λ n low. page_of-edited_other image e.table e.page 0 n (put_at (slot_at e.slot) (slot_before e)) (λ t m. omega (arith, t, is.place.0)) ∙ k.pages n low;
+  pages = λ n low. page_of-edited_other image e.table e.page 0 n (put_at (slot_at e.slot) (slot_before e)) (λ t m. omega (arith, t, is.row_slot.0)) ∙ k.pages n low;
   there = λ s n. edit_there image e.table e.page (put_at (slot_at e.slot) (slot_before e)) s n ∙ k.there s n;
 }
 
@@ -66,12 +66,12 @@ keeps_all_undone : (from : ℕ) (start image : Image) (es : List UndoEntry) → 
 keeps_all_undone from start image [] each k = k
 keeps_all_undone from start image (e ∷ es) each k = keeps_undone from start (all_undone image es) e each.0 (keeps_all_undone from start image es each.1 k)
 
-keeps_freed : (s : ℕ) (start image : Image) (bytes : List ℕ) → Keeps (header_page s) start image → Keeps (header_page (suc s)) start (with_edit image 0 (edited (header_page s) (put_at header_place bytes)))
+keeps_freed : (s : ℕ) (start image : Image) (bytes : List ℕ) → Keeps (header_page s) start image → Keeps (header_page (suc s)) start (with_edit image 0 (edited (header_page s) (put_at header_offset bytes)))
 keeps_freed s start image bytes k = record {
   pages = λ n low.
-      page_of-edited_other image 0 (header_page s) 0 n (put_at header_place bytes) (λ t m. elim low [ inl first ↦ omega (arith, first, m) | inr high ↦ omega (arith, high, m) ])
+      page_of-edited_other image 0 (header_page s) 0 n (put_at header_offset bytes) (λ t m. elim low [ inl first ↦ omega (arith, first, m) | inr high ↦ omega (arith, high, m) ])
       ∙ k.pages n (elim low [ inl first ↦ inl first | inr high ↦ inr (omega (arith, high)) ]);
-  there = λ t n. edit_there image 0 (header_page s) (put_at header_place bytes) t n ∙ k.there t n;
+  there = λ t n. edit_there image 0 (header_page s) (put_at header_offset bytes) t n ∙ k.there t n;
 }
 
 keeps_slot : (s : ℕ) (start image : Image) (slot : Option UndoSlot) → IsSlotInRange slot → Keeps (header_page s) start image → Keeps (header_page (suc s)) start (taken_back image s slot)
@@ -262,17 +262,17 @@ take_goes_on (Some m) s next first old new is taking edits range sound = λ quie
       sound = one_slot_more s next image t.image is t.keeps (sound quiet t.image t.shows) t.sound;
     }
 
-pub take_ends : (told : Option DiskImage) (s : ℕ) (first now : Overlay) → s ≡ slot_count → TakingOn told s first now → ShowsEdited told first now recovered
+pub take_ends : (told : Option DiskImage) (s : ℕ) (first now : Overlay) → s ≡ undo_slot_count → TakingOn told s first now → ShowsEdited told first now recovered
 take_ends None s first now all taking = tt
 take_ends (Some m) s first now all taking = λ quiet image shows.
     let t = taking quiet image shows in
     subst (λ (i : Image). Shows (image_of m) i now) (taking_ends s image t.image all t.taking).0 t.shows
 
-slot_within : (image : Image) (s page : ℕ) → IsBroken image s page → s < slot_count
+slot_within : (image : Image) (s page : ℕ) → IsBroken image s page → s < undo_slot_count
 slot_within image s page (inl many) = many.within
 slot_within image s page (inr unsound) = unsound.within
 
-pub take_sound : (told : Option DiskImage) (s : ℕ) (first now : Overlay) → s ≡ slot_count → TakingOn told s first now → ForImage told first (λ m image. (page : ℕ) → HasBroken image page → ⊥)
+pub take_sound : (told : Option DiskImage) (s : ℕ) (first now : Overlay) → s ≡ undo_slot_count → TakingOn told s first now → ForImage told first (λ m image. (page : ℕ) → HasBroken image page → ⊥)
 take_sound None s first now all taking = tt
 take_sound (Some m) s first now all taking = λ quiet image shows page broken.
     let t = taking quiet image shows in

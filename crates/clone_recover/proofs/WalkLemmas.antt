@@ -85,7 +85,7 @@ module _ (next : ℕ → Option ℕ) (size bucket : ℕ) where
   -- the last of them names a page that isn't there, or one of them
   pub front_astray : (last page target : ℕ) (stamps : List ℕ) → IsFront (suc last) stamps → page_at next bucket last ≡ Some page → next page ≡ Some target → (length stamps ≤ target) ⊎ (get_or stamps target 0 ≡ bucket + 1) → GoesAstray next size bucket page
   front_astray last page target stamps f comes named wrong = record {
-    place = last;
+    index = last;
     comes = comes;
     apart = λ i j less low. f.apart i j less (omega (arith, low));
     target = target;
@@ -119,15 +119,15 @@ module _ (next : ℕ → Option ℕ) (size bucket : ℕ) where
 
   -- A walk has come to this page, which doesn't have its stamp.
   pub record Walks (page : ℕ) (stamps : List ℕ) : Type 0 where
-    pub place : ℕ
-    pub front : IsFront place stamps
-    pub comes : page_at next bucket place ≡ Some page
+    pub index : ℕ
+    pub front : IsFront index stamps
+    pub comes : page_at next bucket index ≡ Some page
     pub there : page < size
     pub other : get_or stamps page 0 ≢ bucket + 1
 
   pub walk_begins : (stamps : List ℕ) → IsStamped next size bucket stamps → bucket < length stamps → Walks bucket stamps
   walk_begins stamps s low = record {
-    place = 0;
+    index = 0;
     front = front_begins stamps s;
     comes = refl;
     there = omega (arith, low, s.long);
@@ -135,37 +135,37 @@ module _ (next : ℕ → Option ℕ) (size bucket : ℕ) where
   }
 
   -- the page has none: it gets the stamp
-  pub walk_stamps : (page : ℕ) (stamps : List ℕ) (w : Walks page stamps) → get_or stamps page 0 ≡ 0 → IsFront (suc w.place) (set stamps page (bucket + 1))
-  walk_stamps page stamps w free = front_more w.place page stamps w.front w.comes w.there free
+  pub walk_stamps : (page : ℕ) (stamps : List ℕ) (w : Walks page stamps) → get_or stamps page 0 ≡ 0 → IsFront (suc w.index) (set stamps page (bucket + 1))
+  walk_stamps page stamps w free = front_more w.index page stamps w.front w.comes w.there free
 
   pub walk_goes_on : (page target : ℕ) (stamps : List ℕ) → Walks page stamps → get_or stamps page 0 ≡ 0 → next page ≡ Some target → ((length (set stamps page (bucket + 1)) ≤ target) ⊎ (get_or (set stamps page (bucket + 1)) target 0 ≡ bucket + 1) → ⊥) → Walks target (set stamps page (bucket + 1))
   walk_goes_on page target stamps w free named right =
       let f = walk_stamps page stamps w free in
       record {
-        place = suc w.place;
+        index = suc w.index;
         front = f;
-        comes = at_next next bucket w.place page (Some target) w.comes named;
+        comes = at_next next bucket w.index page (Some target) w.comes named;
         there = elim (cases_lt target size) [ inl low ↦ low | inr past ↦ absurd (right (inl (omega (arith, past, f.long)))) ];
         other = λ own. right (inr own);
       }
 
   pub walk_astray : (page target : ℕ) (stamps : List ℕ) → Walks page stamps → get_or stamps page 0 ≡ 0 → next page ≡ Some target → (length (set stamps page (bucket + 1)) ≤ target) ⊎ (get_or (set stamps page (bucket + 1)) target 0 ≡ bucket + 1) → GoesAstray next size bucket page
-  walk_astray page target stamps w free named wrong = front_astray w.place page target (set stamps page (bucket + 1)) (walk_stamps page stamps w free) w.comes named wrong
+  walk_astray page target stamps w free named wrong = front_astray w.index page target (set stamps page (bucket + 1)) (walk_stamps page stamps w free) w.comes named wrong
 
   -- the walk is at its end: the page is the chain's last, or an earlier chain goes on from it
   pub walk_ends : (page : ℕ) (stamps : List ℕ) → Walks page stamps → get_or stamps page 0 ≡ 0 → next page ≡ None → IsStamped next size (bucket + 1) (set stamps page (bucket + 1)) × IsWhole next size bucket
   walk_ends page stamps w free none =
       let f = walk_stamps page stamps w free in
       let end = whole_last next size page w.there none in (
-        end_stamped (suc w.place) w.place page (set stamps page (bucket + 1)) f (λ j low. omega (arith, low)) (λ j low. omega (arith, low)) w.comes end,
-        end_whole (suc w.place) w.place page (set stamps page (bucket + 1)) f (λ j low. omega (arith, low)) (λ j low. omega (arith, low)) w.comes end,
+        end_stamped (suc w.index) w.index page (set stamps page (bucket + 1)) f (λ j low. omega (arith, low)) (λ j low. omega (arith, low)) w.comes end,
+        end_whole (suc w.index) w.index page (set stamps page (bucket + 1)) f (λ j low. omega (arith, low)) (λ j low. omega (arith, low)) w.comes end,
       )
 
   pub walk_joins : (page : ℕ) (stamps : List ℕ) → Walks page stamps → get_or stamps page 0 ≢ 0 → IsStamped next size (bucket + 1) stamps × IsWhole next size bucket
   walk_joins page stamps w some =
       let end = w.front.whole page some w.other in (
-        end_stamped w.place w.place page stamps w.front (λ j low. omega (arith, low)) (λ j low. low) w.comes end,
-        end_whole w.place w.place page stamps w.front (λ j low. omega (arith, low)) (λ j low. low) w.comes end,
+        end_stamped w.index w.index page stamps w.front (λ j low. omega (arith, low)) (λ j low. low) w.comes end,
+        end_whole w.index w.index page stamps w.front (λ j low. omega (arith, low)) (λ j low. low) w.comes end,
       )
 
 -- how many pages have no stamp

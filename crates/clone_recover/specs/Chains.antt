@@ -15,21 +15,21 @@ size_in image space = unwrap_or (page_count image space) 0
 abbrev pub next_in : Image → ℕ → ℕ → Option ℕ
 next_in image space number = behind (all_pages image space number)
 
--- the page at a place of a chain, counted from its first page on, or none behind its end
+-- the page at an index of a chain, counted from its first page on, or none behind its end
 abbrev pub page_at : (ℕ → Option ℕ) → ℕ → ℕ → Option ℕ
 page_at next first zero = Some first
-page_at next first (suc place) = option_and_then next (page_at next first place)
+page_at next first (suc index) = option_and_then next (page_at next first index)
 
 -- A chain goes astray behind this page: the page names one past the end of the space, or one that
 -- the chain has come to before. The pages up to there are different ones.
 pub record GoesAstray (next : ℕ → Option ℕ) (size first page : ℕ) : Type 0 where
-  pub place : ℕ
-  pub comes : page_at next first place ≡ Some page
-  pub apart : (i j : ℕ) → i < j → j ≤ place → page_at next first i ≢ page_at next first j
+  pub index : ℕ
+  pub comes : page_at next first index ≡ Some page
+  pub apart : (i j : ℕ) → i < j → j ≤ index → page_at next first i ≢ page_at next first j
   pub target : ℕ
   pub named : next page ≡ Some target
   pub wrong : (size ≤ target)
-      ⊎ ((before : ℕ) × (before ≤ place) × (page_at next first before ≡ Some target))
+      ⊎ ((before : ℕ) × (before ≤ index) × (page_at next first before ≡ Some target))
 
 -- The chain of a bucket is against the format on this page: the bucket isn't there, or the chain
 -- goes astray behind the page.
@@ -49,10 +49,10 @@ IsWholeChain image table bucket = IsWhole (next_in image table) (size_in image t
 
 -- an entry of the system page tells of a table that has this bucket
 pub record TellsBucket (system : List ℕ) (table bucket : ℕ) : Type 0 where
-  pub place : ℕ
-  pub named : (entry_in (dictionary system) place).table ≡ table
+  pub entry_number : ℕ
+  pub named : (entry_in (dictionary system) entry_number).table ≡ table
   pub used : table ≢ 0
-  pub counted : bucket < (entry_in (dictionary system) place).buckets
+  pub counted : bucket < (entry_in (dictionary system) entry_number).buckets
 
 -- a chain of a table that the dictionary tells of is broken on this page
 pub record HasBrokenChain (image : Image) (table page : ℕ) : Type 0 where

@@ -5,7 +5,7 @@ use Rattle.std.specs.FinMap as finite
 use Rattle.clone_outside.specs.Disk.{DiskImage, ForTold}
 use Rattle.clone_page.specs.Dictionary.{entry_count, entry_space}
 use Rattle.clone_undo.specs.Entries.{UndoEntry, IsEntry}
-use Rattle.clone_undo.specs.Places.{slot_count, capacity, header_page, record_page}
+use Rattle.clone_undo.specs.Places.{undo_slot_count, capacity, header_page, record_page}
 use Rattle.clone_undo.specs.Slots.{is_in_use, count_of, entry_on}
 use Rattle.clone_image.specs.Image.{Image, page_of}
 use Rattle.clone_image.specs.Recovered.{system_pages}
@@ -28,10 +28,10 @@ ShowsEdited told old new edit = ForImage told old (λ m image. Shows (image_of m
 
 -- an entry of the system page names a space that isn't there
 pub record NamesGone (image : Image) (system : List ℕ) : Type 0 where
-  pub place : ℕ
-  pub within : place < entry_count
-  pub used : entry_space place system ≢ 0
-  pub missing : finite.get image (entry_space place system) ≡ None
+  pub entry_number : ℕ
+  pub within : entry_number < entry_count
+  pub used : entry_space entry_number system ≢ 0
+  pub missing : finite.get image (entry_space entry_number system) ≡ None
 
 -- the dictionary names a space that isn't there
 pub record NamesMissing (image : Image) : Type 0 where
@@ -41,7 +41,7 @@ pub record NamesMissing (image : Image) : Type 0 where
 
 -- the undo slot is in use, and its header, on this page, tells more records than it can have
 pub record CountsTooMany (image : Image) (slot page : ℕ) : Type 0 where
-  pub within : slot < slot_count
+  pub within : slot < undo_slot_count
   pub is : page ≡ header_page slot
   pub bytes : List ℕ
   pub there : page_of image 0 page ≡ Some bytes
@@ -77,7 +77,7 @@ pub record IsUnsoundBelow (image : Image) (slot count page : ℕ) : Type 0 where
 
 -- a record of the undo slot, which is in use, isn't sound
 pub record IsUnsound (image : Image) (slot page : ℕ) : Type 0 where
-  pub within : slot < slot_count
+  pub within : slot < undo_slot_count
   pub used : is_in_use (system_pages image (header_page slot)) ≡ true
   pub below : IsUnsoundBelow image slot (count_of (system_pages image (header_page slot))) page
 

@@ -85,14 +85,14 @@ abbrev pub rest_of : Log → List ℕ
 rest_of log = slice_range log.window (log.at - base_of log)
     (min (log.available - base_of log) (2 * PAGE_SIZE))
 
--- the bytes of a page of the redo are put at a place of the window
+-- the bytes of a page of the redo are put at an offset of the window
 pub record Puts (told : Option DiskImage) (page to : ℕ) (old new : List ℕ) : Type 0 where
   pub bytes : List ℕ
   pub long : length bytes ≡ PAGE_SIZE
   pub given : ForTold told (λ m. GivesQuiet m redo_space page bytes)
   pub is : new ≡ take to old ++ (bytes ++ drop (to + PAGE_SIZE) old)
 
--- a page is read to a place of the window, if the log has bytes on it
+-- a page is read to an offset of the window, if the log has bytes on it
 pub record Loads (told : Option DiskImage) (page to : ℕ) (old new : Log) : Type 0 where
   pub past : old.available ≤ PAGE_SIZE * page → new.window ≡ old.window
   pub puts : PAGE_SIZE * page < old.available → Puts told page to old.window new.window

@@ -65,12 +65,12 @@ pub data SeesBehind (told : Option DiskImage) (space number : ℕ) (cover : Cove
 -- no entry of a system page names a table above this one, or this is the least that one names
 abbrev pub IsNextTable : List ℕ → ℕ → Option ℕ → Type 0
 IsNextTable system above None =
-    (place : ℕ) → (entry_in (dictionary system) place).table ≤ above
+    (entry_number : ℕ) → (entry_in (dictionary system) entry_number).table ≤ above
 IsNextTable system above (Some table) =
     (above < table)
-    × ((place : ℕ) × ((entry_in (dictionary system) place).table ≡ table))
-    × ((place : ℕ) → above < (entry_in (dictionary system) place).table
-    → table ≤ (entry_in (dictionary system) place).table)
+    × ((entry_number : ℕ) × ((entry_in (dictionary system) entry_number).table ≡ table))
+    × ((entry_number : ℕ) → above < (entry_in (dictionary system) entry_number).table
+    → table ≤ (entry_in (dictionary system) entry_number).table)
 
 -- the buckets of a table, by all entries of a system page that name it, are so many
 pub record HasBuckets (system : List ℕ) (table buckets : ℕ) : Type 0 where

@@ -77,8 +77,8 @@ fn next_table(system: &Page, above: u32) -> Option<u32>
     ensures { IsNextTable system.now above result }
 {
     let mut next = None;
-    for place in 0..ENTRY_COUNT {
-        let table = entry_at(system, place).table;
+    for entry_number in 0..ENTRY_COUNT {
+        let table = entry_at(system, entry_number).table;
         if table > above {
             next = Some(next.unwrap_or(table).min(table));
         }
@@ -92,8 +92,8 @@ fn buckets_of(system: &Page, table: u32) -> u32
     ensures { HasBuckets system.now table result }
 {
     let mut buckets = 0;
-    for place in 0..ENTRY_COUNT {
-        let entry = entry_at(system, place);
+    for entry_number in 0..ENTRY_COUNT {
+        let entry = entry_at(system, entry_number);
         if entry.table == table {
             buckets = entry.buckets.max(buckets);
         }

@@ -46,8 +46,8 @@ fn names_missing(overlay: &Overlay, system: &Page) -> bool
     ensures no { result ≡ false → (base image : Image) → Shows base image overlay.now
         → NamesGone image system.now → ⊥ }
 {
-    for place in 0..ENTRY_COUNT {
-        let table = table_at(system, place);
+    for entry_number in 0..ENTRY_COUNT {
+        let table = table_at(system, entry_number);
         if table != 0 && overlay.pages(table).is_none() {
             return true;
         }
@@ -61,8 +61,8 @@ pub fn names(system: &Page, table: u32) -> bool
     ensures yes { result ≡ true → Lists system.now table }
     ensures no { result ≡ false → Lists system.now table → ⊥ }
 {
-    for place in 0..ENTRY_COUNT {
-        if table_at(system, place) == table {
+    for entry_number in 0..ENTRY_COUNT {
+        if table_at(system, entry_number) == table {
             return true;
         }
     }
@@ -70,9 +70,9 @@ pub fn names(system: &Page, table: u32) -> bool
 }
 
 /// The table that an entry of the dictionary names, or 0 where the entry is free.
-pub fn table_at(system: &Page, place: usize) -> u32
-    requires { place < entry_count }
-    ensures { result ≡ entry_space place system.now }
+pub fn table_at(system: &Page, entry_number: usize) -> u32
+    requires { entry_number < entry_count }
+    ensures { result ≡ entry_space entry_number system.now }
 {
-    u32_at(system.bytes(), ENTRIES_AT + ENTRY_BYTES * place)
+    u32_at(system.bytes(), ENTRIES_AT + ENTRY_BYTES * entry_number)
 }

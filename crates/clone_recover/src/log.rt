@@ -154,7 +154,7 @@ impl Log {
         self.first += 1;
     }
 
-    // Reads a page of the log to a place of the window, if the log has bytes on it.
+    // Reads a page of the log to an offset of the window, if the log has bytes on it.
     fn load<R: PageDisk>(
         &mut self,
         disk: &mut R,
@@ -230,7 +230,7 @@ impl Log {
             },
         };
         match first_foreign(self.rest()) {
-            Some(place) => damaged_redo(page.min(self.page_at(place))),
+            Some(offset) => damaged_redo(page.min(self.page_at(offset))),
             None => damaged_redo(page),
         }
     }
@@ -250,15 +250,15 @@ impl Log {
         }
     }
 
-    // The page of the byte at a place behind those that were read.
-    fn page_at(&self, place: usize) -> u32
-        requires { place ≤ 2 * PAGE_SIZE }
+    // The page of the byte at this offset behind those that were read.
+    fn page_at(&self, offset: usize) -> u32
+        requires { offset ≤ 2 * PAGE_SIZE }
     {
-        ((self.at + place as u64) / PAGE_BYTES) as u32
+        ((self.at + offset as u64) / PAGE_BYTES) as u32
     }
 }
 
-// Puts the bytes of a page at a place of the window.
+// Puts the bytes of a page at an offset of the window.
 fn put(window: &mut [u8; WINDOW], to: usize, bytes: &[u8; PAGE_SIZE])
     requires { to ≤ PAGE_SIZE }
     ensures value { window.new

@@ -92,7 +92,7 @@ fn take_back<R: PageDisk>(
     overlay: &mut Overlay,
     slot: u32,
 ) -> Result<(), RecoverRefusal>
-    requires { slot < places.slot_count }
+    requires { slot < places.undo_slot_count }
     ensures taken_back { OnOk result (ShowsEdited (R.told disk.old) overlay.old overlay.new
         (λ image. taken_back image slot (undo_slot_of image slot))) }
     ensures ranges { OnOk result (ForImage (R.told disk.old) overlay.old
@@ -117,7 +117,7 @@ fn take_back<R: PageDisk>(
 
 // Frees an undo slot.
 fn free<R: PageDisk>(disk: &mut R, overlay: &mut Overlay, slot: u32) -> Result<(), RecoverRefusal>
-    requires { slot < places.slot_count }
+    requires { slot < places.undo_slot_count }
     ensures freed { OnOk result
         (ShowsEdited (R.told disk.old) overlay.old overlay.new (λ image. freed image slot)) }
     ensures cause { IfErr result (HeaderOn (R.told disk.old) overlay.old) }
@@ -140,7 +140,7 @@ fn header_of<R: PageDisk>(
     overlay: &mut Overlay,
     slot: u32,
 ) -> Result<Option<SlotHeader>, RecoverRefusal>
-    requires { slot < places.slot_count }
+    requires { slot < places.undo_slot_count }
     ensures count { IfOk result (λ header. IfSome header (λ h. h.count ≤ places.capacity)) }
     ensures header { IfOk result (IsHeaderOf (R.told disk.old) overlay.old slot) }
     ensures shows { OnOk result (ShowsSame (R.told disk.old) overlay.old overlay.new) }
@@ -171,7 +171,7 @@ fn undo_changes<R: PageDisk>(
     slot: u32,
     count: u16,
 ) -> Result<(), RecoverRefusal>
-    requires slot { slot < places.slot_count }
+    requires slot { slot < places.undo_slot_count }
     requires count { count ≤ places.capacity }
     ensures undone { OnOk result (ShowsEdited (R.told disk.old) overlay.old overlay.new
         (λ image. all_undone image (entries slot (system_pages image) count))) }
@@ -201,7 +201,7 @@ fn undo_change<R: PageDisk>(
     slot: u32,
     number: usize,
 ) -> Result<(), RecoverRefusal>
-    requires slot { slot < places.slot_count }
+    requires slot { slot < places.undo_slot_count }
     requires number { number < places.capacity }
     ensures undone { OnOk result (ShowsEdited (R.told disk.old) overlay.old overlay.new
         (λ image. undone image (record_of image slot number))) }

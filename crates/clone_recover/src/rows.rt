@@ -58,8 +58,8 @@ fn add_tables<R: PageDisk>(disk: &mut R, tables: &mut Tables) -> Result<(), Reco
     }
     let mut system = Page::zero();
     disk.read_page(0, 0, system.bytes_mut())?;
-    for place in 0..ENTRY_COUNT {
-        let table = table_at(&system, place);
+    for entry_number in 0..ENTRY_COUNT {
+        let table = table_at(&system, entry_number);
         if table != 0 && table < REDO_SPACE {
             add_table(disk, tables, table)?;
         }

@@ -10,7 +10,7 @@ use Rattle.clone_archive.specs.Archived.{Archived}
 use Rattle.clone_chunk.specs.declared.chunk.Chunk.{Chunk}
 use Rattle.clone_chunk.specs.declared.chunk.Chunk.TheVariants.{Free, Claimed}
 use Rattle.clone_chunk.specs.Chunks.{IsLeastFree, is_free}
-use Rattle.clone_chunk.proofs.Places.{slice_get-set_same}
+use Rattle.clone_chunk.proofs.Indexes.{slice_get-set_same}
 use Rattle.clone_lay.specs.Sized.{PageCounts}
 use Rattle.clone_snapshot.specs.StageLists as lists
 use Rattle.clone_snapshot.specs.StageLists.{StageList, Part, chunk_count}

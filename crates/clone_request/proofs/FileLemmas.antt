@@ -33,10 +33,10 @@ use Rattle.clone_request.proofs.RoomLemmas.{rooms_beside_redo, rooms_past, rooms
 use Rattle.clone_request.proofs.WaitLemmas.{first_pages}
 
 -- what a part of a joined list has
-in_joined : {X Y : Type 0} (f : X → List Y) (xs : List X) (x : X) (y : Y) (place : ℕ) → place < length xs → get_or xs place x ≡ x → Contains (f x) y → Contains (flat_map f xs) y
-in_joined f [] x y place within is has = absurd (omega (arith, within))
+in_joined : {X Y : Type 0} (f : X → List Y) (xs : List X) (x : X) (y : Y) (index : ℕ) → index < length xs → get_or xs index x ≡ x → Contains (f x) y → Contains (flat_map f xs) y
+in_joined f [] x y index within is has = absurd (omega (arith, within))
 in_joined f (z ∷ zs) x y zero within is has = Contains-append_left (f z) (flat_map f zs) y (subst (λ w. Contains (f w) y) (sym is) has)
-in_joined f (z ∷ zs) x y (suc place) within is has = Contains-append_right (f z) (flat_map f zs) y (in_joined f zs x y place (omega (arith, within)) is has)
+in_joined f (z ∷ zs) x y (suc index) within is has = Contains-append_right (f z) (flat_map f zs) y (in_joined f zs x y index (omega (arith, within)) is has)
 
 in_space : (space size number : ℕ) → number < size → Contains (pages_of_space (space, size)) (space, number)
 in_space space size number low =

@@ -395,8 +395,8 @@ module _ (d t : Donor) (told : Option DiskImage) (sizes : PageCounts) (stage che
 
       bytes_is : read.items ≡ take redo.length (drop (16384 * k) a.bytes)
       bytes_is =
-          let place : redo.from - a.start ≡ 16384 * k = omega (arith, numbered.1, copies.starts) in
-          bytes_are ∙ ap (λ (o : Option Archived). redo_in o redo) copies.stands ∙ ap (λ (n : ℕ). take redo.length (drop n a.bytes)) place
+          let offset : redo.from - a.start ≡ 16384 * k = omega (arith, numbered.1, copies.starts) in
+          bytes_are ∙ ap (λ (o : Option Archived). redo_in o redo) copies.stands ∙ ap (λ (n : ℕ). take redo.length (drop n a.bytes)) offset
 
       distance_is : from - checkpoint ≡ 16384 * k
       distance_is = omega (arith, from_is, begins, numbered.1)

@@ -54,15 +54,15 @@ room_past m s count n low before =
     let lax = lax_trans (standing_of (image_of (with_room s count m)) s n) (standing_of (image_of m) s n) no_space (room_lax m s count s n low) before in
     subst (λ (v : Standing). Lax v past_end) (sym now) (held_past (slice_get (extended count (pages_in m s)) n) (subst (λ (v : Standing). Lax v no_space) now lax))
 
-listed_past : (spaces : List (ℕ × ℕ)) (m : DiskImage) (s size n : ℕ) → s < redo_space → Lax (standing_of (image_of m) s n) no_space → (place : ℕ) → place < length spaces → get_or spaces place (s, size) ≡ (s, size) → Lax (standing_of (image_of (with_rooms spaces m)) s n) past_end
-listed_past [] m s size n low before place within is = absurd (omega (arith, within))
+listed_past : (spaces : List (ℕ × ℕ)) (m : DiskImage) (s size n : ℕ) → s < redo_space → Lax (standing_of (image_of m) s n) no_space → (index : ℕ) → index < length spaces → get_or spaces index (s, size) ≡ (s, size) → Lax (standing_of (image_of (with_rooms spaces m)) s n) past_end
+listed_past [] m s size n low before index within is = absurd (omega (arith, within))
 listed_past (space ∷ spaces) m s size n low before zero within is =
     let next = with_room space.0 space.1 m in
     lax_trans (standing_of (image_of (with_rooms spaces next)) s n) (standing_of (image_of next) s n) past_end (rooms_lax spaces next s n low)
     (subst (λ (x : ℕ). Lax (standing_of (image_of (with_room x space.1 m)) s n) past_end) (sym (ap (λ (p : ℕ × ℕ). p.0) is)) (room_past m s space.1 n low before))
-listed_past (space ∷ spaces) m s size n low before (suc place) within is =
+listed_past (space ∷ spaces) m s size n low before (suc index) within is =
     let next = with_room space.0 space.1 m in
-    listed_past spaces next s size n low (lax_trans (standing_of (image_of next) s n) (standing_of (image_of m) s n) no_space (room_lax m space.0 space.1 s n low) before) place (omega (arith, within)) is
+    listed_past spaces next s size n low (lax_trans (standing_of (image_of next) s n) (standing_of (image_of m) s n) no_space (room_lax m space.0 space.1 s n low) before) index (omega (arith, within)) is
 
 -- and a space that is listed is there
 pub rooms_past : (spaces : List (ℕ × ℕ)) (m : DiskImage) (s size n : ℕ) → m.spaces ≡ finite.empty → s < redo_space → Contains spaces (s, size) → Lax (standing_of (image_of (with_rooms spaces m)) s n) past_end

@@ -112,8 +112,8 @@ given_lax m space pages s n past low is = at (cases_eq s space)
     at : (s ≡ space) ⊎ (s ≢ space) → Lax (standing_of (image_of (with_space space pages m)) s n) (standing_of (image_of m) s n)
     at (inl same) =
         let here : finite.get (with_space space pages m).spaces s ≡ Some pages = ap (finite.get (with_space space pages m).spaces) same ∙ get_here m space pages in
-        let place : slice_get pages n ≡ standing None (disk.page_of m s n) past = sym (ap (option_and_then (λ (ps : List Held). slice_get ps n)) here) ∙ is in
-        let now : standing_of (image_of (with_space space pages m)) s n ≡ held_standing (standing None (disk.page_of m s n) past) = standing_low (with_space space pages m) s n low ∙ ap (λ (o : Option (List Held)). space_standing o n) here ∙ ap held_standing place in
+        let page : slice_get pages n ≡ standing None (disk.page_of m s n) past = sym (ap (option_and_then (λ (ps : List Held). slice_get ps n)) here) ∙ is in
+        let now : standing_of (image_of (with_space space pages m)) s n ≡ held_standing (standing None (disk.page_of m s n) past) = standing_low (with_space space pages m) s n low ∙ ap (λ (o : Option (List Held)). space_standing o n) here ∙ ap held_standing page in
         subst (Lax (standing_of (image_of (with_space space pages m)) s n)) (sym (standing_low m s n low))
         (subst (λ (v : Standing). Lax v (space_standing (finite.get m.spaces s) n)) (sym now) (stays_lax (finite.get m.spaces s) n past))
     at (inr other) =

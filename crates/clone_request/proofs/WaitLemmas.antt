@@ -11,13 +11,13 @@ use Rattle.std.proofs.lemmas.Option.{slice_get-get_or, slice_get_within, get_or_
 use Rattle.clone_chunk.specs.declared.chunk.Chunk.{Chunk}
 use Rattle.clone_chunk.specs.declared.chunk.Chunk.TheVariants.{Free, Claimed, Finished}
 use Rattle.clone_chunk.specs.Chunks.{IsLeastFree, IsTaken, is_unfinished, left_of}
-use Rattle.clone_chunk.proofs.Places.{slice_get-set_same, slice_get-set_other}
+use Rattle.clone_chunk.proofs.Indexes.{slice_get-set_same, slice_get-set_other}
 use Rattle.clone_snapshot.specs.StageLists.{StageList, Part, RedoPart, all_pages, block_count, block_of, blocks_at, blocks_of, chunk_count, chunks_of, pages_of}
 use Rattle.clone_snapshot.proofs.CountLemmas.{has_blocks}
 use Rattle.clone_snapshot.proofs.JoinLemmas.{pages_joined}
 use Rattle.clone_request.specs.Waiting.{AreSettled, InWork, Waits, WaitsForPage}
 
--- What stands at a place of a map.
+-- What stands at an index of a map.
 
 -- of a list with the same element everywhere
 all_same : {X : Type 0} (n : ℕ) (x : X) (i : ℕ) (y : X) → slice_get (replicate n x) i ≡ Some y → y ≡ x

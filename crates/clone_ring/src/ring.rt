@@ -107,7 +107,7 @@ impl Ring {
     }
 }
 
-// Reads the bytes of two slices, one behind the other, from a place on.
+// Reads the bytes of two slices, one behind the other, from an offset on.
 fn copy_out(front: &[u8], back: &[u8], at: usize, into: &mut [u8])
     requires { at + length into.old ≤ length front.now + length back.now }
     ensures { into.new ≡ take (length into.old) (drop at (front.now ++ back.now)) }

@@ -130,13 +130,13 @@ slots-written j lsn s bytes page within eighty is long =
 pub allowed-WritesSlot : {j key : ℕ} {value : Option (List ℕ)} {patch : Patched} → WritesSlot j key value patch → IsAllowed patch.offset (length patch.bytes)
 allowed-WritesSlot {j} {key} {value} {patch} writes =
     let eighty : length patch.bytes ≡ 80 = ap length writes.bytes ∙ length-image key value writes.short in
-    let place = writes.place in
+    let offset = writes.offset in
     let within = writes.within in
     (omega arith, inr (omega arith, omega arith))
 
 pub slots-WritesSlot : (lsn j key : ℕ) (value : Option (List ℕ)) (patch : Patched) (page : List ℕ) → WritesSlot j key value patch → length page ≡ 4096 → slots (with_lsn lsn (put_at patch.offset patch.bytes page)) ≡ set (slots page) j (row_slot key value)
 slots-WritesSlot lsn j key value patch page writes long =
-    ap (λ (at : ℕ). slots (with_lsn lsn (put_at at patch.bytes page))) writes.place
+    ap (λ (at : ℕ). slots (with_lsn lsn (put_at at patch.bytes page))) writes.offset
     ∙ ap (λ (bytes : List ℕ). slots (with_lsn lsn (put_at (slot_at j) bytes page))) writes.bytes
     ∙ slots-written j lsn (row_slot key value) (image key value) page writes.within (length-image key value writes.short) (slot_of-image key value writes.key_fits writes.short) long
 
@@ -170,7 +170,7 @@ header-body lsn at piece page body fits allowed long =
 
 pub header-WritesSlot : (lsn j key : ℕ) (value : Option (List ℕ)) (patch : Patched) (page : List ℕ) → WritesSlot j key value patch → length page ≡ 4096 → SameHeader page (with_lsn lsn (put_at patch.offset patch.bytes page))
 header-WritesSlot lsn j key value patch page writes long =
-    let place = writes.place in
+    let offset = writes.offset in
     let within = writes.within in
     header-body lsn patch.offset patch.bytes page (omega arith) (omega arith) (allowed-WritesSlot writes) long
 

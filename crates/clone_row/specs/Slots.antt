@@ -3,11 +3,11 @@ use Rattle.std.specs.Prelude.{ℕ, ◌≡◌, ◌<◌, List, ◌∷◌, ◌++◌
 use Rattle.std.specs.declared.option.Option.{Option}
 use Rattle.std.specs.List.{range_with_len}
 use Rattle.byteorder.specs.Endian.{big_bytes}
-use Rattle.clone_page.specs.Slots.{slot_count, slot, state_of, key_of, row_of, present_slot}
+use Rattle.clone_page.specs.Slots.{row_slot_count, slot, state_of, key_of, row_of, present_slot}
 
 -- A slot was never used, or it holds the row of a key, or it says that the key has no row. A slot
--- in
--- none of the three states is damaged, and so is one whose row has a length above that of a value.
+-- in none of the three states is damaged, and so is one whose row has a length above that of a
+-- value.
 pub data Slot : Type 0 where
   unused : Slot
   present : ℕ → List ℕ → Slot
@@ -27,9 +27,9 @@ slot_of bytes =
 
 -- the slots of a page
 unfoldable pub slots : List ℕ → List Slot
-slots page = map (λ j. slot_of (slot j page)) (range_with_len 0 slot_count)
+slots page = map (λ j. slot_of (slot j page)) (range_with_len 0 row_slot_count)
 
--- the slot at a place of the list, or an unused one behind its end
+-- the slot with this number in the list, or an unused one behind its end
 abbrev pub slot_in : List Slot → ℕ → Slot
 slot_in list j = slice_index_or list j unused
 
@@ -50,15 +50,15 @@ row_in damaged = None
 -- the first slot that is bound to the key, or none where no slot is
 abbrev pub Finds : ℕ → List Slot → Option ℕ → Type 0
 Finds key list found =
-    MatchOption found ((k : ℕ) → k < slot_count → ¬ (bound_key (slot_in list k) ≡ Some key))
-    (λ j. (j < slot_count) × (bound_key (slot_in list j) ≡ Some key)
+    MatchOption found ((k : ℕ) → k < row_slot_count → ¬ (bound_key (slot_in list k) ≡ Some key))
+    (λ j. (j < row_slot_count) × (bound_key (slot_in list j) ≡ Some key)
     × ((k : ℕ) → k < j → ¬ (bound_key (slot_in list k) ≡ Some key)))
 
 -- the first slot that was never used, or none where each was
 abbrev pub FindsFree : List Slot → Option ℕ → Type 0
 FindsFree list found =
-    MatchOption found ((k : ℕ) → k < slot_count → ¬ (slot_in list k ≡ unused))
-    (λ j. (j < slot_count) × (slot_in list j ≡ unused)
+    MatchOption found ((k : ℕ) → k < row_slot_count → ¬ (slot_in list k ≡ unused))
+    (λ j. (j < row_slot_count) × (slot_in list j ≡ unused)
     × ((k : ℕ) → k < j → ¬ (slot_in list k ≡ unused)))
 
 -- a key with a value is present, and one without is absent

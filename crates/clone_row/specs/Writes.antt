@@ -3,14 +3,14 @@ use Rattle.std.specs.Prelude.{ℕ, ◌≡◌, ◌<◌, ◌≤◌, ◌+◌, ◌^�
 use Rattle.std.specs.declared.option.Option.{Option}
 use Rattle.clone_base.specs.declared.limits.TheConstants.{VALUE_LIMIT}
 use Rattle.clone_page.specs.Header.{kind_of, space_of, number_of, next_of, IsAllowed}
-use Rattle.clone_page.specs.Slots.{slot_count, slot_at}
+use Rattle.clone_page.specs.Slots.{row_slot_count, slot_at}
 use Rattle.clone_mtr.specs.Patches.{Patched}
 use Rattle.clone_row.specs.Slots.{image}
 
--- the slot of a key is written in its place: with the value, or as absent where there is none
+-- the slot of a key is written where it stands: with the value, or as absent where there is none
 pub record WritesSlot (j key : ℕ) (value : Option (List ℕ)) (patch : Patched) : Type 0 where
-  pub within : j < slot_count
-  pub place : patch.offset ≡ slot_at j
+  pub within : j < row_slot_count
+  pub offset : patch.offset ≡ slot_at j
   pub bytes : patch.bytes ≡ image key value
   pub key_fits : key < 2 ^ 64
   pub short : IfSome value (λ v. length v ≤ VALUE_LIMIT)

@@ -3,7 +3,7 @@ ghost use Rattle.std.specs.declared.option.Option.{Option};
 ghost use Rattle.clone_base.specs.declared.limits.TheConstants.{PAGE_SIZE, VALUE_LIMIT};
 ghost use Rattle.clone_page.specs.declared.kind.PageKind.{PageKind};
 ghost use Rattle.clone_page.specs.Header.{zero_page, kind_of, IsWellFormed};
-ghost use Rattle.clone_page.specs.Slots.{slot_count, slot, row_of};
+ghost use Rattle.clone_page.specs.Slots.{row_slot_count, slot, row_of};
 ghost use Rattle.clone_mtr.specs.Patches.{Patched};
 ghost use Rattle.clone_mtr.specs.Effects.{effect};
 ghost use Rattle.clone_mtr.specs.declared.record.Record.TheVariants.{Init, Write};
@@ -49,16 +49,16 @@ pub fn header_write_laws()
 /// The slots of a page that is made, and of an unused one, were never used.
 pub fn made_laws()
     ensures made { (lsn space number : ℕ) (kind : PageKind) (page : List ℕ)
-        → slots (effect lsn (Init space number kind) page) ≡ replicate slot_count unused }
-    ensures zero { slots zero_page ≡ replicate slot_count unused }
+        → slots (effect lsn (Init space number kind) page) ≡ replicate row_slot_count unused }
+    ensures zero { slots zero_page ≡ replicate row_slot_count unused }
 {}
 
 /// What the list of the slots says of the bytes of each slot.
 pub fn row_laws()
-    ensures count { (page : List ℕ) → length (slots page) ≡ slot_count }
-    ensures slot { (j : ℕ) (page : List ℕ) → j < slot_count
+    ensures count { (page : List ℕ) → length (slots page) ≡ row_slot_count }
+    ensures slot { (j : ℕ) (page : List ℕ) → j < row_slot_count
         → slot_in (slots page) j ≡ slot_of (slot j page) }
-    ensures row { (j : ℕ) (page : List ℕ) → j < slot_count
+    ensures row { (j : ℕ) (page : List ℕ) → j < row_slot_count
         → row_in (slot_in (slots page) j) ≡ row_of (slot j page) }
     ensures image { (key : ℕ) (value : Option (List ℕ)) → key < 2 ^ 64 → IfSome value
         (λ v. length v ≤ VALUE_LIMIT) → slot_of (image key value) ≡ row_slot key value }

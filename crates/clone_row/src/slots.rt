@@ -4,13 +4,14 @@
 //! its key. What is written has zero bytes elsewhere.
 ghost use Rattle.std.specs.Prelude.{◌≡◌, ◌+◌, ◌*◌, ◌↔◌, ◌<◌, ◌≤◌, IsTrue, length};
 ghost use Rattle.std.specs.Option.{option_copied};
-ghost use Rattle.clone_page.specs.Slots.{slot_count, slot_at, state_of, length_of, key_of, present_slot};
+ghost use Rattle.clone_page.specs.Slots.{row_slot_count, slot_at, state_of, length_of, key_of, present_slot};
 ghost use Rattle.clone_row.specs.Slots.{slots, slot_of, slot_in, bound_key, row_in, unused, Finds, FindsFree, absent_slot, image};
 
 use clone_base::VALUE_LIMIT;
 use clone_model::Value;
 use clone_page::{
-    Page, SLOT_BYTES, SLOT_COUNT, SLOT_KEY_AT, SLOT_LENGTH_AT, SLOT_VALUE_AT, SLOTS_AT, put, u64_at,
+    Page, ROW_SLOT_COUNT, SLOT_BYTES, SLOT_KEY_AT, SLOT_LENGTH_AT, SLOT_VALUE_AT, SLOTS_AT, put,
+    u64_at,
 };
 
 // The state of a slot, in its first byte.
@@ -24,9 +25,9 @@ const ABSENT: u8 = 2;
 pub fn find(page: &Page, key: u64) -> Option<u16>
     ensures { Finds key (slots page.now) result }
 {
-    for place in 0..SLOT_COUNT {
-        if is_bound(slot_bytes(page, place), key) {
-            return Some(place);
+    for slot_number in 0..ROW_SLOT_COUNT {
+        if is_bound(slot_bytes(page, slot_number), key) {
+            return Some(slot_number);
         }
     }
     None
@@ -36,9 +37,9 @@ pub fn find(page: &Page, key: u64) -> Option<u16>
 pub fn free_slot(page: &Page) -> Option<u16>
     ensures { FindsFree (slots page.now) result }
 {
-    for place in 0..SLOT_COUNT {
-        if is_unused(slot_bytes(page, place)) {
-            return Some(place);
+    for slot_number in 0..ROW_SLOT_COUNT {
+        if is_unused(slot_bytes(page, slot_number)) {
+            return Some(slot_number);
         }
     }
     None
@@ -49,7 +50,7 @@ pub fn free_slot(page: &Page) -> Option<u16>
 pub fn present(page: &Page, slot: u16) -> Option<(u64, Value)>
     ensures { result ≡ row_in (slot_in (slots page.now) slot) }
 {
-    if slot >= SLOT_COUNT {
+    if slot >= ROW_SLOT_COUNT {
         return None;
     }
     row(slot_bytes(page, slot))
@@ -67,19 +68,19 @@ pub fn slot_image(key: u64, value: Option<&Value>) -> [u8; SLOT_BYTES]
 
 /// Where on its page a slot stands, for the write of its image.
 pub fn slot_offset(slot: u16) -> u16
-    requires { slot < slot_count }
+    requires { slot < row_slot_count }
     ensures { result ≡ slot_at slot }
 {
     (SLOTS_AT + SLOT_BYTES * slot as usize) as u16
 }
 
 // The bytes of a slot.
-fn slot_bytes(page: &Page, place: u16) -> &[u8]
-    requires { place < slot_count }
-    ensures slot { slot_of result.now ≡ slot_in (slots page.now) place }
+fn slot_bytes(page: &Page, slot_number: u16) -> &[u8]
+    requires { slot_number < row_slot_count }
+    ensures slot { slot_of result.now ≡ slot_in (slots page.now) slot_number }
     ensures long { length result.now ≡ SLOT_BYTES }
 {
-    let at = slot_offset(place) as usize;
+    let at = slot_offset(slot_number) as usize;
     &page.bytes()[at..at + SLOT_BYTES]
 }
 

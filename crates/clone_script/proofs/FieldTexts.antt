@@ -2,17 +2,17 @@
 use Rattle.std.proofs.Common.{◌≡◌, ℕ, List, [], ◌∷◌, ◌++◌, Option, Some, None, IfSome, option_map, sym, ap, ◌∙◌, append_assoc}
 use Rattle.clone_model.specs.Texts.{value_text}
 use Rattle.clone_model.specs.Ranges.{IsScriptValue}
-use Rattle.clone_script.specs.Fields.{IsRow, IsRowWithValue, row_text, row_with_value_text}
-use Rattle.clone_script.specs.declared.fields.Row.{Row}
+use Rattle.clone_script.specs.Fields.{IsRowField, IsRowWithValue, row_text, row_with_value_text}
+use Rattle.clone_script.specs.declared.fields.RowField.{RowField}
 use Rattle.clone_script.specs.Reading.{Parses}
 
 -- a value stands behind the row
-value-parts : (read : Row × List ℕ) → row_with_value_text read ≡ row_text read.0 ++ 32 ∷ value_text read.1
+value-parts : (read : RowField × List ℕ) → row_with_value_text read ≡ row_text read.0 ++ 32 ∷ value_text read.1
 value-parts read = append_assoc (row_text read.0) (32 ∷ []) (value_text read.1)
 
 -- what was read of the text behind the blank makes the whole
-pub with_value : (text rest : List ℕ) (row : Row) (read : Option (List ℕ)) → IsRow row → text ≡ row_text row ++ 32 ∷ rest
-    → ((r : Row) (others : List ℕ) → IsRow r → text ≡ row_text r ++ 32 ∷ others → (row ≡ r) × (rest ≡ others))
+pub with_value : (text rest : List ℕ) (row : RowField) (read : Option (List ℕ)) → IsRowField row → text ≡ row_text row ++ 32 ∷ rest
+    → ((r : RowField) (others : List ℕ) → IsRowField r → text ≡ row_text r ++ 32 ∷ others → (row ≡ r) × (rest ≡ others))
     → IfSome read (λ v. IsScriptValue v × (rest ≡ value_text v)) → ((v : List ℕ) → IsScriptValue v → rest ≡ value_text v → read ≡ Some v)
     → Parses IsRowWithValue row_with_value_text text (option_map (λ v. (row, v)) read)
 with_value text rest row (Some value) is e front some only = record {

@@ -2,7 +2,7 @@
 use Rattle.std.specs.Prelude.{ℕ, ◌<◌, ◌≤◌, ◌^◌, List, ◌++◌, codes}
 use Rattle.std.specs.Fmt.{decimal}
 use Rattle.clone_model.specs.Texts.{value_text}
-use Rattle.clone_model.specs.Ranges.{IsTable, IsPlace, IsCall, IsScriptValue}
+use Rattle.clone_model.specs.Ranges.{IsTable, IsPageName, IsCall, IsScriptValue}
 use Rattle.clone_model.specs.declared.line.TheConstants.{MOST_BUCKETS}
 use Rattle.clone_script.specs.declared.lines.Line.{Line}
 use Rattle.clone_script.specs.declared.lines.Line.TheVariants.{Create, Drop, Begin, Put, Delete, Get, Undo, Commit, Set, Flush, Half, Land, Clean, Checkpoint, Lsn, Tear, FailDonor, FailRecipient, Start, Advance, Finish, Look, Archive, Clone, Rows}
@@ -53,9 +53,9 @@ IsInRange (Undo trx) = trx < 2 ^ 32
 IsInRange (Commit trx) = trx < 2 ^ 32
 IsInRange (Set writer table key value) =
     (writer < 2 ^ 32) × IsTable table × (key < 2 ^ 64) × IsScriptValue value
-IsInRange (Flush space page) = IsPlace space page
-IsInRange (Half space page) = IsPlace space page
-IsInRange (Land space page) = IsPlace space page
+IsInRange (Flush space page) = IsPageName space page
+IsInRange (Half space page) = IsPageName space page
+IsInRange (Land space page) = IsPageName space page
 IsInRange Clean = Unit {0}
 IsInRange Checkpoint = Unit {0}
 IsInRange Lsn = Unit {0}

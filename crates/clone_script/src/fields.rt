@@ -4,9 +4,9 @@ ghost use Rattle.std.specs.Fmt.{decimal};
 ghost use Rattle.clone_model.specs.Config.{IsPoolSize, IsRingSize};
 ghost use Rattle.clone_model.specs.Ranges.{IsCall, IsTable};
 ghost use Rattle.clone_model.specs.declared.line.TheConstants.{HIGHEST_TABLE, MOST_BUCKETS, MOST_PAGES};
-ghost use Rattle.clone_script.specs.Fields.{IsRow, IsRowWithValue, row_text, row_with_value_text};
+ghost use Rattle.clone_script.specs.Fields.{IsRowField, IsRowWithValue, row_text, row_with_value_text};
 ghost use Rattle.clone_script.specs.Reading.{Parses};
-ghost use Rattle.clone_script.specs.declared.fields.Row.{Row};
+ghost use Rattle.clone_script.specs.declared.fields.RowField.{RowField};
 
 use clone_model::{
     BucketCount, HIGHEST_TABLE, LEAST_POOL, LEAST_RING, MOST_CALLS, MOST_PAGES, MOST_POOL,
@@ -16,7 +16,7 @@ use std::alloc::{AllocError, Global};
 
 /// What a line says of a row: who is at work on it, and which row it is.
 #[derive(Drop)]
-pub struct Row {
+pub struct RowField {
     /// The number of a transaction or of a writer.
     pub number: u32,
     /// The number of the row's table.
@@ -26,8 +26,8 @@ pub struct Row {
 }
 
 /// The row that the whole text shows.
-pub fn read_row(text: &[u8]) -> Option<Row>
-    ensures { Parses IsRow row_text text.now result }
+pub fn read_row(text: &[u8]) -> Option<RowField>
+    ensures { Parses IsRowField row_text text.now result }
 {
     let ((number, table), key) = leading_pair(text)?;
     row_from(number, table, number_of(key)?)
@@ -37,7 +37,7 @@ pub fn read_row(text: &[u8]) -> Option<Row>
 pub fn read_row_with_value(
     alloc: Global,
     text: &[u8],
-) -> Result<Option<(Row, ScriptValue)>, AllocError>
+) -> Result<Option<(RowField, ScriptValue)>, AllocError>
     ensures { IfOk result (λ read. Parses IsRowWithValue row_with_value_text text.now read) }
 {
     let Some((row, value)) = leading_row(text) else {
@@ -50,10 +50,11 @@ pub fn read_row_with_value(
 }
 
 /// The row in front of a blank, and what stands behind that blank.
-fn leading_row(text: &[u8]) -> Option<(Row, &[u8])>
+fn leading_row(text: &[u8]) -> Option<(RowField, &[u8])>
     ensures some { IfSome result
-        (λ found. IsRow found.0 × (text.now ≡ row_text found.0 ++ 32 ∷ found.1.now)) }
-    ensures only { (r : Row) (rest : List ℕ) → IsRow r → text.now ≡ row_text r ++ 32 ∷ rest
+        (λ found. IsRowField found.0 × (text.now ≡ row_text found.0 ++ 32 ∷ found.1.now)) }
+    ensures only { (r : RowField) (rest : List ℕ) → IsRowField r
+        → text.now ≡ row_text r ++ 32 ∷ rest
         → IsSomeAnd result (λ found. (found.0 ≡ r) × (found.1.now ≡ rest)) }
 {
     let ((number, table), rest) = leading_pair(text)?;
@@ -75,13 +76,13 @@ fn leading_pair(text: &[u8]) -> Option<((u64, u64), &[u8])>
 }
 
 /// The row of these numbers.
-fn row_from(number: u64, table: u64, key: u64) -> Option<Row>
+fn row_from(number: u64, table: u64, key: u64) -> Option<RowField>
     ensures some { IfSome result
-        (λ r. (r.number ≡ number) × (r.table ≡ table) × (r.key ≡ key) × IsRow r) }
-    ensures only { (r : Row) → IsRow r → number ≡ r.number → table ≡ r.table → key ≡ r.key
+        (λ r. (r.number ≡ number) × (r.table ≡ table) × (r.key ≡ key) × IsRowField r) }
+    ensures only { (r : RowField) → IsRowField r → number ≡ r.number → table ≡ r.table → key ≡ r.key
         → result ≡ Some r }
 {
-    Some(Row {
+    Some(RowField {
         number: as_u32(number)?,
         table: table_number(table)?,
         key,

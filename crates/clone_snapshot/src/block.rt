@@ -57,8 +57,8 @@ impl PageBlock {
     {
         let mut pages = [(0, 0); MOST];
         let count = numbers.count as usize;
-        for (place, page) in pages[..count].iter_mut().enumerate() {
-            *page = (space, numbers.first as u32 + place as u32);
+        for (index, page) in pages[..count].iter_mut().enumerate() {
+            *page = (space, numbers.first as u32 + index as u32);
         }
         PageBlock { pages, count }
     }
@@ -71,11 +71,11 @@ impl PageBlock {
         self.count
     }
 
-    /// The page at a place, counted from 0, if there is one.
-    pub fn get(&self, place: usize) -> Option<(u32, u32)>
-        ensures { result ≡ slice_get self.now place }
+    /// The page at an index, counted from 0, if there is one.
+    pub fn get(&self, index: usize) -> Option<(u32, u32)>
+        ensures { result ≡ slice_get self.now index }
     {
-        self.as_slice().get(place).copied()
+        self.as_slice().get(index).copied()
     }
 
     /// Its pages.

@@ -12,9 +12,9 @@ pub(crate) fn block_of_pages(pages: &[(u32, u32)], chunk: u32, block: u8) -> Opt
         block_of (Pages pages.now) chunk block }
 {
     let chunk = page_chunk(pages, chunk)?;
-    let places = chunk.piece(BLOCK_PAGES, block as u32)?;
-    let first = places.first as usize;
-    Some(PageBlock::of(&pages[first..first + places.count as usize]))
+    let indexes = chunk.piece(BLOCK_PAGES, block as u32)?;
+    let first = indexes.first as usize;
+    Some(PageBlock::of(&pages[first..first + indexes.count as usize]))
 }
 
 /// How many blocks a chunk of a list of pages has, or 0 where there is no such chunk.
@@ -27,7 +27,7 @@ pub(crate) fn blocks_of_pages(pages: &[(u32, u32)], chunk: u32) -> u64
     }
 }
 
-// The places of a chunk's pages in the list.
+// The indexes of a chunk's pages in the list.
 fn page_chunk(pages: &[(u32, u32)], chunk: u32) -> Option<Span>
     ensures chunk { option_map (λ c. PagePart (take c.count (drop c.first pages.now))) result ≡
         slice_get (chunks_of (Pages pages.now)) chunk }

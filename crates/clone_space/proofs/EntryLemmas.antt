@@ -12,7 +12,7 @@ use Rattle.clone_page.specs.declared.kind.PageKind.{PageKind}
 use Rattle.clone_page.proofs.Parts.{part-zeros, field-part}
 use Rattle.clone_mtr.specs.Patches.{Patched}
 use Rattle.clone_space.specs.declared.entry.TableEntry.{TableEntry}
-use Rattle.clone_space.specs.Entries.{place_at, pages_at, entry_on, dictionary, entry_in, free, IsEntry}
+use Rattle.clone_space.specs.Entries.{entry_at_offset, pages_at, entry_on, dictionary, entry_in, free, IsEntry}
 use Rattle.clone_space.specs.Records.{entry_bytes}
 use Rattle.clone_space.specs.Writes.{WritesBefore}
 use Rattle.clone_space.proofs.WriteLemmas.{field-kept, field-written, field-first}
@@ -59,45 +59,45 @@ dictionary-set j e before after within is same =
 -- Bytes are written.
 
 -- an entry stays where the bytes are written elsewhere
-pub entry_on-kept : (k lsn at : ℕ) (piece page : List ℕ) → k < 62 → (place_at k + 16 ≤ at) ⊎ (at + length piece ≤ place_at k) → at ≤ 4096 → IsAllowed at (length piece) → length page ≡ 4096 → entry_on k (with_lsn lsn (put_at at piece page)) ≡ entry_on k page
+pub entry_on-kept : (k lsn at : ℕ) (piece page : List ℕ) → k < 62 → (entry_at_offset k + 16 ≤ at) ⊎ (at + length piece ≤ entry_at_offset k) → at ≤ 4096 → IsAllowed at (length piece) → length page ≡ 4096 → entry_on k (with_lsn lsn (put_at at piece page)) ≡ entry_on k page
 entry_on-kept k lsn at piece page within apart fits allowed long =
-    let kept = λ (a : ℕ) (low : place_at k ≤ a) (high : a + 4 ≤ place_at k + 16). field-kept a 4 lsn at piece page (omega arith) (omega arith)
+    let kept = λ (a : ℕ) (low : entry_at_offset k ≤ a) (high : a + 4 ≤ entry_at_offset k + 16). field-kept a 4 lsn at piece page (omega arith) (omega arith)
     (elim apart [ inl before ↦ inl (omega arith) | inr behind ↦ inr (omega arith) ]) fits allowed long in
-    entry_is (entry_on k page) (kept (place_at k) (omega arith) (omega arith)) (kept (place_at k + 4) (omega arith) (omega arith)) (kept (place_at k + 8) (omega arith) (omega arith))
+    entry_is (entry_on k page) (kept (entry_at_offset k) (omega arith) (omega arith)) (kept (entry_at_offset k + 4) (omega arith) (omega arith)) (kept (entry_at_offset k + 8) (omega arith) (omega arith))
 
--- two places of the dictionary lie apart
-apart_from : (j k at n : ℕ) → k ≢ j → place_at j ≤ at → at + n ≤ place_at j + 16 → (place_at k + 16 ≤ at) ⊎ (at + n ≤ place_at k)
+-- two entries of the dictionary lie apart
+apart_from : (j k at n : ℕ) → k ≢ j → entry_at_offset j ≤ at → at + n ≤ entry_at_offset j + 16 → (entry_at_offset k + 16 ≤ at) ⊎ (at + n ≤ entry_at_offset k)
 apart_from j k at n other low high = let side : (k < j) ⊎ (j < k) = grind arith in elim side [ inl below ↦ inl (omega arith) | inr above ↦ inr (omega arith) ]
 
 in_body : (at n : ℕ) → 1 ≤ n → 38 ≤ at → at + n ≤ 4088 → IsAllowed at n
 in_body at n some low high = (some, inr (low, high))
 
-pub dictionary-entry : (lsn j : ℕ) (e : TableEntry) (page : List ℕ) → j < 62 → IsEntry e → length page ≡ 4096 → dictionary (with_lsn lsn (put_at (place_at j) (entry_bytes e) page)) ≡ set (dictionary page) j e
+pub dictionary-entry : (lsn j : ℕ) (e : TableEntry) (page : List ℕ) → j < 62 → IsEntry e → length page ≡ 4096 → dictionary (with_lsn lsn (put_at (entry_at_offset j) (entry_bytes e) page)) ≡ set (dictionary page) j e
 dictionary-entry lsn j e page within is long =
-    let allowed = in_body (place_at j) 16 (omega arith) (omega arith) (omega arith) in
-    let there = λ (i : ℕ) (inside : i + 4 ≤ 16). field-written i 4 lsn (place_at j) (entry_bytes e) page inside (omega arith) (omega arith) allowed long in
-    dictionary-set j e page (with_lsn lsn (put_at (place_at j) (entry_bytes e) page)) within
+    let allowed = in_body (entry_at_offset j) 16 (omega arith) (omega arith) (omega arith) in
+    let there = λ (i : ℕ) (inside : i + 4 ≤ 16). field-written i 4 lsn (entry_at_offset j) (entry_bytes e) page inside (omega arith) (omega arith) allowed long in
+    dictionary-set j e page (with_lsn lsn (put_at (entry_at_offset j) (entry_bytes e) page)) within
     (entry_is e
-    (field-first 4 lsn (place_at j) (entry_bytes e) page (omega arith) (omega arith) (omega arith) allowed long ∙ big_number-reads_back 4 e.table (big_bytes 4 e.buckets ++ big_bytes 4 e.pages ++ big_bytes 4 0) is.0)
+    (field-first 4 lsn (entry_at_offset j) (entry_bytes e) page (omega arith) (omega arith) (omega arith) allowed long ∙ big_number-reads_back 4 e.table (big_bytes 4 e.buckets ++ big_bytes 4 e.pages ++ big_bytes 4 0) is.0)
     (there 4 (omega arith) ∙ big_number-reads_back 4 e.buckets (big_bytes 4 e.pages ++ big_bytes 4 0) is.1)
     (there 8 (omega arith) ∙ big_number-reads_back 4 e.pages (big_bytes 4 0) is.2))
-    (λ k here other. entry_on-kept k lsn (place_at j) (entry_bytes e) page here (apart_from j k (place_at j) 16 other (omega arith) (omega arith)) (omega arith) allowed long)
+    (λ k here other. entry_on-kept k lsn (entry_at_offset j) (entry_bytes e) page here (apart_from j k (entry_at_offset j) 16 other (omega arith) (omega arith)) (omega arith) allowed long)
 
 pub dictionary-size : (lsn j pages : ℕ) (page : List ℕ) → j < 62 → pages < 2 ^ 32 → length page ≡ 4096 → dictionary (with_lsn lsn (put_at (pages_at j) (big_bytes 4 pages) page)) ≡ set (dictionary page) j (record (entry_in (dictionary page) j) { pages = pages })
 dictionary-size lsn j pages page within small long =
     let was : TableEntry = entry_in (dictionary page) j in
     let piece : List ℕ = big_bytes 4 pages in
     let allowed = in_body (pages_at j) 4 (omega arith) (omega arith) (omega arith) in
-    let kept = λ (a : ℕ) (low : place_at j ≤ a) (high : a + 4 ≤ pages_at j). field-kept a 4 lsn (pages_at j) piece page (omega arith) (omega arith) (inl high) (omega arith) allowed long in
+    let kept = λ (a : ℕ) (low : entry_at_offset j ≤ a) (high : a + 4 ≤ pages_at j). field-kept a 4 lsn (pages_at j) piece page (omega arith) (omega arith) (inl high) (omega arith) allowed long in
     let told = sym (entry_in-dictionary j page within) in
     dictionary-set j (record was { pages = pages }) page (with_lsn lsn (put_at (pages_at j) piece page)) within
     (entry_is (record was { pages = pages })
-    (kept (place_at j) (omega arith) (omega arith) ∙ ap (λ (e : TableEntry). e.table) told)
-    (kept (place_at j + 4) (omega arith) (omega arith) ∙ ap (λ (e : TableEntry). e.buckets) told)
+    (kept (entry_at_offset j) (omega arith) (omega arith) ∙ ap (λ (e : TableEntry). e.table) told)
+    (kept (entry_at_offset j + 4) (omega arith) (omega arith) ∙ ap (λ (e : TableEntry). e.buckets) told)
     (field-first 4 lsn (pages_at j) piece page (omega arith) (omega arith) (omega arith) allowed long ∙ big_number-reads_back 4 pages [] small))
     (λ k here other. entry_on-kept k lsn (pages_at j) piece page here (apart_from j k (pages_at j) 4 other (omega arith) (omega arith)) (omega arith) allowed long)
 
-pub dictionary-free : (lsn j : ℕ) (page : List ℕ) → j < 62 → length page ≡ 4096 → dictionary (with_lsn lsn (put_at (place_at j) (replicate 16 0) page)) ≡ set (dictionary page) j free
+pub dictionary-free : (lsn j : ℕ) (page : List ℕ) → j < 62 → length page ≡ 4096 → dictionary (with_lsn lsn (put_at (entry_at_offset j) (replicate 16 0) page)) ≡ set (dictionary page) j free
 dictionary-free lsn j page within long = dictionary-entry lsn j free page within (omega arith, omega arith, omega arith) long
 
 pub dictionary-before : (lsn : ℕ) (patch : Patched) (page : List ℕ) → WritesBefore patch → length page ≡ 4096 → dictionary (with_lsn lsn (put_at patch.offset patch.bytes page)) ≡ dictionary page
@@ -114,7 +114,7 @@ all_free page zeros =
     ext_get_or free (dictionary page) (replicate 62 free) (long ∙ sym (length-replicate 62 free))
     (λ k h. let within : k < 62 = omega arith in
     entry_in-dictionary k page within
-    ∙ entry_is free (zeros (place_at k) (omega arith) (omega arith)) (zeros (place_at k + 4) (omega arith) (omega arith)) (zeros (place_at k + 8) (omega arith) (omega arith))
+    ∙ entry_is free (zeros (entry_at_offset k) (omega arith) (omega arith)) (zeros (entry_at_offset k + 4) (omega arith) (omega arith)) (zeros (entry_at_offset k + 8) (omega arith) (omega arith))
     ∙ sym (get_or-replicate 62 k free free within))
 
 pub dictionary-initialised : (space number lsn : ℕ) (kind : PageKind) → dictionary (initialised space number kind lsn) ≡ replicate 62 free

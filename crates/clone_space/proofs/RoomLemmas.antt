@@ -1,5 +1,5 @@
--- Names that differ, each of them a key of a map, are no more than the map has keys. So a dictionary
--- that names fewer tables than it has places has a free one.
+-- Names that differ, each of them a key of a map, are no more than the map has keys. So a
+-- dictionary that names fewer tables than it has entries has a free one.
 use Rattle.std.proofs.Common.{◌≡◌, ◌≤◌, ◌<◌, ◌-◌, ℕ, zero, suc, Bool, true, false, cond, List, Option, Some, None, IsSome, is_some, arith, refl, sym, ap, ◌∙◌, inl, inr}
 use Rattle.std.specs.FinMap as finite
 use Rattle.std.specs.FinMap.{nat_cmp-IsAntisymmetric, empty_of_len, get-empty, len-remove}

@@ -1,5 +1,5 @@
--- The dictionary as a list of entries, one for each of 62 places of the system page. An entry tells
--- a table, how many buckets it has, and how many pages its space has.
+-- The dictionary of the system page as a list of its 62 entries. An entry tells a table, how many
+-- buckets it has, and how many pages its space has.
 use Rattle.std.specs.Prelude.{ℕ, ◌≡◌, ◌≢◌, ◌<◌, ◌+◌, ◌^◌, ◌==◌, not, List, map, filter, slice_index_or, IsSome, MatchOption}
 use Rattle.std.specs.declared.option.Option.{Option}
 use Rattle.std.specs.List.{range_with_len}
@@ -11,22 +11,22 @@ use Rattle.clone_page.specs.Dictionary.{entry_count, entry_space}
 use Rattle.clone_space.specs.declared.entry.TableEntry.{TableEntry}
 use Rattle.clone_space.specs.declared.entry.TheConstants.{BUCKETS_AT, PAGES_AT}
 
--- where on the system page the entry of a place stands, and in it the number of pages
-abbrev pub place_at : ℕ → ℕ
-place_at j = page.entry_at j
+-- where on the system page the entry with this number stands, and in it the number of pages
+abbrev pub entry_at_offset : ℕ → ℕ
+entry_at_offset j = page.entry_at j
 
 abbrev pub pages_at : ℕ → ℕ
-pages_at j = place_at j + PAGES_AT
+pages_at j = entry_at_offset j + PAGES_AT
 
--- what the entry of a place tells
+-- what the entry with this number tells
 abbrev pub entry_on : ℕ → List ℕ → TableEntry
 entry_on j page = record {
   table = entry_space j page;
-  buckets = field (place_at j + BUCKETS_AT) 4 page;
+  buckets = field (entry_at_offset j + BUCKETS_AT) 4 page;
   pages = field (pages_at j) 4 page;
 }
 
--- the entries of the system page, by their places
+-- the entries of the system page, by their numbers
 unfoldable pub dictionary : List ℕ → List TableEntry
 dictionary page = map (λ j. entry_on j page) (range_with_len 0 entry_count)
 
@@ -34,7 +34,7 @@ dictionary page = map (λ j. entry_on j page) (range_with_len 0 entry_count)
 abbrev pub free : TableEntry
 free = record { table = 0; buckets = 0; pages = 0 }
 
--- the entry at a place of the list, or a free one behind its end
+-- the entry with this number in the list, or a free one behind its end
 abbrev pub entry_in : List TableEntry → ℕ → TableEntry
 entry_in list j = slice_index_or list j free
 

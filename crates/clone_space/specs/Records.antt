@@ -7,7 +7,7 @@ use Rattle.clone_page.specs.declared.kind.PageKind.TheVariants.{Overflow}
 use Rattle.clone_mtr.specs.declared.record.Record.{Record}
 use Rattle.clone_mtr.specs.declared.record.Record.TheVariants.{Init, Write, Extend, Create, Drop}
 use Rattle.clone_space.specs.declared.entry.TableEntry.{TableEntry}
-use Rattle.clone_space.specs.Entries.{place_at, pages_at}
+use Rattle.clone_space.specs.Entries.{entry_at_offset, pages_at}
 
 -- the 16 bytes of an entry: table, buckets, pages, and four zero bytes
 abbrev pub entry_bytes : TableEntry → List ℕ
@@ -17,17 +17,17 @@ entry_bytes e = entry e.table e.buckets e.pages
 abbrev pub system_write : ℕ → List ℕ → Record
 system_write at bytes = Write 0 0 record { offset = at; bytes = bytes }
 
--- the entry of a place becomes this one
+-- the entry with this number becomes this one
 abbrev pub entry_record : ℕ → TableEntry → Record
-entry_record place e = system_write (place_at place) (entry_bytes e)
+entry_record entry_number e = system_write (entry_at_offset entry_number) (entry_bytes e)
 
--- the entry of a place tells so many pages
+-- the entry with this number tells so many pages
 abbrev pub size_record : ℕ → ℕ → Record
-size_record place pages = system_write (pages_at place) (big_bytes 4 pages)
+size_record entry_number pages = system_write (pages_at entry_number) (big_bytes 4 pages)
 
--- the entry of a place becomes zero bytes
+-- the entry with this number becomes zero bytes
 abbrev pub free_record : ℕ → Record
-free_record place = system_write (place_at place) (replicate ENTRY_BYTES 0)
+free_record entry_number = system_write (entry_at_offset entry_number) (replicate ENTRY_BYTES 0)
 
 -- the page of a chain gets this page behind it
 abbrev pub link_record : ℕ → ℕ → ℕ → Record
@@ -35,16 +35,16 @@ link_record table page next = Write table page record { offset = NEXT_AT; bytes 
 
 -- a table is made, with a page for each bucket
 abbrev pub records_of_create : ℕ → ℕ → ℕ → List Record
-records_of_create place table buckets =
+records_of_create entry_number table buckets =
     Create table buckets
-    ∷ entry_record place (record { table = table; buckets = buckets; pages = buckets }) ∷ []
+    ∷ entry_record entry_number (record { table = table; buckets = buckets; pages = buckets }) ∷ []
 
 -- a space of so many pages gets one more, an overflow page behind the last page of a chain
 abbrev pub records_of_growth : ℕ → ℕ → ℕ → ℕ → List Record
-records_of_growth place table pages last =
-    size_record place (pages + 1) ∷ Extend table (pages + 1) ∷ Init table pages Overflow
+records_of_growth entry_number table pages last =
+    size_record entry_number (pages + 1) ∷ Extend table (pages + 1) ∷ Init table pages Overflow
     ∷ link_record table last pages ∷ []
 
 -- a table is dropped
 abbrev pub records_of_drop : ℕ → ℕ → List Record
-records_of_drop place table = Drop table ∷ free_record place ∷ []
+records_of_drop entry_number table = Drop table ∷ free_record entry_number ∷ []

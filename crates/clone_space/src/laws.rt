@@ -14,39 +14,39 @@ ghost use Rattle.clone_space.specs.Entries.{dictionary, entry_in, free, FindsFre
 ghost use Rattle.clone_space.specs.Records.{entry_record, size_record, free_record, link_record};
 ghost use Rattle.clone_space.specs.Writes.{WritesBefore, Keeps, KeepsSystem};
 
-/// An entry that is written is the entry of its place. All others stay.
+/// An entry that is written is the entry with this number. All others stay.
 pub fn entry_laws()
-    ensures entry { (lsn place : ℕ) (e : TableEntry) (page : List ℕ) → place < entry_count
-        → IsEntry e → length page ≡ PAGE_SIZE
-        → dictionary (effect lsn (entry_record place e) page)
-        ≡ slice_set (dictionary page) place e }
-    ensures page { (lsn place : ℕ) (e : TableEntry) (page : List ℕ) → place < entry_count
-        → length page ≡ PAGE_SIZE
-        → KeepsSystem page (effect lsn (entry_record place e) page) }
+    ensures entry { (lsn entry_number : ℕ) (e : TableEntry) (page : List ℕ)
+        → entry_number < entry_count → IsEntry e → length page ≡ PAGE_SIZE
+        → dictionary (effect lsn (entry_record entry_number e) page)
+        ≡ slice_set (dictionary page) entry_number e }
+    ensures page { (lsn entry_number : ℕ) (e : TableEntry) (page : List ℕ)
+        → entry_number < entry_count → length page ≡ PAGE_SIZE
+        → KeepsSystem page (effect lsn (entry_record entry_number e) page) }
 {}
 
-/// A number of pages that is written is that of the entry of its place. Its table and its buckets
-/// stay, and so do all other entries.
+/// A number of pages that is written is that of the entry with this number. Its table and its
+/// buckets stay, and so do all other entries.
 pub fn size_laws()
-    ensures entry { (lsn place pages : ℕ) (page : List ℕ) → place < entry_count
+    ensures entry { (lsn entry_number pages : ℕ) (page : List ℕ) → entry_number < entry_count
         → pages < 2 ^ 32 → length page ≡ PAGE_SIZE
-        → dictionary (effect lsn (size_record place pages) page)
-        ≡ slice_set (dictionary page) place
-        (record (entry_in (dictionary page) place) { pages = pages }) }
-    ensures page { (lsn place pages : ℕ) (page : List ℕ) → place < entry_count
+        → dictionary (effect lsn (size_record entry_number pages) page)
+        ≡ slice_set (dictionary page) entry_number
+        (record (entry_in (dictionary page) entry_number) { pages = pages }) }
+    ensures page { (lsn entry_number pages : ℕ) (page : List ℕ) → entry_number < entry_count
         → length page ≡ PAGE_SIZE
-        → KeepsSystem page (effect lsn (size_record place pages) page) }
+        → KeepsSystem page (effect lsn (size_record entry_number pages) page) }
 {}
 
 /// An entry of zero bytes is free. All others stay.
 pub fn free_laws()
-    ensures entry { (lsn place : ℕ) (page : List ℕ) → place < entry_count
+    ensures entry { (lsn entry_number : ℕ) (page : List ℕ) → entry_number < entry_count
         → length page ≡ PAGE_SIZE
-        → dictionary (effect lsn (free_record place) page)
-        ≡ slice_set (dictionary page) place free }
-    ensures page { (lsn place : ℕ) (page : List ℕ) → place < entry_count
+        → dictionary (effect lsn (free_record entry_number) page)
+        ≡ slice_set (dictionary page) entry_number free }
+    ensures page { (lsn entry_number : ℕ) (page : List ℕ) → entry_number < entry_count
         → length page ≡ PAGE_SIZE
-        → KeepsSystem page (effect lsn (free_record place) page) }
+        → KeepsSystem page (effect lsn (free_record entry_number) page) }
 {}
 
 /// The dictionary as a list: 62 entries, which are those of the bytes of the page. A write before
@@ -64,15 +64,15 @@ pub fn list_laws()
 {}
 
 /// Where the dictionary names tables of a map alone, each of them once, and these are fewer than it
-/// has places, an entry is free.
+/// has entries, one of them is free.
 pub fn room_law()
     ensures { (tables : finite.FinMap nat_cmp ℕ) (page : List ℕ) (found : Option ℕ)
         → AreOnce (dictionary page) → AreAmong tables (dictionary page)
         → finite.len tables < entry_count → FindsFree (dictionary page) found → IsSome found }
 {}
 
-/// A page of a chain that gets another behind it: that is its next page, and the page stays whole, of
-/// its kind and well formed.
+/// A page of a chain that gets another behind it: that is its next page, and the page stays whole,
+/// of its kind and well formed.
 pub fn link_laws()
     ensures next { (lsn table number next : ℕ) (page : List ℕ) → next < 2 ^ 32
         → length page ≡ PAGE_SIZE

@@ -7,13 +7,13 @@ use crate::entry::{BUCKETS_AT, PAGES_AT, TableEntry};
 use clone_page::{ENTRIES_AT, ENTRY_BYTES, ENTRY_COUNT, Page, u32_at};
 use std::alloc::{AllocError, Global};
 
-/// The entry of a place of the dictionary, from 0 to 61, on the system page.
-pub fn entry_at(page: &Page, place: usize) -> TableEntry
-    requires { place < entry_count }
-    ensures { result ≡ entry_in (dictionary page.now) place }
+/// The entry with this number, from 0 to 61, of the dictionary on the system page.
+pub fn entry_at(page: &Page, entry_number: usize) -> TableEntry
+    requires { entry_number < entry_count }
+    ensures { result ≡ entry_in (dictionary page.now) entry_number }
 {
     let bytes = page.bytes();
-    let at = ENTRIES_AT + ENTRY_BYTES * place;
+    let at = ENTRIES_AT + ENTRY_BYTES * entry_number;
     TableEntry {
         table: u32_at(bytes, at),
         buckets: u32_at(bytes, at + BUCKETS_AT),
@@ -21,19 +21,19 @@ pub fn entry_at(page: &Page, place: usize) -> TableEntry
     }
 }
 
-/// The place of the first entry that names a table. None exactly where no entry does.
+/// The number of the first entry that names a table. None exactly where no entry does.
 pub fn find(page: &Page, table: u32) -> Option<usize>
     ensures { Finds table (dictionary page.now) result }
 {
-    for place in 0..ENTRY_COUNT {
-        if entry_at(page, place).table == table {
-            return Some(place);
+    for entry_number in 0..ENTRY_COUNT {
+        if entry_at(page, entry_number).table == table {
+            return Some(entry_number);
         }
     }
     None
 }
 
-/// The place of the least free entry. None exactly where each names a table.
+/// The number of the least free entry. None exactly where each names a table.
 pub fn least_free(page: &Page) -> Option<usize>
     ensures { FindsFree (dictionary page.now) result }
 {
@@ -46,8 +46,8 @@ pub fn sizes(alloc: Global, page: &Page) -> Result<Vec<(u32, u32)>, AllocError>
     ensures { IfOk result (λ sizes. sizes.items ≡ entries.sizes (dictionary page.now)) }
 {
     let mut sizes = Vec::new(alloc);
-    for place in 0..ENTRY_COUNT {
-        let entry = entry_at(page, place);
+    for entry_number in 0..ENTRY_COUNT {
+        let entry = entry_at(page, entry_number);
         if !entry.is_free() {
             sizes.push((entry.table, entry.pages))?;
         }

@@ -7,18 +7,18 @@ ghost use Rattle.clone_model.specs.declared.line.TheConstants.{MOST_PAGES};
 ghost use Rattle.clone_page.specs.Dictionary.{entry_count};
 ghost use Rattle.clone_page.specs.Header.{IsAllowed};
 ghost use Rattle.clone_mtr.specs.declared.patch.TheConstants.{SHORT_PATCH};
-ghost use Rattle.clone_space.specs.Entries.{place_at};
+ghost use Rattle.clone_space.specs.Entries.{entry_at_offset};
 ghost use Rattle.clone_space.specs.Records.{system_write, records_of_create, records_of_growth, records_of_drop};
 
 use crate::entry::{PAGES_AT, TableEntry};
 use clone_mtr::{Patch, Record};
 use clone_page::{ENTRIES_AT, ENTRY_BYTES, NEXT_AT, PageKind};
 
-/// A table's space is made, with a page for each bucket, and the table is named in the entry of
-/// this place.
-pub fn create_records(place: usize, table: u32, buckets: u32) -> [Record; 2]
-    requires { place < entry_count }
-    ensures { result ≡ records_of_create place table buckets }
+/// A table's space is made, with a page for each bucket, and the table is named in the entry with
+/// this number.
+pub fn create_records(entry_number: usize, table: u32, buckets: u32) -> [Record; 2]
+    requires { entry_number < entry_count }
+    ensures { result ≡ records_of_create entry_number table buckets }
 {
     let entry = TableEntry {
         table,
@@ -30,20 +30,20 @@ pub fn create_records(place: usize, table: u32, buckets: u32) -> [Record; 2]
             space: table,
             pages: buckets,
         },
-        written(entry_offset(place), &entry.bytes()),
+        written(entry_offset(entry_number), &entry.bytes()),
     ]
 }
 
-/// The space of the table in the entry of this place, which has so many pages, gets one page more,
-/// behind the last page of a chain.
-pub fn growth_records(place: usize, table: u32, pages: u32, last: u32) -> [Record; 4]
-    requires place { place < entry_count }
+/// The space of the table in the entry with this number, which has so many pages, gets one page
+/// more, behind the last page of a chain.
+pub fn growth_records(entry_number: usize, table: u32, pages: u32, last: u32) -> [Record; 4]
+    requires number { entry_number < entry_count }
     requires room { pages < MOST_PAGES }
-    ensures { result ≡ records_of_growth place table pages last }
+    ensures { result ≡ records_of_growth entry_number table pages last }
 {
     [
         written(
-            entry_offset(place) + PAGES_AT as u16,
+            entry_offset(entry_number) + PAGES_AT as u16,
             &(pages + 1).to_be_bytes(),
         ),
         Record::Extend {
@@ -63,23 +63,23 @@ pub fn growth_records(place: usize, table: u32, pages: u32, last: u32) -> [Recor
     ]
 }
 
-/// A table's space is gone, and the entry of this place, which named the table, is free.
-pub fn drop_records(place: usize, table: u32) -> [Record; 2]
-    requires { place < entry_count }
-    ensures { result ≡ records_of_drop place table }
+/// A table's space is gone, and the entry with this number, which named the table, is free.
+pub fn drop_records(entry_number: usize, table: u32) -> [Record; 2]
+    requires { entry_number < entry_count }
+    ensures { result ≡ records_of_drop entry_number table }
 {
     [
         Record::Drop { space: table },
-        written(entry_offset(place), &[0; ENTRY_BYTES]),
+        written(entry_offset(entry_number), &[0; ENTRY_BYTES]),
     ]
 }
 
-// Where the entry of a place stands on the system page.
-fn entry_offset(place: usize) -> u16
-    requires { place < entry_count }
-    ensures { result ≡ place_at place }
+// Where the entry with this number stands on the system page.
+fn entry_offset(entry_number: usize) -> u16
+    requires { entry_number < entry_count }
+    ensures { result ≡ entry_at_offset entry_number }
 {
-    (ENTRIES_AT + ENTRY_BYTES * place) as u16
+    (ENTRIES_AT + ENTRY_BYTES * entry_number) as u16
 }
 
 // Bytes are written on the system page.

@@ -43,12 +43,12 @@ fn is_spelled(records: &[Record], bytes: &[u8]) -> bool {
     }
 }
 
-// The system page, with the entry of a place written by the second record of a creation.
-fn create(system: &mut Page, place: usize, table: u32, buckets: u32) -> Result<(), Fail> {
-    if place > 61 {
-        return Err("no such place".into());
+// The entry with this number is written on the system page by the second record of a creation.
+fn create(system: &mut Page, entry_number: usize, table: u32, buckets: u32) -> Result<(), Fail> {
+    if entry_number > 61 {
+        return Err("no such entry".into());
     }
-    apply(&create_records(place, table, buckets)[1], system, 20);
+    apply(&create_records(entry_number, table, buckets)[1], system, 20);
     Ok(())
 }
 
@@ -88,9 +88,9 @@ fn a_hole_is_filled(rt: HostRuntime) -> Result<(), Fail> {
 #[test]
 fn all_entries_are_used(rt: HostRuntime) -> Result<(), Fail> {
     let mut system = Page::zero();
-    for place in 0..62 {
-        assert_eq!(rt; least_free(&system), Some(place));
-        create(&mut system, place, place as u32 + 1, 1)?;
+    for entry_number in 0..62 {
+        assert_eq!(rt; least_free(&system), Some(entry_number));
+        create(&mut system, entry_number, entry_number as u32 + 1, 1)?;
     }
     assert_eq!(rt; least_free(&system), None);
     assert_eq!(rt; find(&system, 62), Some(61));

@@ -13,8 +13,8 @@ fn blocks_of_files(rt: HostRuntime) -> Result<(), Fail> {
     let block = snapshot.page_block(1, 2).ok_or("block 2 of chunk 1")?;
     let pages = [80, 81, 82, 83, 84, 85, 86, 87];
     assert_eq!(rt; block.len(), pages.len());
-    for (place, number) in pages.iter().enumerate() {
-        assert_eq!(rt; block.get(place), Some((0, *number)));
+    for (index, number) in pages.iter().enumerate() {
+        assert_eq!(rt; block.get(index), Some((0, *number)));
     }
     assert_eq!(rt; block.get(8), None);
     let block = snapshot

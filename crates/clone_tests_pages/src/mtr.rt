@@ -284,7 +284,7 @@ fn reads_no_second_spelling(rt: HostRuntime) -> Result<(), Fail> {
     Ok(())
 }
 
-// Why the opening isn't read with this byte at this place.
+// Why the opening isn't read with this byte at this offset.
 fn opening_with(alloc: Global, at: usize, byte: u8) -> Option<DecodeRefusal>
     requires { at < 21 }
 {

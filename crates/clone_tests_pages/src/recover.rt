@@ -76,8 +76,8 @@ const BYTE: [u8; 15] = [2, 0, 0, 0, 1, 0, 0, 0, 3, 0, 48, 0, 1, 9, 6];
 // How many pages the redo's space has.
 const REDO_PAGES: u32 = 2;
 
-/// A damaged log: the byte that stands at a place of it, and the space, the page and the cause that
-/// recovery names.
+/// A damaged log: the byte that stands at an offset of it, and the space, the page and the cause
+/// that recovery names.
 type Damaged = (usize, u8, u32, u32, Why);
 
 const DAMAGED: [Damaged; 7] = [
@@ -90,9 +90,9 @@ const DAMAGED: [Damaged; 7] = [
     (224, 161, 0, 1, Why::Undo),
 ];
 
-// Puts this byte at a place, if there is one.
-fn set(bytes: &mut [u8], place: usize, byte: u8) {
-    if let Some(old) = bytes.get_mut(place) {
+// Puts this byte at an offset, if there is one.
+fn set(bytes: &mut [u8], offset: usize, byte: u8) {
+    if let Some(old) = bytes.get_mut(offset) {
         *old = byte;
     }
 }
@@ -226,9 +226,9 @@ fn a_page_that_is_newer(rt: HostRuntime) -> Result<(), Fail> {
 // A record of a space that isn't there and one of a page past the end are passed over.
 #[test]
 fn pages_that_are_not_there(rt: HostRuntime) -> Result<(), Fail> {
-    for place in [4, 8] {
+    for offset in [4, 8] {
         let mut redo = BYTE;
-        set(&mut redo, place, 7);
+        set(&mut redo, offset, 7);
         let mut disk = based(rt.alloc(), 8000)?;
         complete(&mut disk, &redo)?;
         assert!(rt; recover(rt.alloc(), &mut disk).is_ok());
@@ -237,12 +237,12 @@ fn pages_that_are_not_there(rt: HostRuntime) -> Result<(), Fail> {
     Ok(())
 }
 
-// What is damaged by one byte at a place of the log of an open change.
+// What is damaged by one byte at an offset of the log of an open change.
 #[test]
 fn damaged_logs(rt: HostRuntime) -> Result<(), Fail> {
-    for (place, byte, space, page, why) in DAMAGED {
+    for (offset, byte, space, page, why) in DAMAGED {
         let mut log = open_log(rt.alloc(), &UNDO)?;
-        set(&mut log, place, byte);
+        set(&mut log, offset, byte);
         let mut disk = MemDisk::new(rt.alloc());
         complete(&mut disk, &log)?;
         let refusal = RecoverRefusal::Damaged { space, page, why };

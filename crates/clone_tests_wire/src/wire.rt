@@ -73,7 +73,7 @@ const PAGES: [u8; 24] = [
     17, 0, 0, 128, 83, 0, 0, 0, 0, 0, 0, 0, 1, 0, 0, 0, 1, 1, 0, 0, 0, 0, 0, 8,
 ];
 
-/// A field of a payload that may not have every number: the frame, the place where the field
+/// A field of a payload that may not have every number: the frame, the offset where the field
 /// begins, its bytes, and the least and the most that it may have.
 type Field = (&'static str, usize, usize, u64, u64);
 
@@ -111,7 +111,7 @@ const FIELDS: [Field; 30] = [
 ];
 
 /// A change that is in its own field's range and is wrong by a later field: the frame, the changed
-/// byte's place, its value, and the place where the later field begins. Another code of the side
+/// byte's offset, its value, and the offset where the later field begins. Another code of the side
 /// goes with another length. Another length that the code has goes with another number of chunks in
 /// REINIT, with another number of spaces, which stages after the first don't have, in STAGE, and
 /// with another length of the redo in REDO. Nothing is left to copy in the last stage.
@@ -328,18 +328,18 @@ fn needs_more(rt: HostRuntime) {
 #[test]
 fn changed_bytes(rt: HostRuntime) {
     for vector in vectors() {
-        for place in 0..vector.bytes.len() {
-            assert!(rt; is_told_at(rt.alloc(), &vector, place));
+        for offset in 0..vector.bytes.len() {
+            assert!(rt; is_told_at(rt.alloc(), &vector, offset));
         }
     }
 }
 
-fn is_told_at(alloc: Global, vector: &Vector, place: usize) -> bool {
-    let Some(byte) = vector.bytes.get(place) else {
+fn is_told_at(alloc: Global, vector: &Vector, offset: usize) -> bool {
+    let Some(byte) = vector.bytes.get(offset) else {
         return false;
     };
     for value in [0, 255, byte.wrapping_add(1)] {
-        if value != *byte && !is_told(alloc, vector, place, value) {
+        if value != *byte && !is_told(alloc, vector, offset, value) {
             return false;
         }
     }
@@ -347,29 +347,29 @@ fn is_told_at(alloc: Global, vector: &Vector, place: usize) -> bool {
 }
 
 // Whether a change of one byte is answered as the tables say.
-fn is_told(alloc: Global, vector: &Vector, place: usize, value: u8) -> bool {
+fn is_told(alloc: Global, vector: &Vector, offset: usize, value: u8) -> bool {
     let Ok(mut bytes) = Vec::from_slice(alloc, vector.bytes) else {
         return false;
     };
-    let Some(byte) = bytes.get_mut(place) else {
+    let Some(byte) = bytes.get_mut(offset) else {
         return false;
     };
     *byte = value;
-    match garbled_at(vector.name, &bytes, place, value) {
+    match garbled_at(vector.name, &bytes, offset, value) {
         Some(at) => decode(alloc, &bytes, vector.side).err() == Some(WireRefusal::Garbled { at }),
         None => is_read(alloc, vector, &bytes),
     }
 }
 
 // Where a frame is garbled after a change of one byte, by the tables.
-fn garbled_at(name: &str, bytes: &[u8], place: usize, value: u8) -> Option<usize> {
+fn garbled_at(name: &str, bytes: &[u8], offset: usize, value: u8) -> Option<usize> {
     for (of, at, byte, later) in LATER {
-        if of == name && at == place && byte == value {
+        if of == name && at == offset && byte == value {
             return Some(later);
         }
     }
-    if place < 5 {
-        return Some(place.min(1));
+    if offset < 5 {
+        return Some(offset.min(1));
     }
     for (of, at, width, least, most) in FIELDS {
         let number = number_at(bytes, at, width);
@@ -471,14 +471,14 @@ fn eight_pages(rt: HostRuntime) -> Result<(), Fail> {
     assert!(rt; text == bytes);
     let vector = answer("PAGES", &bytes);
     assert!(rt; is_read(alloc, &vector, &bytes));
-    let places = (0..33)
+    let offsets = (0..33)
         .chain([4127, 4128, 16_000])
         .chain(28_751..28_761)
         .chain([32_855]);
-    for place in places {
-        assert!(rt; is_told_at(alloc, &vector, place));
-        let front = bytes.get(..place).ok_or("a front")?;
-        let need = if place < 5 { 5 } else { 32_856 };
+    for offset in offsets {
+        assert!(rt; is_told_at(alloc, &vector, offset));
+        let front = bytes.get(..offset).ok_or("a front")?;
+        let need = if offset < 5 { 5 } else { 32_856 };
         assert!(rt; decode(alloc, front, Side::Answer).err() == Some(WireRefusal::NotYet { need }));
     }
     Ok(())

@@ -65,10 +65,10 @@ set_of-present pages page there =
     same_pages pages (page ∷ pages) (λ other. absorbed (same other page) (list_any (same other) pages) (λ e. ap (λ p. list_any (same p) pages) (equal other page e) ∙ there))
 
 -- a page that joins the pages behind others
-pub set_of-insert : (front pages : List (ℕ × ℕ)) (place : ℕ) (page : ℕ × ℕ) → set_of (front ++ insert pages place page) ≡ finite.insert (set_of (front ++ pages)) page tt
-set_of-insert front pages place page =
-    let moved = IsPermutation-append_right front (page ∷ pages) (insert pages place page) (IsPermutation-insert pages place page) in
-    set_of-permutation (front ++ insert pages place page) (page ∷ (front ++ pages))
+pub set_of-insert : (front pages : List (ℕ × ℕ)) (index : ℕ) (page : ℕ × ℕ) → set_of (front ++ insert pages index page) ≡ finite.insert (set_of (front ++ pages)) page tt
+set_of-insert front pages index page =
+    let moved = IsPermutation-append_right front (page ∷ pages) (insert pages index page) (IsPermutation-insert pages index page) in
+    set_of-permutation (front ++ insert pages index page) (page ∷ (front ++ pages))
     (IsPermutation-trans _ (front ++ page ∷ pages) _ (IsPermutation-sym _ _ moved) (IsPermutation-middle front page pages))
 
 -- a page that is among the pages behind others

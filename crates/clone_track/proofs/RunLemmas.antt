@@ -1,4 +1,4 @@
--- Sorted runs of pages: a page that joins one at its place, and how many pages runs have.
+-- Sorted runs of pages: a page that joins one at its index, and how many pages runs have.
 use Rattle.std.proofs.Common.{true, ◌≡◌, ◌≢◌, ℕ, zero, suc, ◌+◌, ◌*◌, ◌<◌, ◌≤◌, List, [], ◌∷◌, ◌++◌, length, get_or, Err, vec_capacity, ap, ◌∙◌, arith, length-append, append-nil}
 use Rattle.std.specs.declared.cmp.Ordering.TheVariants.{Less, Equal, Greater}
 use Rattle.std.specs.Cmp.{tied_itself}
@@ -17,7 +17,7 @@ use Rattle.clone_model.proofs.RowMaps.{row_cmp_total, row_cmp_exact}
 use Rattle.clone_track.specs.SortedRuns.{Run, IsRun, IsRuns, joined}
 use Rattle.clone_track.specs.declared.runs.TheConstants.{RUN_PAGES, RUN_LIMIT}
 
--- ---- a page at its place
+-- ---- a page at its index
 
 flipped : (page other : ℕ × ℕ) → row_cmp page other ≡ Greater → row_cmp other page ≡ Less
 flipped page other above = row_cmp_total.antisymm other page ∙ ap ordering_reverse above
@@ -26,21 +26,21 @@ all_above : (page : ℕ × ℕ) (run : List (ℕ × ℕ)) → AllWithin (λ othe
 all_above page [] above = tt
 all_above page (first ∷ run) above = (flipped first page (above 0 first (omega arith) (omega arith)), all_above page run (λ k d low high. above (suc k) d (omega arith) (omega arith)))
 
-All-insert : (P : ℕ × ℕ → Type 0) (run : List (ℕ × ℕ)) (place : ℕ) (page : ℕ × ℕ) → AllByRecursion P run → P page → AllByRecursion P (insert run place page)
+All-insert : (P : ℕ × ℕ → Type 0) (run : List (ℕ × ℕ)) (index : ℕ) (page : ℕ × ℕ) → AllByRecursion P run → P page → AllByRecursion P (insert run index page)
 All-insert P [] zero page all one = (one, tt)
-All-insert P [] (suc place) page all one = (one, tt)
+All-insert P [] (suc index) page all one = (one, tt)
 All-insert P (first ∷ run) zero page all one = (one, all)
-All-insert P (first ∷ run) (suc place) page all one = (all.0, All-insert P run place page all.1 one)
+All-insert P (first ∷ run) (suc index) page all one = (all.0, All-insert P run index page all.1 one)
 
-sorted-insert : (run : List (ℕ × ℕ)) (place : ℕ) (page : ℕ × ℕ) → IsStrictlySortedBy row_cmp run → AllWithin (λ other. row_cmp other page ≡ Less) run 0 place → place ≤ length run
-    → AllWithin (λ other. row_cmp other page ≡ Greater) run place (length run) → IsStrictlySortedBy row_cmp (insert run place page)
+sorted-insert : (run : List (ℕ × ℕ)) (index : ℕ) (page : ℕ × ℕ) → IsStrictlySortedBy row_cmp run → AllWithin (λ other. row_cmp other page ≡ Less) run 0 index → index ≤ length run
+    → AllWithin (λ other. row_cmp other page ≡ Greater) run index (length run) → IsStrictlySortedBy row_cmp (insert run index page)
 unfolding IsStrictlySortedBy
 sorted-insert [] zero page sorted below within above = (tt, tt)
-sorted-insert [] (suc place) page sorted below within above = absurd (omega arith)
+sorted-insert [] (suc index) page sorted below within above = absurd (omega arith)
 sorted-insert (first ∷ run) zero page sorted below within above = (all_above page (first ∷ run) above, sorted)
-sorted-insert (first ∷ run) (suc place) page sorted below within above = (
-  All-insert (λ other. row_cmp first other ≡ Less) run place page sorted.0 (below 0 first (omega arith) (omega arith)),
-  sorted-insert run place page sorted.1 (λ k d low high. below (suc k) d (omega arith) (omega arith)) (omega arith) (λ k d low high. above (suc k) d (omega arith) (omega arith)),
+sorted-insert (first ∷ run) (suc index) page sorted below within above = (
+  All-insert (λ other. row_cmp first other ≡ Less) run index page sorted.0 (below 0 first (omega arith) (omega arith)),
+  sorted-insert run index page sorted.1 (λ k d low high. below (suc k) d (omega arith) (omega arith)) (omega arith) (λ k d low high. above (suc k) d (omega arith) (omega arith)),
 )
 
 weakly : (run : List (ℕ × ℕ)) → IsStrictlySortedBy row_cmp run → IsSorted row_cmp run
@@ -48,19 +48,19 @@ weakly run sorted k d low high =
     ap is_lt (row_cmp_total.antisymm (get_or run (k + 1) d) (get_or run k d) ∙ ap ordering_reverse (Less-from_sorted row_cmp run k (k + 1) d sorted (omega arith) high))
 
 -- the run after a search that didn't find the page
-pub after_insert : (run next : Run) (place : ℕ) (page : ℕ × ℕ) → IsRun run → length run.items < RUN_PAGES → place ≤ length run.items
-    → IsBinarySearchResult (λ other. row_cmp other page) run.items (Err place) → next.items ≡ insert run.items place page → IsRun next
-after_insert run next place page is room within search items =
+pub after_insert : (run next : Run) (index : ℕ) (page : ℕ × ℕ) → IsRun run → length run.items < RUN_PAGES → index ≤ length run.items
+    → IsBinarySearchResult (λ other. row_cmp other page) run.items (Err index) → next.items ≡ insert run.items index page → IsRun next
+after_insert run next index page is room within search items =
     let halves = search (searchable_from_sorted row_cmp_total (λ other. other) run.items page (weakly run.items is.sorted)) in
     record {
-      sorted = rw items (sorted-insert run.items place page is.sorted halves.0 within halves.1);
+      sorted = rw items (sorted-insert run.items index page is.sorted halves.0 within halves.1);
       few = rw (items, length-insert) (omega arith);
     }
 
 -- a search that found the page
-pub found : (run : List (ℕ × ℕ)) (place : ℕ) (page : ℕ × ℕ) → place < length run → HoldsAt (λ other. row_cmp other page ≡ Equal) run place → list_any (eq_by_cmp row_cmp page) run ≡ true
-found run place page within equal =
-    list_any_at (eq_by_cmp row_cmp page) run place page within (ap (λ other. eq_by_cmp row_cmp page other) (row_cmp_exact _ _ (equal page)) ∙ ap is_eq (tied_itself row_cmp_total page))
+pub found : (run : List (ℕ × ℕ)) (index : ℕ) (page : ℕ × ℕ) → index < length run → HoldsAt (λ other. row_cmp other page ≡ Equal) run index → list_any (eq_by_cmp row_cmp page) run ≡ true
+found run index page within equal =
+    list_any_at (eq_by_cmp row_cmp page) run index page within (ap (λ other. eq_by_cmp row_cmp page other) (row_cmp_exact _ _ (equal page)) ∙ ap is_eq (tied_itself row_cmp_total page))
 
 -- ---- several runs
 

@@ -105,8 +105,8 @@ impl Runs {
         ensures kept { self.new.kept ≤ self.old.kept + 1 }
         ensures room { self.old.room ≤ self.new.room + 1 }
     {
-        if let Err(place) = self.last.binary_search(&page) {
-            let inserted = self.last.insert(place, page);
+        if let Err(index) = self.last.binary_search(&page) {
+            let inserted = self.last.insert(index, page);
             prove!(inserted.is_ok());
         }
     }

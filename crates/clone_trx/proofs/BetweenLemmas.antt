@@ -22,9 +22,9 @@ use Rattle.clone_trx.proofs.GrowthKeptLemmas.{growth_keeps}
 use Rattle.clone_trx.proofs.SpotLemmas.{all_stays}
 use Rattle.clone_trx.proofs.WalkLemmas.{Stays}
 use Rattle.clone_trx.proofs.WalkedLemmas.{walk_full}
-use Rattle.clone_trx.specs.Calls.{change_at, change_way, entry_place, grown_way, longer_at, longer_way, pages_told, row_walk, is_new, slot_way, system_page, told_way}
+use Rattle.clone_trx.specs.Calls.{change_at, change_way, number_of_entry, grown_way, longer_at, longer_way, pages_told, row_walk, is_new, slot_way, system_page, told_way}
 use Rattle.clone_trx.specs.Kept.{IsFullAt, KeptBetween, TellsPages}
-use Rattle.clone_trx.specs.Places.{named_entry}
+use Rattle.clone_trx.specs.RowSlots.{named_entry}
 use Rattle.clone_trx.specs.Ways.{Way, Goes, Brings, Writes, reads, writes, stops, lengthens, held, let_go, page_in}
 
 -- what one mini-transaction at most leaves of the log
@@ -101,39 +101,39 @@ module _ (d : Donor) where
       (subst (IsKept d) (sym (replayed-push b.log records lsn refl)) (keeps (adds.before right) lsn))
 
 -- A space may get longer behind a page, where all that was read is right.
-record MayLengthen (d : Donor) (change : Change) (b : Buffered) (place pages last : ℕ) : Type 0 where
+record MayLengthen (d : Donor) (change : Change) (b : Buffered) (entry_number pages last : ℕ) : Type 0 where
   kept : IsTrue b.right → IsKept d (image_of b)
-  tells : IsTrue b.right → TellsPages (contents_of (image_of b)) change.table place pages
+  tells : IsTrue b.right → TellsPages (contents_of (image_of b)) change.table entry_number pages
   full : IsTrue b.right → IsFullAt d (image_of b) change.table last change.key
 
-may_still : (d : Donor) (change : Change) (old new : Buffered) (place pages last : ℕ) → new.log ≡ old.log → (IsTrue new.right → IsTrue old.right) → MayLengthen d change old place pages last → MayLengthen d change new place pages last
-may_still d change old new place pages last same before may = record {
+may_still : (d : Donor) (change : Change) (old new : Buffered) (entry_number pages last : ℕ) → new.log ≡ old.log → (IsTrue new.right → IsTrue old.right) → MayLengthen d change old entry_number pages last → MayLengthen d change new entry_number pages last
+may_still d change old new entry_number pages last same before may = record {
   kept = λ right. subst (λ (log : List (List Record)). IsKept d (replayed log)) (sym same) (may.kept (before right));
-  tells = λ right. subst (λ (log : List (List Record)). TellsPages (contents_of (replayed log)) change.table place pages) (sym same) (may.tells (before right));
+  tells = λ right. subst (λ (log : List (List Record)). TellsPages (contents_of (replayed log)) change.table entry_number pages) (sym same) (may.tells (before right));
   full = λ right. subst (λ (log : List (List Record)). IsFullAt d (replayed log) change.table last change.key) (sym same) (may.full (before right));
 }
 
 module _ (d : Donor) (trx : ℕ) (change : Change) where
-  grown_between : {X : Type 0} (place pages last : ℕ) (b c : Buffered) (result : Result X EngineRefusal) → MayLengthen d change b place pages last → Goes (grown_way d trx change last place pages) b c result → KeptBetween d b c
-  grown_between place pages last b c result may goes = by (nat_le MOST_PAGES pages) refl goes
+  grown_between : {X : Type 0} (entry_number pages last : ℕ) (b c : Buffered) (result : Result X EngineRefusal) → MayLengthen d change b entry_number pages last → Goes (grown_way d trx change last entry_number pages) b c result → KeptBetween d b c
+  grown_between entry_number pages last b c result may goes = by (nat_le MOST_PAGES pages) refl goes
     where
       records : List Record
-      records = records_of_growth place change.table pages last
+      records = records_of_growth entry_number change.table pages last
 
       by : (full : Bool) → nat_le MOST_PAGES pages ≡ full → Goes (if full then stops SpaceFull else lengthens records (slot_way d trx change pages 0 false None)) b c result → KeptBetween d b c
       by true is stopped = adds_between d b c (adds_same b c stopped.1)
       by false is (inl none) = adds_between d b c (adds_same b c none.3)
       by false is (inr on) =
-          written_between d records b c (λ right lsn. growth_keeps d (image_of b) place change.table pages last change.key lsn (may.kept right) (may.tells right) (leb-false MOST_PAGES pages is) (may.full right))
+          written_between d records b c (λ right lsn. growth_keeps d (image_of b) entry_number change.table pages last change.key lsn (may.kept right) (may.tells right) (leb-false MOST_PAGES pages is) (may.full right))
           (told_adds trx change (length (changes_of d trx)) false (told change.table pages change.key 0 None) (written records b) c result on.1)
 
-  longer_between : {X : Type 0} (place pages last : ℕ) (b c : Buffered) (result : Result X EngineRefusal) → MayLengthen d change b place pages last → Goes (longer_at d trx change last place pages) b c result → KeptBetween d b c
-  longer_between place pages last b c result may (inl none) = adds_between d b c (adds_same b c none.3)
-  longer_between place pages last b c result may (inr on) =
+  longer_between : {X : Type 0} (entry_number pages last : ℕ) (b c : Buffered) (result : Result X EngineRefusal) → MayLengthen d change b entry_number pages last → Goes (longer_at d trx change last entry_number pages) b c result → KeptBetween d b c
+  longer_between entry_number pages last b c result may (inl none) = adds_between d b c (adds_same b c none.3)
+  longer_between entry_number pages last b c result may (inr on) =
       let log : on.1.log ≡ b.log = ap (λ (v : Buffered). v.log) on.3.same in
       let before : IsTrue on.1.right → IsTrue b.right = subst (λ (v : Buffered). IsTrue v.right) on.3.same in
       let a : Around b on.1 on.2 c = record { first = log; back = ap (λ (v : Buffered). v.log) on.5; before = before; after = subst (λ (v : Buffered). IsTrue v.right) on.5 } in
-      around_between d a (grown_between place pages last on.1 on.2 result (may_still d change b on.1 place pages last log before may) on.4)
+      around_between d a (grown_between entry_number pages last on.1 on.2 result (may_still d change b on.1 entry_number pages last log before may) on.4)
 
   module _ (count : ℕ) (there : finite.get d.tables change.table ≡ Some count) where
     -- the dictionary is read first
@@ -141,15 +141,15 @@ module _ (d : Donor) (trx : ℕ) (change : Change) where
     behind_between last b c result kept full (inl miss) = adds_between d b c (adds_none b c (ap (λ (v : Buffered). v.log) miss.2.same) (subst (λ (v : Buffered). IsTrue v.right) miss.2.same))
     behind_between last b c result kept full (inr on) =
         let page : List ℕ = page_in on.0 on.1 in
-        let place : ℕ = entry_place change.table page in
+        let entry_number : ℕ = number_of_entry change.table page in
         let before : IsTrue on.1.right → IsTrue b.right = λ right. (on.3.right.0 right).0 in
-        let may : MayLengthen d change (held on.0 on.1) place (pages_told page place) last = record {
+        let may : MayLengthen d change (held on.0 on.1) entry_number (pages_told page entry_number) last = record {
           kept = λ right. subst (λ (log : List (List Record)). IsKept d (replayed log)) (sym on.3.log) (kept (before right));
-          tells = λ right. subst (λ (log : List (List Record)). TellsPages (contents_of (replayed log)) change.table place (pages_told page place)) (sym on.3.log)
+          tells = λ right. subst (λ (log : List (List Record)). TellsPages (contents_of (replayed log)) change.table entry_number (pages_told page entry_number)) (sym on.3.log)
               (tells_pages d (image_of b) change.table count (kept (before right)) there page (named_entry change.table (dictionary page)) (on.3.right.0 right).1 (named_finds change.table (dictionary page)));
           full = λ right. subst (λ (log : List (List Record)). IsFullAt d (replayed log) change.table last change.key) (sym on.3.log) (full (before right));
         } in
-        around_between d (around_page (system_page 0) on.0 b on.1 on.2 c on.3 on.5) (longer_between place (pages_told page place) last (held on.0 on.1) on.2 result may on.4)
+        around_between d (around_page (system_page 0) on.0 b on.1 on.2 c on.3 on.5) (longer_between entry_number (pages_told page entry_number) last (held on.0 on.1) on.2 result may on.4)
 
     -- the chain is walked before that
     pub change_between : {X : Type 0} (old new : Buffered) (result : Result X EngineRefusal) → (IsTrue old.right → IsKept d (image_of old)) → Goes (change_way d trx change) old new result → KeptBetween d old new
@@ -168,7 +168,7 @@ module _ (d : Donor) (trx : ℕ) (change : Change) where
         a = record { first = s.log; back = ap (λ (v : Buffered). v.log) on.5; before = s.before; after = subst (λ (v : Buffered). IsTrue v.right) on.5 }
 
         by : (slot : Option ℕ) → on.0.slot ≡ slot → Goes (change_at d trx change on.0.page slot row) on.1 on.2 result → KeptBetween d old new
-        by (Some place) is goes = adds_between d old new (adds_around a (told_adds trx change (length (changes_of d trx)) (is_new row) (told change.table on.0.page change.key place (held_value row place)) on.1 on.2 result goes))
+        by (Some slot_number) is goes = adds_between d old new (adds_around a (told_adds trx change (length (changes_of d trx)) (is_new row) (told change.table on.0.page change.key slot_number (held_value row slot_number)) on.1 on.2 result goes))
         by None is goes = around_between d a (behind_between on.0.page on.1 on.2 result
             (λ right. subst (λ (log : List (List Record)). IsKept d (replayed log)) (sym s.log) (kept (s.before right)))
             (λ right. subst (λ (log : List (List Record)). IsFullAt d (replayed log) change.table on.0.page change.key) (sym s.log) (walk_full d (image_of old) change.table change.key count (kept (s.before right)) there old on.1 on.0 refl on.3 right is))

@@ -1,6 +1,6 @@
--- A change that was made at its place, and one that was taken away at once.
+-- A change that was made at its target, and one that was taken away at once.
 use Rattle.std.proofs.Common.{◌≡◌, ◌≤◌, ◌-◌, ◌==◌, ℕ, Bool, true, false, List, [], ◌∷◌, ◌++◌, length, take, replicate, sym, ap, subst, ◌∙◌, arith, inl, inr, Option, Some, None, IfSome, IsTrue, MatchOption, if◌then◌else◌, nat_cmp, length-append}
-use Rattle.clone_trx.proofs.Common.{nat_cmp-IsAntisymmetric, same_map, nat_cmp_total, take-append_seam, cases_eq, length-replicate, big_bytes, length-bytes_high_first, get-set_same, get-set_other, Change, Commit, Record, UndoEntry, IsEntry, record_page, records_of_change, Image, page_of, after_records, all_pages-is, contents_of, kind_of, is_unused, Donor, Changes, with_change, Locks, Opened, value_of, IsKept, IsPlaceFor, told, front_of, TakesLast, Pops}
+use Rattle.clone_trx.proofs.Common.{nat_cmp-IsAntisymmetric, same_map, nat_cmp_total, take-append_seam, cases_eq, length-replicate, big_bytes, length-bytes_high_first, get-set_same, get-set_other, Change, Commit, Record, UndoEntry, IsEntry, record_page, records_of_change, Image, page_of, after_records, all_pages-is, contents_of, kind_of, is_unused, Donor, Changes, with_change, Locks, Opened, value_of, IsKept, IsTargetFor, told, front_of, TakesLast, Pops}
 use Rattle.std.specs.FinMap as finite
 use Rattle.clone_row.specs.Slots as rows
 use Rattle.clone_buffer.specs.Buffered.{Buffered, image_of}
@@ -28,12 +28,12 @@ made_by first false is = ap (λ n. n == 0) is
 pub first_made : (image : Image) (number first : ℕ) (page : List ℕ) → page_of image 0 number ≡ Some page → first ≡ (if is_new page then 0 else 1) → (first == 0) ≡ is_unused image 0 number
 first_made image number first page there is = made_by first (is_new page) is ∙ sym (ap (λ (p : List ℕ). kind_of p == 0) (all_pages-is image 0 number page there))
 
--- A change that was made at its place, where all that was read is right.
+-- A change that was made at its target, where all that was read is right.
 pub record IsMade (d after : Donor) (b : Buffered) (trx : ℕ) (change : Change) (entry : UndoEntry) (new_page is_new : Bool) (count : ℕ) : Type 0 where
   pub right : IsTrue b.right
   pub kept : IsKept d (image_of b)
   pub may : MayChange d trx change.table change.key
-  pub place : IsPlaceFor d trx change b entry is_new count
+  pub target : IsTargetFor d trx change b entry is_new count
   pub short : IfSome change.value (λ v. length v ≤ 64)
   pub new : new_page ≡ is_unused (image_of b) 0 (record_page trx count)
   pub made : Changes d trx change after
@@ -46,15 +46,15 @@ module _ (d after : Donor) (b : Buffered) (trx : ℕ) (change : Change) (entry :
   bytes = rows.image change.key change.value
 
   told_is : entry ≡ told change.table entry.page change.key entry.slot (value_of d change.table change.key)
-  told_is = g.place.told g.right
+  told_is = g.target.told g.right
 
   puts : Puts d after (contents_of image) trx change entry.page entry.slot
-  puts = record { made = g.made; lock = g.may.lock; room = g.may.few; short = g.short; is_place = g.place.place g.right; in_range = subst IsEntry told_is g.place.in_range }
+  puts = record { made = g.made; lock = g.may.lock; room = g.may.few; short = g.short; row_slot = g.target.row_slot g.right; in_range = subst IsEntry told_is g.target.in_range }
 
   same_records : records_of_change new_page is_new trx count entry bytes ≡ change_of d image trx change entry.page entry.slot
   same_records = λ i. records_of_change
-      ((g.new ∙ ap (λ n. is_unused image 0 (record_page trx n)) g.place.count) i)
-      ((g.place.unused g.right ∙ ap (λ (u : UndoEntry). is_unused image u.table u.page) told_is) i) trx (g.place.count i) (told_is i) bytes
+      ((g.new ∙ ap (λ n. is_unused image 0 (record_page trx n)) g.target.count) i)
+      ((g.target.unused g.right ∙ ap (λ (u : UndoEntry). is_unused image u.table u.page) told_is) i) trx (g.target.count i) (told_is i) bytes
 
   -- the pages are those of the donor after the change
   pub made_kept : (lsn : ℕ) → IsKept after (after_records lsn image (records_of_change new_page is_new trx count entry bytes))

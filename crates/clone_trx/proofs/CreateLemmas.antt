@@ -14,7 +14,7 @@ use Rattle.clone_plain.specs.declared.refusal.Cause.TheVariants.{TableExists, To
 use Rattle.clone_plain.specs.declared.refusal.EngineRefusal.{EngineRefusal}
 use Rattle.clone_space.specs.Records.{records_of_create}
 use Rattle.clone_trx.proofs.Common.{nat_cmp_total, exact_unsigned, removed_again, Image, page_of, Cause, Commit, Donor, Locks, Opened, created, donor_of, TABLE_LIMIT, whether, IsKept, IsHeld}
-use Rattle.clone_trx.specs.Calls.{create_way, free_place, system_page}
+use Rattle.clone_trx.specs.Calls.{create_way, number_of_free_entry, system_page}
 use Rattle.clone_trx.specs.Kept.{HasNoFresh}
 use Rattle.clone_trx.specs.Ways.{makes, Makes, Goes, Holds, Answers, Carries, let_go, page_in}
 use Rattle.clone_trx.proofs.CauseLemmas.{both_none, is_not, not_equal, passed}
@@ -45,8 +45,8 @@ unheld image table name bytes none there same =
 
 -- the records make the space
 pub creates : (d : Donor) (v : Buffered) (table buckets : ℕ) → IsBuffer v → IsKept d (image_of v) → 1 ≤ table → finite.get d.tables table ≡ None → IsHeld (system_page 0) v.pool.frames → HasNoFresh table v.pool.frames → IsTrue v.right
-    → (place : ℕ) → Creates v (records_of_create place table buckets)
-creates d v table buckets b kept some none held fresh right place =
+    → (entry_number : ℕ) → Creates v (records_of_create entry_number table buckets)
+creates d v table buckets b kept some none held fresh right entry_number =
     let image : Image = image_of v in
     let absent = no_space d image table kept some none in
     record {
@@ -72,8 +72,8 @@ pub no_cause : (d : Donor) (table : ℕ) → finite.get d.tables table ≡ None 
 no_cause d table none other =
     passed (ap (λ (o : Option ℕ). whether (is_some o) TableExists) none) ∙ ap (λ b. whether b TooManyTables) (not_equal (finite.len d.tables) TABLE_LIMIT other)
 
-pub create_goes : {X : Type 0} (d : Donor) (table buckets at : ℕ) (old mid last new : Buffered) (result : Result X EngineRefusal) → Holds (system_page 0) at old mid → Makes (records_of_create (free_place (page_in at mid)) table buckets) mid last result → new ≡ let_go at last → Goes (create_way table buckets) old new result
-create_goes d table buckets at old mid last new result holds made is = goes_on (system_page 0) (λ page. makes (records_of_create (free_place page) table buckets)) at old mid last new result holds made is
+pub create_goes : {X : Type 0} (d : Donor) (table buckets at : ℕ) (old mid last new : Buffered) (result : Result X EngineRefusal) → Holds (system_page 0) at old mid → Makes (records_of_create (number_of_free_entry (page_in at mid)) table buckets) mid last result → new ≡ let_go at last → Goes (create_way table buckets) old new result
+create_goes d table buckets at old mid last new result holds made is = goes_on (system_page 0) (λ page. makes (records_of_create (number_of_free_entry page) table buckets)) at old mid last new result holds made is
 
 pub create_answers : {X : Type 0} (d after : Donor) (table buckets : ℕ) (old new : Buffered) (result : Result X EngineRefusal) → create_cause d table ≡ None → Goes (create_way table buckets) old new result → Carries d after result (λ _. after ≡ created table buckets d)
     → Answers (create_cause d table) (create_way table buckets) d after old new result (λ _. after ≡ created table buckets d)

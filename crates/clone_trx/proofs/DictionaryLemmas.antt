@@ -11,17 +11,17 @@ use Rattle.clone_space.proofs.EntryLemmas.{length-dictionary}
 use Rattle.clone_space.proofs.RoomLemmas.{room}
 use Rattle.clone_trx.proofs.Common.{all_pages-is, Image, page_of, all_pages, contents_of, TABLE_LIMIT, Donor, IsKept}
 use Rattle.clone_trx.proofs.CauseLemmas.{not_equal}
-use Rattle.clone_trx.proofs.PlaceLemmas.{IsFirst, find_first, finds_first, finds_none}
-use Rattle.clone_trx.specs.Calls.{entry_place}
+use Rattle.clone_trx.proofs.FindFirstLemmas.{IsFirst, find_first, finds_first, finds_none}
+use Rattle.clone_trx.specs.Calls.{number_of_entry}
 use Rattle.clone_trx.specs.Kept.{TellsPages}
-use Rattle.clone_trx.specs.Places.{named_entry}
+use Rattle.clone_trx.specs.RowSlots.{named_entry}
 
 -- an entry that is written, and all others
-pub entry-written : (list : List TableEntry) (place j : ℕ) (e : TableEntry) → place < length list → j ≡ place → entry_in (set list place e) j ≡ e
-entry-written list place j e within same = get_or-set_at list place j e free same within
+pub entry-written : (list : List TableEntry) (entry_number j : ℕ) (e : TableEntry) → entry_number < length list → j ≡ entry_number → entry_in (set list entry_number e) j ≡ e
+entry-written list entry_number j e within same = get_or-set_at list entry_number j e free same within
 
-pub entry-other : (list : List TableEntry) (place j : ℕ) (e : TableEntry) → j ≢ place → entry_in (set list place e) j ≡ entry_in list j
-entry-other list place j e apart = get_or-set_other list place j e free apart
+pub entry-other : (list : List TableEntry) (entry_number j : ℕ) (e : TableEntry) → j ≢ entry_number → entry_in (set list entry_number e) j ≡ entry_in list j
+entry-other list entry_number j e apart = get_or-set_other list entry_number j e free apart
 
 -- a dictionary of free entries names no table
 pub names_none : (j : ℕ) → (entry_in (replicate 62 free) j).table ≡ 0
@@ -53,17 +53,17 @@ named_finds table list = by (find names (range_with_len 0 62)) (find_first names
     by None none = λ k low. other k (none k (omega arith) (omega (arith, low)))
     by (Some j) first = (omega (arith, first.1), eqb-true (entry_in list j).table table first.2, λ k less. other k (first.3 k (omega arith) less))
 
--- the place of it
-pub entry_is : (table : ℕ) (page : List ℕ) (found : Option ℕ) → Finds table (dictionary page) found → unwrap_or found 0 ≡ entry_place table page
+-- the number of it
+pub entry_is : (table : ℕ) (page : List ℕ) (found : Option ℕ) → Finds table (dictionary page) found → unwrap_or found 0 ≡ number_of_entry table page
 entry_is table page found finds = ap (λ o. unwrap_or o 0) (sym (named_is table (dictionary page) found finds))
 
 pub entry_low : (table : ℕ) (list : List TableEntry) (found : Option ℕ) → Finds table list found → unwrap_or found 0 < 62
 entry_low table list None none = omega arith
 entry_low table list (Some j) found = found.0
 
-place_free : (list : List TableEntry) (found : Option ℕ) → FindsFree list found → IsSome found → (entry_in list (unwrap_or found 0)).table ≡ 0
-place_free list None none some = absurd (let e = some in cc)
-place_free list (Some j) found some = found.1
+entry_free : (list : List TableEntry) (found : Option ℕ) → FindsFree list found → IsSome found → (entry_in list (unwrap_or found 0)).table ≡ 0
+entry_free list None none some = absurd (let e = some in cc)
+entry_free list (Some j) found some = found.1
 
 -- so there is one, where the image keeps what the donor is, and there is room for a table
 pub has_free : (d : Donor) (image : Image) (page : List ℕ) (found : Option ℕ) → IsKept d image → page_of image 0 0 ≡ Some page → finite.len d.tables < TABLE_LIMIT → FindsFree (dictionary page) found
@@ -72,7 +72,7 @@ has_free d image page found kept there few finds =
     let system : List ℕ = all_pages image 0 0 in
     let tables = kept.sound.tables in
     let here : FindsFree (dictionary system) found = subst (λ (p : List ℕ). FindsFree (dictionary p) found) (sym (all_pages-is image 0 0 page there)) finds in
-    place_free (dictionary system) found here (room d.tables system found tables.once tables.tables few here)
+    entry_free (dictionary system) found here (room d.tables system found tables.once tables.tables few here)
 
 -- The entry of a table tells how many pages its space has, where the image keeps what the donor is.
 

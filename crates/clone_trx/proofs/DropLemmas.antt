@@ -23,7 +23,7 @@ use Rattle.clone_trx.proofs.HeldPageLemmas.{held_pins, pin_apart}
 use Rattle.clone_trx.proofs.PlacedLemmas.{held_frame}
 use Rattle.clone_trx.proofs.SystemPageLemmas.{system_there}
 use Rattle.clone_trx.proofs.WayLemmas.{goes_on}
-use Rattle.clone_trx.specs.Calls.{drop_at, drop_way, entry_place, pages_told, system_page}
+use Rattle.clone_trx.specs.Calls.{drop_at, drop_way, number_of_entry, pages_told, system_page}
 use Rattle.clone_trx.specs.Kept.{TellsPages}
 use Rattle.clone_trx.specs.Ways.{Way, Goes, Holds, let_go, page_in}
 
@@ -46,16 +46,16 @@ is_above d table safe none = let there = is_there d table none in (safe.tables.r
 
 -- The records of it.
 
-module _ (d : Donor) (v : Buffered) (place table pages count : ℕ) (kept : IsKept d (image_of v)) (there : finite.get d.tables table ≡ Some count) (tells : TellsPages (contents_of (image_of v)) table place pages) where
+module _ (d : Donor) (v : Buffered) (entry_number table pages count : ℕ) (kept : IsKept d (image_of v)) (there : finite.get d.tables table ≡ Some count) (tells : TellsPages (contents_of (image_of v)) table entry_number pages) where
   pub used : table ≢ 0
   used zero = let sizes = kept.sound.tables.sizes table count there in omega (arith, zero, sizes.1)
 
   most : pages ≤ MOST_PAGES
   most = let size = (kept.sound.tables.sizes table count there).0 in omega (arith, size.most, same_Some size.pages pages (sym size.size ∙ tells.1))
 
-  pub drops_space : IsHeld (system_page 0) v.pool.frames → DropsSpace v table (min pages MOST_PAGES) (records_of_drop place table)
+  pub drops_space : IsHeld (system_page 0) v.pool.frames → DropsSpace v table (min pages MOST_PAGES) (records_of_drop entry_number table)
   drops_space system = record {
-    rest = free_record place ∷ [];
+    rest = free_record entry_number ∷ [];
     is = refl;
     edits = (tt, tt);
     framed = (held_frame v.pool.frames (system_page 0) system, tt);
@@ -89,13 +89,13 @@ unpinned table at old mid above loose holds has other name is of = by (cases_eq 
     by (inr apart) = omega (arith, held_pins (system_page 0) at old mid holds other, loose other, pin_apart at other apart)
 
 -- the way behind the page of the dictionary, by what was found there
-pub drop_goes : {X : Type 0} (table at place pages : ℕ) (page : List ℕ) (found : Option ℕ) (old mid end new : Buffered) (result : Result X EngineRefusal) → Holds (system_page 0) at old mid → page ≡ page_in at mid → Finds table (dictionary page) found → place ≡ unwrap_or found 0
-    → pages ≡ (entry_in (dictionary page) place).pages → Goes (drop_at table place pages) mid end result → new ≡ let_go at end → Goes (drop_way table) old new result
-drop_goes table at place pages page found old mid end new result holds bytes finds is told goes let_go_is =
-    let here : place ≡ entry_place table page = is ∙ entry_is table page found finds in
-    let so : Goes (drop_at table place (pages_told page place)) mid end result = subst (λ (n : ℕ). Goes (drop_at table place n) mid end result) told goes in
+pub drop_goes : {X : Type 0} (table at entry_number pages : ℕ) (page : List ℕ) (found : Option ℕ) (old mid end new : Buffered) (result : Result X EngineRefusal) → Holds (system_page 0) at old mid → page ≡ page_in at mid → Finds table (dictionary page) found → entry_number ≡ unwrap_or found 0
+    → pages ≡ (entry_in (dictionary page) entry_number).pages → Goes (drop_at table entry_number pages) mid end result → new ≡ let_go at end → Goes (drop_way table) old new result
+drop_goes table at entry_number pages page found old mid end new result holds bytes finds is told goes let_go_is =
+    let here : entry_number ≡ number_of_entry table page = is ∙ entry_is table page found finds in
+    let so : Goes (drop_at table entry_number (pages_told page entry_number)) mid end result = subst (λ (n : ℕ). Goes (drop_at table entry_number n) mid end result) told goes in
     let by : Goes (rest page) mid end result = subst (λ (p : ℕ). Goes (drop_at table p (pages_told page p)) mid end result) here so in
     goes_on (system_page 0) rest at old mid end new result holds (subst (λ (p : List ℕ). Goes (rest p) mid end result) bytes by) let_go_is
   where
     rest : List ℕ → Way
-    rest p = drop_at table (entry_place table p) (pages_told p (entry_place table p))
+    rest p = drop_at table (number_of_entry table p) (pages_told p (number_of_entry table p))

@@ -24,8 +24,8 @@ is_dropped d table locked free = record {
   unlocked = λ key. dropped_free d table key locked free;
 }
 
-pub drop_keeps : (lsn place table : ℕ) (d : Donor) (image : Image) → IsKept d image → named (contents_of image) place ≡ table → table ≢ 0 → drop_cause d table ≡ None → IsKept (dropped table d) (after_records lsn image (records_of_drop place table))
-drop_keeps lsn place table d image kept name used free =
-    let may : MayDrop (contents_of image) place table = record { named = name; used = used } in
-    let has = dropped_is image lsn place table kept.formed may in
-    record { formed = has.0; sound = subst (IsSound (dropped table d)) (sym has.1) (dropped_sound d (dropped table d) (contents_of image) place table kept.sound may (is_dropped d table kept.sound.locked free)) }
+pub drop_keeps : (lsn entry_number table : ℕ) (d : Donor) (image : Image) → IsKept d image → named (contents_of image) entry_number ≡ table → table ≢ 0 → drop_cause d table ≡ None → IsKept (dropped table d) (after_records lsn image (records_of_drop entry_number table))
+drop_keeps lsn entry_number table d image kept name used free =
+    let may : MayDrop (contents_of image) entry_number table = record { named = name; used = used } in
+    let has = dropped_is image lsn entry_number table kept.formed may in
+    record { formed = has.0; sound = subst (IsSound (dropped table d)) (sym has.1) (dropped_sound d (dropped table d) (contents_of image) entry_number table kept.sound may (is_dropped d table kept.sound.locked free)) }

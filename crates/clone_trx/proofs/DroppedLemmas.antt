@@ -24,7 +24,7 @@ pub record IsDropped (d : Donor) (table : ℕ) (after : Donor) : Type 0 where
   pub unlocked : (key : ℕ) → finite.get d.locks (table, key) ≡ None
 
 -- undo records of other tables go on telling
-tells_apart : (table : ℕ) (slot now : Slots) (rows after : Rows) (cs : List Change) (es : List UndoEntry) → ((i : ℕ) (x : Change) → slice_get cs i ≡ Some x → x.table ≢ table) → ((t page place : ℕ) → t ≢ table → now t page place ≡ slot t page place)
+tells_apart : (table : ℕ) (slot now : Slots) (rows after : Rows) (cs : List Change) (es : List UndoEntry) → ((i : ℕ) (x : Change) → slice_get cs i ≡ Some x → x.table ≢ table) → ((t page slot_number : ℕ) → t ≢ table → now t page slot_number ≡ slot t page slot_number)
     → ((t key : ℕ) → t ≢ table → finite.get after (t, key) ≡ finite.get rows (t, key)) → TellsChanges slot rows cs es → TellsChanges now after cs es
 tells_apart table slot now rows after [] [] others slots same tells = tt
 tells_apart table slot now rows after [] (e ∷ es) others slots same tells = absurd tells
@@ -41,30 +41,30 @@ tells_apart table slot now rows after (x ∷ cs) (e ∷ es) others slots same te
       tells_apart table slot now (after_change rows x) (after_change after x) cs es (λ i y at. others (suc i) y at) slots (λ t key other. after_changes_same after rows (x ∷ []) (t, key) (same t key other)) tells.1,
     )
 
-module _ (d after : Donor) (c : Contents) (place table : ℕ) (sound : IsSound d c) (may : MayDrop c place table) (g : IsDropped d table after) where
+module _ (d after : Donor) (c : Contents) (entry_number table : ℕ) (sound : IsSound d c) (may : MayDrop c entry_number table) (g : IsDropped d table after) where
   abbrev new : Contents
-  new = dropped place table c
+  new = dropped entry_number table c
 
-  within : place < length c.dictionary
+  within : entry_number < length c.dictionary
   within =
-      elim (cases_lt place (length c.dictionary)) [
+      elim (cases_lt entry_number (length c.dictionary)) [
         | inl low ↦ low
-        | inr high ↦ absurd (may.used (sym may.named ∙ ap (λ e. e.table) (get_or_past c.dictionary place free high)))
+        | inr high ↦ absurd (may.used (sym may.named ∙ ap (λ e. e.table) (get_or_past c.dictionary entry_number free high)))
       ]
 
   -- the entry names no table, and the others stay
-  freed : (j : ℕ) → j ≡ place → named new j ≡ 0
-  freed j at = ap (λ e. e.table) (entry-written c.dictionary place j free within at)
+  freed : (j : ℕ) → j ≡ entry_number → named new j ≡ 0
+  freed j at = ap (λ e. e.table) (entry-written c.dictionary entry_number j free within at)
 
-  used_apart : (j : ℕ) → named new j ≢ 0 → j ≢ place
+  used_apart : (j : ℕ) → named new j ≢ 0 → j ≢ entry_number
   used_apart j used at = used (freed j at)
 
-  there : (j : ℕ) → j ≢ place → named new j ≡ named c j
-  there j apart = ap (λ e. e.table) (entry-other c.dictionary place j free apart)
+  there : (j : ℕ) → j ≢ entry_number → named new j ≡ named c j
+  there j apart = ap (λ e. e.table) (entry-other c.dictionary entry_number j free apart)
 
   -- no other entry names the table
-  other_name : (j : ℕ) → j ≢ place → named c j ≢ table
-  other_name j apart is = apart (sound.tables.once j place (λ zero. may.used (sym is ∙ zero)) (is ∙ sym may.named))
+  other_name : (j : ℕ) → j ≢ entry_number → named c j ≢ table
+  other_name j apart is = apart (sound.tables.once j entry_number (λ zero. may.used (sym is ∙ zero)) (is ∙ sym may.named))
 
   removed : (t : ℕ) → t ≢ table → finite.get after.tables t ≡ finite.get d.tables t
   removed t apart = ap (λ m. finite.get m t) g.tables ∙ get-removed_other nat_cmp_total nat_cmp-IsAntisymmetric d.tables table t apart
@@ -115,8 +115,8 @@ module _ (d after : Donor) (c : Contents) (place table : ℕ) (sound : IsSound d
     told = λ t count pages j is size_is names.
         let apart = apart_from t count is in
         let sizes = sound.tables.sizes t count (sym (removed t apart) ∙ is) in
-        let other : j ≢ place = used_apart j (λ zero. omega (arith, sizes.1, sym names ∙ zero)) in
-        entry-other c.dictionary place j free other ∙ sound.tables.told t count pages j (sym (removed t apart) ∙ is) (sym (kept_size t apart) ∙ size_is) (sym (there j other) ∙ names);
+        let other : j ≢ entry_number = used_apart j (λ zero. omega (arith, sizes.1, sym names ∙ zero)) in
+        entry-other c.dictionary entry_number j free other ∙ sound.tables.told t count pages j (sym (removed t apart) ∙ is) (sym (kept_size t apart) ∙ size_is) (sym (there j other) ∙ names);
     tables = λ j used.
         let other = used_apart j used in
         ap (λ t. is_some (finite.get after.tables t)) (there j other) ∙ ap is_some (removed (named c j) (other_name j other)) ∙ sound.tables.tables j (λ zero. used (there j other ∙ zero));

@@ -19,23 +19,23 @@ use Rattle.clone_pool.specs.declared.frame.PageName.{PageName}
 use Rattle.clone_pool.specs.Index.{is_name_of}
 use Rattle.clone_buffer.specs.Buffered.{Buffered, image_of}
 use Rattle.clone_buffer.specs.Writing.{Lengthens, any_names}
-use Rattle.clone_trx.proofs.Common.{page_there, IsHeld, all_pages-is, kind_of, is_unused, Record, Image, page_of, all_pages, after_records, Contents, contents_of, HasContents, set_at-same, Donor, IsPlace, IsSound, IsKept}
+use Rattle.clone_trx.proofs.Common.{page_there, IsHeld, all_pages-is, kind_of, is_unused, Record, Image, page_of, all_pages, after_records, Contents, contents_of, HasContents, set_at-same, Donor, IsRowSlot, IsSound, IsKept}
 use Rattle.clone_trx.proofs.ChainLemmas.{on_there}
-use Rattle.clone_trx.proofs.GrowthLemmas.{IsLastOf, new_apart, grown_sound, new_place}
+use Rattle.clone_trx.proofs.GrowthLemmas.{IsLastOf, new_apart, grown_sound, new_slot}
 use Rattle.clone_trx.proofs.PlacedLemmas.{held_frame}
 use Rattle.clone_trx.proofs.SystemPageLemmas.{system_there}
 use Rattle.clone_trx.specs.Calls.{system_page}
 use Rattle.clone_trx.specs.Kept.{IsFullAt, TellsPages}
 
-module _ (d : Donor) (image : Image) (place table pages last key lsn : ℕ) (kept : IsKept d image) (tells : TellsPages (contents_of image) table place pages) (room : pages < MOST_PAGES) (full : IsFullAt d image table last key) where
+module _ (d : Donor) (image : Image) (entry_number table pages last key lsn : ℕ) (kept : IsKept d image) (tells : TellsPages (contents_of image) table entry_number pages) (room : pages < MOST_PAGES) (full : IsFullAt d image table last key) where
   abbrev c : Contents
   c = contents_of image
 
   abbrev new : Image
-  new = after_records lsn image (records_of_growth place table pages last)
+  new = after_records lsn image (records_of_growth entry_number table pages last)
 
   -- what the mini-transaction asks for
-  may_grow : MayGrow c place table pages last
+  may_grow : MayGrow c entry_number table pages last
   may_grow =
       let sizes = kept.sound.tables.sizes table full.count full.there in
       record {
@@ -49,15 +49,15 @@ module _ (d : Donor) (image : Image) (place table pages last key lsn : ℕ) (kep
   is_last : IsLastOf d c table last key
   is_last = record { count = full.count; there = full.there; chain = full.chain; end = full.last }
 
-  has : HasContents new (grown place table pages last c)
-  has = grown_is image lsn place table pages last kept.formed may_grow full.used
+  has : HasContents new (grown entry_number table pages last c)
+  has = grown_is image lsn entry_number table pages last kept.formed may_grow full.used
 
   pub growth_keeps : IsKept d new
-  growth_keeps = record { formed = has.0; sound = subst (IsSound d) (sym has.1) (grown_sound d c place table pages last key kept.sound may_grow is_last) }
+  growth_keeps = record { formed = has.0; sound = subst (IsSound d) (sym has.1) (grown_sound d c entry_number table pages last key kept.sound may_grow is_last) }
 
   -- the row of the key may go to each slot of the new page
-  pub growth_place : (j : ℕ) → IsPlace d (contents_of new) table pages j key
-  growth_place j = subst (λ (now : Contents). IsPlace d now table pages j key) (sym has.1) (new_place d c place table pages last key kept.sound may_grow is_last j full.nowhere)
+  pub growth_slot : (j : ℕ) → IsRowSlot d (contents_of new) table pages j key
+  growth_slot j = subst (λ (now : Contents). IsRowSlot d now table pages j key) (sym has.1) (new_slot d c entry_number table pages last key kept.sound may_grow is_last j full.nowhere)
 
   -- the new page is there, and it is made
   pub growth_page : (page : List ℕ) × (page_of new table pages ≡ Some page)
@@ -70,21 +70,21 @@ module _ (d : Donor) (image : Image) (place table pages last key lsn : ℕ) (kep
   linked = link_record table last pages
 
   abbrev longer : Image
-  longer = after_records lsn image (size_record place (pages + 1) ∷ Extend table (pages + 1) ∷ [])
+  longer = after_records lsn image (size_record entry_number (pages + 1) ∷ Extend table (pages + 1) ∷ [])
 
   pub growth_used : is_unused new table pages ≡ false
   growth_used =
       let before = page_before lsn longer (made ∷ linked ∷ []) table pages growth_page.0 (tt, (tt, tt)) growth_page.1 in
       let page : all_pages new table pages ≡ effect lsn made (all_pages longer table pages) =
       all_pages-is new table pages growth_page.0 growth_page.1 ∙ before.2
-      ∙ edit-other table last table pages (effect lsn linked) (after lsn (made ∷ []) (all_pages longer)) (λ same it. new_apart d c place table pages last key kept.sound may_grow is_last it)
+      ∙ edit-other table last table pages (effect lsn linked) (after lsn (made ∷ []) (all_pages longer)) (λ same it. new_apart d c entry_number table pages last key kept.sound may_grow is_last it)
       ∙ edit-same table pages (effect lsn made) (all_pages longer) in
       ap (λ (p : List ℕ). kind_of p == 0) page ∙ ap (λ (n : ℕ). n == 0) (kind_of-initialised table pages Overflow lsn)
 
 -- The pages that it names have frames, and are there once the space is longer.
-module _ (d : Donor) (v : Buffered) (place table pages last key : ℕ) (kept : IsKept d (image_of v)) (tells : TellsPages (contents_of (image_of v)) table place pages) (room : pages < MOST_PAGES) (full : IsFullAt d (image_of v) table last key) where
-  may : MayGrow (contents_of (image_of v)) place table pages last
-  may = may_grow d (image_of v) place table pages last key 0 kept tells room full
+module _ (d : Donor) (v : Buffered) (entry_number table pages last key : ℕ) (kept : IsKept d (image_of v)) (tells : TellsPages (contents_of (image_of v)) table entry_number pages) (room : pages < MOST_PAGES) (full : IsFullAt d (image_of v) table last key) where
+  may : MayGrow (contents_of (image_of v)) entry_number table pages last
+  may = may_grow d (image_of v) entry_number table pages last key 0 kept tells room full
 
   abbrev new_name : PageName
   new_name = record { space = table; number = pages }
@@ -95,7 +95,7 @@ module _ (d : Donor) (v : Buffered) (place table pages last key : ℕ) (kept : I
   names_new : any_names new_name rest ≡ true
   names_new = cond-true (is_name_of new_name (Some new_name)) true (any_names new_name (link_record table last pages ∷ [])) (is_own_name new_name)
 
-  pub lengthens : IsHeld (system_page 0) v.pool.frames → IsHeld new_name v.pool.frames → IsHeld (record { space = table; number = last }) v.pool.frames → Lengthens v (records_of_growth place table pages last)
+  pub lengthens : IsHeld (system_page 0) v.pool.frames → IsHeld new_name v.pool.frames → IsHeld (record { space = table; number = last }) v.pool.frames → Lengthens v (records_of_growth entry_number table pages last)
   lengthens system new behind =
       let image : Image = image_of v in
       let more : pages ≤ pages + 1 = omega arith in
@@ -103,7 +103,7 @@ module _ (d : Donor) (v : Buffered) (place table pages last key : ℕ) (kept : I
       let was = page_there image table last may.there in
       let stays = page_stays image 0 table pages (pages + 1) kept.formed may.used tells.1 more last was.0 was.1 in
       record {
-        front = size_record place (pages + 1) ∷ [];
+        front = size_record entry_number (pages + 1) ∷ [];
         space = table;
         pages = pages + 1;
         rest = rest;

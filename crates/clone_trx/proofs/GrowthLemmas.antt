@@ -10,7 +10,7 @@ use Rattle.clone_space.specs.Entries.{entry_in, free}
 use Rattle.clone_row.specs.Chains.{IsChain}
 use Rattle.clone_contents.specs.Contents.{named}
 use Rattle.clone_contents.specs.Spaces.{MayGrow, grown}
-use Rattle.clone_trx.proofs.Common.{cases_eq, same_Some, none-some, bound_key, unused, Contents, HasPage, set_at, set_at-same, set_at-other, Donor, HoldsTables, HoldsChains, HoldsRows, HasChain, OnChain, IsNowhere, IsPlace, IsSound}
+use Rattle.clone_trx.proofs.Common.{cases_eq, same_Some, none-some, bound_key, unused, Contents, HasPage, set_at, set_at-same, set_at-other, Donor, HoldsTables, HoldsChains, HoldsRows, HasChain, OnChain, IsNowhere, IsRowSlot, IsSound}
 use Rattle.clone_trx.proofs.CauseLemmas.{not_equal}
 use Rattle.clone_trx.proofs.ChainLemmas.{same_chain, on_there}
 use Rattle.clone_trx.proofs.DictionaryLemmas.{entry-written, entry-other}
@@ -78,25 +78,25 @@ pub record IsLastOf (d : Donor) (c : Contents) (table last key : ℕ) : Type 0 w
   pub chain : OnChain (c.next table) (key % count) last
   pub end : c.next table last ≡ None
 
-module _ (d : Donor) (c : Contents) (place table pages last key : ℕ) (sound : IsSound d c) (may : MayGrow c place table pages last) (l : IsLastOf d c table last key) where
+module _ (d : Donor) (c : Contents) (entry_number table pages last key : ℕ) (sound : IsSound d c) (may : MayGrow c entry_number table pages last) (l : IsLastOf d c table last key) where
   abbrev new : Contents
-  new = grown place table pages last c
+  new = grown entry_number table pages last c
 
   abbrev entry : TableEntry
-  entry = record (entry_in c.dictionary place) { pages = pages + 1 }
+  entry = record (entry_in c.dictionary entry_number) { pages = pages + 1 }
 
-  within : place < length c.dictionary
+  within : entry_number < length c.dictionary
   within =
-      elim (cases_lt place (length c.dictionary)) [
+      elim (cases_lt entry_number (length c.dictionary)) [
         | inl low ↦ low
-        | inr high ↦ absurd (may.used (sym may.named ∙ ap (λ (e : TableEntry). e.table) (get_or_past c.dictionary place free high)))
+        | inr high ↦ absurd (may.used (sym may.named ∙ ap (λ (e : TableEntry). e.table) (get_or_past c.dictionary entry_number free high)))
       ]
 
   names : (j : ℕ) → named new j ≡ named c j
   names j =
-      elim (cases_eq j place) [
-        | inl at ↦ ap (λ (e : TableEntry). e.table) (entry-written c.dictionary place j entry within at) ∙ ap (named c) (sym at)
-        | inr off ↦ ap (λ (e : TableEntry). e.table) (entry-other c.dictionary place j entry off)
+      elim (cases_eq j entry_number) [
+        | inl at ↦ ap (λ (e : TableEntry). e.table) (entry-written c.dictionary entry_number j entry within at) ∙ ap (named c) (sym at)
+        | inr off ↦ ap (λ (e : TableEntry). e.table) (entry-other c.dictionary entry_number j entry off)
       ]
 
   sized : (t : ℕ) → t ≡ table → new.size t ≡ Some (pages + 1)
@@ -138,12 +138,12 @@ module _ (d : Donor) (c : Contents) (place table pages last key : ℕ) (sound : 
   -- the entry of a table tells its buckets and its pages
   told : (t count many j : ℕ) → finite.get d.tables t ≡ Some count → new.size t ≡ Some many → named c j ≡ t → (t ≡ table) ⊎ (t ≢ table) → entry_in new.dictionary j ≡ record { table = t; buckets = count; pages = many }
   told t count many j is size_is name (inl same) =
-      let at : j ≡ place = sound.tables.once j place (λ zero. may.used (sym same ∙ sym name ∙ zero)) (name ∙ same ∙ sym may.named) in
-      let was = sound.tables.told t count pages place is (ap c.size same ∙ may.size) (may.named ∙ sym same) in
+      let at : j ≡ entry_number = sound.tables.once j entry_number (λ zero. may.used (sym same ∙ sym name ∙ zero)) (name ∙ same ∙ sym may.named) in
+      let was = sound.tables.told t count pages entry_number is (ap c.size same ∙ may.size) (may.named ∙ sym same) in
       let more : pages + 1 ≡ many = same_Some (pages + 1) many (sym (sized t same) ∙ size_is) in
-      entry-written c.dictionary place j entry within at ∙ (λ i. record (was i) { pages = more i })
+      entry-written c.dictionary entry_number j entry within at ∙ (λ i. record (was i) { pages = more i })
   told t count many j is size_is name (inr other) =
-      entry-other c.dictionary place j entry (λ at. other (sym name ∙ ap (named c) at ∙ may.named)) ∙ sound.tables.told t count many j is (sym (kept_size t other) ∙ size_is) name
+      entry-other c.dictionary entry_number j entry (λ at. other (sym name ∙ ap (named c) at ∙ may.named)) ∙ sound.tables.told t count many j is (sym (kept_size t other) ∙ size_is) name
 
   tables : HoldsTables d new
   tables = record {
@@ -228,8 +228,8 @@ module _ (d : Donor) (c : Contents) (place table pages last key : ℕ) (sound : 
           absurd (not_there (on_there sound.chains table own.0 (k % own.0) pages own.1 (mod-lt k (omega (arith, sizes.3))) own.2))
 
   -- a key that is bound nowhere may go to any of them
-  pub new_place : (j : ℕ) → IsNowhere c.slot table key → IsPlace d new table pages j key
-  new_place j nowhere = record {
+  pub new_slot : (j : ℕ) → IsNowhere c.slot table key → IsRowSlot d new table pages j key
+  new_slot j nowhere = record {
     count = l.count;
     there = l.there;
     chain = goes_on last pages (on_here (key % l.count) last l.chain) (ap (λ (f : ℕ → Option ℕ). f last) (linked table refl) ∙ set_at-same last last (Some pages) (c.next table) refl);

@@ -9,21 +9,21 @@ use Rattle.clone_ring.specs.Window as ring
 use Rattle.clone_buffer.specs.Buffered.{Buffered, image_of}
 use Rattle.clone_buffer.specs.Writing.{written}
 use Rattle.clone_plain.specs.declared.refusal.EngineRefusal.{EngineRefusal}
-use Rattle.clone_trx.proofs.Common.{SpaceFull, Change, Record, UndoEntry, Image, after_records, contents_of, is_unused, spelling, Donor, changes_of, told, IsSafe, IsKept, IsPlace, IsPlaceFor}
+use Rattle.clone_trx.proofs.Common.{SpaceFull, Change, Record, UndoEntry, Image, after_records, contents_of, is_unused, spelling, Donor, changes_of, told, IsSafe, IsKept, IsRowSlot, IsTargetFor}
 use Rattle.clone_trx.proofs.CauseLemmas.{may_change}
 use Rattle.clone_trx.proofs.FramePinLemmas.{SamePins, pins, records_pins}
-use Rattle.clone_trx.proofs.GrowthKeptLemmas.{growth_keeps, growth_place, growth_used}
-use Rattle.clone_trx.proofs.KeyPlaceLemmas.{no_value}
+use Rattle.clone_trx.proofs.GrowthKeptLemmas.{growth_keeps, growth_slot, growth_used}
+use Rattle.clone_trx.proofs.KeySlotLemmas.{no_value}
 use Rattle.clone_trx.proofs.WriteLemmas.{written_image, written_kept}
 use Rattle.clone_trx.specs.Calls.{grown_way, slot_way, told_way}
 use Rattle.clone_trx.specs.Kept as kept
 use Rattle.clone_trx.specs.Kept.{IsFullAt, TellsPages}
 use Rattle.clone_trx.specs.Ways.{Way, Goes, HasRoom, stops, lengthens}
 
-module _ (d : Donor) (trx : ℕ) (change : Change) (old mid : Buffered) (place pages last : ℕ) (held : IsTrue old.right → IsKept d (image_of old)) (tells : IsTrue old.right → TellsPages (contents_of (image_of old)) change.table place pages)
-    (full : IsTrue old.right → IsFullAt d (image_of old) change.table last change.key) (room : pages < MOST_PAGES) (is : mid ≡ written (records_of_growth place change.table pages last) old) where
+module _ (d : Donor) (trx : ℕ) (change : Change) (old mid : Buffered) (entry_number pages last : ℕ) (held : IsTrue old.right → IsKept d (image_of old)) (tells : IsTrue old.right → TellsPages (contents_of (image_of old)) change.table entry_number pages)
+    (full : IsTrue old.right → IsFullAt d (image_of old) change.table last change.key) (room : pages < MOST_PAGES) (is : mid ≡ written (records_of_growth entry_number change.table pages last) old) where
   abbrev records : List Record
-  records = records_of_growth place change.table pages last
+  records = records_of_growth entry_number change.table pages last
 
   abbrev lsn : ℕ
   lsn = end_of (ends old.log) records
@@ -35,14 +35,14 @@ module _ (d : Donor) (trx : ℕ) (change : Change) (old mid : Buffered) (place p
   before = subst (λ (b : Buffered). IsTrue b.right) is
 
   pub grown_kept : IsTrue mid.right → IsKept d (image_of mid)
-  grown_kept = written_kept d old mid records is (λ right lsn. growth_keeps d (image_of old) place change.table pages last change.key lsn (held right) (tells right) room (full right))
+  grown_kept = written_kept d old mid records is (λ right lsn. growth_keeps d (image_of old) entry_number change.table pages last change.key lsn (held right) (tells right) room (full right))
 
   pub grown_pins : (at : ℕ) → pins mid.pool.frames at ≡ pins old.pool.frames at
   grown_pins = (subst (λ (b : Buffered). SamePins old.pool.frames b.pool.frames) (sym is) (records_pins records (ring.end_of old.ring) (ring.end_of old.ring + length (spelling records)) old.pool)).at
 
   -- the row goes to the first slot of the new page
   module _ (entry : UndoEntry) (count : ℕ) (entry_is : entry ≡ told change.table pages change.key 0 None) (counted : count ≡ length (changes_of d trx)) where
-    pub grown_for : IsSafe d → kept.MayChange d trx change → change.key < 2 ^ 64 → IsPlaceFor d trx change mid entry false count
+    pub grown_for : IsSafe d → kept.MayChange d trx change → change.key < 2 ^ 64 → IsTargetFor d trx change mid entry false count
     grown_for safe may fits =
         let m = may_change d trx change.table change.key may.0 safe.locked may.1 in
         let r = safe.tables.ranges change.table m.buckets m.was_table in
@@ -54,19 +54,19 @@ module _ (d : Donor) (trx : ℕ) (change : Change) (old mid : Buffered) (place p
           table = table;
           key = key;
           in_range = record {
-            place = (omega (arith, r.0, table), omega (arith, r.1, table), omega (arith, room, page), omega (arith, slot));
+            row_slot = (omega (arith, r.0, table), omega (arith, r.1, table), omega (arith, room, page), omega (arith, slot));
             before = inr (ap (λ (e : UndoEntry). e.state) entry_is, ap (λ (e : UndoEntry). e.value) entry_is);
             key = omega (arith, fits, key);
           };
           count = counted;
           told = λ right. entry_is ∙ (λ i. told change.table (sym page i) change.key (sym slot i) (sym (no_value d (image_of old) change.table change.key (held (before right)) (full (before right)).nowhere) i));
-          place = λ right. subst (λ (p : Image × ℕ × ℕ). IsPlace d (contents_of p.0) change.table p.1 p.2 change.key) (λ i. (sym image_is i, sym page i, sym slot i))
-              (growth_place d (image_of old) place change.table pages last change.key lsn (held (before right)) (tells (before right)) room (full (before right)) 0);
-          unused = λ right. sym (growth_used d (image_of old) place change.table pages last change.key lsn (held (before right)) (tells (before right)) room (full (before right)))
+          row_slot = λ right. subst (λ (p : Image × ℕ × ℕ). IsRowSlot d (contents_of p.0) change.table p.1 p.2 change.key) (λ i. (sym image_is i, sym page i, sym slot i))
+              (growth_slot d (image_of old) entry_number change.table pages last change.key lsn (held (before right)) (tells (before right)) room (full (before right)) 0);
+          unused = λ right. sym (growth_used d (image_of old) entry_number change.table pages last change.key lsn (held (before right)) (tells (before right)) room (full (before right)))
               ∙ (λ i. is_unused (sym image_is i) (sym table i) (sym page i));
         }
 
-    pub grown_goes : {X : Type 0} (final : Buffered) (result : Result X EngineRefusal) → HasRoom records old → Goes (told_way trx change count false entry) mid final result → Goes (grown_way d trx change last place pages) old final result
+    pub grown_goes : {X : Type 0} (final : Buffered) (result : Result X EngineRefusal) → HasRoom records old → Goes (told_way trx change count false entry) mid final result → Goes (grown_way d trx change last entry_number pages) old final result
     grown_goes final result has goes =
         subst (λ (w : Way). Goes w old final result) (sym (cond-false (nat_le MOST_PAGES pages) (stops SpaceFull) (lengthens records (slot_way d trx change pages 0 false None)) (lt-leb MOST_PAGES pages room)))
         (inr (has, subst (λ (p : Way × Buffered). Goes p.0 p.1 final result) (λ i. (told_way trx change (counted i) false (entry_is i), is i)) goes))

@@ -6,12 +6,12 @@ use Rattle.std.specs.FinMap as finite
 use Rattle.clone_plain.proofs.HolderLemmas.{held_holds, holds_held}
 use Rattle.clone_plain.specs.Causes.{holds_in, least_holder}
 use Rattle.clone_trx.proofs.Common.{list_any, range_with_len, Locks, Lists, list_at, AreListed, TRANSACTION_LIMIT}
-use Rattle.clone_trx.proofs.LockListLemmas.{Row, list_at_item}
+use Rattle.clone_trx.proofs.LockListLemmas.{RowName, list_at_item}
 
-pub list_holds : (h : Locks) (lists : Lists) (table trx : ℕ) → AreListed h lists → list_any (λ (row : Row). row.0 == table) (list_at lists trx) ≡ holds_in h table trx
+pub list_holds : (h : Locks) (lists : Lists) (table trx : ℕ) → AreListed h lists → list_any (λ (row : RowName). row.0 == table) (list_at lists trx) ≡ holds_in h table trx
 list_holds h lists table trx is = by (list_any is_of (list_at lists trx)) refl (holds_in h table trx) refl
   where
-    is_of : Row → Bool
+    is_of : RowName → Bool
     is_of row = row.0 == table
 
     by : (a : Bool) → list_any is_of (list_at lists trx) ≡ a → (b : Bool) → holds_in h table trx ≡ b → list_any is_of (list_at lists trx) ≡ holds_in h table trx
@@ -27,9 +27,9 @@ list_holds h lists table trx is = by (list_any is_of (list_at lists trx)) refl (
         absurd (true≢false (sym (list_any-from_Any is_of (list_at lists trx) (among.0, (table, on.0), among.1, among.2, eq-eqb table table refl)) ∙ none))
 
 -- what the list at the number of a transaction tells of the locks
-pub list_tells : (h now : Locks) (lists : Lists) (table trx : ℕ) (rows : Vec Row Global) (found : Bool) → AreListed h lists → h ≡ now → trx < TRANSACTION_LIMIT → rows ≡ get_or lists trx rows → found ≡ list_any (λ (row : Row). row.0 == table) rows.items → found ≡ holds_in now table trx
+pub list_tells : (h now : Locks) (lists : Lists) (table trx : ℕ) (rows : Vec RowName Global) (found : Bool) → AreListed h lists → h ≡ now → trx < TRANSACTION_LIMIT → rows ≡ get_or lists trx rows → found ≡ list_any (λ (row : RowName). row.0 == table) rows.items → found ≡ holds_in now table trx
 list_tells h now lists table trx rows found is same low at tells =
-    tells ∙ ap (list_any (λ (row : Row). row.0 == table)) (list_at_item lists trx rows (omega (arith, low, is.count)) at) ∙ list_holds h lists table trx is ∙ ap (λ (m : Locks). holds_in m table trx) same
+    tells ∙ ap (list_any (λ (row : RowName). row.0 == table)) (list_at_item lists trx rows (omega (arith, low, is.count)) at) ∙ list_holds h lists table trx is ∙ ap (λ (m : Locks). holds_in m table trx) same
 
 pub least_holder-found : (h : Locks) (table : ℕ) → least_holder h table ≡ find (holds_in h table) (range_with_len 0 TRANSACTION_LIMIT)
 unfolding least_holder

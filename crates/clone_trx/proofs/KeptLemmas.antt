@@ -25,13 +25,13 @@ kept {d} has sound = record { formed = has.0; sound = subst (IsSound d) (sym has
 pub opening_keeps : (lsn : ℕ) → IsKept no_donor (after_records lsn finite.empty opening_records)
 opening_keeps lsn = kept (opening_is lsn) opened_sound
 
-pub create_keeps : (lsn place table buckets : ℕ) (d : Donor) (image : Image) → IsKept d image → place < 62 → (entry_in (contents_of image).dictionary place).table ≡ 0 → finite.get d.tables table ≡ None → finite.len d.tables < TABLE_LIMIT → 1 ≤ table → table ≤ 1000000 → 1 ≤ buckets → buckets ≤ 1024
-    → IsKept (created table buckets d) (after_records lsn image (records_of_create place table buckets))
-create_keeps lsn place table buckets d image is within free none room low high some few =
+pub create_keeps : (lsn entry_number table buckets : ℕ) (d : Donor) (image : Image) → IsKept d image → entry_number < 62 → (entry_in (contents_of image).dictionary entry_number).table ≡ 0 → finite.get d.tables table ≡ None → finite.len d.tables < TABLE_LIMIT → 1 ≤ table → table ≤ 1000000 → 1 ≤ buckets → buckets ≤ 1024
+    → IsKept (created table buckets d) (after_records lsn image (records_of_create entry_number table buckets))
+create_keeps lsn entry_number table buckets d image is within free none room low high some few =
     let used : table ≢ 0 = λ zero. omega (arith, zero, low) in
     let long = length-dictionary (all_pages image 0 0) in
-    kept (create_is image lsn place table buckets is.formed record { room = within; used = low; low = high; fits = omega (arith, few); free = is.sound.tables.spaces table used none })
-    (created_sound d (contents_of image) place table buckets is.sound none free (omega (arith, long, within)) room used low high some few)
+    kept (create_is image lsn entry_number table buckets is.formed record { room = within; used = low; low = high; fits = omega (arith, few); free = is.sound.tables.spaces table used none })
+    (created_sound d (contents_of image) entry_number table buckets is.sound none free (omega (arith, long, within)) room used low high some few)
 
 pub begin_keeps : (lsn trx writer index : ℕ) (d : Donor) (image : Image) → IsKept d image → least_unused d.active ≡ Some trx → writer < 2 ^ 32 → index < 2 ^ 64
     → IsKept (begun trx writer index d) (after_records lsn image (records_of_begin (is_unused image 0 (header_page trx)) trx writer index))
@@ -41,20 +41,20 @@ begin_keeps lsn trx writer index d image is least writer_fits index_fits =
 
 -- the records of a change
 abbrev pub change_of : Donor → Image → ℕ → Change → ℕ → ℕ → List Record
-change_of d image trx change page place =
+change_of d image trx change page slot_number =
     let count = length (changes_of d trx) in
-    let entry = told change.table page change.key place (value_of d change.table change.key) in
+    let entry = told change.table page change.key slot_number (value_of d change.table change.key) in
     records_of_change (is_unused image 0 (record_page trx count)) (is_unused image entry.table entry.page) trx count entry (rows.image change.key change.value)
 
-pub put_keeps : (lsn trx page place : ℕ) (d after : Donor) (image : Image) (change : Change) → IsKept d image → Puts d after (contents_of image) trx change page place
-    → IsKept after (after_records lsn image (change_of d image trx change page place))
-put_keeps lsn trx page place d after image change is p =
+pub put_keeps : (lsn trx page slot_number : ℕ) (d after : Donor) (image : Image) (change : Change) → IsKept d image → Puts d after (contents_of image) trx change page slot_number
+    → IsKept after (after_records lsn image (change_of d image trx change page slot_number))
+put_keeps lsn trx page slot_number d after image change is p =
     let c : Contents = contents_of image in
-    let entry = e d after c trx change page place is.sound p in
-    let has = change_is image lsn trx (slot d after c trx change page place is.sound p) entry change.value is.formed (may_change d after c trx change page place is.sound p) in
+    let entry = e d after c trx change page slot_number is.sound p in
+    let has = change_is image lsn trx (slot d after c trx change page slot_number is.sound p) entry change.value is.formed (may_change d after c trx change page slot_number is.sound p) in
     subst (λ (n : ℕ). IsKept after (after_records lsn image (records_of_change (is_unused image 0 (record_page trx n)) (is_unused image entry.table entry.page) trx n entry (rows.image change.key change.value))))
-    (same_count d after c trx change page place is.sound p)
-    (kept has (put_sound d after c trx change page place is.sound p))
+    (same_count d after c trx change page slot_number is.sound p)
+    (kept has (put_sound d after c trx change page slot_number is.sound p))
 
 pub take_back_keeps : (lsn trx left : ℕ) (d after : Donor) (image : Image) (slot : UndoSlot) (front : List UndoEntry) (e : UndoEntry) → IsKept d image → TakesBack d trx left after → (contents_of image).undo trx ≡ Some slot → slot.records ≡ front ++ e ∷ []
     → IsKept after (after_records lsn image (records_of_taking_back trx (left + 1) e))

@@ -19,9 +19,9 @@ pub mod SpellingLengths
 pub mod LastRecordLemmas
 pub mod PinLemmas
 pub mod HoldLemmas
-pub mod PlaceLemmas
+pub mod FindFirstLemmas
 pub mod SafeLemmas
-pub mod KeyPlaceLemmas
+pub mod KeySlotLemmas
 pub mod ChangeLemmas
 pub mod LastUndoLemmas
 pub mod SystemPageLemmas
@@ -32,7 +32,7 @@ pub mod NewSpaceLemmas
 pub mod CreateLemmas
 pub mod BeginLemmas
 pub mod OpenLemmas
-pub mod FoundPlaceLemmas
+pub mod FoundSlotLemmas
 pub mod FramePinLemmas
 pub mod HeldPageLemmas
 pub mod WalkLemmas

@@ -8,8 +8,8 @@ use Rattle.clone_trx.proofs.Common.{same_Some, Commit, Image, page_of, Cause, Do
 use Rattle.clone_trx.specs.Calls.{get_way}
 use Rattle.clone_trx.specs.Ways.{Goes, Carries, Answers, WalksAll, let_go}
 use Rattle.clone_trx.proofs.CauseLemmas.{passed, trx_there, table_there, own_or_free}
-use Rattle.clone_trx.proofs.KeyPlaceLemmas.{no_value, held_is, place_there}
-use Rattle.clone_trx.proofs.WalkedLemmas.{IsFoundPlace}
+use Rattle.clone_trx.proofs.KeySlotLemmas.{no_value, held_is, slot_there}
+use Rattle.clone_trx.proofs.WalkedLemmas.{IsFoundSlot}
 
 -- the page of a row's bucket, by its number in the space of its table
 pub record Bucket (d : Donor) (table key number : ℕ) : Type 0 where
@@ -32,14 +32,14 @@ module _ (d : Donor) (trx table key number : ℕ) (commit : Commit) (active : fi
   no_cause = passed (trx_there d trx commit active) ∙ passed (table_there d table b.count b.there) ∙ free
 
   -- the value that is found is the row's
-  pub gets : (image : Image) (page : ℕ) (slot : Option ℕ) (row : List ℕ) (value : Option (List ℕ)) (kept : IsKept d image) → (IsSome (page_of image table page) → page_of image table page ≡ Some row) → IsFoundPlace d image table key b.count kept b.there page slot → value ≡ option_and_then (held_value row) slot → Gets d trx table key value
+  pub gets : (image : Image) (page : ℕ) (slot : Option ℕ) (row : List ℕ) (value : Option (List ℕ)) (kept : IsKept d image) → (IsSome (page_of image table page) → page_of image table page ≡ Some row) → IsFoundSlot d image table key b.count kept b.there page slot → value ≡ option_and_then (held_value row) slot → Gets d trx table key value
   gets image page slot row value kept shows found is =
       let own = own_value d trx commit (table, key) kept.sound.locked active (own_or_free trx (finite.get d.locks (table, key)) free) in
       record { commit = commit; was_active = active; is = is ∙ shown slot found ∙ own }
     where
-      shown : (o : Option ℕ) → IsFoundPlace d image table key b.count kept b.there page o → option_and_then (held_value row) o ≡ value_of d table key
+      shown : (o : Option ℕ) → IsFoundSlot d image table key b.count kept b.there page o → option_and_then (held_value row) o ≡ value_of d table key
       shown None nowhere = sym (no_value d image table key kept nowhere)
-      shown (Some place) found = held_is d image table key kept page place found row (shows (place_there d image table key kept page place found))
+      shown (Some slot_number) found = held_is d image table key kept page slot_number found row (shows (slot_there d image table key kept page slot_number found))
 
   -- the chain is walked, and nothing is done behind it
   pub get_goes : (old mid new : Buffered) (spot : Spot) (value : Option (List ℕ)) → WalksAll (record { table = table; first = number; key = key; for_room = false }) old mid (Ok spot) → new ≡ let_go spot.at mid → Goes {X = Option (List ℕ)} (get_way d table key) old new (Ok value)

@@ -85,7 +85,7 @@ module _ (d : Donor) (trx : ℕ) (commit : Commit) (first : List Change) (x : Ch
     history = u.history;
     shown = subst (IsShown after) (sym edit.1) (record { locked = taken_locked u.shown.locked t; tables = same_tables u.donor after c (undone e c) refl refl refl u.shown.tables; chains = same_chains u.donor after c (undone e c) refl refl refl u.shown.chains; rows = rows.0 });
     undo = ap (λ (a : Contents). a.undo) edit.1 ∙ u.undo;
-    keeps = subst (λ (a : Contents). KeepsBound (contents_of image).slot a.slot) (sym edit.1) (λ table page place key was. rows.1 table page place key (u.keeps table page place key was));
+    keeps = subst (λ (a : Contents). KeepsBound (contents_of image).slot a.slot) (sym edit.1) (λ table page slot_number key was. rows.1 table page slot_number key (u.keeps table page slot_number key was));
     spaces = subst (SameSpaces (contents_of image)) (sym edit.1) (after_same (contents_of image) c (undone e c) refl refl refl u.spaces);
   }
 
@@ -100,7 +100,7 @@ undone_all d trx commit first [] [] image formed shown active split tells = reco
   history = refl;
   shown = shown;
   undo = refl;
-  keeps = λ table page place key was. was;
+  keeps = λ table page slot_number key was. was;
   spaces = record { dictionary = refl; size = refl; next = refl };
 }
 undone_all d trx commit first [] (e ∷ es) image formed shown active split tells = absurd tells
@@ -167,7 +167,7 @@ module _ (d : Donor) (first : Image) (n : ℕ) (now : Image) (commit : Commit) (
     history = u.history ∙ is.history;
     shown = subst (IsShown u.donor) (sym freeing.1) (record { locked = u.shown.locked; tables = same_tables u.donor u.donor (contents_of undone_now) (with_undo n None (contents_of undone_now)) refl refl refl u.shown.tables; chains = same_chains u.donor u.donor (contents_of undone_now) (with_undo n None (contents_of undone_now)) refl refl refl u.shown.chains; rows = u.shown.rows });
     undo = λ s high. ap (λ (a : Contents). a.undo s) freeing.1 ∙ set_at-other n s None (contents_of undone_now).undo (λ same. omega (arith, same, high)) ∙ ap (λ f. f s) u.undo ∙ is.undo s (omega (arith, high));
-    keeps = subst (λ (a : Contents). KeepsBound (contents_of first).slot a.slot) (sym freeing.1) (λ table page place key was. u.keeps table page place key (is.keeps table page place key was));
+    keeps = subst (λ (a : Contents). KeepsBound (contents_of first).slot a.slot) (sym freeing.1) (λ table page slot_number key was. u.keeps table page slot_number key (is.keeps table page slot_number key was));
     spaces = subst (SameSpaces (contents_of first)) (sym freeing.1) (after_same (contents_of first) (contents_of now) (with_undo n None (contents_of undone_now)) u.spaces.dictionary u.spaces.size u.spaces.next is.spaces);
   }
 
@@ -192,7 +192,7 @@ module _ (d : Donor) (first : Image) (formed : IsFormed first) (sound : IsSound 
     history = refl;
     shown = record { locked = sound.locked; tables = sound.tables; chains = sound.chains; rows = sound.rows };
     undo = λ s high. refl;
-    keeps = λ table page place key was. was;
+    keeps = λ table page slot_number key was. was;
     spaces = record { dictionary = refl; size = refl; next = refl };
   }
   taken (suc n) le = next n (taken_back_below n first) (omega (arith, le)) (taken n (omega (arith, le)))
@@ -216,7 +216,7 @@ module _ (d : Donor) (first now : Image) (is : IsTakenBack d first 64 now) where
   same_value key k (Some v) value e = cc
 
   here : (table key : ℕ) (value : List ℕ) → IsRowIn left (table, key, value) → finite.get (committed_rows d) (table, key) ≡ Some value
-  here table key value r = sym (value_is_old table key) ∙ same_value key key (value_of is.donor table key) value (sym r.held ∙ is.shown.rows.shown table r.page r.place key (ap bound_key r.held))
+  here table key value r = sym (value_is_old table key) ∙ same_value key key (value_of is.donor table key) value (sym r.held ∙ is.shown.rows.shown table r.page r.slot_number key (ap bound_key r.held))
 
   there : (table key : ℕ) (value : List ℕ) → finite.get (committed_rows d) (table, key) ≡ Some value → IsRowIn left (table, key, value)
   there table key value e =
@@ -229,7 +229,7 @@ module _ (d : Donor) (first now : Image) (is : IsTakenBack d first 64 now) where
         entry = listed.0;
         named = listed.1;
         page = at.0;
-        place = at.1;
+        slot_number = at.1;
         held = is.shown.rows.shown table at.0 at.1 key at.2 ∙ ap (row_slot key) shows;
       }
 

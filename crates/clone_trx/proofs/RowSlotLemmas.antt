@@ -1,6 +1,6 @@
 -- The rows of the contents when one slot is set.
 use Rattle.std.proofs.Common.{◌≡◌, ◌%◌, ◌⊎◌, ℕ, List, refl, sym, ap, subst, ◌∙◌, inl, inr, Option, Some, None}
-use Rattle.clone_trx.proofs.Common.{same_Some, row_slot, bound_key, unused, Contents, with_slot, cases_place, slot-same, slot-other, Donor, Slots, IsBound, IsNowhere, IsPlace, OnChain, HoldsRows, value_of, cases_row}
+use Rattle.clone_trx.proofs.Common.{same_Some, row_slot, bound_key, unused, Contents, with_slot, cases_slot, slot-same, slot-other, Donor, Slots, IsBound, IsNowhere, IsRowSlot, OnChain, HoldsRows, value_of, cases_row}
 use Rattle.std.specs.FinMap as finite
 
 pub bound-row_slot : (key : ℕ) (value : Option (List ℕ)) → bound_key (row_slot key value) ≡ Some key
@@ -9,13 +9,13 @@ bound-row_slot key None = refl
 
 -- keys that are bound stay so
 abbrev pub KeepsBound : Slots → Slots → Type 0
-KeepsBound slot now = (table page place key : ℕ) → IsBound slot table page place key → IsBound now table page place key
+KeepsBound slot now = (table page slot_number key : ℕ) → IsBound slot table page slot_number key → IsBound now table page slot_number key
 
--- One row shows another value, in the slot at its place, and no other row does.
+-- One row shows another value, in its slot, and no other row does.
 pub record SetsSlot (d after : Donor) (c : Contents) (t p j key : ℕ) : Type 0 where
   pub rows : HoldsRows d c.next c.slot
   pub tables : after.tables ≡ d.tables
-  pub place : IsPlace d c t p j key
+  pub row_slot : IsRowSlot d c t p j key
   pub others : (table k : ℕ) → (table ≡ t → k ≡ key → ⊥) → value_of after table k ≡ value_of d table k
 
 module _ (d after : Donor) (c : Contents) (t p j key : ℕ) (g : SetsSlot d after c t p j key) where
@@ -37,7 +37,7 @@ module _ (d after : Donor) (c : Contents) (t p j key : ℕ) (g : SetsSlot d afte
   -- a key that is bound now is the one that was set, or was bound before
   was : (u n i k : ℕ) → IsBound now u n i k → ((u ≡ t) × (n ≡ p) × (i ≡ j) × (k ≡ key)) ⊎ (IsElsewhere u n i × IsBound c.slot u n i k)
   was u n i k bound =
-      elim (cases_place u n i t p j) [
+      elim (cases_slot u n i t p j) [
         | inl is ↦ inl (is.0, is.1, is.2, same_Some k key (sym bound ∙ bound_here u n i is))
         | inr other ↦ inr (other, sym (ap bound_key (elsewhere u n i other)) ∙ bound)
       ]
@@ -45,7 +45,7 @@ module _ (d after : Donor) (c : Contents) (t p j key : ℕ) (g : SetsSlot d afte
   -- no other slot of the table is bound to the key
   alone : (n i : ℕ) → IsElsewhere t n i → IsBound c.slot t n i key → ⊥
   alone n i other bound =
-      elim g.place.may [
+      elim g.row_slot.may [
         | inl had ↦ (let same = g.rows.once t key n i p j bound had in other refl same.0 same.1)
         | inr new ↦ new.1 n i bound
       ]
@@ -55,9 +55,9 @@ module _ (d after : Donor) (c : Contents) (t p j key : ℕ) (g : SetsSlot d afte
 
   pub kept : KeepsBound c.slot now
   kept u n i k bound =
-      elim (cases_place u n i t p j) [
+      elim (cases_slot u n i t p j) [
         | inr other ↦ ap bound_key (elsewhere u n i other) ∙ bound
-        | inl is ↦ bound_here u n i is ∙ sym (at g.place.may is)
+        | inl is ↦ bound_here u n i is ∙ sym (at g.row_slot.may is)
       ]
     where
       at : IsBound c.slot t p j key ⊎ ((c.slot t p j ≡ unused) × IsNowhere c.slot t key) → (u ≡ t) × (n ≡ p) × (i ≡ j) → ◌≡◌ {A = Option ℕ} (Some k) (Some key)
@@ -73,7 +73,7 @@ module _ (d after : Donor) (c : Contents) (t p j key : ℕ) (g : SetsSlot d afte
 
   clean : (u n i : ℕ) → bound_key (now u n i) ≡ None → now u n i ≡ unused
   clean u n i none =
-      elim (cases_place u n i t p j) [
+      elim (cases_slot u n i t p j) [
         | inl is ↦ absurd (let e = sym none ∙ bound_here u n i is in cc)
         | inr other ↦ elsewhere u n i other ∙ g.rows.clean u n i (sym (ap bound_key (elsewhere u n i other)) ∙ none)
       ]
@@ -81,8 +81,8 @@ module _ (d after : Donor) (c : Contents) (t p j key : ℕ) (g : SetsSlot d afte
   own : (u n i k : ℕ) → IsBound now u n i k → (count : ℕ) × (finite.get after.tables u ≡ Some count) × OnChain (c.next u) (k % count) n
   own u n i k bound =
       elim (was u n i k bound) [
-        | inl is ↦ (let on = subst (λ (x : ℕ × ℕ × ℕ). OnChain (c.next x.0) (x.2 % g.place.count) x.1) (λ x. (sym is.0 x, sym is.1 x, sym is.3 x)) g.place.chain in
-            (g.place.count, ap (λ m. finite.get m u) g.tables ∙ ap (finite.get d.tables) is.0 ∙ g.place.there, on))
+        | inl is ↦ (let on = subst (λ (x : ℕ × ℕ × ℕ). OnChain (c.next x.0) (x.2 % g.row_slot.count) x.1) (λ x. (sym is.0 x, sym is.1 x, sym is.3 x)) g.row_slot.chain in
+            (g.row_slot.count, ap (λ m. finite.get m u) g.tables ∙ ap (finite.get d.tables) is.0 ∙ g.row_slot.there, on))
         | inr old ↦ (let had = g.rows.own u n i k old.1 in (had.0, ap (λ m. finite.get m u) g.tables ∙ had.1, had.2))
       ]
 

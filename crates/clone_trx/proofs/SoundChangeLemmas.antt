@@ -1,6 +1,6 @@
 -- A change keeps the contents sound.
 use Rattle.std.proofs.Common.{◌≡◌, ◌<◌, ◌≤◌, ◌%◌, ◌⊎◌, ◌++◌, ℕ, List, [], ◌∷◌, length, refl, sym, ap, subst, ◌∙◌, arith, inl, inr, Option, Some, None, is_some, IfSome, mod-lt}
-use Rattle.clone_trx.proofs.Common.{cases_eq, after_changes, Change, Commit, row_slot, bound_key, UndoEntry, IsEntry, UndoSlot, Contents, told_value, MayChange, changed, telling, set_at-same, set_at-other, slot-same, CHANGE_LIMIT, TABLE_LIMIT, Donor, changes_of, with_change, Changes, HoldsTables, HoldsRows, IsUndoSlot, StandsFor, IsSound, TellsChange, TellsChanges, committed_rows, value_of, told, IsPlace, changes_of_active, own-set, others-set, own_value, changed_value, changed_value_other, changed_locked}
+use Rattle.clone_trx.proofs.Common.{cases_eq, after_changes, Change, Commit, row_slot, bound_key, UndoEntry, IsEntry, UndoSlot, Contents, told_value, MayChange, changed, telling, set_at-same, set_at-other, slot-same, CHANGE_LIMIT, TABLE_LIMIT, Donor, changes_of, with_change, Changes, HoldsTables, HoldsRows, IsUndoSlot, StandsFor, IsSound, TellsChange, TellsChanges, committed_rows, value_of, told, IsRowSlot, changes_of_active, own-set, others-set, own_value, changed_value, changed_value_other, changed_locked}
 use Rattle.std.specs.FinMap as finite
 use Rattle.clone_space.specs.Entries.{entry_in}
 use Rattle.clone_contents.specs.Contents.{named}
@@ -9,9 +9,9 @@ use Rattle.clone_trx.proofs.RowSlotLemmas.{KeepsBound, SetsSlot, bound-row_slot,
 use Rattle.clone_trx.proofs.UndoRecordLemmas.{counted, in_range, tells_on, tells_push, own_slot, stands_open, stands_still}
 
 -- what an undo record tells is the value that it was made of
-pub told-value : (table page key place : ℕ) (value : Option (List ℕ)) → told_value (told table page key place value) ≡ value
-told-value table page key place None = refl
-told-value table page key place (Some value) = refl
+pub told-value : (table page key slot_number : ℕ) (value : Option (List ℕ)) → told_value (told table page key slot_number value) ≡ value
+told-value table page key slot_number None = refl
+told-value table page key slot_number (Some value) = refl
 
 -- the tables stay
 pub same_tables : (d after : Donor) (c now : Contents) → after.tables ≡ d.tables → now.dictionary ≡ c.dictionary → now.size ≡ c.size → HoldsTables d c → HoldsTables after now
@@ -34,14 +34,14 @@ same_tables d after c now same entries size holds = record {
     names : (j : ℕ) → named now j ≡ named c j
     names j = ap (λ l. (entry_in l j).table) entries
 
--- a change is made for which there is no cause against it, at this place of a page of its chain
-pub record Puts (d after : Donor) (c : Contents) (trx : ℕ) (change : Change) (page place : ℕ) : Type 0 where
+-- a change is made for which there is no cause against it, in this slot of a page of its chain
+pub record Puts (d after : Donor) (c : Contents) (trx : ℕ) (change : Change) (page slot_number : ℕ) : Type 0 where
   pub made : Changes d trx change after
   pub lock : (finite.get d.locks (change.table, change.key) ≡ None) ⊎ (finite.get d.locks (change.table, change.key) ≡ Some trx)
   pub room : length (changes_of d trx) < CHANGE_LIMIT
   pub short : IfSome change.value (λ v. length v ≤ 64)
-  pub is_place : IsPlace d c change.table page place change.key
-  pub in_range : IsEntry (told change.table page change.key place (value_of d change.table change.key))
+  pub row_slot : IsRowSlot d c change.table page slot_number change.key
+  pub in_range : IsEntry (told change.table page change.key slot_number (value_of d change.table change.key))
 
 module _ (d after : Donor) (c : Contents) (trx : ℕ) (change : Change) (number at : ℕ) (sound : IsSound d c) (g : Puts d after c trx change number at) where
   abbrev pub commit : Commit
@@ -65,16 +65,16 @@ module _ (d after : Donor) (c : Contents) (trx : ℕ) (change : Change) (number 
   -- what the mini-transaction asks for
   pub may_change : MayChange c trx slot e change.value
   may_change =
-      let place = g.is_place in
-      let sizes = sound.tables.sizes change.table place.count place.there in
-      let some : 0 < place.count = omega (arith, sizes.3) in
+      let here = g.row_slot in
+      let sizes = sound.tables.sizes change.table here.count here.there in
+      let some : 0 < here.count = omega (arith, sizes.3) in
       record {
         small = small;
         used = own.is;
         known = in_range c.slot (committed_rows d) commit.changes own.records own.tells;
         room = omega (arith, g.room, ap length (changes_of_active d trx commit g.made.was_active), counted c.slot (committed_rows d) commit.changes own.records own.tells);
         in_range = g.in_range;
-        there = on_there sound.chains change.table place.count (change.key % place.count) number place.there (mod-lt change.key some) place.chain;
+        there = on_there sound.chains change.table here.count (change.key % here.count) number here.there (mod-lt change.key some) here.chain;
         short = g.short;
       }
 
@@ -91,7 +91,7 @@ module _ (d after : Donor) (c : Contents) (trx : ℕ) (change : Change) (number 
   value = changed_value sound.locked g.made
 
   sets : SetsSlot d after c change.table number at change.key
-  sets = record { rows = sound.rows; tables = tables; place = g.is_place; others = λ t k other. changed_value_other sound.locked g.made t k other }
+  sets = record { rows = sound.rows; tables = tables; row_slot = g.row_slot; others = λ t k other. changed_value_other sound.locked g.made t k other }
 
   -- the slot is set to the value that the row shows
   rows : HoldsRows after c.next new.slot × KeepsBound c.slot new.slot

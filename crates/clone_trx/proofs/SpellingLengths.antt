@@ -1,6 +1,6 @@
 -- The records of a begin and of a change: how long their spelling is, and those from the second on.
 use Rattle.std.proofs.Common.{◌≡◌, ◌≤◌, ◌+◌, ◌==◌, ℕ, zero, suc, Bool, true, false, List, [], ◌∷◌, ◌++◌, length, drop, replicate, ◌-◌, refl, ap, ◌∙◌, arith, if◌then◌else◌, length-append}
-use Rattle.clone_trx.proofs.Common.{length-replicate, big_bytes, Undo, Bucket, slot_at, record_spelling, spelling, longest, Record, Write, UndoEntry, entry_bytes, header_page, record_page, record_place, count_place, made_first, entry_record, count_record, row_record, records_of_begin, records_of_change}
+use Rattle.clone_trx.proofs.Common.{length-replicate, big_bytes, Undo, Bucket, slot_at, record_spelling, spelling, longest, Record, Write, UndoEntry, entry_bytes, header_page, record_page, record_offset, count_offset, made_first, entry_record, count_record, row_record, records_of_begin, records_of_change}
 use Rattle.clone_page.specs.declared.kind.PageKind.{PageKind}
 use Rattle.clone_trx.specs.Calls.{is_new}
 
@@ -50,8 +50,8 @@ short_change unused row_unused s n e image short eighty =
     let records : List Record = entry_record s n e ∷ counted in
     let in_row : length (spelling row) ≡ 13 + (length image + 1) = length-written e.table e.page (slot_at e.slot) image (6 ∷ []) in
     let in_rows : length (spelling rows) ≤ 11 + length (spelling row) = length-made row_unused e.table e.page Bucket row in
-    let in_counted : length (spelling counted) ≡ 13 + (2 + length (spelling rows)) = length-written 0 (header_page s) count_place (big_bytes 2 (n + 1)) (spelling rows) in
-    let in_records : length (spelling records) ≡ 13 + (length (entry_bytes e) + length (spelling counted)) = length-written 0 (record_page s n) (record_place n) (entry_bytes e) (spelling counted) in
+    let in_counted : length (spelling counted) ≡ 13 + (2 + length (spelling rows)) = length-written 0 (header_page s) count_offset (big_bytes 2 (n + 1)) (spelling rows) in
+    let in_records : length (spelling records) ≡ 13 + (length (entry_bytes e) + length (spelling counted)) = length-written 0 (record_page s n) (record_offset n) (entry_bytes e) (spelling counted) in
     let in_all : length (spelling (records_of_change unused row_unused s n e image)) ≤ 11 + length (spelling records) = length-made unused 0 (record_page s n) Undo records in
     let in_entry : length (entry_bytes e) ≤ 96 = length-entry e short in
     bounded in_row in_rows in_counted in_records in_all in_entry eighty

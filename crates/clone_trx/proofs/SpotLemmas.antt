@@ -8,12 +8,12 @@ use Rattle.clone_plain.specs.declared.refusal.EngineRefusal.{EngineRefusal}
 use Rattle.clone_plain.specs.declared.refusal.EngineRefusal.TheVariants.{Because, NoMemory}
 use Rattle.clone_trx.specs.declared.walk.Course.{Course}
 use Rattle.clone_trx.specs.declared.walk.Spot.{Spot}
-use Rattle.clone_trx.proofs.Common.{Record, Image, page_of, contents_of, Donor, page_number, AreLoose, Has, HasChain, IsPlace, IsSafe, IsSpot, IsKept}
-use Rattle.clone_trx.proofs.FoundPlaceLemmas.{held_page}
-use Rattle.clone_trx.proofs.KeyPlaceLemmas.{in_ranges}
+use Rattle.clone_trx.proofs.Common.{Record, Image, page_of, contents_of, Donor, page_number, AreLoose, Has, HasChain, IsRowSlot, IsSafe, IsSpot, IsKept}
+use Rattle.clone_trx.proofs.FoundSlotLemmas.{held_page}
+use Rattle.clone_trx.proofs.KeySlotLemmas.{in_ranges}
 use Rattle.clone_trx.proofs.WalkLemmas.{Stays, walk_stays, walk_pins, walk_missed, walk_range}
 use Rattle.clone_trx.proofs.WalkStepLemmas.{pin_low}
-use Rattle.clone_trx.proofs.WalkedLemmas.{IsFoundPlace, chain, walk_place, walk_full}
+use Rattle.clone_trx.proofs.WalkedLemmas.{IsFoundSlot, chain, walk_slot, walk_full}
 use Rattle.clone_trx.proofs.WayLemmas.{still_kept}
 use Rattle.clone_trx.specs.Calls.{row_walk}
 use Rattle.clone_trx.specs.Kept.{IsFullAt}
@@ -54,8 +54,8 @@ module _ (d : Donor) (t key count first : ℕ) (there : finite.get d.tables t �
   pub of_row : (for_room : Bool) (old new : Buffered) (result : Result Spot EngineRefusal) → WalksAll (record { table = t; first = first; key = key; for_room = for_room }) old new result → WalksAll (row_walk d t key for_room) old new result
   of_row for_room old new result walked = subst (λ (n : ℕ). WalksAll (record { table = t; first = n; key = key; for_room = for_room }) old new result) is_first walked
 
-  pub found_place : (for_room : Bool) (old new : Buffered) (spot : Spot) → WalksAll (row_walk d t key for_room) old new (Ok spot) → (kept : IsKept d (image_of old)) → IsTrue new.right → IsFoundPlace d (image_of old) t key count kept there spot.page spot.slot
-  found_place for_room old new spot walked kept right = walk_place d (image_of old) t key count kept there for_room old new spot refl walked right
+  pub found_slot : (for_room : Bool) (old new : Buffered) (spot : Spot) → WalksAll (row_walk d t key for_room) old new (Ok spot) → (kept : IsKept d (image_of old)) → IsTrue new.right → IsFoundSlot d (image_of old) t key count kept there spot.page spot.slot
+  found_slot for_room old new spot walked kept right = walk_slot d (image_of old) t key count kept there for_room old new spot refl walked right
 
   pub spot_is : (old new : Buffered) (spot : Spot) → IsSafe d → WalksAll (row_walk d t key true) old new (Ok spot) → (IsTrue old.right → IsKept d (image_of old)) → Has (record { space = t; number = spot.page }) spot.at new.pool.frames → IsSpot d t key new spot
   spot_is old new spot safe walked kept has =
@@ -64,10 +64,10 @@ module _ (d : Donor) (t key count first : ℕ) (there : finite.get d.tables t �
       record {
         in_range = walk_range course (MOST_PAGES - 1) course.first None old new (Ok spot) walked (in_ranges d t key count safe.tables there).2 tt;
         has = has;
-        place = λ right. subst (λ (log : List (List Record)). IfSome spot.slot (λ place. IsPlace d (contents_of (replayed log)) t spot.page place key)) (sym s.log) (if_found spot.slot (kept (s.before right)) (found_place true old new spot walked (kept (s.before right)) right));
+        row_slot = λ right. subst (λ (log : List (List Record)). IfSome spot.slot (λ slot_number. IsRowSlot d (contents_of (replayed log)) t spot.page slot_number key)) (sym s.log) (if_found spot.slot (kept (s.before right)) (found_slot true old new spot walked (kept (s.before right)) right));
         full = λ right none. subst (λ (log : List (List Record)). IsFullAt d (replayed log) t spot.page key) (sym s.log) (walk_full d (image_of old) t key count (kept (s.before right)) there old new spot refl walked right none);
       }
     where
-      if_found : (slot : Option ℕ) (k : IsKept d (image_of old)) → IsFoundPlace d (image_of old) t key count k there spot.page slot → IfSome slot (λ place. IsPlace d (contents_of (image_of old)) t spot.page place key)
+      if_found : (slot : Option ℕ) (k : IsKept d (image_of old)) → IsFoundSlot d (image_of old) t key count k there spot.page slot → IfSome slot (λ slot_number. IsRowSlot d (contents_of (image_of old)) t spot.page slot_number key)
       if_found None k found = tt
-      if_found (Some place) k found = found
+      if_found (Some slot_number) k found = found

@@ -11,7 +11,7 @@ use Rattle.clone_trx.proofs.ChainLemmas.{alone, same_chain}
 use Rattle.clone_trx.proofs.DictionaryLemmas.{entry-written, entry-other}
 use Rattle.clone_trx.proofs.UndoRecordLemmas.{stands_still}
 
-module _ (d : Donor) (c : Contents) (place table buckets : ℕ) (sound : IsSound d c) (none : finite.get d.tables table ≡ None) (free : named c place ≡ 0) (within : place < length c.dictionary) (room : finite.len d.tables < TABLE_LIMIT) (behind : table ≢ 0) (low : 1 ≤ table) (high : table ≤ 1000000) (some : 1 ≤ buckets) (few : buckets ≤ 1024) where
+module _ (d : Donor) (c : Contents) (entry_number table buckets : ℕ) (sound : IsSound d c) (none : finite.get d.tables table ≡ None) (free : named c entry_number ≡ 0) (within : entry_number < length c.dictionary) (room : finite.len d.tables < TABLE_LIMIT) (behind : table ≢ 0) (low : 1 ≤ table) (high : table ≤ 1000000) (some : 1 ≤ buckets) (few : buckets ≤ 1024) where
   abbrev after : Donor
   after = plain.created table buckets d
 
@@ -35,13 +35,13 @@ module _ (d : Donor) (c : Contents) (place table buckets : ℕ) (sound : IsSound
   entry = record { table = table; buckets = buckets; pages = buckets }
 
   abbrev new : Contents
-  new = contents.created place table buckets c
+  new = contents.created entry_number table buckets c
 
-  here : (j : ℕ) → j ≡ place → named new j ≡ table
-  here j same = ap (λ (e : TableEntry). e.table) (entry-written c.dictionary place j entry within same)
+  here : (j : ℕ) → j ≡ entry_number → named new j ≡ table
+  here j same = ap (λ (e : TableEntry). e.table) (entry-written c.dictionary entry_number j entry within same)
 
-  there : (j : ℕ) → j ≢ place → named new j ≡ named c j
-  there j apart = ap (λ (e : TableEntry). e.table) (entry-other c.dictionary place j entry apart)
+  there : (j : ℕ) → j ≢ entry_number → named new j ≡ named c j
+  there j apart = ap (λ (e : TableEntry). e.table) (entry-other c.dictionary entry_number j entry apart)
 
   -- no other entry names the table
   unnamed : (j : ℕ) → named c j ≢ table
@@ -65,20 +65,20 @@ module _ (d : Donor) (c : Contents) (place table buckets : ℕ) (sound : IsSound
       | inr apart ↦ kept_size t apart ∙ sound.tables.spaces t first (sym (other t apart) ∙ gone)
     ];
     listed = λ t is. elim (cases_eq t table) [
-      | inl same ↦ (place, here place refl ∙ sym same)
+      | inl same ↦ (entry_number, here entry_number refl ∙ sym same)
       | inr apart ↦ (let had = sound.tables.listed t (ap is_some (sym (other t apart)) ∙ is) in (had.0, there had.0 (λ e. used t had.0 had.1 e (ap is_some (sym (other t apart)) ∙ is)) ∙ had.1))
     ];
-    told = λ t count pages j is size_is names. told t count pages j is size_is names (cases_eq t table) (cases_eq j place);
-    tables = λ j names. elim (cases_eq j place) [
+    told = λ t count pages j is size_is names. told t count pages j is size_is names (cases_eq t table) (cases_eq j entry_number);
+    tables = λ j names. elim (cases_eq j entry_number) [
       | inl same ↦ ap (λ t. is_some (finite.get after.tables t)) (here j same) ∙ ap is_some own
       | inr apart ↦ ap (λ t. is_some (finite.get after.tables t)) (there j apart) ∙ ap is_some (other (named c j) (unnamed j)) ∙ sound.tables.tables j (λ z. names (there j apart ∙ z))
     ];
-    once = λ i j names same. once i j names same (cases_eq i place) (cases_eq j place);
+    once = λ i j names same. once i j names same (cases_eq i entry_number) (cases_eq j entry_number);
     few = omega (arith, longer, room);
   }
     where
       -- the free entry named no table
-      used : (t j : ℕ) → named c j ≡ t → j ≡ place → IsSome (finite.get d.tables t) → ⊥
+      used : (t j : ℕ) → named c j ≡ t → j ≡ entry_number → IsSome (finite.get d.tables t) → ⊥
       used t j is e found = let zero : t ≡ 0 = sym is ∙ ap (named c) e ∙ free in no_zero (ap (λ m. is_some (finite.get d.tables m)) (sym zero) ∙ found)
         where
           no_zero : IsSome (finite.get d.tables 0) → ⊥
@@ -89,17 +89,17 @@ module _ (d : Donor) (c : Contents) (place table buckets : ℕ) (sound : IsSound
               at (Some count) is there = absurd (let sizes = sound.tables.sizes 0 count is in omega (arith, sizes.1))
 
       -- the entry of a table tells its buckets and its pages
-      told : (t count pages j : ℕ) → finite.get after.tables t ≡ Some count → new.size t ≡ Some pages → named new j ≡ t → (t ≡ table) ⊎ (t ≢ table) → (j ≡ place) ⊎ (j ≢ place) → entry_in new.dictionary j ≡ record { table = t; buckets = count; pages = pages }
+      told : (t count pages j : ℕ) → finite.get after.tables t ≡ Some count → new.size t ≡ Some pages → named new j ≡ t → (t ≡ table) ⊎ (t ≢ table) → (j ≡ entry_number) ⊎ (j ≢ entry_number) → entry_in new.dictionary j ≡ record { table = t; buckets = count; pages = pages }
       told t count pages j is size_is names (inl same) (inl at) =
           let n = mine t count same is in
           let p : buckets ≡ pages = same_Some buckets pages (sym (sized t same) ∙ size_is) in
-          entry-written c.dictionary place j entry within at ∙ (λ i. record { table = sym same i; buckets = n i; pages = p i })
+          entry-written c.dictionary entry_number j entry within at ∙ (λ i. record { table = sym same i; buckets = n i; pages = p i })
       told t count pages j is size_is names (inl same) (inr off) = absurd (unnamed j (sym (there j off) ∙ names ∙ same))
       told t count pages j is size_is names (inr apart) (inl at) = absurd (apart (sym names ∙ here j at))
       told t count pages j is size_is names (inr apart) (inr off) =
-          entry-other c.dictionary place j entry off ∙ sound.tables.told t count pages j (sym (other t apart) ∙ is) (sym (kept_size t apart) ∙ size_is) (sym (there j off) ∙ names)
+          entry-other c.dictionary entry_number j entry off ∙ sound.tables.told t count pages j (sym (other t apart) ∙ is) (sym (kept_size t apart) ∙ size_is) (sym (there j off) ∙ names)
 
-      once : (i j : ℕ) → named new i ≢ 0 → named new i ≡ named new j → (i ≡ place) ⊎ (i ≢ place) → (j ≡ place) ⊎ (j ≢ place) → i ≡ j
+      once : (i j : ℕ) → named new i ≢ 0 → named new i ≡ named new j → (i ≡ entry_number) ⊎ (i ≢ entry_number) → (j ≡ entry_number) ⊎ (j ≢ entry_number) → i ≡ j
       once i j names same (inl a) (inl b) = a ∙ sym b
       once i j names same (inl a) (inr b) = absurd (unnamed j (sym (there j b) ∙ sym same ∙ here i a))
       once i j names same (inr a) (inl b) = absurd (unnamed i (sym (there i a) ∙ same ∙ here j b))

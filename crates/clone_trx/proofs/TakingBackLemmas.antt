@@ -23,7 +23,7 @@ taken_rows d after c trx left e locked rows t tells =
     let sets : SetsSlot d after c e.table e.page e.slot e.key = record {
       rows = rows;
       tables = ap (λ (x : Donor). x.tables) t.is;
-      place = record { count = own.0; there = own.1; chain = own.2; may = inl tells.bound };
+      row_slot = record { count = own.0; there = own.1; chain = own.2; may = inl tells.bound };
       others = λ table k other. taken_value_other locked t table k (λ x y. other (x ∙ sym tells.table) (y ∙ sym tells.key));
     } in
     subst (λ (v : Option (List ℕ)). HoldsRows after c.next (with_slot e.table e.page e.slot (row_slot e.key v) c).slot × KeepsBound c.slot (with_slot e.table e.page e.slot (row_slot e.key v) c).slot) value

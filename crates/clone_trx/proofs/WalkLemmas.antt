@@ -2,7 +2,7 @@
 use Rattle.std.proofs.Common.{◌≡◌, ◌<◌, ◌≤◌, ◌+◌, ◌-◌, ◌&&◌, ℕ, Bool, true, false, List, refl, sym, ap, subst, ◌∙◌, arith, Option, Some, None, IsTrue, IfSome, IfOk, Result, Ok, Err, is_some, not, if◌then◌else◌, nat_lt, option_and_then}
 use Rattle.std.proofs.lemmas.Bool.{and_parts, and_from, ltb-true, lt-ltb, cond-true}
 use Rattle.clone_model.specs.declared.line.TheConstants.{MOST_PAGES}
-use Rattle.clone_page.specs.Slots.{slot_count}
+use Rattle.clone_page.specs.Slots.{row_slot_count}
 use Rattle.clone_row.specs.Chains.{behind}
 use Rattle.clone_pool.specs.declared.frame.PageName.{PageName}
 use Rattle.clone_buffer.specs.Buffered.{Buffered}
@@ -44,12 +44,12 @@ onward_none left next page none is some low =
     none-some next (sym none ∙ on)
 
 -- the slot that a walk takes for a key was never used
-pub room_free : (course : Course) (kept : Option Spot) (page : List ℕ) (found : Option ℕ) (place : ℕ) → FindsRoom course kept page found → found ≡ Some place → FindsFree (slots page) (Some place)
-room_free course kept page found place room is = at (course.for_room && not (is_some kept)) room
+pub room_free : (course : Course) (kept : Option Spot) (page : List ℕ) (found : Option ℕ) (slot_number : ℕ) → FindsRoom course kept page found → found ≡ Some slot_number → FindsFree (slots page) (Some slot_number)
+room_free course kept page found slot_number room is = at (course.for_room && not (is_some kept)) room
   where
-    at : (b : Bool) → FindsWanted b page found → FindsFree (slots page) (Some place)
+    at : (b : Bool) → FindsWanted b page found → FindsFree (slots page) (Some slot_number)
     at true free = subst (FindsFree (slots page)) is free
-    at false none = absurd (none-some place (sym none ∙ is))
+    at false none = absurd (none-some slot_number (sym none ∙ is))
 
 -- the log and the ring stay, and nothing that was wrong is right
 pub record Stays (old new : Buffered) : Type 0 where
@@ -141,9 +141,9 @@ walk_missed course l p k o n r (returns left page at spot old mid new x on is) =
 walk_missed course l p k o n r (arrives left page at slot old new x room on) = tt
 
 -- the slot that was found is one of the page
-found_low : (found : Option ℕ) → ((place : ℕ) → found ≡ Some place → place < slot_count) → IfSome found (λ place. place < slot_count)
+found_low : (found : Option ℕ) → ((slot_number : ℕ) → found ≡ Some slot_number → slot_number < row_slot_count) → IfSome found (λ slot_number. slot_number < row_slot_count)
 found_low None low = tt
-found_low (Some place) low = low place refl
+found_low (Some slot_number) low = low slot_number refl
 
 -- the numbers of the spot that a walk comes to are in their ranges
 pub walk_range : (course : Course) (left page : ℕ) (kept : Option Spot) (old new : Buffered) (result : Result Spot EngineRefusal) → Walks course left page kept old new result → page < MOST_PAGES → IfSome kept IsInRange → IfOk result IsInRange
@@ -153,4 +153,4 @@ walk_range course l p k o n r (keeps left page at slot next old mid new result x
     walk_range course (left - 1) next _ mid new result rest (onward_is left next (page_in at mid) on).2 (low, (room_free course None (page_in at mid) (Some slot) slot room refl).0)
 walk_range course l p k o n r (passes left page at next kept old mid passed new result x room on is rest) low had = walk_range course (left - 1) next kept passed new result rest (onward_is left next (page_in at mid) on).2 had
 walk_range course l p k o n r (returns left page at spot old mid new x on is) low had = had
-walk_range course l p k o n r (arrives left page at slot old new x room on) low had = (low, found_low slot (λ place is. (room_free course None (page_in at new) slot place room is).0))
+walk_range course l p k o n r (arrives left page at slot old new x room on) low had = (low, found_low slot (λ slot_number is. (room_free course None (page_in at new) slot slot_number room is).0))

@@ -114,11 +114,11 @@ module _ (course : Course) (left page at : ℕ) (kept : Option Spot) (first mid 
 pub keeps_here : (course : Course) (left page at : ℕ) (kept : Option Spot) (first mid : Buffered) → 1 ≤ course.table → MayGoOn course page kept first → Holds (chain_page course page) at first mid → Has (chain_page course page) at mid.pool.frames → Finds course.key (slots (page_in at mid)) None → (next : ℕ) (slot : Option ℕ)
     → FindsRoom course kept (page_in at mid) slot → is_some slot ≡ true → onward left (page_in at mid) ≡ Some next → Follows course left page kept first mid (GoesOn next (Some (record { page = page; at = at; slot = slot })))
 keeps_here course left page at kept first mid used may h has lacks next None room some on = absurd (false≢true some)
-keeps_here course left page at (Some spot) first mid used may h has lacks next (Some place) room some on = absurd (none-some place (sym (room_kept course spot (page_in at mid) (Some place) room)))
-keeps_here course left page at None first mid used may h has lacks next (Some place) room some on = (
+keeps_here course left page at (Some spot) first mid used may h has lacks next (Some slot_number) room some on = absurd (none-some slot_number (sym (room_kept course spot (page_in at mid) (Some slot_number) room)))
+keeps_here course left page at None first mid used may h has lacks next (Some slot_number) room some on = (
   (onward_is left next (page_in at mid) on).1,
   record { pins = λ other. omega (arith, held_pins (chain_page course page) at first mid h other, may.pins other, pin_low at other); held = has; chain = chain_on course left page at None first mid used may h has tt next on },
-  λ last result walked. keeps left page at place next first mid last result (record { holds = h; lacks = lacks }) room on walked,
+  λ last result walked. keeps left page at slot_number next first mid last result (record { holds = h; lacks = lacks }) room on walked,
 )
 
 -- The chain ends.

@@ -16,7 +16,7 @@ use Rattle.clone_buffer.specs.Buffered.{Buffered, image_of}
 use Rattle.clone_plain.specs.declared.refusal.EngineRefusal.{EngineRefusal}
 use Rattle.clone_trx.specs.declared.walk.Course.{Course}
 use Rattle.clone_trx.specs.declared.walk.Spot.{Spot}
-use Rattle.clone_trx.proofs.Common.{all_pages-is, same_Some, none-some, unused, Finds, FindsFree, slots, slot_in, kind_of, is_unused, Image, page_of, page_there, Contents, contents_of, HasPage, Donor, page_number, IsBound, IsNowhere, IsPlace, OnChain, HasChain, IsKept}
+use Rattle.clone_trx.proofs.Common.{all_pages-is, same_Some, none-some, unused, Finds, FindsFree, slots, slot_in, kind_of, is_unused, Image, page_of, page_there, Contents, contents_of, HasPage, Donor, page_number, IsBound, IsNowhere, IsRowSlot, OnChain, HasChain, IsKept}
 use Rattle.clone_trx.proofs.CauseLemmas.{not_equal}
 use Rattle.clone_trx.proofs.ChainLemmas.{all_on, on_there}
 use Rattle.clone_trx.proofs.HeldPageLemmas.{held_right}
@@ -36,7 +36,7 @@ module _ (course : Course) (image : Image) (used : course.table ≢ 0) (On : ℕ
 
   -- no slot of a page is bound to the key
   abbrev Without : ℕ → Type 0
-  Without page = (place : ℕ) → ¬ IsBound c.slot t page place course.key
+  Without page = (slot_number : ℕ) → ¬ IsBound c.slot t page slot_number course.key
 
   -- the chain ends at a page, and a walk that is for room found none there
   abbrev IsEnd : ℕ → Type 0
@@ -46,7 +46,7 @@ module _ (course : Course) (image : Image) (used : course.table ≢ 0) (On : ℕ
   -- of which this is the last where there is no slot
   abbrev pub ComesTo : List ℕ → ℕ → Option ℕ → Type 0
   ComesTo pages page None = AllByRecursion Without pages × IsEnd page
-  ComesTo pages page (Some place) = IsBound c.slot t page place course.key ⊎ ((c.slot t page place ≡ unused) × AllByRecursion Without pages)
+  ComesTo pages page (Some slot_number) = IsBound c.slot t page slot_number course.key ⊎ ((c.slot t page slot_number ≡ unused) × AllByRecursion Without pages)
 
   abbrev pub Came : List ℕ → Result Spot EngineRefusal → Type 0
   Came pages (Ok spot) = On spot.page × ComesTo pages spot.page spot.slot
@@ -54,8 +54,8 @@ module _ (course : Course) (image : Image) (used : course.table ≢ 0) (On : ℕ
 
   with_page : (pages : List ℕ) (one page : ℕ) (slot : Option ℕ) → Without one → ComesTo pages page slot → ComesTo (one ∷ pages) page slot
   with_page pages one page None lacks all = ((lacks, all.0), all.1)
-  with_page pages one page (Some place) lacks (inl bound) = inl bound
-  with_page pages one page (Some place) lacks (inr new) = inr (new.0, (lacks, new.1))
+  with_page pages one page (Some slot_number) lacks (inl bound) = inl bound
+  with_page pages one page (Some slot_number) lacks (inr new) = inr (new.0, (lacks, new.1))
 
   came_with : (pages : List ℕ) (one : ℕ) (result : Result Spot EngineRefusal) → Without one → Came pages result → Came (one ∷ pages) result
   came_with pages one (Ok spot) lacks is = (is.0, with_page pages one spot.page spot.slot lacks is.1)
@@ -63,14 +63,14 @@ module _ (course : Course) (image : Image) (used : course.table ≢ 0) (On : ℕ
 
   -- a spot that was kept is one that was never used
   abbrev IsFree : ℕ → Option ℕ → Type 0
-  IsFree page slot = MatchOption slot ⊥ (λ place. c.slot t page place ≡ unused)
+  IsFree page slot = MatchOption slot ⊥ (λ slot_number. c.slot t page slot_number ≡ unused)
 
   abbrev pub IsKeptSpot : Option Spot → Type 0
   IsKeptSpot kept = IfSome kept (λ spot. On spot.page × IsFree spot.page spot.slot)
 
   free_comes : (pages : List ℕ) (page : ℕ) (slot : Option ℕ) → IsFree page slot → AllByRecursion Without pages → ComesTo pages page slot
   free_comes pages page None free all = absurd free
-  free_comes pages page (Some place) free all = inr (free, all)
+  free_comes pages page (Some slot_number) free all = inr (free, all)
 
   -- no slot of a page was free for a walk for room
   all_used : (bytes : List ℕ) → FindsRoom course None bytes None → course.for_room ≡ true → FindsFree (slots bytes) None
@@ -100,8 +100,8 @@ module _ (course : Course) (image : Image) (used : course.table ≢ 0) (On : ℕ
     lacks_key : Finds course.key (slots (page_in at mid)) None → Without page
     lacks_key none = key_found image t page (page_in at mid) used shown course.key None none
 
-    has_key : (place : ℕ) → Finds course.key (slots (page_in at mid)) (Some place) → IsBound c.slot t page place course.key
-    has_key place found = (key_found image t page (page_in at mid) used shown course.key (Some place) found).1
+    has_key : (slot_number : ℕ) → Finds course.key (slots (page_in at mid)) (Some slot_number) → IsBound c.slot t page slot_number course.key
+    has_key slot_number found = (key_found image t page (page_in at mid) used shown course.key (Some slot_number) found).1
 
     behind_is : c.next t page ≡ behind (page_in at mid)
     behind_is = next_on image t page (page_in at mid) used shown
@@ -151,7 +151,7 @@ module _ (course : Course) (image : Image) (used : course.table ≢ 0) (On : ℕ
           λ for_room. free_found image t page (page_in at new) used there None (all_used (page_in at new) full for_room),
         ),
       )
-      comes (Some place) free all = inr ((free_found image t page (page_in at new) used there (Some place) (room_free course None (page_in at new) (Some place) place free refl)).1, all)
+      comes (Some slot_number) free all = inr ((free_found image t page (page_in at new) used there (Some slot_number) (room_free course None (page_in at new) (Some slot_number) slot_number free refl)).1, all)
 
 -- what is in a list of numbers below a count is below it
 below_one : (count p q : ℕ) (more : Bool) → p < count → (more ≡ true → q < count) → (b : Bool) → (q == p) ≡ b → (b || more) ≡ true → q < count
@@ -204,12 +204,12 @@ module _ (d : Donor) (image : Image) (t key count : ℕ) (is : IsKept d image) (
   small (p ∷ pages) all = (omega (arith, all.0, sizes.0.most), small pages all.1)
 
   -- a key that is bound on no page of its chain is bound nowhere
-  nowhere : AllByRecursion (λ (page : ℕ). (place : ℕ) → ¬ IsBound contents.slot t page place key) (page_number d t key ∷ chain.behind) → IsNowhere contents.slot t key
-  nowhere all page place bound =
-      let own = is.sound.rows.own t page place key bound in
+  nowhere : AllByRecursion (λ (page : ℕ). (slot_number : ℕ) → ¬ IsBound contents.slot t page slot_number key) (page_number d t key ∷ chain.behind) → IsNowhere contents.slot t key
+  nowhere all page slot_number bound =
+      let own = is.sound.rows.own t page slot_number key bound in
       let same : own.0 ≡ count = same_Some own.0 count (sym own.1 ∙ there) in
       let on : OnChain (contents.next t) (page_number d t key) page = subst (λ (n : ℕ). OnChain (contents.next t) n page) (ap (λ (n : ℕ). key % n) same ∙ sym first_is) own.2 in
-      all_on (contents.next t) (λ (p : ℕ). (j : ℕ) → ¬ IsBound contents.slot t p j key) (page_number d t key) chain.behind chain.chain all page on place bound
+      all_on (contents.next t) (λ (p : ℕ). (j : ℕ) → ¬ IsBound contents.slot t p j key) (page_number d t key) chain.behind chain.chain all page on slot_number bound
 
   used : t ≢ 0
   used zero = omega (arith, zero, sizes.1)
@@ -221,21 +221,21 @@ module _ (d : Donor) (image : Image) (t key count : ℕ) (is : IsKept d image) (
   closed : (p q : ℕ) → IsOn p → contents.next t p ≡ Some q → IsOn q
   closed p q on one = goes_on p q on one
 
-  -- the slot is THE place for the key, and where there is none, the key is bound nowhere
-  abbrev pub IsFoundPlace : ℕ → Option ℕ → Type 0
-  IsFoundPlace page slot = MatchOption slot (IsNowhere contents.slot t key) (λ place. IsPlace d contents t page place key)
+  -- the slot is THE one for the key, and where there is none, the key is bound nowhere
+  abbrev pub IsFoundSlot : ℕ → Option ℕ → Type 0
+  IsFoundSlot page slot = MatchOption slot (IsNowhere contents.slot t key) (λ slot_number. IsRowSlot d contents t page slot_number key)
 
   -- what a walk comes to on the row's chain
   comes_to : (for_room : Bool) (old new : Buffered) (spot : Spot) → image_of old ≡ image → WalksAll (row_walk d t key for_room) old new (Ok spot) → IsTrue new.right → IsOn spot.page × ComesTo (row_walk d t key for_room) image used IsOn closed (page_number d t key ∷ chain.behind) spot.page spot.slot
   comes_to for_room old new spot same walked right = came (row_walk d t key for_room) image used IsOn closed (MOST_PAGES - 1) (page_number d t key) None old new (Ok spot) walked same right chain.behind chain.chain few (small chain.behind low.1) begins tt
 
-  pub walk_place : (for_room : Bool) (old new : Buffered) (spot : Spot) → image_of old ≡ image → WalksAll (row_walk d t key for_room) old new (Ok spot) → IsTrue new.right → IsFoundPlace spot.page spot.slot
-  walk_place for_room old new spot same walked right =
+  pub walk_slot : (for_room : Bool) (old new : Buffered) (spot : Spot) → image_of old ≡ image → WalksAll (row_walk d t key for_room) old new (Ok spot) → IsTrue new.right → IsFoundSlot spot.page spot.slot
+  walk_slot for_room old new spot same walked right =
       found spot.page spot.slot (comes_to for_room old new spot same walked right)
     where
-      found : (page : ℕ) (slot : Option ℕ) → IsOn page × ComesTo (row_walk d t key for_room) image used IsOn closed (page_number d t key ∷ chain.behind) page slot → IsFoundPlace page slot
+      found : (page : ℕ) (slot : Option ℕ) → IsOn page × ComesTo (row_walk d t key for_room) image used IsOn closed (page_number d t key ∷ chain.behind) page slot → IsFoundSlot page slot
       found page None is = nowhere is.1.0
-      found page (Some place) is = record {
+      found page (Some slot_number) is = record {
         count = count;
         there = there;
         chain = subst (λ (n : ℕ). OnChain (contents.next t) n page) first_is is.0;

@@ -6,7 +6,7 @@ use Rattle.clone_pool.specs.declared.frame.PageName.{PageName}
 use Rattle.clone_buffer.specs.Buffered.{Buffered, image_of}
 use Rattle.clone_plain.specs.declared.refusal.EngineRefusal.{EngineRefusal}
 use Rattle.clone_plain.specs.declared.refusal.EngineRefusal.TheVariants.{Because, NoMemory}
-use Rattle.clone_trx.proofs.Common.{Change, Record, UndoEntry, after_records, is_unused, Donor, Cause, IsKept, Keeps, AreLoose, IsPlace, IsPlaceFor, contents_of}
+use Rattle.clone_trx.proofs.Common.{Change, Record, UndoEntry, after_records, is_unused, Donor, Cause, IsKept, Keeps, AreLoose, IsRowSlot, IsTargetFor, contents_of}
 use Rattle.clone_trx.proofs.HeldPageLemmas.{held_bytes}
 use Rattle.clone_trx.proofs.PinLemmas.{still_loose}
 use Rattle.clone_trx.proofs.WalkLemmas.{walk_missed}
@@ -29,15 +29,15 @@ walk_ends {X} course rest old new refusal walked =
 pub still_kept : (d : Donor) (old new : Buffered) → new.log ≡ old.log → (IsTrue new.right → IsTrue old.right) → (IsTrue old.right → IsKept d (image_of old)) → IsTrue new.right → IsKept d (image_of new)
 still_kept d old new same before kept right = subst (λ (log : List (List Record)). IsKept d (replayed log)) (sym same) (kept (before right))
 
--- the place of a change stays where it is
-pub still_place : (d : Donor) (trx : ℕ) (change : Change) (old new : Buffered) (entry : UndoEntry) (is_new : Bool) (made : ℕ) → new.log ≡ old.log → (IsTrue new.right → IsTrue old.right) → IsPlaceFor d trx change old entry is_new made → IsPlaceFor d trx change new entry is_new made
-still_place d trx change old new entry is_new made same before p = record {
+-- the target of a change stays where it is
+pub still_target : (d : Donor) (trx : ℕ) (change : Change) (old new : Buffered) (entry : UndoEntry) (is_new : Bool) (made : ℕ) → new.log ≡ old.log → (IsTrue new.right → IsTrue old.right) → IsTargetFor d trx change old entry is_new made → IsTargetFor d trx change new entry is_new made
+still_target d trx change old new entry is_new made same before p = record {
   table = p.table;
   key = p.key;
   in_range = p.in_range;
   count = p.count;
   told = λ right. p.told (before right);
-  place = λ right. subst (λ (log : List (List Record)). IsPlace d (contents_of (replayed log)) change.table entry.page entry.slot change.key) (sym same) (p.place (before right));
+  row_slot = λ right. subst (λ (log : List (List Record)). IsRowSlot d (contents_of (replayed log)) change.table entry.page entry.slot change.key) (sym same) (p.row_slot (before right));
   unused = λ right. subst (λ (log : List (List Record)). is_new ≡ is_unused (replayed log) entry.table entry.page) (sym same) (p.unused (before right));
 }
 

@@ -5,7 +5,7 @@ use Rattle.clone_base.specs.declared.limits.TheConstants.{VALUE_LIMIT}
 use Rattle.clone_model.specs.declared.change.Change.{Change}
 use Rattle.clone_model.specs.declared.line.TheConstants.{MOST_PAGES}
 use Rattle.clone_page.specs.Header.{kind_of}
-use Rattle.clone_page.specs.Slots.{slot_count}
+use Rattle.clone_page.specs.Slots.{row_slot_count}
 use Rattle.clone_pool.specs.declared.frame.PageName.{PageName}
 use Rattle.clone_row.specs.Slots as rows
 use Rattle.clone_undo.specs.Entries.{UndoEntry}
@@ -19,7 +19,7 @@ use Rattle.clone_plain.specs.declared.refusal.Cause.TheVariants.{SpaceFull}
 use Rattle.clone_plain.specs.Causes.{least_unused}
 use Rattle.clone_plain.specs.Donor.{Donor, changes_of}
 use Rattle.clone_trx.specs.declared.walk.Course.{Course}
-use Rattle.clone_trx.specs.Places.{named_entry, held_value, told, page_number}
+use Rattle.clone_trx.specs.RowSlots.{named_entry, held_value, told, page_number}
 use Rattle.clone_trx.specs.Ways.{Way, reads, walks, stops, writes, freshens, lengthens, makes, drops, ends}
 
 -- the walk along the chain of a row's bucket
@@ -39,33 +39,36 @@ system_page number = record { space = 0; number = number }
 abbrev pub is_new : List ℕ → Bool
 is_new page = kind_of page == 0
 
--- the place on the system page of the first entry that names a table; where there is none, the
+-- the number of the first entry on the system page that names a table; where there is none, the
 -- first of all
-abbrev pub entry_place : ℕ → List ℕ → ℕ
-entry_place table page = unwrap_or (named_entry table (dictionary page)) 0
+abbrev pub number_of_entry : ℕ → List ℕ → ℕ
+number_of_entry table page = unwrap_or (named_entry table (dictionary page)) 0
 
--- the place of the first free entry, which names the table 0
-abbrev pub free_place : List ℕ → ℕ
-free_place page = entry_place 0 page
+-- the number of the first free entry, which names the table 0
+abbrev pub number_of_free_entry : List ℕ → ℕ
+number_of_free_entry page = number_of_entry 0 page
 
--- how many pages the entry of a place on the system page tells
+-- how many pages the entry with a number on the system page tells
 abbrev pub pages_told : List ℕ → ℕ → ℕ
-pages_told page place = (entry_in (dictionary page) place).pages
+pages_told page entry_number = (entry_in (dictionary page) entry_number).pages
 
 -- A new table takes the first free entry of the dictionary.
 abbrev pub create_way : ℕ → ℕ → Way
 create_way table buckets =
-    reads (system_page 0) (λ page. makes (records_of_create (free_place page) table buckets))
+    reads (system_page 0)
+    (λ page. makes (records_of_create (number_of_free_entry page) table buckets))
 
 -- A table that is dropped gives up the pages of its space, as many as its entry tells, but no more
 -- than a space may have. Its entry is free then.
 abbrev pub drop_at : ℕ → ℕ → ℕ → Way
-drop_at table place pages = drops table (min pages MOST_PAGES) (records_of_drop place table)
+drop_at table entry_number pages =
+    drops table (min pages MOST_PAGES) (records_of_drop entry_number table)
 
 abbrev pub drop_way : ℕ → Way
 drop_way table =
     reads (system_page 0)
-    (λ page. let place = entry_place table page in drop_at table place (pages_told page place))
+    (λ page. let entry_number = number_of_entry table page in
+    drop_at table entry_number (pages_told page entry_number))
 
 -- A transaction that begins takes its undo slot. The slot's first page is made first where it is
 -- new.
@@ -85,37 +88,37 @@ told_way trx change count new before =
 
 -- a change of a row in a slot of a page that is new or not, where the row had a value or none
 abbrev pub slot_way : Donor → ℕ → Change → ℕ → ℕ → Bool → Option (List ℕ) → Way
-slot_way d trx change page place new value =
+slot_way d trx change page slot_number new value =
     told_way trx change (length (changes_of d trx)) new
-    (told change.table page change.key place value)
+    (told change.table page change.key slot_number value)
 
 -- The space of a table gets one page more, behind the last page of a full chain, and the row goes
 -- to the first slot there. No space gets more than 65,536 pages.
 abbrev pub grown_way : Donor → ℕ → Change → ℕ → ℕ → ℕ → Way
-grown_way d trx change last place pages =
+grown_way d trx change last entry_number pages =
     if nat_le MOST_PAGES pages then stops SpaceFull
-    else lengthens (records_of_growth place change.table pages last)
+    else lengthens (records_of_growth entry_number change.table pages last)
     (slot_way d trx change pages 0 false None)
 
 -- a frame is taken for the page first
 abbrev pub longer_at : Donor → ℕ → Change → ℕ → ℕ → ℕ → Way
-longer_at d trx change last place pages =
+longer_at d trx change last entry_number pages =
     freshens (record { space = change.table; number = pages })
-    (grown_way d trx change last place pages)
+    (grown_way d trx change last entry_number pages)
 
 -- the dictionary tells how many pages the space has
 abbrev pub longer_way : Donor → ℕ → Change → ℕ → Way
 longer_way d trx change last =
     reads (system_page 0)
-    (λ page. let place = entry_place change.table page in
-    longer_at d trx change last place (pages_told page place))
+    (λ page. let entry_number = number_of_entry change.table page in
+    longer_at d trx change last entry_number (pages_told page entry_number))
 
 -- The row of a key goes to the slot of its chain that is bound to the key, else to the first that
 -- was never used. Where the chain has neither, it gets a page more.
 abbrev pub change_at : Donor → ℕ → Change → ℕ → Option ℕ → List ℕ → Way
 change_at d trx change page None row = longer_way d trx change page
-change_at d trx change page (Some place) row =
-    slot_way d trx change page place (is_new row) (held_value row place)
+change_at d trx change page (Some slot_number) row =
+    slot_way d trx change page slot_number (is_new row) (held_value row slot_number)
 
 abbrev pub change_way : Donor → ℕ → Change → Way
 change_way d trx change =
@@ -123,7 +126,7 @@ change_way d trx change =
 
 -- only the chain of the row's bucket is read
 abbrev pub get_way : Donor → ℕ → ℕ → Way
-get_way d table key = walks (row_walk d table key false) (λ page place row. ends)
+get_way d table key = walks (row_walk d table key false) (λ page slot row. ends)
 
 -- the undo record tells of a row that was present, or absent
 abbrev pub tells_before : UndoEntry → Bool
@@ -135,7 +138,7 @@ tells_before e =
 abbrev pub tells_of : ℕ → ℕ → UndoEntry → Bool
 tells_of table key e =
     (e.table == table) && (nat_lt e.page MOST_PAGES
-    && (nat_lt e.slot slot_count && ((e.key == key) && tells_before e)))
+    && (nat_lt e.slot row_slot_count && ((e.key == key) && tells_before e)))
 
 -- What was before a change of a row, by its undo record. One that isn't of the row counts as if it
 -- told of an absent row in the first slot of the row's bucket.

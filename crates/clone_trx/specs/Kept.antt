@@ -9,7 +9,7 @@ use Rattle.clone_model.specs.declared.change.Commit.{Commit}
 use Rattle.clone_mtr.specs.declared.record.Record.{Record}
 use Rattle.clone_undo.specs.Entries.{UndoEntry, IsEntry}
 use Rattle.clone_undo.specs.Slots.{UndoSlot}
-use Rattle.clone_page.specs.Slots.{slot_count}
+use Rattle.clone_page.specs.Slots.{row_slot_count}
 use Rattle.clone_row.specs.Slots.{unused}
 use Rattle.clone_image.specs.Image.{Image}
 use Rattle.clone_image.specs.Recovered.{undo_slot_of}
@@ -26,7 +26,7 @@ use Rattle.clone_plain.specs.Donor.{Donor, changes_of}
 use Rattle.clone_plain.specs.Locked.{IsLocked, value_of}
 use Rattle.clone_plain.specs.Causes.{change_cause}
 use Rattle.clone_trx.specs.declared.walk.Spot.{Spot}
-use Rattle.clone_trx.specs.Places.{told}
+use Rattle.clone_trx.specs.RowSlots.{told}
 use Rattle.clone_trx.specs.Sound.{IsKept, IsBound, OnChain, Slots}
 
 -- there are no more tables than may be, each with a number and so many buckets as it may have
@@ -74,16 +74,17 @@ MayChange d trx change =
 
 -- no slot of a table is bound to a key
 abbrev pub IsNowhere : Slots → ℕ → ℕ → Type 0
-IsNowhere slot table key = (page place : ℕ) → ¬ IsBound slot table page place key
+IsNowhere slot table key =
+    (page slot_number : ℕ) → ¬ IsBound slot table page slot_number key
 
 -- Where the row of a key is, or where it may go: on a page of its bucket's chain, in the slot that
 -- is bound to the key, or in one that was never used where the key is bound nowhere.
-pub record IsPlace (d : Donor) (c : Contents) (table page place key : ℕ) : Type 0 where
+pub record IsRowSlot (d : Donor) (c : Contents) (table page slot_number key : ℕ) : Type 0 where
   pub count : ℕ
   pub there : finite.get d.tables table ≡ Some count
   pub chain : OnChain (c.next table) (key % count) page
-  pub may : IsBound c.slot table page place key
-      ⊎ ((c.slot table page place ≡ unused) × IsNowhere c.slot table key)
+  pub may : IsBound c.slot table page slot_number key
+      ⊎ ((c.slot table page slot_number ≡ unused) × IsNowhere c.slot table key)
 
 -- The chain of a key's row is full: it ends at this page, all slots of which were used, and the key
 -- is bound nowhere.
@@ -97,25 +98,27 @@ pub record IsFullAt (d : Donor) (image : Image) (table page key : ℕ) : Type 0 
 
 -- the numbers of a page and of a slot there are in their ranges
 abbrev pub IsInRange : Spot → Type 0
-IsInRange spot = (spot.page < MOST_PAGES) × IfSome spot.slot (λ place. place < slot_count)
+IsInRange spot =
+    (spot.page < MOST_PAGES) × IfSome spot.slot (λ slot_number. slot_number < row_slot_count)
 
 -- Where the row of a key is or may go, as a walk found it: the page is held, and where all that was
--- read is right, the slot is the place for the row, or the chain is full where there is no slot.
+-- read is right, the slot is the one for the row, or the chain is full where there is no slot.
 pub record IsSpot (d : Donor) (table key : ℕ) (b : Buffered) (spot : Spot) : Type 0 where
   pub in_range : IsInRange spot
   pub has : Has (record { space = table; number = spot.page }) spot.at b.pool.frames
-  pub place : IsTrue b.right → IfSome spot.slot
-      (λ place. IsPlace d (contents_of (image_of b)) table spot.page place key)
+  pub row_slot : IsTrue b.right → IfSome spot.slot
+      (λ slot_number. IsRowSlot d (contents_of (image_of b)) table spot.page slot_number key)
   pub full : IsTrue b.right → spot.slot ≡ None → IsFullAt d (image_of b) table spot.page key
 
--- the entry of this place names the table, whose space has so many pages
+-- the entry with this number names the table, whose space has so many pages
 abbrev pub TellsPages : Contents → ℕ → ℕ → ℕ → Type 0
-TellsPages c table place pages = (named c place ≡ table) × (c.size table ≡ Some pages)
+TellsPages c table entry_number pages =
+    (named c entry_number ≡ table) × (c.size table ≡ Some pages)
 
 -- Where a change of a row goes: what its undo record tells, whether the row's page is new, and how
--- many changes the transaction has made. The place is one for the row, and the value from before is
+-- many changes the transaction has made. The slot is one for the row, and the value from before is
 -- that of the row, where all that was read is right.
-pub record IsPlaceFor (d : Donor) (trx : ℕ) (change : Change) (b : Buffered) (entry : UndoEntry)
+pub record IsTargetFor (d : Donor) (trx : ℕ) (change : Change) (b : Buffered) (entry : UndoEntry)
     (new : Bool) (made : ℕ) : Type 0 where
   pub table : entry.table ≡ change.table
   pub key : entry.key ≡ change.key
@@ -123,8 +126,8 @@ pub record IsPlaceFor (d : Donor) (trx : ℕ) (change : Change) (b : Buffered) (
   pub count : made ≡ length (changes_of d trx)
   pub told : IsTrue b.right → entry
       ≡ told change.table entry.page change.key entry.slot (value_of d change.table change.key)
-  pub place : IsTrue b.right
-      → IsPlace d (contents_of (image_of b)) change.table entry.page entry.slot change.key
+  pub row_slot : IsTrue b.right
+      → IsRowSlot d (contents_of (image_of b)) change.table entry.page entry.slot change.key
   pub unused : IsTrue b.right → new ≡ is_unused (image_of b) entry.table entry.page
 
 -- a transaction has made so many changes, and the last of them was of this row

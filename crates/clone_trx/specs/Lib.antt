@@ -1,4 +1,4 @@
-pub mod Places
+pub mod RowSlots
 pub mod Sound
 pub mod Kept
 pub mod Ways

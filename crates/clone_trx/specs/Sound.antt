@@ -19,7 +19,7 @@ use Rattle.clone_contents.specs.Formed.{IsFormed}
 use Rattle.clone_plain.specs.Donor.{Donor}
 use Rattle.clone_plain.specs.Locked.{IsLocked, committed_rows, value_of}
 
--- from a table, a page and a place to the slot there
+-- from a table, a page and a slot number to the slot there
 abbrev pub Slots : Type 0
 Slots = ℕ → ℕ → ℕ → Slot
 
@@ -27,9 +27,9 @@ Slots = ℕ → ℕ → ℕ → Slot
 abbrev pub Nexts : Type 0
 Nexts = ℕ → ℕ → Option ℕ
 
--- the slot at a place is bound to a key
+-- the slot with a number is bound to a key
 abbrev pub IsBound : Slots → ℕ → ℕ → ℕ → ℕ → Type 0
-IsBound slot table page place key = bound_key (slot table page place) ≡ Some key
+IsBound slot table page slot_number key = bound_key (slot table page slot_number) ≡ Some key
 
 -- the space of a table has a page for each of so many buckets, and no more than a space may have
 pub record HasSize (c : Contents) (table count : ℕ) : Type 0 where
@@ -77,16 +77,17 @@ pub data OnChain (next : ℕ → Option ℕ) (first : ℕ) : ℕ → Type 0 wher
 -- A slot that is bound to a key shows the key's value, and all others were never used. A key is
 -- bound once at most, on a page of its bucket's chain, and it is wherever it has a value.
 pub record HoldsRows (d : Donor) (next : Nexts) (slot : Slots) : Type 0 where
-  pub shown : (table page place key : ℕ) → IsBound slot table page place key
-      → slot table page place ≡ row_slot key (value_of d table key)
-  pub clean : (table page place : ℕ) → bound_key (slot table page place) ≡ None
-      → slot table page place ≡ unused
-  pub own : (table page place key : ℕ) → IsBound slot table page place key → (count : ℕ)
-      × (finite.get d.tables table ≡ Some count) × OnChain (next table) (key % count) page
+  pub shown : (table page slot_number key : ℕ) → IsBound slot table page slot_number key
+      → slot table page slot_number ≡ row_slot key (value_of d table key)
+  pub clean : (table page slot_number : ℕ) → bound_key (slot table page slot_number) ≡ None
+      → slot table page slot_number ≡ unused
+  pub own : (table page slot_number key : ℕ) → IsBound slot table page slot_number key
+      → (count : ℕ) × (finite.get d.tables table ≡ Some count)
+      × OnChain (next table) (key % count) page
   pub once : (table key p i q j : ℕ) → IsBound slot table p i key → IsBound slot table q j key
       → (p ≡ q) × (i ≡ j)
   pub found : (table key : ℕ) (value : List ℕ) → value_of d table key ≡ Some value → (page : ℕ)
-      × (place : ℕ) × IsBound slot table page place key
+      × (slot_number : ℕ) × IsBound slot table page slot_number key
 
 -- an undo record tells of a change that was made where the rows were these
 pub record TellsChange (slot : Slots) (rows : Rows) (change : Change) (e : UndoEntry) : Type 0 where

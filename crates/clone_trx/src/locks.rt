@@ -14,14 +14,14 @@ use std::alloc::{AllocError, Global};
 use std::collections::BTreeMap;
 use std::marker::Model;
 
-type Row = (u32, u64);
+type RowName = (u32, u64);
 
 /// Which transaction holds the lock of each locked row.
 #[derive(Drop)]
 pub struct Locks {
-    holders: BTreeMap<Row, u32>,
+    holders: BTreeMap<RowName, u32>,
     // the rows that each transaction holds, by its number
-    rows: Vec<Vec<Row>>,
+    rows: Vec<Vec<RowName>>,
 }
 
 impl Model for Locks {
@@ -104,7 +104,7 @@ impl Locks {
 }
 
 // Takes the rows out of the map.
-fn remove_all(holders: &mut BTreeMap<Row, u32>, rows: &[Row])
+fn remove_all(holders: &mut BTreeMap<RowName, u32>, rows: &[RowName])
     ensures { holders_of holders.new.entries ≡ without rows.now (holders_of holders.old.entries) }
 {
     for row in rows {
@@ -113,7 +113,7 @@ fn remove_all(holders: &mut BTreeMap<Row, u32>, rows: &[Row])
 }
 
 // Whether one of the rows is one of the table.
-fn has_row_of(rows: &[Row], table: u32) -> bool
+fn has_row_of(rows: &[RowName], table: u32) -> bool
     ensures { result ≡ list_any (λ row. row.0 == table) rows.now }
 {
     rows.iter().any(|row| row.0 == table)

@@ -66,7 +66,7 @@ module _ {S C A : Type 0} where
       spent = λ z p. refl;
     }
 
-    -- a view of the new list that has a ticket is one of the old list, at the same place
+    -- a view of the new list that has a ticket is one of the old list, at the same index
     was : (i t : ℕ) (u : View S C A) → get_elem? (set base other spent_view) i ≡ some u → u.ticket ≡ Some t → get_elem? s.views i ≡ some u
     was i t u here ticket = elim (at_set base other i spent_view u here) [
       | inl it ↦ absurd (no_ticket t (ap (λ (x : View S C A). x.ticket) it.1 ∙ ticket))

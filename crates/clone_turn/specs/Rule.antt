@@ -26,13 +26,13 @@ abbrev pub Held : Type 0 → Type 0 → Type 0 → Type 0
 Held S C A = Option (Valued S C A)
 
 module _ {S C A : Type 0} where
-  -- 1 where the entry at the place is the seat's own, and else 0
+  -- 1 where the entry at the index is the seat's own, and else 0
   abbrev pub made_at : List (Entry S C A × Bool) → ℕ → ℕ
   made_at [] p = 0
   made_at (x ∷ xs) zero = cond x.1 1 0
   made_at (x ∷ xs) (suc p) = made_at xs p
 
-  -- 1 where the run has an entry at the place, and else 0
+  -- 1 where the run has an entry at the index, and else 0
   abbrev pub stands : List (Entry S C A) → ℕ → ℕ
   stands [] p = 0
   stands (e ∷ es) zero = 1

@@ -76,8 +76,8 @@ fn two_threads_are_answered_1_to_2000(rt: HostRuntime) -> Result<(), Fail> {
     assert_eq!(rt; first.len(), 1_000);
     all.extend_from_slice(&first)?;
     all.sort()?;
-    for (place, answer) in all.iter().enumerate() {
-        assert_eq!(rt; *answer, place as u64 + 1);
+    for (index, answer) in all.iter().enumerate() {
+        assert_eq!(rt; *answer, index as u64 + 1);
     }
     assert_eq!(rt; all.len(), 2_000);
     Ok(())

@@ -1,6 +1,6 @@
 use std::collections::LinkedList;
 
-/// One call of a run, with its answer and the state after it. Its ticket is its place in the run.
+/// One call of a run, with its answer and the state after it. Its ticket is its index in the run.
 pub struct Entry<S, C, A> {
     pub call: C,
     pub answer: A,

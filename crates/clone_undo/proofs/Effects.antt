@@ -14,9 +14,9 @@ use Rattle.clone_mtr.specs.Effects.{effect}
 use Rattle.clone_mtr.specs.declared.record.Record.{Record}
 use Rattle.clone_mtr.specs.declared.record.Record.TheVariants.{Init}
 use Rattle.clone_undo.specs.Entries.{UndoEntry, IsEntry, entry_bytes, entry_of}
-use Rattle.clone_undo.specs.Places.{header_page, record_page, record_place}
+use Rattle.clone_undo.specs.Places.{header_page, record_page, record_offset}
 use Rattle.clone_undo.specs.Slots.{UndoSlot, active_of, count_of, header_bytes, entry_on, entries, undo_slot}
-use Rattle.clone_undo.specs.Changes.{system_write, made_first, count_record, entry_record, row_record, records_of_begin, records_of_change, records_of_end, after_record, after, after_row, AreWhole}
+use Rattle.clone_undo.specs.Changes.{system_write, made_first, count_record, entry_record, row_record, records_of_begin, records_of_change, records_of_end, pages_after_record, after, after_row, AreWhole}
 use Rattle.clone_undo.proofs.Entries.{length-entry_bytes, reads_back, length-entries, entries-same}
 use Rattle.clone_undo.proofs.Edits.{edit-same, edit-other, edit-part, edit-whole}
 use Rattle.clone_undo.proofs.Headers.{head-written, count-written, beside-count, slot-tells, slot-is, slot-free, slot-kept}
@@ -117,15 +117,15 @@ last_is s pages slot front last is ends =
 
 pub after-append : (lsn : ℕ) (xs ys : List Record) (pages : ℕ → ℕ → List ℕ) → after lsn (xs ++ ys) pages ≡ after lsn ys (after lsn xs pages)
 after-append lsn [] ys pages = refl
-after-append lsn (x ∷ xs) ys pages = after-append lsn xs ys (after_record lsn x pages)
+after-append lsn (x ∷ xs) ys pages = after-append lsn xs ys (pages_after_record lsn x pages)
 
 -- an undo record leaves what stands before it
-entry_before : (lsn n a k : ℕ) (e : UndoEntry) (page : List ℕ) → IsEntry e → length page ≡ 4096 → 24 ≤ a → a + k ≤ record_place n → part a k (with_lsn lsn (put_at (record_place n) (entry_bytes e) page)) ≡ part a k page
+entry_before : (lsn n a k : ℕ) (e : UndoEntry) (page : List ℕ) → IsEntry e → length page ≡ 4096 → 24 ≤ a → a + k ≤ record_offset n → part a k (with_lsn lsn (put_at (record_offset n) (entry_bytes e) page)) ≡ part a k page
 entry_before lsn n a k e page is long body before =
     let bytes = length-entry_bytes e is in
-    let fits : record_place n + length (entry_bytes e) ≤ length page = omega arith in
-    part-with_lsn a k lsn (put_at (record_place n) (entry_bytes e) page) (inr body) (omega arith) (length-put_at (record_place n) (entry_bytes e) page fits ∙ long)
-    ∙ part-put_at_before a k (record_place n) (entry_bytes e) page before (omega arith)
+    let fits : record_offset n + length (entry_bytes e) ≤ length page = omega arith in
+    part-with_lsn a k lsn (put_at (record_offset n) (entry_bytes e) page) (inr body) (omega arith) (length-put_at (record_offset n) (entry_bytes e) page fits ∙ long)
+    ∙ part-put_at_before a k (record_offset n) (entry_bytes e) page before (omega arith)
 
 -- a count leaves what stands behind it
 count_behind : (lsn m a k : ℕ) (page : List ℕ) → length page ≡ 4096 → 44 ≤ a → a + k ≤ 4092 → part a k (with_lsn lsn (put_at 42 (big_bytes 2 m) page)) ≡ part a k page
@@ -136,33 +136,33 @@ count_behind lsn m a k page long behind below =
     ∙ part-put_at_behind a k 42 (big_bytes 2 m) page (omega (arith, two)) (omega arith)
 
 -- a record behind the others leaves the slot as it is
-entry_keeps : (lsn s n : ℕ) (e : UndoEntry) (pages : ℕ → ℕ → List ℕ) → AreWhole s (pages 0) → IsEntry e → n < 160 → count_of (pages 0 (header_page s)) ≡ n → undo_slot s (pages 0) ≡ undo_slot s (after_record lsn (entry_record s n e) pages 0)
+entry_keeps : (lsn s n : ℕ) (e : UndoEntry) (pages : ℕ → ℕ → List ℕ) → AreWhole s (pages 0) → IsEntry e → n < 160 → count_of (pages 0 (header_page s)) ≡ n → undo_slot s (pages 0) ≡ undo_slot s (pages_after_record lsn (entry_record s n e) pages 0)
 entry_keeps lsn s n e pages whole is room count =
     let edit : List ℕ → List ℕ = effect lsn (entry_record s n e) in
-    slot-kept s (pages 0) (after_record lsn (entry_record s n e) pages 0)
+    slot-kept s (pages 0) (pages_after_record lsn (entry_record s n e) pages 0)
     (sym (edit-part 40 16 (record_page s n) (header_page s) edit pages (λ same. entry_before lsn n 40 16 e (pages 0 (header_page s)) is (whole (header_page s) (omega arith) (omega arith)) (omega arith) (omega arith))))
-    (λ i lt. ap entry_of (sym (edit-part (record_place i) 96 (record_page s n) (record_page s i) edit pages
-    (λ same. entry_before lsn n (record_place i) 96 e (pages 0 (record_page s i)) is (whole (record_page s i) (omega arith) (omega arith)) (omega arith) (apart s i n same (omega (arith, lt, count)) room)))))
+    (λ i lt. ap entry_of (sym (edit-part (record_offset i) 96 (record_page s n) (record_page s i) edit pages
+    (λ same. entry_before lsn n (record_offset i) 96 e (pages 0 (record_page s i)) is (whole (record_page s i) (omega arith) (omega arith)) (omega arith) (apart s i n same (omega (arith, lt, count)) room)))))
   where
-    apart : (s i n : ℕ) → record_page s i ≡ record_page s n → i < n → n < 160 → record_place i + 96 ≤ record_place n
+    apart : (s i n : ℕ) → record_page s i ≡ record_page s n → i < n → n < 160 → record_offset i + 96 ≤ record_offset n
     apart s i n same lt room = omega arith
 
-entry_there : (lsn s n : ℕ) (e : UndoEntry) (pages : ℕ → ℕ → List ℕ) → length (pages 0 (record_page s n)) ≡ 4096 → IsEntry e → entry_on n (after_record lsn (entry_record s n e) pages 0 (record_page s n)) ≡ e
+entry_there : (lsn s n : ℕ) (e : UndoEntry) (pages : ℕ → ℕ → List ℕ) → length (pages 0 (record_page s n)) ≡ 4096 → IsEntry e → entry_on n (pages_after_record lsn (entry_record s n e) pages 0 (record_page s n)) ≡ e
 entry_there lsn s n e pages long is =
     let page : List ℕ = pages 0 (record_page s n) in
     let bytes : length (entry_bytes e) ≡ 96 = length-entry_bytes e is in
-    let put : List ℕ = put_at (record_place n) (entry_bytes e) page in
-    let fits : record_place n + length (entry_bytes e) ≤ length page = omega (arith, bytes, long) in
-    let there : part (record_place n) 96 put ≡ entry_bytes e = ap (λ k. part (record_place n) k put) (sym bytes) ∙ part-put_at_same (record_place n) (entry_bytes e) page (omega (arith, fits)) in
+    let put : List ℕ = put_at (record_offset n) (entry_bytes e) page in
+    let fits : record_offset n + length (entry_bytes e) ≤ length page = omega (arith, bytes, long) in
+    let there : part (record_offset n) 96 put ≡ entry_bytes e = ap (λ k. part (record_offset n) k put) (sym bytes) ∙ part-put_at_same (record_offset n) (entry_bytes e) page (omega (arith, fits)) in
     ap (entry_on n) (edit-same 0 (record_page s n) (effect lsn (entry_record s n e)) pages)
-    ∙ ap entry_of (part-with_lsn (record_place n) 96 lsn put (inr (omega arith)) (omega arith) (length-put_at (record_place n) (entry_bytes e) page fits ∙ long) ∙ there)
+    ∙ ap entry_of (part-with_lsn (record_offset n) 96 lsn put (inr (omega arith)) (omega arith) (length-put_at (record_offset n) (entry_bytes e) page fits ∙ long) ∙ there)
     ∙ reads_back e is
 
-entry_whole : (lsn s n : ℕ) (e : UndoEntry) (pages : ℕ → ℕ → List ℕ) → AreWhole s (pages 0) → IsEntry e → AreWhole s (after_record lsn (entry_record s n e) pages 0)
+entry_whole : (lsn s n : ℕ) (e : UndoEntry) (pages : ℕ → ℕ → List ℕ) → AreWhole s (pages 0) → IsEntry e → AreWhole s (pages_after_record lsn (entry_record s n e) pages 0)
 entry_whole lsn s n e pages whole is =
     edit-whole s (record_page s n) (effect lsn (entry_record s n e)) pages whole
-    (λ long. let fits : record_place n + length (entry_bytes e) ≤ length (pages 0 (record_page s n)) = omega (arith, length-entry_bytes e is, long) in
-    length-with_lsn lsn (put_at (record_place n) (entry_bytes e) (pages 0 (record_page s n))) (length-put_at (record_place n) (entry_bytes e) (pages 0 (record_page s n)) fits ∙ long))
+    (λ long. let fits : record_offset n + length (entry_bytes e) ≤ length (pages 0 (record_page s n)) = omega (arith, length-entry_bytes e is, long) in
+    length-with_lsn lsn (put_at (record_offset n) (entry_bytes e) (pages 0 (record_page s n))) (length-put_at (record_offset n) (entry_bytes e) (pages 0 (record_page s n)) fits ∙ long))
 
 -- a page that is made for the first of its records leaves the slot as it is
 made_keeps : (unused : Bool) (lsn s n : ℕ) (pages : ℕ → ℕ → List ℕ) → (unused ≡ true → (0 < n) × (n % 40 ≡ 0)) → n < 160 → count_of (pages 0 (header_page s)) ≡ n → undo_slot s (pages 0) ≡ undo_slot s (after lsn (made_first unused 0 (record_page s n) Undo) pages 0)
@@ -172,24 +172,24 @@ made_keeps true lsn s n pages due room count =
     let first = due refl in
     slot-kept s (pages 0) (after lsn (made_first true 0 (record_page s n) Undo) pages 0)
     (sym (edit-part 40 16 (record_page s n) (header_page s) edit pages (λ same. absurd (omega (arith, same, first.0, first.1, room)))))
-    (λ i lt. ap entry_of (sym (edit-part (record_place i) 96 (record_page s n) (record_page s i) edit pages (λ same. absurd (omega (arith, same, lt, count, first.0, first.1, room))))))
+    (λ i lt. ap entry_of (sym (edit-part (record_offset i) 96 (record_page s n) (record_page s i) edit pages (λ same. absurd (omega (arith, same, lt, count, first.0, first.1, room))))))
 
 -- a count that is written says how many of the records are the slot's
 count_tells : (lsn s m : ℕ) (slot : UndoSlot) (pages : ℕ → ℕ → List ℕ) → AreWhole s (pages 0) → m ≤ 160 → undo_slot s (pages 0) ≡ Some slot
-    → undo_slot s (after_record lsn (count_record s m) pages 0) ≡ Some (record { writer = slot.writer; index = slot.index; records = entries s (pages 0) m })
+    → undo_slot s (pages_after_record lsn (count_record s m) pages 0) ≡ Some (record { writer = slot.writer; index = slot.index; records = entries s (pages 0) m })
 count_tells lsn s m slot pages whole fits is =
     let page : List ℕ = pages 0 (header_page s) in
     let long : length page ≡ 4096 = whole (header_page s) (omega arith) (omega arith) in
     let edit : List ℕ → List ℕ = effect lsn (count_record s m) in
     let there = edit-same 0 (header_page s) edit pages in
     let tells = slot-tells s (pages 0) slot is in
-    slot-is s (after_record lsn (count_record s m) pages 0) m slot.writer slot.index (entries s (pages 0) m)
+    slot-is s (pages_after_record lsn (count_record s m) pages 0) m slot.writer slot.index (entries s (pages 0) m)
     (ap (field 40 1) there ∙ beside-count 40 1 lsn m page (omega arith) (inl (omega arith)) (omega arith) long ∙ tells.active)
     (ap (field 42 2) there ∙ count-written lsn m page (omega arith) long)
     (ap (field 44 4) there ∙ beside-count 44 4 lsn m page (omega arith) (inr (omega arith)) (omega arith) long ∙ sym tells.writer)
     (ap (field 48 8) there ∙ beside-count 48 8 lsn m page (omega arith) (inr (omega arith)) (omega arith) long ∙ sym tells.index)
-    (entries-same s (after_record lsn (count_record s m) pages 0) (pages 0) m
-    (λ i lt. ap entry_of (edit-part (record_place i) 96 (header_page s) (record_page s i) edit pages (λ same. count_behind lsn m (record_place i) 96 (pages 0 (record_page s i)) (whole (record_page s i) (omega arith) (omega arith)) (omega arith) (omega arith)))))
+    (entries-same s (pages_after_record lsn (count_record s m) pages 0) (pages 0) m
+    (λ i lt. ap entry_of (edit-part (record_offset i) 96 (header_page s) (record_page s i) edit pages (λ same. count_behind lsn m (record_offset i) 96 (pages 0 (record_page s i)) (whole (record_page s i) (omega arith) (omega arith)) (omega arith) (omega arith)))))
 
 -- the records of the row change no page of the system space
 row_elsewhere : (row_unused : Bool) (lsn t m : ℕ) (e : UndoEntry) (image : List ℕ) (pages : ℕ → ℕ → List ℕ) → (t ≡ e.table → m ≡ e.page → ⊥) → after lsn (made_first row_unused e.table e.page Bucket ++ row_record e image ∷ []) pages t m ≡ pages t m
@@ -200,14 +200,14 @@ row_elsewhere false lsn t m e image pages other = edit-other e.table e.page t m 
 row_keeps : (row_unused : Bool) (lsn s : ℕ) (e : UndoEntry) (image : List ℕ) (pages : ℕ → ℕ → List ℕ) → IsEntry e → undo_slot s (after lsn (made_first row_unused e.table e.page Bucket ++ row_record e image ∷ []) pages 0) ≡ undo_slot s (pages 0)
 row_keeps row_unused lsn s e image pages is =
     own s (after lsn (made_first row_unused e.table e.page Bucket ++ row_record e image ∷ []) pages 0) (pages 0)
-    (λ m low high. row_elsewhere row_unused lsn 0 m e image pages (λ z p. omega (arith, z, is.place.0)))
+    (λ m low high. row_elsewhere row_unused lsn 0 m e image pages (λ z p. omega (arith, z, is.row_slot.0)))
 
 -- the undo record and the count of a change, from pages that are there
 change_counts : (lsn s : ℕ) (slot : UndoSlot) (e : UndoEntry) (pages : ℕ → ℕ → List ℕ) → AreWhole s (pages 0) → IsEntry e → length slot.records < 160 → undo_slot s (pages 0) ≡ Some slot
     → undo_slot s (after lsn (entry_record s (length slot.records) e ∷ count_record s (length slot.records + 1) ∷ []) pages 0) ≡ Some (record { writer = slot.writer; index = slot.index; records = slot.records ++ e ∷ [] })
 change_counts lsn s slot e pages whole is room told =
     let n : ℕ = length slot.records in
-    let middle : ℕ → ℕ → List ℕ = after_record lsn (entry_record s n e) pages in
+    let middle : ℕ → ℕ → List ℕ = pages_after_record lsn (entry_record s n e) pages in
     let still : undo_slot s (middle 0) ≡ Some slot = sym (entry_keeps lsn s n e pages whole is room (counted s (pages 0) slot told)) ∙ told in
     let tells = slot-tells s (middle 0) slot still in
     let front : entries s (middle 0) n ≡ slot.records = ap (entries s (middle 0)) (sym tells.count) ∙ sym tells.records in
@@ -239,7 +239,7 @@ written_elsewhere : (unused : Bool) (lsn s n t m : ℕ) (e : UndoEntry) (pages :
     → after lsn (entry_record s n e ∷ count_record s (n + 1) ∷ []) (after lsn (made_first unused 0 (record_page s n) Undo) pages) t m ≡ pages t m
 written_elsewhere unused lsn s n t m e pages not_header not_record =
     let made : ℕ → ℕ → List ℕ = after lsn (made_first unused 0 (record_page s n) Undo) pages in
-    edit-other 0 (header_page s) t m (effect lsn (count_record s (n + 1))) (after_record lsn (entry_record s n e) made) not_header
+    edit-other 0 (header_page s) t m (effect lsn (count_record s (n + 1))) (pages_after_record lsn (entry_record s n e) made) not_header
     ∙ edit-other 0 (record_page s n) t m (effect lsn (entry_record s n e)) made not_record
     ∙ elsewhere_first unused lsn 0 (record_page s n) t m Undo pages not_record
 
@@ -254,7 +254,7 @@ changed_elsewhere unused row_unused lsn s n t m e image pages not_header not_rec
 pub changed_other : (unused row_unused : Bool) (lsn s n t : ℕ) (e : UndoEntry) (image : List ℕ) (pages : ℕ → ℕ → List ℕ) → t ≢ s → n < 160 → IsEntry e → undo_slot t (after lsn (records_of_change unused row_unused s n e image) pages 0) ≡ undo_slot t (pages 0)
 changed_other unused row_unused lsn s n t e image pages other room is =
     own t (after lsn (records_of_change unused row_unused s n e image) pages 0) (pages 0)
-    (λ m low high. changed_elsewhere unused row_unused lsn s n 0 m e image pages (λ z p. omega (arith, p, low, high, other)) (λ z p. omega (arith, p, low, high, other, room)) (λ z p. omega (arith, z, is.place.0)))
+    (λ m low high. changed_elsewhere unused row_unused lsn s n 0 m e image pages (λ z p. omega (arith, p, low, high, other)) (λ z p. omega (arith, p, low, high, other, room)) (λ z p. omega (arith, z, is.row_slot.0)))
 
 row_there : (row_unused : Bool) (lsn : ℕ) (e : UndoEntry) (image : List ℕ) (pages : ℕ → ℕ → List ℕ) → after lsn (made_first row_unused e.table e.page Bucket ++ row_record e image ∷ []) pages e.table e.page ≡ after_row row_unused lsn e image (pages e.table e.page)
 row_there true lsn e image pages =
@@ -268,7 +268,7 @@ changed_row unused row_unused lsn s n e image pages is =
     let written : ℕ → ℕ → List ℕ = after lsn (entry_record s n e ∷ count_record s (n + 1) ∷ []) (after lsn (made_first unused 0 (record_page s n) Undo) pages) in
     ap (λ (p : ℕ → ℕ → List ℕ). p e.table e.page) (change_parts unused row_unused lsn s n e image pages)
     ∙ row_there row_unused lsn e image written
-    ∙ ap (after_row row_unused lsn e image) (written_elsewhere unused lsn s n e.table e.page e pages (λ z p. omega (arith, z, is.place.0)) (λ z p. omega (arith, z, is.place.0)))
+    ∙ ap (after_row row_unused lsn e image) (written_elsewhere unused lsn s n e.table e.page e pages (λ z p. omega (arith, z, is.row_slot.0)) (λ z p. omega (arith, z, is.row_slot.0)))
 
 -- A change is taken back.
 
@@ -279,8 +279,8 @@ with_row s count e image = row_record e image ∷ count_record s (count - 1) ∷
 pub taken_back : (lsn s : ℕ) (slot : UndoSlot) (front : List UndoEntry) (e : UndoEntry) (image : List ℕ) (pages : ℕ → ℕ → List ℕ) → AreWhole s (pages 0) → IsEntry e → length slot.records ≤ 160 → undo_slot s (pages 0) ≡ Some slot → slot.records ≡ front ++ e ∷ []
     → undo_slot s (after lsn (with_row s (length slot.records) e image) pages 0) ≡ Some (record { writer = slot.writer; index = slot.index; records = front })
 taken_back lsn s slot front e image pages whole is full told ends =
-    let edited : ℕ → ℕ → List ℕ = after_record lsn (row_record e image) pages in
-    let kept = λ (m : ℕ). edit-other e.table e.page 0 m (effect lsn (row_record e image)) pages (λ z p. omega (arith, z, is.place.0)) in
+    let edited : ℕ → ℕ → List ℕ = pages_after_record lsn (row_record e image) pages in
+    let kept = λ (m : ℕ). edit-other e.table e.page 0 m (effect lsn (row_record e image)) pages (λ z p. omega (arith, z, is.row_slot.0)) in
     let still : undo_slot s (edited 0) ≡ Some slot = row_keeps false lsn s e image pages is ∙ told in
     let whole_edited : AreWhole s (edited 0) = λ m low high. ap length (kept m) ∙ whole m low high in
     let long : length slot.records ≡ length front + 1 = ap length ends ∙ length-append front (e ∷ []) in
@@ -290,17 +290,17 @@ taken_back lsn s slot front e image pages whole is full told ends =
 
 pub taken_back_elsewhere : (lsn s n t m : ℕ) (e : UndoEntry) (image : List ℕ) (pages : ℕ → ℕ → List ℕ) → (t ≡ 0 → m ≡ header_page s → ⊥) → (t ≡ e.table → m ≡ e.page → ⊥) → after lsn (with_row s n e image) pages t m ≡ pages t m
 taken_back_elsewhere lsn s n t m e image pages not_header not_row =
-    edit-other 0 (header_page s) t m (effect lsn (count_record s (n - 1))) (after_record lsn (row_record e image) pages) not_header
+    edit-other 0 (header_page s) t m (effect lsn (count_record s (n - 1))) (pages_after_record lsn (row_record e image) pages) not_header
     ∙ edit-other e.table e.page t m (effect lsn (row_record e image)) pages not_row
 
 pub taken_back_other : (lsn s n t : ℕ) (e : UndoEntry) (image : List ℕ) (pages : ℕ → ℕ → List ℕ) → t ≢ s → IsEntry e → undo_slot t (after lsn (with_row s n e image) pages 0) ≡ undo_slot t (pages 0)
 taken_back_other lsn s n t e image pages other is =
     own t (after lsn (with_row s n e image) pages 0) (pages 0)
-    (λ m low high. taken_back_elsewhere lsn s n 0 m e image pages (λ z p. omega (arith, p, low, high, other)) (λ z p. omega (arith, z, is.place.0)))
+    (λ m low high. taken_back_elsewhere lsn s n 0 m e image pages (λ z p. omega (arith, p, low, high, other)) (λ z p. omega (arith, z, is.row_slot.0)))
 
 pub taken_back_row : (lsn s n : ℕ) (e : UndoEntry) (image : List ℕ) (pages : ℕ → ℕ → List ℕ) → IsEntry e → after lsn (with_row s n e image) pages e.table e.page ≡ after_row false lsn e image (pages e.table e.page)
 taken_back_row lsn s n e image pages is =
-    edit-other 0 (header_page s) e.table e.page (effect lsn (count_record s (n - 1))) (after_record lsn (row_record e image) pages) (λ z p. omega (arith, z, is.place.0))
+    edit-other 0 (header_page s) e.table e.page (effect lsn (count_record s (n - 1))) (pages_after_record lsn (row_record e image) pages) (λ z p. omega (arith, z, is.row_slot.0))
     ∙ row_there false lsn e image pages
 
 -- Pages that are unused.
@@ -317,9 +317,9 @@ no_header page unused active =
 
 no_entry : (k : ℕ) (page : List ℕ) → page ≡ zero_page → IsEntry (entry_on k page) → ⊥
 no_entry k page unused is =
-    let bytes : part (record_place k) 96 page ≡ replicate 96 0 = ap (part (record_place k) 96) unused ∙ part_zero (record_place k) 96 (omega arith) in
-    let table : field 0 4 (part (record_place k) 96 page) ≡ 0 = ap (field 0 4) bytes in
-    omega (arith, table, is.place.0)
+    let bytes : part (record_offset k) 96 page ≡ replicate 96 0 = ap (part (record_offset k) 96) unused ∙ part_zero (record_offset k) 96 (omega arith) in
+    let table : field 0 4 (part (record_offset k) 96 page) ≡ 0 = ap (field 0 4) bytes in
+    omega (arith, table, is.row_slot.0)
 
 all_last : (xs : List UndoEntry) (y : UndoEntry) → AllByRecursion IsEntry (xs ++ y ∷ []) → IsEntry y
 all_last [] y each = each.0

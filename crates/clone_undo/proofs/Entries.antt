@@ -30,9 +30,9 @@ reads_back e is =
     let behind_slot : List ℕ = e.state ∷ length e.value ∷ (replicate 4 0 ++ (big_bytes 8 e.key ++ tail)) in
     let behind_page : List ℕ = big_bytes 2 e.slot ++ behind_slot in
     same_entry
-    (big_number-reads_back 4 e.table (big_bytes 4 e.page ++ behind_page) (omega (arith, is.place.1)))
-    (big_number-reads_back 4 e.page behind_page (omega (arith, is.place.2)))
-    (big_number-reads_back 2 e.slot behind_slot (omega (arith, is.place.3)))
+    (big_number-reads_back 4 e.table (big_bytes 4 e.page ++ behind_page) (omega (arith, is.row_slot.1)))
+    (big_number-reads_back 4 e.page behind_page (omega (arith, is.row_slot.2)))
+    (big_number-reads_back 2 e.slot behind_slot (omega (arith, is.row_slot.3)))
     (one e.state)
     (big_number-reads_back 8 e.key tail is.key)
     (ap (λ n. take n tail) (one (length e.value)) ∙ take_at e.value (replicate (72 - length e.value) 0) (length e.value) refl)

@@ -9,7 +9,7 @@ use Rattle.clone_mtr.specs.Effects.{effect}
 use Rattle.clone_mtr.specs.declared.record.Record.{Record}
 use Rattle.clone_mtr.specs.declared.record.Record.TheVariants.{Init, Write, Extend, Create, Drop}
 use Rattle.clone_undo.specs.Entries.{UndoEntry, entry_bytes}
-use Rattle.clone_undo.specs.Places.{header_page, record_page, record_place, header_place, count_place}
+use Rattle.clone_undo.specs.Places.{header_page, record_page, record_offset, header_offset, count_offset}
 use Rattle.clone_undo.specs.Slots.{header_bytes}
 use Rattle.clone_undo.specs.declared.places.TheConstants.{HEADER_BYTES, UNDO_SLOT_PAGES}
 
@@ -26,13 +26,13 @@ made_first false space page kind = []
 abbrev pub records_of_begin : Bool → ℕ → ℕ → ℕ → List Record
 records_of_begin unused s writer index =
     made_first unused 0 (header_page s) Undo
-    ++ system_write (header_page s) header_place (header_bytes 0 writer index) ∷ []
+    ++ system_write (header_page s) header_offset (header_bytes 0 writer index) ∷ []
 
 abbrev pub count_record : ℕ → ℕ → Record
-count_record s count = system_write (header_page s) count_place (big_bytes 2 count)
+count_record s count = system_write (header_page s) count_offset (big_bytes 2 count)
 
 abbrev pub entry_record : ℕ → ℕ → UndoEntry → Record
-entry_record s count e = system_write (record_page s count) (record_place count) (entry_bytes e)
+entry_record s count e = system_write (record_page s count) (record_offset count) (entry_bytes e)
 
 -- the row slot that the undo record names gets these bytes
 abbrev pub row_record : UndoEntry → List ℕ → Record
@@ -59,28 +59,28 @@ records_of_taking_back s count e = row_record e (slot_before e) ∷ count_record
 
 -- a transaction ends
 abbrev pub records_of_end : ℕ → List Record
-records_of_end s = system_write (header_page s) header_place (replicate HEADER_BYTES 0) ∷ []
+records_of_end s = system_write (header_page s) header_offset (replicate HEADER_BYTES 0) ∷ []
 
 -- the pages, by space and number, after one of them was edited
-abbrev pub after_edit : ℕ → ℕ → (List ℕ → List ℕ) → (ℕ → ℕ → List ℕ) → ℕ → ℕ → List ℕ
-after_edit space number edit pages s n =
+abbrev pub pages_after_edit : ℕ → ℕ → (List ℕ → List ℕ) → (ℕ → ℕ → List ℕ) → ℕ → ℕ → List ℕ
+pages_after_edit space number edit pages s n =
     if (s == space) && (n == number) then edit (pages s n) else pages s n
 
 -- The pages after a record. Only an INIT and a WRITE change a page that is there, and the
 -- mini-transactions of an undo slot have no others.
-abbrev pub after_record : ℕ → Record → (ℕ → ℕ → List ℕ) → ℕ → ℕ → List ℕ
-after_record lsn (Init space number kind) pages =
-    after_edit space number (effect lsn (Init space number kind)) pages
-after_record lsn (Write space number patch) pages =
-    after_edit space number (effect lsn (Write space number patch)) pages
-after_record lsn (Extend space count) pages = pages
-after_record lsn (Create space count) pages = pages
-after_record lsn (Drop space) pages = pages
+abbrev pub pages_after_record : ℕ → Record → (ℕ → ℕ → List ℕ) → ℕ → ℕ → List ℕ
+pages_after_record lsn (Init space number kind) pages =
+    pages_after_edit space number (effect lsn (Init space number kind)) pages
+pages_after_record lsn (Write space number patch) pages =
+    pages_after_edit space number (effect lsn (Write space number patch)) pages
+pages_after_record lsn (Extend space count) pages = pages
+pages_after_record lsn (Create space count) pages = pages
+pages_after_record lsn (Drop space) pages = pages
 
 -- the pages after records in their order
 abbrev pub after : ℕ → List Record → (ℕ → ℕ → List ℕ) → ℕ → ℕ → List ℕ
 after lsn [] pages = pages
-after lsn (r ∷ rs) pages = after lsn rs (after_record lsn r pages)
+after lsn (r ∷ rs) pages = after lsn rs (pages_after_record lsn r pages)
 
 -- the pages of an undo slot are whole
 abbrev pub AreWhole : ℕ → (ℕ → List ℕ) → Type 0

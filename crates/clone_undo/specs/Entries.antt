@@ -2,7 +2,7 @@
 use Rattle.std.specs.Prelude.{ℕ, ◌≡◌, ◌≤◌, ◌<◌, ◌^◌, ◌-◌, ◌⊎◌, List, [], ◌∷◌, ◌++◌, length, replicate}
 use Rattle.byteorder.specs.Endian.{big_bytes}
 use Rattle.clone_page.specs.Bytes.{part, field}
-use Rattle.clone_page.specs.Slots.{slot_count}
+use Rattle.clone_page.specs.Slots.{row_slot_count}
 use Rattle.clone_base.specs.declared.limits.TheConstants.{VALUE_LIMIT}
 use Rattle.clone_model.specs.declared.line.TheConstants.{HIGHEST_TABLE}
 use Rattle.clone_undo.specs.declared.places.TheConstants.{RECORD_BYTES, RECORD_PAGE_AT, RECORD_SLOT_AT, RECORD_STATE_AT, RECORD_LENGTH_AT, RECORD_KEY_AT, RECORD_VALUE_AT, TABLE_PAGE_LIMIT}
@@ -30,9 +30,9 @@ pub record UndoEntry : Type 0 where
   pub value : List ℕ
 
 -- a table's number, a page of its space and a slot on that page
-abbrev pub IsPlace : ℕ → ℕ → ℕ → Type 0
-IsPlace table page slot =
-    (1 ≤ table) × (table ≤ HIGHEST_TABLE) × (page < TABLE_PAGE_LIMIT) × (slot < slot_count)
+abbrev pub IsRowSlotName : ℕ → ℕ → ℕ → Type 0
+IsRowSlotName table page slot =
+    (1 ≤ table) × (table ≤ HIGHEST_TABLE) × (page < TABLE_PAGE_LIMIT) × (slot < row_slot_count)
 
 -- present with a value, or absent without one
 abbrev pub IsBefore : ℕ → List ℕ → Type 0
@@ -40,7 +40,7 @@ IsBefore state value = ((state ≡ 1) × (length value ≤ VALUE_LIMIT)) ⊎ ((s
 
 -- every field is in its range
 pub record IsEntry (e : UndoEntry) : Type 0 where
-  pub place : IsPlace e.table e.page e.slot
+  pub row_slot : IsRowSlotName e.table e.page e.slot
   pub before : IsBefore e.state e.value
   pub key : e.key < 2 ^ 64
 

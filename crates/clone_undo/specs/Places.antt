@@ -2,8 +2,8 @@
 use Rattle.std.specs.Prelude.{ℕ, ◌+◌, ◌*◌, ◌/◌, ◌%◌}
 use Rattle.clone_undo.specs.declared.places.TheConstants.{UNDO_SLOT_COUNT, UNDO_SLOT_PAGES, UNDO_CAPACITY, RECORDS_ON_PAGE, RECORDS_AT, RECORD_BYTES, HEADER_AT, COUNT_AT}
 
-abbrev pub slot_count : ℕ
-slot_count = UNDO_SLOT_COUNT
+abbrev pub undo_slot_count : ℕ
+undo_slot_count = UNDO_SLOT_COUNT
 
 -- how many changes an undo slot tells at most
 abbrev pub capacity : ℕ
@@ -22,12 +22,12 @@ abbrev pub record_page : ℕ → ℕ → ℕ
 record_page s i = header_page s + (i / records_on_page) % UNDO_SLOT_PAGES
 
 -- where an undo record stands on its page
-abbrev pub record_place : ℕ → ℕ
-record_place i = RECORDS_AT + RECORD_BYTES * (i % records_on_page)
+abbrev pub record_offset : ℕ → ℕ
+record_offset i = RECORDS_AT + RECORD_BYTES * (i % records_on_page)
 
 -- where the header stands, and the number of records in it
-abbrev pub header_place : ℕ
-header_place = HEADER_AT
+abbrev pub header_offset : ℕ
+header_offset = HEADER_AT
 
-abbrev pub count_place : ℕ
-count_place = COUNT_AT
+abbrev pub count_offset : ℕ
+count_offset = COUNT_AT

@@ -5,7 +5,7 @@ use Rattle.std.specs.declared.option.Option.{Option}
 use Rattle.byteorder.specs.Endian.{big_bytes}
 use Rattle.clone_page.specs.Bytes.{part, field}
 use Rattle.clone_undo.specs.Entries.{UndoEntry, entry_of}
-use Rattle.clone_undo.specs.Places.{header_page, header_place, count_place, record_page, record_place}
+use Rattle.clone_undo.specs.Places.{header_page, header_offset, count_offset, record_page, record_offset}
 use Rattle.clone_undo.specs.declared.places.TheConstants.{WRITER_AT, INDEX_AT, RECORD_BYTES}
 
 pub record UndoSlot : Type 0 where
@@ -15,10 +15,10 @@ pub record UndoSlot : Type 0 where
 
 -- the fields of the header
 abbrev pub active_of : List ℕ → ℕ
-active_of page = field header_place 1 page
+active_of page = field header_offset 1 page
 
 abbrev pub count_of : List ℕ → ℕ
-count_of page = field count_place 2 page
+count_of page = field count_offset 2 page
 
 abbrev pub writer_of : List ℕ → ℕ
 writer_of page = field WRITER_AT 4 page
@@ -33,7 +33,7 @@ header_bytes count writer index =
 
 -- what the record of this number tells, on its page
 abbrev pub entry_on : ℕ → List ℕ → UndoEntry
-entry_on i page = entry_of (part (record_place i) RECORD_BYTES page)
+entry_on i page = entry_of (part (record_offset i) RECORD_BYTES page)
 
 -- what the first records of an undo slot tell
 abbrev pub entries : ℕ → (ℕ → List ℕ) → ℕ → List UndoEntry

@@ -20,7 +20,7 @@ pub use places::{
     record_page,
 };
 pub use reading::{SlotHeader, has_possible_count, header, last_record, record_at};
-pub use record::{UndoRecord, is_place};
+pub use record::{UndoRecord, is_row_slot_name};
 pub use writing::{
     begin_records, change_records, end_record, first_change_records, take_back_records,
 };

@@ -66,7 +66,7 @@ pub const INDEX_AT: u16 = 48;
 /// The page of the system space that has the header of an undo slot. `slot` is its number, from 0
 /// to 63.
 pub fn header_page(slot: u32) -> u32
-    requires { slot < places.slot_count }
+    requires { slot < places.undo_slot_count }
     ensures { result ≡ places.header_page slot }
 {
     1 + UNDO_SLOT_PAGES * slot
@@ -75,7 +75,7 @@ pub fn header_page(slot: u32) -> u32
 /// The page of the system space that has the record of this number, counted from 0, of an undo
 /// slot.
 pub fn record_page(slot: u32, number: usize) -> u32
-    requires slot { slot < places.slot_count }
+    requires slot { slot < places.undo_slot_count }
     requires number { number < places.capacity }
     ensures { result ≡ places.record_page slot number }
 {
@@ -83,9 +83,9 @@ pub fn record_page(slot: u32, number: usize) -> u32
 }
 
 // Where on its page the record of this number stands.
-pub fn record_place(number: usize) -> usize
+pub fn record_offset(number: usize) -> usize
     requires { number < places.capacity }
-    ensures { result ≡ places.record_place number }
+    ensures { result ≡ places.record_offset number }
 {
     RECORDS_AT + RECORD_BYTES * (number % RECORDS_ON_PAGE)
 }

@@ -7,9 +7,9 @@ ghost use Rattle.clone_undo.specs.Slots.{entry_on, is_in_use, count_of, writer_o
 use crate::before::Before;
 use crate::places::{
     COUNT_AT, HEADER_AT, INDEX_AT, RECORD_BYTES, RECORD_KEY_AT, RECORD_LENGTH_AT, RECORD_PAGE_AT,
-    RECORD_SLOT_AT, RECORD_STATE_AT, RECORD_VALUE_AT, UNDO_CAPACITY, WRITER_AT, record_place,
+    RECORD_SLOT_AT, RECORD_STATE_AT, RECORD_VALUE_AT, UNDO_CAPACITY, WRITER_AT, record_offset,
 };
-use crate::record::{UndoRecord, is_place};
+use crate::record::{UndoRecord, is_row_slot_name};
 use clone_base::VALUE_LIMIT;
 use clone_model::Value;
 use clone_page::{Page, u8_at, u16_at, u32_at, u64_at};
@@ -64,7 +64,7 @@ pub fn record_at(page: &Page, number: usize) -> Option<UndoRecord>
     let row_page = u32_at(bytes, RECORD_PAGE_AT);
     let slot = u16_at(bytes, RECORD_SLOT_AT);
     let key = u64_at(bytes, RECORD_KEY_AT);
-    if !is_place(table, row_page, slot) {
+    if !is_row_slot_name(table, row_page, slot) {
         return None;
     }
     let before = before_in(bytes)?;
@@ -85,10 +85,10 @@ pub fn last_record(page: &Page, count: u16) -> Option<UndoRecord>
 // The bytes of the record of this number.
 fn record_bytes(page: &Page, number: usize) -> &[u8]
     requires { number < places.capacity }
-    ensures value { result.now ≡ part (places.record_place number) RECORD_BYTES page.now }
+    ensures value { result.now ≡ part (places.record_offset number) RECORD_BYTES page.now }
     ensures long { length result.now ≡ RECORD_BYTES }
 {
-    let at = record_place(number);
+    let at = record_offset(number);
     &page.bytes()[at..at + RECORD_BYTES]
 }
 

@@ -1,8 +1,8 @@
 //! An undo record: which row slot was changed, and what it held before. The table is from 1 to
 //! 1,000,000, the page below 65,536 and the slot below 50. A slot that was absent held no value.
 ghost use Rattle.std.specs.Prelude.{◌≡◌, ◌≤◌, ◌<◌, ◌↔◌, IsTrue, length};
-ghost use Rattle.clone_page.specs.Slots.{slot_count};
-ghost use Rattle.clone_undo.specs.Entries.{IsPlace, IsBefore, IsEntry, state_number, value_before, entry_bytes};
+ghost use Rattle.clone_page.specs.Slots.{row_slot_count};
+ghost use Rattle.clone_undo.specs.Entries.{IsRowSlotName, IsBefore, IsEntry, state_number, value_before, entry_bytes};
 ghost use Rattle.clone_undo.specs.Changes.{slot_before};
 
 use crate::before::Before;
@@ -12,7 +12,7 @@ use crate::places::{
 };
 use clone_base::VALUE_LIMIT;
 use clone_model::HIGHEST_TABLE;
-use clone_page::{SLOT_BYTES, SLOT_COUNT, SLOT_KEY_AT, SLOT_VALUE_AT, put};
+use clone_page::{ROW_SLOT_COUNT, SLOT_BYTES, SLOT_KEY_AT, SLOT_VALUE_AT, put};
 use std::marker::Model;
 
 /// One change of a row slot: which slot it was, and what it held before. The table is from 1 to
@@ -28,7 +28,7 @@ pub struct UndoRecord {
 
 impl Model for UndoRecord {
     ghost use Rattle.std.specs.Prelude.{ℕ};
-    ghost use Rattle.clone_undo.specs.Entries.{UndoEntry, IsPlace, state_number, value_before};
+    ghost use Rattle.clone_undo.specs.Entries.{UndoEntry, IsRowSlotName, state_number, value_before};
 
     ghost Value = { UndoEntry };
 
@@ -41,13 +41,13 @@ impl Model for UndoRecord {
       value = value_before r.before;
     } };
 
-    ghost invariant = { λ r. IsPlace r.table r.page r.slot };
+    ghost invariant = { λ r. IsRowSlotName r.table r.page r.slot };
 }
 
 impl UndoRecord {
     /// A change of the key's slot, which held this before.
     pub fn new(table: u32, page: u32, slot: u16, key: u64, before: Before) -> UndoRecord
-        requires { IsPlace table page slot }
+        requires { IsRowSlotName table page slot }
         ensures { result ≡ record {
           table = table;
           page = page;
@@ -83,7 +83,7 @@ impl UndoRecord {
     /// The slot on that page.
     pub fn slot(&self) -> u16
         ensures value { result ≡ self.now.slot }
-        ensures range { self.now.slot < slot_count }
+        ensures range { self.now.slot < row_slot_count }
     {
         self.slot
     }
@@ -176,8 +176,8 @@ fn known_before(before: &Before)
 }
 
 /// Whether there may be such a table, such a page of it and such a slot on the page.
-pub fn is_place(table: u32, page: u32, slot: u16) -> bool
-    ensures { IsTrue result ↔ IsPlace table page slot }
+pub fn is_row_slot_name(table: u32, page: u32, slot: u16) -> bool
+    ensures { IsTrue result ↔ IsRowSlotName table page slot }
 {
-    1 <= table && table <= HIGHEST_TABLE && page < TABLE_PAGE_LIMIT && slot < SLOT_COUNT
+    1 <= table && table <= HIGHEST_TABLE && page < TABLE_PAGE_LIMIT && slot < ROW_SLOT_COUNT
 }

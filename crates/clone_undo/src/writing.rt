@@ -8,7 +8,7 @@ ghost use Rattle.clone_undo.specs.Places as places;
 ghost use Rattle.clone_undo.specs.Slots.{header_bytes};
 ghost use Rattle.clone_undo.specs.Changes.{made_first, system_write, count_record, row_record, records_of_begin, records_of_change, records_of_taking_back, records_of_end};
 
-use crate::places::{COUNT_AT, HEADER_AT, HEADER_BYTES, header_page, record_page, record_place};
+use crate::places::{COUNT_AT, HEADER_AT, HEADER_BYTES, header_page, record_offset, record_page};
 use crate::record::UndoRecord;
 use byteorder::{BigEndian, ByteOrder};
 use clone_mtr::{Patch, Record};
@@ -17,7 +17,7 @@ use clone_page::{PageKind, SLOT_BYTES, SLOTS_AT};
 /// A transaction begins: the undo slot is in use and has no records. The first record makes the
 /// page of its header. Where that page is in use, only the second is written.
 pub fn begin_records(slot: u32, writer: u32, index: u64) -> [Record; 2]
-    requires { slot < places.slot_count }
+    requires { slot < places.undo_slot_count }
     ensures { result ≡ records_of_begin true slot writer index }
 {
     [
@@ -39,7 +39,7 @@ pub fn change_records(
     entry: &UndoRecord,
     image: &[u8; SLOT_BYTES],
 ) -> [Record; 4]
-    requires slot { slot < places.slot_count }
+    requires slot { slot < places.undo_slot_count }
     requires room { count < places.capacity }
     ensures { result ≡ records_of_change true false slot count entry.now image.now }
 {
@@ -59,7 +59,7 @@ pub fn first_change_records(
     entry: &UndoRecord,
     image: &[u8; SLOT_BYTES],
 ) -> [Record; 5]
-    requires slot { slot < places.slot_count }
+    requires slot { slot < places.undo_slot_count }
     requires room { count < places.capacity }
     ensures { result ≡ records_of_change true true slot count entry.now image.now }
 {
@@ -81,7 +81,7 @@ pub fn first_change_records(
 /// The last of `count` changes is taken back: the row slot that its record names gets the state,
 /// the length and the value from before, and the count is one less.
 pub fn take_back_records(slot: u32, count: u16, entry: &UndoRecord) -> [Record; 2]
-    requires slot { slot < places.slot_count }
+    requires slot { slot < places.undo_slot_count }
     requires some { 0 < count }
     requires count { count ≤ places.capacity }
     ensures { result ≡ records_of_taking_back slot count entry.now }
@@ -94,7 +94,7 @@ pub fn take_back_records(slot: u32, count: u16, entry: &UndoRecord) -> [Record; 
 
 /// A transaction ends: the undo slot is free.
 pub fn end_record(slot: u32) -> Record
-    requires { slot < places.slot_count }
+    requires { slot < places.undo_slot_count }
     ensures { result ∷ [] ≡ records_of_end slot }
 {
     Record::Write {
@@ -129,18 +129,18 @@ fn header_of(writer: u32, index: u64) -> [u8; HEADER_BYTES]
 // The undo record is written behind `count` others.
 fn entry_write(page: u32, count: u16, entry: &UndoRecord) -> Record
     requires { count < places.capacity }
-    ensures { result ≡ system_write page (places.record_place count) (entry_bytes entry.now) }
+    ensures { result ≡ system_write page (places.record_offset count) (entry_bytes entry.now) }
 {
     Record::Write {
         space: 0,
         page,
-        patch: Patch::new(record_place(count as usize) as u16, &entry.image()),
+        patch: Patch::new(record_offset(count as usize) as u16, &entry.image()),
     }
 }
 
 // The number of records is written.
 fn count_write(slot: u32, count: u16) -> Record
-    requires { slot < places.slot_count }
+    requires { slot < places.undo_slot_count }
     ensures { result ≡ count_record slot count }
 {
     Record::Write {

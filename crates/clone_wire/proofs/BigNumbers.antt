@@ -14,9 +14,9 @@ pub big_from-more : (i n : ℕ) (xs : List ℕ) → big_from i (suc n) xs ≡ bi
 big_from-more i zero xs = let e : i + 0 ≡ i = omega arith in rw e (omega arith)
 big_from-more i (suc n) xs =
     let more = big_from-more (suc i) n xs in
-    let place : suc i + n ≡ i + suc n = omega arith in
+    let sum : suc i + n ≡ i + suc n = omega arith in
     let high : get_or xs i 0 * 256 ^ suc n ≡ get_or xs i 0 * 256 ^ n * 256 = ap (λ p. get_or xs i 0 * p) (pow-suc 256 n) ∙ sym (mul_assoc (get_or xs i 0) (256 ^ n) 256) in
-    rw (more, place, high) (omega arith)
+    rw (more, sum, high) (omega arith)
 
 -- what stands in front counts for more
 pub big_number-append : (xs ys : List ℕ) (m : ℕ) → big_number (length xs + m) (xs ++ ys) ≡ big_number (length xs) xs * 256 ^ m + big_number m ys
@@ -85,11 +85,11 @@ most_is front m =
     let whole = big_number-append front (replicate (length front + m) 255) m in
     omega arith
 
--- the byte at a place of bytes that were filled up
-pub filled_at : (front : List ℕ) (width filler place : ℕ) → place < width → get_or (front ++ replicate width filler) place 0 ≡ get_or front place filler
-filled_at front width filler place within =
-    elim (cases_lt place (length front)) [
-      | inl inside ↦ get_or_append_left front (replicate width filler) 0 place inside ∙ get_or_default front place 0 filler inside
-      | inr past ↦ get_or-append_right front (replicate width filler) (length front) place 0 refl past
-          ∙ get_or-replicate width (place - length front) filler 0 (omega arith) ∙ sym (get_or_past front place filler past)
+-- the byte at an offset in bytes that were filled up
+pub filled_at : (front : List ℕ) (width filler offset : ℕ) → offset < width → get_or (front ++ replicate width filler) offset 0 ≡ get_or front offset filler
+filled_at front width filler offset within =
+    elim (cases_lt offset (length front)) [
+      | inl inside ↦ get_or_append_left front (replicate width filler) 0 offset inside ∙ get_or_default front offset 0 filler inside
+      | inr past ↦ get_or-append_right front (replicate width filler) (length front) offset 0 refl past
+          ∙ get_or-replicate width (offset - length front) filler 0 (omega arith) ∙ sym (get_or_past front offset filler past)
     ]

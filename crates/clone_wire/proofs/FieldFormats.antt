@@ -56,9 +56,9 @@ plain_short n v bytes less = let test : ltb (length bytes) n ≡ true = lt-ltb _
 pub plain_ok : {A : Type 0} (n : ℕ) (v : List ℕ → A) (bytes : List ℕ) → n ≤ length bytes → plain n v bytes ≡ Ok (v bytes, drop n bytes)
 plain_ok n v bytes long = let test : ltb (length bytes) n ≡ false = le-ltb _ _ long in rw test refl
 
-plain_format : {A : Type 0} (place n : ℕ) (Good : A → Type 0) (v : List ℕ → A) → ((bytes more : List ℕ) → n ≤ length bytes → v (bytes ++ more) ≡ v bytes) → ((bytes : List ℕ) → IsBytes bytes → n ≤ length bytes → Good (v bytes))
-    → IsFormat place Good n (plain n v)
-plain_format {A = A} place n Good v stays good = record {
+plain_format : {A : Type 0} (offset n : ℕ) (Good : A → Type 0) (v : List ℕ → A) → ((bytes more : List ℕ) → n ≤ length bytes → v (bytes ++ more) ≡ v bytes) → ((bytes : List ℕ) → IsBytes bytes → n ≤ length bytes → Good (v bytes))
+    → IsFormat offset Good n (plain n v)
+plain_format {A = A} offset n Good v stays good = record {
   takes = λ bytes x rest fit e. elim (cases_lt (length bytes) n) [
     | inl less ↦ absurd (not_both e (plain_short n v bytes less))
     | inr long ↦
@@ -96,13 +96,13 @@ plain_format {A = A} place n Good v stays good = record {
   ];
 }
 
-pub number_format : (place n : ℕ) → IsFormat place (λ x. x < 256 ^ n) n (number_at n)
-number_format place n =
-    plain_format place n (λ x. x < 256 ^ n) (big_number n) (λ bytes more long. big_from-append n bytes more long) (λ bytes fit long. big_from-lt 0 n bytes fit)
+pub number_format : (offset n : ℕ) → IsFormat offset (λ x. x < 256 ^ n) n (number_at n)
+number_format offset n =
+    plain_format offset n (λ x. x < 256 ^ n) (big_number n) (λ bytes more long. big_from-append n bytes more long) (λ bytes fit long. big_from-lt 0 n bytes fit)
 
-pub run_format : (place n : ℕ) → IsFormat place (λ x. (length x ≡ n) × IsBytes x) n (bytes_at n)
-run_format place n =
-    plain_format place n (λ x. (length x ≡ n) × IsBytes x) (take n) (λ bytes more long. take-append-le n bytes more long) (λ bytes fit long. (length-take n bytes ∙ omega arith, IsBytes-take n bytes fit))
+pub run_format : (offset n : ℕ) → IsFormat offset (λ x. (length x ≡ n) × IsBytes x) n (bytes_at n)
+run_format offset n =
+    plain_format offset n (λ x. (length x ≡ n) × IsBytes x) (take n) (λ bytes more long. take-append-le n bytes more long) (λ bytes fit long. (length-take n bytes ∙ omega arith, IsBytes-take n bytes fit))
 
 -- ---- a number that is one of some
 
@@ -153,46 +153,46 @@ narrows width bytes more m count fit =
 abbrev pub begins : ℕ → Numbers → List ℕ → Bool
 begins width numbers bytes = has_between numbers (low_of width bytes) (high_of width bytes)
 
-pub in_one : (place width : ℕ) (numbers : Numbers) (bytes : List ℕ) → begins width numbers bytes ≡ true → number_in place width numbers bytes ≡ number_at width bytes
+pub in_one : (offset width : ℕ) (numbers : Numbers) (bytes : List ℕ) → begins width numbers bytes ≡ true → number_in offset width numbers bytes ≡ number_at width bytes
 unfolding number_in
-in_one place width numbers bytes e = rw e refl
+in_one offset width numbers bytes e = rw e refl
 
-pub in_none : (place width : ℕ) (numbers : Numbers) (bytes : List ℕ) → begins width numbers bytes ≡ false → number_in place width numbers bytes ≡ Err (Garbled place)
+pub in_none : (offset width : ℕ) (numbers : Numbers) (bytes : List ℕ) → begins width numbers bytes ≡ false → number_in offset width numbers bytes ≡ Err (Garbled offset)
 unfolding number_in
-in_none place width numbers bytes e = rw e refl
+in_none offset width numbers bytes e = rw e refl
 
-chosen_grows : (place width : ℕ) (numbers : Numbers) → IsChoice width numbers → (bytes more : List ℕ) → IsBytes (bytes ++ more)
-    → (number_in place width numbers bytes ≡ Err Short) ⊎ (number_in place width numbers (bytes ++ more) ≡ with_more more (number_in place width numbers bytes))
-chosen_grows place width numbers choice bytes more fit =
+chosen_grows : (offset width : ℕ) (numbers : Numbers) → IsChoice width numbers → (bytes more : List ℕ) → IsBytes (bytes ++ more)
+    → (number_in offset width numbers bytes ≡ Err Short) ⊎ (number_in offset width numbers (bytes ++ more) ≡ with_more more (number_in offset width numbers bytes))
+chosen_grows offset width numbers choice bytes more fit =
     elim (cases_lt (length bytes) width) [
       | inl less ↦ elim (which (begins width numbers bytes)) [
-        | inl one ↦ inl (in_one place width numbers bytes one ∙ plain_short width (big_number width) bytes less)
+        | inl one ↦ inl (in_one offset width numbers bytes one ∙ plain_short width (big_number width) bytes less)
         | inr none ↦ elim (which (begins width numbers (bytes ++ more))) [
           | inl one ↦
               let found = between_tells numbers (low_of width (bytes ++ more)) (high_of width (bytes ++ more)) choice.steps one in
               let narrow = narrows width bytes more (width - length bytes) (omega arith) fit in
               let wrong = between_again numbers found.0 (low_of width bytes) (high_of width bytes) choice.steps found.1 (omega (arith, found.2)) (omega (arith, found.3)) in
               absurd (let both : true ≡ false = sym wrong ∙ none in cc)
-          | inr still ↦ inr (in_none place width numbers (bytes ++ more) still ∙ ap (with_more more) (sym (in_none place width numbers bytes none)))
+          | inr still ↦ inr (in_none offset width numbers (bytes ++ more) still ∙ ap (with_more more) (sym (in_none offset width numbers bytes none)))
         ]
       ]
       | inr long ↦
           let same : begins width numbers (bytes ++ more) ≡ begins width numbers bytes = ap (λ t. has_between numbers (big_number width (t ++ replicate width 0)) (big_number width (t ++ replicate width 255))) (take-append-le width bytes more long) in
           elim (which (begins width numbers bytes)) [
-            | inl one ↦ elim ((number_format place width).grows bytes more fit) [
-              | inl short ↦ inl (in_one place width numbers bytes one ∙ short)
-              | inr grown ↦ inr (in_one place width numbers (bytes ++ more) (same ∙ one) ∙ grown ∙ ap (with_more more) (sym (in_one place width numbers bytes one)))
+            | inl one ↦ elim ((number_format offset width).grows bytes more fit) [
+              | inl short ↦ inl (in_one offset width numbers bytes one ∙ short)
+              | inr grown ↦ inr (in_one offset width numbers (bytes ++ more) (same ∙ one) ∙ grown ∙ ap (with_more more) (sym (in_one offset width numbers bytes one)))
             ]
-            | inr none ↦ inr (in_none place width numbers (bytes ++ more) (same ∙ none) ∙ ap (with_more more) (sym (in_none place width numbers bytes none)))
+            | inr none ↦ inr (in_none offset width numbers (bytes ++ more) (same ∙ none) ∙ ap (with_more more) (sym (in_none offset width numbers bytes none)))
           ]
     ]
 
-chosen_opens : (place width : ℕ) (numbers : Numbers) → IsChoice width numbers → (bytes : List ℕ) → IsBytes bytes → number_in place width numbers bytes ≡ Err Short → Filled (number_in place width numbers) bytes
-chosen_opens place width numbers choice bytes fit e =
+chosen_opens : (offset width : ℕ) (numbers : Numbers) → IsChoice width numbers → (bytes : List ℕ) → IsBytes bytes → number_in offset width numbers bytes ≡ Err Short → Filled (number_in offset width numbers) bytes
+chosen_opens offset width numbers choice bytes fit e =
     elim (which (begins width numbers bytes)) [
-      | inr none ↦ absurd (let wrong = err_is (in_none place width numbers bytes none) e in cc)
+      | inr none ↦ absurd (let wrong = err_is (in_none offset width numbers bytes none) e in cc)
       | inl one ↦
-          let less = (number_format place width).short bytes fit (sym (in_one place width numbers bytes one) ∙ e) in
+          let less = (number_format offset width).short bytes fit (sym (in_one offset width numbers bytes one) ∙ e) in
           let m = width - length bytes in
           let found = between_tells numbers (low_of width bytes) (high_of width bytes) choice.steps one in
           let r = found.0 - low_of width bytes in
@@ -212,17 +212,17 @@ chosen_opens place width numbers choice bytes fit e =
             value = big_number width (bytes ++ more);
             some = omega arith;
             fit = IsBytes-big_bytes m r;
-            reads = (chosen_whole place width numbers (bytes ++ more) choice.steps (omega arith) begun).0 ∙ ap (λ t. Ok (big_number width (bytes ++ more), t)) (drop_all width (bytes ++ more) (omega arith));
+            reads = (chosen_whole offset width numbers (bytes ++ more) choice.steps (omega arith) begun).0 ∙ ap (λ t. Ok (big_number width (bytes ++ more), t)) (drop_all width (bytes ++ more) (omega arith));
           }
     ]
 
-chosen_starts : (place width : ℕ) (numbers : Numbers) → IsChoice width numbers → number_in place width numbers [] ≡ Err Short
-chosen_starts place width numbers choice =
+chosen_starts : (offset width : ℕ) (numbers : Numbers) → IsChoice width numbers → number_in offset width numbers [] ≡ Err Short
+chosen_starts offset width numbers choice =
     let low = low_is width [] width (omega arith) in
     let high = high_is width [] width (omega arith) in
     let least : IsOneOf numbers numbers.least = record { low = omega arith; high = choice.some; steps = (let none : numbers.least - numbers.least ≡ 0 = omega arith in rw none (zero-mod numbers.step)) } in
     let one = between_again numbers numbers.least (low_of width []) (high_of width []) choice.steps least (omega arith) (omega (arith, choice.some, choice.within)) in
-    in_one place width numbers [] one ∙ plain_short width (big_number width) [] (omega (arith, choice.wide))
+    in_one offset width numbers [] one ∙ plain_short width (big_number width) [] (omega (arith, choice.wide))
 
 plain_never : (width : ℕ) (bytes : List ℕ) (at : ℕ) → number_at width bytes ≡ Err (Garbled at) → ⊥
 plain_never width bytes at e =
@@ -231,36 +231,36 @@ plain_never width bytes at e =
       | inr long ↦ not_both (plain_ok width (big_number width) bytes long) e
     ]
 
-not_empty : (place width : ℕ) (numbers : Numbers) → IsChoice width numbers → (bytes : List ℕ) (at : ℕ) → number_in place width numbers bytes ≡ Err (Garbled at) → 0 < length bytes
-not_empty place width numbers choice [] at e = absurd (let wrong = err_is (chosen_starts place width numbers choice) e in cc)
-not_empty place width numbers choice (b ∷ bytes) at e = omega arith
+not_empty : (offset width : ℕ) (numbers : Numbers) → IsChoice width numbers → (bytes : List ℕ) (at : ℕ) → number_in offset width numbers bytes ≡ Err (Garbled at) → 0 < length bytes
+not_empty offset width numbers choice [] at e = absurd (let wrong = err_is (chosen_starts offset width numbers choice) e in cc)
+not_empty offset width numbers choice (b ∷ bytes) at e = omega arith
 
-pub chosen_format : (place width : ℕ) (numbers : Numbers) → IsChoice width numbers → IsFormat place (IsOneOf numbers) width (number_in place width numbers)
-chosen_format place width numbers choice = record {
+pub chosen_format : (offset width : ℕ) (numbers : Numbers) → IsChoice width numbers → IsFormat offset (IsOneOf numbers) width (number_in offset width numbers)
+chosen_format offset width numbers choice = record {
   takes = λ bytes x rest fit e. elim (which (begins width numbers bytes)) [
-    | inr none ↦ absurd (not_both e (in_none place width numbers bytes none))
+    | inr none ↦ absurd (not_both e (in_none offset width numbers bytes none))
     | inl one ↦
-        let taken = (number_format place width).takes bytes x rest fit (sym (in_one place width numbers bytes one) ∙ e) in
-        let read = chosen_whole place width numbers bytes choice.steps taken.0 one in
+        let taken = (number_format offset width).takes bytes x rest fit (sym (in_one offset width numbers bytes one) ∙ e) in
+        let read = chosen_whole offset width numbers bytes choice.steps taken.0 one in
         let same = same_ok (big_number width bytes, drop width bytes) (x, rest) (sym read.0 ∙ e) in
         (taken.0, taken.1, subst (IsOneOf numbers) (ap (λ (p : ℕ × List ℕ). p.0) same) read.1)
   ];
   short = λ bytes fit e. elim (which (begins width numbers bytes)) [
-    | inr none ↦ absurd (let wrong = err_is (in_none place width numbers bytes none) e in cc)
-    | inl one ↦ (number_format place width).short bytes fit (sym (in_one place width numbers bytes one) ∙ e)
+    | inr none ↦ absurd (let wrong = err_is (in_none offset width numbers bytes none) e in cc)
+    | inl one ↦ (number_format offset width).short bytes fit (sym (in_one offset width numbers bytes one) ∙ e)
   ];
-  grows = chosen_grows place width numbers choice;
-  opens = chosen_opens place width numbers choice;
-  starts = inl (chosen_starts place width numbers choice);
+  grows = chosen_grows offset width numbers choice;
+  opens = chosen_opens offset width numbers choice;
+  starts = inl (chosen_starts offset width numbers choice);
   stops = λ bytes at fit e. elim (which (begins width numbers bytes)) [
-    | inl one ↦ absurd (plain_never width bytes at (sym (in_one place width numbers bytes one) ∙ e))
+    | inl one ↦ absurd (plain_never width bytes at (sym (in_one offset width numbers bytes one) ∙ e))
     | inr none ↦
-        let same = err_is (in_none place width numbers bytes none) e in
+        let same = err_is (in_none offset width numbers bytes none) e in
         record {
           far = 0;
-          at_is = (let at_same : place ≡ at = cc in sym at_same ∙ omega arith);
-          within = not_empty place width numbers choice bytes at e;
-          before = chosen_starts place width numbers choice;
+          at_is = (let at_same : offset ≡ at = cc in sym at_same ∙ omega arith);
+          within = not_empty offset width numbers choice bytes at e;
+          before = chosen_starts offset width numbers choice;
         }
   ];
 }
@@ -270,33 +270,33 @@ chosen_format place width numbers choice = record {
 zero_ends : (count : ℕ) (bits : List ℕ) → get_or bits (length bits - 1) 0 ≡ 0 → ends_at count bits ≡ true
 zero_ends count bits zero_last = let some = one-le-pow (count - 8 * (length bits - 1)) 2 (omega arith) in rw zero_last (lt-ltb _ _ (omega arith))
 
-bitmap_short : (place count n : ℕ) (bytes : List ℕ) → length bytes < n → bitmap_at place count n bytes ≡ Err Short
-bitmap_short place count n bytes less = ap (λ r. r >>= λ bits. cond (ends_at count bits.0) (Ok (record { count = count; bytes = bits.0 }, bits.1)) (Err (Garbled place))) (plain_short n (take n) bytes less)
+bitmap_short : (offset count n : ℕ) (bytes : List ℕ) → length bytes < n → bitmap_at offset count n bytes ≡ Err Short
+bitmap_short offset count n bytes less = ap (λ r. r >>= λ bits. cond (ends_at count bits.0) (Ok (record { count = count; bytes = bits.0 }, bits.1)) (Err (Garbled offset))) (plain_short n (take n) bytes less)
 
 abbrev pub tested : ℕ → ℕ → List ℕ → List ℕ → Result (Bits × List ℕ) Fault
-tested place count bits rest = cond (ends_at count bits) (Ok (record { count = count; bytes = bits }, rest)) (Err (Garbled place))
+tested offset count bits rest = cond (ends_at count bits) (Ok (record { count = count; bytes = bits }, rest)) (Err (Garbled offset))
 
-pub bitmap_long : (place count n : ℕ) (bytes : List ℕ) → n ≤ length bytes → bitmap_at place count n bytes ≡ tested place count (take n bytes) (drop n bytes)
-bitmap_long place count n bytes long = ap (λ r. r >>= λ bits. tested place count bits.0 bits.1) (plain_ok n (take n) bytes long)
+pub bitmap_long : (offset count n : ℕ) (bytes : List ℕ) → n ≤ length bytes → bitmap_at offset count n bytes ≡ tested offset count (take n bytes) (drop n bytes)
+bitmap_long offset count n bytes long = ap (λ r. r >>= λ bits. tested offset count bits.0 bits.1) (plain_ok n (take n) bytes long)
 
-pub tested_ok : (place count : ℕ) (bits rest : List ℕ) → ends_at count bits ≡ true → tested place count bits rest ≡ Ok (record { count = count; bytes = bits }, rest)
-tested_ok place count bits rest e = rw e refl
+pub tested_ok : (offset count : ℕ) (bits rest : List ℕ) → ends_at count bits ≡ true → tested offset count bits rest ≡ Ok (record { count = count; bytes = bits }, rest)
+tested_ok offset count bits rest e = rw e refl
 
-pub tested_none : (place count : ℕ) (bits rest : List ℕ) → ends_at count bits ≡ false → tested place count bits rest ≡ Err (Garbled place)
-tested_none place count bits rest e = rw e refl
+pub tested_none : (offset count : ℕ) (bits rest : List ℕ) → ends_at count bits ≡ false → tested offset count bits rest ≡ Err (Garbled offset)
+tested_none offset count bits rest e = rw e refl
 
 none_ends : (count : ℕ) → ends_at count [] ≡ true
 none_ends count = zero_ends count [] refl
 
-pub bitmap_format : (place count n : ℕ) → IsFormat place (λ (bits : Bits). (bits.count ≡ count) × (length bits.bytes ≡ n) × IsBytes bits.bytes × (ends_at count bits.bytes ≡ true)) n (bitmap_at place count n)
-bitmap_format place count n = record {
+pub bitmap_format : (offset count n : ℕ) → IsFormat offset (λ (bits : Bits). (bits.count ≡ count) × (length bits.bytes ≡ n) × IsBytes bits.bytes × (ends_at count bits.bytes ≡ true)) n (bitmap_at offset count n)
+bitmap_format offset count n = record {
   takes = λ bytes x rest fit e. elim (cases_lt (length bytes) n) [
-    | inl less ↦ absurd (not_both e (bitmap_short place count n bytes less))
+    | inl less ↦ absurd (not_both e (bitmap_short offset count n bytes less))
     | inr long ↦ elim (which (ends_at count (take n bytes))) [
-      | inr none ↦ absurd (not_both e (bitmap_long place count n bytes long ∙ tested_none place count (take n bytes) (drop n bytes) none))
+      | inr none ↦ absurd (not_both e (bitmap_long offset count n bytes long ∙ tested_none offset count (take n bytes) (drop n bytes) none))
       | inl ends ↦
           let made : Bits = record { count = count; bytes = take n bytes } in
-          let same = same_ok (made, drop n bytes) (x, rest) (sym (bitmap_long place count n bytes long ∙ tested_ok place count (take n bytes) (drop n bytes) ends) ∙ e) in (
+          let same = same_ok (made, drop n bytes) (x, rest) (sym (bitmap_long offset count n bytes long ∙ tested_ok offset count (take n bytes) (drop n bytes) ends) ∙ e) in (
             long,
             sym (ap (λ (p : Bits × List ℕ). p.1) same),
             subst (λ (bits : Bits). (bits.count ≡ count) × (length bits.bytes ≡ n) × IsBytes bits.bytes × (ends_at count bits.bytes ≡ true)) (ap (λ (p : Bits × List ℕ). p.0) same)
@@ -307,27 +307,27 @@ bitmap_format place count n = record {
   short = λ bytes fit e. elim (cases_lt (length bytes) n) [
     | inl less ↦ less
     | inr long ↦ elim (which (ends_at count (take n bytes))) [
-      | inl ends ↦ absurd (not_both (bitmap_long place count n bytes long ∙ tested_ok place count (take n bytes) (drop n bytes) ends) e)
-      | inr none ↦ absurd (let wrong = err_is (bitmap_long place count n bytes long ∙ tested_none place count (take n bytes) (drop n bytes) none) e in cc)
+      | inl ends ↦ absurd (not_both (bitmap_long offset count n bytes long ∙ tested_ok offset count (take n bytes) (drop n bytes) ends) e)
+      | inr none ↦ absurd (let wrong = err_is (bitmap_long offset count n bytes long ∙ tested_none offset count (take n bytes) (drop n bytes) none) e in cc)
     ]
   ];
   grows = λ bytes more fit. elim (cases_lt (length bytes) n) [
-    | inl less ↦ inl (bitmap_short place count n bytes less)
+    | inl less ↦ inl (bitmap_short offset count n bytes less)
     | inr long ↦
         let longer : n ≤ length (bytes ++ more) = omega (arith, length-append bytes more) in
-        let then : bitmap_at place count n (bytes ++ more) ≡ tested place count (take n bytes) (drop n bytes ++ more) =
-        bitmap_long place count n (bytes ++ more) longer ∙ rw (take-append-le n bytes more long, drop-append-le n bytes more long) refl in
+        let then : bitmap_at offset count n (bytes ++ more) ≡ tested offset count (take n bytes) (drop n bytes ++ more) =
+        bitmap_long offset count n (bytes ++ more) longer ∙ rw (take-append-le n bytes more long, drop-append-le n bytes more long) refl in
         elim (which (ends_at count (take n bytes))) [
-          | inl ends ↦ inr (then ∙ tested_ok place count (take n bytes) (drop n bytes ++ more) ends
-              ∙ ap (with_more more) (sym (bitmap_long place count n bytes long ∙ tested_ok place count (take n bytes) (drop n bytes) ends)))
-          | inr none ↦ inr (then ∙ tested_none place count (take n bytes) (drop n bytes ++ more) none
-              ∙ ap (with_more more) (sym (bitmap_long place count n bytes long ∙ tested_none place count (take n bytes) (drop n bytes) none)))
+          | inl ends ↦ inr (then ∙ tested_ok offset count (take n bytes) (drop n bytes ++ more) ends
+              ∙ ap (with_more more) (sym (bitmap_long offset count n bytes long ∙ tested_ok offset count (take n bytes) (drop n bytes) ends)))
+          | inr none ↦ inr (then ∙ tested_none offset count (take n bytes) (drop n bytes ++ more) none
+              ∙ ap (with_more more) (sym (bitmap_long offset count n bytes long ∙ tested_none offset count (take n bytes) (drop n bytes) none)))
         ]
   ];
   opens = λ bytes fit e. elim (cases_lt (length bytes) n) [
     | inr long ↦ elim (which (ends_at count (take n bytes))) [
-      | inl ends ↦ absurd (not_both (bitmap_long place count n bytes long ∙ tested_ok place count (take n bytes) (drop n bytes) ends) e)
-      | inr none ↦ absurd (let wrong = err_is (bitmap_long place count n bytes long ∙ tested_none place count (take n bytes) (drop n bytes) none) e in cc)
+      | inl ends ↦ absurd (not_both (bitmap_long offset count n bytes long ∙ tested_ok offset count (take n bytes) (drop n bytes) ends) e)
+      | inr none ↦ absurd (let wrong = err_is (bitmap_long offset count n bytes long ∙ tested_none offset count (take n bytes) (drop n bytes) none) e in cc)
     ]
     | inl less ↦
         let more : List ℕ = replicate (n - length bytes) 0 in
@@ -343,32 +343,32 @@ bitmap_format place count n = record {
           value = made;
           some = omega arith;
           fit = IsBytes-replicate (n - length bytes) 0 (omega arith);
-          reads = bitmap_long place count n (bytes ++ more) (omega arith) ∙ tested_ok place count (take n (bytes ++ more)) (drop n (bytes ++ more)) ends ∙ ap (λ t. Ok (made, t)) (drop_all n (bytes ++ more) (omega arith));
+          reads = bitmap_long offset count n (bytes ++ more) (omega arith) ∙ tested_ok offset count (take n (bytes ++ more)) (drop n (bytes ++ more)) ends ∙ ap (λ t. Ok (made, t)) (drop_all n (bytes ++ more) (omega arith));
         }
   ];
   starts = elim (cases_lt 0 n) [
-    | inl some ↦ inl (bitmap_short place count n [] some)
+    | inl some ↦ inl (bitmap_short offset count n [] some)
     | inr none ↦
         let none_of : List ℕ = [] in
         let all : take n none_of ≡ none_of = take_all n none_of (omega arith) in
         let made : Bits = record { count = count; bytes = take n [] } in
-        inr (made, bitmap_long place count n [] none ∙ tested_ok place count (take n []) (drop n []) (rw all (none_ends count)) ∙ ap (λ t. Ok (made, t)) (drop_all n [] (omega arith)))
+        inr (made, bitmap_long offset count n [] none ∙ tested_ok offset count (take n []) (drop n []) (rw all (none_ends count)) ∙ ap (λ t. Ok (made, t)) (drop_all n [] (omega arith)))
   ];
   stops = λ bytes at fit e. elim (cases_lt (length bytes) n) [
-    | inl less ↦ absurd (let wrong = err_is (bitmap_short place count n bytes less) e in cc)
+    | inl less ↦ absurd (let wrong = err_is (bitmap_short offset count n bytes less) e in cc)
     | inr long ↦ elim (which (ends_at count (take n bytes))) [
-      | inl ends ↦ absurd (not_both (bitmap_long place count n bytes long ∙ tested_ok place count (take n bytes) (drop n bytes) ends) e)
+      | inl ends ↦ absurd (not_both (bitmap_long offset count n bytes long ∙ tested_ok offset count (take n bytes) (drop n bytes) ends) e)
       | inr none ↦
-          let same = err_is (bitmap_long place count n bytes long ∙ tested_none place count (take n bytes) (drop n bytes) none) e in
+          let same = err_is (bitmap_long offset count n bytes long ∙ tested_none offset count (take n bytes) (drop n bytes) none) e in
           let some : 0 < n = elim (cases_lt 0 n) [
             | inl lt ↦ lt
             | inr le ↦ absurd (let empty : take n bytes ≡ [] = (let zero : n ≡ 0 = omega arith in rw zero refl) in let wrong : ends_at count [] ≡ false = rw empty at none in let both = sym (none_ends count) ∙ wrong in cc)
           ] in
           record {
             far = 0;
-            at_is = (let at_same : place ≡ at = cc in sym at_same ∙ omega arith);
+            at_is = (let at_same : offset ≡ at = cc in sym at_same ∙ omega arith);
             within = omega arith;
-            before = bitmap_short place count n [] some;
+            before = bitmap_short offset count n [] some;
           }
     ]
   ];

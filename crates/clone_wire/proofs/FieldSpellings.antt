@@ -35,7 +35,7 @@ pub done_back : {A : Type 0} (made x : A) → made ≡ x → IsBack (λ bytes. O
 done_back made x e = record { fit = none_fit; back = λ rest. ap (λ v. Ok (v, rest)) e }
 
 -- a text has as many bytes as the format has
-pub long_is : {A : Type 0} {place n : ℕ} {Good : A → Type 0} {f : List ℕ → Result (A × List ℕ) Fault} (text : List ℕ) (x : A) → IsFormat place Good n f → IsBack f text x → length text ≡ n
+pub long_is : {A : Type 0} {offset n : ℕ} {Good : A → Type 0} {f : List ℕ → Result (A × List ℕ) Fault} (text : List ℕ) (x : A) → IsFormat offset Good n f → IsBack f text x → length text ≡ n
 long_is {n = n} {f = f} text x format written =
     let taken = format.takes text x [] written.fit (ap f (sym (append-nil text)) ∙ written.back []) in
     let none : 0 ≡ length text - n = ap length taken.1 ∙ length-drop n text in
@@ -59,8 +59,8 @@ run_back n text count fit = record {
       plain_ok n (take n) (text ++ rest) long ∙ rw (take_at text rest n count, drop_at text rest n count) refl);
 }
 
-pub chosen_back : (place width : ℕ) (numbers : Numbers) (x : ℕ) → IsChoice width numbers → IsOneOf numbers x → IsBack (number_in place width numbers) (big_bytes width x) x
-chosen_back place width numbers x choice one = record {
+pub chosen_back : (offset width : ℕ) (numbers : Numbers) (x : ℕ) → IsChoice width numbers → IsOneOf numbers x → IsBack (number_in offset width numbers) (big_bytes width x) x
+chosen_back offset width numbers x choice one = record {
   fit = IsBytes-big_bytes width x;
   back = λ rest. (let bytes = big_bytes width x ++ rest in
       let count = length-bytes_high_first width x in
@@ -69,15 +69,15 @@ chosen_back place width numbers x choice one = record {
       let whole : big_number width bytes ≡ x = big_number-reads_back width x rest below in
       let begun : begins_one width numbers (take width bytes) ≡ true =
       rw (enough width 0 bytes long, enough width 255 bytes long, whole) (between_again numbers x x x choice.steps one (omega arith) (omega arith)) in
-      (chosen_whole place width numbers bytes choice.steps long begun).0 ∙ rw (whole, drop_at (big_bytes width x) rest width count) refl);
+      (chosen_whole offset width numbers bytes choice.steps long begun).0 ∙ rw (whole, drop_at (big_bytes width x) rest width count) refl);
 }
 
-pub bitmap_back : (place n : ℕ) (bits : Bits) → length bits.bytes ≡ n → IsBytes bits.bytes → ends_at bits.count bits.bytes ≡ true → IsBack (bitmap_at place bits.count n) bits.bytes bits
-bitmap_back place n bits count fit ends = record {
+pub bitmap_back : (offset n : ℕ) (bits : Bits) → length bits.bytes ≡ n → IsBytes bits.bytes → ends_at bits.count bits.bytes ≡ true → IsBack (bitmap_at offset bits.count n) bits.bytes bits
+bitmap_back offset n bits count fit ends = record {
   fit = fit;
   back = λ rest. (let bytes = bits.bytes ++ rest in
       let long : n ≤ length bytes = omega (arith, length-append bits.bytes rest) in
-      bitmap_long place bits.count n bytes long ∙ rw (take_at bits.bytes rest n count, drop_at bits.bytes rest n count) (tested_ok place bits.count bits.bytes rest ends));
+      bitmap_long offset bits.count n bytes long ∙ rw (take_at bits.bytes rest n count, drop_at bits.bytes rest n count) (tested_ok offset bits.count bits.bytes rest ends));
 }
 
 pub list_back : {X : Type 0} (item : List ℕ → Result (X × List ℕ) Fault) (text : X → List ℕ) (Is : X → Type 0) → ((x : X) → Is x → IsBack item (text x) x) → (xs : List X) → AllAre Is xs

@@ -57,26 +57,26 @@ run_from n = record {
       (sym (take-append-drop n bytes) ∙ ap (λ t. t ++ drop n bytes) front ∙ ap (λ t. x ++ t) (sym taken.1), subst IsBytes (sym taken.1) (IsBytes-drop n bytes fit), taken.2));
 }
 
-pub chosen_from : (place width : ℕ) (numbers : Numbers) → IsChoice width numbers → IsFrom [] (number_in place width numbers) (big_bytes width) (IsOneOf numbers)
-chosen_from place width numbers choice = record {
+pub chosen_from : (offset width : ℕ) (numbers : Numbers) → IsChoice width numbers → IsFrom [] (number_in offset width numbers) (big_bytes width) (IsOneOf numbers)
+chosen_from offset width numbers choice = record {
   from = λ bytes x rest fit e. elim (which (begins width numbers bytes)) [
-    | inr none ↦ absurd (not_both e (in_none place width numbers bytes none))
+    | inr none ↦ absurd (not_both e (in_none offset width numbers bytes none))
     | inl one ↦
-        let plain = (number_from width).from bytes x rest fit (sym (in_one place width numbers bytes one) ∙ e) in
-        (plain.0, plain.1, ((chosen_format place width numbers choice).takes bytes x rest fit e).2)
+        let plain = (number_from width).from bytes x rest fit (sym (in_one offset width numbers bytes one) ∙ e) in
+        (plain.0, plain.1, ((chosen_format offset width numbers choice).takes bytes x rest fit e).2)
   ];
 }
 
-pub bitmap_from : (place count n : ℕ)
-    → IsFrom [] (bitmap_at place count n) (λ (bits : Bits). bits.bytes) (λ (bits : Bits). (bits.count ≡ count) × (length bits.bytes ≡ n) × IsBytes bits.bytes × (ends_at count bits.bytes ≡ true))
-bitmap_from place count n = record {
-  from = λ bytes x rest fit e. (let taken = (bitmap_format place count n).takes bytes x rest fit e in
-      let long = bitmap_long place count n bytes taken.0 in
+pub bitmap_from : (offset count n : ℕ)
+    → IsFrom [] (bitmap_at offset count n) (λ (bits : Bits). bits.bytes) (λ (bits : Bits). (bits.count ≡ count) × (length bits.bytes ≡ n) × IsBytes bits.bytes × (ends_at count bits.bytes ≡ true))
+bitmap_from offset count n = record {
+  from = λ bytes x rest fit e. (let taken = (bitmap_format offset count n).takes bytes x rest fit e in
+      let long = bitmap_long offset count n bytes taken.0 in
       let front : take n bytes ≡ x.bytes = elim (which (ends_at count (take n bytes))) [
-        | inr none ↦ absurd (not_both e (long ∙ tested_none place count (take n bytes) (drop n bytes) none))
+        | inr none ↦ absurd (not_both e (long ∙ tested_none offset count (take n bytes) (drop n bytes) none))
         | inl ends ↦
             let made : Bits = record { count = count; bytes = take n bytes } in
-            let same = same_ok (made, drop n bytes) (x, rest) (sym (long ∙ tested_ok place count (take n bytes) (drop n bytes) ends) ∙ e) in
+            let same = same_ok (made, drop n bytes) (x, rest) (sym (long ∙ tested_ok offset count (take n bytes) (drop n bytes) ends) ∙ e) in
             ap (λ (p : Bits × List ℕ). p.0.bytes) same
       ] in
       (sym (take-append-drop n bytes) ∙ ap (λ t. t ++ drop n bytes) front ∙ ap (λ t. x.bytes ++ t) (sym taken.1), subst IsBytes (sym taken.1) (IsBytes-drop n bytes fit), taken.2));

@@ -21,21 +21,21 @@ pub record Filled {A : Type 0} (f : List ℕ → Result (A × List ℕ) Fault) (
   pub fit : IsBytes more
   pub reads : f (bytes ++ more) ≡ Ok (value, [])
 
--- the fields before this place are whole, and the next has wrong bytes
-pub record Stopped {A : Type 0} (f : List ℕ → Result (A × List ℕ) Fault) (place : ℕ) (bytes : List ℕ) (at : ℕ) : Type 0 where
+-- the fields before this offset are whole, and the next has wrong bytes
+pub record Stopped {A : Type 0} (f : List ℕ → Result (A × List ℕ) Fault) (offset : ℕ) (bytes : List ℕ) (at : ℕ) : Type 0 where
   pub far : ℕ
-  pub at_is : at ≡ place + far
+  pub at_is : at ≡ offset + far
   pub within : far < length bytes
   pub before : f (take far bytes) ≡ Err Short
 
--- The reading of fields that begin at a place and have n bytes: their values are good ones, more bytes behind change nothing, and where the bytes end too early further ones make a value.
-pub record IsFormat {A : Type 0} (place : ℕ) (Good : A → Type 0) (n : ℕ) (f : List ℕ → Result (A × List ℕ) Fault) : Type 0 where
+-- The reading of fields that begin at an offset and have n bytes: their values are good ones, more bytes behind change nothing, and where the bytes end too early further ones make a value.
+pub record IsFormat {A : Type 0} (offset : ℕ) (Good : A → Type 0) (n : ℕ) (f : List ℕ → Result (A × List ℕ) Fault) : Type 0 where
   pub takes : (bytes : List ℕ) (x : A) (rest : List ℕ) → IsBytes bytes → f bytes ≡ Ok (x, rest) → (n ≤ length bytes) × (rest ≡ drop n bytes) × Good x
   pub short : (bytes : List ℕ) → IsBytes bytes → f bytes ≡ Err Short → length bytes < n
   pub grows : (bytes more : List ℕ) → IsBytes (bytes ++ more) → (f bytes ≡ Err Short) ⊎ (f (bytes ++ more) ≡ with_more more (f bytes))
   pub opens : (bytes : List ℕ) → IsBytes bytes → f bytes ≡ Err Short → Filled f bytes
   pub starts : (f [] ≡ Err Short) ⊎ ((x : A) × (f [] ≡ Ok (x, [])))
-  pub stops : (bytes : List ℕ) (at : ℕ) → IsBytes bytes → f bytes ≡ Err (Garbled at) → Stopped f place bytes at
+  pub stops : (bytes : List ℕ) (at : ℕ) → IsBytes bytes → f bytes ≡ Err (Garbled at) → Stopped f offset bytes at
 
 pub none_fit : IsBytes []
 none_fit i = omega arith
@@ -59,7 +59,7 @@ pub not_both : {X : Type 0} {x : X} {e : Fault} {r : Result X Fault} → r ≡ O
 not_both p q = let both = sym p ∙ q in cc
 
 -- of the bytes of a value and what follows it, those that follow may be cut
-pub cut : {A : Type 0} {place : ℕ} {Good : A → Type 0} {n : ℕ} {f : List ℕ → Result (A × List ℕ) Fault} → IsFormat place Good n f
+pub cut : {A : Type 0} {offset : ℕ} {Good : A → Type 0} {n : ℕ} {f : List ℕ → Result (A × List ℕ) Fault} → IsFormat offset Good n f
     → (bytes : List ℕ) (x : A) (rest : List ℕ) (j : ℕ) → IsBytes bytes → f bytes ≡ Ok (x, rest) → n + j ≤ length bytes → f (take (n + j) bytes) ≡ Ok (x, take j rest)
 cut {A = A} {n = n} {f = f} format bytes x rest j fit read long =
     let front = take (n + j) bytes in
@@ -84,8 +84,8 @@ cut {A = A} {n = n} {f = f} format bytes x rest j fit read long =
     ]
 
 -- a value, and nothing to read
-pub done_format : {A : Type 0} (place : ℕ) (Good : A → Type 0) (x : A) → Good x → IsFormat place Good 0 (λ bytes. Ok (x, bytes))
-done_format {A = A} place Good x good = record {
+pub done_format : {A : Type 0} (offset : ℕ) (Good : A → Type 0) (x : A) → Good x → IsFormat offset Good 0 (λ bytes. Ok (x, bytes))
+done_format {A = A} offset Good x good = record {
   takes = λ bytes y rest fit e. (let same = same_ok (x, bytes) (y, rest) e in
       let value : x ≡ y = ap (λ (p : A × List ℕ). p.0) same in
       (omega arith, sym (ap (λ (p : A × List ℕ). p.1) same), subst Good value good));
@@ -103,10 +103,10 @@ pub bind : {A B : Type 0} {r : Result A Fault} {x : Result A Fault} (f : A → R
 bind f e = ap (λ r. r >>= f) e
 
 -- what one value and then another take
-pub then_takes : {A B : Type 0} (place m : ℕ) (n : A → ℕ) (Good : A → Type 0) (Fine : B → Type 0) (f : List ℕ → Result (A × List ℕ) Fault) (k : A → List ℕ → Result (B × List ℕ) Fault)
-    → IsFormat place Good m f → ((x : A) → Good x → IsFormat (place + m) Fine (n x) (k x)) → (bytes : List ℕ) (y : B) (rest : List ℕ) → IsBytes bytes → next f k bytes ≡ Ok (y, rest)
+pub then_takes : {A B : Type 0} (offset m : ℕ) (n : A → ℕ) (Good : A → Type 0) (Fine : B → Type 0) (f : List ℕ → Result (A × List ℕ) Fault) (k : A → List ℕ → Result (B × List ℕ) Fault)
+    → IsFormat offset Good m f → ((x : A) → Good x → IsFormat (offset + m) Fine (n x) (k x)) → (bytes : List ℕ) (y : B) (rest : List ℕ) → IsBytes bytes → next f k bytes ≡ Ok (y, rest)
     → (x : A) × (f bytes ≡ Ok (x, drop m bytes)) × Good x × (m + n x ≤ length bytes) × (rest ≡ drop (m + n x) bytes) × Fine y
-then_takes place m n Good Fine f k first second bytes y rest fit e =
+then_takes offset m n Good Fine f k first second bytes y rest fit e =
     elim (outcome (f bytes)) [
       | inl found ↦
           let one = first.takes bytes found.0.0 found.0.1 fit found.1 in
@@ -118,9 +118,9 @@ then_takes place m n Good Fine f k first second bytes y rest fit e =
       | inr failed ↦ absurd (not_both e (bind (λ x. k x.0 x.1) failed.1))
     ]
 
-then_short : {A B : Type 0} (place m most : ℕ) (n : A → ℕ) (Good : A → Type 0) (Fine : B → Type 0) (f : List ℕ → Result (A × List ℕ) Fault) (k : A → List ℕ → Result (B × List ℕ) Fault)
-    → IsFormat place Good m f → ((x : A) → Good x → IsFormat (place + m) Fine (n x) (k x)) → (bytes : List ℕ) → IsBytes bytes → ((x : A) → n x ≤ most) → next f k bytes ≡ Err Short → length bytes < m + most
-then_short place m most n Good Fine f k first second bytes fit few e =
+then_short : {A B : Type 0} (offset m most : ℕ) (n : A → ℕ) (Good : A → Type 0) (Fine : B → Type 0) (f : List ℕ → Result (A × List ℕ) Fault) (k : A → List ℕ → Result (B × List ℕ) Fault)
+    → IsFormat offset Good m f → ((x : A) → Good x → IsFormat (offset + m) Fine (n x) (k x)) → (bytes : List ℕ) → IsBytes bytes → ((x : A) → n x ≤ most) → next f k bytes ≡ Err Short → length bytes < m + most
+then_short offset m most n Good Fine f k first second bytes fit few e =
     elim (outcome (f bytes)) [
       | inl found ↦
           let one = first.takes bytes found.0.0 found.0.1 fit found.1 in
@@ -134,10 +134,10 @@ then_short place m most n Good Fine f k first second bytes fit few e =
           omega arith
     ]
 
-pub then_grows : {A B : Type 0} (place m : ℕ) (n : A → ℕ) (Good : A → Type 0) (Fine : B → Type 0) (f : List ℕ → Result (A × List ℕ) Fault) (k : A → List ℕ → Result (B × List ℕ) Fault)
-    → IsFormat place Good m f → ((x : A) → Good x → IsFormat (place + m) Fine (n x) (k x)) → (bytes more : List ℕ) → IsBytes (bytes ++ more)
+pub then_grows : {A B : Type 0} (offset m : ℕ) (n : A → ℕ) (Good : A → Type 0) (Fine : B → Type 0) (f : List ℕ → Result (A × List ℕ) Fault) (k : A → List ℕ → Result (B × List ℕ) Fault)
+    → IsFormat offset Good m f → ((x : A) → Good x → IsFormat (offset + m) Fine (n x) (k x)) → (bytes more : List ℕ) → IsBytes (bytes ++ more)
     → (next f k bytes ≡ Err Short) ⊎ (next f k (bytes ++ more) ≡ with_more more (next f k bytes))
-then_grows place m n Good Fine f k first second bytes more fit =
+then_grows offset m n Good Fine f k first second bytes more fit =
     elim (first.grows bytes more fit) [
       | inl short ↦ inl (bind (λ x. k x.0 x.1) short)
       | inr same ↦ elim (outcome (f bytes)) [
@@ -155,9 +155,9 @@ then_grows place m n Good Fine f k first second bytes more fit =
       ]
     ]
 
-pub then_starts : {A B : Type 0} (place m : ℕ) (n : A → ℕ) (Good : A → Type 0) (Fine : B → Type 0) (f : List ℕ → Result (A × List ℕ) Fault) (k : A → List ℕ → Result (B × List ℕ) Fault)
-    → IsFormat place Good m f → ((x : A) → Good x → IsFormat (place + m) Fine (n x) (k x)) → (next f k [] ≡ Err Short) ⊎ ((y : B) × (next f k [] ≡ Ok (y, [])))
-then_starts place m n Good Fine f k first second =
+pub then_starts : {A B : Type 0} (offset m : ℕ) (n : A → ℕ) (Good : A → Type 0) (Fine : B → Type 0) (f : List ℕ → Result (A × List ℕ) Fault) (k : A → List ℕ → Result (B × List ℕ) Fault)
+    → IsFormat offset Good m f → ((x : A) → Good x → IsFormat (offset + m) Fine (n x) (k x)) → (next f k [] ≡ Err Short) ⊎ ((y : B) × (next f k [] ≡ Ok (y, [])))
+then_starts offset m n Good Fine f k first second =
     elim first.starts [
       | inl short ↦ inl (bind (λ x. k x.0 x.1) short)
       | inr found ↦
@@ -169,9 +169,9 @@ then_starts place m n Good Fine f k first second =
           ]
     ]
 
-pub then_opens : {A B : Type 0} (place m : ℕ) (n : A → ℕ) (Good : A → Type 0) (Fine : B → Type 0) (f : List ℕ → Result (A × List ℕ) Fault) (k : A → List ℕ → Result (B × List ℕ) Fault)
-    → IsFormat place Good m f → ((x : A) → Good x → IsFormat (place + m) Fine (n x) (k x)) → (bytes : List ℕ) → IsBytes bytes → next f k bytes ≡ Err Short → Filled (next f k) bytes
-then_opens place m n Good Fine f k first second bytes fit e =
+pub then_opens : {A B : Type 0} (offset m : ℕ) (n : A → ℕ) (Good : A → Type 0) (Fine : B → Type 0) (f : List ℕ → Result (A × List ℕ) Fault) (k : A → List ℕ → Result (B × List ℕ) Fault)
+    → IsFormat offset Good m f → ((x : A) → Good x → IsFormat (offset + m) Fine (n x) (k x)) → (bytes : List ℕ) → IsBytes bytes → next f k bytes ≡ Err Short → Filled (next f k) bytes
+then_opens offset m n Good Fine f k first second bytes fit e =
     elim (outcome (f bytes)) [
       | inl found ↦
           let one = first.takes bytes found.0.0 found.0.1 fit found.1 in
@@ -210,9 +210,9 @@ then_opens place m n Good Fine f k first second bytes fit e =
           ]
     ]
 
-pub then_stops : {A B : Type 0} (place m : ℕ) (n : A → ℕ) (Good : A → Type 0) (Fine : B → Type 0) (f : List ℕ → Result (A × List ℕ) Fault) (k : A → List ℕ → Result (B × List ℕ) Fault)
-    → IsFormat place Good m f → ((x : A) → Good x → IsFormat (place + m) Fine (n x) (k x)) → (bytes : List ℕ) (at : ℕ) → IsBytes bytes → next f k bytes ≡ Err (Garbled at) → Stopped (next f k) place bytes at
-then_stops place m n Good Fine f k first second bytes at fit e =
+pub then_stops : {A B : Type 0} (offset m : ℕ) (n : A → ℕ) (Good : A → Type 0) (Fine : B → Type 0) (f : List ℕ → Result (A × List ℕ) Fault) (k : A → List ℕ → Result (B × List ℕ) Fault)
+    → IsFormat offset Good m f → ((x : A) → Good x → IsFormat (offset + m) Fine (n x) (k x)) → (bytes : List ℕ) (at : ℕ) → IsBytes bytes → next f k bytes ≡ Err (Garbled at) → Stopped (next f k) offset bytes at
+then_stops offset m n Good Fine f k first second bytes at fit e =
     elim (outcome (f bytes)) [
       | inl found ↦
           let one = first.takes bytes found.0.0 found.0.1 fit found.1 in
@@ -233,13 +233,13 @@ then_stops place m n Good Fine f k first second bytes at fit e =
     ]
 
 -- one value and then another
-pub then_format : {A B : Type 0} {place m n : ℕ} {Good : A → Type 0} {Fine : B → Type 0} {f : List ℕ → Result (A × List ℕ) Fault} {k : A → List ℕ → Result (B × List ℕ) Fault}
-    → IsFormat place Good m f → ((x : A) → Good x → IsFormat (place + m) Fine n (k x)) → IsFormat place Fine (m + n) (λ bytes. f bytes >>= λ x. k x.0 x.1)
-then_format {place = place} {m = m} {n = n} {Good = Good} {Fine = Fine} {f = f} {k = k} first second = record {
-  takes = λ bytes y rest fit e. (let all = then_takes place m (λ x. n) Good Fine f k first second bytes y rest fit e in (all.3, all.4, all.5));
-  short = λ bytes fit e. then_short place m n (λ x. n) Good Fine f k first second bytes fit (λ x. omega arith) e;
-  grows = then_grows place m (λ x. n) Good Fine f k first second;
-  opens = then_opens place m (λ x. n) Good Fine f k first second;
-  starts = then_starts place m (λ x. n) Good Fine f k first second;
-  stops = then_stops place m (λ x. n) Good Fine f k first second;
+pub then_format : {A B : Type 0} {offset m n : ℕ} {Good : A → Type 0} {Fine : B → Type 0} {f : List ℕ → Result (A × List ℕ) Fault} {k : A → List ℕ → Result (B × List ℕ) Fault}
+    → IsFormat offset Good m f → ((x : A) → Good x → IsFormat (offset + m) Fine n (k x)) → IsFormat offset Fine (m + n) (λ bytes. f bytes >>= λ x. k x.0 x.1)
+then_format {offset = offset} {m = m} {n = n} {Good = Good} {Fine = Fine} {f = f} {k = k} first second = record {
+  takes = λ bytes y rest fit e. (let all = then_takes offset m (λ x. n) Good Fine f k first second bytes y rest fit e in (all.3, all.4, all.5));
+  short = λ bytes fit e. then_short offset m n (λ x. n) Good Fine f k first second bytes fit (λ x. omega arith) e;
+  grows = then_grows offset m (λ x. n) Good Fine f k first second;
+  opens = then_opens offset m (λ x. n) Good Fine f k first second;
+  starts = then_starts offset m (λ x. n) Good Fine f k first second;
+  stops = then_stops offset m (λ x. n) Good Fine f k first second;
 }

@@ -59,34 +59,34 @@ lengths_choice code =
 
 -- ---- parts
 
-attempt_format : (place : ℕ) → IsFormat place Any 12 attempt_at
+attempt_format : (offset : ℕ) → IsFormat offset Any 12 attempt_at
 unfolding attempt_at
-attempt_format place =
-    let format = then_format (number_format place 8) (λ session fit. then_format (number_format (place + 8) 4) (λ incarnation below. done_format (place + 8 + 4) Any (let made : Attempt = record { session = session; incarnation = incarnation } in made) tt)) in
+attempt_format offset =
+    let format = then_format (number_format offset 8) (λ session fit. then_format (number_format (offset + 8) 4) (λ incarnation below. done_format (offset + 8 + 4) Any (let made : Attempt = record { session = session; incarnation = incarnation } in made) tt)) in
     format
 
-space_format : (place : ℕ) → IsFormat place Any 8 space_at
+space_format : (offset : ℕ) → IsFormat offset Any 8 space_at
 unfolding space_at
-space_format place =
-    let format = then_format (number_format place 4) (λ space fit. then_format (number_format (place + 4) 4) (λ pages below. done_format (place + 4 + 4) Any (let made : SpaceSize = record { space = space; pages = pages } in made) tt)) in
+space_format offset =
+    let format = then_format (number_format offset 4) (λ space fit. then_format (number_format (offset + 4) 4) (λ pages below. done_format (offset + 4 + 4) Any (let made : SpaceSize = record { space = space; pages = pages } in made) tt)) in
     format
 
-page_format : (place : ℕ) → IsFormat place Any 4104 page_at
+page_format : (offset : ℕ) → IsFormat offset Any 4104 page_at
 unfolding page_at
-page_format place =
-    let format = then_format (number_format place 4) (λ space fit. then_format (number_format (place + 4) 4) (λ number below. then_format (run_format (place + 4 + 4) 4096)
-    (λ page long. done_format (place + 4 + 4 + 4096) Any (let made : PageAt = record { space = space; number = number; page = page } in made) tt))) in
+page_format offset =
+    let format = then_format (number_format offset 4) (λ space fit. then_format (number_format (offset + 4) 4) (λ number below. then_format (run_format (offset + 4 + 4) 4096)
+    (λ page long. done_format (offset + 4 + 4 + 4096) Any (let made : PageAt = record { space = space; number = number; page = page } in made) tt))) in
     format
 
-list_format : {X : Type 0} (place m : ℕ) (item : List ℕ → Result (X × List ℕ) Fault) → ((p : ℕ) → IsFormat p Any m item) → (n : ℕ) → IsFormat place Any (n * m) (list_at item n)
-list_format {X = X} place m item items zero =
+list_format : {X : Type 0} (offset m : ℕ) (item : List ℕ → Result (X × List ℕ) Fault) → ((p : ℕ) → IsFormat p Any m item) → (n : ℕ) → IsFormat offset Any (n * m) (list_at item n)
+list_format {X = X} offset m item items zero =
     let none : List X = [] in
     let size : 0 ≡ zero * m = omega arith in
-    subst (λ k. IsFormat place Any k (list_at item zero)) size (done_format place Any none tt)
-list_format place m item items (suc n) =
-    let format = then_format (items place) (λ x any. then_format (list_format (place + m) m item items n) (λ xs any. done_format (place + m + n * m) Any (x ∷ xs) tt)) in
+    subst (λ k. IsFormat offset Any k (list_at item zero)) size (done_format offset Any none tt)
+list_format offset m item items (suc n) =
+    let format = then_format (items offset) (λ x any. then_format (list_format (offset + m) m item items n) (λ xs any. done_format (offset + m + n * m) Any (x ∷ xs) tt)) in
     let size : m + (n * m + 0) ≡ suc n * m = omega arith in
-    subst (λ k. IsFormat place Any k (list_at item (suc n))) size format
+    subst (λ k. IsFormat offset Any k (list_at item (suc n))) size format
 
 -- ---- frames
 

@@ -189,7 +189,7 @@ stage_fields_back : (attempt : Attempt) (plan : StagePlan) (stage chunks checkpo
     → IsOneOf (any_if (nat_le 2 stage) most8) position → planned stage chunks checkpoint lsn position spaces ≡ plan
     → IsBack (stage_at (length spaces)) (attempt_bytes attempt ++ big_bytes 1 stage ++ big_bytes 4 chunks ++ big_bytes 8 checkpoint ++ big_bytes 8 lsn ++ big_bytes 8 position ++ big_bytes 2 (length spaces) ++ flat_map space_bytes spaces) (Stage attempt plan)
 unfolding stage_at
-stage_fields_back attempt plan stage chunks checkpoint lsn position spaces is_attempt are_spaces few one some start end place made =
+stage_fields_back attempt plan stage chunks checkpoint lsn position spaces is_attempt are_spaces few one some start end from made =
     let frame = Stage attempt plan in
     let n = length spaces in
     let written =
@@ -197,7 +197,7 @@ stage_fields_back attempt plan stage chunks checkpoint lsn position spaces is_at
     (λ s es. then_back (chosen_back 18 4 (any_if (not (s == 4)) 0xFFFFFFFF) chunks (any_choice 4 (not (s == 4)) 0xFFFFFFFF (omega arith) (omega arith)) (subst (λ k. IsOneOf (any_if (not (k == 4)) 0xFFFFFFFF) chunks) (sym es) some))
     (λ c ec. then_back (chosen_back 22 8 (any_if (nat_le 3 s) most8) checkpoint (any_choice 8 (nat_le 3 s) most8 (omega arith) (omega arith)) (subst (λ k. IsOneOf (any_if (nat_le 3 k) most8) checkpoint) (sym es) start))
     (λ p ep. then_back (chosen_back 30 8 (any_if (nat_le 3 s) most8) lsn (any_choice 8 (nat_le 3 s) most8 (omega arith) (omega arith)) (subst (λ k. IsOneOf (any_if (nat_le 3 k) most8) lsn) (sym es) end))
-    (λ l el. then_back (chosen_back 38 8 (any_if (nat_le 2 s) most8) position (any_choice 8 (nat_le 2 s) most8 (omega arith) (omega arith)) (subst (λ k. IsOneOf (any_if (nat_le 2 k) most8) position) (sym es) place))
+    (λ l el. then_back (chosen_back 38 8 (any_if (nat_le 2 s) most8) position (any_choice 8 (nat_le 2 s) most8 (omega arith) (omega arith)) (subst (λ k. IsOneOf (any_if (nat_le 2 k) most8) position) (sym es) from))
     (λ q eq. then_back (chosen_back 46 2 (only n) n (range_choice 2 n n (omega arith) (omega arith) (omega arith)) (in_range n n n (omega arith) (omega arith)))
     (λ count ek. then_back (list_back space_at space_bytes IsSpace space_back spaces are_spaces)
     (λ xs ex. done_back (Stage a (planned s c p l q xs)) frame (rw (ea, es, ec, ep, el, eq, ex, made) refl))))))))) in

@@ -98,7 +98,7 @@ one_answer side bytes (Err (NotYet m)) (Err (NotYet n)) fit a b = inl (ap (λ k.
 one_answer side bytes (Err (NotYet m)) (Err (Garbled n)) fit a b = absurd (let wrong = err_is (needs_short side bytes m fit a.0 a.1) b.1.stops in cc)
 one_answer side bytes (Err (Garbled m)) (Ok q) fit a b = absurd (not_both (found_is side bytes q.0 q.1 fit b.0) a.1.stops)
 one_answer side bytes (Err (Garbled m)) (Err (NotYet n)) fit a b = absurd (let wrong = err_is (needs_short side bytes n fit b.0 b.1) a.1.stops in cc)
-one_answer side bytes (Err (Garbled m)) (Err (Garbled n)) fit a b = inl (let same = err_is a.1.stops b.1.stops in let places : m ≡ n = cc in ap (λ k. Err (Garbled k)) places)
+one_answer side bytes (Err (Garbled m)) (Err (Garbled n)) fit a b = inl (let same = err_is a.1.stops b.1.stops in let offsets : m ≡ n = cc in ap (λ k. Err (Garbled k)) offsets)
 one_answer side bytes (Err NoMemory) b fit p q = inr (inl refl)
 one_answer side bytes (Ok p) (Err NoMemory) fit a b = inr (inr refl)
 one_answer side bytes (Err (NotYet m)) (Err NoMemory) fit a b = inr (inr refl)

@@ -41,8 +41,8 @@ Needs side bytes need =
     ((5 ≤ length bytes) × IsFront side bytes need)
     ⊎ ((length bytes < 5) × (need ≡ 5) × ((long : ℕ) × IsFront side bytes long))
 
--- The fields up to this place are whole and those of a frame, and the bytes of the next field begin
--- nothing that a frame has there.
+-- The fields up to this offset are whole and those of a frame, and the bytes of the next field
+-- begin nothing that a frame has there.
 pub record StopsAt (side : Side) (bytes : List ℕ) (at : ℕ) : Type 0 where
   pub within : at < length bytes
   pub before : (long : ℕ) × IsFront side (take at bytes) long

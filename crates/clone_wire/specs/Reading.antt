@@ -59,12 +59,12 @@ begins_one width numbers front =
     (big_number width (front ++ replicate width 0))
     (big_number width (front ++ replicate width 255))
 
--- a number of so many bytes that is one of these; the field begins at this place
+-- a number of so many bytes that is one of these; the field begins at this offset
 unfoldable pub number_in : ℕ → ℕ → Numbers → List ℕ → Result (ℕ × List ℕ) Fault
 number_in at width numbers bytes =
     if begins_one width numbers (take width bytes) then number_at width bytes else Err (Garbled at)
 
--- a bitmap for so many chunks, which has so many bytes and begins at this place
+-- a bitmap for so many chunks, which has so many bytes and begins at this offset
 abbrev pub bitmap_at : ℕ → ℕ → ℕ → List ℕ → Result (Bits × List ℕ) Fault
 bitmap_at at count n bytes =
     bytes_at n bytes >>= λ bits.

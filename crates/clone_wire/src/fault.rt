@@ -10,7 +10,7 @@ pub enum WireRefusal {
     /// where fewer than 5 are there.
     NotYet { need: usize },
     /// No further bytes would. The first field whose bytes begin nothing that a frame has there
-    /// begins at this place.
+    /// begins at this offset.
     Garbled { at: usize },
     /// There was no memory.
     NoMemory,
@@ -21,8 +21,8 @@ pub enum WireRefusal {
 pub enum HeadRefusal {
     /// Further bytes would make a code and a length, which have so many bytes.
     NotYet { need: usize },
-    /// No further bytes would. The code, or the length, begins at this place and is none that there
-    /// is.
+    /// No further bytes would. The code, or the length, begins at this offset and is none that
+    /// there is.
     Garbled { at: usize },
 }
 

@@ -86,16 +86,16 @@ fn filled(front: &[u8], width: usize, filler: u8) -> u64
     ensures { result ≡ big_number width (front.now ++ replicate width filler) }
 {
     let mut number: u64 = 0;
-    for place in 0..width {
-        number = number * 256 + byte_or(front, place, filler) as u64;
+    for offset in 0..width {
+        number = number * 256 + byte_or(front, offset, filler) as u64;
     }
     number
 }
 
-fn byte_or(bytes: &[u8], place: usize, filler: u8) -> u8
-    ensures { result ≡ slice_index_or bytes.now place filler }
+fn byte_or(bytes: &[u8], offset: usize, filler: u8) -> u8
+    ensures { result ≡ slice_index_or bytes.now offset filler }
 {
-    match bytes.get(place) {
+    match bytes.get(offset) {
         Some(byte) => *byte,
         None => filler,
     }

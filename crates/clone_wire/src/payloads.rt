@@ -27,7 +27,7 @@ use clone_bytes::Reader;
 use clone_page::Page;
 use std::alloc::Global;
 
-// Each function reads a payload, which begins at place 5 of its frame.
+// Each function reads a payload, which begins at offset 5 of its frame.
 
 #[tactic(auto, unfolding(crate::specs::Reading::init_at))]
 pub(crate) fn init_of(reader: &mut Reader) -> Result<Frame, Fault>

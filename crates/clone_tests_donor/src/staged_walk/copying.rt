@@ -26,14 +26,14 @@ const TRIES: u32 = 100;
 // More calls than it takes until a block is archived.
 const STEPS: u64 = 1_000;
 
-/// Where in a clone a block is.
+/// A stage that is copied.
 #[derive(Clone, Copy)]
-pub struct Place {
-    /// Who asks for it.
+pub struct StageCopy {
+    /// Who asks for its blocks.
     pub caller: Caller,
-    /// The number of the stage.
+    /// Its number.
     pub stage: u8,
-    /// How many chunks the stage has.
+    /// How many chunks it has.
     pub chunks: u32,
     /// Where the redo begins.
     pub checkpoint: u64,
@@ -60,19 +60,19 @@ pub fn copy_stage(
     rt: &impl Abort,
     donor: &mut Donor<MemDisk>,
     walk: &mut Walk,
-    place: Place,
+    copy: StageCopy,
     requester: Requester,
 ) -> Result<Requester, Fail> {
     let mut requester = requester;
     for _ in 0..CHUNKS {
         walk.count_call();
-        let claimed = donor.claim(place.caller, place.stage);
+        let claimed = donor.claim(copy.caller, copy.stage);
         let Some(chunk) = claimed.ok().ok_or("no claim")? else {
             return Ok(requester);
         };
-        assert!(rt; chunk < place.chunks);
-        refuse_others(rt, donor, walk, place, chunk)?;
-        requester = copy_chunk(rt, donor, walk, place, chunk, requester)?;
+        assert!(rt; chunk < copy.chunks);
+        refuse_others(rt, donor, walk, copy, chunk)?;
+        requester = copy_chunk(rt, donor, walk, copy, chunk, requester)?;
     }
     Err(Fail::from("too many chunks"))
 }
@@ -83,7 +83,7 @@ fn refuse_others(
     rt: &impl Abort,
     donor: &mut Donor<MemDisk>,
     walk: &mut Walk,
-    place: Place,
+    copy: StageCopy,
     chunk: u32,
 ) -> Result<(), Fail> {
     let behind = chunk.saturating_add(1);
@@ -91,16 +91,16 @@ fn refuse_others(
         (chunk, BLOCKS),
         (chunk, u8::MAX),
         (behind, 0),
-        (place.chunks, 0),
+        (copy.chunks, 0),
         (chunk.checked_sub(1).unwrap_or(behind), 0),
     ];
     let mut block = Block::Pages(Vec::new(walk.alloc()));
     for at in others {
-        let read = ask(donor, walk, place, at, &mut block);
+        let read = ask(donor, walk, copy, at, &mut block);
         let refused = CloneRefusal::Because(CloneCause::NotClaimed);
         assert!(rt; read == Err(BlockRefusal::Clone(refused)));
     }
-    if behind < place.chunks {
+    if behind < copy.chunks {
         count(&mut walk.counts.unclaimed);
     }
     Ok(())
@@ -111,20 +111,20 @@ fn copy_chunk(
     rt: &impl Abort,
     donor: &mut Donor<MemDisk>,
     walk: &mut Walk,
-    place: Place,
+    copy: StageCopy,
     chunk: u32,
     requester: Requester,
 ) -> Result<Requester, Fail> {
     let mut requester = requester;
     for number in 0..BLOCKS {
         let at = (chunk, number);
-        let (laid, last) = copy_block(rt, donor, walk, place, at, requester)?;
+        let (laid, last) = copy_block(rt, donor, walk, copy, at, requester)?;
         requester = laid;
         if last {
             return Ok(requester);
         }
         if walk.draw(8) == 0 {
-            let (laid, _) = copy_block(rt, donor, walk, place, at, requester)?;
+            let (laid, _) = copy_block(rt, donor, walk, copy, at, requester)?;
             requester = laid;
         }
     }
@@ -136,16 +136,16 @@ fn copy_block(
     rt: &impl Abort,
     donor: &mut Donor<MemDisk>,
     walk: &mut Walk,
-    place: Place,
+    copy: StageCopy,
     at: (u32, u8),
     requester: Requester,
 ) -> Result<(Requester, bool), Fail> {
     go_on(rt, donor, walk)?;
     walk.count_block();
     let mut block = Block::Pages(Vec::new(walk.alloc()));
-    let last = read(rt, donor, walk, place, at, &mut block)?;
+    let last = read(rt, donor, walk, copy, at, &mut block)?;
     count_torn(walk, &block);
-    Ok((requester.lay(place.checkpoint, &block)?, last))
+    Ok((requester.lay(copy.checkpoint, &block)?, last))
 }
 
 // Asks for a block until it comes: its redo is archived first, and where the disk failed it is read
@@ -154,12 +154,12 @@ fn read(
     rt: &impl Abort,
     donor: &mut Donor<MemDisk>,
     walk: &mut Walk,
-    place: Place,
+    copy: StageCopy,
     at: (u32, u8),
     block: &mut Block,
 ) -> Result<bool, Fail> {
     for _ in 0..TRIES {
-        match ask(donor, walk, place, at, block) {
+        match ask(donor, walk, copy, at, block) {
             Ok(last) => return Ok(last),
             Err(BlockRefusal::Clone(CloneRefusal::Because(cause))) => {
                 catch_up(rt, donor, walk, cause)?;
@@ -178,20 +178,13 @@ fn read(
 fn ask(
     donor: &mut Donor<MemDisk>,
     walk: &mut Walk,
-    place: Place,
+    copy: StageCopy,
     at: (u32, u8),
     block: &mut Block,
 ) -> Result<bool, BlockRefusal> {
     let (chunk, number) = at;
     walk.count_call();
-    donor.read_block(
-        walk.alloc(),
-        place.caller,
-        place.stage,
-        chunk,
-        number,
-        block,
-    )
+    donor.read_block(walk.alloc(), copy.caller, copy.stage, chunk, number, block)
 }
 
 // Archives up to the end of a block that was refused because it isn't archived.

@@ -90,7 +90,7 @@ impl Requester {
             mut sizes,
         } = self;
         if !is_behind(checkpoint, from, bytes.len() as u64) {
-            return Err(Fail::from("redo at no place"));
+            return Err(Fail::from("redo at no offset"));
         }
         lay_redo(&mut disk, &mut sizes, checkpoint, from, bytes)?;
         Ok(Requester { disk, sizes })

@@ -1,6 +1,6 @@
 //! A clone of a walk from its session to its end, and the rows that it has.
 
-use crate::staged_walk::copying::{Place, copy_stage, go_far, go_on};
+use crate::staged_walk::copying::{StageCopy, copy_stage, go_far, go_on};
 use crate::staged_walk::counts::count;
 use crate::staged_walk::requester::Requester;
 use crate::staged_walk::walk::Walk;
@@ -60,13 +60,13 @@ fn copy_files(
     assert!(rt; walk.files().are(info.spaces.as_slice()));
     walk.enter(1);
     let requester = Requester::begin(walk.alloc(), &info)?;
-    let place = Place {
+    let copy = StageCopy {
         caller,
         stage: 1,
         chunks: info.chunks,
         checkpoint: 0,
     };
-    copy_stage(rt, donor, walk, place, requester)
+    copy_stage(rt, donor, walk, copy, requester)
 }
 
 // The pages are copied that were written meanwhile.
@@ -85,13 +85,13 @@ fn copy_pages(
     walk.kept().start();
     walk.enter(2);
     go_far(rt, donor, walk)?;
-    let place = Place {
+    let copy = StageCopy {
         caller,
         stage: 2,
         chunks: info.chunks,
         checkpoint: 0,
     };
-    let requester = copy_stage(rt, donor, walk, place, requester)?;
+    let requester = copy_stage(rt, donor, walk, copy, requester)?;
     go_on(rt, donor, walk)?;
     Ok(requester)
 }
@@ -131,7 +131,7 @@ fn copy_redo(
     info: &StageInfo,
     requester: Requester,
 ) -> Result<Requester, Fail> {
-    let place = Place {
+    let copy = StageCopy {
         caller: Caller {
             session: info.session,
             incarnation: info.incarnation,
@@ -141,9 +141,9 @@ fn copy_redo(
         chunks: info.chunks,
         checkpoint: info.checkpoint,
     };
-    let requester = copy_stage(rt, donor, walk, place, requester)?;
+    let requester = copy_stage(rt, donor, walk, copy, requester)?;
     walk.count_call();
-    let acked = donor.ack(walk.alloc(), place.caller, 3, 0);
+    let acked = donor.ack(walk.alloc(), copy.caller, 3, 0);
     let done = acked.ok().ok_or("not done")?;
     assert!(rt; done.stage == Stage::Done);
     assert_eq!(rt;

@@ -69,7 +69,7 @@ impl Beside {
     /// Reads what a call wrote to the log from there on, whose records change their pages.
     pub fn read_log(&mut self, redo: &[u8], start: u64) -> Result<Written, Fail> {
         let from = start.saturating_sub(FIRST_LSN) as usize;
-        let mut rest = redo.get(from..).ok_or("no such place in the log")?;
+        let mut rest = redo.get(from..).ok_or("no such offset in the log")?;
         let mut lsn = start;
         let mut written = Written::nothing();
         for _ in 0..2 {
@@ -144,7 +144,7 @@ impl Beside {
     }
 
     // A chain gets a page where the log says so. Where the disk doesn't tell what was written, any
-    // chain may have no place.
+    // chain may have no slot.
     fn grow(&mut self, rt: &impl Abort, call: Call, written: Written, is_done: bool) {
         let may_need = self.plain.check(call).is_ok() && changes_row(call);
         let needs_page = if self.is_told {
@@ -298,7 +298,7 @@ fn takes_checkpoints(call: u64) -> bool {
     call % 2_000 >= 1_500
 }
 
-// Whether the call gives a row a place where it has none.
+// Whether the call gives a row a slot where it has none.
 fn changes_row(call: Call) -> bool {
     matches!(call, Call::Put(_, _, _, _) | Call::Delete(_, _, _))
 }

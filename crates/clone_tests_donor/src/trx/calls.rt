@@ -86,7 +86,7 @@ const CASES: [Case; 12] = [
     Case {
         first: &TWO_TRANSACTIONS,
         often: (50, Often::PutsOthers),
-        last: &AFTER_THE_LAST_PLACE,
+        last: &AFTER_THE_LAST_SLOT,
         // three changes begin a page, of undo records or of a bucket
         log: Log::Ends(21 + 39 + 2 * 41 + 3 * 229 + 49 * 218, &NEXT_OF_CHAIN),
     },
@@ -219,11 +219,11 @@ const TWO_TRANSACTIONS: [Step; 3] = [
     (Call::Begin(0, 1), "trx 1"),
 ];
 
-// Key 99 has the last place of its bucket.
-const AFTER_THE_LAST_PLACE: [Step; 7] = [
+// Key 99 has the last slot of its bucket.
+const AFTER_THE_LAST_SLOT: [Step; 7] = [
     (Call::Get(0, 1, 101), "none"),
     (Call::Put(1, 1, 99, b"hi"), "refused E4 0"),
-    // a key that has a place, and the other bucket
+    // a key that has a slot, and the other bucket
     (Call::Put(0, 1, 99, b"ho"), "ok"),
     (Call::Put(0, 1, 100, b"ho"), "ok"),
     (Call::Get(0, 1, 99), "value 686f"),
@@ -231,7 +231,7 @@ const AFTER_THE_LAST_PLACE: [Step; 7] = [
     (Call::Put(0, 1, 101, b"hi"), "ok"),
 ];
 
-// Key 105 has the third place of the page behind its bucket.
+// Key 105 has the third slot of the page behind its bucket.
 const ON_THE_NEXT_PAGE: [Step; 11] = [
     (Call::Get(0, 1, 105), "value 6869"),
     (Call::Get(0, 1, 1), "value 6869"),

@@ -12,7 +12,7 @@ const MANY_TABLES: u64 = 7_000;
 
 /// A row that a transaction names.
 #[derive(Clone, Copy, Drop)]
-struct Row {
+struct DrawnRow {
     trx: u32,
     table: u32,
     key: u64,
@@ -40,7 +40,7 @@ pub fn drawn_bytes(words: &mut Pcg32) -> [u8; LONGEST] {
 /// The next call of a donor, by its number. A value is a front of these bytes, with one byte
 /// more at most than a row may have.
 pub fn drawn_call<'a>(words: &mut Pcg32, call: u64, bytes: &'a [u8; LONGEST]) -> Call<'a> {
-    let Row { trx, table, key } = drawn_row(words, call);
+    let DrawnRow { trx, table, key } = drawn_row(words, call);
     match drawn_kind(words, call) {
         0 => drawn_table(words, call),
         1 | 2 => Call::Begin(below(words, 8), call),
@@ -61,12 +61,12 @@ fn is_busy(call: u64) -> bool {
     call / 2000 % 2 == 1
 }
 
-fn drawn_row(words: &mut Pcg32, call: u64) -> Row {
+fn drawn_row(words: &mut Pcg32, call: u64) -> DrawnRow {
     let mut trx = below(words, 66);
     if is_busy(call) && below(words, 8) > 0 {
         trx = 0;
     }
-    Row {
+    DrawnRow {
         trx,
         // three of these four are there at first
         table: 1 + below(words, 4),

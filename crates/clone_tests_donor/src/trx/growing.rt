@@ -1,4 +1,4 @@
-//! A put that needs a page behind the last one of its chain. It is refused at each of its places
+//! A put that needs a page behind the last one of its chain. It is refused at each of its steps
 //! and made again, and the page is made once.
 ghost use Rattle.clone_model.specs.Config.{IsConfig};
 
@@ -17,8 +17,8 @@ use std::test::Fail;
 // What a put takes of the log that makes a page and finds all others in use.
 const WHOLE: u64 = GROWTH + 218;
 
-// So many keys have a place on a page.
-const PLACES: u64 = 50;
+// So many keys have a slot on a page.
+const SLOTS: u64 = 50;
 
 /// What stands against a put.
 #[derive(Clone, Copy)]
@@ -79,7 +79,7 @@ const CASES: [(u32, Against, Refused); 9] = [
     (41, Against::Fault(4), FAULT_BEHIND),
 ];
 
-// Puts the key for which the chain has no place, and takes so many bytes of the log.
+// Puts the key for which the chain has no slot, and takes so many bytes of the log.
 fn expect_put(
     rt: &impl Abort,
     alloc: Global,
@@ -88,7 +88,7 @@ fn expect_put(
     written: u64,
 ) -> Result<(), Fail> {
     let start = donor.end();
-    let answer = donor.ask(alloc, Call::Put(0, 1, PLACES, b"hi"))?;
+    let answer = donor.ask(alloc, Call::Put(0, 1, SLOTS, b"hi"))?;
     expect_text(rt, alloc, answer, text)?;
     assert_eq!(rt; donor.end().saturating_sub(start), written);
     Ok(())
@@ -124,7 +124,7 @@ fn put_again(
     Ok(())
 }
 
-// Table 1 has one bucket, each of whose places has a key, and no page is dirty. Transaction 0 has
+// Table 1 has one bucket, each of whose slots has a key, and no page is dirty. Transaction 0 has
 // made so many changes, and transaction 1 none.
 fn fill(
     rt: &impl Abort,
@@ -135,7 +135,7 @@ fn fill(
     expect_answer(rt, alloc, donor, Call::Create(1, 1), Answer::Created)?;
     expect_answer(rt, alloc, donor, Call::Create(2, 32), Answer::Created)?;
     expect_answer(rt, alloc, donor, Call::Begin(0, 0), Answer::Begun(0))?;
-    put_keys(rt, alloc, donor, (0, 1), PLACES)?;
+    put_keys(rt, alloc, donor, (0, 1), SLOTS)?;
     expect_answer(rt, alloc, donor, Call::Commit(0), Answer::Committed(1))?;
     expect_answer(rt, alloc, donor, Call::Begin(0, 1), Answer::Begun(0))?;
     put_again(rt, alloc, donor, changes)?;
@@ -182,9 +182,9 @@ fn try_put(
 
 // The key has its value, and no other does behind it.
 fn expect_row(rt: &impl Abort, alloc: Global, donor: &mut Logged<MemDisk>) -> Result<(), Fail> {
-    let shown = donor.ask(alloc, Call::Get(0, 1, PLACES))?;
+    let shown = donor.ask(alloc, Call::Get(0, 1, SLOTS))?;
     expect_text(rt, alloc, shown, "value 6869")?;
-    let behind = donor.ask(alloc, Call::Get(0, 1, PLACES.saturating_add(1)))?;
+    let behind = donor.ask(alloc, Call::Get(0, 1, SLOTS.saturating_add(1)))?;
     Ok(expect_text(rt, alloc, behind, "none")?)
 }
 
@@ -224,11 +224,11 @@ const ROOM: Config = Config {
     ring: 65_899,
 };
 
-// Fills the places of the chain and the log.
+// Fills the slots of the chain and the log.
 fn fill_log(rt: &impl Abort, alloc: Global, donor: &mut Logged<MemDisk>) -> Result<(), Fail> {
     expect_answer(rt, alloc, donor, Call::Create(1, 1), Answer::Created)?;
     expect_answer(rt, alloc, donor, Call::Begin(0, 0), Answer::Begun(0))?;
-    put_keys(rt, alloc, donor, (0, 1), PLACES)?;
+    put_keys(rt, alloc, donor, (0, 1), SLOTS)?;
     put_again(rt, alloc, donor, 110)?;
     expect_answer(rt, alloc, donor, Call::Commit(0), Answer::Committed(1))?;
     expect_answer(rt, alloc, donor, Call::Begin(0, 1), Answer::Begun(0))?;

@@ -9,7 +9,7 @@ use clone_plain::{
 use std::alloc::{AllocError, Global};
 use std::collections::BTreeMap;
 
-/// A donor without pages and without a log: the keys that have a place on each chain of each table,
+/// A donor without pages and without a log: the keys that have a slot on each chain of each table,
 /// the open transactions, the locks, the commits, and the rows that these and the drops leave. Each
 /// of its calls answers as the plain donor does.
 #[derive(Drop)]
@@ -76,7 +76,7 @@ impl Plain {
         }
     }
 
-    /// Whether a call gives a row its first place, and there is none on the row's chain.
+    /// Whether a call gives a row its first slot, and there is none on the row's chain.
     pub fn needs_page(&self, call: Call) -> bool {
         let Some((table, key)) = row_of(call) else {
             return false;
@@ -255,11 +255,11 @@ impl Plain {
         Ok(())
     }
 
-    // Makes a change, whose row has a place from then on and is locked.
+    // Makes a change, whose row has a slot from then on and is locked.
     fn change(&mut self, trx: u32, change: Change) -> Result<(), AllocError> {
         let (table, key) = (change.table, change.key);
         if let Some(chains) = self.tables.get_mut(&table) {
-            chains.place(key)?;
+            chains.bind(key)?;
         }
         self.locks.insert((table, key), trx)?;
         if let Some(commit) = self.active.get_mut(&trx) {

@@ -16,7 +16,7 @@ use std::test::Fail;
 const CALLS: u64 = 10_000;
 
 // All refusals but those of 160 changes and of a full log: on most pages of any bytes a row has no
-// place, so that few changes are made.
+// slot, so that few changes are made.
 const REFUSALS: [usize; 14] = [0, 1, 2, 3, 4, 5, 7, 9, 10, 11, 14, 15, 16, 17];
 
 /// A disk that doesn't tell what it holds: a read gives any bytes, and some calls fail.

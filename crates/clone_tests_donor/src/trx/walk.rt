@@ -33,7 +33,7 @@ impl Followed {
     }
 
     // Makes a call of both, whose answers are equal. A refusal is noted. A page is made exactly
-    // where the chain has no place.
+    // where the chain has no slot.
     fn compare(
         &mut self,
         rt: &impl Abort,

@@ -18,14 +18,14 @@ ghost use Rattle.clone_plain.specs.declared.refusal.Cause.TheVariants.{DiskFault
 ghost use Rattle.clone_plain.specs.declared.refusal.EngineRefusal.TheVariants.{Because};
 ghost use Rattle.clone_trx.specs.Calls.{change_at, change_way, is_new, row_page, system_page, told_way};
 ghost use Rattle.clone_trx.specs.Ways.{Answers, Carries, Goes, PinsAtMost, StaysStanding, Writes, page_in, reads, writes};
-ghost use Rattle.clone_trx.specs.Kept.{IsHeld, IsPlaceFor, IsSpot, Keeps, KeptBetween, MayChange};
+ghost use Rattle.clone_trx.specs.Kept.{IsHeld, IsSpot, IsTargetFor, Keeps, KeptBetween, MayChange};
 ghost use Rattle.clone_trx.specs.Sound.{IsKept};
-ghost use Rattle.clone_trx.specs.Places.{page_number};
+ghost use Rattle.clone_trx.specs.RowSlots.{page_number};
 ghost use Rattle.clone_row.specs.Slots as rows;
 
 use crate::Transactions;
 use crate::hold::{check_room, first_record, hold, records_from, release, write_held};
-use crate::place::before_on;
+use crate::slot::before_on;
 use crate::walk::{Course, Spot, walk};
 use clone_buffer::Buffer;
 use clone_model::{Change, Value};
@@ -37,7 +37,7 @@ use clone_undo::{UndoRecord, change_records, first_change_records, header_page, 
 
 // Where a change of a row goes.
 #[derive(Drop)]
-pub(crate) struct Place {
+pub(crate) struct ChangeTarget {
     // the row's slot, and what it holds
     pub(crate) entry: UndoRecord,
     // whether the page of the row is new
@@ -216,12 +216,12 @@ impl Transactions {
         let count = self.count_of(trx);
         let page = buffer.frame(spot.at);
         let before = before_on(page, slot);
-        let place = Place {
+        let target = ChangeTarget {
             entry: UndoRecord::new(change.table, spot.page, slot, change.key, before),
             is_new: page.kind() == 0,
             count,
         };
-        self.change_placed(buffer, trx, change, &place, disk)
+        self.change_at_target(buffer, trx, change, &target, disk)
     }
 
     // How many changes an open transaction has made.
@@ -236,22 +236,22 @@ impl Transactions {
         commit.changes.len() as u16
     }
 
-    // Makes a change at its place, with the row's page held.
-    pub(crate) fn change_placed<D: PageDisk>(
+    // Makes a change at its target, with the row's page held.
+    pub(crate) fn change_at_target<D: PageDisk>(
         &mut self,
         buffer: &mut Buffer,
         trx: u32,
         change: Change,
-        place: &Place,
+        target: &ChangeTarget,
         disk: &mut D,
     ) -> Result<(), EngineRefusal>
         requires cause { MayChange self.old trx change }
-        requires place { IsPlaceFor self.old trx change buffer.old place.now.entry
-            place.now.is_new place.now.count }
+        requires target { IsTargetFor self.old trx change buffer.old target.now.entry
+            target.now.is_new target.now.count }
         requires kept { IsTrue buffer.old.right → IsKept self.old (image_of buffer.old) }
-        requires row { IsHeld (row_page place.now.entry) buffer.old.pool.frames }
+        requires row { IsHeld (row_page target.now.entry) buffer.old.pool.frames }
         requires pins { PinsAtMost 3 buffer.old.pool.frames }
-        ensures way { Goes (told_way trx change place.now.count place.now.is_new place.now.entry)
+        ensures way { Goes (told_way trx change target.now.count target.now.is_new target.now.entry)
             buffer.old buffer.new result }
         ensures donor { Carries self.old self.new result
             (λ _. Changes self.old trx change self.new) }
@@ -265,30 +265,30 @@ impl Transactions {
     {
         self.laws();
         let header = hold(buffer, disk, 0, header_page(trx))?;
-        let changed = self.change_in(buffer, trx, change, place, disk);
+        let changed = self.change_in(buffer, trx, change, target, disk);
         release(buffer, header);
         changed
     }
 
-    // Makes a change at its place, with the row's page and the first page of the undo slot held.
+    // Makes a change at its target, with the row's page and the first page of the undo slot held.
     fn change_in<D: PageDisk>(
         &mut self,
         buffer: &mut Buffer,
         trx: u32,
         change: Change,
-        place: &Place,
+        target: &ChangeTarget,
         disk: &mut D,
     ) -> Result<(), EngineRefusal>
         requires cause { MayChange self.old trx change }
-        requires place { IsPlaceFor self.old trx change buffer.old place.now.entry
-            place.now.is_new place.now.count }
+        requires target { IsTargetFor self.old trx change buffer.old target.now.entry
+            target.now.is_new target.now.count }
         requires kept { IsTrue buffer.old.right → IsKept self.old (image_of buffer.old) }
-        requires row { IsHeld (row_page place.now.entry) buffer.old.pool.frames }
+        requires row { IsHeld (row_page target.now.entry) buffer.old.pool.frames }
         requires header { IsHeld (system_page (header_page trx)) buffer.old.pool.frames }
         requires pins { PinsAtMost 4 buffer.old.pool.frames }
-        ensures way { Goes (reads (system_page (record_page trx place.now.count))
-            (λ page. writes (records_of_change (is_new page) place.now.is_new trx place.now.count
-            place.now.entry (rows.image change.key change.value)))) buffer.old buffer.new result }
+        ensures way { Goes (reads (system_page (record_page trx target.now.count))
+            (λ page. writes (records_of_change (is_new page) target.now.is_new trx target.now.count
+            target.now.entry (rows.image change.key change.value)))) buffer.old buffer.new result }
         ensures donor { Carries self.old self.new result
             (λ _. Changes self.old trx change self.new) }
         ensures kept { IsTrue buffer.new.right → IsKept self.new (image_of buffer.new) }
@@ -300,9 +300,9 @@ impl Transactions {
         ensures stands { StaysStanding buffer.old buffer.new (D.told disk.old) (D.told disk.new) }
     {
         self.laws();
-        let at = hold(buffer, disk, 0, record_page(trx, place.count as usize))?;
+        let at = hold(buffer, disk, 0, record_page(trx, target.count as usize))?;
         let first = first_record(buffer.frame(at));
-        let changed = self.change_held(buffer, trx, change, place, first);
+        let changed = self.change_held(buffer, trx, change, target, first);
         release(buffer, at);
         changed
     }
@@ -314,22 +314,22 @@ impl Transactions {
         buffer: &mut Buffer,
         trx: u32,
         change: Change,
-        place: &Place,
+        target: &ChangeTarget,
         first: usize,
     ) -> Result<(), EngineRefusal>
         requires cause { MayChange self.old trx change }
-        requires place { IsPlaceFor self.old trx change buffer.old place.now.entry
-            place.now.is_new place.now.count }
+        requires target { IsTargetFor self.old trx change buffer.old target.now.entry
+            target.now.is_new target.now.count }
         requires first { first ≤ 1 }
         requires new { IsTrue buffer.old.right → (first == 0)
-            ≡ is_unused (image_of buffer.old) 0 (record_page trx place.now.count) }
+            ≡ is_unused (image_of buffer.old) 0 (record_page trx target.now.count) }
         requires kept { IsTrue buffer.old.right → IsKept self.old (image_of buffer.old) }
-        requires row { IsHeld (row_page place.now.entry) buffer.old.pool.frames }
+        requires row { IsHeld (row_page target.now.entry) buffer.old.pool.frames }
         requires header { IsHeld (system_page (header_page trx)) buffer.old.pool.frames }
-        requires undo { IsHeld (system_page (record_page trx place.now.count))
+        requires undo { IsHeld (system_page (record_page trx target.now.count))
             buffer.old.pool.frames }
-        ensures written { Writes (records_of_change (first == 0) place.now.is_new trx
-            place.now.count place.now.entry (rows.image change.key change.value)) buffer.old
+        ensures written { Writes (records_of_change (first == 0) target.now.is_new trx
+            target.now.count target.now.entry (rows.image change.key change.value)) buffer.old
             buffer.new result }
         ensures donor { Carries self.old self.new result
             (λ _. Changes self.old trx change self.new) }
@@ -338,12 +338,12 @@ impl Transactions {
     {
         self.laws();
         let image = slot_image(change.key, change.value.as_ref());
-        if place.is_new {
-            let records = first_change_records(trx, place.count, &place.entry, &image);
-            self.change_by(buffer, trx, change, place, &records, first)
+        if target.is_new {
+            let records = first_change_records(trx, target.count, &target.entry, &image);
+            self.change_by(buffer, trx, change, target, &records, first)
         } else {
-            let records = change_records(trx, place.count, &place.entry, &image);
-            self.change_by(buffer, trx, change, place, &records, first)
+            let records = change_records(trx, target.count, &target.entry, &image);
+            self.change_by(buffer, trx, change, target, &records, first)
         }
     }
 
@@ -354,26 +354,26 @@ impl Transactions {
         buffer: &mut Buffer,
         trx: u32,
         change: Change,
-        place: &Place,
+        target: &ChangeTarget,
         records: &[Record],
         first: usize,
     ) -> Result<(), EngineRefusal>
         requires cause { MayChange self.old trx change }
-        requires place { IsPlaceFor self.old trx change buffer.old place.now.entry
-            place.now.is_new place.now.count }
-        requires records { records.now ≡ records_of_change true place.now.is_new trx place.now.count
-            place.now.entry (rows.image change.key change.value) }
+        requires target { IsTargetFor self.old trx change buffer.old target.now.entry
+            target.now.is_new target.now.count }
+        requires records { records.now ≡ records_of_change true target.now.is_new trx
+            target.now.count target.now.entry (rows.image change.key change.value) }
         requires image { length (rows.image change.key change.value) ≡ 80 }
         requires first { first ≤ 1 }
         requires new { IsTrue buffer.old.right → (first == 0)
-            ≡ is_unused (image_of buffer.old) 0 (record_page trx place.now.count) }
+            ≡ is_unused (image_of buffer.old) 0 (record_page trx target.now.count) }
         requires kept { IsTrue buffer.old.right → IsKept self.old (image_of buffer.old) }
-        requires row { IsHeld (row_page place.now.entry) buffer.old.pool.frames }
+        requires row { IsHeld (row_page target.now.entry) buffer.old.pool.frames }
         requires header { IsHeld (system_page (header_page trx)) buffer.old.pool.frames }
-        requires undo { IsHeld (system_page (record_page trx place.now.count))
+        requires undo { IsHeld (system_page (record_page trx target.now.count))
             buffer.old.pool.frames }
-        ensures written { Writes (records_of_change (first == 0) place.now.is_new trx
-            place.now.count place.now.entry (rows.image change.key change.value)) buffer.old
+        ensures written { Writes (records_of_change (first == 0) target.now.is_new trx
+            target.now.count target.now.entry (rows.image change.key change.value)) buffer.old
             buffer.new result }
         ensures donor { Carries self.old self.new result
             (λ _. Changes self.old trx change self.new) }
@@ -381,7 +381,7 @@ impl Transactions {
         ensures stands { (told : Option DiskImage) → StaysStanding buffer.old buffer.new told told }
     {
         // an old value has at most 64 bytes, so the records fit one mini-transaction
-        place.entry.value();
+        target.entry.value();
         self.write_change(buffer, trx, change, records_from(records, first))
     }
 

@@ -8,7 +8,7 @@ ghost use Rattle.clone_plain.specs.Causes.{create_cause};
 ghost use Rattle.clone_plain.specs.Effects.{created};
 ghost use Rattle.clone_plain.specs.declared.refusal.Cause.TheVariants.{DiskFault};
 ghost use Rattle.clone_plain.specs.declared.refusal.EngineRefusal.TheVariants.{Because};
-ghost use Rattle.clone_trx.specs.Calls.{create_way, free_place, system_page};
+ghost use Rattle.clone_trx.specs.Calls.{create_way, number_of_free_entry, system_page};
 ghost use Rattle.clone_trx.specs.Ways.{Answers, Carries, Makes, StaysOutsideFiles, page_in};
 ghost use Rattle.clone_trx.specs.Kept.{Has, HasNoFresh, Keeps};
 ghost use Rattle.clone_trx.specs.Sound.{IsKept};
@@ -83,8 +83,8 @@ impl Transactions {
         requires held { Has (system_page 0) at buffer.old.pool.frames }
         requires fresh { HasNoFresh table buffer.old.pool.frames }
         ensures written { Makes
-            (records_of_create (free_place (page_in at buffer.old)) table buckets) buffer.old
-            buffer.new result }
+            (records_of_create (number_of_free_entry (page_in at buffer.old)) table buckets)
+            buffer.old buffer.new result }
         ensures donor { Carries self.old self.new result
             (λ _. self.new ≡ created table buckets self.old) }
         ensures kept { IsTrue buffer.new.right → IsKept self.new (image_of buffer.new) }
@@ -103,8 +103,8 @@ impl Transactions {
             (D.told disk.old) (D.told disk.new) }
     {
         buffer.laws();
-        let place = least_free(buffer.frame(at)).unwrap_or(0);
-        let records = create_records(place, table, buckets);
+        let entry_number = least_free(buffer.frame(at)).unwrap_or(0);
+        let records = create_records(entry_number, table, buckets);
         check_room(buffer, &records)?;
         self.tables.insert(table, buckets)?;
         if let Err(refusal) = disk.create(table, buckets) {

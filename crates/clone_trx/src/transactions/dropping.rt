@@ -57,9 +57,9 @@ impl Transactions {
         let at = hold(buffer, disk, 0, 0)?;
         buffer.laws();
         let page = buffer.frame(at);
-        let place = find(page, table).unwrap_or(0);
-        let pages = entry_at(page, place).pages;
-        let dropped = self.drop_held(buffer, table, place, pages, disk);
+        let entry_number = find(page, table).unwrap_or(0);
+        let pages = entry_at(page, entry_number).pages;
+        let dropped = self.drop_held(buffer, table, entry_number, pages, disk);
         release(buffer, at);
         dropped
     }
@@ -70,18 +70,18 @@ impl Transactions {
         &mut self,
         buffer: &mut Buffer,
         table: u32,
-        place: usize,
+        entry_number: usize,
         pages: u32,
         disk: &mut D,
     ) -> Result<(), EngineRefusal>
         requires cause { drop_cause self.old table ≡ None }
-        requires place { place < entry_count }
+        requires entry_number { entry_number < entry_count }
         requires tells { IsTrue buffer.old.right
-            → TellsPages (contents_of (image_of buffer.old)) table place pages }
+            → TellsPages (contents_of (image_of buffer.old)) table entry_number pages }
         requires kept { IsTrue buffer.old.right → IsKept self.old (image_of buffer.old) }
         requires held { IsHeld (system_page 0) buffer.old.pool.frames }
         requires unpinned { AreUnpinned table buffer.old.pool.frames }
-        ensures way { Goes (drop_at table place pages) buffer.old buffer.new result }
+        ensures way { Goes (drop_at table entry_number pages) buffer.old buffer.new result }
         ensures donor { CarriesDrop table self.old self.new buffer.old buffer.new result }
         ensures kept { IsTrue buffer.new.right → IsKept self.new (image_of buffer.new) }
         ensures fault { result ≡ Err (Because DiskFault)
@@ -98,7 +98,7 @@ impl Transactions {
         ensures stands { StaysOutside table buffer.old buffer.new
             (D.told disk.old) (D.told disk.new) }
     {
-        let records = drop_records(place, table);
+        let records = drop_records(entry_number, table);
         check_room(buffer, &records)?;
         self.drops.reserve(1)?;
         write_drop_held(buffer, table, pages.min(MOST_PAGES), &records);

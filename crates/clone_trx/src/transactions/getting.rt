@@ -10,7 +10,7 @@ ghost use Rattle.clone_trx.specs.Kept.{Keeps};
 
 use crate::Transactions;
 use crate::hold::release;
-use crate::place::value_on;
+use crate::slot::value_on;
 use crate::walk::{Course, walk};
 use clone_buffer::Buffer;
 use clone_model::Value;

@@ -6,14 +6,14 @@ ghost use Rattle.clone_buffer.specs.Buffered.{image_of};
 ghost use Rattle.clone_plain.specs.Effects.{Changes};
 ghost use Rattle.clone_plain.specs.declared.refusal.Cause.TheVariants.{DiskFault};
 ghost use Rattle.clone_plain.specs.declared.refusal.EngineRefusal.TheVariants.{Because};
-ghost use Rattle.clone_trx.specs.Calls.{entry_place, grown_way, longer_at, longer_way, pages_told, system_page};
+ghost use Rattle.clone_trx.specs.Calls.{grown_way, longer_at, longer_way, number_of_entry, pages_told, system_page};
 ghost use Rattle.clone_trx.specs.Ways.{Carries, Goes, PinsAtMost, StaysStanding, chain_page, page_in};
 ghost use Rattle.clone_trx.specs.Kept.{Has, IsFullAt, IsHeld, IsSpot, MayChange, TellsPages};
 ghost use Rattle.clone_trx.specs.Sound.{IsKept};
 
 use crate::Transactions;
 use crate::hold::{check_room, hold, hold_new, release, write_longer_held};
-use crate::transactions::change::Place;
+use crate::transactions::change::ChangeTarget;
 use crate::walk::Spot;
 use clone_buffer::Buffer;
 use clone_model::Change;
@@ -25,8 +25,8 @@ use clone_undo::{Before, UndoRecord};
 // How the space of a table gets one page more.
 #[derive(Clone, Copy)]
 struct Growth {
-    // the place of the table's entry in the dictionary, and what it tells
-    place: usize,
+    // the number of the table's entry in the dictionary, and what it tells
+    entry_number: usize,
     entry: TableEntry,
     // the page that the new one comes behind
     last: u32,
@@ -62,10 +62,10 @@ impl Transactions {
         let at = hold(buffer, disk, 0, 0)?;
         buffer.laws();
         let page = buffer.frame(at);
-        let place = find(page, change.table).unwrap_or(0);
+        let entry_number = find(page, change.table).unwrap_or(0);
         let growth = Growth {
-            place,
-            entry: entry_at(page, place),
+            entry_number,
+            entry: entry_at(page, entry_number),
             last: spot.page,
         };
         let changed = self.change_behind(buffer, trx, change, growth, disk);
@@ -83,9 +83,9 @@ impl Transactions {
         disk: &mut D,
     ) -> Result<(), EngineRefusal>
         requires cause { MayChange self.old trx change }
-        requires place { growth.place < entry_count }
+        requires entry_number { growth.entry_number < entry_count }
         requires tells { IsTrue buffer.old.right → TellsPages (contents_of (image_of buffer.old))
-            change.table growth.place growth.entry.pages }
+            change.table growth.entry_number growth.entry.pages }
         requires full { IsTrue buffer.old.right
             → IsFullAt self.old (image_of buffer.old) change.table growth.last change.key }
         requires kept { IsTrue buffer.old.right → IsKept self.old (image_of buffer.old) }
@@ -93,7 +93,7 @@ impl Transactions {
         requires last { IsHeld (record { space = change.table; number = growth.last })
             buffer.old.pool.frames }
         requires pins { PinsAtMost 2 buffer.old.pool.frames }
-        ensures way { Goes (longer_at self.old trx change growth.last growth.place
+        ensures way { Goes (longer_at self.old trx change growth.last growth.entry_number
             growth.entry.pages) buffer.old buffer.new result }
         ensures donor { Carries self.old self.new result
             (λ _. Changes self.old trx change self.new) }
@@ -121,9 +121,9 @@ impl Transactions {
         disk: &mut D,
     ) -> Result<(), EngineRefusal>
         requires cause { MayChange self.old trx change }
-        requires place { growth.place < entry_count }
+        requires entry_number { growth.entry_number < entry_count }
         requires tells { IsTrue buffer.old.right → TellsPages (contents_of (image_of buffer.old))
-            change.table growth.place growth.entry.pages }
+            change.table growth.entry_number growth.entry.pages }
         requires full { IsTrue buffer.old.right
             → IsFullAt self.old (image_of buffer.old) change.table growth.last change.key }
         requires kept { IsTrue buffer.old.right → IsKept self.old (image_of buffer.old) }
@@ -133,7 +133,7 @@ impl Transactions {
         requires new { IsHeld (record { space = change.table; number = growth.entry.pages })
             buffer.old.pool.frames }
         requires pins { PinsAtMost 3 buffer.old.pool.frames }
-        ensures way { Goes (grown_way self.old trx change growth.last growth.place
+        ensures way { Goes (grown_way self.old trx change growth.last growth.entry_number
             growth.entry.pages) buffer.old buffer.new result }
         ensures donor { Carries self.old self.new result
             (λ _. Changes self.old trx change self.new) }
@@ -150,14 +150,14 @@ impl Transactions {
             return Err(Cause::SpaceFull.into());
         }
         let pages = growth.entry.pages;
-        let records = growth_records(growth.place, change.table, pages, growth.last);
+        let records = growth_records(growth.entry_number, change.table, pages, growth.last);
         check_room(buffer, &records)?;
         write_longer_held(buffer, &records);
-        let place = Place {
+        let target = ChangeTarget {
             entry: UndoRecord::new(change.table, pages, 0, change.key, Before::Absent),
             is_new: false,
             count: self.count_of(trx),
         };
-        self.change_placed(buffer, trx, change, &place, disk)
+        self.change_at_target(buffer, trx, change, &target, disk)
     }
 }

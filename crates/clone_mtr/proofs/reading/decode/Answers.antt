@@ -2,7 +2,7 @@ use Rattle.std.proofs.Common.{refl, ◌≡◌, ◌-◌, length, arith, [], ◌�
 use Rattle.std.proofs.lemmas.Result.{err_from_is_err_and}
 use Rattle.std.proofs.lemmas.List.{length-append}
 use Rattle.clone_mtr.specs.Reading.{found_record, item_at}
-use Rattle.clone_mtr.proofs.Decoding.{place, Splits-none, Splits-more, refuses, ends_first, next_refused, next_more, next_ended}
+use Rattle.clone_mtr.proofs.Decoding.{offset_is, Splits-none, Splits-more, refuses, ends_first, next_refused, next_more, next_ended}
 use Rattle.clone_mtr.proofs.reading.decode.Goals as goal
 
 pub returns-in_err-found : goal.returns-in_err-found
@@ -51,4 +51,4 @@ returns-in-None-2 c =
     rw c.left.ensures (next_ended c.args.bytes.now c.loop-mtr.reader c.loop-mtr.mtr c.loop-mtr.invariant.so_far found c.loop-mtr.invariant.some)
 
 pub item_of-requires-in-loop-mtr : goal.item_of-requires-in-loop-mtr
-item_of-requires-in-loop-mtr c = omega (arith, c.left.ensures, place c.args.bytes.now c.loop-mtr.reader c.loop-mtr.mtr c.loop-mtr.invariant.so_far, c.loop-mtr.invariant.so_far.below)
+item_of-requires-in-loop-mtr c = omega (arith, c.left.ensures, offset_is c.args.bytes.now c.loop-mtr.reader c.loop-mtr.mtr c.loop-mtr.invariant.so_far, c.loop-mtr.invariant.so_far.below)

@@ -1,5 +1,5 @@
 use Rattle.clone_recover.proofs.TableLemmas.{IsNextBelow}
 use Rattle.clone_recover.proofs.chains.next_table.Given as goal
 
-abbrev pub invariant-loop-place : goal.invariant-loop-place
-invariant-loop-place l = IsNextBelow l.system l.above l.place l.next
+abbrev pub invariant-loop-entry_number : goal.invariant-loop-entry_number
+invariant-loop-entry_number l = IsNextBelow l.system l.above l.entry_number l.next

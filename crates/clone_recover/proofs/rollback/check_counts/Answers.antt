@@ -1,7 +1,7 @@
 use Rattle.std.proofs.Common.{◌≡◌, ◌+◌, ◌∙◌, suc, refl, arith}
 use Rattle.std.proofs.lemmas.Result.{err_from_is_err_and}
 use Rattle.clone_recover.specs.Damage.{CountsTooMany, HasTooMany}
-use Rattle.clone_undo.specs.Places.{slot_count}
+use Rattle.clone_undo.specs.Places.{undo_slot_count}
 use Rattle.clone_recover.proofs.Counts.{fits_begin, fits_go_on, fits_end}
 use Rattle.clone_recover.proofs.Shown.{same_itself, same_twice, page_or_on}
 use Rattle.clone_recover.proofs.rollback.check_counts.Goals as goal
@@ -29,5 +29,5 @@ returns-in_err-header_of-clause-cause g c =
 
 pub returns-clause-counts : goal.returns-clause-counts
 returns-clause-counts g c =
-    let e : c.loop-slot.slot ≡ slot_count = omega arith in
+    let e : c.loop-slot.slot ≡ undo_slot_count = omega arith in
     fits_end (g.R.PageDisk.told c.args.disk.now) c.loop-slot.slot c.args.overlay.now e c.loop-slot.invariant.fits

@@ -1,6 +1,6 @@
 use Rattle.std.proofs.Common.{◌∙◌, ℕ, refl, ◌≡◌, ◌+◌, suc, arith, subst}
 use Rattle.std.proofs.lemmas.Result.{err_from_is_err_and}
-use Rattle.clone_undo.specs.Places.{slot_count}
+use Rattle.clone_undo.specs.Places.{undo_slot_count}
 use Rattle.clone_image.specs.Recovered.{undo_slot_of, taken_back}
 use Rattle.clone_recover.specs.Undoing.{IsSlotInRange}
 use Rattle.clone_recover.specs.Damage.{ForImage, ShowsEdited, PageOrOn, IsBroken}
@@ -26,7 +26,7 @@ loop-slot-preserved g c =
 
 pub returns-clause-recovered : goal.returns-clause-recovered
 returns-clause-recovered g c =
-    let e : c.loop-slot.slot ≡ slot_count = omega arith in
+    let e : c.loop-slot.slot ≡ undo_slot_count = omega arith in
     take_ends (g.R.PageDisk.told c.args.disk.now) c.loop-slot.slot c.args.overlay.now c.loop-slot.overlay e c.loop-slot.invariant.taking
 
 pub returns-in_err-take_back-clause-cause : goal.returns-in_err-take_back-clause-cause
@@ -39,5 +39,5 @@ returns-in_err-take_back-clause-cause g c =
 
 pub returns-clause-sound : goal.returns-clause-sound
 returns-clause-sound g c =
-    let e : c.loop-slot.slot ≡ slot_count = omega arith in
+    let e : c.loop-slot.slot ≡ undo_slot_count = omega arith in
     take_sound (g.R.PageDisk.told c.args.disk.now) c.loop-slot.slot c.args.overlay.now c.loop-slot.overlay e c.loop-slot.invariant.taking

@@ -12,22 +12,22 @@ returns-then-unwrap_or-eq0-clause-added g c =
     let none : unwrap_or c.in_ok-pages.field-0 0 ≡ 0 = omega (arith, c.unwrap_or.ensures, c.if-unwrap_or-eq0.true) in
     none_listed (g.R.PageDisk.told c.args.disk.now) c.in_ok-pages.field-0 c.args.tables.now none c.in_ok-pages.ensures.count
 
-pub loop-place-preserved : goal.loop-place-preserved
-loop-place-preserved g c =
+pub loop-entry_number-preserved : goal.loop-entry_number-preserved
+loop-entry_number-preserved g c =
     let first = g.R.PageDisk.told c.args.disk.now in
     let system = c.read_page.new.into in
-    let place : ℕ = c.loop-place.place in
+    let entry_number : ℕ = c.loop-entry_number.entry_number in
     let table : ℕ = c.table_at-table.result in
     let rows : Rows = c.args.tables.now in
     elim c.if-table-ne0.branch [
       | then-table-ne0+then-table-lt-REDO_SPACE+in_ok-add_table w ↦
           let failures = ap (λ d. g.R.PageDisk.failures d) w.disk-is in
           record {
-            added = subst (λ (t : Rows). AddsEntries first (place + 1) system rows t) (sym w.tables-is)
-                (entries_go_on first (g.R.PageDisk.told c.loop-place.disk) place table system rows c.loop-place.tables w.add_table.new.tables c.loop-place.invariant.told c.table_at-table.ensures w.if-table-ne0.true w.in_ok-add_table.ensures.added c.loop-place.invariant.added);
-            told = ap (λ d. g.R.PageDisk.told d) w.disk-is ∙ w.in_ok-add_table.ensures.told ∙ c.loop-place.invariant.told;
-            later = omega (arith, failures, w.in_ok-add_table.ensures.later, c.loop-place.invariant.later);
-            orders = ap (λ d. g.R.PageDisk.orders d) w.disk-is ∙ w.in_ok-add_table.ensures.orders ∙ c.loop-place.invariant.orders;
+            added = subst (λ (t : Rows). AddsEntries first (entry_number + 1) system rows t) (sym w.tables-is)
+                (entries_go_on first (g.R.PageDisk.told c.loop-entry_number.disk) entry_number table system rows c.loop-entry_number.tables w.add_table.new.tables c.loop-entry_number.invariant.told c.table_at-table.ensures w.if-table-ne0.true w.in_ok-add_table.ensures.added c.loop-entry_number.invariant.added);
+            told = ap (λ d. g.R.PageDisk.told d) w.disk-is ∙ w.in_ok-add_table.ensures.told ∙ c.loop-entry_number.invariant.told;
+            later = omega (arith, failures, w.in_ok-add_table.ensures.later, c.loop-entry_number.invariant.later);
+            orders = ap (λ d. g.R.PageDisk.orders d) w.disk-is ∙ w.in_ok-add_table.ensures.orders ∙ c.loop-entry_number.invariant.orders;
           }
       | else-table-ne0 w ↦
           let failures = ap (λ d. g.R.PageDisk.failures d) w.disk-is in
@@ -36,17 +36,17 @@ loop-place-preserved g c =
             | else-table-ne0-via-else-table-ne0 v ↦ inl (omega (arith, v.if-table-ne0.false))
           ] in
           record {
-            added = subst (λ (t : Rows). AddsEntries first (place + 1) system rows t) (sym w.tables-is) (entries_pass first place table system rows c.loop-place.tables c.table_at-table.ensures none c.loop-place.invariant.added);
-            told = ap (λ d. g.R.PageDisk.told d) w.disk-is ∙ c.loop-place.invariant.told;
-            later = omega (arith, failures, c.loop-place.invariant.later);
-            orders = ap (λ d. g.R.PageDisk.orders d) w.disk-is ∙ c.loop-place.invariant.orders;
+            added = subst (λ (t : Rows). AddsEntries first (entry_number + 1) system rows t) (sym w.tables-is) (entries_pass first entry_number table system rows c.loop-entry_number.tables c.table_at-table.ensures none c.loop-entry_number.invariant.added);
+            told = ap (λ d. g.R.PageDisk.told d) w.disk-is ∙ c.loop-entry_number.invariant.told;
+            later = omega (arith, failures, c.loop-entry_number.invariant.later);
+            orders = ap (λ d. g.R.PageDisk.orders d) w.disk-is ∙ c.loop-entry_number.invariant.orders;
           }
     ]
 
 pub returns-clause-added : goal.returns-clause-added
 returns-clause-added g c =
     let first = g.R.PageDisk.told c.args.disk.now in
-    let all : c.loop-place.place ≡ entry_count = omega (arith, c.loop-place-test.false, c.loop-place.auto.place-end) in
+    let all : c.loop-entry_number.entry_number ≡ entry_count = omega (arith, c.loop-entry_number-test.false, c.loop-entry_number.auto.entry_number-end) in
     let some : 0 < unwrap_or c.in_ok-pages.field-0 0 = omega (arith, c.unwrap_or.ensures, c.if-unwrap_or-eq0.false) in
-    entries_end first first (g.R.PageDisk.told c.pages.new.self) c.loop-place.place c.read_page.new.into c.in_ok-pages.field-0 c.args.tables.now c.loop-place.tables refl c.in_ok-pages.ensures.same all some c.in_ok-pages.ensures.count
-    c.in_ok-read_page.ensures.quiet c.loop-place.invariant.added
+    entries_end first first (g.R.PageDisk.told c.pages.new.self) c.loop-entry_number.entry_number c.read_page.new.into c.in_ok-pages.field-0 c.args.tables.now c.loop-entry_number.tables refl c.in_ok-pages.ensures.same all some c.in_ok-pages.ensures.count
+    c.in_ok-read_page.ensures.quiet c.loop-entry_number.invariant.added

@@ -1,5 +1,5 @@
 use Rattle.std.proofs.Common.{arith, inr}
-use Rattle.clone_space.specs.Entries.{place_at}
+use Rattle.clone_space.specs.Entries.{entry_at_offset}
 use Rattle.clone_space.specs.Records.{entry_bytes}
 use Rattle.clone_space.proofs.EntryLemmas as entries
 use Rattle.clone_space.proofs.WriteLemmas.{keeps_system}
@@ -9,4 +9,4 @@ pub returns-clause-entry : goal.returns-clause-entry
 returns-clause-entry c = entries.dictionary-entry
 
 pub returns-clause-page : goal.returns-clause-page
-returns-clause-page c = λ lsn place e page within long. keeps_system lsn (place_at place) (entry_bytes e) page (omega arith) (omega arith) (omega arith, inr (omega arith, omega arith)) long
+returns-clause-page c = λ lsn entry_number e page within long. keeps_system lsn (entry_at_offset entry_number) (entry_bytes e) page (omega arith) (omega arith) (omega arith, inr (omega arith, omega arith)) long

@@ -9,4 +9,4 @@ pub returns-clause-entry : goal.returns-clause-entry
 returns-clause-entry c = entries.dictionary-size
 
 pub returns-clause-page : goal.returns-clause-page
-returns-clause-page c = λ lsn place pages page within long. keeps_system lsn (pages_at place) (big_bytes 4 pages) page (omega arith) (omega arith) (omega arith, inr (omega arith, omega arith)) long
+returns-clause-page c = λ lsn entry_number pages page within long. keeps_system lsn (pages_at entry_number) (big_bytes 4 pages) page (omega arith) (omega arith) (omega arith, inr (omega arith, omega arith)) long

@@ -5,5 +5,5 @@ use Rattle.clone_space.proofs.reading.entry_at.Goals as goal
 
 pub returns : goal.returns
 returns c =
-    entry_is (entry_on c.args.place c.bytes-bytes.result.now) c.u32_at.ensures c.u32_at-2.ensures c.u32_at-3.ensures
-    ∙ ap (entry_on c.args.place) c.bytes-bytes.ensures.value ∙ sym (entry_in-dictionary c.args.place c.args.page.now c.requires)
+    entry_is (entry_on c.args.entry_number c.bytes-bytes.result.now) c.u32_at.ensures c.u32_at-2.ensures c.u32_at-3.ensures
+    ∙ ap (entry_on c.args.entry_number) c.bytes-bytes.ensures.value ∙ sym (entry_in-dictionary c.args.entry_number c.args.page.now c.requires)

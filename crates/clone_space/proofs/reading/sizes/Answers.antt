@@ -7,4 +7,4 @@ use Rattle.clone_space.proofs.reading.sizes.Goals as goal
 pub returns : goal.returns
 returns c =
     let long = length-dictionary c.args.page.now in
-    c.loop-place.invariant ∙ ap sizes (take_all c.loop-place.place (dictionary c.args.page.now) (omega arith))
+    c.loop-entry_number.invariant ∙ ap sizes (take_all c.loop-entry_number.entry_number (dictionary c.args.page.now) (omega arith))

@@ -1,9 +1,9 @@
 use std::alloc::{AllocError, Global};
 
-/// How many keys have a place on a page.
-const PLACES: usize = 50;
+/// How many keys have a slot on a page.
+const SLOTS: usize = 50;
 
-/// The keys that have a place on the chain of a bucket, and how many pages the chain has.
+/// The keys that have a slot on the chain of a bucket, and how many pages the chain has.
 #[derive(Drop)]
 struct Chain {
     keys: Vec<u64>,
@@ -20,10 +20,10 @@ impl Chain {
     }
 
     fn needs_page(&self, key: u64) -> bool {
-        self.keys.len() >= self.pages.saturating_mul(PLACES) && !self.keys.contains(&key)
+        self.keys.len() >= self.pages.saturating_mul(SLOTS) && !self.keys.contains(&key)
     }
 
-    fn place(&mut self, key: u64) -> Result<(), AllocError> {
+    fn bind(&mut self, key: u64) -> Result<(), AllocError> {
         if !self.keys.contains(&key) {
             self.keys.push(key)?;
         }
@@ -47,9 +47,9 @@ impl Table {
         Ok(Table { chains })
     }
 
-    /// Whether a key has no place, and its chain has none that is free.
+    /// Whether a key has no slot, and its chain has none that is free.
     pub fn needs_page(&self, key: u64) -> bool {
-        match self.place_of(key).and_then(|place| self.chains.get(place)) {
+        match self.index_of(key).and_then(|index| self.chains.get(index)) {
             Some(chain) => chain.needs_page(key),
             None => false,
         }
@@ -62,22 +62,22 @@ impl Table {
         }
     }
 
-    /// The key has a place on its chain.
-    pub fn place(&mut self, key: u64) -> Result<(), AllocError> {
+    /// The key has a slot on its chain.
+    pub fn bind(&mut self, key: u64) -> Result<(), AllocError> {
         match self.chain_of(key) {
-            Some(chain) => chain.place(key),
+            Some(chain) => chain.bind(key),
             None => Ok(()),
         }
     }
 
     // The chain of a key, where there is a bucket at all.
     fn chain_of(&mut self, key: u64) -> Option<&mut Chain> {
-        let place = self.place_of(key)?;
-        self.chains.get_mut(place)
+        let index = self.index_of(key)?;
+        self.chains.get_mut(index)
     }
 
-    fn place_of(&self, key: u64) -> Option<usize> {
-        let place = key.checked_rem(self.chains.len() as u64)?;
-        Some(place as usize)
+    fn index_of(&self, key: u64) -> Option<usize> {
+        let index = key.checked_rem(self.chains.len() as u64)?;
+        Some(index as usize)
     }
 }

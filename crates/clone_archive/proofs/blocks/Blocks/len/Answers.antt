@@ -1,6 +1,6 @@
 use Rattle.std.proofs.Common.{sym}
-use Rattle.clone_archive.proofs.RowLemmas.{row_counts}
+use Rattle.clone_archive.proofs.BlockListLemmas.{block_counts}
 use Rattle.clone_archive.proofs.blocks.Blocks.len.Goals as goal
 
 pub returns : goal.returns
-returns c = sym (row_counts _ _ _ c.self.invariant c.self.view_is).0
+returns c = sym (block_counts _ _ _ c.self.invariant c.self.view_is).0

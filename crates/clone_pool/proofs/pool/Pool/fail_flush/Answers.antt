@@ -10,11 +10,11 @@ pub invariant_of-self : goal.invariant_of-self
 invariant_of-self c =
     let i = c.self.inside in
     let v : Frames = record { frames = i.frames.items; uses = i.uses } in
-    let at = c.place-at.result in
+    let at = c.frame_number-at.result in
     let g = c.index_mut.result.now in
-    let low = subst (λ (v : Frames). at < length v.frames) (sym c.self.view_is) c.place-at.ensures.within in
+    let low = subst (λ (v : Frames). at < length v.frames) (sym c.self.view_is) c.frame_number-at.ensures.within in
     let was = get_or_read i.frames.items at g low c.index_mut.ensures.value no_frame in
-    let here = sym (was ∙ ap (frame_at i.frames.items) c.place-at.ensures.same ∙ ap (λ (v : Frames). frame_at v.frames c.args.at) c.self.view_is) in
+    let here = sym (was ∙ ap (frame_at i.frames.items) c.frame_number-at.ensures.same ∙ ap (λ (v : Frames). frame_at v.frames c.args.at) c.self.view_is) in
     let fine = subst (IsFrame i.uses) (sym was) (c.self.invariant.pool.frame at) in
     let edit = subst (IsFrame i.uses) (sym c.fail_flush.ensures) (failed_frame i.uses g fine (subst HoldsPage here c.requires.holds) (subst IsInFlight here c.requires.flight)) in
     edited v i.orders c.refresh.new.self c.self.invariant at i.uses c.fail_flush.new.self _ low (omega arith) c.self.invariant.pool.uses edit (ap name_of c.fail_flush.ensures ∙ ap name_of was) c.deref.ensures.value c.refresh.ensures

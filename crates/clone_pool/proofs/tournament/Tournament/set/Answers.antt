@@ -9,4 +9,4 @@ invariant_of-self c = record { long = c.rematch.ensures.long; matched = c.rematc
 pub returns : goal.returns
 returns c =
     let i = c.self.inside in
-    c.rematch.ensures.leaves ∙ drop-set-add i.count i.nodes.items c.args.place c.args.rank ∙ ap (λ (ranks : List Rank). set ranks c.args.place c.args.rank) c.self.view_is
+    c.rematch.ensures.leaves ∙ drop-set-add i.count i.nodes.items c.args.frame_number c.args.rank ∙ ap (λ (ranks : List Rank). set ranks c.args.frame_number c.args.rank) c.self.view_is

@@ -2,7 +2,7 @@ use Rattle.std.proofs.Common.{◌∙◌, ◌<◌, ◌≤◌, ◌==◌, ap, sym}
 use Rattle.clone_plain.specs.Causes.{holds_in}
 use Rattle.clone_trx.proofs.Common.{list_any, TRANSACTION_LIMIT, holders_of}
 use Rattle.clone_trx.proofs.HolderListLemmas.{least_holder-found, list_tells}
-use Rattle.clone_trx.proofs.LockListLemmas.{Row}
+use Rattle.clone_trx.proofs.LockListLemmas.{RowName}
 use Rattle.clone_trx.proofs.ScanLemmas.{find_skips, find_takes, find_ends}
 use Rattle.clone_trx.proofs.locks.Locks.least_holder.Goals as goal
 
@@ -11,7 +11,7 @@ loop-trx-preserved c =
     let trx = c.loop-trx.trx in
     let lt : trx < TRANSACTION_LIMIT = c.loop-trx-test.true in
     let tells = list_tells (holders_of c.self.inside.holders.entries) c.args.self.now c.self.inside.rows.items c.args.table trx c.index.result.now c.has_row_of.result c.self.invariant c.self.view_is lt c.index.ensures
-    (c.has_row_of.ensures ∙ ap (list_any (λ (row : Row). row.0 == c.args.table)) c.deref.ensures.value) in
+    (c.has_row_of.ensures ∙ ap (list_any (λ (row : RowName). row.0 == c.args.table)) c.deref.ensures.value) in
     c.loop-trx.invariant ∙ find_skips (holds_in c.args.self.now c.args.table) trx TRANSACTION_LIMIT lt (sym tells ∙ c.if-has_row_of.false)
 
 pub returns-then-has_row_of : goal.returns-then-has_row_of
@@ -19,7 +19,7 @@ returns-then-has_row_of c =
     let trx = c.loop-trx.trx in
     let lt : trx < TRANSACTION_LIMIT = c.loop-trx-test.true in
     let tells = list_tells (holders_of c.self.inside.holders.entries) c.args.self.now c.self.inside.rows.items c.args.table trx c.index.result.now c.has_row_of.result c.self.invariant c.self.view_is lt c.index.ensures
-    (c.has_row_of.ensures ∙ ap (list_any (λ (row : Row). row.0 == c.args.table)) c.deref.ensures.value) in
+    (c.has_row_of.ensures ∙ ap (list_any (λ (row : RowName). row.0 == c.args.table)) c.deref.ensures.value) in
     sym (least_holder-found c.args.self.now c.args.table ∙ c.loop-trx.invariant ∙ find_takes (holds_in c.args.self.now c.args.table) trx TRANSACTION_LIMIT lt (sym tells ∙ c.if-has_row_of.true))
 
 pub returns : goal.returns

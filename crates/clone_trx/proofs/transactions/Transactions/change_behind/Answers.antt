@@ -10,7 +10,7 @@ use Rattle.clone_trx.specs.Ways.{Goes}
 use Rattle.clone_trx.proofs.transactions.Transactions.change_behind.Goals as goal
 
 pub hold_new-requires-clause-absent : goal.hold_new-requires-clause-absent
-hold_new-requires-clause-absent g c = λ right. new_absent (image_of c.args.buffer.now) c.args.change.table c.args.growth.place c.args.growth.entry.pages (c.requires.tells right)
+hold_new-requires-clause-absent g c = λ right. new_absent (image_of c.args.buffer.now) c.args.change.table c.args.growth.entry_number c.args.growth.entry.pages (c.requires.tells right)
 
 pub returns-in_err-at-clause-way : goal.returns-in_err-at-clause-way
 returns-in_err-at-clause-way g c =
@@ -19,13 +19,13 @@ returns-in_err-at-clause-way g c =
     let old : Buffered = c.args.buffer.now in
     let new : Buffered = c.hold_new.new.buffer in
     let none = c.in_err-at.ensures.none in
-    on_err (λ r. Goes (longer_at d c.args.trx c.args.change growth.last growth.place growth.entry.pages) old new r) c.from_residual.result c.in_err-at.field-0.0 c.from_residual.ensures.1
-    (none_goes d c.args.trx c.args.change growth.last growth.place growth.entry.pages old new c.in_err-at.field-0.0 none.0 none.1 none.2 none.3)
+    on_err (λ r. Goes (longer_at d c.args.trx c.args.change growth.last growth.entry_number growth.entry.pages) old new r) c.from_residual.result c.in_err-at.field-0.0 c.from_residual.ensures.1
+    (none_goes d c.args.trx c.args.change growth.last growth.entry_number growth.entry.pages old new c.in_err-at.field-0.0 none.0 none.1 none.2 none.3)
 
 pub change_grown-changed-requires-clause-tells : goal.change_grown-changed-requires-clause-tells
 change_grown-changed-requires-clause-tells g c =
     let growth = c.args.growth in
-    taken_image (λ (m : Image). TellsPages (contents_of m) c.args.change.table growth.place growth.entry.pages) c.args.buffer.now c.hold_new.new.buffer c.hold_new.ensures.same c.requires.tells
+    taken_image (λ (m : Image). TellsPages (contents_of m) c.args.change.table growth.entry_number growth.entry.pages) c.args.buffer.now c.hold_new.new.buffer c.hold_new.ensures.same c.requires.tells
 
 pub change_grown-changed-requires-clause-full : goal.change_grown-changed-requires-clause-full
 change_grown-changed-requires-clause-full g c =
@@ -46,7 +46,7 @@ change_grown-changed-requires-clause-new g c = (c.in_ok-at.at, c.in_ok-at.ensure
 pub release-requires : goal.release-requires
 release-requires g c =
     let growth = c.args.growth in
-    still_pinned (grown_way c.args.self.now c.args.trx c.args.change growth.last growth.place growth.entry.pages) c.hold_new.new.buffer c.change_grown-changed.new.buffer c.change_grown-changed.result c.in_ok-at.at c.change_grown-changed.ensures.way c.in_ok-at.ensures.has.pinned
+    still_pinned (grown_way c.args.self.now c.args.trx c.args.change growth.last growth.entry_number growth.entry.pages) c.hold_new.new.buffer c.change_grown-changed.new.buffer c.change_grown-changed.result c.in_ok-at.at c.change_grown-changed.ensures.way c.in_ok-at.ensures.has.pinned
 
 pub returns-clause-way : goal.returns-clause-way
 returns-clause-way g c = inr (c.in_ok-at.at, c.hold_new.new.buffer, c.change_grown-changed.new.buffer, c.in_ok-at.ensures.taken, c.change_grown-changed.ensures.way, c.release.ensures.is)

@@ -12,8 +12,8 @@ use Rattle.clone_trx.specs.Kept.{IsFullAt, TellsPages}
 use Rattle.clone_trx.specs.Ways.{Goes}
 use Rattle.clone_trx.proofs.transactions.Transactions.change_longer.Goals as goal
 
-pub change_behind-changed-requires-clause-place : goal.change_behind-changed-requires-clause-place
-change_behind-changed-requires-clause-place g c = subst (λ (n : ℕ). n < 62) (sym c.unwrap_or-place.ensures) (entry_low c.args.change.table (dictionary c.frame-page.result.now) c.find.result c.find.ensures)
+pub change_behind-changed-requires-clause-entry_number : goal.change_behind-changed-requires-clause-entry_number
+change_behind-changed-requires-clause-entry_number g c = subst (λ (n : ℕ). n < 62) (sym c.unwrap_or-entry_number.ensures) (entry_low c.args.change.table (dictionary c.frame-page.result.now) c.find.result c.find.ensures)
 
 pub change_behind-changed-requires-clause-tells : goal.change_behind-changed-requires-clause-tells
 change_behind-changed-requires-clause-tells g c = λ right.
@@ -21,12 +21,12 @@ change_behind-changed-requires-clause-tells g c = λ right.
     let change = c.args.change in
     let new : Buffered = c.hold.new.buffer in
     let image : Image = image_of new in
-    let place : ℕ = c.unwrap_or-place.result in
+    let entry_number : ℕ = c.unwrap_or-entry_number.result in
     let may = may_change d c.args.trx change.table change.key c.requires.cause.0 c.laws.ensures.safe.locked c.requires.cause.1 in
     let kept : IsKept d image = same_image (IsKept d) c.args.buffer.now new c.in_ok-at.ensures.log c.in_ok-at.ensures.before c.requires.kept right in
     let system : page_of image 0 0 ≡ Some c.frame-page.result.now = c.in_ok-at.ensures.right right ∙ ap (λ (p : List ℕ). Some p) (sym c.frame-page.ensures.bytes) in
-    subst (λ (e : TableEntry). TellsPages (contents_of image) change.table place e.pages) (sym c.entry_at.ensures)
-    (found_tells d image change.table may.buckets place c.frame-page.result.now c.find.result kept may.was_table system c.find.ensures c.unwrap_or-place.ensures)
+    subst (λ (e : TableEntry). TellsPages (contents_of image) change.table entry_number e.pages) (sym c.entry_at.ensures)
+    (found_tells d image change.table may.buckets entry_number c.frame-page.result.now c.find.result kept may.was_table system c.find.ensures c.unwrap_or-entry_number.ensures)
 
 pub change_behind-changed-requires-clause-full : goal.change_behind-changed-requires-clause-full
 change_behind-changed-requires-clause-full g c =
@@ -44,7 +44,7 @@ change_behind-changed-requires-clause-last g c = (c.args.spot.at, c.hold.ensures
 
 pub release-requires : goal.release-requires
 release-requires g c =
-    still_pinned (longer_at c.args.self.now c.args.trx c.args.change c.args.spot.page c.unwrap_or-place.result c.entry_at.result.pages) c.hold.new.buffer c.change_behind-changed.new.buffer c.change_behind-changed.result c.in_ok-at.at c.change_behind-changed.ensures.way c.in_ok-at.ensures.has.pinned
+    still_pinned (longer_at c.args.self.now c.args.trx c.args.change c.args.spot.page c.unwrap_or-entry_number.result c.entry_at.result.pages) c.hold.new.buffer c.change_behind-changed.new.buffer c.change_behind-changed.result c.in_ok-at.at c.change_behind-changed.ensures.way c.in_ok-at.ensures.has.pinned
 
 pub returns-clause-way : goal.returns-clause-way
 returns-clause-way g c =
@@ -52,6 +52,6 @@ returns-clause-way g c =
     let change = c.args.change in
     let mid : Buffered = c.hold.new.buffer in
     let last : Buffered = c.change_behind-changed.new.buffer in
-    let place : ℕ = c.unwrap_or-place.result in
-    let goes = subst (λ (e : TableEntry). Goes (longer_at d c.args.trx change c.args.spot.page place e.pages) mid last c.change_behind-changed.result) c.entry_at.ensures c.change_behind-changed.ensures.way in
-    longer_goes d c.args.trx change c.args.spot.page c.in_ok-at.at place c.frame-page.result.now c.find.result c.args.buffer.now mid last c.release.new.buffer c.change_behind-changed.result c.in_ok-at.ensures.held c.frame-page.ensures.bytes c.find.ensures c.unwrap_or-place.ensures goes c.release.ensures.is
+    let entry_number : ℕ = c.unwrap_or-entry_number.result in
+    let goes = subst (λ (e : TableEntry). Goes (longer_at d c.args.trx change c.args.spot.page entry_number e.pages) mid last c.change_behind-changed.result) c.entry_at.ensures c.change_behind-changed.ensures.way in
+    longer_goes d c.args.trx change c.args.spot.page c.in_ok-at.at entry_number c.frame-page.result.now c.find.result c.args.buffer.now mid last c.release.new.buffer c.change_behind-changed.result c.in_ok-at.ensures.held c.frame-page.ensures.bytes c.find.ensures c.unwrap_or-entry_number.ensures goes c.release.ensures.is

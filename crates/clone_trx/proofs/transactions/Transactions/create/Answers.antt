@@ -2,7 +2,7 @@ use Rattle.std.proofs.Common.{◌≡◌, ◌≢◌, ℕ, None, sym, ap, subst, �
 use Rattle.std.specs.FinMap as finite
 use Rattle.clone_buffer.specs.Buffered.{Buffered, image_of}
 use Rattle.clone_space.specs.Records.{records_of_create}
-use Rattle.clone_trx.specs.Calls.{create_way, free_place}
+use Rattle.clone_trx.specs.Calls.{create_way, number_of_free_entry}
 use Rattle.clone_trx.specs.Ways.{Goes, Makes, Carries, page_in}
 use Rattle.clone_trx.proofs.Common.{Donor, created, IsKept, TABLE_LIMIT}
 use Rattle.clone_trx.proofs.CreateLemmas.{no_cause, create_goes, create_answers}
@@ -16,7 +16,7 @@ goes g c =
     let mid : Buffered = c.hold.new.buffer in
     let last : Buffered = c.create_held-created.new.buffer in
     create_goes d c.args.table c.args.buckets c.in_ok-at.at c.args.buffer.now mid last c.release.new.buffer c.create_held-created.result c.in_ok-at.ensures.held
-    (subst (λ (p : ℕ × ℕ). Makes (records_of_create (free_place (page_in c.in_ok-at.at mid)) p.0 p.1) mid last c.create_held-created.result) (λ i. (c.get-table.ensures.value i, c.get-buckets.ensures.value i)) c.create_held-created.ensures.written)
+    (subst (λ (p : ℕ × ℕ). Makes (records_of_create (number_of_free_entry (page_in c.in_ok-at.at mid)) p.0 p.1) mid last c.create_held-created.result) (λ i. (c.get-table.ensures.value i, c.get-buckets.ensures.value i)) c.create_held-created.ensures.written)
     c.release.ensures.is
 
 pub returns-clause-answer : goal.returns-clause-answer

@@ -4,7 +4,7 @@ use Rattle.clone_space.specs.Entries.{dictionary, FindsFree}
 use Rattle.clone_space.specs.Records.{records_of_create, entry_record}
 use Rattle.clone_buffer.specs.Buffered.{Buffered, image_of}
 use Rattle.clone_buffer.specs.Writing.{Creates, HasMade, NoFilesOfMade, written}
-use Rattle.clone_trx.specs.Calls.{free_place, system_page}
+use Rattle.clone_trx.specs.Calls.{number_of_free_entry, system_page}
 use Rattle.clone_trx.specs.Ways.{HasRoom, page_in}
 use Rattle.clone_trx.proofs.Common.{Record, page_of, after_records, Donor, created, donor_of, IsKept, IsSafe}
 use Rattle.clone_trx.proofs.SafeLemmas.{created_safe}
@@ -60,23 +60,23 @@ invariant_of-self-in_default g c =
     (subst IsSafe (sym made) (created_safe c.args.self.now c.args.table c.args.buckets safe may.0 may.1 c.requires.table.0 c.requires.table.1 c.requires.buckets.0 c.requires.buckets.1), c.self.invariant.1)
 
 -- the records are those of the first free entry of the page that is held
-records : (g : _) (c : goal.After-array_drop-records-2 g) → c.create_records-records.result ≡ records_of_create (free_place (page_in c.args.at c.args.buffer.now)) c.args.table c.args.buckets
+records : (g : _) (c : goal.After-array_drop-records-2 g) → c.create_records-records.result ≡ records_of_create (number_of_free_entry (page_in c.args.at c.args.buffer.now)) c.args.table c.args.buckets
 records g c =
     c.create_records-records.ensures
-    ∙ ap (λ (n : ℕ). records_of_create n c.args.table c.args.buckets) (c.unwrap_or-place.ensures ∙ entry_is 0 c.frame.result.now c.least_free.result c.least_free.ensures)
-    ∙ ap (λ (page : List ℕ). records_of_create (free_place page) c.args.table c.args.buckets) c.frame.ensures.bytes
+    ∙ ap (λ (n : ℕ). records_of_create n c.args.table c.args.buckets) (c.unwrap_or-entry_number.ensures ∙ entry_is 0 c.frame.result.now c.least_free.result c.least_free.ensures)
+    ∙ ap (λ (page : List ℕ). records_of_create (number_of_free_entry page) c.args.table c.args.buckets) c.frame.ensures.bytes
 
 pub create_records-records-requires : goal.create_records-records-requires
-create_records-records-requires g c = subst (λ (n : ℕ). n < 62) (sym c.unwrap_or-place.ensures) (entry_low 0 (dictionary c.frame.result.now) c.least_free.result c.least_free.ensures)
+create_records-records-requires g c = subst (λ (n : ℕ). n < 62) (sym c.unwrap_or-entry_number.ensures) (entry_low 0 (dictionary c.frame.result.now) c.least_free.result c.least_free.ensures)
 
 pub write_space_held-requires-clause-creates : goal.write_space_held-requires-clause-creates
 write_space_held-requires-clause-creates g c = λ right.
     let d = c.args.self.now in
     let safe : IsSafe d = subst IsSafe c.self.view_is c.self.invariant.0 in
     let may = may_create d c.args.table safe.tables.few c.requires.cause in
-    let records : List Record = records_of_create c.unwrap_or-place.result c.args.table c.args.buckets in
+    let records : List Record = records_of_create c.unwrap_or-entry_number.result c.args.table c.args.buckets in
     subst (λ (rs : List Record). Creates c.args.buffer.now rs) {x = records} (sym c.create_records-records.ensures)
-    (creates d c.args.buffer.now c.args.table c.args.buckets c.laws.ensures.buffer (c.requires.kept right) c.requires.table.0 may.0 (c.args.at, c.requires.held) c.requires.fresh right c.unwrap_or-place.result)
+    (creates d c.args.buffer.now c.args.table c.args.buckets c.laws.ensures.buffer (c.requires.kept right) c.requires.table.0 may.0 (c.args.at, c.requires.held) c.requires.fresh right c.unwrap_or-entry_number.result)
 
 pub returns-clause-written : goal.returns-clause-written
 returns-clause-written g c =
@@ -91,17 +91,17 @@ returns-clause-kept g c =
     let safe : IsSafe d = subst IsSafe c.self.view_is c.self.invariant.0 in
     let may = may_create d c.args.table safe.tables.few c.requires.cause in
     let finds : FindsFree (dictionary page) c.least_free.result = subst (λ (p : List ℕ). FindsFree (dictionary p) c.least_free.result) c.frame.ensures.bytes c.least_free.ensures in
-    let place : ℕ = unwrap_or c.least_free.result 0 in
+    let entry_number : ℕ = unwrap_or c.least_free.result 0 in
     let made : donor_of c.insert.new.self s.active s.locks s.binlog.commits s.drops.list ≡ created c.args.table c.args.buckets d =
     ap (λ m. donor_of m s.active s.locks s.binlog.commits s.drops.list) c.in_ok-insert.ensures.ok ∙ ap (created c.args.table c.args.buckets) c.self.view_is in
-    let same : c.create_records-records.result ≡ records_of_create place c.args.table c.args.buckets = c.create_records-records.ensures ∙ ap (λ (n : ℕ). records_of_create n c.args.table c.args.buckets) c.unwrap_or-place.ensures in
+    let same : c.create_records-records.result ≡ records_of_create entry_number c.args.table c.args.buckets = c.create_records-records.ensures ∙ ap (λ (n : ℕ). records_of_create n c.args.table c.args.buckets) c.unwrap_or-entry_number.ensures in
     written_kept (donor_of c.insert.new.self s.active s.locks s.binlog.commits s.drops.list) old c.write_space_held.new.buffer c.create_records-records.result c.write_space_held.ensures.written
     (λ right lsn.
     let kept = c.requires.kept right in
     let shown : page_of (image_of old) 0 0 ≡ Some page = page_shown (image_of old) old.pool.frames (system_page 0) c.args.at (c.laws.ensures.buffer.shows right) c.requires.held (system_there (image_of old) 0 kept.formed (omega arith)) in
     let P : Donor × List Record → Type 0 = λ p. IsKept p.0 (after_records lsn (image_of old) p.1) in
     subst P (λ i. (sym made i, sym same i))
-    (create_keeps lsn place c.args.table c.args.buckets d (image_of old) kept (entry_low 0 (dictionary page) c.least_free.result finds) (has_free d (image_of old) page c.least_free.result kept shown may.1 finds) may.0 may.1 c.requires.table.0 c.requires.table.1 c.requires.buckets.0 c.requires.buckets.1))
+    (create_keeps lsn entry_number c.args.table c.args.buckets d (image_of old) kept (entry_low 0 (dictionary page) c.least_free.result finds) (has_free d (image_of old) page c.least_free.result kept shown may.1 finds) may.0 may.1 c.requires.table.0 c.requires.table.1 c.requires.buckets.0 c.requires.buckets.1))
 
 pub returns-clause-stands : goal.returns-clause-stands
 returns-clause-stands g c = λ beside calm st.
@@ -112,5 +112,5 @@ returns-clause-stands g c = λ beside calm st.
     let step : Steps before after (λ m. with_created m c.args.table c.args.buckets) = c.in_default.ensures.created in
     let stood = disk_made c.args.buffer.now c.args.table c.args.buckets c.laws.ensures.buffer (λ right. no_space c.args.self.now (image_of c.args.buffer.now) c.args.table (c.requires.kept right) c.requires.table.0 may.0) before after step beside st in
     c.write_space_held.ensures.stands beside after
-    (subst (λ (rs : List Record). ForTold after (HasMade rs)) (sym (records g c)) (has_made before after c.args.table c.args.buckets (entry_record (free_place (page_in c.args.at c.args.buffer.now)) (record { table = c.args.table; buckets = c.args.buckets; pages = c.args.buckets }) ∷ []) step))
+    (subst (λ (rs : List Record). ForTold after (HasMade rs)) (sym (records g c)) (has_made before after c.args.table c.args.buckets (entry_record (number_of_free_entry (page_in c.args.at c.args.buffer.now)) (record { table = c.args.table; buckets = c.args.buckets; pages = c.args.buckets }) ∷ []) step))
     (subst (λ (rs : List Record). NoFilesOfMade rs beside.copy) (sym (records g c)) calm) stood

@@ -15,7 +15,7 @@ write_drop_held-requires-clause-drops g c = λ right.
     let d = c.args.self.now in
     let there = is_there d c.args.table c.requires.cause in
     subst (λ (p : ℕ × List Record). DropsSpace c.args.buffer.now c.args.table p.0 p.1) (λ i. (sym c.min.ensures i, sym c.drop_records-records.ensures i))
-    (drops_space d c.args.buffer.now c.args.place c.args.table c.args.pages there.0 (c.requires.kept right) there.1 (c.requires.tells right) c.requires.held)
+    (drops_space d c.args.buffer.now c.args.entry_number c.args.table c.args.pages there.0 (c.requires.kept right) there.1 (c.requires.tells right) c.requires.held)
 
 -- the donor has dropped the table
 gone : (g : _) (c : goal.After-array_drop-records-2 g) → donor_of c.remove.new.self c.self.inside.active c.self.inside.locks c.self.inside.binlog.commits c.push_within.new.self.list ≡ dropped c.args.table c.args.self.now
@@ -38,7 +38,7 @@ keeps g c =
     let old : Buffered = c.args.buffer.now in
     written_kept (dropped c.args.table d) (without_pages c.args.table c.min.result old) c.write_drop_held.new.buffer c.drop_records-records.result c.write_drop_held.ensures.written
     (λ right lsn. subst (λ (records : List Record). IsKept (dropped c.args.table d) (after_records lsn (image_of old) records)) (sym c.drop_records-records.ensures)
-    (drop_keeps lsn c.args.place c.args.table d (image_of old) (c.requires.kept right) (c.requires.tells right).0 (λ zero. omega (arith, zero, above g c)) c.requires.cause))
+    (drop_keeps lsn c.args.entry_number c.args.table d (image_of old) (c.requires.kept right) (c.requires.tells right).0 (λ zero. omega (arith, zero, above g c)) c.requires.cause))
 
 pub returns-clause-kept : goal.returns-clause-kept
 returns-clause-kept g c = λ right. subst (λ (d : Donor). IsKept d (image_of c.write_drop_held.new.buffer)) (sym (gone g c)) (keeps g c right)

@@ -18,8 +18,8 @@ drop_held-dropped-requires-clause-tells g c = λ right.
     let there = is_there d c.args.table c.requires.cause in
     let kept : IsKept d image = same_image (IsKept d) c.args.buffer.now new c.in_ok-at.ensures.log c.in_ok-at.ensures.before c.requires.kept.kept right in
     let system : page_of image 0 0 ≡ Some c.frame-page.result.now = c.in_ok-at.ensures.right right ∙ ap (λ (p : List ℕ). Some p) (sym c.frame-page.ensures.bytes) in
-    subst (λ (e : TableEntry). TellsPages (contents_of image) c.args.table c.unwrap_or-place.result e.pages) (sym c.entry_at-pages.ensures)
-    (found_tells d image c.args.table there.0 c.unwrap_or-place.result c.frame-page.result.now c.find.result kept there.1 system c.find.ensures c.unwrap_or-place.ensures)
+    subst (λ (e : TableEntry). TellsPages (contents_of image) c.args.table c.unwrap_or-entry_number.result e.pages) (sym c.entry_at-pages.ensures)
+    (found_tells d image c.args.table there.0 c.unwrap_or-entry_number.result c.frame-page.result.now c.find.result kept there.1 system c.find.ensures c.unwrap_or-entry_number.ensures)
 
 pub drop_held-dropped-requires-clause-unpinned : goal.drop_held-dropped-requires-clause-unpinned
 drop_held-dropped-requires-clause-unpinned g c =
@@ -27,12 +27,12 @@ drop_held-dropped-requires-clause-unpinned g c =
 
 pub release-requires : goal.release-requires
 release-requires g c =
-    still_pinned (drop_at c.args.table c.unwrap_or-place.result c.entry_at-pages.result.pages) c.hold.new.buffer c.drop_held-dropped.new.buffer c.drop_held-dropped.result c.in_ok-at.at c.drop_held-dropped.ensures.way c.in_ok-at.ensures.has.pinned
+    still_pinned (drop_at c.args.table c.unwrap_or-entry_number.result c.entry_at-pages.result.pages) c.hold.new.buffer c.drop_held-dropped.new.buffer c.drop_held-dropped.result c.in_ok-at.at c.drop_held-dropped.ensures.way c.in_ok-at.ensures.has.pinned
 
 goes : (g : _) (c : goal.After-release g) → Goes (drop_way c.args.table) c.args.buffer.now c.release.new.buffer c.drop_held-dropped.result
 goes g c =
-    drop_goes c.args.table c.in_ok-at.at c.unwrap_or-place.result c.entry_at-pages.result.pages c.frame-page.result.now c.find.result c.args.buffer.now c.hold.new.buffer c.drop_held-dropped.new.buffer c.release.new.buffer c.drop_held-dropped.result
-    c.in_ok-at.ensures.held c.frame-page.ensures.bytes c.find.ensures c.unwrap_or-place.ensures (ap (λ (e : TableEntry). e.pages) c.entry_at-pages.ensures) c.drop_held-dropped.ensures.way c.release.ensures.is
+    drop_goes c.args.table c.in_ok-at.at c.unwrap_or-entry_number.result c.entry_at-pages.result.pages c.frame-page.result.now c.find.result c.args.buffer.now c.hold.new.buffer c.drop_held-dropped.new.buffer c.release.new.buffer c.drop_held-dropped.result
+    c.in_ok-at.ensures.held c.frame-page.ensures.bytes c.find.ensures c.unwrap_or-entry_number.ensures (ap (λ (e : TableEntry). e.pages) c.entry_at-pages.ensures) c.drop_held-dropped.ensures.way c.release.ensures.is
 
 pub returns-clause-way : goal.returns-clause-way
 returns-clause-way g c = goes g c

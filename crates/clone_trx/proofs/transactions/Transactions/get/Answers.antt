@@ -9,7 +9,7 @@ use Rattle.clone_trx.proofs.Common.{Donor, get_cause, Gets, page_of, IsKept}
 use Rattle.clone_trx.proofs.CauseLemmas.{copied_there}
 use Rattle.clone_trx.proofs.LookUpLemmas as lem
 use Rattle.clone_trx.proofs.PinLemmas.{still_loose}
-use Rattle.clone_trx.proofs.SpotLemmas.{all_stays, walk_kept, walk_because, walked_page, chain_there, of_row, found_place}
+use Rattle.clone_trx.proofs.SpotLemmas.{all_stays, walk_kept, walk_because, walked_page, chain_there, of_row, found_slot}
 use Rattle.clone_trx.proofs.WalkStepLemmas.{on_err}
 use Rattle.clone_trx.proofs.WayLemmas.{walk_ends}
 use Rattle.clone_trx.proofs.transactions.Transactions.get.Goals as goal
@@ -34,7 +34,7 @@ refused g c =
     let d = c.args.self.now in
     let b = lem.bucket d c.args.table c.args.key c.in-Some.bucket c.in-Some.ensures.number in
     let is_first = lem.number_is d c.args.table c.args.key c.in-Some.bucket b in
-    walk_ends (row_walk d c.args.table c.args.key false) (λ page place row. ends) c.args.buffer.now c.walk.new.buffer c.in_err-spot.field-0.0
+    walk_ends (row_walk d c.args.table c.args.key false) (λ page slot row. ends) c.args.buffer.now c.walk.new.buffer c.in_err-spot.field-0.0
     (of_row d c.args.table c.args.key b.count c.in-Some.bucket b.there is_first false c.args.buffer.now c.walk.new.buffer (Err c.in_err-spot.field-0.0) c.in_err-spot.ensures.walked)
 
 pub returns-in_err-spot-clause-answer : goal.returns-in_err-spot-clause-answer
@@ -86,7 +86,7 @@ returns-clause-answer g c =
     let shows : IsSome (page_of (image_of c.args.buffer.now) c.args.table spot.page) → page_of (image_of c.args.buffer.now) c.args.table spot.page ≡ Some c.frame.result.now = λ there.
     walked_page c.args.table c.args.buffer.now mid spot s c.laws-2.ensures.buffer c.in_ok-spot.ensures.has right there ∙ ap (λ (p : List ℕ). Some p) (sym c.frame.ensures.bytes) in
     lem.gets d c.args.trx c.args.table c.args.key c.in-Some.bucket open_one.0 active b c.in_ok-check_lock.ensures (image_of c.args.buffer.now) spot.page spot.slot c.frame.result.now c.value_on-value.result kept shows
-    (found_place d c.args.table c.args.key b.count c.in-Some.bucket b.there is_first false c.args.buffer.now mid spot w kept right) c.value_on-value.ensures)
+    (found_slot d c.args.table c.args.key b.count c.in-Some.bucket b.there is_first false c.args.buffer.now mid spot w kept right) c.value_on-value.ensures)
 
 pub returns-clause-kept : goal.returns-clause-kept
 returns-clause-kept g c =
