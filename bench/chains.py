@@ -13,7 +13,7 @@ import sys
 
 import built
 
-KEYS, PLACES, BUCKETS = 51_200, 50, 1_024
+KEYS, SLOTS, BUCKETS = 51_200, 50, 1_024
 HITS = 26_000_000
 TIMES = 3
 
@@ -30,8 +30,8 @@ def seconds(program, way, first, second):
 
 
 def walked(keys):
-    """How many pages are walked while so many keys get their places on one chain."""
-    return sum(max(1, -(-key // PLACES)) for key in range(keys))
+    """How many pages are walked while so many keys get their slots on one chain."""
+    return sum(max(1, -(-key // SLOTS)) for key in range(keys))
 
 
 def medians(program):

@@ -1,8 +1,9 @@
 #!/bin/sh
-# Refuses each request for memory that the program makes over an example once, one in each run. A run
-# has to end with status 1, a front of the whole output, and nothing in the binlog before the output is
-# whole; or, where the request was a hint to take more room, with status 0, the whole output and the
-# whole binlog. Prints for each example how many requests there were, and how many runs ended in each way.
+# tests/memory.sh [SCRIPT..]
+# Refuses each request for memory that the program makes over a script once, one in each run; without words over each
+# example. A run has to end with status 1, a front of the whole output, and nothing in the binlog before the output is
+# whole; or, where the request was a hint to take more room, with the status, the output and the binlog that it has with
+# all the memory. Prints for each script how many requests there were, and how many runs ended in each way.
 
 top=$(cd "$(dirname "$0")/.." && pwd) || exit 1
 work=$(mktemp -d) || exit 1
@@ -76,7 +77,8 @@ __attribute__((destructor)) static void tell(void) {
 C
 gcc -O2 -Wall -shared -fPIC -fno-builtin -o "$work/refuse.so" "$work/refuse.c" || exit 1
 
-python3 - "$top/crates/clone_prog/out/clone_prog" "$work" "$top"/examples/*.steps <<'PYTHON'
+[ $# -gt 0 ] || set -- "$top"/examples/*.steps
+python3 - "$top/crates/clone_prog/out/clone_prog" "$work" "$@" <<'PYTHON'
 import collections
 import concurrent.futures
 import os
@@ -99,8 +101,8 @@ def whole_run(program, work, script):
     """The run in which nothing is refused, and the number of its requests."""
     counted = os.path.join(work, "counted")
     whole = run(program, work, script, 0, counted)
-    if whole.returncode != 0:
-        sys.exit(f"{script}: status {whole.returncode} with all the memory")
+    if whole.returncode == 1:
+        sys.exit(f"{script}: status 1 with all the memory")
     if not os.path.exists(counted):
         sys.exit(f"{program}: its requests for memory are not those of a C library that it loads")
     with open(counted) as number:
@@ -109,7 +111,7 @@ def whole_run(program, work, script):
 
 def is_right(ran, whole):
     """Whether a run with a refused request ended as it may."""
-    if ran.returncode == 0:
+    if ran.returncode == whole.returncode:
         return (ran.stdout, ran.stderr) == (whole.stdout, whole.stderr)
     if ran.returncode != 1 or not whole.stdout.startswith(ran.stdout):
         return False
@@ -119,12 +121,15 @@ def is_right(ran, whole):
 def try_each(program, work, script):
     """Refuses each request of a script in turn, prints what came of it, and says whether all was right."""
     whole, requests = whole_run(program, work, script)
+    name = os.path.basename(script)
+    if name == "source":
+        name = os.path.basename(os.path.dirname(os.path.abspath(script)))
     numbers = range(1, requests + 1)
     with concurrent.futures.ThreadPoolExecutor(os.cpu_count()) as pool:
         runs = list(pool.map(lambda number: run(program, work, script, number), numbers))
     ends = collections.Counter(ran.returncode for ran in runs)
     wrong = [number for number, ran in zip(numbers, runs) if not is_right(ran, whole)]
-    print(f"{os.path.basename(script):>24} {requests:>9} {ends[0]:>9} {ends[1]:>9} {len(wrong):>6}")
+    print(f"{name:>48} {requests:>9} {ends[whole.returncode]:>9} {ends[1]:>9} {len(wrong):>6}")
     for number in wrong[:SHOWN]:
         ran = runs[number - 1]
         print(f"    request {number}: status {ran.returncode}, {len(ran.stdout)} bytes of output, {len(ran.stderr)} of the binlog")
@@ -132,7 +137,7 @@ def try_each(program, work, script):
 
 
 def main(program, work, *scripts):
-    print(f"{'example':>24} {'requests':>9} {'status 0':>9} {'status 1':>9} {'wrong':>6}")
+    print(f"{'script':>48} {'requests':>9} {'whole':>9} {'status 1':>9} {'wrong':>6}")
     right = [try_each(program, work, script) for script in scripts]
     if not all(right):
         sys.exit(1)

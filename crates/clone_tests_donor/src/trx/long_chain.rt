@@ -1,5 +1,5 @@
 //! Long chains: the rows of one bucket, which are found one after the other from the chain's end
-//! on, and again after recovery.
+//! on, and again after recovery; and such a table dropped and made anew with another size.
 ghost use Rattle.clone_model.specs.Config.{IsConfig};
 
 use crate::trx::beside::FEW;
@@ -16,6 +16,17 @@ use std::test::Fail;
 
 // As many changes as a transaction has at most.
 const CHANGES: u64 = 160;
+
+// The buckets of the table that is made anew, and its one row.
+const BUCKETS: u32 = 3;
+
+const KEY: u64 = 7;
+
+const VALUE: &[u8] = b"new";
+
+// What that takes of the log behind the reading of the chain: that reading's begin and commit; the
+// drop and the table; and a transaction with one put, on a page that isn't in use yet.
+const MADE_ANEW: usize = 30 + 51 + 35 + 39 + 30 + 11 + 218 + 51;
 
 /// A chain of full pages, and the log of what fills it: of opening and the table; of the begins,
 /// the first of which begins an undo page; of the other three undo pages; of the commits; of the
@@ -172,4 +183,102 @@ fn a_chain_of_100_pages(rt: HostRuntime) -> Result<(), Fail> {
 #[test]
 fn a_chain_of_more_pages_than_frames(rt: HostRuntime) -> Result<(), Fail> {
     try_chain(&rt, rt.alloc(), FEW, SHORTER, true)
+}
+
+// The table is dropped with its chain, and one of its number is made. None of the chain's rows is
+// in it, and it gets one of its own.
+fn make_anew(
+    rt: &impl Abort,
+    alloc: Global,
+    donor: &mut Logged<MemDisk>,
+    chain: Chain,
+) -> Result<(), Fail> {
+    let index = chain.transactions.saturating_add(1);
+    expect_answer(rt, alloc, donor, Call::Drop(1), Answer::Dropped)?;
+    expect_answer(rt, alloc, donor, Call::Create(1, BUCKETS), Answer::Created)?;
+    expect_answer(rt, alloc, donor, Call::Begin(0, index), Answer::Begun(0))?;
+    for key in 0..chain.keys {
+        expect_answer(rt, alloc, donor, Call::Get(0, 1, key), Answer::Shown(None))?;
+    }
+    expect_answer(
+        rt,
+        alloc,
+        donor,
+        Call::Put(0, 1, KEY, VALUE),
+        Answer::Changed,
+    )?;
+    let position = Answer::Committed(index.saturating_add(1));
+    expect_answer(rt, alloc, donor, Call::Commit(0), position)
+}
+
+// The one row of the table that was made anew, and the number of commits.
+fn commits_made_anew(alloc: Global, chain: Chain) -> Result<Commits, Fail> {
+    let mut rows = Vec::new(alloc);
+    rows.push((1, KEY, Value::new(VALUE).ok_or("too long")?))?;
+    Ok(Commits {
+        rows,
+        position: chain.transactions.saturating_add(2),
+        drops: 1,
+    })
+}
+
+// The log alone gives that row, and no row of the chain.
+fn fill_and_make_anew(
+    rt: &impl Abort,
+    alloc: Global,
+    donor: &mut Logged<MemDisk>,
+    chain: Chain,
+    lands: bool,
+) -> Result<(), Fail> {
+    fill(rt, alloc, donor, chain, lands)?;
+    read_backwards(rt, alloc, donor, chain)?;
+    make_anew(rt, alloc, donor, chain)?;
+    let log = chain.log.saturating_add(MADE_ANEW);
+    assert_eq!(rt; donor.redo().len(), log);
+    let whole = Redo {
+        from: FIRST_LSN,
+        bytes: donor.redo(),
+    };
+    let commits = commits_made_anew(alloc, chain)?;
+    expect_recovered(rt, alloc, &commits, &mut MemDisk::new(alloc), whole)?;
+    donor.land_all()
+}
+
+// So does the disk alone, whose file has a page for each bucket.
+fn try_anew(
+    rt: &impl Abort,
+    alloc: Global,
+    config: Config,
+    chain: Chain,
+    lands: bool,
+) -> Result<(), Fail>
+    requires config { IsConfig config }
+{
+    let mut donor = Logged::open(alloc, MemDisk::new(alloc), config)?;
+    let done = fill_and_make_anew(rt, alloc, &mut donor, chain, lands);
+    let mut disk = donor.into_disk();
+    done?;
+    assert_eq!(rt; disk.pages(1), Ok(Some(BUCKETS)));
+    let nothing = Redo {
+        from: FIRST_LSN,
+        bytes: &[],
+    };
+    expect_recovered(
+        rt,
+        alloc,
+        &commits_made_anew(alloc, chain)?,
+        &mut disk,
+        nothing,
+    )
+}
+
+#[test]
+fn a_chain_of_100_pages_made_anew(rt: HostRuntime) -> Result<(), Fail> {
+    try_anew(&rt, rt.alloc(), ENOUGH, LONG, false)
+}
+
+// The file has all pages of the chain when the table is dropped.
+#[test]
+fn a_chain_on_its_file_made_anew(rt: HostRuntime) -> Result<(), Fail> {
+    try_anew(&rt, rt.alloc(), FEW, SHORTER, true)
 }
