@@ -1,8 +1,8 @@
 #!/bin/sh
 # Runs the built program over each case of tests/program, and compares its output, its binlog and its
 # status with the case's files. The last line is 'N passed, M failed'. With the word --built it takes the
-# program as it stands built; without it, `rt` proves and builds it first. Where there is none then, the
-# cases are left out. A case is a folder with some of these files:
+# program as it stands built; without it, `rt` proves and builds it first. Where there is no program then,
+# each case has failed. A case is a folder with some of these files:
 #
 #   words    the words of the command line, one a line; without it they are `steps`
 #   source   what the program reads
@@ -98,7 +98,8 @@ if build "$1"; then
         fi
     done
 else
-    echo "the program is not built, and its cases are left out"
+    failed=$(find "$cases" -mindepth 1 -maxdepth 1 | wc -l)
+    echo "the program is not built"
 fi
 echo "$passed passed, $failed failed"
 [ "$failed" -eq 0 ]

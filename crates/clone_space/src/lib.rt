@@ -7,8 +7,6 @@ mod entry;
 mod laws;
 mod reading;
 mod records;
-#[cfg(test)]
-mod tests;
 
 pub use entry::{BUCKETS_AT, PAGES_AT, TableEntry};
 pub use laws::{entry_laws, free_laws, link_laws, list_laws, room_law, size_laws};

@@ -15,4 +15,6 @@ mod row;
 #[cfg(test)]
 mod shadow;
 #[cfg(test)]
+mod space;
+#[cfg(test)]
 mod undo;

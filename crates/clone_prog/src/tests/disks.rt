@@ -1,7 +1,6 @@
 //! Runs over disks that aren't empty or that fail, and the lines that write pages.
 
-use super::{PLAINEST, PLAINEST_BINLOG, PLAINEST_OUT, Ran, source_of, words_of};
-use crate::run::clone_main;
+use super::{PLAINEST, Ran, run_over, source_of};
 use clone_memdisk::MemDisk;
 use clone_model::rows_text;
 use clone_outside::{DiskOrder, MARK_SIZE, MemSink, PageDisk};
@@ -17,26 +16,9 @@ fn run_on(
     donor: MemDisk,
     recipient: MemDisk,
 ) -> Result<Ran, AllocError> {
-    let words = words_of(alloc, &["steps"])?;
     let mut source = source_of(alloc, script.as_bytes())?;
-    let mut out = MemSink::new(alloc);
-    let mut binlog = MemSink::new(alloc);
-    let ended = clone_main(
-        alloc,
-        &words,
-        &mut source,
-        &mut out,
-        &mut binlog,
-        donor,
-        recipient,
-    );
-    Ok(Ran {
-        status: ended.status,
-        out,
-        binlog,
-        donor: ended.donor,
-        recipient: ended.recipient,
-    })
+    let sinks = (MemSink::new(alloc), MemSink::new(alloc));
+    run_over(alloc, &["steps"], &mut source, sinks, (donor, recipient))
 }
 
 /// What stands against a run on one of its disks.
@@ -140,9 +122,9 @@ fn ends_at_disks_that_fail_or_are_not_empty(rt: HostRuntime) -> Result<(), Fail>
     Ok(())
 }
 
-/// Scripts with lines of the disks and the log, each with its status, its output and its binlog,
-/// and the rows that the recipient's disk recovers to, if it has a clone.
-const DISK_SCRIPTS: [(&str, u8, &str, &str, Option<&str>); 13] = [
+/// Scripts, each with its status, its output and its binlog, and the rows that the recipient's disk recovers to,
+/// if it has a clone.
+const DISK_SCRIPTS: [(&str, u8, &str, &str, Option<&str>); 2] = [
     // a transaction is open at the stop, and its page was flushed before
     (
         "create 1 4\nset 0 1 5 aa\nbegin 1\nput 0 1 5 bb\nlsn\nclean\nclone\ncommit 0\n",
@@ -150,54 +132,6 @@ const DISK_SCRIPTS: [(&str, u8, &str, &str, Option<&str>); 13] = [
         "created\ncommitted 1\ntrx 0\nok\nlsn 8821\ncleaned 3\ncomplete position 1\ncommitted 2\n",
         "commit 0 0 1\n1 5 aa\ncommit 1 0 1\n1 5 bb\n",
         Some("1 5 aa\n"),
-    ),
-    // a flush fails before the clone
-    (
-        "create 1 1\nset 0 1 1 aa\nflush 1 0\nfail donor 1\nhalf 1 0\nflush 0 0\nhalf 0 0\nland 0 0\nflush 0 1\nhalf 0 1\nland 0 1\ncheckpoint\ntear 255\nclone\nrows\n",
-        0,
-        "created\ncommitted 1\nbegun\nnoted\nrefused E17\nbegun\nhalf\nlanded\nbegun\nhalf\nlanded\ncheckpoint 8293\nnoted\ncomplete position 1\n1 1 aa\nrows 1\n",
-        "commit 0 0 1\n1 1 aa\n",
-        Some("1 1 aa\n"),
-    ),
-    // a page is changed while it is flushed
-    (
-        "create 1 1\nset 0 1 1 aa\nflush 1 0\nset 0 1 1 bb\nhalf 1 0\nland 1 0\nflush 0 0\nhalf 0 0\nland 0 0\nflush 0 1\nhalf 0 1\nland 0 1\ncheckpoint\nclone\nrows\n",
-        0,
-        "created\ncommitted 1\nbegun\ncommitted 2\nhalf\nlanded\nbegun\nhalf\nlanded\nbegun\nhalf\nlanded\ncheckpoint 8603\ncomplete position 2\n1 1 bb\nrows 1\n",
-        "commit 0 0 1\n1 1 aa\ncommit 0 1 1\n1 1 bb\n",
-        Some("1 1 bb\n"),
-    ),
-    // the log's end, behind opening, a table, a first row and a row in another bucket
-    (
-        "lsn\ncreate 1 4\nlsn\nset 0 1 1 aa\nlsn\nset 0 1 2 bb\nlsn\nclone\n",
-        0,
-        "lsn 8213\ncreated\nlsn 8252\ncommitted 1\nlsn 8573\ncommitted 2\nlsn 8883\ncomplete position 2\n",
-        "commit 0 0 1\n1 1 aa\ncommit 0 1 1\n1 2 bb\n",
-        Some("1 1 aa\n1 2 bb\n"),
-    ),
-    // opening leaves one dirty page
-    (
-        "clean\nclean\ncheckpoint\nflush 0 0\nflush 0 1\nhalf 0 0\nland 0 0\n",
-        0,
-        "cleaned 1\ncleaned 0\ncheckpoint 8213\nrefused E14\nrefused E14\nrefused E16\nrefused E16\n",
-        "",
-        None,
-    ),
-    // the refusals of a flush, in its order
-    (
-        "begin 0\ncreate 1 1\nput 0 1 1 aa\nflush 1 0\nland 1 0\nflush 1 0\nhalf 1 0\nhalf 1 0\nland 1 0\nland 1 0\nflush 1 0\nundo 0\nundo 0\n",
-        0,
-        "trx 0\ncreated\nok\nbegun\nrefused E16\nrefused E15\nhalf\nrefused E16\nlanded\nrefused E16\nrefused E14\nundone 0\nended\n",
-        "",
-        None,
-    ),
-    // the disk refuses a table, and a flush, which is repeated
-    (
-        "fail donor 1\ncreate 1 1\ncreate 1 1\nset 0 1 1 aa\nfail donor 1\nclean\nclean\nclean\nclone\n",
-        0,
-        "noted\nrefused E17\ncreated\ncommitted 1\nnoted\nrefused E17\ncleaned 3\ncleaned 0\ncomplete position 1\n",
-        "commit 0 0 1\n1 1 aa\n",
-        Some("1 1 aa\n"),
     ),
     // the recipient's disk fails in the clone
     (
@@ -207,40 +141,6 @@ const DISK_SCRIPTS: [(&str, u8, &str, &str, Option<&str>); 13] = [
         "commit 0 0 1\n1 7 6869\ncommit 0 1 1\n1 8 aa\n",
         None,
     ),
-    // and in the rows, which are shown the next time
-    (
-        "create 1 4\nset 0 1 7 6869\nclone\nfail recipient 1\nrows\nrows\nclone\n",
-        7,
-        "created\ncommitted 1\ncomplete position 1\nnoted\nrecipient disk fault\n1 7 6869\nrows 1\ncomplete position 1\n",
-        PLAINEST_BINLOG,
-        Some("1 7 6869\n"),
-    ),
-    // a call that isn't made doesn't fail
-    (
-        "fail donor 1000000\nfail recipient 1000000\ntear 0\ncreate 1 4\nset 0 1 7 6869\nclone\nrows\n",
-        0,
-        "noted\nnoted\nnoted\ncreated\ncommitted 1\ncomplete position 1\n1 7 6869\nrows 1\n",
-        PLAINEST_BINLOG,
-        Some("1 7 6869\n"),
-    ),
-    // the least sizes
-    (
-        "pool 16\nring 65536\ncreate 1 4\nset 0 1 7 6869\nclone\nrows\n",
-        0,
-        PLAINEST_OUT,
-        PLAINEST_BINLOG,
-        Some("1 7 6869\n"),
-    ),
-    // the largest
-    (
-        "ring 16777216\npool 4096\ncreate 1 4\nset 0 1 7 6869\nclone\nrows\n",
-        0,
-        PLAINEST_OUT,
-        PLAINEST_BINLOG,
-        Some("1 7 6869\n"),
-    ),
-    // a clone of nothing
-    ("clone\n", 0, "complete position 0\n", "", Some("")),
 ];
 
 #[test]

@@ -1,8 +1,8 @@
-use crate::{
-    TableEntry, create_records, drop_records, entry_at, find, growth_records, least_free, sizes,
-};
 use clone_mtr::{LONGEST_MTR, Record, apply, encode_into};
 use clone_page::{Page, PageKind};
+use clone_space::{
+    TableEntry, create_records, drop_records, entry_at, find, growth_records, least_free, sizes,
+};
 use std::alloc::Global;
 use std::test::Fail;
 
