@@ -5,7 +5,8 @@ with nothing beside, and once with a row set, a page flushed and redo archived b
 them as many pages are copied plainly, each read from the one disk and written to the other. Prints the
 seconds of processor time above those that making the tables takes, the pages a second, and the memory above
 that of the plain copy, which has both disks: medians of five runs, which are made in turn; and how these
-times compare. The program that is timed is built in a copy of the crates, since it is no part of what is
+times compare. Before that a copy that is made while the donor works is recovered, and its rows have to be those
+of the commits before its stop. The program that is timed is built in a copy of the crates, since it is no part of what is
 proved."""
 
 import os
@@ -16,7 +17,7 @@ import built
 
 CRATES = (
     "clone_base clone_outside clone_memdisk clone_model clone_plain "
-    "clone_chunk clone_session clone_engine clone_donor"
+    "clone_chunk clone_session clone_engine clone_donor clone_lay clone_recover"
 )
 WAYS = ("none", "plain", "idle", "busy")
 TABLES = (31, 62)
@@ -35,6 +36,7 @@ def run(program, way, tables):
 
 
 def main(program):
+    run(program, "check", TABLES[0])
     kinds = [(way, tables) for tables in TABLES for way in WAYS]
     runs = [{kind: run(program, *kind) for kind in kinds} for _ in range(TIMES)]
     median = {kind: [statistics.median(r[kind][i] for r in runs) for i in (0, 1)] for kind in kinds}
