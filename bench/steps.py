@@ -168,8 +168,8 @@ def main(program, folder, *older):
 
 
 def build():
-    """Builds the program where it isn't built yet. Without words it says how it is used."""
-    if subprocess.run([os.path.join(TOP, "clone")], stdin=subprocess.DEVNULL, stdout=subprocess.DEVNULL).returncode != 2:
+    """Proves and builds the program where it isn't built yet."""
+    if subprocess.run([os.path.join(TOP, "clone"), "--prove"], stdout=subprocess.DEVNULL).returncode != 0:
         sys.exit(1)
     return os.path.join(TOP, "crates", "clone_prog", "out", "clone_prog")
 

@@ -3,7 +3,7 @@
 # written (the edit of must-fail/open_writes_not_tracked.edit in clone_session). The script refused/clone.steps runs with
 # the program as it is, and with that donor, built without proofs: its clone misses a commit. Then the prover gets the
 # copy, and says which clause of Cloning::open doesn't hold.
-# The tree has to be built: run `./clone` once before.
+# Where the tree is built, by `./clone --prove` or by `.ci/run`, it takes about a minute and a half, else some more.
 
 top=$(cd "$(dirname "$0")/.." && pwd) || exit 1
 copy=$(mktemp -d) || exit 1

@@ -9,9 +9,7 @@ top=$(cd "$(dirname "$0")/.." && pwd) || exit 1
 work=$(mktemp -d) || exit 1
 trap 'rm -rf "$work"' EXIT
 
-# Builds the program where it is not built yet. Without words it says how it is used.
-"$top/clone" </dev/null >/dev/null
-[ $? -eq 2 ] || exit 1
+"$top/clone" --prove >/dev/null || exit 1
 
 # Stands before the C library's requests for memory. REFUSED is the number of the one that fails, from 1
 # on, and 0 for none; COUNTED is the file that gets their number at the end. Those of the loader, before
