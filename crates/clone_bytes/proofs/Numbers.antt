@@ -1,5 +1,5 @@
 -- The bytes of a number that was read are the bytes that were read.
-use Rattle.std.proofs.Common.{◌≡◌, ℕ, zero, suc, ◌+◌, ◌^◌, ◌<◌, ◌≤◌, List, [], ◌∷◌, length, take, drop, refl, sym, ◌∙◌, arith, inl, inr}
+use Rattle.std.proofs.Common.{◌≡◌, ℕ, zero, suc, ◌+◌, ◌^◌, ◌<◌, ◌≤◌, List, [], ◌∷◌, ◌++◌, length, take, drop, replicate, refl, sym, ◌∙◌, arith, inl, inr}
 use Rattle.std.proofs.Math.Nat.{mod-lt}
 use Rattle.std.proofs.lemmas.Bool.{cases_lt}
 use Rattle.std.proofs.lemmas.List.{append-nil, length-take, get_or-drop, get_or-take, get_or_past}
@@ -23,7 +23,7 @@ byte_below : (k x : ℕ) → byte_at k x < 256
 byte_below zero x = mod-lt _ (omega arith)
 byte_below (suc k) x = mod-lt _ (omega arith)
 
-IsBytes-big_bytes : (n x : ℕ) → IsBytes (big_bytes n x)
+pub IsBytes-big_bytes : (n x : ℕ) → IsBytes (big_bytes n x)
 IsBytes-big_bytes zero x i = omega arith
 IsBytes-big_bytes (suc n) x zero = byte_below n x
 IsBytes-big_bytes (suc n) x (suc i) = IsBytes-big_bytes n x i
@@ -50,3 +50,22 @@ big_bytes-big_number n bytes long fits =
     let back : big_number n (big_bytes n x) ≡ x = rw append-nil at (big_number-reads_back n x [] below) in
     let cut : big_number n (take n bytes) ≡ x = big_from-take 0 n n bytes (omega arith) in
     same_bytes n (big_bytes n x) (take n bytes) (length-bytes_high_first n x) (omega (arith, length-take n bytes)) (IsBytes-big_bytes n x) (IsBytes-take n bytes fits) (back ∙ sym cut)
+
+pub IsBytes-append : (xs ys : List ℕ) → IsBytes xs → IsBytes ys → IsBytes (xs ++ ys)
+IsBytes-append [] ys p q i = q i
+IsBytes-append (x ∷ xs) ys p q zero = p 0
+IsBytes-append (x ∷ xs) ys p q (suc i) = IsBytes-append xs ys (λ k. p (suc k)) q i
+
+pub IsBytes-front : (xs ys : List ℕ) → IsBytes (xs ++ ys) → IsBytes xs
+IsBytes-front [] ys p i = omega arith
+IsBytes-front (x ∷ xs) ys p zero = p 0
+IsBytes-front (x ∷ xs) ys p (suc i) = IsBytes-front xs ys (λ k. p (suc k)) i
+
+pub IsBytes-back : (xs ys : List ℕ) → IsBytes (xs ++ ys) → IsBytes ys
+IsBytes-back [] ys p i = p i
+IsBytes-back (x ∷ xs) ys p i = IsBytes-back xs ys (λ k. p (suc k)) i
+
+pub IsBytes-replicate : (n b : ℕ) → b < 256 → IsBytes (replicate n b)
+IsBytes-replicate zero b below i = omega arith
+IsBytes-replicate (suc n) b below zero = below
+IsBytes-replicate (suc n) b below (suc i) = IsBytes-replicate n b below i
