@@ -1,5 +1,5 @@
 -- The laws hold of numbers, of runs of bytes, and of constrained numbers.
-use Rattle.std.proofs.Common.{◌≡◌, ℕ, zero, suc, ◌+◌, ◌-◌, ◌*◌, ◌/◌, ◌%◌, ◌^◌, ◌<◌, ◌≤◌, true, false, cond, ltb, List, [], ◌∷◌, ◌++◌, length, take, drop, replicate, Result, Ok, Err, refl, sym, ap, subst, ◌∙◌, arith, inl, inr}
+use Rattle.std.proofs.Common.{◌≡◌, ℕ, zero, suc, ◌+◌, ◌-◌, ◌*◌, ◌/◌, ◌%◌, ◌^◌, ◌<◌, ◌≤◌, ◌⊎◌, true, false, cond, ltb, List, [], ◌∷◌, ◌++◌, length, take, drop, replicate, Result, Ok, Err, refl, sym, ap, subst, ◌∙◌, arith, inl, inr}
 use Rattle.std.proofs.Math.Nat.{div-mul-le_self, lt-div-mul-add, div-eq_of_lt-le, div-div-eq-div-mul, div-eq_of_lt, one-le-pow, pow-suc, mul_comm}
 use Rattle.std.proofs.lemmas.Bool.{cases_lt, lt-ltb, le-ltb}
 use Rattle.std.proofs.lemmas.List.{append-nil, length-append, length-take, length-replicate, take-append-drop, take_all, take_at, drop_at, drop_all}
@@ -7,8 +7,9 @@ use Rattle.std.specs.Int.{byte_at as byte_of}
 use Rattle.byteorder.specs.Endian.{big_number, big_bytes}
 use Rattle.byteorder.specs.Numbers.{big_from-lt, big_number-reads_back, length-bytes_high_first}
 use Rattle.clone_bytes.specs.Fields.{IsBytes}
-use Rattle.clone_bytes.specs.Formats.{Format, ◌>>=◌, number, run, Judge, byte_at, judged_at, judged, least_of, most_of, Refusals, Begun, IsFormat}
-use Rattle.clone_bytes.proofs.Numbers.{IsBytes-append, IsBytes-drop, IsBytes-take, IsBytes-replicate, IsBytes-big_bytes, big_bytes-big_number}
+use Rattle.clone_bytes.specs.Formats.{Format, ◌>>=◌, number, run, Judge, byte_at, judged_at, judged, code_at, code, two_at, two, least_of, most_of, Refusals, Begun, IsFormat}
+use Rattle.clone_bytes.proofs.Numbers.{IsBytes-cons, IsBytes-append, IsBytes-drop, IsBytes-take, IsBytes-replicate, IsBytes-big_bytes, big_bytes-big_number}
+use Rattle.clone_bytes.proofs.Formats.{worded}
 use Rattle.clone_bytes.proofs.Answers.{same_ok, same_err, not_both, bind, bind_ok, bind_err, outcome}
 
 -- ---- fields of any bytes
@@ -182,3 +183,55 @@ judged_laws {refusals = refusals} {width = width} {Wanted = Wanted} {judge = jud
       opens = λ bytes fit e. (let x = missing laws width 0 bytes begun fit e in record { value = x.value; more = x.more; has = x.wanted; some = x.some; parts = x.parts });
       stays = λ bytes more e fit other h. remains laws width 0 bytes more e other h;
     }
+
+-- ---- one byte and two
+
+-- a code is a number of one byte whose judge looks at it alone
+pub record IsCode {E : Type 0} (refusals : Refusals E) (at : ℕ) (judge : ℕ → Result (Unit {0}) E) : Type 0 where
+  pub some : (x : ℕ) × ((x < 256) × (judge x ≡ Ok tt))
+  pub refuses : (x : ℕ) (e : E) → judge x ≡ Err e → (e ≡ refusals.short → ⊥) × (refusals.place e ≤ at)
+
+code_from : {E : Type 0} (short : E) (judge : ℕ → Result (Unit {0}) E) (bytes : List ℕ) (x : ℕ) (rest : List ℕ) → IsBytes bytes → code_at short judge bytes ≡ Ok (x, rest) → ((x < 256) × (judge x ≡ Ok tt)) × (bytes ≡ x ∷ rest)
+code_from short judge [] x rest fit e = absurd (not_both e refl)
+code_from short judge (b ∷ t) x rest fit e =
+    let a = bind_ok (judge b) _ (x, rest) e in
+    let same = same_ok refl a.2 in
+    let value : b ≡ x = ap (λ p. p.0) same in
+    (subst (λ n. (n < 256) × (judge n ≡ Ok tt)) value (fit 0, a.1), (let left : t ≡ rest = ap (λ p. p.1) same in cc))
+
+code_fails : {E : Type 0} {refusals : Refusals E} {at : ℕ} {judge : ℕ → Result (Unit {0}) E} → IsCode refusals at judge → (bytes : List ℕ) (e : E) → code_at refusals.short judge bytes ≡ Err e
+    → ((bytes ≡ []) × (e ≡ refusals.short)) ⊎ ((e ≡ refusals.short → ⊥) × ((more : List ℕ) → code_at refusals.short judge (bytes ++ more) ≡ Err e) × (refusals.place e < at + length bytes))
+code_fails laws [] e h = inl (refl, same_err h refl)
+code_fails {judge = judge} laws (b ∷ t) e h =
+    elim (bind_err (judge b) _ e h) [
+      | inl failed ↦ (let p = laws.refuses b e failed in inr (p.0, λ more. bind _ failed, omega (arith, p.1)))
+      | inr a ↦ absurd (not_both refl a.2)
+    ]
+
+pub code_laws : {E : Type 0} {refusals : Refusals E} {at : ℕ} {judge : ℕ → Result (Unit {0}) E} → IsCode refusals at judge → IsFormat refusals at (code refusals.short judge)
+code_laws {refusals = refusals} {judge = judge} laws = record {
+  one = laws.some;
+  fit = λ x has. IsBytes-cons x [] has.0 (λ i. omega arith);
+  back = λ x rest has. bind (λ one. Ok (x, rest)) has.1;
+  from = code_from refusals.short judge;
+  opens = λ bytes fit e. elim (code_fails laws bytes refusals.short e) [
+    | inl none ↦ (let x = laws.some in record { value = x.0; more = x.0 ∷ []; has = x.1; some = omega arith; parts = ap (λ t. t ++ x.0 ∷ []) none.0 })
+    | inr failed ↦ absurd (failed.0 refl)
+  ];
+  stays = λ bytes more e fit other h. elim (code_fails laws bytes e h) [ inl none ↦ absurd (other none.1) | inr failed ↦ (failed.1 more, failed.2) ];
+}
+
+two_is : {E : Type 0} (short : E) (judge : Judge E) (bytes : List ℕ) → two_at short judge bytes ≡ judged_at short judge 0 2 bytes
+two_is short judge [] = refl
+two_is short judge (h ∷ []) =
+    let front : 0 * 256 + h ≡ h = omega arith in
+    rw front refl
+two_is short judge (h ∷ l ∷ t) =
+    let front : 0 * 256 + h ≡ h = omega arith in
+    let least : least_of 0 (h * 256 + l) ≡ h * 256 + l = omega arith in
+    let most : h * 256 + l + 0 ≡ h * 256 + l = omega arith in
+    rw (front, least, most) refl
+
+pub two_laws : {E : Type 0} {refusals : Refusals E} {at : ℕ} {Wanted : ℕ → Type 0} {judge : Judge E} → IsJudge refusals at 2 Wanted judge → IsFormat refusals at (two refusals.short Wanted judge)
+two_laws {refusals = refusals} {Wanted = Wanted} {judge = judge} laws =
+    worded (judged refusals.short Wanted judge 2) (two refusals.short Wanted judge) (judged_laws laws) (two_is refusals.short judge) (λ x has. (has, refl)) (λ x has. has)

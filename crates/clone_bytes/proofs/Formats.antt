@@ -1,9 +1,9 @@
 -- The laws hold of what is made of formats for which they hold.
-use Rattle.std.proofs.Common.{◌≡◌, ℕ, zero, suc, ◌+◌, ◌<◌, ◌≤◌, Bool, true, false, List, [], ◌∷◌, ◌++◌, length, Result, Ok, Err, refl, sym, ap, subst, ◌∙◌, append_assoc, arith, inl, inr}
+use Rattle.std.proofs.Common.{◌≡◌, ℕ, zero, suc, ◌+◌, ◌<◌, ◌≤◌, ◌⊎◌, Bool, true, false, List, [], ◌∷◌, ◌++◌, length, Result, Ok, Err, refl, sym, ap, subst, ◌∙◌, append_assoc, arith, inl, inr}
 use Rattle.std.specs.List.{flat_map, AllByRecursion}
 use Rattle.std.proofs.lemmas.List.{length-append, nil_from_length}
 use Rattle.clone_bytes.specs.Fields.{IsBytes}
-use Rattle.clone_bytes.specs.Formats.{Format, ◌>>=◌, nothing, led, followed, ◌&◌, seen, choose, list, list_at, Refusals, Begun, IsFormat}
+use Rattle.clone_bytes.specs.Formats.{Format, ◌>>=◌, nothing, led, followed, ◌&◌, seen, made, chosen, choose, list, list_at, Refusals, Begun, IsFormat}
 use Rattle.clone_bytes.proofs.Numbers.{IsBytes-append, IsBytes-back}
 use Rattle.clone_bytes.proofs.Answers.{same_ok, same_err, not_both, bind, bind_ok, bind_err}
 
@@ -96,6 +96,9 @@ seen_laws {E = E} {A = A} {B = B} {f = f} Has text make laws sound onto =
       ];
     }
 
+pub made_laws : {E A B : Type 0} {refusals : Refusals E} {at : ℕ} {f : Format E A} (text : B → List ℕ) (make : A → B) → IsFormat refusals at f → ((x : A) → f.Has x → text (make x) ≡ f.text x) → IsFormat refusals at (made text make f)
+made_laws {A = A} {f = f} text make laws spelled = seen_laws (λ y. (x : A) × f.Has x × (make x ≡ y)) text make laws (λ x has. ((x, has, refl), spelled x has)) (λ y has. has)
+
 -- the same values, spelled and read the same, in other words
 pub worded : {E A : Type 0} {refusals : Refusals E} {at : ℕ} (f g : Format E A) → IsFormat refusals at f → ((bytes : List ℕ) → g.read bytes ≡ f.read bytes) → ((x : A) → f.Has x → g.Has x × (g.text x ≡ f.text x)) → ((x : A) → g.Has x → f.Has x)
     → IsFormat refusals at g
@@ -116,6 +119,11 @@ followed_laws {E = E} {A = A} {B = B} {f = f} {g = g} first second =
     worded (led f part (λ p. p.0)) (followed f g)
     (led_laws (λ p. p.0) first (λ x has. seen_laws (Led x) (λ p. (g x).text p.1) (λ y. (x, y)) (second x has) (λ y p. ((refl, p), refl)) (λ p q. (p.1, q.1, ap (λ z. (z, p.1)) q.0))) (λ x p has q. sym q.0))
     (λ bytes. refl) (λ p has. ((has.0, has.1.1), refl)) (λ p has. (has.0, (refl, has.1)))
+
+-- which of two it is
+pub which : {A : Type 0} (b : Bool) (P Q : A → Type 0) (x : A) → chosen b P Q x → ((b ≡ true) × P x) ⊎ ((b ≡ false) × Q x)
+which true P Q x p = inl (refl, p)
+which false P Q x q = inr (refl, q)
 
 pub choose_laws : {E A : Type 0} {refusals : Refusals E} {at : ℕ} {f g : Format E A} (b : Bool) → (b ≡ true → IsFormat refusals at f) → (b ≡ false → IsFormat refusals at g) → IsFormat refusals at (choose b f g)
 choose_laws true p q = p refl

@@ -69,3 +69,7 @@ pub IsBytes-replicate : (n b : ℕ) → b < 256 → IsBytes (replicate n b)
 IsBytes-replicate zero b below i = omega arith
 IsBytes-replicate (suc n) b below zero = below
 IsBytes-replicate (suc n) b below (suc i) = IsBytes-replicate n b below i
+
+pub IsBytes-cons : (x : ℕ) (xs : List ℕ) → x < 256 → IsBytes xs → IsBytes (x ∷ xs)
+IsBytes-cons x xs p q zero = p
+IsBytes-cons x xs p q (suc i) = q i

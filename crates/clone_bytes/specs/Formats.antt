@@ -62,6 +62,30 @@ abbrev pub judged : {E : Type 0} → E → (ℕ → Type 0) → Judge E → ℕ 
 judged short Wanted judge n =
     record { Has = Wanted; text = big_bytes n; read = judged_at short judge 0 n }
 
+-- a code of one byte that a judge lets pass
+abbrev pub code_at : {E : Type 0} → E → (ℕ → Result (Unit {0}) E) → List ℕ → Result (ℕ × List ℕ) E
+code_at short judge bytes =
+    byte_at short bytes >>= λ byte. judge byte.0 >>= λ one. Ok (byte.0, byte.1)
+
+abbrev pub code : {E : Type 0} → E → (ℕ → Result (Unit {0}) E) → Format E ℕ
+code short judge = record {
+  Has = λ x. (x < 256) × (judge x ≡ Ok tt);
+  text = λ x. x ∷ [];
+  read = code_at short judge;
+}
+
+-- a number of two bytes that is wanted
+abbrev pub two_at : {E : Type 0} → E → Judge E → List ℕ → Result (ℕ × List ℕ) E
+two_at short judge bytes =
+    byte_at short bytes >>= λ high.
+    judge (high.0 * 256) (high.0 * 256 + 255) >>= λ some.
+    byte_at short high.1 >>= λ low.
+    judge (high.0 * 256 + low.0) (high.0 * 256 + low.0) >>= λ one.
+    Ok (high.0 * 256 + low.0, low.1)
+
+abbrev pub two : {E : Type 0} → E → (ℕ → Type 0) → Judge E → Format E ℕ
+two short Wanted judge = record { Has = Wanted; text = big_bytes 2; read = two_at short judge }
+
 -- ---- what is made of them
 
 abbrev pub chosen : {A : Type 0} → Bool → (A → Type 0) → (A → Type 0) → A → Type 0
@@ -104,6 +128,10 @@ choose b f g = record {
   text = λ x. if b then f.text x else g.text x;
   read = λ bytes. if b then f.read bytes else g.read bytes;
 }
+
+-- what is made of each value, and so spelled
+abbrev pub made : {E A B : Type 0} → (B → List ℕ) → (A → B) → Format E A → Format E B
+made {A = A} text make f = seen (λ y. (x : A) × f.Has x × (make x ≡ y)) text make f
 
 -- so many, one after the other
 abbrev pub list_at : {E A : Type 0} → (List ℕ → Result (A × List ℕ) E) → ℕ → List ℕ
