@@ -1,5 +1,5 @@
 -- What a step of a reading answered.
-use Rattle.std.proofs.Common.{◌≡◌, ◌⊎◌, Result, Ok, Err, refl, sym, ap, ◌∙◌, inl, inr}
+use Rattle.std.proofs.Common.{◌≡◌, ◌⊎◌, Bool, true, false, cond, Result, Ok, Err, refl, sym, ap, ◌∙◌, inl, inr}
 use Rattle.clone_bytes.specs.Formats.{◌>>=◌}
 
 -- a value or a refusal
@@ -28,3 +28,8 @@ bind_ok (Err d) f y e = absurd cc
 pub bind_err : {E A B : Type 0} (r : Result A E) (f : A → Result B E) (e : E) → (r >>= f) ≡ Err e → (r ≡ Err e) ⊎ ((x : A) × (r ≡ Ok x) × (f x ≡ Err e))
 bind_err (Ok x) f e h = inr (x, refl, h)
 bind_err (Err d) f e h = inl (ap (λ d. Err d) (let same : d ≡ e = cc in same))
+
+-- which way a test went
+pub either_way : {A : Type 0} (b : Bool) (x y z : A) → cond b x y ≡ z → ((b ≡ true) × (x ≡ z)) ⊎ ((b ≡ false) × (y ≡ z))
+either_way true x y z e = inl (refl, e)
+either_way false x y z e = inr (refl, e)

@@ -1,16 +1,16 @@
 -- The laws hold of numbers, of runs of bytes, and of constrained numbers.
 use Rattle.std.proofs.Common.{◌≡◌, ℕ, zero, suc, ◌+◌, ◌-◌, ◌*◌, ◌/◌, ◌%◌, ◌^◌, ◌<◌, ◌≤◌, ◌⊎◌, true, false, cond, ltb, List, [], ◌∷◌, ◌++◌, length, take, drop, replicate, Result, Ok, Err, refl, sym, ap, subst, ◌∙◌, arith, inl, inr}
-use Rattle.std.proofs.Math.Nat.{div-mul-le_self, lt-div-mul-add, div-eq_of_lt-le, div-div-eq-div-mul, div-eq_of_lt, one-le-pow, pow-suc, mul_comm}
+use Rattle.std.proofs.Math.Nat.{div-mul-le_self, lt-div-mul-add, div-eq_of_lt-le, div-div-eq-div-mul, div-eq_of_lt, one-le-pow, pow-suc}
 use Rattle.std.proofs.lemmas.Bool.{cases_lt, lt-ltb, le-ltb}
-use Rattle.std.proofs.lemmas.List.{append-nil, length-append, length-take, length-replicate, take-append-drop, take_all, take_at, drop_at, drop_all}
+use Rattle.std.proofs.lemmas.List.{length-append, length-take, length-replicate, take-append-drop, take_all, take_at, drop_at}
 use Rattle.std.specs.Int.{byte_at as byte_of}
 use Rattle.byteorder.specs.Endian.{big_number, big_bytes}
 use Rattle.byteorder.specs.Numbers.{big_from-lt, big_number-reads_back, length-bytes_high_first}
 use Rattle.clone_bytes.specs.Fields.{IsBytes}
-use Rattle.clone_bytes.specs.Formats.{Format, ◌>>=◌, number, run, Judge, byte_at, judged_at, judged, code_at, code, two_at, two, least_of, most_of, Refusals, Begun, IsFormat}
-use Rattle.clone_bytes.proofs.Numbers.{IsBytes-cons, IsBytes-append, IsBytes-drop, IsBytes-take, IsBytes-replicate, IsBytes-big_bytes, big_bytes-big_number}
+use Rattle.clone_bytes.specs.Formats.{Format, number, run, Judge, judged_at, judged, code_at, code, two_at, two, least_of, most_of, Refusals, IsFormat}
+use Rattle.clone_bytes.proofs.Numbers.{IsBytes-cons, IsBytes-append, IsBytes-take, IsBytes-replicate, IsBytes-big_bytes, big_bytes-big_number}
 use Rattle.clone_bytes.proofs.Formats.{worded}
-use Rattle.clone_bytes.proofs.Answers.{same_ok, same_err, not_both, bind, bind_ok, bind_err, outcome}
+use Rattle.clone_bytes.proofs.Answers.{same_ok, same_err, not_both, bind, bind_ok, bind_err}
 
 -- ---- fields of any bytes
 

@@ -1,11 +1,11 @@
 -- The laws hold of what is made of formats for which they hold.
-use Rattle.std.proofs.Common.{◌≡◌, ℕ, zero, suc, ◌+◌, ◌<◌, ◌≤◌, ◌⊎◌, Bool, true, false, List, [], ◌∷◌, ◌++◌, length, Result, Ok, Err, refl, sym, ap, subst, ◌∙◌, append_assoc, arith, inl, inr}
+use Rattle.std.proofs.Common.{◌≡◌, ℕ, zero, suc, ◌+◌, ◌⊎◌, Bool, true, false, List, [], ◌∷◌, ◌++◌, length, Result, Ok, refl, sym, ap, subst, ◌∙◌, append_assoc, arith, inl, inr}
 use Rattle.std.specs.List.{flat_map, AllByRecursion}
 use Rattle.std.proofs.lemmas.List.{length-append, nil_from_length}
 use Rattle.clone_bytes.specs.Fields.{IsBytes}
-use Rattle.clone_bytes.specs.Formats.{Format, ◌>>=◌, nothing, led, followed, ◌&◌, seen, made, chosen, choose, list, list_at, Refusals, Begun, IsFormat}
+use Rattle.clone_bytes.specs.Formats.{Format, nothing, led, followed, seen, made, chosen, choose, list, Refusals, IsFormat}
 use Rattle.clone_bytes.proofs.Numbers.{IsBytes-append, IsBytes-back}
-use Rattle.clone_bytes.proofs.Answers.{same_ok, same_err, not_both, bind, bind_ok, bind_err}
+use Rattle.clone_bytes.proofs.Answers.{same_ok, not_both, bind, bind_ok, bind_err}
 
 pub nothing_laws : {E A : Type 0} {refusals : Refusals E} {at : ℕ} (x : A) → IsFormat refusals at (nothing x)
 nothing_laws x = record {

@@ -1,9 +1,5 @@
-pub mod Numbers
 pub mod Items
 pub mod Spellings
-pub mod FirstOffsets
 pub mod Decoding
-pub mod Pieces
-pub mod Fronts
-pub mod Openings
 pub mod Unique
+pub mod Pieces

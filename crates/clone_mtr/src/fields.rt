@@ -1,98 +1,156 @@
-ghost use Rattle.std.specs.Prelude.{◌≤◌, ◌+◌};
-ghost use Rattle.clone_mtr.specs.Reading.{Gives, found_record, byte_at, number_at, bytes_at, kind_numbered, kind_at, pair_at, fits, long_at, patch_at, init_at, write_at, extend_at, create_at, drop_at};
+ghost use Rattle.std.specs.Prelude.{◌≡◌, ◌≤◌, ◌+◌, option_map, IfOk};
+ghost use Rattle.clone_bytes.specs.Formats.{byte_at, number_at, run_at};
+ghost use Rattle.clone_mtr.specs.Reading.{Gives, found_record, code_judge, judge_of, begins, fits, sought, kind, patch, IsSought, fields, kind_numbered};
+ghost use Rattle.clone_mtr.specs.declared.refusal.DecodeRefusal.TheVariants.{Short};
 
 use crate::found::{Found, Span};
 use crate::{DecodeRefusal, LONGEST_MTR};
 use clone_bytes::Reader;
-use clone_page::{PageKind, is_allowed};
+use clone_page::{BODY_AT, LSN_AT, PREVIOUS_AT, PageKind, TRAILER_AT, is_allowed};
 
 // Each function answers a value, which the reader is behind then. `at` is the offset where the
 // record begins.
 
-#[tactic(auto, unfolding(crate::specs::Reading::init_at))]
-pub(crate) fn init_of<'a>(at: usize, reader: &mut Reader<'a>) -> Result<Found<'a>, DecodeRefusal>
+// What a number of two bytes has to be: a kind of page, or the offset or the length of a write.
+#[derive(Clone, Copy)]
+pub(crate) enum Sought {
+    Kind,
+    Offset,
+    Length { offset: u16 },
+}
+
+/// Whether an item with this code may stand at this offset.
+pub(crate) fn admitted(at: usize, code: u8) -> Result<(), DecodeRefusal>
     requires { at ≤ LONGEST_MTR }
-    ensures { Gives (λ x. (found_record x, reader.new)) result (init_at at reader.old) }
+    ensures { Gives (λ x. x) result (code_judge at code) }
 {
-    let (space, page) = pair_of(reader)?;
-    let kind = kind_of(at + 9, reader)?;
-    Ok(Found::Init { space, page, kind })
+    let least = match code {
+        1 => 11,
+        2 => 14,
+        3 | 4 => 9,
+        5 => 5,
+        6 => return Ok(()),
+        _ => return Err(DecodeRefusal::BadKind { at }),
+    };
+    if at + least >= LONGEST_MTR {
+        return Err(DecodeRefusal::TooLong);
+    }
+    Ok(())
 }
 
-#[tactic(auto, unfolding(crate::specs::Reading::write_at))]
-pub(crate) fn write_of<'a>(at: usize, reader: &mut Reader<'a>) -> Result<Found<'a>, DecodeRefusal>
+/// What follows the code of an item: the record, or none after the code of the end mark.
+pub(crate) fn fields_of<'a>(
+    at: usize,
+    code: u8,
+    reader: &mut Reader<'a>,
+) -> Result<Option<Found<'a>>, DecodeRefusal>
     requires { at ≤ LONGEST_MTR }
-    ensures { Gives (λ x. (found_record x, reader.new)) result (write_at at reader.old) }
+    ensures { Gives (λ x. (option_map found_record x, reader.new)) result
+        ((fields at code).read reader.old) }
 {
-    let (space, page) = pair_of(reader)?;
-    let patch = patch_of(at + 9, reader)?;
-    Ok(Found::Write { space, page, patch })
+    Ok(match code {
+        1 => {
+            let space = u32_of(reader)?;
+            let page = u32_of(reader)?;
+            let kind = kind_of(at + 9, reader)?;
+            Some(Found::Init { space, page, kind })
+        }
+        2 => {
+            let space = u32_of(reader)?;
+            let page = u32_of(reader)?;
+            let patch = patch_of(at + 9, reader)?;
+            Some(Found::Write { space, page, patch })
+        }
+        3 => {
+            let space = u32_of(reader)?;
+            let pages = u32_of(reader)?;
+            Some(Found::Extend { space, pages })
+        }
+        4 => {
+            let space = u32_of(reader)?;
+            let pages = u32_of(reader)?;
+            Some(Found::Create { space, pages })
+        }
+        5 => {
+            let space = u32_of(reader)?;
+            Some(Found::Drop { space })
+        }
+        _ => None,
+    })
 }
 
-#[tactic(auto, unfolding(crate::specs::Reading::extend_at))]
-pub(crate) fn extend_of<'a>(reader: &mut Reader<'a>) -> Result<Found<'a>, DecodeRefusal>
-    ensures { Gives (λ x. (found_record x, reader.new)) result (extend_at reader.old) }
+fn kind_of(at: usize, reader: &mut Reader) -> Result<PageKind, DecodeRefusal>
+    requires { at ≤ LONGEST_MTR + 9 }
+    ensures { Gives (λ x. (x, reader.new)) result ((kind at).read reader.old) }
 {
-    let (space, pages) = pair_of(reader)?;
-    Ok(Found::Extend { space, pages })
+    let number = two_of(at, Sought::Kind, reader)?;
+    Ok(kind_numbered(number))
 }
 
-#[tactic(auto, unfolding(crate::specs::Reading::create_at))]
-pub(crate) fn create_of<'a>(reader: &mut Reader<'a>) -> Result<Found<'a>, DecodeRefusal>
-    ensures { Gives (λ x. (found_record x, reader.new)) result (create_at reader.old) }
+fn kind_numbered(number: u16) -> PageKind
+    ensures { result ≡ kind_numbered number }
 {
-    let (space, pages) = pair_of(reader)?;
-    Ok(Found::Create { space, pages })
-}
-
-#[tactic(auto, unfolding(crate::specs::Reading::drop_at))]
-pub(crate) fn drop_of<'a>(reader: &mut Reader<'a>) -> Result<Found<'a>, DecodeRefusal>
-    ensures { Gives (λ x. (found_record x, reader.new)) result (drop_at reader.old) }
-{
-    let space = u32_of(reader)?;
-    Ok(Found::Drop { space })
+    match number {
+        1 => PageKind::System,
+        2 => PageKind::Undo,
+        3 => PageKind::Bucket,
+        _ => PageKind::Overflow,
+    }
 }
 
 // `at` is where the offset stands.
-#[tactic(auto, unfolding(crate::specs::Reading::patch_at))]
 fn patch_of<'a>(at: usize, reader: &mut Reader<'a>) -> Result<Span<'a>, DecodeRefusal>
     requires low { 9 ≤ at }
     requires high { at ≤ LONGEST_MTR + 9 }
-    ensures { Gives (λ x. (x, reader.new)) result (patch_at at reader.old) }
+    ensures { Gives (λ x. (x, reader.new)) result ((patch at).read reader.old) }
 {
-    let high = u8_of(reader)?;
-    if high > 15 {
-        return Err(DecodeRefusal::OutOfPage { at });
-    }
-    let low = u8_of(reader)?;
-    let offset = high as u16 * 256 + low as u16;
-    if !is_allowed(offset, 1) {
-        return Err(DecodeRefusal::OutOfPage { at });
-    }
-    long_of(at, offset, reader)
-}
-
-#[tactic(auto, unfolding(crate::specs::Reading::long_at))]
-fn long_of<'a>(at: usize, offset: u16, reader: &mut Reader<'a>) -> Result<Span<'a>, DecodeRefusal>
-    requires low { 9 ≤ at }
-    requires high { at ≤ LONGEST_MTR + 9 }
-    ensures { Gives (λ x. (x, reader.new)) result (long_at at offset reader.old) }
-{
-    let high = u8_of(reader)?;
-    fitting(at, offset, (high as usize * 256).max(1))?;
-    let low = u8_of(reader)?;
-    let long = high as usize * 256 + low as usize;
-    fitting(at, offset, long)?;
-    let body = bytes_of(reader, long)?;
+    let offset = two_of(at, Sought::Offset, reader)?;
+    let long = two_of(at, Sought::Length { offset }, reader)?;
+    let body = bytes_of(reader, long as usize)?;
     Ok(Span::new(offset, body))
 }
 
+fn two_of(at: usize, what: Sought, reader: &mut Reader) -> Result<u16, DecodeRefusal>
+    requires { at ≤ LONGEST_MTR + 9 }
+    ensures gives { Gives (λ x. (x, reader.new)) result ((sought at what).read reader.old) }
+    ensures sought { IfOk result (IsSought at what) }
+{
+    let high = u8_of(reader)? as u16;
+    judge(at, what, high * 256, high * 256 + 255)?;
+    let low = u8_of(reader)? as u16;
+    let number = high * 256 + low;
+    judge(at, what, number, number)?;
+    Ok(number)
+}
+
+// Whether one of the numbers from the least to the most is sought.
+fn judge(at: usize, what: Sought, least: u16, most: u16) -> Result<(), DecodeRefusal>
+    requires { at ≤ LONGEST_MTR + 9 }
+    ensures { Gives (λ x. x) result (judge_of at what least most) }
+{
+    match what {
+        Sought::Kind if least <= 4 && 1 <= most => Ok(()),
+        Sought::Kind => Err(DecodeRefusal::BadKind { at }),
+        Sought::Offset if begins(least, most) => Ok(()),
+        Sought::Offset => Err(DecodeRefusal::OutOfPage { at }),
+        Sought::Length { offset } => fitting(at, offset, least.max(most.min(1))),
+    }
+}
+
+// Whether a write may begin at one of these offsets.
+fn begins(least: u16, most: u16) -> bool
+    ensures { result ≡ begins least most }
+{
+    let (least, most) = (least as usize, most as usize);
+    PREVIOUS_AT <= most && least < LSN_AT || BODY_AT <= most && least < TRAILER_AT
+}
+
 // Whether a write may have so many bytes.
-fn fitting(at: usize, offset: u16, long: usize) -> Result<(), DecodeRefusal>
-    requires high { at ≤ LONGEST_MTR + 9 }
-    requires short { long ≤ 65535 }
+fn fitting(at: usize, offset: u16, long: u16) -> Result<(), DecodeRefusal>
+    requires { at ≤ LONGEST_MTR + 9 }
     ensures { Gives (λ x. x) result (fits at offset long) }
 {
+    let long = long as usize;
     if !is_allowed(offset, long) {
         return Err(DecodeRefusal::OutOfPage { at });
     }
@@ -102,49 +160,20 @@ fn fitting(at: usize, offset: u16, long: usize) -> Result<(), DecodeRefusal>
     Ok(())
 }
 
-#[tactic(auto, unfolding(crate::specs::Reading::kind_at))]
-fn kind_of(at: usize, reader: &mut Reader) -> Result<PageKind, DecodeRefusal>
-    ensures { Gives (λ x. (x, reader.new)) result (kind_at at reader.old) }
-{
-    if u8_of(reader)? > 0 {
-        return Err(DecodeRefusal::BadKind { at });
-    }
-    let number = u8_of(reader)?;
-    kind_numbered(at, number as u16)
-}
-
-fn kind_numbered(at: usize, number: u16) -> Result<PageKind, DecodeRefusal>
-    ensures { Gives (λ kind. kind) result (kind_numbered at number) }
-{
-    match PageKind::from_number(number) {
-        Some(kind) => Ok(kind),
-        None => Err(DecodeRefusal::BadKind { at }),
-    }
-}
-
-#[tactic(auto, unfolding(crate::specs::Reading::pair_at))]
-fn pair_of(reader: &mut Reader) -> Result<(u32, u32), DecodeRefusal>
-    ensures { Gives (λ x. (x.0, x.1, reader.new)) result (pair_at reader.old) }
-{
-    let first = u32_of(reader)?;
-    let second = u32_of(reader)?;
-    Ok((first, second))
-}
-
 pub(crate) fn u8_of(reader: &mut Reader) -> Result<u8, DecodeRefusal>
-    ensures { Gives (λ x. (x, reader.new)) result (byte_at reader.old) }
+    ensures { Gives (λ x. (x, reader.new)) result (byte_at Short reader.old) }
 {
     Ok(reader.u8()?)
 }
 
 fn u32_of(reader: &mut Reader) -> Result<u32, DecodeRefusal>
-    ensures { Gives (λ x. (x, reader.new)) result (number_at 4 reader.old) }
+    ensures { Gives (λ x. (x, reader.new)) result (number_at Short 4 reader.old) }
 {
     Ok(reader.u32()?)
 }
 
 fn bytes_of<'a>(reader: &mut Reader<'a>, n: usize) -> Result<&'a [u8], DecodeRefusal>
-    ensures { Gives (λ x. (x.now, reader.new)) result (bytes_at n reader.old) }
+    ensures { Gives (λ x. (x.now, reader.new)) result (run_at Short n reader.old) }
 {
     Ok(reader.take(n)?)
 }
