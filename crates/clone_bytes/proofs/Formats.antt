@@ -1,11 +1,11 @@
 -- The laws hold of what is made of formats for which they hold.
-use Rattle.std.proofs.Common.{◌≡◌, ℕ, zero, suc, ◌+◌, ◌⊎◌, Bool, true, false, List, [], ◌∷◌, ◌++◌, length, Result, Ok, refl, sym, ap, subst, ◌∙◌, append_assoc, arith, inl, inr}
+use Rattle.std.proofs.Common.{◌≡◌, ℕ, zero, suc, ◌+◌, ◌<◌, ◌⊎◌, Bool, true, false, cond, List, [], ◌∷◌, ◌++◌, length, Result, Ok, Err, refl, sym, ap, subst, ◌∙◌, append_assoc, arith, inl, inr}
 use Rattle.std.specs.List.{flat_map, AllByRecursion}
 use Rattle.std.proofs.lemmas.List.{length-append, nil_from_length}
 use Rattle.clone_bytes.specs.Fields.{IsBytes}
-use Rattle.clone_bytes.specs.Formats.{Format, nothing, led, followed, seen, made, chosen, choose, list, Refusals, IsFormat}
+use Rattle.clone_bytes.specs.Formats.{Format, nothing, led, followed, seen, made, tested, chosen, choose, list, Refusals, Begun, IsFormat}
 use Rattle.clone_bytes.proofs.Numbers.{IsBytes-append, IsBytes-back}
-use Rattle.clone_bytes.proofs.Answers.{same_ok, not_both, bind, bind_ok, bind_err}
+use Rattle.clone_bytes.proofs.Answers.{same_ok, same_err, not_both, bind, bind_ok, bind_err, either_way}
 
 pub nothing_laws : {E A : Type 0} {refusals : Refusals E} {at : ℕ} (x : A) → IsFormat refusals at (nothing x)
 nothing_laws x = record {
@@ -128,6 +128,38 @@ which false P Q x q = inr (refl, q)
 pub choose_laws : {E A : Type 0} {refusals : Refusals E} {at : ℕ} {f g : Format E A} (b : Bool) → (b ≡ true → IsFormat refusals at f) → (b ≡ false → IsFormat refusals at g) → IsFormat refusals at (choose b f g)
 choose_laws true p q = p refl
 choose_laws false p q = q refl
+
+-- The test looks at whole values, and what begins one that is there begins one that passes.
+pub tested_laws : {E A : Type 0} {refusals : Refusals E} {at : ℕ} {f : Format E A} (test : A → Bool) (cause : E) → IsFormat refusals at f → (x : A) × (tested test cause f).Has x
+    → ((bytes : List ℕ) → IsBytes bytes → Begun f bytes → Begun (tested test cause f) bytes) → (cause ≡ refusals.short → ⊥) → ((x : A) → f.Has x → test x ≡ false → refusals.place cause < at + length (f.text x)) → IsFormat refusals at (tested test cause f)
+tested_laws {E = E} {A = A} {refusals = refusals} {at = at} {f = f} test cause laws one filled other named =
+    let step : A × List ℕ → Result (A × List ℕ) E = λ x. cond (test x.0) (Ok (x.0, x.1)) (Err cause) in
+    record {
+      one = one;
+      fit = λ x has. laws.fit x has.0;
+      back = λ x rest has. bind step (laws.back x rest has.0) ∙ rw has.1 refl;
+      from = λ bytes x rest fit e. (let a = bind_ok (f.read bytes) step (x, rest) e in elim (either_way (test a.0.0) _ _ (Ok (x, rest)) a.2) [
+        | inr h ↦ absurd (not_both refl (sym h.1))
+        | inl h ↦
+            let same = same_ok refl h.1 in
+            let p = laws.from bytes x rest fit (a.1 ∙ ap (λ y. Ok y) same) in
+            ((p.0, ap (λ y. test y.0) (sym same) ∙ h.0), p.1)
+      ]);
+      opens = λ bytes fit e. elim (bind_err (f.read bytes) step refusals.short e) [
+        | inl short ↦ filled bytes fit (laws.opens bytes fit short)
+        | inr a ↦ elim (either_way (test a.0.0) _ _ (Err refusals.short) a.2) [ inl h ↦ absurd (not_both refl h.1) | inr h ↦ absurd (other (same_err refl h.1)) ]
+      ];
+      stays = λ bytes more e fit not_short h. elim (bind_err (f.read bytes) step e h) [
+        | inl failed ↦ (let p = laws.stays bytes more e fit not_short failed in (bind step p.0, p.1))
+        | inr a ↦ elim (either_way (test a.0.0) _ _ (Err e) a.2) [
+          | inl g ↦ absurd (not_both refl g.1)
+          | inr g ↦
+              let p = laws.from bytes a.0.0 a.0.1 fit a.1 in
+              let whole : bytes ++ more ≡ f.text a.0.0 ++ (a.0.1 ++ more) = ap (λ t. t ++ more) p.1 ∙ append_assoc (f.text a.0.0) a.0.1 more in
+              (ap (tested test cause f).read whole ∙ bind step (laws.back a.0.0 (a.0.1 ++ more) p.0) ∙ rw g.0 g.1, subst (λ d. refusals.place d < at + length bytes) (same_err refl g.1) (omega (arith, named a.0.0 p.0 g.0, ap length p.1, length-append (f.text a.0.0) a.0.1)))
+        ]
+      ];
+    }
 
 -- ---- lists
 

@@ -117,7 +117,8 @@ abbrev pub ◌&◌ : {E A B : Type 0} → Format E A → Format E B → Format E
 f & g = followed f (λ x. g)
 
 -- what is made of each value
-abbrev pub seen : {E A B : Type 0} → (B → Type 0) → (B → List ℕ) → (A → B) → Format E A → Format E B
+abbrev pub seen : {E A B : Type 0} → (B → Type 0) → (B → List ℕ) → (A → B) → Format E A
+    → Format E B
 seen Has text make f =
     record { Has = Has; text = text; read = λ bytes. f.read bytes >>= λ x. Ok (make x.0, x.1) }
 
@@ -132,6 +133,14 @@ choose b f g = record {
 -- what is made of each value, and so spelled
 abbrev pub made : {E A B : Type 0} → (B → List ℕ) → (A → B) → Format E A → Format E B
 made {A = A} text make f = seen (λ y. (x : A) × f.Has x × (make x ≡ y)) text make f
+
+-- the values that pass a test, at whose end the others are refused for a cause
+abbrev pub tested : {E A : Type 0} → (A → Bool) → E → Format E A → Format E A
+tested test cause f = record {
+  Has = λ x. f.Has x × (test x ≡ true);
+  text = f.text;
+  read = λ bytes. f.read bytes >>= λ x. if test x.0 then Ok (x.0, x.1) else Err cause;
+}
 
 -- so many, one after the other
 abbrev pub list_at : {E A : Type 0} → (List ℕ → Result (A × List ℕ) E) → ℕ → List ℕ
@@ -162,20 +171,20 @@ pub record Begun {E A : Type 0} (format : Format E A) (bytes : List ℕ) : Type 
   pub some : 1 ≤ length more
   pub parts : bytes ++ more ≡ format.text value
 
--- What holds of a format that begins at an offset.
-pub record IsFormat {E A : Type 0} (refusals : Refusals E) (at : ℕ) (format : Format E A) : Type 0 where
-  -- there is a value, and spellings are bytes
+-- What holds of a format that begins at an offset. There is a value, and spellings are bytes. What
+-- is written is read back, whatever follows; what is read is the spelling, and what follows. The
+-- bytes end too early only where further ones make a spelling. Each other refusal stays, whatever
+-- follows, and names a byte that is there.
+pub record IsFormat {E A : Type 0} (refusals : Refusals E) (at : ℕ) (format : Format E A)
+    : Type 0 where
   pub one : (x : A) × format.Has x
   pub fit : (x : A) → format.Has x → IsBytes (format.text x)
-  -- what is written is read back, whatever follows
-  pub back : (x : A) (rest : List ℕ) → format.Has x → format.read (format.text x ++ rest) ≡ Ok (x, rest)
-  -- what is read is the spelling, and what follows
+  pub back : (x : A) (rest : List ℕ) → format.Has x
+      → format.read (format.text x ++ rest) ≡ Ok (x, rest)
   pub from : (bytes : List ℕ) (x : A) (rest : List ℕ) → IsBytes bytes
       → format.read bytes ≡ Ok (x, rest) → format.Has x × (bytes ≡ format.text x ++ rest)
-  -- the bytes end too early only where further ones make a spelling
   pub opens : (bytes : List ℕ) → IsBytes bytes → format.read bytes ≡ Err refusals.short
       → Begun format bytes
-  -- each other refusal stays, whatever follows, and names a byte that is there
   pub stays : (bytes more : List ℕ) (e : E) → IsBytes bytes → (e ≡ refusals.short → ⊥)
       → format.read bytes ≡ Err e
       → (format.read (bytes ++ more) ≡ Err e) × (refusals.place e < at + length bytes)

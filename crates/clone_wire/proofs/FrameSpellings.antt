@@ -1,257 +1,229 @@
--- What is written of a frame is read as that frame.
-use Rattle.std.proofs.Common.{◌≡◌, ℕ, ◌+◌, ◌-◌, ◌*◌, ◌^◌, ◌≤◌, ◌==◌, Bool, true, false, cond, List, [], ◌++◌, length, refl, sym, subst, append_assoc, arith}
-use Rattle.std.specs.Prelude.{nat_le, not}
-use Rattle.std.specs.List.{flat_map}
-use Rattle.std.proofs.lemmas.List.{append-nil}
+-- The frames of a side are those in their ranges that it sends.
+use Rattle.std.proofs.Common.{◌≡◌, ℕ, zero, suc, ◌+◌, ◌-◌, ◌*◌, ◌/◌, ◌^◌, ◌<◌, ◌≤◌, ◌⊎◌, ◌==◌, Bool, true, false, cond, List, [], ◌∷◌, ◌++◌, length, refl, sym, ap, subst, ◌∙◌, append_assoc, arith, inl, inr}
+use Rattle.std.specs.List.{flat_map, AllByRecursion}
+use Rattle.std.proofs.lemmas.Bool.{eqb-true, eqb-false}
+use Rattle.std.proofs.lemmas.List.{length-append}
 use Rattle.byteorder.specs.Endian.{big_bytes}
-use Rattle.clone_wire.specs.declared.frame.Attempt.{Attempt}
-use Rattle.clone_wire.specs.declared.frame.Frame.TheVariants.{Init, Attach, Reinit, Execute, Ack, Stage, Pages, Redo, End, Refused}
-use Rattle.clone_wire.specs.declared.stage.StagePlan.{StagePlan}
-use Rattle.clone_wire.specs.declared.stage.StagePlan.TheVariants as plan
-use Rattle.clone_wire.specs.declared.stage.CopyStage.{CopyStage}
-use Rattle.clone_wire.specs.declared.stage.CopyStage.TheVariants as copy
-use Rattle.clone_wire.specs.declared.stage.PageStage.{PageStage}
-use Rattle.clone_wire.specs.declared.stage.PageStage.TheVariants as page
-use Rattle.clone_wire.specs.declared.refusal.Refusal.{Refusal}
-use Rattle.clone_wire.specs.declared.refusal.Refusal.TheVariants.{CloneBusy, VersionMismatch, PageSizeMismatch, CompressionRefused, TasksOutOfRange, NoSuchSession, Stale, StageMismatch, ChunksLeft, FloorAhead, NotClaimed, ArchiveBehind}
+use Rattle.clone_bytes.specs.Formats.{Format, ◌&◌, chosen, run, list, IsFormat}
+use Rattle.clone_bytes.proofs.Formats.{led_laws, worded, which}
+use Rattle.clone_wire.specs.declared.fault.Fault.{Fault}
+use Rattle.clone_wire.specs.declared.frame.Side.{Side}
+use Rattle.clone_wire.specs.declared.frame.Side.TheVariants.{Command, Answer}
+use Rattle.clone_wire.specs.declared.frame.Frame.{Frame}
+use Rattle.clone_wire.specs.declared.frame.Frame.TheVariants.{Init, Attach, Reinit, Execute, Ack, Exit, Stage, Pages, Redo, End, Refused}
 use Rattle.clone_wire.specs.declared.spaces.SpaceSize.{SpaceSize}
 use Rattle.clone_wire.specs.declared.pages.PageAt.{PageAt}
-use Rattle.clone_wire.specs.Bitmaps.{Bits}
-use Rattle.clone_wire.specs.Choices.{between, only, any_if}
-use Rattle.clone_wire.specs.Frames.{IsOneOf}
-use Rattle.clone_wire.specs.Ranges.{HasWidth, AllAre, IsAttempt, IsSpace, IsPageAt, IsFrame}
-use Rattle.clone_wire.specs.Refusals.{value_count, refusal_numbered}
-use Rattle.clone_wire.specs.Stages.{copy_numbered, page_numbered, copy_number, page_number}
-use Rattle.clone_wire.specs.Spelling.{flag, attempt_bytes, space_bytes, page_bytes, plan_bytes, spaces_of, payload}
-use Rattle.clone_wire.specs.Reading.{planned, bitmap_at, attempt_at, space_at, page_at, init_at, attach_at, reinit_at, execute_at, ack_at, stage_at, pages_frame_at, redo_at, end_at, refused_at}
-use Rattle.clone_wire.proofs.FrameFormats.{range_choice, any_choice, first_stage_choice, copy_choice}
-use Rattle.clone_wire.proofs.FieldSpellings.{IsBack, then_back, done_back, number_back, run_back, chosen_back, bitmap_back, list_back, in_range}
+use Rattle.clone_wire.specs.declared.stage.StagePlan.{StagePlan}
+use Rattle.clone_wire.specs.declared.stage.StagePlan.TheVariants as plan
+use Rattle.clone_wire.specs.Choices as Choices
+use Rattle.clone_wire.specs.Bitmaps.{ends_at}
+use Rattle.clone_wire.specs.declared.refusal.Refusal.{Refusal}
+use Rattle.clone_wire.specs.declared.fault.Fault.TheVariants.{Short}
+use Rattle.clone_bytes.specs.Fields.{IsBytes}
+use Rattle.clone_wire.specs.Frames.{IsOneOf, IsHead, codes, lengths}
+use Rattle.clone_wire.specs.Ranges.{AllAre, IsSpace, IsPageAt, IsPlan, IsFrame}
+use Rattle.clone_wire.specs.Spelling.{side_of, code_of, spaces_of, space_bytes, page_bytes, plan_bytes, payload, spelling}
+use Rattle.clone_wire.specs.Reading.{refusals, framed, copy_in, attempt, counted, init, attach, reinit, ack, refusal, payload_of, head, frame, frame_at}
+use Rattle.clone_wire.specs.Reading as Reading
+use Rattle.clone_wire.proofs.FieldFormats.{in_range, same_number, has_flag, has_copy, has_pages}
+use Rattle.clone_wire.proofs.PlanFormats.{plan_is, has_plan, refusal_fits, has_refusal, only_one}
+use Rattle.clone_wire.proofs.FrameFormats.{known, payload_laws, payload_text, head_laws}
 
--- ---- parts
+-- ---- how long lists are
 
-attempt_back : (attempt : Attempt) → IsAttempt attempt → IsBack attempt_at (attempt_bytes attempt) attempt
-unfolding attempt_at
-attempt_back attempt is =
-    let written =
-    then_back (number_back 8 attempt.session is.0) (λ session s. then_back (number_back 4 attempt.incarnation is.1)
-    (λ incarnation i. done_back (let made : Attempt = record { session = session; incarnation = incarnation } in made) attempt (rw (s, i) refl))) in
-    subst (λ t. IsBack attempt_at t attempt) (simp append-nil) written
+pub spaces_long : (xs : List SpaceSize) → length (flat_map space_bytes xs) ≡ 8 * length xs
+spaces_long [] = refl
+spaces_long (x ∷ xs) = let more = spaces_long xs in omega arith
 
-space_back : (space : SpaceSize) → IsSpace space → IsBack space_at (space_bytes space) space
-unfolding space_at
-space_back space is =
-    let written =
-    then_back (number_back 4 space.space is.0) (λ number s. then_back (number_back 4 space.pages is.1)
-    (λ pages p. done_back (let made : SpaceSize = record { space = number; pages = pages } in made) space (rw (s, p) refl))) in
-    subst (λ t. IsBack space_at t space) (simp append-nil) written
+pub pages_long : (xs : List PageAt) → AllAre IsPageAt xs → length (flat_map page_bytes xs) ≡ 4104 * length xs
+pages_long [] are = refl
+pages_long (x ∷ xs) are = let more = pages_long xs are.1 in let page = are.0.long in omega (arith, length-append x.page (flat_map page_bytes xs), length-append (page_bytes x) (flat_map page_bytes xs))
 
-page_back : (page : PageAt) → IsPageAt page → IsBack page_at (page_bytes page) page
-unfolding page_at
-page_back page is =
-    let written =
-    then_back (number_back 4 page.space is.space) (λ space s. then_back (number_back 4 page.number is.number) (λ number n. then_back (run_back 4096 page.page is.long is.bytes)
-    (λ bytes b. done_back (let made : PageAt = record { space = space; number = number; page = bytes } in made) page (rw (s, n, b) refl)))) in
-    subst (λ t. IsBack page_at t page) (simp append-nil) written
+-- ---- what was read is a frame of its code and its length
 
--- ---- numbered choices
+abbrev Sound : ℕ → ℕ → Frame → Type 0
+Sound code long x = (code_of x ≡ code) × (length (payload x) ≡ long) × IsFrame x
 
-copy_one : (stage : CopyStage) → IsOneOf (between 1 3) (copy_number stage)
-copy_one copy.FileCopy = in_range 1 3 1 (omega arith) (omega arith)
-copy_one copy.PageCopy = in_range 1 3 2 (omega arith) (omega arith)
-copy_one copy.RedoCopy = in_range 1 3 3 (omega arith) (omega arith)
+framed_sound : {A : Type 0} {Has : A → Type 0} {make : A → Frame} (code long k : ℕ) (x : Frame) → (code == k) ≡ true → ((a : A) → Has a → Sound k long (make a)) → (a : A) × Has a × (make a ≡ x) → Sound code long x
+framed_sound {make = make} code long k x e sound has = subst (λ c. Sound c long x) (sym (eqb-true code k e)) (subst (Sound k long) has.2 (sound has.0 has.1))
 
-copy_is : (stage : CopyStage) → copy_numbered (copy_number stage) ≡ stage
-copy_is copy.FileCopy = refl
-copy_is copy.PageCopy = refl
-copy_is copy.RedoCopy = refl
+-- the last code of an answer
+last_code : (code : ℕ) (side : Side) → IsOneOf (codes side) code → (code == 1) ≡ false → (code == 2) ≡ false → (code == 3) ≡ false → (code == 4) ≡ false → (code == 5) ≡ false → (code == 6) ≡ false
+    → (code == 16) ≡ false → (code == 17) ≡ false → (code == 18) ≡ false → (code == 19) ≡ false → code ≡ 20
+last_code code Command one a b c d e f g h i j = let low = one.low in let high = one.high in omega (arith, eqb-false code 1 a, eqb-false code 2 b, eqb-false code 3 c, eqb-false code 4 d, eqb-false code 5 e, eqb-false code 6 f)
+last_code code Answer one a b c d e f g h i j = let low = one.low in let high = one.high in omega (arith, eqb-false code 16 g, eqb-false code 17 h, eqb-false code 18 i, eqb-false code 19 j)
 
-page_one : (stage : PageStage) → IsOneOf (between 1 2) (page_number stage)
-page_one page.FileCopy = in_range 1 2 1 (omega arith) (omega arith)
-page_one page.PageCopy = in_range 1 2 2 (omega arith) (omega arith)
+reinit_sound : (long : ℕ) → IsOneOf (lengths 3) long → (a : _) → (attempt & (copy_in 17 & counted (long - 17))).Has a → Sound 3 long (Reinit a.0 a.1.0 a.1.1.1)
+reinit_sound long l a h =
+    let b = h.1.1.1 in
+    let count : a.1.1.0 ≡ a.1.1.1.count = ap (λ bits. bits.count) b.2 in
+    let bytes : b.0 ≡ a.1.1.1.bytes = ap (λ bits. bits.bytes) b.2 in
+    let size : length a.1.1.1.bytes ≡ long - 17 = ap length (sym bytes) ∙ b.1.0.0 in
+    (refl, omega (arith, l.low, size), (h.0, record { few = omega (arith, h.1.1.0.high, l.high); long = omega (arith, h.1.1.0.low, h.1.1.0.high, l.high); end = subst (λ n. ends_at n a.1.1.1.bytes ≡ true) count (subst (λ t. ends_at a.1.1.0 t ≡ true) bytes b.1.1) }, subst IsBytes bytes b.1.0.1))
 
-page_is : (stage : PageStage) → page_numbered (page_number stage) ≡ stage
-page_is page.FileCopy = refl
-page_is page.PageCopy = refl
+stage_sound : (long : ℕ) → IsOneOf (lengths 16) long → (a : _) → (attempt & Reading.stage_plan ((long - 43) / 8)).Has a → Sound 16 long (Stage a.0 a.1)
+unfolding plan_bytes
+stage_sound long l a h =
+    let n = (long - 43) / 8 in
+    let few : n ≤ 63 = omega (arith, l.high) in
+    let p = h.1 in
+    let is = plan_is n p.0 few p.1 in
+    let text : length (plan_bytes a.1) ≡ 31 + 8 * n = ap (λ q. length (plan_bytes q)) (sym p.2) ∙ ap length (sym is.0) ∙ (let spaces = spaces_long p.0.1.1.1.1.1.1 in let count = p.1.1.1.1.1.1.1.0 in omega arith) in
+    (refl, omega (arith, text, l.low, l.high, l.steps), (h.0, subst IsPlan p.2 is.1))
 
-flag_one : (set : Bool) → IsOneOf (between 0 1) (flag set)
-flag_one true = in_range 0 1 1 (omega arith) (omega arith)
-flag_one false = in_range 0 1 0 (omega arith) (omega arith)
+pages_sound : (long : ℕ) → IsOneOf (lengths 17) long → (a : _) → (attempt & (Reading.pages_in 17 & (Reading.word 4 & (Reading.word 1 & (Reading.number_in 23 1 (Choices.only ((long - 19) / 4104)) & list Reading.page ((long - 19) / 4104)))))).Has a → Sound 17 long (Pages a.0 a.1.0 a.1.1.0 a.1.1.1.0 a.1.1.1.1.1)
+pages_sound long l a h =
+    let n = (long - 19) / 4104 in
+    let xs = h.1.1.1.1.1 in
+    let size = pages_long a.1.1.1.1.1 xs.1 in
+    (refl, omega (arith, xs.0, l.low, l.high, l.steps), (h.0, h.1.1.0, h.1.1.1.0, xs.1, omega (arith, xs.0, l.low, l.high, l.steps), omega (arith, xs.0, l.low, l.high, l.steps)))
 
-flag_is : (set : Bool) → (flag set == 1) ≡ set
-flag_is true = refl
-flag_is false = refl
+redo_sound : (long : ℕ) → IsOneOf (lengths 18) long → (a : _) → (attempt & (Reading.number_in 17 1 (Choices.only 3) & (Reading.word 4 & (Reading.word 1 & (Reading.word 8 & (Reading.number_in 31 4 (Choices.only (long - 30)) & run Short (long - 30))))))).Has a
+    → Sound 18 long (Redo a.0 a.1.1.0 a.1.1.1.0 a.1.1.1.1.0 a.1.1.1.1.1.1)
+redo_sound long l a h =
+    let run = h.1.1.1.1.1.1 in
+    (refl, omega (arith, run.0, l.low), (h.0, h.1.1.0, h.1.1.1.0, h.1.1.1.1.0, run.1, omega (arith, run.0, l.low), omega (arith, run.0, l.high)))
+
+refused_is : (r : Refusal) → refusal.Has r → IsFrame (Refused r)
+refused_is r has = subst (λ r. IsFrame (Refused r)) has.2 (refusal_fits has.0 has.1)
+
+sound : (side : Side) (code long : ℕ) (x : Frame) → IsOneOf (codes side) code → IsHead code long → (payload_of code long).Has x → Sound code long x
+sound side code long x one head has =
+    elim (which (code == 1) _ _ x has) [
+      | inl p ↦ (let l = known code 1 long p.0 head in framed_sound code long 1 x p.0 (λ a h. (refl, omega (arith, l.low, l.high), (h.1.1.1.1, h.0, h.1.0, h.1.1.1.0))) p.1)
+      | inr a ↦ elim (which (code == 2) _ _ x a.1) [
+        | inl p ↦ (let l = known code 2 long p.0 head in framed_sound code long 2 x p.0 (λ a h. (refl, omega (arith, l.low, l.high), (h.0, h.1))) p.1)
+        | inr b ↦ elim (which (code == 3) _ _ x b.1) [
+          | inl p ↦ (let l = known code 3 long p.0 head in framed_sound code long 3 x p.0 (reinit_sound long l) p.1)
+          | inr c ↦ elim (which (code == 4) _ _ x c.1) [
+            | inl p ↦ (let l = known code 4 long p.0 head in framed_sound code long 4 x p.0 (λ a h. (refl, omega (arith, l.low, l.high), tt)) p.1)
+            | inr d ↦ elim (which (code == 5) _ _ x d.1) [
+              | inl p ↦ (let l = known code 5 long p.0 head in framed_sound code long 5 x p.0 (λ a h. (refl, omega (arith, l.low, l.high), h.1)) p.1)
+              | inr e ↦ elim (which (code == 6) _ _ x e.1) [
+                | inl p ↦ (let l = known code 6 long p.0 head in framed_sound code long 6 x p.0 (λ a h. (refl, omega (arith, l.low, l.high), tt)) p.1)
+                | inr f ↦ elim (which (code == 16) _ _ x f.1) [
+                  | inl p ↦ (let l = known code 16 long p.0 head in framed_sound code long 16 x p.0 (stage_sound long l) p.1)
+                  | inr g ↦ elim (which (code == 17) _ _ x g.1) [
+                    | inl p ↦ (let l = known code 17 long p.0 head in framed_sound code long 17 x p.0 (pages_sound long l) p.1)
+                    | inr h ↦ elim (which (code == 18) _ _ x h.1) [
+                      | inl p ↦ (let l = known code 18 long p.0 head in framed_sound code long 18 x p.0 (redo_sound long l) p.1)
+                      | inr i ↦ elim (which (code == 19) _ _ x i.1) [
+                        | inl p ↦ (let l = known code 19 long p.0 head in framed_sound code long 19 x p.0 (λ a h. (refl, omega (arith, l.low, l.high), h.0)) p.1)
+                        | inr j ↦ (let l : IsOneOf (Choices.only 17) long = rw (a.0, b.0, c.0, d.0, e.0, f.0, g.0, h.0, i.0, j.0) at head in subst (λ c. Sound c long x) (sym (last_code code side one a.0 b.0 c.0 d.0 e.0 f.0 g.0 h.0 i.0 j.0)) (subst (Sound 20 long) j.1.2 (refl, omega (arith, l.low, l.high), refused_is j.1.0 j.1.1)))
+                      ]
+                    ]
+                  ]
+                ]
+              ]
+            ]
+          ]
+        ]
+      ]
+    ]
+
+-- ---- each frame has a code and a length
+
+abbrev Fields : Frame → Type 0
+Fields x = (payload_of (code_of x) (length (payload x))).Has x
+
+has_fields : (x : Frame) → IsFrame x → Fields x
+unfolding plan_bytes
+has_fields (Init attempt version size compressed tasks) is = ((version, (size, (compressed, (tasks, attempt)))), (is.1, (is.2, (has_flag 11 compressed, (is.3, is.0)))), refl)
+has_fields (Attach attempt task) is = ((attempt, task), (is.0, is.1), refl)
+has_fields (Reinit attempt stage finished) is =
+    let n = length finished.bytes in
+    let size : n ≡ length (payload (Reinit attempt stage finished)) - 17 = omega arith in
+    subst (λ m. (reinit m).Has (Reinit attempt stage finished)) size
+    ((attempt, (stage, (finished.count, finished))), (is.0, (has_copy 17 stage, (in_range (8 * n - 7) (8 * n) finished.count (omega (arith, is.1.long)) (omega (arith, is.1.long)), (finished.bytes, ((refl, is.2), is.1.end), refl)))), refl)
+has_fields (Execute stage) is = (stage, has_copy 5 stage, refl)
+has_fields (Ack stage floor) is = ((stage, floor), (has_copy 5 stage, is), refl)
+has_fields Exit is = (tt, refl, refl)
+has_fields (Stage attempt plan) is =
+    let n = length (spaces_of plan) in
+    let size : n ≡ (length (payload (Stage attempt plan)) - 43) / 8 = (let long = spaces_long (spaces_of plan) in omega arith) in
+    subst (λ m. (Reading.stage m).Has (Stage attempt plan)) size ((attempt, plan), (is.0, has_plan plan is.1), refl)
+has_fields (Pages attempt stage chunk block pages) is =
+    let n = length pages in
+    let size : n ≡ (length (payload (Pages attempt stage chunk block pages)) - 19) / 4104 = (let long = pages_long pages is.3 in omega arith) in
+    subst (λ m. (Reading.pages m).Has (Pages attempt stage chunk block pages)) size
+    ((attempt, (stage, (chunk, (block, (n, pages))))), (is.0, (has_pages 17 stage, (is.1, (is.2, (only_one n, (refl, is.3)))))), refl)
+has_fields (Redo attempt chunk block from bytes) is =
+    let n = length bytes in
+    let size : n ≡ length (payload (Redo attempt chunk block from bytes)) - 30 = omega arith in
+    subst (λ m. (Reading.redo m).Has (Redo attempt chunk block from bytes)) size
+    ((attempt, (3, (chunk, (block, (from, (n, bytes)))))), (is.0, (only_one 3, (is.1, (is.2, (is.3, (only_one n, (refl, is.4))))))), refl)
+has_fields (End attempt stage) is = ((attempt, stage), (is, has_copy 17 stage), refl)
+has_fields (Refused r) is = (r, has_refusal r is, refl)
+
+few_spaces : (plan : StagePlan) → IsPlan plan → length (spaces_of plan) ≤ 63
+few_spaces (plan.FileCopy chunks spaces) is = is.2
+few_spaces (plan.PageCopy chunks position) is = omega arith
+few_spaces (plan.RedoCopy chunks checkpoint lsn position) is = omega arith
+few_spaces (plan.Done checkpoint lsn position) is = omega arith
+
+command : (code : ℕ) → 1 ≤ code → code ≤ 6 → IsOneOf (codes Command) code
+command code low high = in_range 1 6 code low high
+
+answer : (code : ℕ) → 16 ≤ code → code ≤ 20 → IsOneOf (codes Answer) code
+answer code low high = in_range 16 20 code low high
+
+pub has_head : (x : Frame) → IsFrame x → (head (side_of x)).Has (code_of x, length (payload x))
+unfolding plan_bytes
+has_head (Init attempt version size compressed tasks) is = (command 1 (omega arith) (omega arith), only_one 20)
+has_head (Attach attempt task) is = (command 2 (omega arith) (omega arith), only_one 13)
+has_head (Reinit attempt stage finished) is = (command 3 (omega arith) (omega arith), in_range 17 1048593 _ (omega arith) (omega (arith, is.1.few, is.1.long)))
+has_head (Execute stage) is = (command 4 (omega arith) (omega arith), only_one 1)
+has_head (Ack stage floor) is = (command 5 (omega arith) (omega arith), only_one 9)
+has_head Exit is = (command 6 (omega arith) (omega arith), only_one 0)
+has_head (Stage attempt plan) is =
+    let long = spaces_long (spaces_of plan) in
+    let few = few_spaces plan is.1 in
+    (answer 16 (omega arith) (omega arith), record { low = omega arith; high = omega arith; steps = omega arith })
+has_head (Pages attempt stage chunk block pages) is =
+    let long = pages_long pages is.3 in
+    let some = is.4 in
+    let few = is.5 in
+    (answer 17 (omega arith) (omega arith), record { low = omega arith; high = omega arith; steps = omega arith })
+has_head (Redo attempt chunk block from bytes) is = (answer 18 (omega arith) (omega arith), in_range 31 16414 _ (omega (arith, is.5)) (omega (arith, is.6)))
+has_head (End attempt stage) is = (answer 19 (omega arith) (omega arith), only_one 13)
+has_head (Refused r) is = (answer 20 (omega arith) (omega arith), only_one 17)
+
+-- ---- a code is that of one side
+
+abbrev side_coded : Side → ℕ → Type 0
+side_coded Command code = code ≤ 6
+side_coded Answer code = 16 ≤ code
+
+coded : (side : Side) (code : ℕ) → IsOneOf (codes side) code → side_coded side code
+coded Command code one = one.high
+coded Answer code one = one.low
+
+side_is : (side : Side) (frame : Frame) → IsFrame frame → IsOneOf (codes side) (code_of frame) → side ≡ side_of frame
+side_is side frame is one = by side (side_of frame) (coded side (code_of frame) one) (coded (side_of frame) (code_of frame) (has_head frame is).0)
+  where
+    by : (a b : Side) → side_coded a (code_of frame) → side_coded b (code_of frame) → a ≡ b
+    by Command Command p q = refl
+    by Command Answer p q = absurd (omega arith)
+    by Answer Command p q = absurd (omega arith)
+    by Answer Answer p q = refl
 
 -- ---- frames
 
-pub init_back : (attempt : Attempt) (version size : ℕ) (compressed : Bool) (tasks : ℕ) → IsFrame (Init attempt version size compressed tasks)
-    → IsBack init_at (payload (Init attempt version size compressed tasks)) (Init attempt version size compressed tasks)
-unfolding init_at
-init_back attempt version size compressed tasks is =
-    let frame = Init attempt version size compressed tasks in
-    let written =
-    then_back (number_back 2 version is.1) (λ v ev. then_back (number_back 4 size is.2) (λ s es. then_back (chosen_back 11 1 (between 0 1) (flag compressed) (range_choice 1 0 1 (omega arith) (omega arith) (omega arith)) (flag_one compressed))
-    (λ c ec. then_back (number_back 1 tasks is.3) (λ t et. then_back (attempt_back attempt is.0)
-    (λ a ea. done_back (Init a v s (c == 1) t) frame (rw (ea, ev, es, ec, et, flag_is compressed) refl)))))) in
-    subst (λ t. IsBack init_at t frame) (simp (append_assoc, append-nil)) written
+-- a frame of a side, in the words of its spelling
+abbrev pub spelled_frame : Side → Format Fault Frame
+spelled_frame side = record { Has = λ x. IsFrame x × (side ≡ side_of x); text = spelling; read = frame_at side }
 
-pub attach_back : (attempt : Attempt) (task : ℕ) → IsFrame (Attach attempt task) → IsBack attach_at (payload (Attach attempt task)) (Attach attempt task)
-unfolding attach_at
-attach_back attempt task is =
-    let frame = Attach attempt task in
-    let written = then_back (attempt_back attempt is.0) (λ a ea. then_back (number_back 1 task is.1) (λ t et. done_back (Attach a t) frame (rw (ea, et) refl))) in
-    subst (λ t. IsBack attach_at t frame) (simp (append_assoc, append-nil)) written
+frame_is : (side : Side) (x : Frame) → (frame side).Has x → (IsFrame x × (side ≡ side_of x)) × (spelling x ≡ (frame side).text x)
+unfolding spelling
+frame_is side x has =
+    let s = sound side (code_of x) (length (payload x)) x has.0.0 has.0.1 has.1 in
+    ((s.2, side_is side x s.2 has.0.0), sym (append_assoc (big_bytes 1 (code_of x)) (big_bytes 4 (length (payload x))) (payload x)) ∙ ap (λ t. (big_bytes 1 (code_of x) ++ big_bytes 4 (length (payload x))) ++ t) (sym (payload_text (code_of x) (length (payload x)) x)))
 
-pub reinit_back : (attempt : Attempt) (stage : CopyStage) (finished : Bits) → IsFrame (Reinit attempt stage finished)
-    → IsBack (reinit_at (length finished.bytes)) (payload (Reinit attempt stage finished)) (Reinit attempt stage finished)
-unfolding reinit_at
-reinit_back attempt stage finished is =
-    let frame = Reinit attempt stage finished in
-    let n = length finished.bytes in
-    let long = is.1.long in
-    let few = is.1.few in
-    let written =
-    then_back (attempt_back attempt is.0) (λ a ea. then_back (chosen_back 17 1 (between 1 3) (copy_number stage) copy_choice (copy_one stage))
-    (λ s es. then_back (chosen_back 18 4 (between (8 * n - 7) (8 * n)) finished.count (range_choice 4 (8 * n - 7) (8 * n) (omega arith) (omega arith) (omega arith)) (in_range (8 * n - 7) (8 * n) finished.count (omega arith) (omega arith)))
-    (λ c ec. then_back (subst (λ k. IsBack (bitmap_at 22 k n) finished.bytes finished) (sym ec) (bitmap_back 22 n finished refl is.2 is.1.end)) (λ f ef. done_back (Reinit a (copy_numbered s) f) frame (rw (ea, es, ef, copy_is stage) refl))))) in
-    subst (λ t. IsBack (reinit_at n) t frame) (simp (append_assoc, append-nil)) written
-
-pub execute_back : (stage : CopyStage) → IsBack execute_at (payload (Execute stage)) (Execute stage)
-unfolding execute_at
-execute_back stage =
-    let frame = Execute stage in
-    let written = then_back (chosen_back 5 1 (between 1 3) (copy_number stage) copy_choice (copy_one stage)) (λ s es. done_back (Execute (copy_numbered s)) frame (rw (es, copy_is stage) refl)) in
-    subst (λ t. IsBack execute_at t frame) (simp append-nil) written
-
-pub ack_back : (stage : CopyStage) (floor : ℕ) → IsFrame (Ack stage floor) → IsBack ack_at (payload (Ack stage floor)) (Ack stage floor)
-unfolding ack_at
-ack_back stage floor is =
-    let frame = Ack stage floor in
-    let written =
-    then_back (chosen_back 5 1 (between 1 3) (copy_number stage) copy_choice (copy_one stage)) (λ s es. then_back (number_back 8 floor is) (λ f ef. done_back (Ack (copy_numbered s) f) frame (rw (es, ef, copy_is stage) refl))) in
-    subst (λ t. IsBack ack_at t frame) (simp append-nil) written
-
-pub pages_back : (attempt : Attempt) (stage : PageStage) (chunk block : ℕ) (pages : List PageAt) → IsFrame (Pages attempt stage chunk block pages)
-    → IsBack (pages_frame_at (length pages)) (payload (Pages attempt stage chunk block pages)) (Pages attempt stage chunk block pages)
-unfolding pages_frame_at
-pages_back attempt stage chunk block pages is =
-    let frame = Pages attempt stage chunk block pages in
-    let n = length pages in
-    let few : n ≤ 8 = is.5 in
-    let written =
-    then_back (attempt_back attempt is.0) (λ a ea. then_back (chosen_back 17 1 (between 1 2) (page_number stage) (range_choice 1 1 2 (omega arith) (omega arith) (omega arith)) (page_one stage))
-    (λ s es. then_back (number_back 4 chunk is.1) (λ c ec. then_back (number_back 1 block is.2)
-    (λ b eb. then_back (chosen_back 23 1 (only n) n (range_choice 1 n n (omega arith) (omega arith) (omega arith)) (in_range n n n (omega arith) (omega arith)))
-    (λ count ek. then_back (list_back page_at page_bytes IsPageAt page_back pages is.3) (λ p ep. done_back (Pages a (page_numbered s) c b p) frame (rw (ea, es, ec, eb, ep, page_is stage) refl))))))) in
-    subst (λ t. IsBack (pages_frame_at n) t frame) (simp (append_assoc, append-nil)) written
-
-pub redo_back : (attempt : Attempt) (chunk block from : ℕ) (bytes : List ℕ) → IsFrame (Redo attempt chunk block from bytes)
-    → IsBack (redo_at (length bytes)) (payload (Redo attempt chunk block from bytes)) (Redo attempt chunk block from bytes)
-unfolding redo_at
-redo_back attempt chunk block from bytes is =
-    let frame = Redo attempt chunk block from bytes in
-    let n = length bytes in
-    let few : n ≤ 16384 = is.6 in
-    let written =
-    then_back (attempt_back attempt is.0) (λ a ea. then_back (chosen_back 17 1 (only 3) 3 (range_choice 1 3 3 (omega arith) (omega arith) (omega arith)) (in_range 3 3 3 (omega arith) (omega arith)))
-    (λ s es. then_back (number_back 4 chunk is.1) (λ c ec. then_back (number_back 1 block is.2) (λ b eb. then_back (number_back 8 from is.3)
-    (λ f ef. then_back (chosen_back 31 4 (only n) n (range_choice 4 n n (omega arith) (omega arith) (omega arith)) (in_range n n n (omega arith) (omega arith)))
-    (λ count ek. then_back (run_back n bytes refl is.4) (λ r er. done_back (Redo a c b f r) frame (rw (ea, ec, eb, ef, er) refl)))))))) in
-    subst (λ t. IsBack (redo_at n) t frame) (simp (append_assoc, append-nil)) written
-
-pub end_back : (attempt : Attempt) (stage : CopyStage) → IsAttempt attempt → IsBack end_at (payload (End attempt stage)) (End attempt stage)
-unfolding end_at
-end_back attempt stage is =
-    let frame = End attempt stage in
-    let written = then_back (attempt_back attempt is) (λ a ea. then_back (chosen_back 17 1 (between 1 3) (copy_number stage) copy_choice (copy_one stage)) (λ s es. done_back (End a (copy_numbered s)) frame (rw (ea, es, copy_is stage) refl))) in
-    subst (λ t. IsBack end_at t frame) (simp (append_assoc, append-nil)) written
-
--- ---- a stage
-
-abbrev most8 : ℕ
-most8 = 0xFFFFFFFFFFFFFFFF
-
--- a number of so many bytes is one of those where the frame has a value there
-has_one : (width most x : ℕ) → most + 1 ≡ 256 ^ width → HasWidth width x → IsOneOf (any_if true most) x
-has_one width most x whole below = in_range 0 most x (omega arith) (omega arith)
-
--- and 0 is, whether or not
-none_one : (has : Bool) (most : ℕ) → IsOneOf (any_if has most) 0
-none_one true most = in_range 0 most 0 (omega arith) (omega arith)
-none_one false most = in_range 0 0 0 (omega arith) (omega arith)
-
-first_one : (b : Bool) → IsOneOf (between 1 (cond b 4 1)) 1
-first_one true = in_range 1 4 1 (omega arith) (omega arith)
-first_one false = in_range 1 1 1 (omega arith) (omega arith)
-
--- the fields of a stage, each a number that may stand in it
-stage_fields_back : (attempt : Attempt) (plan : StagePlan) (stage chunks checkpoint lsn position : ℕ) (spaces : List SpaceSize) → IsAttempt attempt → AllAre IsSpace spaces → length spaces ≤ 63
-    → IsOneOf (between 1 (cond (length spaces == 0) 4 1)) stage → IsOneOf (any_if (not (stage == 4)) 0xFFFFFFFF) chunks → IsOneOf (any_if (nat_le 3 stage) most8) checkpoint → IsOneOf (any_if (nat_le 3 stage) most8) lsn
-    → IsOneOf (any_if (nat_le 2 stage) most8) position → planned stage chunks checkpoint lsn position spaces ≡ plan
-    → IsBack (stage_at (length spaces)) (attempt_bytes attempt ++ big_bytes 1 stage ++ big_bytes 4 chunks ++ big_bytes 8 checkpoint ++ big_bytes 8 lsn ++ big_bytes 8 position ++ big_bytes 2 (length spaces) ++ flat_map space_bytes spaces) (Stage attempt plan)
-unfolding stage_at
-stage_fields_back attempt plan stage chunks checkpoint lsn position spaces is_attempt are_spaces few one some start end from made =
-    let frame = Stage attempt plan in
-    let n = length spaces in
-    let written =
-    then_back (attempt_back attempt is_attempt) (λ a ea. then_back (chosen_back 17 1 (between 1 (cond (n == 0) 4 1)) stage (first_stage_choice (n == 0)) one)
-    (λ s es. then_back (chosen_back 18 4 (any_if (not (s == 4)) 0xFFFFFFFF) chunks (any_choice 4 (not (s == 4)) 0xFFFFFFFF (omega arith) (omega arith)) (subst (λ k. IsOneOf (any_if (not (k == 4)) 0xFFFFFFFF) chunks) (sym es) some))
-    (λ c ec. then_back (chosen_back 22 8 (any_if (nat_le 3 s) most8) checkpoint (any_choice 8 (nat_le 3 s) most8 (omega arith) (omega arith)) (subst (λ k. IsOneOf (any_if (nat_le 3 k) most8) checkpoint) (sym es) start))
-    (λ p ep. then_back (chosen_back 30 8 (any_if (nat_le 3 s) most8) lsn (any_choice 8 (nat_le 3 s) most8 (omega arith) (omega arith)) (subst (λ k. IsOneOf (any_if (nat_le 3 k) most8) lsn) (sym es) end))
-    (λ l el. then_back (chosen_back 38 8 (any_if (nat_le 2 s) most8) position (any_choice 8 (nat_le 2 s) most8 (omega arith) (omega arith)) (subst (λ k. IsOneOf (any_if (nat_le 2 k) most8) position) (sym es) from))
-    (λ q eq. then_back (chosen_back 46 2 (only n) n (range_choice 2 n n (omega arith) (omega arith) (omega arith)) (in_range n n n (omega arith) (omega arith)))
-    (λ count ek. then_back (list_back space_at space_bytes IsSpace space_back spaces are_spaces)
-    (λ xs ex. done_back (Stage a (planned s c p l q xs)) frame (rw (ea, es, ec, ep, el, eq, ex, made) refl))))))))) in
-    subst (λ t. IsBack (stage_at n) t frame) (simp (append_assoc, append-nil)) written
-
-pub stage_back : (attempt : Attempt) (plan : StagePlan) → IsFrame (Stage attempt plan) → IsBack (stage_at (length (spaces_of plan))) (payload (Stage attempt plan)) (Stage attempt plan)
-unfolding plan_bytes
-stage_back attempt (plan.FileCopy chunks spaces) is =
-    let all = is.1 in
-    stage_fields_back attempt (plan.FileCopy chunks spaces) 1 chunks 0 0 0 spaces is.0 all.1 all.2 (first_one (length spaces == 0)) (has_one 4 0xFFFFFFFF chunks (omega arith) all.0)
-    (none_one false most8) (none_one false most8) (none_one false most8) refl
-stage_back attempt (plan.PageCopy chunks position) is =
-    let all = is.1 in
-    stage_fields_back attempt (plan.PageCopy chunks position) 2 chunks 0 0 position [] is.0 tt (omega arith) (in_range 1 4 2 (omega arith) (omega arith)) (has_one 4 0xFFFFFFFF chunks (omega arith) all.0)
-    (none_one false most8) (none_one false most8) (has_one 8 most8 position (omega arith) all.1) refl
-stage_back attempt (plan.RedoCopy chunks checkpoint lsn position) is =
-    let all = is.1 in
-    stage_fields_back attempt (plan.RedoCopy chunks checkpoint lsn position) 3 chunks checkpoint lsn position [] is.0 tt (omega arith) (in_range 1 4 3 (omega arith) (omega arith)) (has_one 4 0xFFFFFFFF chunks (omega arith) all.0)
-    (has_one 8 most8 checkpoint (omega arith) all.1) (has_one 8 most8 lsn (omega arith) all.2) (has_one 8 most8 position (omega arith) all.3) refl
-stage_back attempt (plan.Done checkpoint lsn position) is =
-    let all = is.1 in
-    stage_fields_back attempt (plan.Done checkpoint lsn position) 4 0 checkpoint lsn position [] is.0 tt (omega arith) (in_range 1 4 4 (omega arith) (omega arith)) (none_one false 0xFFFFFFFF)
-    (has_one 8 most8 checkpoint (omega arith) all.0) (has_one 8 most8 lsn (omega arith) all.1) (has_one 8 most8 position (omega arith) all.2) refl
-
--- ---- a refusal
-
-refusal_back : (refusal : Refusal) (number first second : ℕ) → IsOneOf (between 1 12) number → IsOneOf (any_if (nat_le 1 (value_count number)) most8) first → IsOneOf (any_if (nat_le 2 (value_count number)) most8) second
-    → refusal_numbered number first second ≡ refusal → IsBack refused_at (big_bytes 1 number ++ big_bytes 8 first ++ big_bytes 8 second) (Refused refusal)
-unfolding refused_at
-refusal_back refusal number first second one some more made =
-    let frame = Refused refusal in
-    let written =
-    then_back (chosen_back 5 1 (between 1 12) number (range_choice 1 1 12 (omega arith) (omega arith) (omega arith)) one)
-    (λ n en. then_back (chosen_back 6 8 (any_if (nat_le 1 (value_count n)) most8) first (any_choice 8 (nat_le 1 (value_count n)) most8 (omega arith) (omega arith)) (subst (λ k. IsOneOf (any_if (nat_le 1 (value_count k)) most8) first) (sym en) some))
-    (λ f ef. then_back (chosen_back 14 8 (any_if (nat_le 2 (value_count n)) most8) second (any_choice 8 (nat_le 2 (value_count n)) most8 (omega arith) (omega arith)) (subst (λ k. IsOneOf (any_if (nat_le 2 (value_count k)) most8) second) (sym en) more))
-    (λ s es. done_back (Refused (refusal_numbered n f s)) frame (rw (en, ef, es, made) refl)))) in
-    subst (λ t. IsBack refused_at t frame) (simp append-nil) written
-
-value : (x : ℕ) → HasWidth 8 x → IsOneOf (any_if true most8) x
-value x below = has_one 8 most8 x (omega arith) below
-
-abbrev none : IsOneOf (any_if false most8) 0
-none = none_one false most8
-
-pub refused_back : (refusal : Refusal) → IsFrame (Refused refusal) → IsBack refused_at (payload (Refused refusal)) (Refused refusal)
-refused_back (CloneBusy session) is = refusal_back (CloneBusy session) 1 session 0 (in_range 1 12 1 (omega arith) (omega arith)) (value session is.0) none refl
-refused_back (VersionMismatch theirs) is = refusal_back (VersionMismatch theirs) 2 theirs 0 (in_range 1 12 2 (omega arith) (omega arith)) (value theirs is.0) none refl
-refused_back (PageSizeMismatch theirs) is = refusal_back (PageSizeMismatch theirs) 3 theirs 0 (in_range 1 12 3 (omega arith) (omega arith)) (value theirs is.0) none refl
-refused_back CompressionRefused is = refusal_back CompressionRefused 4 0 0 (in_range 1 12 4 (omega arith) (omega arith)) none none refl
-refused_back (TasksOutOfRange tasks) is = refusal_back (TasksOutOfRange tasks) 5 tasks 0 (in_range 1 12 5 (omega arith) (omega arith)) (value tasks is.0) none refl
-refused_back NoSuchSession is = refusal_back NoSuchSession 6 0 0 (in_range 1 12 6 (omega arith) (omega arith)) none none refl
-refused_back (Stale incarnation) is = refusal_back (Stale incarnation) 7 incarnation 0 (in_range 1 12 7 (omega arith) (omega arith)) (value incarnation is.0) none refl
-refused_back (StageMismatch donor recipient) is = refusal_back (StageMismatch donor recipient) 8 donor recipient (in_range 1 12 8 (omega arith) (omega arith)) (value donor is.0) (value recipient is.1) refl
-refused_back (ChunksLeft count) is = refusal_back (ChunksLeft count) 9 count 0 (in_range 1 12 9 (omega arith) (omega arith)) (value count is.0) none refl
-refused_back (FloorAhead floor position) is = refusal_back (FloorAhead floor position) 10 floor position (in_range 1 12 10 (omega arith) (omega arith)) (value floor is.0) (value position is.1) refl
-refused_back NotClaimed is = refusal_back NotClaimed 11 0 0 (in_range 1 12 11 (omega arith) (omega arith)) none none refl
-refused_back (ArchiveBehind archived until) is = refusal_back (ArchiveBehind archived until) 12 archived until (in_range 1 12 12 (omega arith) (omega arith)) (value archived is.0) (value until is.1) refl
+pub frame_laws : (side : Side) → IsFormat refusals 0 (spelled_frame side)
+unfolding frame_at
+frame_laws side =
+    worded (frame side) (spelled_frame side) (led_laws (λ x. (code_of x, length (payload x))) (head_laws side) (λ h has. payload_laws h.0 h.1 has.1) keyed)
+    (λ bytes. refl) (frame_is side) (λ x has. (subst (λ s. (head s).Has (code_of x, length (payload x))) (sym has.1) (has_head x has.0), has_fields x has.0))
+  where
+    keyed : (h : ℕ × ℕ) (x : Frame) → (head side).Has h → (payload_of h.0 h.1).Has x → (code_of x, length (payload x)) ≡ h
+    keyed h x p q = let s = sound side h.0 h.1 x p.0 p.1 q in ap (λ c. (c, length (payload x))) s.0 ∙ ap (λ n. (h.0, n)) s.1

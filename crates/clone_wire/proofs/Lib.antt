@@ -1,16 +1,11 @@
-pub mod BigNumbers
 pub mod Choosing
-pub mod Formats
 pub mod FieldFormats
-pub mod Lists
+pub mod PlanFormats
 pub mod FrameFormats
+pub mod FrameSpellings
 pub mod Decoding
 pub mod Unique
-pub mod FieldSpellings
-pub mod FrameSpellings
-pub mod Spelled
-pub mod FieldTexts
-pub mod FrameTexts
-pub mod SpelledOnly
+pub mod Digits
+pub mod Lists
 mod SetBits
 mod Onward

@@ -3,7 +3,8 @@ use Rattle.std.proofs.Common.{◌≡◌, ℕ, suc, ◌-◌, ◌+◌, ◌≤◌, 
 use Rattle.std.proofs.lemmas.List.{append-nil}
 use Rattle.clone_wire.specs.declared.fault.Fault.{Fault}
 use Rattle.clone_wire.specs.declared.fault.Fault.TheVariants.{Short, Garbled, NoMemory}
-use Rattle.clone_wire.specs.Reading.{◌>>=◌, Fails, list_at}
+use Rattle.clone_bytes.specs.Formats.{◌>>=◌, list_at}
+use Rattle.clone_wire.specs.Reading.{Fails}
 
 -- what was read before, and what is still read
 abbrev pub with_front : {X : Type 0} → List X → Result (List X × List ℕ) Fault → Result (List X × List ℕ) Fault

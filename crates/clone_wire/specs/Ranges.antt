@@ -1,5 +1,6 @@
 -- The frames that there are: what the types of a frame's fields keep.
-use Rattle.std.specs.Prelude.{ℕ, ◌≡◌, ◌<◌, ◌≤◌, ◌^◌, List, [], ◌∷◌, length, ⊤}
+use Rattle.std.specs.Prelude.{ℕ, ◌≡◌, ◌<◌, ◌≤◌, ◌^◌, List, length, ⊤}
+use Rattle.std.specs.List.{AllByRecursion}
 use Rattle.clone_bytes.specs.Fields.{IsBytes}
 use Rattle.clone_wire.specs.declared.frame.Attempt.{Attempt}
 use Rattle.clone_wire.specs.declared.frame.Frame.{Frame}
@@ -20,8 +21,7 @@ abbrev pub HasWidth : ℕ → ℕ → Type 0
 HasWidth width n = n < 256 ^ width
 
 abbrev pub AllAre : {X : Type 0} → (X → Type 0) → List X → Type 0
-AllAre Is [] = ⊤
-AllAre Is (x ∷ xs) = Is x × AllAre Is xs
+AllAre Is xs = AllByRecursion Is xs
 
 abbrev pub IsAttempt : Attempt → Type 0
 IsAttempt attempt = HasWidth 8 attempt.session × HasWidth 4 attempt.incarnation

@@ -1,17 +1,22 @@
--- The fields of each frame from left to right. Reading gives a value and the bytes behind it, or
--- stops where the bytes end, or at the first field whose bytes begin nothing that may stand there.
-use Rattle.std.specs.Prelude.{ℕ, zero, suc, ◌≡◌, ◌-◌, ◌*◌, ◌/◌, Bool, List, [], ◌∷◌, ◌++◌, length}
-use Rattle.std.specs.Prelude.{take, drop, replicate, if◌then◌else◌, nat_lt, nat_le, not, ◌==◌, Ok}
-use Rattle.std.specs.Prelude.{Err, Result, ⊤}
-use Rattle.byteorder.specs.Endian.{big_number}
+-- The fields of each frame from left to right, as formats. Reading gives a value and the bytes after
+-- it, or stops where the bytes end, or at the first field whose bytes begin nothing that may stand
+-- there.
+use Rattle.std.specs.Prelude.{ℕ, ◌≡◌, ◌-◌, ◌*◌, ◌/◌, Bool, List, length, if◌then◌else◌, nat_le, not}
+use Rattle.std.specs.Prelude.{◌==◌, ◌++◌, Ok, Err, Result, ⊤}
+use Rattle.byteorder.specs.Endian.{big_bytes}
+use Rattle.clone_bytes.specs.Formats.{Format, Judge, Refusals, number, run, judged, nothing, led}
+use Rattle.clone_bytes.specs.Formats.{followed, ◌&◌, seen, made, tested, choose, list}
 use Rattle.clone_wire.specs.declared.frame.Attempt.{Attempt}
 use Rattle.clone_wire.specs.declared.frame.Side.{Side}
 use Rattle.clone_wire.specs.declared.frame.Frame.{Frame}
 use Rattle.clone_wire.specs.declared.frame.Frame.TheVariants.{Init, Attach, Reinit, Execute, Ack}
 use Rattle.clone_wire.specs.declared.frame.Frame.TheVariants.{Exit, Stage, Pages, Redo, End}
 use Rattle.clone_wire.specs.declared.frame.Frame.TheVariants.{Refused}
+use Rattle.clone_wire.specs.declared.stage.CopyStage.{CopyStage}
+use Rattle.clone_wire.specs.declared.stage.PageStage.{PageStage}
 use Rattle.clone_wire.specs.declared.stage.StagePlan.{StagePlan}
 use Rattle.clone_wire.specs.declared.stage.StagePlan.TheVariants as plan
+use Rattle.clone_wire.specs.declared.refusal.Refusal.{Refusal}
 use Rattle.clone_wire.specs.declared.spaces.SpaceSize.{SpaceSize}
 use Rattle.clone_wire.specs.declared.pages.PageAt.{PageAt}
 use Rattle.clone_wire.specs.declared.fault.Fault.{Fault}
@@ -23,14 +28,12 @@ use Rattle.clone_wire.specs.declared.limits.TheConstants.{REINIT_FIELDS, STAGE_F
 use Rattle.clone_wire.specs.declared.limits.TheConstants.{REDO_FIELDS}
 use Rattle.clone_wire.specs.Choices.{between, only, any_if, has_between}
 use Rattle.clone_wire.specs.Bitmaps.{Bits, ends_at}
-use Rattle.clone_wire.specs.Stages.{copy_numbered, page_numbered}
-use Rattle.clone_wire.specs.Refusals.{value_count, refusal_numbered}
-use Rattle.clone_wire.specs.Frames.{codes, lengths}
-
-infixl 10 ◌>>=◌
-abbrev pub ◌>>=◌ : {A B : Type 0} → Result A Fault → (A → Result B Fault) → Result B Fault
-(Ok x) >>= f = f x
-(Err e) >>= f = Err e
+use Rattle.clone_wire.specs.Stages.{copy_number, copy_numbered, page_number, page_numbered}
+use Rattle.clone_wire.specs.Refusals.{value_count, refusal_numbered, refusal_text}
+use Rattle.clone_wire.specs.Frames.{IsOneOf, codes, lengths}
+use Rattle.clone_wire.specs.Ranges.{IsAttempt, IsSpace, IsPageAt}
+use Rattle.clone_wire.specs.Spelling.{flag, attempt_bytes, space_bytes, page_bytes, plan_bytes}
+use Rattle.clone_wire.specs.Spelling.{code_of, payload}
 
 -- what a function returned, seen by view, is what reading gives, unless memory ran out
 abbrev pub Fails : {Y : Type 0} → Fault → Result Y Fault → Type 0
@@ -42,91 +45,65 @@ abbrev pub Gives : {X Y : Type 0} → (X → Y) → Result X Fault → Result Y 
 Gives view (Ok x) read = read ≡ Ok (view x)
 Gives view (Err e) read = Fails e read
 
--- a number of n bytes
-abbrev pub number_at : ℕ → List ℕ → Result (ℕ × List ℕ) Fault
-number_at n bytes =
-    if nat_lt (length bytes) n then Err Short else Ok (big_number n bytes, drop n bytes)
+-- the byte that a fault names
+abbrev pub place : Fault → ℕ
+place (Garbled at) = at
+place Short = 0
+place NoMemory = 0
 
--- so many bytes
-abbrev pub bytes_at : ℕ → List ℕ → Result (List ℕ × List ℕ) Fault
-bytes_at n bytes = if nat_lt (length bytes) n then Err Short else Ok (take n bytes, drop n bytes)
+abbrev pub refusals : Refusals Fault
+refusals = record { short = Short; place = place }
 
--- Whether these bytes begin one of the numbers, written in so many bytes: whether one of them lies
--- from the least to the greatest number that begins so.
-abbrev pub begins_one : ℕ → Numbers → List ℕ → Bool
-begins_one width numbers front =
-    has_between numbers
-    (big_number width (front ++ replicate width 0))
-    (big_number width (front ++ replicate width 255))
+-- ---- fields
+
+abbrev pub word : ℕ → Format Fault ℕ
+word n = number Short n
+
+-- whether one of the numbers lies from the least to the most, for a field that begins at an offset
+abbrev pub judge_in : ℕ → Numbers → Judge Fault
+judge_in at numbers least most =
+    if has_between numbers least most then Ok tt else Err (Garbled at)
 
 -- a number of so many bytes that is one of these; the field begins at this offset
-unfoldable pub number_in : ℕ → ℕ → Numbers → List ℕ → Result (ℕ × List ℕ) Fault
-number_in at width numbers bytes =
-    if begins_one width numbers (take width bytes) then number_at width bytes else Err (Garbled at)
+abbrev pub number_in : ℕ → ℕ → Numbers → Format Fault ℕ
+number_in at width numbers = judged Short (IsOneOf numbers) (judge_in at numbers) width
 
 -- a bitmap for so many chunks, which has so many bytes and begins at this offset
-abbrev pub bitmap_at : ℕ → ℕ → ℕ → List ℕ → Result (Bits × List ℕ) Fault
-bitmap_at at count n bytes =
-    bytes_at n bytes >>= λ bits.
-    if ends_at count bits.0
-    then Ok (record { count = count; bytes = bits.0 }, bits.1)
-    else Err (Garbled at)
+abbrev pub bitmap : ℕ → ℕ → ℕ → Format Fault Bits
+bitmap at count n =
+    made (λ bits. bits.bytes) (λ bytes. record { count = count; bytes = bytes })
+    (tested (ends_at count) (Garbled at) (run Short n))
+
+-- a flag, and the stages, by their numbers
+abbrev pub flag_in : ℕ → Format Fault Bool
+flag_in at = made (λ set. big_bytes 1 (flag set)) (λ n. n == 1) (number_in at 1 (between 0 1))
+
+abbrev pub copy_in : ℕ → Format Fault CopyStage
+copy_in at =
+    made (λ stage. big_bytes 1 (copy_number stage)) copy_numbered (number_in at 1 (between 1 3))
+
+abbrev pub pages_in : ℕ → Format Fault PageStage
+pages_in at =
+    made (λ stage. big_bytes 1 (page_number stage)) page_numbered (number_in at 1 (between 1 2))
+
+-- ---- parts
 
 -- session and incarnation
-unfoldable pub attempt_at : List ℕ → Result (Attempt × List ℕ) Fault
-attempt_at bytes = do
-  session ← number_at 8 bytes
-  incarnation ← number_at 4 session.1
-  Ok (record { session = session.0; incarnation = incarnation.0 }, incarnation.1)
-
-unfoldable pub init_at : List ℕ → Result (Frame × List ℕ) Fault
-init_at bytes = do
-  version ← number_at 2 bytes
-  page_size ← number_at 4 version.1
-  compressed ← number_in 11 1 (between 0 1) page_size.1
-  tasks ← number_at 1 compressed.1
-  attempt ← attempt_at tasks.1
-  Ok (Init attempt.0 version.0 page_size.0 (compressed.0 == 1) tasks.0, attempt.1)
-
-unfoldable pub attach_at : List ℕ → Result (Frame × List ℕ) Fault
-attach_at bytes = do
-  attempt ← attempt_at bytes
-  task ← number_at 1 attempt.1
-  Ok (Attach attempt.0 task.0, task.1)
-
--- the bitmap has n bytes, so the count is the bits of n bytes or up to 7 fewer
-unfoldable pub reinit_at : ℕ → List ℕ → Result (Frame × List ℕ) Fault
-reinit_at n bytes = do
-  attempt ← attempt_at bytes
-  stage ← number_in 17 1 (between 1 3) attempt.1
-  count ← number_in 18 4 (between (8 * n - 7) (8 * n)) stage.1
-  finished ← bitmap_at 22 count.0 n count.1
-  Ok (Reinit attempt.0 (copy_numbered stage.0) finished.0, finished.1)
-
-unfoldable pub execute_at : List ℕ → Result (Frame × List ℕ) Fault
-execute_at bytes = do
-  stage ← number_in 5 1 (between 1 3) bytes
-  Ok (Execute (copy_numbered stage.0), stage.1)
-
-unfoldable pub ack_at : List ℕ → Result (Frame × List ℕ) Fault
-ack_at bytes = do
-  stage ← number_in 5 1 (between 1 3) bytes
-  floor ← number_at 8 stage.1
-  Ok (Ack (copy_numbered stage.0) floor.0, floor.1)
+abbrev pub attempt : Format Fault Attempt
+attempt =
+    seen IsAttempt attempt_bytes (λ x. record { session = x.0; incarnation = x.1 })
+    (word 8 & word 4)
 
 -- a space and its pages
-unfoldable pub space_at : List ℕ → Result (SpaceSize × List ℕ) Fault
-space_at bytes = do
-  space ← number_at 4 bytes
-  pages ← number_at 4 space.1
-  Ok (record { space = space.0; pages = pages.0 }, pages.1)
+abbrev pub space : Format Fault SpaceSize
+space =
+    seen IsSpace space_bytes (λ x. record { space = x.0; pages = x.1 }) (word 4 & word 4)
 
--- so many items, one after the other
-abbrev pub list_at : {X : Type 0} → (List ℕ → Result (X × List ℕ) Fault) → ℕ → List ℕ →
-    Result (List X × List ℕ) Fault
-list_at item zero bytes = Ok ([], bytes)
-list_at item (suc n) bytes =
-    item bytes >>= λ first. list_at item n first.1 >>= λ more. Ok (first.0 ∷ more.0, more.1)
+-- a page and where it belongs
+abbrev pub page : Format Fault PageAt
+page =
+    seen IsPageAt page_bytes (λ x. record { space = x.0; number = x.1.0; page = x.1.1 })
+    (word 4 & word 4 & run Short PAGE_SIZE)
 
 -- what the fields of a stage say
 abbrev pub planned : ℕ → ℕ → ℕ → ℕ → ℕ → List SpaceSize → StagePlan
@@ -137,84 +114,96 @@ planned stage chunks checkpoint lsn position spaces =
     else plan.Done checkpoint lsn position))
 
 -- Chunks are 0 in stage 4, checkpoint and LSN in stages 1 and 2, and the position in stage 1.
--- Spaces are listed in stage 1 alone.
-unfoldable pub stage_at : ℕ → List ℕ → Result (Frame × List ℕ) Fault
-stage_at n bytes = do
-  attempt ← attempt_at bytes
-  stage ← number_in 17 1 (between 1 (if n == 0 then 4 else 1)) attempt.1
-  chunks ← number_in 18 4 (any_if (not (stage.0 == 4)) 0xFFFFFFFF) stage.1
-  checkpoint ← number_in 22 8 (any_if (nat_le 3 stage.0) 0xFFFFFFFFFFFFFFFF) chunks.1
-  lsn ← number_in 30 8 (any_if (nat_le 3 stage.0) 0xFFFFFFFFFFFFFFFF) checkpoint.1
-  position ← number_in 38 8 (any_if (nat_le 2 stage.0) 0xFFFFFFFFFFFFFFFF) lsn.1
-  count ← number_in 46 2 (only n) position.1
-  spaces ← list_at space_at n count.1
-  Ok (Stage attempt.0 (planned stage.0 chunks.0 checkpoint.0 lsn.0 position.0 spaces.0), spaces.1)
+-- Spaces, so many, are listed in stage 1 alone.
+abbrev pub plan_fields : ℕ → ℕ → Format Fault (ℕ × (ℕ × (ℕ × (ℕ × (ℕ × List SpaceSize)))))
+plan_fields n stage =
+    number_in 18 4 (any_if (not (stage == 4)) 0xFFFFFFFF)
+    & number_in 22 8 (any_if (nat_le 3 stage) 0xFFFFFFFFFFFFFFFF)
+    & number_in 30 8 (any_if (nat_le 3 stage) 0xFFFFFFFFFFFFFFFF)
+    & number_in 38 8 (any_if (nat_le 2 stage) 0xFFFFFFFFFFFFFFFF)
+    & number_in 46 2 (only n) & list space n
 
--- a page and where it belongs
-unfoldable pub page_at : List ℕ → Result (PageAt × List ℕ) Fault
-page_at bytes = do
-  space ← number_at 4 bytes
-  number ← number_at 4 space.1
-  page ← bytes_at PAGE_SIZE number.1
-  Ok (record { space = space.0; number = number.0; page = page.0 }, page.1)
+abbrev pub stage_plan : ℕ → Format Fault StagePlan
+stage_plan n =
+    made plan_bytes (λ x. planned x.0 x.1.0 x.1.1.0 x.1.1.1.0 x.1.1.1.1.0 x.1.1.1.1.1.1)
+    (followed (number_in 17 1 (between 1 (if n == 0 then 4 else 1))) (plan_fields n))
 
-unfoldable pub pages_frame_at : ℕ → List ℕ → Result (Frame × List ℕ) Fault
-pages_frame_at n bytes = do
-  attempt ← attempt_at bytes
-  stage ← number_in 17 1 (between 1 2) attempt.1
-  chunk ← number_at 4 stage.1
-  block ← number_at 1 chunk.1
-  count ← number_in 23 1 (only n) block.1
-  pages ← list_at page_at n count.1
-  Ok (Pages attempt.0 (page_numbered stage.0) chunk.0 block.0 pages.0, pages.1)
+-- the values that a refusal doesn't have are 0
+abbrev pub refusal : Format Fault Refusal
+refusal =
+    made refusal_text (λ x. refusal_numbered x.0 x.1.0 x.1.1)
+    (followed (number_in 5 1 (between 1 12)) (λ number.
+    number_in 6 8 (any_if (nat_le 1 (value_count number)) 0xFFFFFFFFFFFFFFFF)
+    & number_in 14 8 (any_if (nat_le 2 (value_count number)) 0xFFFFFFFFFFFFFFFF)))
 
-unfoldable pub redo_at : ℕ → List ℕ → Result (Frame × List ℕ) Fault
-redo_at n bytes = do
-  attempt ← attempt_at bytes
-  stage ← number_in 17 1 (only 3) attempt.1
-  chunk ← number_at 4 stage.1
-  block ← number_at 1 chunk.1
-  from ← number_at 8 block.1
-  count ← number_in 31 4 (only n) from.1
-  redo ← bytes_at n count.1
-  Ok (Redo attempt.0 chunk.0 block.0 from.0 redo.0, redo.1)
+-- ---- frames
 
-unfoldable pub end_at : List ℕ → Result (Frame × List ℕ) Fault
-end_at bytes = do
-  attempt ← attempt_at bytes
-  stage ← number_in 17 1 (between 1 3) attempt.1
-  Ok (End attempt.0 (copy_numbered stage.0), stage.1)
+abbrev pub framed : {A : Type 0} → (A → Frame) → Format Fault A → Format Fault Frame
+framed make f = made payload make f
 
-unfoldable pub refused_at : List ℕ → Result (Frame × List ℕ) Fault
-refused_at bytes = do
-  number ← number_in 5 1 (between 1 12) bytes
-  first ← number_in 6 8 (any_if (nat_le 1 (value_count number.0)) 0xFFFFFFFFFFFFFFFF) number.1
-  second ← number_in 14 8 (any_if (nat_le 2 (value_count number.0)) 0xFFFFFFFFFFFFFFFF) first.1
-  Ok (Refused (refusal_numbered number.0 first.0 second.0), second.1)
+-- the bitmap has n bytes, so the count is the bits of n bytes or up to 7 fewer
+abbrev pub counted : ℕ → Format Fault (ℕ × Bits)
+counted n = followed (number_in 18 4 (between (8 * n - 7) (8 * n))) (λ count. bitmap 22 count n)
+
+abbrev pub init : Format Fault Frame
+init =
+    framed (λ x. Init x.1.1.1.1 x.0 x.1.0 x.1.1.0 x.1.1.1.0)
+    (word 2 & word 4 & flag_in 11 & word 1 & attempt)
+
+abbrev pub attach : Format Fault Frame
+attach = framed (λ x. Attach x.0 x.1) (attempt & word 1)
+
+abbrev pub reinit : ℕ → Format Fault Frame
+reinit n = framed (λ x. Reinit x.0 x.1.0 x.1.1.1) (attempt & copy_in 17 & counted n)
+
+abbrev pub ack : Format Fault Frame
+ack = framed (λ x. Ack x.0 x.1) (copy_in 5 & word 8)
+
+abbrev pub exit : Format Fault Frame
+exit = framed {A = Unit {0}} (λ none. Exit) (nothing tt)
+
+abbrev pub stage : ℕ → Format Fault Frame
+stage n = framed (λ x. Stage x.0 x.1) (attempt & stage_plan n)
+
+abbrev pub pages : ℕ → Format Fault Frame
+pages n =
+    framed (λ x. Pages x.0 x.1.0 x.1.1.0 x.1.1.1.0 x.1.1.1.1.1)
+    (attempt & pages_in 17 & word 4 & word 1 & number_in 23 1 (only n) & list page n)
+
+abbrev pub redo : ℕ → Format Fault Frame
+redo n =
+    framed (λ x. Redo x.0 x.1.1.0 x.1.1.1.0 x.1.1.1.1.0 x.1.1.1.1.1.1)
+    (attempt & number_in 17 1 (only 3) & word 4 & word 1 & word 8
+    & number_in 31 4 (only n) & run Short n)
 
 -- the payload of a frame with this code and this length
-unfoldable pub payload_at : ℕ → ℕ → List ℕ → Result (Frame × List ℕ) Fault
-payload_at code long bytes =
-    if code == 1 then init_at bytes
-    else (if code == 2 then attach_at bytes
-    else (if code == 3 then reinit_at (long - REINIT_FIELDS) bytes
-    else (if code == 4 then execute_at bytes
-    else (if code == 5 then ack_at bytes
-    else (if code == 6 then Ok (Exit, bytes)
-    else (if code == 16 then stage_at ((long - STAGE_FIELDS) / SPACE_BYTES) bytes
-    else (if code == 17 then pages_frame_at ((long - PAGES_FIELDS) / PAGE_AT_BYTES) bytes
-    else (if code == 18 then redo_at (long - REDO_FIELDS) bytes
-    else (if code == 19 then end_at bytes
-    else refused_at bytes)))))))))
+abbrev pub payload_of : ℕ → ℕ → Format Fault Frame
+payload_of code long =
+    choose (code == 1) init
+    (choose (code == 2) attach
+    (choose (code == 3) (reinit (long - REINIT_FIELDS))
+    (choose (code == 4) (framed Execute (copy_in 5))
+    (choose (code == 5) ack
+    (choose (code == 6) exit
+    (choose (code == 16) (stage ((long - STAGE_FIELDS) / SPACE_BYTES))
+    (choose (code == 17) (pages ((long - PAGES_FIELDS) / PAGE_AT_BYTES))
+    (choose (code == 18) (redo (long - REDO_FIELDS))
+    (choose (code == 19) (framed (λ x. End x.0 x.1) (attempt & copy_in 17))
+    (framed Refused refusal))))))))))
 
 -- a frame's code and the length of its payload
+abbrev pub head : Side → Format Fault (ℕ × ℕ)
+head side = followed (number_in 0 1 (codes side)) (λ code. number_in 1 4 (lengths code))
+
+-- the frame at the front, by its code and its length
+abbrev pub frame : Side → Format Fault Frame
+frame side = led (head side) (λ h. payload_of h.0 h.1) (λ x. (code_of x, length (payload x)))
+
 unfoldable pub head_at : Side → List ℕ → Result ((ℕ × ℕ) × List ℕ) Fault
-head_at side bytes = do
-  code ← number_in 0 1 (codes side) bytes
-  long ← number_in 1 4 (lengths code.0) code.1
-  Ok ((code.0, long.0), long.1)
+head_at side = (head side).read
+
+unfoldable pub payload_at : ℕ → ℕ → List ℕ → Result (Frame × List ℕ) Fault
+payload_at code long = (payload_of code long).read
 
 unfoldable pub frame_at : Side → List ℕ → Result (Frame × List ℕ) Fault
-frame_at side bytes = do
-  head ← head_at side bytes
-  payload_at head.0.0 head.0.1 head.1
+frame_at side = (frame side).read

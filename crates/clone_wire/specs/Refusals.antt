@@ -1,5 +1,6 @@
 -- The numbers and the values of the refusals. A value that a refusal doesn't have is 0.
-use Rattle.std.specs.Prelude.{ℕ, ◌==◌, if◌then◌else◌}
+use Rattle.std.specs.Prelude.{ℕ, ◌==◌, ◌++◌, List, if◌then◌else◌}
+use Rattle.byteorder.specs.Endian.{big_bytes}
 use Rattle.clone_wire.specs.declared.refusal.Refusal.{Refusal}
 use Rattle.clone_wire.specs.declared.refusal.Refusal.TheVariants.{CloneBusy, VersionMismatch}
 use Rattle.clone_wire.specs.declared.refusal.Refusal.TheVariants.{PageSizeMismatch}
@@ -50,6 +51,11 @@ refusal_second (ChunksLeft count) = 0
 refusal_second (FloorAhead floor position) = position
 refusal_second NotClaimed = 0
 refusal_second (ArchiveBehind archived until) = until
+
+abbrev pub refusal_text : Refusal → List ℕ
+refusal_text refusal =
+    big_bytes 1 (refusal_number refusal) ++ big_bytes 8 (refusal_first refusal)
+    ++ big_bytes 8 (refusal_second refusal)
 
 -- how many values the refusal of a number from 1 to 12 has
 abbrev pub value_count : ℕ → ℕ

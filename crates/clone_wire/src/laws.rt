@@ -11,7 +11,7 @@ ghost use Rattle.clone_wire.specs.declared.frame.Side.{Side};
 /// No spelling of a frame begins another of its side. So what was decoded is decoded again,
 /// whatever bytes follow it.
 pub fn one_spelling()
-    ensures { (side : Side) (a b x y : List ℕ) (m n : Frame) → IsBytes x → IsBytes y →
+    ensures { (side : Side) (a b x y : List ℕ) (m n : Frame) →
         Spells side a m → Spells side b n → a ++ x ≡ b ++ y → (a ≡ b) × (m ≡ n) }
 {}
 

@@ -8,15 +8,19 @@ ghost use Rattle.clone_wire.specs.Choices.{any_if};
 ghost use Rattle.clone_wire.specs.declared.limits.TheConstants.{MOST_BITMAP, MOST_CHUNKS};
 ghost use Rattle.clone_wire.specs.declared.limits.TheConstants.{MOST_SPACES};
 ghost use Rattle.clone_wire.specs.declared.limits.TheConstants.{MOST_PAGES, MOST_REDO};
-ghost use Rattle.clone_wire.specs.Reading.{Gives, attempt_at, init_at, attach_at, reinit_at};
-ghost use Rattle.clone_wire.specs.Reading.{execute_at, ack_at, list_at, space_at, planned};
-ghost use Rattle.clone_wire.specs.Reading.{stage_at, page_at, pages_frame_at, redo_at, end_at};
-ghost use Rattle.clone_wire.specs.Reading.{refused_at, bitmap_at, bytes_at};
+ghost use Rattle.clone_wire.specs.Reading.{Gives, init, attach, reinit, ack, stage, pages, redo};
+ghost use Rattle.clone_wire.specs.Reading.{framed, space, page, bitmap, planned, plan_fields};
+ghost use Rattle.clone_wire.specs.Reading.{stage_plan, refusal, copy_in, attempt};
+ghost use Rattle.clone_wire.specs.declared.frame.Frame.TheVariants.{Execute, End, Refused};
+ghost use Rattle.clone_wire.specs.declared.fault.Fault.TheVariants.{Short};
+ghost use Rattle.clone_bytes.specs.Formats.{◌&◌, list, list_at, run_at};
 ghost use Rattle.clone_wire.specs.Refusals.{value_count};
 
 use crate::bitmap::ends_at;
 use crate::fault::Fault;
-use crate::fields::{attempt_of, bytes_of, number_in, u8_of, u16_of, u32_of, u64_of};
+use crate::fields::{
+    attempt_of, bytes_of, copy_of, flag_of, number_in, pages_stage_of, u8_of, u16_of, u32_of, u64_of,
+};
 use crate::numbers::Numbers;
 use crate::{
     Bitmap, CopyStage, Frame, PageAt, PageStage, Pages, RedoBytes, Refusal, SpaceSize, Spaces,
@@ -29,75 +33,70 @@ use std::alloc::Global;
 
 // Each function reads a payload, which begins at offset 5 of its frame.
 
-#[tactic(auto, unfolding(crate::specs::Reading::init_at))]
 pub(crate) fn init_of(reader: &mut Reader) -> Result<Frame, Fault>
-    ensures { Gives (λ x. (x, reader.new)) result (init_at reader.old) }
+    ensures { Gives (λ x. (x, reader.new)) result ((init).read reader.old) }
 {
     let version = u16_of(reader)?;
     let page_size = u32_of(reader)?;
-    let compressed = number_in(11, 1, Numbers::between(0, 1), reader)?;
+    let compressed = flag_of(11, reader)?;
     let tasks = u8_of(reader)?;
     let attempt = attempt_of(reader)?;
     Ok(Frame::Init {
         attempt,
         version,
         page_size,
-        compressed: compressed == 1,
+        compressed,
         tasks,
     })
 }
 
-#[tactic(auto, unfolding(crate::specs::Reading::attach_at))]
 pub(crate) fn attach_of(reader: &mut Reader) -> Result<Frame, Fault>
-    ensures { Gives (λ x. (x, reader.new)) result (attach_at reader.old) }
+    ensures { Gives (λ x. (x, reader.new)) result ((attach).read reader.old) }
 {
     let attempt = attempt_of(reader)?;
     let task = u8_of(reader)?;
     Ok(Frame::Attach { attempt, task })
 }
 
-#[tactic(auto, unfolding(crate::specs::Reading::execute_at))]
 pub(crate) fn execute_of(reader: &mut Reader) -> Result<Frame, Fault>
-    ensures { Gives (λ x. (x, reader.new)) result (execute_at reader.old) }
+    ensures { Gives (λ x. (x, reader.new)) result ((framed Execute (copy_in 5)).read reader.old) }
 {
-    let stage = number_in(5, 1, Numbers::between(1, 3), reader)?;
+    let stage = copy_of(5, reader)?;
     Ok(Frame::Execute {
-        stage: CopyStage::numbered(stage),
+        stage,
     })
 }
 
-#[tactic(auto, unfolding(crate::specs::Reading::ack_at))]
 pub(crate) fn ack_of(reader: &mut Reader) -> Result<Frame, Fault>
-    ensures { Gives (λ x. (x, reader.new)) result (ack_at reader.old) }
+    ensures { Gives (λ x. (x, reader.new)) result ((ack).read reader.old) }
 {
-    let stage = number_in(5, 1, Numbers::between(1, 3), reader)?;
+    let stage = copy_of(5, reader)?;
     let floor = u64_of(reader)?;
     Ok(Frame::Ack {
-        stage: CopyStage::numbered(stage),
+        stage,
         floor,
     })
 }
 
-#[tactic(auto, unfolding(crate::specs::Reading::end_at))]
 pub(crate) fn end_of(reader: &mut Reader) -> Result<Frame, Fault>
-    ensures { Gives (λ x. (x, reader.new)) result (end_at reader.old) }
+    ensures { Gives (λ x. (x, reader.new)) result ((framed (λ x. End x.0 x.1) (attempt & copy_in 17)).read
+        reader.old) }
 {
     let attempt = attempt_of(reader)?;
-    let stage = number_in(17, 1, Numbers::between(1, 3), reader)?;
+    let stage = copy_of(17, reader)?;
     Ok(Frame::End {
         attempt,
-        stage: CopyStage::numbered(stage),
+        stage,
     })
 }
 
 // The bitmap has `n` bytes.
-#[tactic(auto, unfolding(crate::specs::Reading::reinit_at))]
 pub(crate) fn reinit_of(alloc: Global, n: usize, reader: &mut Reader) -> Result<Frame, Fault>
     requires { n ≤ MOST_BITMAP }
-    ensures { Gives (λ x. (x, reader.new)) result (reinit_at n reader.old) }
+    ensures { Gives (λ x. (x, reader.new)) result ((reinit n).read reader.old) }
 {
     let attempt = attempt_of(reader)?;
-    let stage = number_in(17, 1, Numbers::between(1, 3), reader)?;
+    let stage = copy_of(17, reader)?;
     let bits = 8 * n as u64;
     let count = number_in(
         18,
@@ -108,7 +107,7 @@ pub(crate) fn reinit_of(alloc: Global, n: usize, reader: &mut Reader) -> Result<
     let finished = bitmap_of(alloc, 22, count, n, reader)?;
     Ok(Frame::Reinit {
         attempt,
-        stage: CopyStage::numbered(stage),
+        stage,
         finished,
     })
 }
@@ -122,7 +121,7 @@ fn bitmap_of(
 ) -> Result<Bitmap, Fault>
     requires few { count ≤ MOST_CHUNKS }
     requires long { n ≡ (count + 7) / 8 }
-    ensures { Gives (λ x. (x, reader.new)) result (bitmap_at at count n reader.old) }
+    ensures { Gives (λ x. (x, reader.new)) result ((bitmap at count n).read reader.old) }
 {
     let bytes = bytes_of(reader, n)?;
     if !ends_at(count as u32, bytes) {
@@ -131,9 +130,8 @@ fn bitmap_of(
     Ok(Bitmap::from_bytes(alloc, count as u32, bytes)?)
 }
 
-#[tactic(auto, unfolding(crate::specs::Reading::space_at))]
 fn space_of(reader: &mut Reader) -> Result<SpaceSize, Fault>
-    ensures { Gives (λ x. (x, reader.new)) result (space_at reader.old) }
+    ensures { Gives (λ x. (x, reader.new)) result ((space).read reader.old) }
 {
     let space = u32_of(reader)?;
     let pages = u32_of(reader)?;
@@ -142,7 +140,7 @@ fn space_of(reader: &mut Reader) -> Result<SpaceSize, Fault>
 
 fn spaces_of(alloc: Global, n: usize, reader: &mut Reader) -> Result<Spaces, Fault>
     requires { n ≤ MOST_SPACES }
-    ensures { Gives (λ x. (x, reader.new)) result (list_at space_at n reader.old) }
+    ensures { Gives (λ x. (x, reader.new)) result ((list space n).read reader.old) }
 {
     let mut spaces = Spaces::new(alloc);
     for _ in 0..n {
@@ -153,12 +151,19 @@ fn spaces_of(alloc: Global, n: usize, reader: &mut Reader) -> Result<Spaces, Fau
 }
 
 // There are `n` spaces.
-#[tactic(auto, unfolding(crate::specs::Reading::stage_at))]
 pub(crate) fn stage_of(alloc: Global, n: usize, reader: &mut Reader) -> Result<Frame, Fault>
     requires { n ≤ MOST_SPACES }
-    ensures { Gives (λ x. (x, reader.new)) result (stage_at n reader.old) }
+    ensures { Gives (λ x. (x, reader.new)) result ((stage n).read reader.old) }
 {
     let attempt = attempt_of(reader)?;
+    let plan = plan_of(alloc, n, reader)?;
+    Ok(Frame::Stage { attempt, plan })
+}
+
+fn plan_of(alloc: Global, n: usize, reader: &mut Reader) -> Result<StagePlan, Fault>
+    requires { n ≤ MOST_SPACES }
+    ensures { Gives (λ x. (x, reader.new)) result ((stage_plan n).read reader.old) }
+{
     let most = if n == 0 { 4 } else { 1 };
     let stage = number_in(17, 1, Numbers::between(1, most), reader)?;
     let chunks = number_in(18, 4, any_if(stage != 4, 0xFFFF_FFFF), reader)?;
@@ -167,10 +172,14 @@ pub(crate) fn stage_of(alloc: Global, n: usize, reader: &mut Reader) -> Result<F
     let position = number_in(38, 8, any_if(stage >= 2, u64::MAX), reader)?;
     number_in(46, 2, Numbers::only(n as u64), reader)?;
     let spaces = spaces_of(alloc, n, reader)?;
-    Ok(Frame::Stage {
-        attempt,
-        plan: planned(stage, chunks as u32, checkpoint, lsn, position, spaces),
-    })
+    Ok(planned(
+        stage,
+        chunks as u32,
+        checkpoint,
+        lsn,
+        position,
+        spaces,
+    ))
 }
 
 // All numbers up to the most where the frame has a value there, and else 0.
@@ -207,9 +216,8 @@ fn planned(
     }
 }
 
-#[tactic(auto, unfolding(crate::specs::Reading::page_at))]
 fn page_of(reader: &mut Reader) -> Result<PageAt, Fault>
-    ensures { Gives (λ x. (x, reader.new)) result (page_at reader.old) }
+    ensures { Gives (λ x. (x, reader.new)) result ((page).read reader.old) }
 {
     let space = u32_of(reader)?;
     let number = u32_of(reader)?;
@@ -222,7 +230,7 @@ fn page_of(reader: &mut Reader) -> Result<PageAt, Fault>
 }
 
 fn body_of(reader: &mut Reader) -> Result<Page, Fault>
-    ensures { Gives (λ x. (x, reader.new)) result (bytes_at PAGE_SIZE reader.old) }
+    ensures { Gives (λ x. (x, reader.new)) result (run_at Short PAGE_SIZE reader.old) }
 {
     let bytes = bytes_of(reader, PAGE_SIZE)?;
     Ok(Page::from_bytes(bytes))
@@ -231,7 +239,7 @@ fn body_of(reader: &mut Reader) -> Result<Page, Fault>
 fn pages_of(alloc: Global, n: usize, reader: &mut Reader) -> Result<Pages, Fault>
     requires some { 1 ≤ n }
     requires few { n ≤ MOST_PAGES }
-    ensures { Gives (λ x. (x, reader.new)) result (list_at page_at n reader.old) }
+    ensures { Gives (λ x. (x, reader.new)) result ((list page n).read reader.old) }
 {
     let mut list = Vec::with_capacity(alloc, n)?;
     for _ in 0..n {
@@ -242,21 +250,20 @@ fn pages_of(alloc: Global, n: usize, reader: &mut Reader) -> Result<Pages, Fault
 }
 
 // There are `n` pages.
-#[tactic(auto, unfolding(crate::specs::Reading::pages_frame_at))]
 pub(crate) fn pages_frame_of(alloc: Global, n: usize, reader: &mut Reader) -> Result<Frame, Fault>
     requires some { 1 ≤ n }
     requires few { n ≤ MOST_PAGES }
-    ensures { Gives (λ x. (x, reader.new)) result (pages_frame_at n reader.old) }
+    ensures { Gives (λ x. (x, reader.new)) result ((pages n).read reader.old) }
 {
     let attempt = attempt_of(reader)?;
-    let stage = number_in(17, 1, Numbers::between(1, 2), reader)?;
+    let stage = pages_stage_of(17, reader)?;
     let chunk = u32_of(reader)?;
     let block = u8_of(reader)?;
     number_in(23, 1, Numbers::only(n as u64), reader)?;
     let pages = pages_of(alloc, n, reader)?;
     Ok(Frame::Pages {
         attempt,
-        stage: PageStage::numbered(stage),
+        stage,
         chunk,
         block,
         pages,
@@ -264,11 +271,10 @@ pub(crate) fn pages_frame_of(alloc: Global, n: usize, reader: &mut Reader) -> Re
 }
 
 // There are `n` bytes of redo.
-#[tactic(auto, unfolding(crate::specs::Reading::redo_at))]
 pub(crate) fn redo_of(alloc: Global, n: usize, reader: &mut Reader) -> Result<Frame, Fault>
     requires some { 1 ≤ n }
     requires few { n ≤ MOST_REDO }
-    ensures { Gives (λ x. (x, reader.new)) result (redo_at n reader.old) }
+    ensures { Gives (λ x. (x, reader.new)) result ((redo n).read reader.old) }
 {
     let attempt = attempt_of(reader)?;
     number_in(17, 1, Numbers::only(3), reader)?;
@@ -289,23 +295,27 @@ pub(crate) fn redo_of(alloc: Global, n: usize, reader: &mut Reader) -> Result<Fr
 fn redo_bytes_of(alloc: Global, n: usize, reader: &mut Reader) -> Result<RedoBytes, Fault>
     requires some { 1 ≤ n }
     requires few { n ≤ MOST_REDO }
-    ensures { Gives (λ x. (x, reader.new)) result (bytes_at n reader.old) }
+    ensures { Gives (λ x. (x, reader.new)) result (run_at Short n reader.old) }
 {
     let bytes = bytes_of(reader, n)?;
     Ok(RedoBytes::new(alloc, bytes)?)
 }
 
-#[tactic(auto, unfolding(crate::specs::Reading::refused_at))]
 pub(crate) fn refused_of(reader: &mut Reader) -> Result<Frame, Fault>
-    ensures { Gives (λ x. (x, reader.new)) result (refused_at reader.old) }
+    ensures { Gives (λ x. (x, reader.new)) result ((framed Refused refusal).read reader.old) }
+{
+    let refusal = refusal_of(reader)?;
+    Ok(Frame::Refused { refusal })
+}
+
+fn refusal_of(reader: &mut Reader) -> Result<Refusal, Fault>
+    ensures { Gives (λ x. (x, reader.new)) result ((refusal).read reader.old) }
 {
     let number = number_in(5, 1, Numbers::between(1, 12), reader)?;
     let values = value_count(number);
     let first = number_in(6, 8, any_if(values >= 1, u64::MAX), reader)?;
     let second = number_in(14, 8, any_if(values >= 2, u64::MAX), reader)?;
-    Ok(Frame::Refused {
-        refusal: Refusal::numbered(number, first, second),
-    })
+    Ok(Refusal::numbered(number, first, second))
 }
 
 // How many values the refusal of this number has.

@@ -1,7 +1,7 @@
 use Rattle.std.proofs.Common.{arith}
 use Rattle.std.proofs.lemmas.Grind.{common_steps}
 use Rattle.clone_wire.specs.Spelling.{spelling}
-use Rattle.clone_wire.proofs.Spelled.{as_spelled}
+use Rattle.clone_wire.proofs.Decoding.{as_spelled}
 use Rattle.clone_wire.proofs.encoding.encode.Goals as goal
 
 pub returns-clause-text : goal.returns-clause-text
