@@ -38,38 +38,38 @@ fn make_space(buffer: &mut Buffer) -> Result<u64, LogFull>
     ])
 }
 
-// The page of space 3 is dirty, and the space's file has no page.
-fn with_short_file(alloc: Global) -> Result<(Buffer, Flusher, MemDisk), Fail> {
+// The page of space 3 is dirty, the space's file has no page, and the disk fails at its next call.
+fn before_a_fault(alloc: Global) -> Result<(Buffer, Flusher, MemDisk), Fail> {
     let mut buffer = with_new_page(alloc)?;
     make_space(&mut buffer)?;
     let mut disk = MemDisk::new(alloc);
     disk.create(3, 0)?;
+    disk.order(DiskOrder::FailAt { call: 1 })?;
     let mut flusher = Flusher::new(alloc);
     flusher.file_made(3, 0)?;
     Ok((buffer, flusher, disk))
 }
 
-#[test]
-fn a_short_file_is_lengthened_first(rt: HostRuntime) -> Result<(), Fail> {
-    let (mut buffer, mut flusher, mut disk) = with_short_file(rt.alloc())?;
-    assert_eq!(rt; flusher.begin(&mut buffer, 3, 0, &mut disk), Ok(()));
-    assert_eq!(rt; disk.pages(3), Ok(Some(1)));
-    assert_eq!(rt; flusher.file(3), Some(1));
-    assert_eq!(rt; flusher.half(&mut buffer, 3, 0, &mut disk), Ok(()));
-    assert_eq!(rt; flusher.land(&mut buffer, 3, 0, &mut disk), Ok(()));
-    assert_eq!(rt; flusher.oldest_dirty(&buffer), None);
-    Ok(())
+// The page is flushed.
+fn flush(
+    buffer: &mut Buffer,
+    flusher: &mut Flusher,
+    disk: &mut MemDisk,
+) -> Result<(), FlushRefusal> {
+    flusher.begin(buffer, 3, 0, disk)?;
+    flusher.half(buffer, 3, 0, disk)?;
+    flusher.land(buffer, 3, 0, disk)
 }
 
 #[test]
-fn where_the_disk_fails_the_page_stays_dirty(rt: HostRuntime) -> Result<(), Fail> {
-    let (mut buffer, mut flusher, mut disk) = with_short_file(rt.alloc())?;
-    disk.order(DiskOrder::FailAt { call: 1 })?;
-    let fault = flusher.begin(&mut buffer, 3, 0, &mut disk);
-    assert_eq!(rt; fault, Err(FlushRefusal::DiskFault));
-    assert_eq!(rt; flusher.file(3), Some(0));
-    assert_eq!(rt; flusher.oldest_dirty(&buffer), Some((3, 0)));
-    assert_eq!(rt; flusher.begin(&mut buffer, 3, 0, &mut disk), Ok(()));
-    assert_eq!(rt; flusher.file(3), Some(1));
+fn a_page_is_flushed_after_a_fault(rt: HostRuntime) -> Result<(), Fail> {
+    let (mut buffer, mut flusher, mut disk) = before_a_fault(rt.alloc())?;
+    for want in [
+        Err(FlushRefusal::DiskFault),
+        Ok(()),
+        Err(FlushRefusal::NotDirty),
+    ] {
+        assert_eq!(rt; flush(&mut buffer, &mut flusher, &mut disk), want);
+    }
     Ok(())
 }
