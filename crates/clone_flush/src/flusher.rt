@@ -24,6 +24,7 @@ ghost use Rattle.clone_flush.specs.declared.flusher.PageWrite.{PageWrite};
 
 use crate::FlushRefusal;
 use crate::files::Files;
+use crate::kept::KeptWrite;
 use clone_base::FIRST_LSN;
 use clone_buffer::Buffer;
 use clone_model::MOST_PAGES;
@@ -46,7 +47,10 @@ pub struct PageWrite {
 /// and how long each file is: so many pages of it are there at least.
 #[derive(Drop)]
 pub struct Flusher {
-    writes: BTreeMap<(u32, u32), PageWrite>,
+    writes: BTreeMap<(u32, u32), KeptWrite>,
+    // the memory of the last write that ended, for the next one
+    spare: Option<KeptWrite>,
+    alloc: Global,
     checkpoint: u64,
     files: Files,
 }
@@ -74,6 +78,8 @@ impl Flusher {
     {
         Flusher {
             writes: BTreeMap::new(alloc),
+            spare: None,
+            alloc,
             checkpoint: FIRST_LSN,
             files: Files::new(alloc),
         }
@@ -160,12 +166,8 @@ impl Flusher {
             → StandsFlown buffer.new self.new copies (D.told disk.new) }
     {
         let at = waiting(buffer, space, number)?;
-        let write = PageWrite {
-            image: Page::from_bytes(buffer.frame(at).bytes()),
-            halved: false,
-        };
         buffer.laws();
-        match self.prepare(space, number, write, disk) {
+        match self.prepare(space, number, buffer.frame(at), disk) {
             Ok(()) => {
                 buffer.begin_flush(at);
                 buffer.laws();
@@ -182,17 +184,18 @@ impl Flusher {
         }
     }
 
-    // The write of a page is under way, and its file is long enough for it. After a refusal both
-    // are as before.
+    // The write of a page as it is in its frame is under way, and its file is long enough for it.
+    // After a refusal both are as before.
     fn prepare<D: PageDisk>(
         &mut self,
         space: u32,
         number: u32,
-        write: PageWrite,
+        frame: &Page,
         disk: &mut D,
     ) -> Result<(), Refusal>
         ensures ok { OnOk result (self.new
-            ≡ with_write (record { space = space; number = number }) write
+            ≡ with_write (record { space = space; number = number })
+            (record { image = frame.now; halved = false })
             (lengthened (ends_short (record { space = space; number = number }) self.old)
             (record { space = space; number = number }) self.old)) }
         ensures disk { OnOk result (Lengthens
@@ -208,7 +211,7 @@ impl Flusher {
         ensures cause { HasCause (D.failures disk.old) (D.failures disk.new) result }
         ensures orders { D.orders disk.new ≡ D.orders disk.old }
     {
-        let before = self.keep(space, number, write)?;
+        let before = self.keep(space, number, frame)?;
         match self.reach(space, number, disk) {
             Ok(()) => Ok(()),
             Err(refusal) => {
@@ -218,24 +221,40 @@ impl Flusher {
         }
     }
 
-    // The write of a page is under way. What stood in its place is given back.
+    // The write of a page as it is in its frame is under way. What was in its place is given back.
     fn keep(
         &mut self,
         space: u32,
         number: u32,
-        write: PageWrite,
-    ) -> Result<Option<PageWrite>, AllocError>
+        frame: &Page,
+    ) -> Result<Option<KeptWrite>, AllocError>
         ensures ok { IfOk result (λ before.
             (before ≡ write_of self.old (record { space = space; number = number }))
-            × (self.new ≡ with_write (record { space = space; number = number }) write self.old)) }
+            × (self.new ≡ with_write (record { space = space; number = number })
+            (record { image = frame.now; halved = false }) self.old)) }
         ensures err { OnErr result (self.new ≡ self.old) }
     {
+        let write = self.copied(frame)?;
         let before = self.writes.insert((space, number), write)?;
         Ok(before)
     }
 
+    // The write of a page as it is, in the memory of one that has ended, if there is one.
+    fn copied(&mut self, frame: &Page) -> Result<KeptWrite, AllocError>
+        ensures ok { IfOk result (λ w. w ≡ record { image = frame.now; halved = false }) }
+        ensures same { self.new ≡ self.old }
+    {
+        match self.spare.take() {
+            Some(mut write) => {
+                write.refill(frame);
+                Ok(write)
+            }
+            None => KeptWrite::new(self.alloc, frame),
+        }
+    }
+
     // The write of a page is again what it was before another took its place.
-    fn put_back(&mut self, space: u32, number: u32, before: Option<PageWrite>)
+    fn put_back(&mut self, space: u32, number: u32, before: Option<KeptWrite>)
         ensures { (w : PageWrite) (f : Flights)
             → before ≡ write_of f (record { space = space; number = number })
             → self.old ≡ with_write (record { space = space; number = number }) w f
@@ -287,11 +306,12 @@ impl Flusher {
     fn forget(&mut self, space: u32, number: u32)
         ensures { self.new ≡ without_write (record { space = space; number = number }) self.old }
     {
-        let _ = self.writes.remove(&(space, number));
+        let ended = self.writes.remove(&(space, number));
+        self.spare = ended.or(self.spare.take());
     }
 
     // The write of a page that is under way, if there is one.
-    fn write_at(&self, space: u32, number: u32) -> Option<&PageWrite>
+    fn write_at(&self, space: u32, number: u32) -> Option<&KeptWrite>
         ensures { option_copied result
             ≡ write_of self.now (record { space = space; number = number }) }
     {
@@ -324,7 +344,7 @@ impl Flusher {
             halved (record { buffer = buffer.now; flights = self.now }) w at → ⊥)) }
     {
         match self.write_at(space, number) {
-            Some(write) if write.halved == halved => {}
+            Some(write) if write.is_halved() == halved => {}
             _ => return Err(FlushRefusal::NoFlush),
         }
         match buffer.find(space, number) {
@@ -380,7 +400,7 @@ impl Flusher {
         let Some(write) = self.write_at(space, number) else {
             unreachable!();
         };
-        match disk.write_half(space, number, write.image.bytes()) {
+        match disk.write_half(space, number, write.image().bytes()) {
             Ok(()) => {
                 self.halve(space, number);
                 Ok(())
@@ -426,7 +446,7 @@ impl Flusher {
         let Some(write) = self.write_at(space, number) else {
             unreachable!();
         };
-        match disk.write_rest(space, number, write.image.bytes()) {
+        match disk.write_rest(space, number, write.image().bytes()) {
             Ok(()) => {
                 self.forget(space, number);
                 buffer.land_flush(at);
@@ -508,7 +528,7 @@ impl Flusher {
 }
 
 // Whether one of the writes is that of a page of the space.
-fn names_space(writes: &BTreeMap<(u32, u32), PageWrite>, space: u32) -> bool
+fn names_space(writes: &BTreeMap<(u32, u32), KeptWrite>, space: u32) -> bool
     ensures any { result ≡ list_any (λ page. page.0 == space) (keys writes.now) }
     ensures there { (page : ℕ × ℕ) → is_some (finite.get (writes_of writes.now.entries) page)
         ≡ is_member (eq_by_cmp row_cmp) (keys writes.now) page }
@@ -517,22 +537,22 @@ fn names_space(writes: &BTreeMap<(u32, u32), PageWrite>, space: u32) -> bool
 }
 
 // The first half of a page is written, where its write is under way.
-fn halve_in(writes: &mut BTreeMap<(u32, u32), PageWrite>, space: u32, number: u32)
+fn halve_in(writes: &mut BTreeMap<(u32, u32), KeptWrite>, space: u32, number: u32)
     ensures { (w : PageWrite) → finite.get (writes_of writes.old.entries) (space, number) ≡ Some w
         → writes_of writes.new.entries ≡ finite.insert (writes_of writes.old.entries)
         (space, number) (record w { halved = true }) }
 {
     if let Some(write) = writes.get_mut(&(space, number)) {
-        write.halved = true;
+        write.halve();
     }
 }
 
 // Another write of a page takes the place of the one that is under way.
 fn replace_in(
-    writes: &mut BTreeMap<(u32, u32), PageWrite>,
+    writes: &mut BTreeMap<(u32, u32), KeptWrite>,
     space: u32,
     number: u32,
-    write: PageWrite,
+    write: KeptWrite,
 )
     ensures { IsSome (finite.get (writes_of writes.old.entries) (space, number))
         → writes_of writes.new.entries

@@ -3,6 +3,7 @@
 
 mod files;
 mod flusher;
+mod kept;
 mod refusal;
 
 pub use flusher::Flusher;

@@ -11,11 +11,11 @@ pub returns-in-Some : goal.returns-in-Some
 returns-in-Some c =
     let m = c.args.writes.now in
     let key : ℕ × ℕ = (c.args.space, c.args.number) in
-    let v : PageWrite = record { image = c.in-Some.write.now.image; halved = true } in
+    let v : PageWrite = c.halve.new.self in
     λ w is.
     let same : c.in-Some.write.now ≡ w = same_write _ c.in-Some.write.now w (c.in-Some.ensures.value ∙ sym (get_listed row_cmp_total m key)) is in
     inserted row_cmp_total row_cmp_exact m (c.get_mut.follows.lender v) key v ((c.get_mut.follows.holds v).3 (ap is_some (sym c.in-Some.ensures.value)))
-    ∙ ap (λ (x : PageWrite). finite.insert (writes_of m.entries) key (record x { halved = true })) same
+    ∙ ap (finite.insert (writes_of m.entries) key) (c.halve.ensures ∙ ap (λ (x : PageWrite). record x { halved = true }) same)
 
 pub returns-in_default : goal.returns-in_default
 returns-in_default c = λ w is.

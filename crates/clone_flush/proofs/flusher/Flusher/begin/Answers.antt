@@ -30,7 +30,7 @@ returns-in-Ok-clause-stands g c =
     let after = g.D.PageDisk.told c.prepare.new.disk in
     let waits = c.in_ok-at.ensures.ok in
     let changes = changes_at b c.begin_flush.new.self page at begun c.laws.ensures.pool c.begin_flush.ensures c.laws-in-Ok.ensures.pool waits.dirty.holder.name in
-    let image = c.from_bytes.ensures ∙ c.bytes.ensures.value ∙ c.frame.ensures.bytes in
+    let image = c.frame.ensures.bytes in
     let flights : c.prepare.new.self ≡ with_write page (new_write at b) (lengthened (ends_short page f) page f) = c.in-Ok.ensures.ok ∙ ap (λ (bytes : List ℕ). with_write page (record { image = bytes; halved = false }) (lengthened (ends_short page f) page f)) image in
     λ copies st files known low.
     subst (λ (x : Buffered). StandsFlown x c.prepare.new.self (with_noted page copies) after) (sym c.begin_flush.ensures)

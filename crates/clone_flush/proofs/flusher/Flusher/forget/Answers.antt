@@ -7,5 +7,5 @@ use Rattle.clone_flush.proofs.flusher.Flusher.forget.Goals as goal
 
 pub returns : goal.returns
 returns c =
-    ap (λ (w : Writes). record { writes = w; checkpoint = c.self.inside.checkpoint; files = c.self.inside.files }) (removed row_cmp_total row_cmp_exact c.self.inside.writes c.remove.new.self (c.args.space, c.args.number) c.remove.ensures.updates)
+    ap (λ (w : Writes). record { writes = w; checkpoint = c.self.inside.checkpoint; files = c.self.inside.files }) (removed row_cmp_total row_cmp_exact c.self.inside.writes c.remove-ended.new.self (c.args.space, c.args.number) c.remove-ended.ensures.updates)
     ∙ ap (λ (f : Flights). without_write (record { space = c.args.space; number = c.args.number }) f) c.self.view_is

@@ -1,4 +1,4 @@
-use Rattle.std.proofs.Common.{◌≡◌, ◌≤◌, ℕ, List, length, ap, sym, subst, arith, Some, Err, true}
+use Rattle.std.proofs.Common.{◌≡◌, ◌∙◌, ◌≤◌, ℕ, List, length, ap, sym, subst, arith, Some, Err, true}
 use Rattle.clone_outside.specs.declared.disk.TheConstants.{HALF_PAGE}
 use Rattle.clone_outside.specs.Disk.{Steps, with_page, half_written}
 use Rattle.clone_outside.specs.declared.Refusal.{Refusal}
@@ -20,10 +20,10 @@ returns-in-Ok-clause-stands g c =
     let w : PageWrite = c.in-Some.write.now in
     let is : write_of f page ≡ Some w = sym c.in-Some.ensures in
     let u = c.in_ok-at.ensures.ok.1 in
-    let low : HALF_PAGE ≤ length w.image = omega (arith, ap length c.bytes.ensures.value, c.bytes.ensures.long) in
+    let low : HALF_PAGE ≤ length w.image = omega (arith, ap length c.image.ensures, c.bytes.ensures.long) in
     λ copies st. subst (λ (x : Flights). StandsFlown b x copies after) (sym (c.halve.ensures w is))
     (told_stepped (IsFlown b f copies) (IsFlown b (with_write page (record w { halved = true }) f) copies) before after (λ m. with_page m page.space page.number (half_written w.image))
-    (subst (λ (image : List ℕ). Steps before after (λ m. with_page m page.space page.number (half_written image))) c.bytes.ensures.value c.in-Ok.ensures.written)
+    (subst (λ (image : List ℕ). Steps before after (λ m. with_page m page.space page.number (half_written image))) (c.bytes.ensures.value ∙ c.image.ensures) c.in-Ok.ensures.written)
     (λ m k. flown_halved b f copies m page c.in_ok-at.at k w is c.laws.ensures.pool u.holder.name u.flight low) st)
 
 pub returns-in-Err-Fault-clause-stands : goal.returns-in-Err-Fault-clause-stands

@@ -20,7 +20,7 @@ returns-in-Ok-clause-image g c =
     let after = g.D.PageDisk.told c.write_rest.new.self in
     let w : PageWrite = c.in_ok-at.ensures.ok.0 in
     let u = c.in_ok-at.ensures.ok.1 in
-    let same : c.bytes.result.now ≡ w.image = c.bytes.ensures.value ∙ ap (λ (x : PageWrite). x.image) (same_write (write_of f page) c.in-Some.write.now w c.in-Some.ensures u.write) in
+    let same : c.bytes.result.now ≡ w.image = c.bytes.ensures.value ∙ c.image.ensures ∙ ap (λ (x : PageWrite). x.image) (same_write (write_of f page) c.in-Some.write.now w c.in-Some.ensures u.write) in
     λ copies. told_stepped (IsFlown b f copies) (λ m. (v : PageWrite) → write_of f page ≡ Some v → page_of m page.space page.number ≡ Some (record { bytes = v.image; writing = false })) before after (λ m. with_page m page.space page.number (rest_written w.image))
     (subst (λ (image : List ℕ). Steps before after (λ m. with_page m page.space page.number (rest_written image))) same c.in-Ok.ensures.written)
     (λ m k v is. landed_there b f copies m page c.in_ok-at.at k w u.write c.laws.ensures.pool u.holder.name u.flight u.halved_is
@@ -36,7 +36,7 @@ returns-in-Ok-clause-stands g c =
     let after = g.D.PageDisk.told c.write_rest.new.self in
     let w : PageWrite = c.in_ok-at.ensures.ok.0 in
     let u = c.in_ok-at.ensures.ok.1 in
-    let same : c.bytes.result.now ≡ w.image = c.bytes.ensures.value ∙ ap (λ (x : PageWrite). x.image) (same_write (write_of f page) c.in-Some.write.now w c.in-Some.ensures u.write) in
+    let same : c.bytes.result.now ≡ w.image = c.bytes.ensures.value ∙ c.image.ensures ∙ ap (λ (x : PageWrite). x.image) (same_write (write_of f page) c.in-Some.write.now w c.in-Some.ensures u.write) in
     let changes = changes_at b c.land_flush.new.self page at landed c.laws.ensures.pool c.land_flush.ensures c.laws-in-Ok.ensures.pool u.holder.name in
     λ copies st. subst (λ (x : Buffered). StandsFlown x c.forget.new.self copies after) (sym c.land_flush.ensures)
     (subst (λ (x : Flights). StandsFlown (with_change at landed b) x copies after) (sym c.forget.ensures)
