@@ -1,12 +1,11 @@
-ghost use Rattle.std.specs.Prelude.{◌≡◌, [], ◌∷◌, Some, IfOk, OnOk, IsSome};
-ghost use Rattle.clone_image.specs.Image.{page_of, page_count};
+ghost use Rattle.std.specs.Prelude.{◌≡◌, [], ◌∷◌, IfOk, OnOk, IsSome};
+ghost use Rattle.clone_image.specs.Image.{page_of};
 ghost use Rattle.clone_pool.specs.Frames.{no_frame, freshened, holder};
 ghost use Rattle.clone_buffer.specs.Buffered.{image_of};
 
 use crate::Buffer;
 use clone_memdisk::MemDisk;
 use clone_mtr::{Patch, Record};
-use clone_outside::PageDisk;
 use clone_page::PageKind;
 use clone_ring::LogFull;
 use std::alloc::Global;
@@ -18,17 +17,6 @@ const LOG: [u8; 37] = [
     1, 0, 0, 0, 3, 0, 0, 0, 0, 0, 1, // page 0 of space 3 is a system page
     6, //
     2, 0, 0, 0, 3, 0, 0, 0, 0, 0, 40, 0, 2, 7, 9, // on it, from 40 on, 2 bytes
-    6,
-];
-
-// Space 4 has one page and then two, of which the second is an overflow page; and it is dropped.
-const SHORT_LIFE: [u8; 37] = [
-    4, 0, 0, 0, 4, 0, 0, 0, 1, // space 4 has 1 page
-    6, //
-    3, 0, 0, 0, 4, 0, 0, 0, 2, // it has 2 pages
-    1, 0, 0, 0, 4, 0, 0, 0, 1, 0, 4, // page 1 of space 4 is an overflow page
-    6, //
-    5, 0, 0, 0, 4, // space 4 is dropped
     6,
 ];
 
@@ -60,36 +48,6 @@ fn make_space(buffer: &mut Buffer) -> Result<u64, LogFull>
     ])
 }
 
-// Space 4 is there with one page, and the one frame is taken for a second one.
-fn with_second_page(alloc: Global) -> Result<Buffer, Fail>
-    ensures size { IfOk result (λ b. page_count (image_of b) 4 ≡ Some 1) }
-    ensures frames { IfOk result
-        (λ b. b.pool.frames ≡ freshened (record { space = 4; number = 1 }) 1 no_frame ∷ []) }
-{
-    let mut buffer = Buffer::new(alloc, 1, 64)?;
-    buffer.write_space(&[Record::Create { space: 4, pages: 1 }])?;
-    buffer.fresh(4, 1)?;
-    Ok(buffer)
-}
-
-// The space gets its second page, and is dropped with it.
-fn lengthen_and_drop(buffer: &mut Buffer) -> Result<u64, LogFull>
-    requires size { page_count (image_of buffer.old) 4 ≡ Some 1 }
-    requires frames { buffer.old.pool.frames
-        ≡ freshened (record { space = 4; number = 1 }) 1 no_frame ∷ [] }
-{
-    buffer.write_longer(&[
-        Record::Extend { space: 4, pages: 2 },
-        Record::Init {
-            space: 4,
-            page: 1,
-            kind: PageKind::Overflow,
-        },
-    ])?;
-    buffer.unpin(0);
-    buffer.drop_space(4, 2, &[Record::Drop { space: 4 }])
-}
-
 // Two bytes are written on the page.
 fn write_bytes(buffer: &mut Buffer) -> Result<u64, LogFull>
     requires held { IsSome (holder buffer.old.pool.frames (record { space = 3; number = 0 })) }
@@ -101,6 +59,16 @@ fn write_bytes(buffer: &mut Buffer) -> Result<u64, LogFull>
         page: 0,
         patch,
     }])
+}
+
+// The page of space 3 is new, and then two bytes are written on it.
+fn with_written_page(alloc: Global) -> Result<Buffer, Fail> {
+    let mut disk = MemDisk::new(alloc);
+    let mut buffer = with_new_page(alloc)?;
+    make_space(&mut buffer)?;
+    buffer.fetch(&mut disk, 3, 0)?;
+    write_bytes(&mut buffer)?;
+    Ok(buffer)
 }
 
 // The bytes of the log that is kept are these.
@@ -124,23 +92,9 @@ fn seen(buffer: &Buffer, space: u32, number: u32) -> Option<[u8; 8]> {
 
 #[test]
 fn a_space_is_made_and_its_page_is_changed(rt: HostRuntime) -> Result<(), Fail> {
-    let mut disk = MemDisk::new(rt.alloc());
-    let mut buffer = with_new_page(rt.alloc())?;
-    assert_eq!(rt; make_space(&mut buffer), Ok(8213));
-    assert_eq!(rt; buffer.fetch(&mut disk, 3, 0), Ok(0));
-    assert_eq!(rt; write_bytes(&mut buffer), Ok(8229));
+    let buffer = with_written_page(rt.alloc())?;
     // the page LSN is 8229, which is 32 times 256 and 37
     assert_eq!(rt; seen(&buffer, 3, 0), Some([0, 32, 37, 3, 0, 7, 9, 0]));
     assert_eq!(rt; is_log(&buffer, &LOG), true);
-    Ok(())
-}
-
-#[test]
-fn a_space_gets_longer_and_is_dropped(rt: HostRuntime) -> Result<(), Fail> {
-    let mut buffer = with_second_page(rt.alloc())?;
-    assert_eq!(rt; lengthen_and_drop(&mut buffer), Ok(8229));
-    assert_eq!(rt; buffer.find(4, 1), None);
-    assert_eq!(rt; buffer.oldest(), None);
-    assert_eq!(rt; is_log(&buffer, &SHORT_LIFE), true);
     Ok(())
 }
