@@ -1,4 +1,6 @@
 pub mod RankLemmas
+pub mod RowLemmas
+pub mod WaitingLemmas
 pub mod TournamentLemmas
 pub mod NameLemmas
 pub mod FrameLemmas

@@ -8,10 +8,12 @@ use Rattle.clone_pool.specs.declared.orders.Orders.{Orders}
 use Rattle.clone_pool.specs.declared.tournament.Rank.{Rank}
 use Rattle.clone_pool.specs.declared.tournament.TheConstants.{NO_NUMBER}
 use Rattle.clone_pool.specs.Frames.{name_of, HoldsPage, no_frame, frame_at, may_go, is_dirty, is_waiting, is_begun}
-use Rattle.clone_pool.specs.Orders.{use_rank, age_rank, waiting_rank, no_name}
+use Rattle.clone_pool.specs.Orders.{use_rank, age_rank, no_name}
 use Rattle.clone_pool.specs.Pool.{Frames, IsKept, IsVictim, AreKept, AreClean, IsOldest, AreNotWaiting, IsNextToFlush}
 use Rattle.clone_pool.specs.Tournament.{IsFirst, HasNoRank, rank_at, no_rank, is_before}
+use Rattle.clone_pool.specs.Row.{IsFirstWaiting, TakesPart}
 use Rattle.clone_pool.proofs.RankLemmas.{number_le}
+use Rattle.clone_pool.proofs.RowLemmas.{part_within}
 
 -- the rank of a frame
 rank_is : (rank : Frame → Rank) (frames : List Frame) (ranks : List Rank) (at : ℕ) → ranks ≡ map rank frames → at < length frames → rank_at ranks at ≡ rank (frame_at frames at)
@@ -51,8 +53,8 @@ module _ (v : Frames) (orders : Orders) (k : IsKept v orders) where
   dirty_is : orders.dirty ≡ map age_rank v.frames
   dirty_is = ap (λ (o : Orders). o.dirty) k.orders_is
 
-  waiting_is : orders.waiting ≡ map waiting_rank v.frames
-  waiting_is = ap (λ (o : Orders). o.waiting) k.orders_is
+  pub dirty_long : length orders.dirty ≡ length v.frames
+  dirty_long = as_many age_rank v.frames orders.dirty dirty_is
 
   pub none_may_go : HasNoRank orders.going → AreKept v.frames
   none_may_go none at low =
@@ -121,25 +123,22 @@ module _ (v : Frames) (orders : Orders) (k : IsKept v orders) where
           let clean : not (is_dirty (f_at at)) ≡ true = (and_parts ((f_at at).pins == 0) (not (is_dirty (f_at at))) ((k.pool.frame at).unused e).0).1 in
           absurd (false≢true (sym (ap not dirty) ∙ clean))
 
-  pub none_waiting : HasNoRank orders.waiting → AreNotWaiting v.frames
-  none_waiting none at low =
-      failed_test (is_waiting (f_at at)) (age_rank (f_at at)) (waits_dated at)
-      (subst (λ (r : Rank). NO_NUMBER ≤ r.number) (rank_is waiting_rank v.frames orders.waiting at waiting_is low) (none at (omega (arith, low, as_many waiting_rank v.frames orders.waiting waiting_is))))
+  -- so does its place among the dirty ones
+  waits_there : (at : ℕ) → at < length v.frames → is_waiting (f_at at) ≡ true → TakesPart orders.dirty at
+  waits_there at low waits = subst (λ (r : Rank). r.number < NO_NUMBER) (sym (rank_is age_rank v.frames orders.dirty at dirty_is low)) (waits_dated at waits)
 
-  pub is_next : (at : ℕ) → IsFirst orders.waiting at → IsNextToFlush v.frames at
-  is_next at l = record { within = low; waits = waits; first = λ other there other_waits. subst (λ (r : Rank). is_before r (age_rank (f_at at)) ≡ false) (age other there other_waits) (subst (λ (r : Rank). is_before (rank_at orders.waiting other) r ≡ false) (age at low waits) (l.first other (omega (arith, there, long)))) }
+  pub none_waiting : ((at : ℕ) → TakesPart orders.dirty at → is_waiting (f_at at) ≡ false) → AreNotWaiting v.frames
+  none_waiting none at low = by (is_waiting (f_at at)) refl
     where
-      long : length orders.waiting ≡ length v.frames
-      long = as_many waiting_rank v.frames orders.waiting waiting_is
+      by : (b : Bool) → is_waiting (f_at at) ≡ b → is_waiting (f_at at) ≡ false
+      by false e = e
+      by true e = none at (waits_there at low e)
 
+  pub is_next : (at : ℕ) → IsFirstWaiting orders.dirty v.frames at → IsNextToFlush v.frames at
+  is_next at l = record { within = low; waits = l.waits; first = λ other there waits. subst (λ (r : Rank). is_before r (age_rank (f_at at)) ≡ false) (age other there) (subst (λ (r : Rank). is_before (rank_at orders.dirty other) r ≡ false) (age at low) (l.first other (waits_there other there waits) waits)) }
+    where
       low : at < length v.frames
-      low = omega (arith, l.within, long)
+      low = let there = part_within orders.dirty at l.part in omega (arith, there, dirty_long)
 
-      is : (b : ℕ) → b < length v.frames → rank_at orders.waiting b ≡ waiting_rank (f_at b)
-      is b there = rank_is waiting_rank v.frames orders.waiting b waiting_is there
-
-      waits : is_waiting (f_at at) ≡ true
-      waits = passed (is_waiting (f_at at)) (age_rank (f_at at)) (subst (λ (r : Rank). r.number < NO_NUMBER) (is at low) l.part)
-
-      age : (b : ℕ) → b < length v.frames → is_waiting (f_at b) ≡ true → rank_at orders.waiting b ≡ age_rank (f_at b)
-      age b there test = is b there ∙ ap (λ (t : Bool). cond t (age_rank (f_at b)) no_rank) test
+      age : (b : ℕ) → b < length v.frames → rank_at orders.dirty b ≡ age_rank (f_at b)
+      age b there = rank_is age_rank v.frames orders.dirty b dirty_is there

@@ -9,7 +9,7 @@ use Rattle.clone_pool.specs.declared.frame.PageName.{PageName}
 use Rattle.clone_pool.specs.declared.orders.Orders.{Orders}
 use Rattle.clone_pool.specs.declared.tournament.TheConstants.{NO_NUMBER}
 use Rattle.clone_pool.specs.Frames.{no_frame, frame_at, name_of, HoldsPage, holder}
-use Rattle.clone_pool.specs.Orders.{orders_of, refreshed, use_rank, age_rank, waiting_rank}
+use Rattle.clone_pool.specs.Orders.{orders_of, refreshed, used_again, use_rank, age_rank}
 use Rattle.clone_pool.specs.Pool.{Frames, IsPool, IsKept, IsFrame, IsHolder}
 use Rattle.clone_pool.proofs.NameLemmas.{name_at, AreOnce, found_at, found_name, once_set}
 use Rattle.clone_pool.proofs.FrameLemmas.{KeepsOrLosesPage, more_uses, unused_frame}
@@ -63,8 +63,38 @@ module _ (v : Frames) (p : IsPool v) (at : ℕ) (low : at < length v.frames) (us
 pub orders_set : (frames : List Frame) (orders orders' : Orders) (at : ℕ) (f : Frame) (read : List Frame) → at < length frames → orders ≡ orders_of frames → read ≡ set frames at f → orders' ≡ refreshed at (frame_at read at) orders → orders' ≡ orders_of (set frames at f)
 orders_set frames orders orders' at f read low was is new =
     let here : frame_at read at ≡ f = ap (λ (fs : List Frame). frame_at fs at) is ∙ get_or-set_same frames at f no_frame low in
-    let parts : orders_of (set frames at f) ≡ refreshed at f (orders_of frames) = λ i. record { names = map-set name_of frames at f i; going = map-set use_rank frames at f i; dirty = map-set age_rank frames at f i; waiting = map-set waiting_rank frames at f i } in
+    let parts : orders_of (set frames at f) ≡ refreshed at f (orders_of frames) = λ i. record { names = map-set name_of frames at f i; going = map-set use_rank frames at f i; dirty = map-set age_rank frames at f i } in
     new ∙ ap (λ (x : Frame). refreshed at x orders) here ∙ ap (refreshed at f) was ∙ sym parts
+
+-- the orders of frames of which one has the page and the oldest change that it had
+same_orders : (frames : List Frame) (at : ℕ) (f : Frame) → name_of f ≡ name_of (frame_at frames at) → age_rank f ≡ age_rank (frame_at frames at) → orders_of (set frames at f) ≡ record (orders_of frames) { going = map use_rank (set frames at f) }
+same_orders frames at f name age = λ i. record { names = map-set_same name_of frames at f no_frame name i; going = map use_rank (set frames at f); dirty = map-set_same age_rank frames at f no_frame age i }
+
+-- they are refreshed with its use alone
+pub orders_used : (frames : List Frame) (orders orders' : Orders) (at : ℕ) (f : Frame) (read : List Frame) → at < length frames → orders ≡ orders_of frames → name_of f ≡ name_of (frame_at frames at) → age_rank f ≡ age_rank (frame_at frames at) → read ≡ set frames at f → orders' ≡ used_again at (frame_at read at) orders → orders' ≡ orders_of (set frames at f)
+orders_used frames orders orders' at f read low was name age is new =
+    let here : frame_at read at ≡ f = ap (λ (fs : List Frame). frame_at fs at) is ∙ get_or-set_same frames at f no_frame low in
+    new ∙ ap (λ (x : Frame). used_again at x orders) here ∙ ap (used_again at f) was
+    ∙ ap (λ ranks. record (orders_of frames) { going = ranks }) (sym (map-set use_rank frames at f)) ∙ sym (same_orders frames at f name age)
+
+-- and not at all where its use is the same too
+pub orders_kept : (frames : List Frame) (orders : Orders) (at : ℕ) (f : Frame) → orders ≡ orders_of frames → name_of f ≡ name_of (frame_at frames at) → use_rank f ≡ use_rank (frame_at frames at) → age_rank f ≡ age_rank (frame_at frames at) → orders ≡ orders_of (set frames at f)
+orders_kept frames orders at f was name rank age = was ∙ ap (λ ranks. record (orders_of frames) { going = ranks }) (sym (map-set_same use_rank frames at f no_frame rank)) ∙ sym (same_orders frames at f name age)
+
+-- a frame is used or pinned, and has the page and the oldest change that it had
+pub used_frame : (v : Frames) (orders orders' : Orders) (k : IsKept v orders) (at uses : ℕ) (f : Frame) (read : List Frame) → at < length v.frames → v.uses ≤ uses → uses < NO_NUMBER → IsFrame uses f → name_of f ≡ name_of (frame_at v.frames at) → age_rank f ≡ age_rank (frame_at v.frames at)
+    → read ≡ set v.frames at f → orders' ≡ used_again at (frame_at read at) orders → IsKept (record { frames = set v.frames at f; uses = uses }) orders'
+used_frame v orders orders' k at uses f read low more few fine name age is new = record {
+  pool = same_page v k.pool at low uses more few f fine name;
+  orders_is = orders_used v.frames orders orders' at f read low k.orders_is name age is new;
+}
+
+-- a frame is edited, and nothing of it is ranked anew
+pub unranked_frame : (v : Frames) (orders : Orders) (k : IsKept v orders) (at : ℕ) (f : Frame) → at < length v.frames → IsFrame v.uses f → name_of f ≡ name_of (frame_at v.frames at) → use_rank f ≡ use_rank (frame_at v.frames at) → age_rank f ≡ age_rank (frame_at v.frames at) → IsKept (record { frames = set v.frames at f; uses = v.uses }) orders
+unranked_frame v orders k at f low fine name rank age = record {
+  pool = same_page v k.pool at low v.uses (omega arith) k.pool.uses f fine name;
+  orders_is = orders_kept v.frames orders at f k.orders_is name rank age;
+}
 
 -- a frame is edited, and has the page that it had
 pub edited : (v : Frames) (orders orders' : Orders) (k : IsKept v orders) (at uses : ℕ) (f : Frame) (read : List Frame) → at < length v.frames → v.uses ≤ uses → uses < NO_NUMBER → IsFrame uses f → name_of f ≡ name_of (frame_at v.frames at)

@@ -41,7 +41,7 @@ rank_trans a b c =
     (lex_trans a.name.space b.name.space c.name.space (nat_lt b.name.number a.name.number) (nat_lt c.name.number b.name.number) (nat_lt c.name.number a.name.number)
     (λ p q. le-ltb c.name.number a.name.number (omega (arith, ltb-false b.name.number a.name.number p, ltb-false c.name.number b.name.number q))))
 
-rank_asym : (a b : Rank) → is_before b a ≡ true → is_before a b ≡ false
+pub rank_asym : (a b : Rank) → is_before b a ≡ true → is_before a b ≡ false
 rank_asym a b =
     lex_asym a.number b.number (name_is_before b.name a.name) (name_is_before a.name b.name)
     (lex_asym a.name.space b.name.space (nat_lt b.name.number a.name.number) (nat_lt a.name.number b.name.number)
@@ -79,3 +79,7 @@ first_of_same a = by (is_before a a)
     by : (t : Bool) → cond t a a ≡ a
     by true = refl
     by false = refl
+
+-- a lesser number goes before
+pub less_number : (a b : Rank) → a.number < b.number → is_before b a ≡ false
+less_number a b less = after a.number b.number (name_is_before b.name a.name) (inl less)

@@ -2,4 +2,5 @@ pub mod Frames
 pub mod Index
 pub mod Orders
 pub mod Pool
+pub mod Row
 pub mod Tournament

@@ -5,6 +5,7 @@ mod frame;
 mod index;
 mod orders;
 mod pool;
+mod row;
 mod tournament;
 
 pub use frame::{Content, Flush, Frame, PageName};

@@ -1,36 +1,25 @@
 //! What is kept beside the frames, by their numbers: each part has something for frame i at i.
 //! `names` has its page; `going` ranks the frames that may go by their last use; `dirty` ranks the
-//! dirty ones by their oldest change, then by page; `waiting` does so for those with no flush under
-//! way. Any other frame has the last rank.
+//! dirty ones by their oldest change, then by page. Any other frame has the last rank.
 ghost use Rattle.std.specs.Prelude.{◌≡◌, ◌<◌, length, replicate, IfOk};
 ghost use Rattle.clone_pool.specs.Frames.{no_frame, frame_at};
-ghost use Rattle.clone_pool.specs.Orders.{AreLong, orders_of, refreshed, no_name, use_rank, age_rank, waiting_rank};
+ghost use Rattle.clone_pool.specs.Orders.{AreLong, orders_of, refreshed, used_again, no_name, use_rank, age_rank};
 ghost use Rattle.clone_pool.specs.Tournament.{no_rank};
 
+use crate::Frame;
 use crate::index::Index;
-use crate::tournament::{NO_NUMBER, Rank, Tournament};
-use crate::{Frame, PageName};
+use crate::row::Row;
+use crate::tournament::{NO_NAME, NO_NUMBER, NO_RANK, Rank, Tournament};
 use std::alloc::{AllocError, Global};
 use std::marker::Model;
 
-const NO_NAME: PageName = PageName {
-    space: 0,
-    number: 0,
-};
-
-const NO_RANK: Rank = Rank {
-    number: NO_NUMBER,
-    name: NO_NAME,
-};
-
 /// What is kept of the frames beside them: their pages, the last uses of those that may go, and the
-/// oldest changes of the dirty ones, of all and of those whose flush isn't under way.
+/// oldest changes of the dirty ones.
 #[derive(Drop)]
 pub struct Orders {
     pub names: Index,
     pub going: Tournament,
-    pub dirty: Tournament,
-    pub waiting: Tournament,
+    pub dirty: Row,
 }
 
 impl Orders {
@@ -45,8 +34,7 @@ impl Orders {
         Ok(Orders {
             names: Index::new(alloc, count)?,
             going: Tournament::new(alloc, count, free)?,
-            dirty: Tournament::new(alloc, count, NO_RANK)?,
-            waiting: Tournament::new(alloc, count, NO_RANK)?,
+            dirty: Row::new(alloc, count)?,
         })
     }
 
@@ -60,7 +48,16 @@ impl Orders {
         self.names.set(at, frame.name());
         self.going.set(at, use_rank(frame));
         self.dirty.set(at, age_rank(frame));
-        self.waiting.set(at, waiting_rank(frame));
+    }
+
+    /// Takes over the last use and the pins of a frame that has the page and the oldest change that
+    /// it had.
+    pub fn refresh_use(&mut self, frames: &[Frame], at: usize)
+        requires at { at < length frames.now }
+        requires long { length self.old.going ≡ length frames.now }
+        ensures { self.new ≡ used_again at (frame_at frames.now at) self.old }
+    {
+        self.going.set(at, use_rank(&frames[at]));
     }
 }
 
@@ -82,15 +79,5 @@ fn age_rank(frame: &Frame) -> Rank
     Rank {
         number: frame.oldest.unwrap_or(NO_NUMBER),
         name: frame.name().unwrap_or(NO_NAME),
-    }
-}
-
-fn waiting_rank(frame: &Frame) -> Rank
-    ensures { result ≡ waiting_rank frame.now }
-{
-    if frame.is_waiting() {
-        age_rank(frame)
-    } else {
-        NO_RANK
     }
 }

@@ -30,8 +30,11 @@ pub enum FetchRefusal {
 // The number of a use behind which uses are no longer counted.
 const LAST_USE: u64 = NO_NUMBER - 1;
 
-/// Pages in frames. After it is made no call but `open_pages` takes memory, and each other call
-/// takes no more steps than the number of frames has binary digits.
+/// Pages in frames. After it is made no call but `open_pages` takes memory.
+///
+/// A frame is found by a hash, and the one that makes way in as many steps as the number of frames
+/// has binary digits. Dirty pages are in one row: one that becomes dirty now joins at its end, and
+/// the first leaves it, in a few steps each; any other moves the shorter side of the row.
 #[derive(Drop)]
 pub struct Pool {
     frames: Vec<Frame>,
@@ -186,7 +189,7 @@ impl Pool {
     {
         let at = self.frame_number(at);
         self.frames[at].pin();
-        self.orders.refresh(&self.frames, at);
+        self.orders.refresh_use(&self.frames, at);
     }
 
     /// Takes a pin away. A new page that no change made goes with its last pin.
@@ -221,7 +224,6 @@ impl Pool {
     {
         let at = self.frame_number(at);
         self.frames[at].begin_flush();
-        self.orders.refresh(&self.frames, at);
     }
 
     /// A flush ends, with the page on the disk as it was when the flush began. The page is dirty
@@ -244,7 +246,6 @@ impl Pool {
     {
         let at = self.frame_number(at);
         self.frames[at].fail_flush();
-        self.orders.refresh(&self.frames, at);
     }
 
     /// The frame of the dirty page to be flushed next, or none where no dirty page waits for that.
@@ -255,7 +256,7 @@ impl Pool {
         ensures some { IfSome result (IsNextToFlush self.now.frames) }
         ensures held { IfSome result (λ at. HoldsPage (frame_at self.now.frames at)) }
     {
-        match self.orders.waiting.first() {
+        match self.orders.dirty.first_waiting(&self.frames) {
             Some(at) => Some(at as u32),
             None => None,
         }
@@ -330,7 +331,7 @@ impl Pool {
         let at = self.frame_number(at);
         self.uses = next_use(self.uses);
         self.frames[at].touch(self.uses);
-        self.orders.refresh(&self.frames, at);
+        self.orders.refresh_use(&self.frames, at);
     }
 
     // Takes a frame for a new page, in the place of the one that it has.

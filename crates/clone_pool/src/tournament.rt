@@ -4,7 +4,7 @@
 //! and each node between has the winner of nodes 2j and 2j + 1. So the top, node 1, has the first
 //! rank of all, and a rank that changes is carried up by at most as many matches as 2n has binary
 //! digits.
-ghost use Rattle.std.specs.Prelude.{true, ◌≡◌, ◌<◌, ◌≤◌, ℕ, length, replicate, slice_set, drop, ◌*◌, IfOk, IfNone, IfSome};
+ghost use Rattle.std.specs.Prelude.{true, nat_lt, ◌≡◌, ◌<◌, ◌≤◌, ℕ, length, replicate, slice_set, drop, ◌*◌, IfOk, IfNone, IfSome};
 ghost use Rattle.clone_pool.specs.Tournament.{IsFirst, HasNoRank, AreMatchedBut, rank_at, is_before, name_is_before, first_of};
 
 use crate::PageName;
@@ -20,6 +20,27 @@ pub struct Rank {
     pub number: u64,
     pub name: PageName,
 }
+
+impl Rank {
+    /// Whether a frame of this rank takes part.
+    pub fn takes_part(self) -> bool
+        ensures { result ≡ nat_lt self.number NO_NUMBER }
+    {
+        self.number < NO_NUMBER
+    }
+}
+
+/// The rank of a frame that takes no part.
+pub const NO_RANK: Rank = Rank {
+    number: NO_NUMBER,
+    name: NO_NAME,
+};
+
+/// The name in a rank of a frame without a page.
+pub const NO_NAME: PageName = PageName {
+    space: 0,
+    number: 0,
+};
 
 /// Ranks by their frame numbers.
 #[derive(Drop)]
@@ -130,7 +151,8 @@ fn first_of(a: Rank, b: Rank) -> Rank
     if is_before(b, a) { b } else { a }
 }
 
-fn is_same(a: Rank, b: Rank) -> bool
+// Whether two are one rank.
+pub(crate) fn is_same(a: Rank, b: Rank) -> bool
     ensures { result ≡ true → a ≡ b }
 {
     a.number == b.number && b.name.is(a.name)
@@ -138,7 +160,7 @@ fn is_same(a: Rank, b: Rank) -> bool
 
 // The lesser number goes first, and of two with one number the lesser space, and then the lesser
 // page.
-fn is_before(a: Rank, b: Rank) -> bool
+pub(crate) fn is_before(a: Rank, b: Rank) -> bool
     ensures { result ≡ is_before a b }
 {
     if a.number == b.number {

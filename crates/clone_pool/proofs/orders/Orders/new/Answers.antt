@@ -1,6 +1,6 @@
 use Rattle.std.proofs.Common.{◌∙◌, sym}
 use Rattle.clone_pool.specs.Frames.{no_frame, name_of}
-use Rattle.clone_pool.specs.Orders.{use_rank, age_rank, waiting_rank}
+use Rattle.clone_pool.specs.Orders.{use_rank, age_rank}
 use Rattle.clone_pool.proofs.PoolLemmas.{map_all}
 use Rattle.clone_pool.proofs.orders.Orders.new.Goals as goal
 
@@ -10,5 +10,4 @@ returns c =
     let names = c.in_ok-new.ensures ∙ sym (map_all name_of n no_frame) in
     let going = c.in_ok-new-2.ensures ∙ sym (map_all use_rank n no_frame) in
     let dirty = c.in_ok-new-3.ensures ∙ sym (map_all age_rank n no_frame) in
-    let waiting = c.in_ok-new-4.ensures ∙ sym (map_all waiting_rank n no_frame) in
-    λ i. record { names = names i; going = going i; dirty = dirty i; waiting = waiting i }
+    λ i. record { names = names i; going = going i; dirty = dirty i }

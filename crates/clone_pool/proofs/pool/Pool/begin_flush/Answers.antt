@@ -1,10 +1,11 @@
-use Rattle.std.proofs.Common.{◌≡◌, ◌<◌, ◌∙◌, length, ap, subst, sym, arith, true}
+use Rattle.std.proofs.Common.{◌≡◌, ◌<◌, ◌∙◌, length, ap, subst, sym, true}
 use Rattle.std.proofs.lemmas.List.{get_or_read}
 use Rattle.clone_pool.specs.declared.frame.Frame.{Frame}
 use Rattle.clone_pool.specs.Frames.{no_frame, frame_at, name_of, HoldsPage, is_waiting}
+use Rattle.clone_pool.specs.Orders.{age_rank, use_rank}
 use Rattle.clone_pool.specs.Pool.{Frames, IsFrame}
 use Rattle.clone_pool.proofs.FrameLemmas.{begun_frame}
-use Rattle.clone_pool.proofs.PoolLemmas.{edited}
+use Rattle.clone_pool.proofs.PoolLemmas.{unranked_frame}
 use Rattle.clone_pool.proofs.pool.Pool.begin_flush.Goals as goal
 
 pub invariant_of-self : goal.invariant_of-self
@@ -18,4 +19,4 @@ invariant_of-self c =
     let here = sym (was ∙ ap (frame_at i.frames.items) c.frame_number-at.ensures.same ∙ ap (λ (v : Frames). frame_at v.frames c.args.at) c.self.view_is) in
     let fine = subst (IsFrame i.uses) (sym was) (c.self.invariant.pool.frame at) in
     let edit = subst (IsFrame i.uses) (sym c.begin_flush.ensures) (begun_frame i.uses g fine (subst HoldsPage here c.requires.holds) (subst (λ (f : Frame). is_waiting f ≡ true) here c.requires.waits)) in
-    edited v i.orders c.refresh.new.self c.self.invariant at i.uses c.begin_flush.new.self _ low (omega arith) c.self.invariant.pool.uses edit (ap name_of c.begin_flush.ensures ∙ ap name_of was) c.deref.ensures.value c.refresh.ensures
+    unranked_frame v i.orders c.self.invariant at c.begin_flush.new.self low edit (ap name_of c.begin_flush.ensures ∙ ap name_of was) (ap use_rank c.begin_flush.ensures ∙ ap use_rank was) (ap age_rank c.begin_flush.ensures ∙ ap age_rank was)

@@ -1,9 +1,10 @@
 use Rattle.std.proofs.Common.{◌<◌, ◌∙◌, length, ap, subst, sym, arith}
 use Rattle.std.proofs.lemmas.List.{get_or_read}
 use Rattle.clone_pool.specs.Frames.{no_frame, frame_at, name_of, HoldsPage}
+use Rattle.clone_pool.specs.Orders.{age_rank}
 use Rattle.clone_pool.specs.Pool.{Frames, IsFrame}
 use Rattle.clone_pool.proofs.FrameLemmas.{touched_frame}
-use Rattle.clone_pool.proofs.PoolLemmas.{edited}
+use Rattle.clone_pool.proofs.PoolLemmas.{used_frame}
 use Rattle.clone_pool.proofs.pool.Pool.touch.Goals as goal
 
 pub invariant_of-self : goal.invariant_of-self
@@ -19,4 +20,4 @@ invariant_of-self c =
     let fine = subst (IsFrame i.uses) (sym was) (c.self.invariant.pool.frame at) in
     let few = c.self.invariant.pool.uses in
     let edit = subst (IsFrame number) (sym c.touch.ensures) (touched_frame i.uses g fine number (omega (arith, c.next_use-self-inside.ensures)) (subst HoldsPage here c.requires)) in
-    edited v i.orders c.refresh.new.self c.self.invariant at number c.touch.new.self _ low (omega (arith, c.next_use-self-inside.ensures, few)) (omega (arith, c.next_use-self-inside.ensures)) edit (ap name_of c.touch.ensures ∙ ap name_of was) c.deref.ensures.value c.refresh.ensures
+    used_frame v i.orders c.refresh_use.new.self c.self.invariant at number c.touch.new.self _ low (omega (arith, c.next_use-self-inside.ensures, few)) (omega (arith, c.next_use-self-inside.ensures)) edit (ap name_of c.touch.ensures ∙ ap name_of was) (ap age_rank c.touch.ensures ∙ ap age_rank was) c.deref.ensures.value c.refresh_use.ensures
