@@ -1,0 +1,4 @@
+pub mod Options
+pub mod Commands
+pub mod Refusals
+pub mod Local

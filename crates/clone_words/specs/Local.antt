@@ -1,0 +1,7 @@
+-- A command without global arguments.
+use Rattle.std.specs.Prelude.{◌≡◌, false}
+use Rattle.clap.specs.declared.builder.command.Command.{Command}
+use Rattle.clap.specs.declared.builder.command.Command.TheViews.{out-Command}
+
+abbrev pub IsLocal : Command → Type 0
+IsLocal command = (out-Command command).has_globals ≡ false
