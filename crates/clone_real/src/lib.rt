@@ -1,0 +1,15 @@
+//! The edge of the program: disks of files, connections of the system, and its streams. Each call
+//! is a few calls of the system, and each of their failures is counted. No contract here speaks of
+//! what a file holds or what came over a socket.
+#![tactic(auto)]
+
+mod directory;
+mod fault_count;
+mod file_disk;
+mod names;
+mod space_file;
+#[cfg(test)]
+mod tests;
+
+pub use file_disk::FileDisk;
+pub use names::{push_file_name, space_named};
