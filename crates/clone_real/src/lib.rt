@@ -8,8 +8,12 @@ mod fault_count;
 mod file_disk;
 mod names;
 mod space_file;
+mod std_sink;
+mod std_source;
 #[cfg(test)]
 mod tests;
 
 pub use file_disk::FileDisk;
 pub use names::{push_file_name, space_named};
+pub use std_sink::{SINK_ROOM, StdSink};
+pub use std_source::StdSource;

@@ -1,0 +1,77 @@
+use crate::{SINK_ROOM, StdSink, StdSource};
+use clone_outside::{Refusal, Sink, Source};
+use std::io;
+use std::io::{ErrorKind, Read, Write};
+use std::test::Fail;
+
+// Gives a byte, fails, and gives another; takes a byte a write, fails, and then takes nothing.
+#[derive(Drop)]
+struct Halting {
+    calls: u32,
+}
+
+impl Read for Halting {
+    fn read(&mut self, buf: &mut [u8]) -> io::Result<usize> {
+        self.calls = self.calls.saturating_add(1);
+        if self.calls == 2 {
+            return Err(io::Error::from(ErrorKind::BrokenPipe));
+        }
+        if self.calls > 3 || buf.is_empty() {
+            return Ok(0);
+        }
+        buf[0] = b'x';
+        Ok(1)
+    }
+}
+
+impl Write for Halting {
+    fn write(&mut self, buf: &[u8]) -> io::Result<usize> {
+        self.calls = self.calls.saturating_add(1);
+        match self.calls {
+            1 => Ok(buf.len().min(1)),
+            2 => Err(io::Error::from(ErrorKind::BrokenPipe)),
+            _ => Ok(0),
+        }
+    }
+
+    fn flush(&mut self) -> io::Result<()> {
+        Ok(())
+    }
+}
+
+#[test]
+fn a_failed_read_is_no_end(rt: HostRuntime) -> Result<(), Fail> {
+    let mut source = StdSource::new(Halting { calls: 0 });
+    let mut piece = [0; 2];
+    assert_eq!(rt; source.read(&mut piece), Ok(1));
+    assert_eq!(rt; source.read(&mut piece), Err(Refusal::Fault));
+    assert_eq!(rt; source.faults(), 1);
+    assert_eq!(rt; source.read(&mut piece), Ok(1));
+    assert_eq!(rt; source.read(&mut piece), Ok(0));
+    assert_eq!(rt; source.faults(), 1);
+    Ok(())
+}
+
+#[test]
+fn bytes_wait_until_they_are_flushed(rt: HostRuntime) -> Result<(), Fail> {
+    let mut sink = StdSink::new(rt.alloc(), Halting { calls: 0 })?;
+    assert_eq!(rt; sink.write(b"ab"), Ok(2));
+    assert_eq!(rt; sink.write(b""), Ok(0));
+    assert_eq!(rt; sink.faults(), 0);
+    assert_eq!(rt; sink.flush(), Err(Refusal::Fault));
+    assert_eq!(rt; sink.flush(), Err(Refusal::Fault));
+    assert_eq!(rt; sink.faults(), 2);
+    Ok(())
+}
+
+#[test]
+fn a_full_buffer_goes_out(rt: HostRuntime) -> Result<(), Fail> {
+    let mut sink = StdSink::new(rt.alloc(), Vec::new(rt.alloc()))?;
+    let many = [7; SINK_ROOM];
+    assert_eq!(rt; sink.write(b"ab"), Ok(2));
+    assert_eq!(rt; sink.write(&many), Ok(SINK_ROOM));
+    assert_eq!(rt; sink.write(b"c"), Ok(1));
+    assert_eq!(rt; sink.flush(), Ok(()));
+    assert_eq!(rt; sink.faults(), 0);
+    Ok(())
+}
