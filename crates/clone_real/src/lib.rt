@@ -7,6 +7,8 @@ mod directory;
 mod fault_count;
 mod file_disk;
 mod names;
+mod socket_end;
+mod socket_net;
 mod space_file;
 mod std_sink;
 mod std_source;
@@ -15,5 +17,7 @@ mod tests;
 
 pub use file_disk::FileDisk;
 pub use names::{push_file_name, space_named};
+pub use socket_end::SocketEnd;
+pub use socket_net::SocketNet;
 pub use std_sink::{SINK_ROOM, StdSink};
 pub use std_source::StdSource;
