@@ -3,6 +3,8 @@
 //! what a file holds or what came over a socket.
 #![tactic(auto)]
 
+mod any_disk;
+mod any_net;
 mod directory;
 mod fault_count;
 mod file_disk;
@@ -15,6 +17,8 @@ mod std_source;
 #[cfg(test)]
 mod tests;
 
+pub use any_disk::AnyDisk;
+pub use any_net::{AnyEnd, AnyName, AnyNet};
 pub use file_disk::FileDisk;
 pub use names::{push_file_name, space_named};
 pub use socket_end::SocketEnd;
