@@ -1,3 +1,4 @@
+mod crew;
 mod files;
 mod sockets;
 mod streams;
