@@ -54,7 +54,8 @@ fn what_was_written_is_read_by_another(rt: HostRuntime) -> Result<(), Fail> {
     assert!(rt; page == [0; PAGE_SIZE]);
     assert_eq!(rt; other.pages(3), Ok(Some(4)));
     assert_eq!(rt; other.read_mark(), Ok(Some([5; MARK_SIZE])));
-    assert_eq!(rt; disk.faults() + other.faults(), 0);
+    assert_eq!(rt; disk.faults(), 0);
+    assert_eq!(rt; other.faults(), 0);
     remove(&rt, path.as_str())
 }
 
