@@ -1,6 +1,7 @@
 //! The redo log between its floor and its end, in a ring of bytes.
 #![tactic(auto)]
 
+mod blocks;
 mod log_full;
 mod ring;
 

@@ -1,10 +1,13 @@
-//! The log from its floor to its end. The first byte held is the one at the LSN `floor`, and each
-//! next byte has the next LSN. The end, the floor and as many as are held, is below 2^39.
-ghost use Rattle.std.specs.Prelude.{◌≡◌, ◌≤◌, ◌<◌, ◌+◌, ◌-◌, ◌++◌, length, take, drop, IfOk};
+//! The log from its floor to its end, which lies on a row of bytes and goes round on it: its first
+//! byte, the one at the LSN `floor`, stands at `start`, each next byte has the next LSN and the next
+//! place, and behind the row's last place comes its first. The end, `floor` and `len`, is below
+//! 2^39.
+ghost use Rattle.std.specs.Prelude.{◌≡◌, ◌≤◌, ◌<◌, ◌+◌, ◌-◌, length, take, drop, IfOk};
 ghost use Rattle.clone_ring.specs.Window.{Appends, empty, end_of, free_in, raised};
+ghost use Rattle.clone_ring.specs.Row.{IsFurther};
 
 use crate::LogFull;
-use circular_buffer::HeapCircularBuffer;
+use crate::blocks::Blocks;
 use clone_base::{FIRST_LSN, LSN_LIMIT};
 use std::alloc::{AllocError, Global};
 use std::marker::Model;
@@ -12,14 +15,17 @@ use std::marker::Model;
 /// The bytes of the redo log from its floor to its end. Both are LSNs, and the end is below 2^39.
 #[derive(Drop)]
 pub struct Ring {
-    bytes: HeapCircularBuffer<u8>,
+    row: Blocks,
+    start: usize,
+    len: usize,
     floor: u64,
 }
 
 impl Model for Ring {
-    ghost use Rattle.std.specs.Prelude.{◌<◌, ◌+◌, length};
+    ghost use Rattle.std.specs.Prelude.{◌<◌, ◌+◌, take};
     ghost use Rattle.clone_base.specs.declared.limits.TheConstants.{LSN_LIMIT};
     ghost use Rattle.clone_ring.specs.Window.{Window, window_code};
+    ghost use Rattle.clone_ring.specs.Row.{LiesOn, round_from};
 
     ghost Value = { Window };
 
@@ -27,11 +33,11 @@ impl Model for Ring {
 
     ghost view = { λ r. record {
       floor = r.floor;
-      bytes = r.bytes.items;
-      size = r.bytes.capacity;
+      bytes = take r.len (round_from r.start r.row.bytes);
+      size = r.row.size;
     } };
 
-    ghost invariant = { λ r. r.floor + length r.bytes.items < LSN_LIMIT };
+    ghost invariant = { λ r. LiesOn r.row r.start r.len × (r.floor + r.len < LSN_LIMIT) };
 }
 
 impl Ring {
@@ -41,7 +47,9 @@ impl Ring {
         ensures { IfOk result (λ ring. ring ≡ empty size) }
     {
         Ok(Ring {
-            bytes: HeapCircularBuffer::with_capacity(alloc, size as usize)?,
+            row: Blocks::new(alloc, size as usize)?,
+            start: 0,
+            len: 0,
             floor: FIRST_LSN,
         })
     }
@@ -58,7 +66,7 @@ impl Ring {
         ensures value { result ≡ end_of self.now }
         ensures below { result < LSN_LIMIT }
     {
-        self.floor + self.bytes.len() as u64
+        self.floor + self.len as u64
     }
 
     /// How many bytes may be appended: as many as there is room for, with the end below 2^39.
@@ -66,7 +74,7 @@ impl Ring {
         ensures value { result ≡ free_in self.now }
         ensures room { length self.now.bytes + result ≤ self.now.size }
     {
-        let room = (self.bytes.capacity() - self.bytes.len()) as u64;
+        let room = (self.row.size() - self.len) as u64;
         room.min(LSN_LIMIT - 1 - self.end())
     }
 
@@ -81,7 +89,11 @@ impl Ring {
         if free < need {
             return Err(LogFull { need, free });
         }
-        self.bytes.fill_from_slice(bytes);
+        let at = further(self.row.size(), self.start, self.len);
+        let (front, back) = bytes.split_at(bytes.len().min(self.row.size() - at));
+        self.row.write(at, front);
+        self.row.write(0, back);
+        self.len += bytes.len();
         Ok(self.end())
     }
 
@@ -91,8 +103,9 @@ impl Ring {
         requires within { lsn ≤ end_of self.old }
         ensures { self.new ≡ raised lsn self.old }
     {
-        let kept = (self.end() - lsn) as usize;
-        self.bytes.truncate_front(kept);
+        let gone = (lsn - self.floor) as usize;
+        self.start = further(self.row.size(), self.start, gone);
+        self.len -= gone;
         self.floor = lsn;
     }
 
@@ -102,23 +115,24 @@ impl Ring {
         requires within { from + length into.old ≤ end_of self.now }
         ensures { into.new ≡ take (length into.old) (drop (from - self.now.floor) self.now.bytes) }
     {
-        let (front, back) = self.bytes.as_slices();
-        copy_out(front, back, (from - self.floor) as usize, into);
+        let at = further(self.row.size(), self.start, (from - self.floor) as usize);
+        let front = into.len().min(self.row.size() - at);
+        self.row.read(at, &mut into[..front]);
+        self.row.read(0, &mut into[front..]);
     }
 }
 
-// Reads the bytes of two slices, one behind the other, from an offset on.
-fn copy_out(front: &[u8], back: &[u8], at: usize, into: &mut [u8])
-    requires { at + length into.old ≤ length front.now + length back.now }
-    ensures { into.new ≡ take (length into.old) (drop at (front.now ++ back.now)) }
+// The place on a row of this size that is so many bytes further round.
+fn further(size: usize, start: usize, offset: usize) -> usize
+    requires start { start ≤ size }
+    requires offset { offset ≤ size }
+    ensures place { IsFurther size start offset result }
+    ensures within { result ≤ size }
 {
-    let n = into.len();
-    if front.len() <= at {
-        let start = at - front.len();
-        into.copy_from_slice(&back[start..start + n]);
-        return;
+    let rest = size - start;
+    if offset < rest {
+        start + offset
+    } else {
+        offset - rest
     }
-    let first = n.min(front.len() - at);
-    into[..first].copy_from_slice(&front[at..at + first]);
-    into[first..].copy_from_slice(&back[..n - first]);
 }

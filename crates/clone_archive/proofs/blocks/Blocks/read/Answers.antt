@@ -1,6 +1,6 @@
 use Rattle.std.proofs.Common.{◌≤◌, ◌+◌, ◌-◌, arith, length, length-take, drop}
 use borrow.Rule.Slice.PartMut.{same_len_mid}
-use Rattle.clone_archive.proofs.Pieces.{filled_more}
+use Rattle.clone_ring.proofs.PieceLemmas.{filled_more}
 use Rattle.clone_archive.proofs.blocks.Blocks.read.Goals as goal
 
 pub loop-done-preserved : goal.loop-done-preserved
