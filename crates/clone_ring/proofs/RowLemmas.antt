@@ -1,16 +1,17 @@
 -- Blocks in a row: what a block holds of the bytes, and what is written into it.
 use Rattle.std.proofs.Common.{◌≡◌, ◌⊎◌, ℕ, zero, suc, ◌+◌, ◌-◌, ◌*◌, ◌/◌, ◌%◌, ◌<◌, ◌≤◌, List, [], ◌∷◌, ◌++◌, length, min}
-use Rattle.std.proofs.Common.{take, drop, set, arith, rules, ◌∙◌, ap, sym, refl, subst, inl, inr, Some, unwrap_or}
+use Rattle.std.proofs.Common.{take, drop, set, arith, rules, ◌∙◌, ap, sym, refl, subst, inl, inr, Some}
 use Rattle.std.proofs.Common.{append_assoc, append-nil, length-append, length-take, length-drop, length-set}
 use Rattle.std.specs.Prelude.{slice_get, slice_index_or, vec_capacity}
 use Rattle.std.specs.Vec.{with_items}
-use Rattle.std.proofs.lemmas.Bool.{cases_lt}
+use Rattle.std.proofs.lemmas.Bool.{cases_lt, cases_eq}
 use Rattle.std.proofs.lemmas.List.{take-append-le, drop-append-le, take_all, take_at, drop_all}
 use Rattle.std.proofs.lemmas.List.{drop-drop, drop-take, take-take}
 use Rattle.std.proofs.lemmas.List.Concat.{flat_map-append}
 use Rattle.std.proofs.lemmas.List.{with_items_is}
-use Rattle.std.proofs.lemmas.Option.{slice_get_within, slice_get_read}
+use Rattle.std.proofs.lemmas.Option.{slice_get_within, slice_get_read, same_Some}
 use Rattle.std.proofs.Math.Seq.{take-append-add, drop-append-add, drop-nil}
+use Rattle.clone_base.proofs.MapEntries.{cases_pushed, slice_get-set_same, slice_get-set_other}
 use borrow.Rule.Slice.PartMut.{put_mid, mid_of, same_len_mid}
 use Rattle.clone_ring.proofs.PieceLemmas.{length-written}
 use Rattle.clone_ring.specs.Row.{Block, IsRow, joined, part_of, written}
@@ -66,11 +67,8 @@ first_part block others first =
           sym (take_at block.items (joined others) RING_BLOCK whole))
     ]
 
-unwrapped : (a b : Block) → Some a ≡ Some b → a ≡ b
-unwrapped a b is = ap (λ o. unwrap_or o a) is
-
 with_first : (block : Block) (others : List Block) → IsFirst block others → AreParts others → AreParts (block ∷ others)
-with_first block others first parts zero other is = ap (λ (b : Block). b.items) (sym (unwrapped block other is)) ∙ first_part block others first
+with_first block others first parts zero other is = ap (λ (b : Block). b.items) (sym (same_Some block other is)) ∙ first_part block others first
 with_first block others first parts (suc i) other is = parts i other is ∙ sym (part_behind block others first i)
 
 -- bytes that end behind the first block fill it
@@ -117,7 +115,7 @@ pub written_in : (blocks : List Block) (i : ℕ) (block block' : Block) (at : �
     → block'.items ≡ written at new block.items → IsWritten blocks i block' at new
 written_in [] i block block' at new parts there within room some is = absurd (search rules)
 written_in (first ∷ others) zero block block' at new parts there within room some is =
-    let same = unwrapped first block there in
+    let same = same_Some first block there in
     let here : RING_BLOCK * 0 + at ≡ at = omega arith in
     let was = first_of first others parts in
     let items : block'.items ≡ written at new first.items = is ∙ ap (λ (b : Block). written at new b.items) (sym same) in
@@ -152,28 +150,15 @@ written_in (first ∷ others) (suc i) block block' at new parts there within roo
       bytes = cc;
     }
 
--- a block after one block was written, or one more block was made: that block, or one from before
+-- a block after one block was written: that block, or one from before
 get_in_set : (blocks : List Block) (i j : ℕ) (new block : Block) → slice_get (set blocks i new) j ≡ Some block
     → ((j ≡ i) × (new ≡ block)) ⊎ (slice_get blocks j ≡ Some block)
-get_in_set [] i j new block is = inr is
-get_in_set (first ∷ others) zero zero new block is = inl (refl, unwrapped new block is)
-get_in_set (first ∷ others) zero (suc j) new block is = inr is
-get_in_set (first ∷ others) (suc i) zero new block is = inr is
-get_in_set (first ∷ others) (suc i) (suc j) new block is =
-    elim (get_in_set others i j new block is) [
-      | inl same ↦ inl (ap suc same.0, same.1)
-      | inr before ↦ inr before
-    ]
-
-get_in_longer : (blocks : List Block) (j : ℕ) (new block : Block) → slice_get (blocks ++ new ∷ []) j ≡ Some block
-    → ((j ≡ length blocks) × (new ≡ block)) ⊎ (slice_get blocks j ≡ Some block)
-get_in_longer [] zero new block is = inl (refl, unwrapped new block is)
-get_in_longer [] (suc j) new block is = inr is
-get_in_longer (first ∷ others) zero new block is = inr is
-get_in_longer (first ∷ others) (suc j) new block is =
-    elim (get_in_longer others j new block is) [
-      | inl same ↦ inl (ap suc same.0, same.1)
-      | inr before ↦ inr before
+get_in_set blocks i j new block is =
+    elim (cases_eq j i) [
+      | inl same ↦ (let low = slice_get_within (set blocks i new) j block is in
+          let set_one = slice_get-set_same blocks i new (omega (arith, low, same, length-set blocks i new)) in
+          inl (same, same_Some new block (sym set_one ∙ (ap (slice_get (set blocks i new)) (sym same) ∙ is))))
+      | inr other ↦ inr (sym (slice_get-set_other blocks i j new other) ∙ is)
     ]
 
 -- how many bytes a block has, and how many more it has room for
@@ -261,16 +246,14 @@ longer_row blocks longer made count block row empty whole is none few room =
     (record {
       row = record {
         parts = λ j other get.
-            (elim (get_in_longer blocks j block other get) [
-              | inl same ↦ (ap (λ (b : Block). b.items) (sym same.1) ∙ (none ∙ sym (no_part (joined more) still j)))
-              | inr before ↦ (row.parts j other before ∙ (no_part (joined blocks) empty j ∙ sym (no_part (joined more) still j)))
+            (elim (cases_pushed blocks block j other get) [
+              | inl before ↦ (row.parts j other before.1 ∙ (no_part (joined blocks) empty j ∙ sym (no_part (joined more) still j)))
+              | inr last ↦ (ap (λ (b : Block). b.items) last.1 ∙ (none ∙ sym (no_part (joined more) still j)))
             ]);
         room = λ j other get.
-            (elim (get_in_longer blocks j block other get) [
-              | inl same ↦ subst (λ (b : Block). min RING_BLOCK (made + count - RING_BLOCK * j) ≤ vec_capacity b) same.1 (omega (arith, same.0, whole, room))
-              | inr before ↦ (let below = slice_get_within blocks j other before in
-                  let had = row.room j other before in
-                  omega (arith, below, had, whole))
+            (elim (cases_pushed blocks block j other get) [
+              | inl before ↦ (let had = row.room j other before.1 in omega (arith, before.0, had, whole))
+              | inr last ↦ subst (λ (b : Block). min RING_BLOCK (made + count - RING_BLOCK * j) ≤ vec_capacity b) (sym last.1) (omega (arith, last.0, whole, room))
             ]);
         enough = omega (arith, long, whole, few);
         held = omega (arith, ap length still);
