@@ -3,7 +3,7 @@ use Rattle.std.specs.Prelude.{ℕ, ◌≡◌, ◌≤◌, ◌*◌, List, length, 
 use Rattle.std.specs.declared.alloc.Global.{Global}
 use Rattle.std.specs.List.{flat_map, All}
 use Rattle.clone_base.specs.declared.limits.TheConstants.{LSN_LIMIT}
-use Rattle.clone_archive.specs.declared.blocks.TheConstants.{ARCHIVE_BLOCK}
+use Rattle.clone_base.specs.declared.limits.TheConstants.{BLOCK_BYTES}
 
 -- the bytes, and how many there is room for
 pub record BlockBytes : Type 0 where
@@ -22,10 +22,10 @@ abbrev pub bytes_in : BlockList → ℕ → List ℕ
 bytes_in blocks len = take len (flat_map bytes_of blocks)
 
 abbrev pub room_in : BlockList → ℕ
-room_in blocks = ARCHIVE_BLOCK * length blocks
+room_in blocks = BLOCK_BYTES * length blocks
 
 abbrev pub IsWhole : Vec ℕ Global → Type 0
-IsWhole block = length block.items ≡ ARCHIVE_BLOCK
+IsWhole block = length block.items ≡ BLOCK_BYTES
 
 -- what a list keeps: each block has its size, and the bytes are in the blocks
 pub record AreBlocks (blocks : BlockList) (len : ℕ) : Type 0 where

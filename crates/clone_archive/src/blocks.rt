@@ -1,21 +1,18 @@
-//! Bytes in blocks of 16,384. Every block has its whole size, and the bytes are the first `len` of
+//! Bytes in blocks of 16,384, as many as a block of a clone has. Every block has its whole size, and the bytes are the first `len` of
 //! all blocks together, so that byte i stands in block i / 16,384 at i mod 16,384. There is room
 //! for all of them; the room is at most 2^39 bytes.
 ghost use Rattle.std.specs.Prelude.{◌≡◌, ◌≤◌, ◌<◌, ◌+◌, ◌-◌, ◌++◌, [], length, take, drop};
 ghost use Rattle.std.specs.Prelude.{OnOk, OnErr};
-ghost use Rattle.clone_base.specs.declared.limits.TheConstants.{LSN_LIMIT};
+ghost use Rattle.clone_base.specs.declared.limits.TheConstants.{BLOCK_BYTES, LSN_LIMIT};
 ghost use Rattle.clone_ring.specs.Window.{end_of};
 
-use clone_base::LSN_LIMIT;
+use clone_base::{BLOCK_BYTES, LSN_LIMIT};
 use clone_ring::Ring;
 use std::alloc::{AllocError, Global};
 use std::marker::Model;
 
 // The bytes stand in a list of blocks of one size, each of which is made once and never moved. All
 // but the last that are in use are full; what stands behind the last byte is room.
-
-/// How many bytes a block of an archive has.
-pub const ARCHIVE_BLOCK: usize = 16_384;
 
 /// A list of bytes that grows at its end. Contracts see it as the bytes, and as how many there is
 /// room for.
@@ -99,7 +96,7 @@ impl Blocks {
     fn room(&self) -> usize
         ensures { result ≡ self.now.room }
     {
-        self.blocks.len() * ARCHIVE_BLOCK
+        self.blocks.len() * BLOCK_BYTES
     }
 
     // Makes room for so many more bytes.
@@ -119,10 +116,10 @@ impl Blocks {
     fn add_block(&mut self) -> Result<(), AllocError>
         requires { self.old.room < LSN_LIMIT }
         ensures bytes { self.new.bytes ≡ self.old.bytes }
-        ensures room { OnOk result (self.new.room ≡ self.old.room + ARCHIVE_BLOCK) }
+        ensures room { OnOk result (self.new.room ≡ self.old.room + BLOCK_BYTES) }
     {
         let alloc = *self.blocks.allocator();
-        self.blocks.push(vec![in alloc; 0; ARCHIVE_BLOCK]?)?;
+        self.blocks.push(vec![in alloc; 0; BLOCK_BYTES]?)?;
         Ok(())
     }
 
@@ -139,9 +136,9 @@ impl Blocks {
             ≡ self.old.bytes ++ take result (drop (from - ring.now.floor) ring.now.bytes) }
         ensures room { self.new.room ≡ self.old.room }
     {
-        let at = self.len % ARCHIVE_BLOCK;
-        let count = limit.min(ARCHIVE_BLOCK - at);
-        let block = &mut self.blocks[self.len / ARCHIVE_BLOCK];
+        let at = self.len % BLOCK_BYTES;
+        let count = limit.min(BLOCK_BYTES - at);
+        let block = &mut self.blocks[self.len / BLOCK_BYTES];
         ring.read(from, &mut block[at..at + count]);
         self.len += count;
         count
@@ -156,9 +153,9 @@ impl Blocks {
         ensures within { result ≤ length into.old }
         ensures filled { into.new ≡ take result (drop from self.now.bytes) ++ drop result into.old }
     {
-        let at = from % ARCHIVE_BLOCK;
-        let count = into.len().min(ARCHIVE_BLOCK - at);
-        let block = &self.blocks[from / ARCHIVE_BLOCK];
+        let at = from % BLOCK_BYTES;
+        let count = into.len().min(BLOCK_BYTES - at);
+        let block = &self.blocks[from / BLOCK_BYTES];
         into[..count].copy_from_slice(&block[at..at + count]);
         count
     }

@@ -8,4 +8,3 @@ mod log_copy;
 
 pub use archive::Archive;
 pub use archive_behind::ArchiveBehind;
-pub use blocks::ARCHIVE_BLOCK;

@@ -22,3 +22,12 @@ pub const CHANGE_LIMIT: usize = 160;
 /// The space of a recipient's disk that holds the redo bytes. It and the spaces behind it are no
 /// tables.
 pub const REDO_SPACE: u32 = 0xFFFF_FF00;
+
+/// How many pages a block of a clone has at most.
+pub const BLOCK_PAGES: usize = 8;
+
+/// How many bytes of redo a block of a clone has at most.
+pub const BLOCK_BYTES: usize = 16_384;
+
+/// How many spaces there may be: those of the tables, and the system space.
+pub const SPACE_LIMIT: usize = TABLE_LIMIT + 1;

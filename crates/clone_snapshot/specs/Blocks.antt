@@ -1,7 +1,7 @@
 -- A block of pages as the code keeps it: as many pages as it has, and zeros behind them.
 use Rattle.std.specs.Prelude.{ℕ, ◌≡◌, ◌≤◌, ◌-◌, ◌++◌, List, length, take, drop, replicate}
 use Rattle.std.proofs.Common.{arith, ap, sym, ◌∙◌, take-append-drop, length-take-le}
-use Rattle.clone_snapshot.specs.declared.sizes.TheConstants.{BLOCK_PAGES}
+use Rattle.clone_base.specs.declared.limits.TheConstants.{BLOCK_PAGES}
 
 -- zeros behind so many pages
 abbrev pub filler : ℕ → List (ℕ × ℕ)

@@ -7,8 +7,8 @@ use Rattle.std.specs.List.{range_with_len, flat_map}
 use Rattle.std.specs.Option.{option_map_or}
 use Rattle.clone_chunk.specs.declared.stage.Stage.{Stage}
 use Rattle.clone_chunk.specs.declared.stage.Stage.TheVariants.{FileCopy, PageCopy, RedoCopy, Done}
-use Rattle.clone_snapshot.specs.declared.sizes.TheConstants.{CHUNK_PAGES, BLOCK_PAGES}
-use Rattle.clone_snapshot.specs.declared.sizes.TheConstants.{CHUNK_BYTES, BLOCK_BYTES}
+use Rattle.clone_base.specs.declared.limits.TheConstants.{BLOCK_PAGES, BLOCK_BYTES}
+use Rattle.clone_snapshot.specs.declared.sizes.TheConstants.{CHUNK_PAGES, CHUNK_BYTES}
 
 -- what a stage copies
 pub data StageList : Type 0 where

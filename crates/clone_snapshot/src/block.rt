@@ -2,18 +2,16 @@
 //! back, and a block can be copied.
 ghost use Rattle.std.specs.Prelude.{◌≡◌, ◌≤◌, ◌<◌, ◌+◌, ◌^◌, length, slice_get};
 ghost use Rattle.clone_snapshot.specs.StageLists.{run};
-ghost use Rattle.clone_snapshot.specs.declared.sizes.TheConstants.{BLOCK_PAGES};
+ghost use Rattle.clone_base.specs.declared.limits.TheConstants.{BLOCK_PAGES};
 
-use crate::BLOCK_PAGES;
 use crate::span::Span;
+use clone_base::BLOCK_PAGES;
 use std::marker::Model;
-
-const MOST: usize = BLOCK_PAGES as usize;
 
 /// The pages of a block, each as its space and its number there. Contracts see their list.
 #[derive(Clone, Copy)]
 pub struct PageBlock {
-    pages: [(u32, u32); MOST],
+    pages: [(u32, u32); BLOCK_PAGES],
     count: usize,
 }
 
@@ -41,7 +39,7 @@ impl PageBlock {
         requires { length pages.now ≤ BLOCK_PAGES }
         ensures { result ≡ pages.now }
     {
-        let mut kept = [(0, 0); MOST];
+        let mut kept = [(0, 0); BLOCK_PAGES];
         kept[..pages.len()].copy_from_slice(pages);
         PageBlock {
             pages: kept,
@@ -55,7 +53,7 @@ impl PageBlock {
         requires numbered { numbers.first + numbers.count ≤ 2 ^ 32 }
         ensures { result ≡ run space numbers.first numbers.count }
     {
-        let mut pages = [(0, 0); MOST];
+        let mut pages = [(0, 0); BLOCK_PAGES];
         let count = numbers.count as usize;
         for (index, page) in pages[..count].iter_mut().enumerate() {
             *page = (space, numbers.first as u32 + index as u32);

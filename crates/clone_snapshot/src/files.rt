@@ -4,7 +4,8 @@ ghost use Rattle.clone_snapshot.specs.StageLists.{chunk_count, block_of, block_c
 ghost use Rattle.clone_snapshot.specs.declared.sizes.TheConstants.{CHUNK_PAGES};
 
 use crate::span::Span;
-use crate::{BLOCK_PAGES, CHUNK_PAGES, PageBlock};
+use crate::{CHUNK_PAGES, PageBlock};
+use clone_base::BLOCK_PAGES;
 
 // A chunk of files: the pages of a space that have these numbers.
 #[derive(Drop)]
@@ -30,7 +31,7 @@ pub(crate) fn block_of_files(spaces: &[(u32, u32)], chunk: u32, block: u8) -> Op
         block_of (Files spaces.now) chunk block }
 {
     let chunk = file_chunk(spaces, chunk)?;
-    let numbers = chunk.pages.piece(BLOCK_PAGES, block as u32)?;
+    let numbers = chunk.pages.piece(BLOCK_PAGES as u32, block as u32)?;
     Some(PageBlock::run(chunk.space, numbers))
 }
 

@@ -14,5 +14,5 @@ mod span;
 
 pub use block::{PageBlock, RedoBlock};
 pub use laws::{blocks_are_the_list, blocks_lie_within, chunks_have_blocks};
-pub use sizes::{BLOCK_BYTES, BLOCK_PAGES, CHUNK_BYTES, CHUNK_PAGES, page_chunks, redo_chunks};
+pub use sizes::{CHUNK_BYTES, CHUNK_PAGES, page_chunks, redo_chunks};
 pub use snapshot::Snapshot;

@@ -4,7 +4,8 @@ ghost use Rattle.clone_snapshot.specs.StageLists.{Pages, PagePart, chunks_of};
 ghost use Rattle.clone_snapshot.specs.StageLists.{block_of, block_count};
 
 use crate::span::Span;
-use crate::{BLOCK_PAGES, CHUNK_PAGES, PageBlock};
+use crate::{CHUNK_PAGES, PageBlock};
+use clone_base::BLOCK_PAGES;
 
 /// The pages of a block of a list of pages, if there is such a block.
 pub(crate) fn block_of_pages(pages: &[(u32, u32)], chunk: u32, block: u8) -> Option<PageBlock>
@@ -12,7 +13,7 @@ pub(crate) fn block_of_pages(pages: &[(u32, u32)], chunk: u32, block: u8) -> Opt
         block_of (Pages pages.now) chunk block }
 {
     let chunk = page_chunk(pages, chunk)?;
-    let indexes = chunk.piece(BLOCK_PAGES, block as u32)?;
+    let indexes = chunk.piece(BLOCK_PAGES as u32, block as u32)?;
     let first = indexes.first as usize;
     Some(PageBlock::of(&pages[first..first + indexes.count as usize]))
 }

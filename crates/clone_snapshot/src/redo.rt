@@ -3,7 +3,8 @@ ghost use Rattle.clone_snapshot.specs.StageLists.{Redo, RedoPart, chunks_of};
 ghost use Rattle.clone_snapshot.specs.StageLists.{block_of, block_count};
 
 use crate::span::Span;
-use crate::{BLOCK_BYTES, CHUNK_BYTES, RedoBlock};
+use crate::{CHUNK_BYTES, RedoBlock};
+use clone_base::BLOCK_BYTES;
 
 /// Where a block of the redo from one LSN up to another stands, if there is such a block.
 pub(crate) fn block_of_redo(start: u64, end: u64, chunk: u32, block: u8) -> Option<RedoBlock>
@@ -12,7 +13,7 @@ pub(crate) fn block_of_redo(start: u64, end: u64, chunk: u32, block: u8) -> Opti
         block_of (Redo start end) chunk block }
 {
     let chunk = redo_chunk(start, end, chunk)?;
-    let bytes = chunk.piece(BLOCK_BYTES, block as u32)?;
+    let bytes = chunk.piece(BLOCK_BYTES as u32, block as u32)?;
     Some(RedoBlock {
         from: bytes.first,
         length: bytes.count as u32,

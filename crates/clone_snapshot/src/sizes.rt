@@ -6,14 +6,8 @@ ghost use Rattle.clone_snapshot.specs.declared.sizes.TheConstants.{CHUNK_PAGES, 
 /// How many pages a chunk has at most.
 pub const CHUNK_PAGES: u32 = 64;
 
-/// How many pages a block has at most.
-pub const BLOCK_PAGES: u32 = 8;
-
 /// How many bytes of redo a chunk has at most.
 pub const CHUNK_BYTES: u32 = 65_536;
-
-/// How many bytes of redo a block has at most.
-pub const BLOCK_BYTES: u32 = 16_384;
 
 /// How many chunks a list of so many pages has in PAGE COPY.
 pub fn page_chunks(pages: usize) -> u32

@@ -3,7 +3,7 @@ use Rattle.std.proofs.Common.{length-take, length-drop}
 use Rattle.std.specs.Vec.{with_items}
 use borrow.Rule.Slice.PartMut.{put_mid}
 use Rattle.clone_archive.specs.BlockList.{BlockBytes}
-use Rattle.clone_archive.specs.declared.blocks.TheConstants.{ARCHIVE_BLOCK}
+use Rattle.clone_base.specs.declared.limits.TheConstants.{BLOCK_BYTES}
 use Rattle.clone_archive.proofs.BlockListLemmas.{block_counts, last_block, whole_block, appended_in_block, IsAppended}
 use Rattle.clone_archive.proofs.blocks.Blocks.append_piece.Goals as goal
 
@@ -24,8 +24,8 @@ slice_bounds-read-end c =
 -- the list with the bytes behind the others
 appended : (c : goal.After-self-2-1)
     → IsAppended c.self.inside.blocks.items
-    (set c.self.inside.blocks.items (c.self.inside.len / ARCHIVE_BLOCK)
-    (with_items c.index_mut-block.result.now (put_mid (c.self.inside.len % ARCHIVE_BLOCK) (c.self.inside.len % ARCHIVE_BLOCK + c.min-count.result - c.self.inside.len % ARCHIVE_BLOCK) c.deref_mut.result.now c.read.new.into)))
+    (set c.self.inside.blocks.items (c.self.inside.len / BLOCK_BYTES)
+    (with_items c.index_mut-block.result.now (put_mid (c.self.inside.len % BLOCK_BYTES) (c.self.inside.len % BLOCK_BYTES + c.min-count.result - c.self.inside.len % BLOCK_BYTES) c.deref_mut.result.now c.read.new.into)))
     c.self.inside.len c.min-count.result c.read.new.into
 appended c =
     let counts = block_counts _ _ _ c.self.invariant c.self.view_is in
@@ -40,7 +40,7 @@ invariant_of-self c = (appended c).are
 pub returns-clause-appended : goal.returns-clause-appended
 returns-clause-appended c =
     let counts = block_counts _ _ _ c.self.invariant c.self.view_is in
-    let at = c.self.inside.len % ARCHIVE_BLOCK in
+    let at = c.self.inside.len % BLOCK_BYTES in
     let old = c.deref_mut.result.now in
     let room = c.requires.room in
     let there = last_block c.self.inside.blocks.items c.self.inside.len c.args.limit (omega arith) c.requires.some in

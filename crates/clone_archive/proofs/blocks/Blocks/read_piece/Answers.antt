@@ -1,13 +1,13 @@
 use Rattle.std.proofs.Common.{◌≡◌, ◌+◌, ◌-◌, ◌%◌, ◌++◌, ◌∙◌, ap, arith, take, drop}
 use Rattle.clone_archive.specs.BlockList.{BlockBytes}
-use Rattle.clone_archive.specs.declared.blocks.TheConstants.{ARCHIVE_BLOCK}
+use Rattle.clone_base.specs.declared.limits.TheConstants.{BLOCK_BYTES}
 use Rattle.clone_archive.proofs.BlockListLemmas.{block_counts, read_in_block}
 use Rattle.clone_archive.proofs.blocks.Blocks.read_piece.Goals as goal
 
 pub returns-clause-filled : goal.returns-clause-filled
 returns-clause-filled c =
     let counts = block_counts _ _ _ c.self.invariant c.self.view_is in
-    let at = c.args.from % ARCHIVE_BLOCK in
+    let at = c.args.from % BLOCK_BYTES in
     let count = c.min-count.result in
     let len = c.self.inside.len in
     let read = read_in_block c.self.inside.blocks.items len c.args.from count c.index-block.result.now c.self.invariant (omega (arith, counts.0)) (omega arith) (omega arith) in
