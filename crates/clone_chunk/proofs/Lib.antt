@@ -1,3 +1,4 @@
 pub mod Indexes
 pub mod Claims
 pub mod Life
+pub mod BitmapLemmas

@@ -1,3 +1,4 @@
 pub mod Chunks
 pub mod Lives
 pub mod Stages
+pub mod Bitmaps

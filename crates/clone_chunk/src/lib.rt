@@ -1,13 +1,22 @@
 //! The stages of a clone, and the chunks of a stage: which are free, which a task has claimed, and
-//! which are finished.
+//! which are finished. And what donor and requester tell each other of these: a bit for each chunk,
+//! the redo of a block, the spaces of a stage.
 #![tactic(auto)]
 
+mod bitmap;
 mod chunk;
+mod copy_stage;
 mod laws;
 mod map;
+mod redo_bytes;
+mod spaces;
 mod stage;
 
+pub use bitmap::{Bitmap, MOST_CHUNKS, ends_at};
 pub use chunk::Chunk;
+pub use copy_stage::CopyStage;
 pub use laws::claimed_once;
 pub use map::ChunkMap;
+pub use redo_bytes::RedoBytes;
+pub use spaces::{SpaceSize, Spaces};
 pub use stage::Stage;

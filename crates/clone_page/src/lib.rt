@@ -1,4 +1,5 @@
-//! The page of 4,096 bytes: its header, its trailer, and what stands between them.
+//! The page of 4,096 bytes: its header, its trailer, and what stands between them; and the pages of
+//! a block, each with its place.
 #![tactic(auto)]
 
 mod bytes;
@@ -6,6 +7,7 @@ mod kind;
 mod laws;
 mod layout;
 mod page;
+mod pages;
 
 pub use bytes::{put, u8_at, u16_at, u32_at, u64_at};
 pub use kind::PageKind;
@@ -16,3 +18,4 @@ pub use layout::{
     SLOT_LENGTH_AT, SLOT_VALUE_AT, SLOTS_AT, SPACE_AT, TRAILER_AT,
 };
 pub use page::{Page, is_allowed};
+pub use pages::{PageAt, Pages};
