@@ -29,10 +29,6 @@ writes_of entries = finite.from_entries entries
 abbrev pub Files : Type 0
 Files = finite.FinMap nat_cmp ℕ
 
--- the files that an ordered map lists
-abbrev pub files_of : List (ℕ × ℕ) → Files
-files_of entries = finite.from_entries entries
-
 -- the writes that are under way, the last checkpoint, and the files
 pub record Flights : Type 0 where
   pub writes : Writes

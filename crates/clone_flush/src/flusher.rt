@@ -23,9 +23,8 @@ ghost use Rattle.clone_model.specs.declared.line.TheConstants.{MOST_PAGES};
 ghost use Rattle.clone_flush.specs.declared.flusher.PageWrite.{PageWrite};
 
 use crate::FlushRefusal;
-use crate::files::Files;
 use crate::kept::KeptWrite;
-use clone_base::FIRST_LSN;
+use clone_base::{Counts, FIRST_LSN};
 use clone_buffer::Buffer;
 use clone_model::MOST_PAGES;
 use clone_outside::{PageDisk, Refusal};
@@ -52,7 +51,7 @@ pub struct Flusher {
     spare: Option<KeptWrite>,
     alloc: Global,
     checkpoint: u64,
-    files: Files,
+    files: Counts,
 }
 
 impl Model for Flusher {
@@ -81,7 +80,7 @@ impl Flusher {
             spare: None,
             alloc,
             checkpoint: FIRST_LSN,
-            files: Files::new(alloc),
+            files: Counts::new(alloc),
         }
     }
 

@@ -1,7 +1,6 @@
 //! Pages are flushed in halves, and checkpoints are taken.
 #![tactic(auto)]
 
-mod files;
 mod flusher;
 mod kept;
 mod refusal;

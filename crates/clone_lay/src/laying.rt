@@ -11,8 +11,7 @@ ghost use Rattle.clone_lay.specs.Laid.{with_room, laid_page, whole};
 ghost use Rattle.clone_lay.specs.Redo.{filled, redo_page, laid_redo};
 ghost use Rattle.clone_lay.specs.Sized.{AreSizes};
 
-use crate::Sizes;
-use clone_base::{PAGE_SIZE, REDO_SPACE};
+use clone_base::{Counts, PAGE_SIZE, REDO_SPACE};
 use clone_outside::{PageDisk, Refusal};
 
 /// How many bytes a block of redo has. The last one may have fewer.
@@ -24,7 +23,7 @@ pub const REDO_BLOCK: usize = 4 * PAGE_SIZE;
 /// may be behind.
 pub fn make_room<R: PageDisk>(
     disk: &mut R,
-    sizes: &mut Sizes,
+    sizes: &mut Counts,
     space: u32,
     pages: u32,
 ) -> Result<(), Refusal>
@@ -37,16 +36,16 @@ pub fn make_room<R: PageDisk>(
     ensures tells { is_some (R.told disk.new) ≡ is_some (R.told disk.old) }
     ensures orders { R.orders disk.new ≡ R.orders disk.old }
 {
-    if sizes.has_room(space, pages) {
+    if sizes.reaches(space, pages) {
         return Ok(());
     }
     grow(disk, sizes, space, pages)?;
-    sizes.set(space, pages)?;
+    sizes.insert(space, pages)?;
     Ok(())
 }
 
 // Makes a space of so many pages, or extends it where it is there.
-fn grow<R: PageDisk>(disk: &mut R, sizes: &Sizes, space: u32, pages: u32) -> Result<(), Refusal>
+fn grow<R: PageDisk>(disk: &mut R, sizes: &Counts, space: u32, pages: u32) -> Result<(), Refusal>
     requires { ForTold (R.told disk.old) (AreSizes sizes.now) }
     ensures ok { OnOk result (Steps (R.told disk.old) (R.told disk.new) (with_room space pages)) }
     ensures partial { OnErr result
@@ -55,7 +54,7 @@ fn grow<R: PageDisk>(disk: &mut R, sizes: &Sizes, space: u32, pages: u32) -> Res
     ensures tells { is_some (R.told disk.new) ≡ is_some (R.told disk.old) }
     ensures orders { R.orders disk.new ≡ R.orders disk.old }
 {
-    match sizes.pages(space) {
+    match sizes.get(space) {
         Some(_) => disk.extend(space, pages),
         None => disk.create(space, pages),
     }
@@ -65,7 +64,7 @@ fn grow<R: PageDisk>(disk: &mut R, sizes: &Sizes, space: u32, pages: u32) -> Res
 /// written after room was made for it. After an error the copy is to be given up.
 pub fn lay_page<R: PageDisk>(
     disk: &mut R,
-    sizes: &mut Sizes,
+    sizes: &mut Counts,
     space: u32,
     number: u32,
     page: &[u8; PAGE_SIZE],
@@ -88,7 +87,7 @@ pub fn lay_page<R: PageDisk>(
 /// bytes fill the page of the last of them. After an error the copy is to be given up.
 pub fn lay_redo<R: PageDisk>(
     disk: &mut R,
-    sizes: &mut Sizes,
+    sizes: &mut Counts,
     checkpoint: u64,
     from: u64,
     bytes: &[u8],

@@ -1,10 +1,8 @@
 ghost use Rattle.std.specs.Prelude.{◌≡◌};
 ghost use Rattle.std.specs.FinMap as finite;
 
-use clone_base::REDO_SPACE;
-use clone_lay::{
-    REDO_BLOCK, Sizes, begin_copy, complete, lay_page, lay_redo, make_room, size_laws,
-};
+use clone_base::{Counts, REDO_SPACE};
+use clone_lay::{REDO_BLOCK, begin_copy, complete, lay_page, lay_redo, make_room, size_laws};
 use clone_memdisk::MemDisk;
 use clone_outside::{CloneEnd, DiskOrder, Mark, PageDisk, Refusal};
 use std::alloc::Global;
@@ -20,13 +18,13 @@ fn ends_of(disk: &mut MemDisk, space: u32, number: u32) -> Result<(u8, u8), Refu
 #[test]
 fn pages_past_the_end(rt: HostRuntime) -> Result<(), Fail> {
     let mut disk = MemDisk::new(rt.alloc());
-    let mut sizes = Sizes::new(rt.alloc());
+    let mut sizes = Counts::new(rt.alloc());
     size_laws();
     lay_page(&mut disk, &mut sizes, 1, 2, &[7; 4096])?;
     lay_page(&mut disk, &mut sizes, 1, 4, &[8; 4096])?;
     lay_page(&mut disk, &mut sizes, 1, 0, &[5; 4096])?;
     assert_eq!(rt; disk.pages(1), Ok(Some(5)));
-    assert_eq!(rt; (sizes.pages(1), sizes.pages(0)), (Some(5), None));
+    assert_eq!(rt; (sizes.get(1), sizes.get(0)), (Some(5), None));
     assert_eq!(rt; ends_of(&mut disk, 1, 0), Ok((5, 5)));
     assert_eq!(rt; ends_of(&mut disk, 1, 1), Ok((0, 0)));
     assert_eq!(rt; ends_of(&mut disk, 1, 2), Ok((7, 7)));
@@ -39,7 +37,7 @@ fn pages_past_the_end(rt: HostRuntime) -> Result<(), Fail> {
 #[test]
 fn room_for_pages(rt: HostRuntime) -> Result<(), Fail> {
     let mut disk = MemDisk::new(rt.alloc());
-    let mut sizes = Sizes::new(rt.alloc());
+    let mut sizes = Counts::new(rt.alloc());
     disk.order(DiskOrder::FailAt { call: 6 })?;
     size_laws();
     make_room(&mut disk, &mut sizes, 3, 2)?;
@@ -54,7 +52,7 @@ fn room_for_pages(rt: HostRuntime) -> Result<(), Fail> {
 #[test]
 fn redo_of_two_blocks(rt: HostRuntime) -> Result<(), Fail> {
     let mut disk = MemDisk::new(rt.alloc());
-    let mut sizes = Sizes::new(rt.alloc());
+    let mut sizes = Counts::new(rt.alloc());
     size_laws();
     let block = [6; REDO_BLOCK];
     lay_redo(&mut disk, &mut sizes, 8192, 24576, &[4; 5])?;
@@ -86,7 +84,7 @@ fn copied(alloc: Global, call: u64) -> Result<(Result<(), Refusal>, Option<Mark>
 fn copy_to(alloc: Global, disk: &mut MemDisk) -> Result<(), Refusal>
     requires { disk.old.image.spaces ≡ finite.empty }
 {
-    let mut sizes = Sizes::new(alloc);
+    let mut sizes = Counts::new(alloc);
     size_laws();
     begin_copy(disk, 3)?;
     lay_page(disk, &mut sizes, 1, 0, &[7; 4096])?;

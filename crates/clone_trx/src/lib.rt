@@ -9,7 +9,6 @@ mod locks;
 mod opening;
 mod records;
 mod slot;
-mod tables;
 mod transactions;
 mod walk;
 

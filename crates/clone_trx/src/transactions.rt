@@ -38,7 +38,7 @@ mod undoing;
 
 use crate::active::Active;
 use crate::locks::Locks;
-use crate::tables::Tables;
+use clone_base::Counts;
 use clone_buffer::Buffer;
 use clone_model::{Binlog, BucketCount, Commit, Drops, TableNumber};
 use clone_outside::PageDisk;
@@ -50,7 +50,7 @@ use std::marker::Model;
 /// buffer, which each call is given. Between calls no frame is pinned.
 #[derive(Drop)]
 pub struct Transactions {
-    tables: Tables,
+    tables: Counts,
     active: Active,
     locks: Locks,
     // with room for the commit of each open transaction
@@ -82,7 +82,7 @@ impl Transactions {
         ensures { IfOk result (λ transactions. transactions ≡ no_donor) }
     {
         Ok(Transactions {
-            tables: Tables::new(alloc),
+            tables: Counts::new(alloc),
             active: Active::new(alloc),
             locks: Locks::new(alloc)?,
             binlog: Binlog::new(alloc),

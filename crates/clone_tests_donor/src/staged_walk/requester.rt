@@ -3,9 +3,9 @@ ghost use Rattle.clone_lay.specs.Sized.{AreSizes};
 ghost use Rattle.clone_base.specs.declared.limits.TheConstants.{LSN_LIMIT, PAGE_SIZE};
 ghost use Rattle.std.specs.Prelude.{◌≡◌, ◌≤◌, ◌+◌, ◌-◌, ◌%◌, IsTrue};
 
-use clone_base::{LSN_LIMIT, PAGE_SIZE};
+use clone_base::{Counts, LSN_LIMIT, PAGE_SIZE};
 use clone_donor::{Block, BlockPage};
-use clone_lay::{Sizes, begin_copy, complete, lay_page, lay_redo, make_room, size_laws};
+use clone_lay::{begin_copy, complete, lay_page, lay_redo, make_room, size_laws};
 use clone_memdisk::MemDisk;
 use clone_outside::CloneEnd;
 use clone_session::StageInfo;
@@ -16,7 +16,7 @@ use std::test::Fail;
 #[derive(Drop)]
 pub struct Requester {
     disk: MemDisk,
-    sizes: Sizes,
+    sizes: Counts,
     ghost sized: { AreSizes sizes disk.image },
 }
 
@@ -34,7 +34,7 @@ impl Requester {
         size_laws();
         Requester {
             disk: MemDisk::new(alloc),
-            sizes: Sizes::new(alloc),
+            sizes: Counts::new(alloc),
         }
     }
 

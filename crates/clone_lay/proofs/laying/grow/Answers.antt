@@ -7,23 +7,23 @@ use Rattle.clone_lay.proofs.laying.grow.Goals as goal
 pub returns-in-Some-clause-ok : goal.returns-in-Some-clause-ok
 returns-in-Some-clause-ok g c =
     on_ok_weaker c.extend.result
-    (roomy_extended c.args.sizes.now c.args.space c.args.pages (g.R.PageDisk.told c.args.disk.now) (g.R.PageDisk.told c.extend.new.self) c.in-Some.field-0 c.requires (sym c.pages.ensures ∙ c.in-Some.is))
+    (roomy_extended c.args.sizes.now c.args.space c.args.pages (g.R.PageDisk.told c.args.disk.now) (g.R.PageDisk.told c.extend.new.self) c.in-Some.field-0 c.requires (sym c.get.ensures ∙ c.in-Some.is))
     c.extend.ensures.extended
 
 pub returns-in-Some-clause-partial : goal.returns-in-Some-clause-partial
 returns-in-Some-clause-partial g c =
     failed c.extend.result
-    (λ is. either_extended c.args.sizes.now c.args.space c.args.pages (g.R.PageDisk.told c.args.disk.now) (g.R.PageDisk.told c.extend.new.self) c.in-Some.field-0 c.requires (sym c.pages.ensures ∙ c.in-Some.is) (c.extend.ensures.fault is))
+    (λ is. either_extended c.args.sizes.now c.args.space c.args.pages (g.R.PageDisk.told c.args.disk.now) (g.R.PageDisk.told c.extend.new.self) c.in-Some.field-0 c.requires (sym c.get.ensures ∙ c.in-Some.is) (c.extend.ensures.fault is))
     (λ is. inl (c.extend.ensures.memory is))
 
 pub returns-in-None-clause-ok : goal.returns-in-None-clause-ok
 returns-in-None-clause-ok g c =
     on_ok_weaker c.create.result
-    (roomy_created c.args.sizes.now c.args.space c.args.pages (g.R.PageDisk.told c.args.disk.now) (g.R.PageDisk.told c.create.new.self) c.requires (sym c.pages.ensures ∙ c.in-None.is))
+    (roomy_created c.args.sizes.now c.args.space c.args.pages (g.R.PageDisk.told c.args.disk.now) (g.R.PageDisk.told c.create.new.self) c.requires (sym c.get.ensures ∙ c.in-None.is))
     c.create.ensures.created
 
 pub returns-in-None-clause-partial : goal.returns-in-None-clause-partial
 returns-in-None-clause-partial g c =
     failed c.create.result
-    (λ is. either_created c.args.sizes.now c.args.space c.args.pages (g.R.PageDisk.told c.args.disk.now) (g.R.PageDisk.told c.create.new.self) c.requires (sym c.pages.ensures ∙ c.in-None.is) (c.create.ensures.fault is))
+    (λ is. either_created c.args.sizes.now c.args.space c.args.pages (g.R.PageDisk.told c.args.disk.now) (g.R.PageDisk.told c.create.new.self) c.requires (sym c.get.ensures ∙ c.in-None.is) (c.create.ensures.fault is))
     (λ is. inl (c.create.ensures.memory is))
