@@ -5,7 +5,7 @@ ghost use Rattle.clone_trx.specs.RowSlots.{held_value, state_of_row};
 use clone_model::Value;
 use clone_page::Page;
 use clone_row::present;
-use clone_undo::{Before, OldValue};
+use clone_undo::Before;
 
 /// The value of the row in a slot, if there is a slot, and a row in it.
 pub fn value_on(page: &Page, slot: Option<u16>) -> Option<Value>
@@ -24,7 +24,7 @@ pub fn before_on(page: &Page, slot: u16) -> Before
     let Some((_, value)) = present(page, slot) else {
         return Before::Absent;
     };
-    match OldValue::new(value.bytes()) {
+    match Value::new(value.bytes()) {
         Some(value) => Before::Present(value),
         None => unreachable!(),
     }

@@ -10,8 +10,6 @@ mod record;
 mod writing;
 
 pub use before::Before;
-/// The value of a row before a change.
-pub use clone_model::Value as OldValue;
 pub use laws::{begin_laws, change_laws, end_laws, slot_laws, taking_back_laws};
 pub use places::{
     COUNT_AT, HEADER_AT, HEADER_BYTES, INDEX_AT, RECORD_BYTES, RECORD_KEY_AT, RECORD_LENGTH_AT,
