@@ -6,7 +6,7 @@ use Rattle.std.specs.FinMap as finite
 use Rattle.std.specs.Cmp.{nat_cmp_total}
 use Rattle.std.proofs.lemmas.Map.Lookups.{exact_unsigned}
 use Rattle.clone_base.proofs.MapEntries.{get-removed_same, get-removed_other}
-use Rattle.circular_buffer.proofs.Places.{slice_get-append_left, slice_get-append_right, slice_get-some}
+use Rattle.clone_base.proofs.Lists.{slice_get-append_left, slice_get-append_right, slice_get-some}
 use Rattle.clone_image.specs.Image.{page_of, page_count, with_pages, with_edit, extended}
 use Rattle.clone_image.specs.Redone.{standing_at, standing_in}
 use Rattle.clone_image.proofs.Images.{get-put_same, get-put_other}

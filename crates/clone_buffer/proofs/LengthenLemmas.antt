@@ -3,7 +3,7 @@ use Rattle.std.proofs.Common.{◌≡◌, ◌<◌, ◌≤◌, ◌-◌, ◌⊎◌,
 use Rattle.clone_buffer.proofs.Common.{cases_eq, cases_lt, and_parts, false≢true, true≢false, length-append, length-replicate, get_or-replicate, zero_page, DiskImage, Record, past_end, stands, redone, Engine, rule_kept, Frame, Flush, frame_at, no_frame, is_begun, Frames, IsPool, with_frame, within, get_or-set_same, Beside, disk_standing, is_open, has_space, frame_of, flight_of, engine_with, IsKeptPage, IsKept}
 use Rattle.std.proofs.lemmas.List.{set-set}
 use Rattle.std.proofs.lemmas.Option.{slice_get_past, slice_get-get_or}
-use Rattle.circular_buffer.proofs.Places.{slice_get-append_left, slice_get-append_right}
+use Rattle.clone_base.proofs.Lists.{slice_get-append_left, slice_get-append_right}
 use Rattle.std.specs.FinMap as finite
 use Rattle.clone_image.proofs.Images.{get-put_same, get-put_other}
 use Rattle.clone_outside.specs.Disk as disk

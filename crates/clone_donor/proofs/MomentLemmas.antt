@@ -3,7 +3,7 @@ use Rattle.std.proofs.Common.{◌≡◌, ◌<◌, ◌≤◌, ◌∷◌, ◌∙�
 use Rattle.std.specs.Prelude.{slice_get}
 use Rattle.std.specs.FinMap as finite
 use Rattle.std.proofs.lemmas.Bool.{cases_lt, le-ltb}
-use Rattle.circular_buffer.proofs.Places.{slice_get-some}
+use Rattle.clone_base.proofs.Lists.{slice_get-some}
 use Rattle.clone_outside.specs.Disk.{DiskImage}
 use Rattle.clone_outside.specs.Mark.{IsEnd}
 use Rattle.clone_outside.specs.declared.mark.CloneEnd.{CloneEnd}

@@ -3,7 +3,7 @@ use Rattle.std.proofs.Common.{◌≡◌, ◌≢◌, ◌+◌, ◌-◌, ◌<◌, �
 use Rattle.std.specs.FinMap as finite
 use Rattle.std.proofs.lemmas.Bool.{cases_eq, and_parts, lt-ltb, leb-true, true≢false}
 use Rattle.std.proofs.lemmas.List.{length-append, length-replicate}
-use Rattle.circular_buffer.proofs.Places.{slice_get-some}
+use Rattle.clone_base.proofs.Lists.{slice_get-some}
 use Rattle.clone_image.proofs.Images.{get-put_same, get-put_other}
 use Rattle.clone_model.specs.declared.line.TheConstants.{MOST_PAGES}
 use Rattle.clone_outside.specs.Disk.{DiskImage, ForTold, changed, extended, page_count, page_of, with_extended, zero_page}
