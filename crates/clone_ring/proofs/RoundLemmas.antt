@@ -2,8 +2,8 @@
 use Rattle.std.proofs.Common.{◌≡◌, ℕ, ◌+◌, ◌-◌, ◌<◌, ◌≤◌, List, ◌++◌, length, min, take, drop, arith, ◌∙◌, ap, sym, append_assoc}
 use Rattle.std.proofs.Common.{length-append, length-take, length-drop}
 use Rattle.std.proofs.lemmas.Bool.{cases_lt}
-use Rattle.std.proofs.Common.{inl, inr, subst, refl, append-nil}
-use Rattle.std.proofs.lemmas.List.{take-append-le, drop-append-le, drop-drop, drop-take, take-take, take_all, take_at, drop_all, take-append-drop}
+use Rattle.std.proofs.Common.{inl, inr, refl}
+use Rattle.std.proofs.lemmas.List.{take-append-le, drop-append-le, drop-drop, drop-take, take-take, take_at}
 use Rattle.std.proofs.lemmas.List.Edits.{paste_all, drop-paste}
 use Rattle.std.proofs.Math.Seq.{take-append-add, drop-append-add}
 use Rattle.clone_ring.specs.Row.{Row, IsFurther, LiesOn, round_from, written}
@@ -61,16 +61,6 @@ round_dropped row start len offset place lies further within =
     (ap (λ n. drop offset (take n (round_from start row.bytes))) split
     ∙ (drop-take offset (len - offset) (round_from start row.bytes) ∙ round_further row start len offset place (len - offset) lies further (omega arith)))
 
--- a front of two lists
-take_over : (n : ℕ) (xs ys : List ℕ) → take n (xs ++ ys) ≡ take n xs ++ take (n - length xs) ys
-take_over n xs ys =
-    elim (cases_lt (length xs) n) [
-      | inl more ↦ (let split : n ≡ length xs + (n - length xs) = omega arith in
-          ap (λ k. take k (xs ++ ys)) split ∙ (take-append-add xs ys (n - length xs) ∙ ap (λ zs. zs ++ take (n - length xs) ys) (sym (take_all n xs (omega arith)))))
-      | inr few ↦ (let none : n - length xs ≡ 0 = omega arith in
-          take-append-le n xs ys few ∙ (sym (append-nil (take n xs)) ∙ ap (λ k. take n xs ++ take k ys) (sym none)))
-    ]
-
 -- a place of the log, or the one where it ends, has no byte before it that isn't written
 pub place_written : (row : Row) (start len offset place : ℕ) → LiesOn row start len → IsFurther row.size start offset place → offset ≤ len
     → place ≤ length row.bytes
@@ -80,66 +70,33 @@ place_written row start len offset place lies further within =
       | inr round ↦ omega (arith, whole_row row start len lies (omega arith), further.round round, lies.begins, lies.fits, within)
     ]
 
--- Bytes of the log, of which as many stand from a place on as fit before the row's end: they and the
--- others are written, and if there are others, the first ones come to the end of what is written.
-pub record AreTwoParts (row : Row) (place count front : ℕ) : Type 0 where
-  pub first : place + front ≤ length row.bytes
-  pub others : count - front ≤ length row.bytes
-  pub split : front < count → place + front ≡ length row.bytes
-
-pub two_parts : (row : Row) (start len offset place count front : ℕ) → LiesOn row start len → IsFurther row.size start offset place → offset + count ≤ len
-    → front ≡ min count (row.size - place) → AreTwoParts row place count front
-two_parts row start len offset place count front lies further within cut =
+-- as many bytes of the log as fit before the row's end are written
+pub part_written : (row : Row) (start len offset place count : ℕ) → LiesOn row start len → IsFurther row.size start offset place → offset + count ≤ len
+    → place + min count (row.size - place) ≤ length row.bytes
+part_written row start len offset place count lies further within =
     elim (cases_lt (start + offset) row.size) [
       | inl straight ↦ (let at = further.straight straight in
           elim (cases_lt (length row.bytes) row.size) [
-            | inl part ↦ (let ends = lies.filled part in
-                record {
-                  first = omega (arith, ends, at, cut);
-                  others = omega (arith, ends, at, cut, part);
-                  split = λ less. absurd (omega (arith, ends, at, cut, part, less));
-                })
-            | inr full ↦ record {
-              first = omega (arith, full, at, cut, straight);
-              others = omega (arith, full, lies.fits, within);
-              split = λ less. omega (arith, full, lies.held, at, cut, less, straight);
-            }
+            | inl part ↦ (let ends = lies.filled part in omega (arith, ends, at))
+            | inr full ↦ omega (arith, full, at, straight)
           ])
       | inr round ↦ (let at = further.round round in
           let whole = whole_row row start len lies (omega arith) in
-          record {
-            first = omega (arith, whole, at, cut, lies.begins, lies.fits);
-            others = omega (arith, whole, lies.fits, within);
-            split = λ less. absurd (omega (arith, at, cut, less, lies.begins, lies.fits, within));
-          })
+          omega (arith, whole, at, lies.begins, lies.fits))
     ]
 
--- the bytes of the log from further round on, read in two parts
-pub round_read : (row : Row) (start len offset place count front : ℕ) → LiesOn row start len → IsFurther row.size start offset place → offset + count ≤ len
-    → front ≡ min count (row.size - place)
-    → take front (drop place row.bytes) ++ take (count - front) row.bytes ≡ take count (drop offset (take len (round_from start row.bytes)))
-round_read row start len offset place count front lies further within cut =
-    let bytes = row.bytes in
-    let parts = two_parts row start len offset place count front lies further within cut in
-    let rest = drop place bytes in
-    let size = length-drop place bytes in
-    let first : take count rest ≡ take front rest =
-    elim (cases_lt front count) [
-      | inl less ↦ (take_all count rest (omega (arith, size, parts.split less, less)) ∙ sym (take_all front rest (omega (arith, size, parts.split less))))
-      | inr all ↦ (let same : count ≡ front = omega (arith, all, cut) in ap (λ n. take n rest) same)
-    ] in
-    let others : take (count - length rest) bytes ≡ take (count - front) bytes =
-    elim (cases_lt front count) [
-      | inl less ↦ (let same : count - length rest ≡ count - front = omega (arith, size, parts.split less, parts.first) in ap (λ n. take n bytes) same)
-      | inr all ↦ (let same : count - length rest ≡ count - front = omega (arith, size, parts.first, all) in ap (λ n. take n bytes) same)
-    ] in
+-- the bytes of the log from further round on, up to the row's end
+pub round_read : (row : Row) (start len offset place count : ℕ) → LiesOn row start len → IsFurther row.size start offset place → offset + count ≤ len
+    → place + count ≤ length row.bytes → take count (drop place row.bytes) ≡ take count (drop offset (take len (round_from start row.bytes)))
+round_read row start len offset place count lies further within there =
+    let whole = round_from start row.bytes in
     let longer : len ≡ offset + (len - offset) = omega arith in
-    let whole = round_from start bytes in
-    let shown : drop offset (take len whole) ≡ take (len - offset) (drop offset whole) = ap (λ n. drop offset (take n whole)) longer ∙ drop-take offset (len - offset) whole in
-    let fewer = take-take count (len - offset) (drop offset whole) (omega arith) in
-    let further' = round_further row start len offset place count lies further within in
-    let over = take_over count rest bytes in
-    cc
+    sym
+    (ap (λ n. take count (drop offset (take n whole))) longer
+    ∙ (ap (take count) (drop-take offset (len - offset) whole)
+    ∙ (take-take count (len - offset) (drop offset whole) (omega arith)
+    ∙ (round_further row start len offset place count lies further within
+    ∙ take-append-le count (drop place row.bytes) row.bytes (omega (arith, length-drop place row.bytes))))))
 
 -- bytes behind those before them, where they are written
 take_written : (at : ℕ) (new bytes : List ℕ) → at ≤ length bytes → take (at + length new) (written at new bytes) ≡ take at bytes ++ new
@@ -195,39 +152,6 @@ appended_straight row start len bytes lies room within =
       shows = front ∙ (from_start start len bytes row.bytes within ∙ ap (λ ys. ys ++ bytes) (sym was));
     }
 
--- The first of them are written up to the row's end, and the others from its beginning.
-appended_split : (row : Row) (start len : ℕ) (front back : List ℕ) → LiesOn row start len → start + len + length front ≡ row.size → start + len ≤ length row.bytes
-    → length back ≤ start → IsAppended row start len (front ++ back) (written 0 back (written (start + len) front row.bytes))
-appended_split row start len front back lies full within room =
-    let first = written (start + len) front row.bytes in
-    let now = written 0 back first in
-    let size = length-written (start + len) front row.bytes within in
-    let size' = length-written 0 back first (omega arith) in
-    let count = length-append front back in
-    let rest = length-drop start first in
-    let long : len + length (front ++ back) ≡ length (drop start first) + length back = omega (arith, size, rest, count, full, lies.held) in
-    let kept = drop_written start 0 back first (omega arith) (omega (arith, room)) in
-    let over = take-append-add (drop start first) now (length back) in
-    let same : length back ≡ 0 + length back = omega arith in
-    let behind = ap (λ n. take n now) same ∙ take_written 0 back first (omega arith) in
-    let all = take_all (len + length front) (drop start first) (omega (arith, size, rest, full, lies.held)) in
-    let was = take-append-le len (drop start row.bytes) row.bytes (omega (arith, within, length-drop start row.bytes)) in
-    record {
-      lies = record {
-        begins = lies.begins;
-        fits = omega (arith, count, full, room);
-        held = omega (arith, size, size', full, room, lies.held);
-        filled = λ part. absurd (omega (arith, size, size', full, part));
-      };
-      shows =
-          ap (λ n. take n (round_from start now)) long
-          ∙ (ap (λ ys. take (length (drop start first) + length back) (ys ++ now)) kept
-          ∙ (over
-          ∙ (ap (λ ys. drop start first ++ ys) behind
-          ∙ (ap (λ ys. ys ++ back) (sym all ∙ (from_start start len front row.bytes within ∙ ap (λ ys. ys ++ front) (sym was)))
-          ∙ append_assoc (take len (round_from start row.bytes)) front back))));
-    }
-
 -- The log goes round already, so they are written in the room before its start.
 appended_round : (row : Row) (start len place : ℕ) (bytes : List ℕ) → LiesOn row start len → place + row.size ≡ start + len → len + length bytes ≤ row.size
     → IsAppended row start len bytes (written place bytes row.bytes)
@@ -257,26 +181,13 @@ appended_round row start len place bytes lies round room =
           ∙ (sym (append_assoc (drop start row.bytes) (take place row.bytes) bytes) ∙ ap (λ ys. ys ++ bytes) (sym was)))));
     }
 
--- Bytes are put behind a log in two parts: as many as fit before the row's end, and the others.
-pub round_appended : (row : Row) (start len place cut : ℕ) (bytes now : List ℕ) → LiesOn row start len → IsFurther row.size start len place
-    → len + length bytes ≤ row.size → cut ≡ min (length bytes) (row.size - place)
-    → now ≡ written 0 (drop cut bytes) (written place (take cut bytes) row.bytes) → IsAppended row start len bytes now
-round_appended row start len place cut bytes now lies further room cut_is is =
-    let within = place_written row start len len place lies further (omega arith) in
-    let front = take cut bytes in
-    let back = drop cut bytes in
-    let both = take-append-drop cut bytes in
-    let alone : length bytes ≤ cut → now ≡ written place bytes row.bytes = λ few.
-    (is ∙ (ap (λ ys. written 0 ys (written place front row.bytes)) (drop_all cut bytes few) ∙ ap (λ ys. written place ys row.bytes) (take_all cut bytes few))) in
+-- Bytes that fit before the row's end are put behind a log.
+pub round_appended : (row : Row) (start len place : ℕ) (bytes : List ℕ) → LiesOn row start len → IsFurther row.size start len place
+    → len + length bytes ≤ row.size → place + length bytes ≤ row.size → IsAppended row start len bytes (written place bytes row.bytes)
+round_appended row start len place bytes lies further room fits =
     elim (cases_lt (start + len) row.size) [
       | inl straight ↦ (let at = further.straight straight in
-          elim (cases_lt cut (length bytes)) [
-            | inl more ↦ (let full : start + len + length front ≡ row.size = omega (arith, at, cut_is, more, length-take cut bytes) in
-                let fits : length back ≤ start = omega (arith, at, cut_is, more, length-drop cut bytes, room) in
-                let split = appended_split row start len front back lies full (omega (arith, at, within)) fits in
-                rw is (rw at (subst (λ ys. IsAppended row start len ys (written 0 back (written (start + len) front row.bytes))) both split)))
-            | inr few ↦ rw (alone few) (rw at (appended_straight row start len bytes lies (omega (arith, at, few, cut_is)) (omega (arith, at, within))))
-          ])
-      | inr round ↦ (let at = further.round round in
-          rw (alone (omega (arith, cut_is, at, room, lies.begins))) (appended_round row start len place bytes lies at room))
+          let within = reached row start len len lies straight (omega arith) in
+          rw at (appended_straight row start len bytes lies (omega (arith, at, fits)) within))
+      | inr round ↦ appended_round row start len place bytes lies (further.round round) room
     ]

@@ -52,35 +52,9 @@ impl Blocks {
         self.size
     }
 
-    /// Writes bytes from a place on that is not past the last byte. No memory is taken.
-    pub(crate) fn write(&mut self, at: usize, bytes: &[u8])
-        requires behind { at ≤ length self.old.bytes }
-        requires room { at + length bytes.now ≤ self.old.size }
-        ensures bytes { self.new.bytes ≡ written at bytes.now self.old.bytes }
-        ensures size { self.new.size ≡ self.old.size }
-    {
-        let _ = &self.size;
-        let mut done = 0;
-        while done < bytes.len() {
-            done += self.write_piece(at + done, &bytes[done..]);
-        }
-    }
-
-    /// Fills the slice with the bytes from a place on.
-    pub(crate) fn read(&self, at: usize, into: &mut [u8])
-        requires { at + length into.old ≤ length self.now.bytes }
-        ensures { into.new ≡ take (length into.old) (drop at self.now.bytes) }
-    {
-        let _ = self.size();
-        let mut done = 0;
-        while done < into.len() {
-            done += self.read_piece(at + done, &mut into[done..]);
-        }
-    }
-
-    // Writes a front of the bytes from a place on, either over bytes of one block or behind them,
-    // and answers how many.
-    fn write_piece(&mut self, at: usize, bytes: &[u8]) -> usize
+    /// Writes a front of the bytes from a place on, either over bytes of one block or behind them,
+    /// and answers how many. No memory is taken.
+    pub(crate) fn write_piece(&mut self, at: usize, bytes: &[u8]) -> usize
         requires behind { at ≤ length self.old.bytes }
         requires room { at + length bytes.now ≤ self.old.size }
         requires some { 0 < length bytes.now }
@@ -102,9 +76,9 @@ impl Blocks {
         count
     }
 
-    // Fills a front of the slice with the bytes from a place on, as far as one block has them, and
-    // answers how many.
-    fn read_piece(&self, at: usize, into: &mut [u8]) -> usize
+    /// Fills a front of the slice with the bytes from a place on, as far as one block has them, and
+    /// answers how many.
+    pub(crate) fn read_piece(&self, at: usize, into: &mut [u8]) -> usize
         requires within { at + length into.old ≤ length self.now.bytes }
         requires some { 0 < length into.old }
         ensures more { 0 < result }

@@ -1,9 +1,9 @@
 //! The log from its floor to its end, which lies on a row of bytes and goes round on it: its first
-//! byte, the one at the LSN `floor`, stands at `start`, each next byte has the next LSN and the next
-//! place, and behind the row's last place comes its first. The end, `floor` and `len`, is below
-//! 2^39.
-ghost use Rattle.std.specs.Prelude.{◌≡◌, ◌≤◌, ◌<◌, ◌+◌, ◌-◌, length, take, drop, IfOk};
-ghost use Rattle.clone_ring.specs.Window.{Appends, empty, end_of, free_in, raised};
+//! byte, the one at the LSN `floor`, stands at `start`, each next byte has the next LSN and stands
+//! at the next place, and behind the row's last place comes its first. The end, `floor` and `len`,
+//! is below 2^39.
+ghost use Rattle.std.specs.Prelude.{◌≡◌, ◌≤◌, ◌<◌, ◌+◌, ◌-◌, ◌++◌, length, take, drop, IfOk};
+ghost use Rattle.clone_ring.specs.Window.{Appends, appended, empty, end_of, free_in, raised};
 ghost use Rattle.clone_ring.specs.Row.{IsFurther};
 
 use crate::LogFull;
@@ -89,11 +89,10 @@ impl Ring {
         if free < need {
             return Err(LogFull { need, free });
         }
-        let at = further(self.row.size(), self.start, self.len);
-        let (front, back) = bytes.split_at(bytes.len().min(self.row.size() - at));
-        self.row.write(at, front);
-        self.row.write(0, back);
-        self.len += bytes.len();
+        let mut done = 0;
+        while done < bytes.len() {
+            done += self.append_piece(&bytes[done..]);
+        }
         Ok(self.end())
     }
 
@@ -115,10 +114,41 @@ impl Ring {
         requires within { from + length into.old ≤ end_of self.now }
         ensures { into.new ≡ take (length into.old) (drop (from - self.now.floor) self.now.bytes) }
     {
-        let at = further(self.row.size(), self.start, (from - self.floor) as usize);
+        let offset = (from - self.floor) as usize;
+        let mut done = 0;
+        while done < into.len() {
+            done += self.read_piece(offset + done, &mut into[done..]);
+        }
+    }
+
+    // Appends a front of the bytes, as many as one block takes, and answers how many.
+    fn append_piece(&mut self, bytes: &[u8]) -> usize
+        requires some { 0 < length bytes.now }
+        requires free { length bytes.now ≤ free_in self.old }
+        ensures more { 0 < result }
+        ensures within { result ≤ length bytes.now }
+        ensures appended { self.new ≡ appended (take result bytes.now) self.old }
+    {
+        let at = further(self.row.size(), self.start, self.len);
+        let front = bytes.len().min(self.row.size() - at);
+        let count = self.row.write_piece(at, &bytes[..front]);
+        self.len += count;
+        count
+    }
+
+    // Fills a front of the slice with the bytes from an offset on, as many as one block has, and
+    // answers how many.
+    fn read_piece(&self, offset: usize, into: &mut [u8]) -> usize
+        requires some { 0 < length into.old }
+        requires within { offset + length into.old ≤ length self.now.bytes }
+        ensures more { 0 < result }
+        ensures few { result ≤ length into.old }
+        ensures filled { into.new
+            ≡ take result (drop offset self.now.bytes) ++ drop result into.old }
+    {
+        let at = further(self.row.size(), self.start, offset);
         let front = into.len().min(self.row.size() - at);
-        self.row.read(at, &mut into[..front]);
-        self.row.read(0, &mut into[front..]);
+        self.row.read_piece(at, &mut into[..front])
     }
 }
 
