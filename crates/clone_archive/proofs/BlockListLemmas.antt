@@ -14,7 +14,7 @@ use borrow.Rule.Slice.PartMut.{put_mid, mid_of, same_len_mid}
 use Rattle.clone_base.specs.declared.limits.TheConstants.{LSN_LIMIT}
 use Rattle.clone_base.specs.declared.limits.TheConstants.{BLOCK_BYTES}
 use Rattle.clone_archive.specs.BlockList.{BlockBytes, BlockList, AreBlocks, IsWhole, bytes_of, bytes_in, room_in}
-use Rattle.clone_archive.proofs.Joined.{length-joined, drop-joined, take-joined}
+use Rattle.clone_archive.proofs.JoinedListLemmas.{length-joined, drop-joined, take-joined}
 
 -- there are as many bytes as the list counts
 pub byte_count : (blocks : BlockList) (len : ℕ) → AreBlocks blocks len → length (bytes_in blocks len) ≡ len

@@ -1,4 +1,4 @@
 pub mod Ends
-pub mod Joined
+pub mod JoinedListLemmas
 pub mod Pieces
 pub mod BlockListLemmas

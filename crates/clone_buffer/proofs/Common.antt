@@ -4,13 +4,13 @@ pub use Rattle.clone_buffer.specs.Keeping.{IsKept, IsKeptPage}
 pub use Rattle.clone_buffer.specs.OnePage.{has_space, frame_in, Beside, Copies, flight_of, disk_standing, is_open, engine_with, frame_of}
 pub use Rattle.clone_buffer.specs.Writing.{IsOnPage, Creates, written, any_names, after_records, MakesSpace, Writes, HasFrame}
 pub use Rattle.clone_image.proofs.Images.{page_of-made, page_of-elsewhere, page_of-edited_same, page_of-past}
-pub use Rattle.clone_image.proofs.Redoing.{replayed_is_redone}
+pub use Rattle.clone_image.proofs.RedoLemmas.{replayed_is_redone}
 pub use Rattle.clone_image.specs.Image.{EditsPages, Image}
 pub use Rattle.clone_image.specs.Redone.{stands, past_end, redone, Standing, no_space}
 pub use Rattle.clone_image.specs.Replay.{first_lsn, IsSpelled, replayed}
 pub use Rattle.clone_law.proofs.AppendLemmas.{suits_unnamed}
 pub use Rattle.clone_law.proofs.EventLemmas.{kept as rule_kept}
-pub use Rattle.clone_law.specs.Machine.{Copy, Engine, HasSpace, World}
+pub use Rattle.clone_law.specs.Machine.{Copy, PageEngine, HasSpace, PageWorld}
 pub use Rattle.clone_law.specs.Rule.{CopyRule, Rule}
 pub use Rattle.clone_law.specs.Since.{ends, Suits}
 pub use Rattle.clone_law.specs.Touches.{passes, names, resets, touches, passes_by, edits}

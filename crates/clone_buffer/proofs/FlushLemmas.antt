@@ -1,6 +1,6 @@
 -- A flush of a page, step by step, leaves each page kept.
 use Rattle.std.proofs.Common.{◌≡◌, ◌≢◌, ◌<◌, ◌≤◌, ◌⊎◌, inl, inr, ◌&&◌, ◌↔◌, ◌++◌, ℕ, Bool, true, false, List, length, drop, slice_get, set, refl, sym, ap, subst, ◌∙◌, arith, Option, Some, None, option_and_then, unwrap_or, is_some, IsSome, IsTrue, if◌then◌else◌, get_or, not, ◌==◌}
-use Rattle.clone_buffer.proofs.Common.{cases_eq, false≢true, true≢false, and_parts, length-append, DiskImage, Record, log_of, stands, redone, ends, Rule, Copy, Engine, rule_kept, Frame, Flush, PageName, is_name_of, frame_at, name_in, name_of, holder, is_fresh, is_begun, Frames, IsPool, with_frame, named, is_own_name, within, Buffered, Beside, disk_standing, is_open, has_space, frame_in, frame_of, flight_of, engine_with, IsKeptPage, IsKept, Copies}
+use Rattle.clone_buffer.proofs.Common.{cases_eq, false≢true, true≢false, and_parts, length-append, DiskImage, Record, log_of, stands, redone, ends, Rule, Copy, PageEngine, rule_kept, Frame, Flush, PageName, is_name_of, frame_at, name_in, name_of, holder, is_fresh, is_begun, Frames, IsPool, with_frame, named, is_own_name, within, Buffered, Beside, disk_standing, is_open, has_space, frame_in, frame_of, flight_of, engine_with, IsKeptPage, IsKept, Copies}
 use Rattle.std.proofs.lemmas.List.{take-append-drop}
 use Rattle.std.proofs.lemmas.Option.{slice_get_within, get_or_from_slice_get}
 use Rattle.std.specs.FinMap as finite
@@ -129,7 +129,7 @@ IsSameBeside beside beside' s n = (beside'.image s n ≡ beside.image s n) × (b
 pub undisturbed : (log : List (List Record)) (beside beside' : Beside) (m m' : DiskImage) (s n : ℕ) (frame : Option Frame) → beside'.checkpoint ≡ beside.checkpoint → IsSameBeside beside beside' s n
     → (disk.page_of m' s n ≡ disk.page_of m s n) × (disk_standing m' s n ≡ disk_standing m s n) → IsKeptPage log beside m s n frame → IsKeptPage log beside' m' s n frame
 undisturbed log beside beside' m m' s n frame point same disks k =
-    let e : Engine = engine_with log beside m s n frame in
+    let e : PageEngine = engine_with log beside m s n frame in
     let writes : Option Held → Bool = λ o. is_open o && has_space (redone s n log) in
     let new : world (beside.copy s n) e ≡ world_with log beside' m' s n frame =
     λ i. world (sym same.1 i) (record e { checkpoint = sym point i; disk = sym disks.1 i; writing = writes (sym disks.0 i); flight = flight_of (flush_in frame) (sym same.0 i) }) in
@@ -185,7 +185,7 @@ module _ (log : List (List Record)) (beside : Beside) (m : DiskImage) (page : Pa
   abbrev copy : Copy
   copy = beside.copy page.space page.number
 
-  abbrev engine : Frame → Engine
+  abbrev engine : Frame → PageEngine
   engine f = engine_with log beside m page.space page.number (Some f)
 
   begin_page : (f : Frame) → Kept beside m f → Kept (with_begun page f.page beside) m (begun f)

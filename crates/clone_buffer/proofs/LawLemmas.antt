@@ -1,6 +1,6 @@
 -- A new buffer over a blank disk is kept, and where a buffer is kept, the disk's page with its redo is the frame.
 use Rattle.std.proofs.Common.{◌≡◌, ◌&&◌, ℕ, Bool, true, false, List, [], replicate, refl, sym, ap, subst, ◌∙◌, arith, Option, Some, None, option_and_then, slice_get, IsSome, IsTrue}
-use Rattle.clone_buffer.proofs.Common.{false≢true, get_or-replicate, length-replicate, get-empty, nat_cmp, DiskImage, Record, redone, HasSpace, Rule, World, Frame, PageName, no_frame, name_of, holder, Frames, Buffered, Beside, frame_in, frame_of, is_open, has_space, engine_with, IsKeptPage, IsKept}
+use Rattle.clone_buffer.proofs.Common.{false≢true, get_or-replicate, length-replicate, get-empty, nat_cmp, DiskImage, Record, redone, HasSpace, Rule, PageWorld, Frame, PageName, no_frame, name_of, holder, Frames, Buffered, Beside, frame_in, frame_of, is_open, has_space, engine_with, IsKeptPage, IsKept}
 use Rattle.std.specs.FinMap as finite
 use Rattle.clone_outside.specs.Disk.{blank, page_of}
 use Rattle.clone_outside.specs.declared.disk.Held as held
@@ -26,7 +26,7 @@ blank_page : (space number : ℕ) → IsKeptPage [] at_rest blank space number N
 blank_page space number =
     let none : finite.get blank.spaces space ≡ None = get-empty nat_cmp space in
     let open_in : Option (List held.Held) → Bool = λ o. is_open (option_and_then (λ pages. slice_get pages number) o) && false in
-    let w : Option (List held.Held) → World = λ o. world Idle (record (engine_with [] at_rest blank space number None) { disk = standing_in o number; writing = open_in o }) in
+    let w : Option (List held.Held) → PageWorld = λ o. world Idle (record (engine_with [] at_rest blank space number None) { disk = standing_in o number; writing = open_in o }) in
     record {
       rule = subst (λ (o : Option (List held.Held)). Rule space number (w o)) (sym none) (nothing_kept space number);
       dirty = λ t. absurd (false≢true (sym (ap open_in none) ∙ t));

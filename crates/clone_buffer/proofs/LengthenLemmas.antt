@@ -1,6 +1,6 @@
 -- A file gets longer by zero pages, and a flush fails before any of the page is written.
 use Rattle.std.proofs.Common.{◌≡◌, ◌<◌, ◌≤◌, ◌-◌, ◌⊎◌, inl, inr, ◌&&◌, ◌++◌, ℕ, Bool, true, false, List, length, replicate, slice_get, set, not, refl, sym, ap, subst, ◌∙◌, arith, Option, Some, None, option_and_then, IsSome}
-use Rattle.clone_buffer.proofs.Common.{cases_eq, cases_lt, and_parts, false≢true, true≢false, length-append, length-replicate, get_or-replicate, zero_page, DiskImage, Record, past_end, stands, redone, Engine, rule_kept, Frame, Flush, frame_at, no_frame, is_begun, Frames, IsPool, with_frame, within, get_or-set_same, Beside, disk_standing, is_open, has_space, frame_of, flight_of, engine_with, IsKeptPage, IsKept}
+use Rattle.clone_buffer.proofs.Common.{cases_eq, cases_lt, and_parts, false≢true, true≢false, length-append, length-replicate, get_or-replicate, zero_page, DiskImage, Record, past_end, stands, redone, PageEngine, rule_kept, Frame, Flush, frame_at, no_frame, is_begun, Frames, IsPool, with_frame, within, get_or-set_same, Beside, disk_standing, is_open, has_space, frame_of, flight_of, engine_with, IsKeptPage, IsKept}
 use Rattle.std.proofs.lemmas.List.{set-set}
 use Rattle.std.proofs.lemmas.Option.{slice_get_past, slice_get-get_or}
 use Rattle.clone_base.proofs.Lists.{slice_get-append_left, slice_get-append_right}
@@ -86,7 +86,7 @@ lengthen_keeps v beside m space pages k = record { right = k.right; page = λ s 
     by s n (inl same) = undisturbed v.log beside beside m m' s n (frame_of v.pool.frames s n) refl (refl, refl) same (k.page s n)
     by s n (inr new) =
         let had = k.page s n in
-        let e : Engine = engine_with v.log beside m s n (frame_of v.pool.frames s n) in
+        let e : PageEngine = engine_with v.log beside m s n (frame_of v.pool.frames s n) in
         let writes : Option Held → Bool = λ o. is_open o && has_space (redone s n v.log) in
         let same : writes (disk.page_of m s n) ≡ writes (disk.page_of m' s n) = ap writes new.none ∙ sym (ap writes new.there) in
         record {

@@ -1,6 +1,6 @@
 -- One page that is kept stays so, whatever a call does to it.
 use Rattle.std.proofs.Common.{◌≡◌, ◌↔◌, ◌&&◌, ◌++◌, ℕ, Bool, true, false, List, [], ◌∷◌, slice_get, refl, sym, ap, subst, ◌∙◌, Option, Some, None, option_and_then, unwrap_or, IsSome, IfSome, IsTrue, if◌then◌else◌}
-use Rattle.clone_buffer.proofs.Common.{false≢true, true≢false, DiskImage, GivesQuiet, Record, Standing, no_space, past_end, stands, redone, ends, Suits, Rule, CopyRule, Copy, Engine, World, HasSpace, rule_kept, Frame, Flush, is_fresh, noted, is_begun, Beside, is_open, has_space, flight_of, engine_with, IsKeptPage}
+use Rattle.clone_buffer.proofs.Common.{false≢true, true≢false, DiskImage, GivesQuiet, Record, Standing, no_space, past_end, stands, redone, ends, Suits, Rule, CopyRule, Copy, PageEngine, PageWorld, HasSpace, rule_kept, Frame, Flush, is_fresh, noted, is_begun, Beside, is_open, has_space, flight_of, engine_with, IsKeptPage}
 use Rattle.std.specs.FinMap as finite
 use Rattle.clone_outside.specs.Disk.{page_of}
 use Rattle.clone_outside.specs.declared.disk.Held.{Held}
@@ -12,15 +12,15 @@ use Rattle.clone_buffer.specs.OnePage.{standing_at, standing_in, oldest_in, flus
 use Rattle.clone_buffer.proofs.FrameLemmas.{counted}
 
 -- the page in the donor, and in a clone
-abbrev pub world : Copy → Engine → World
+abbrev pub world : Copy → PageEngine → PageWorld
 world copy e = record { engine = e; copy = copy }
 
 -- they keep the rule
-abbrev pub Ruled : ℕ → ℕ → Copy → Engine → Type 0
+abbrev pub Ruled : ℕ → ℕ → Copy → PageEngine → Type 0
 Ruled space number copy e = Rule space number (world copy e)
 
 -- what a clone has keeps its part of the rule, whatever the disk has of the page, unless a write is opened or a flush begins
-pub copy_stays : (space number : ℕ) (e : Engine) (disk : Standing) (writing : Bool) (flight : Option Flight) (copy : Copy) → (e.writing ≡ false → writing ≡ false) → (e.flight ≡ None → flight ≡ None) → CopyRule space number e copy
+pub copy_stays : (space number : ℕ) (e : PageEngine) (disk : Standing) (writing : Bool) (flight : Option Flight) (copy : Copy) → (e.writing ≡ false → writing ≡ false) → (e.flight ≡ None → flight ≡ None) → CopyRule space number e copy
     → CopyRule space number (record e { disk = disk; writing = writing; flight = flight }) copy
 copy_stays space number e disk writing flight Idle closed grounded rule = tt
 copy_stays space number e disk writing flight (Untracked starts) closed grounded rule = (closed rule.0, grounded rule.1, rule.2)
@@ -103,7 +103,7 @@ module _ (log : List (List Record)) (beside : Beside) (m : DiskImage) (space num
   -- a clean page lost its frame
   lost : (f : Frame) → IsKeptPage log beside m space number (Some (record f { oldest = None; flush = flush.Idle })) → IsKeptPage log beside m space number None
   lost f k =
-      let e : Engine = engine_with log beside m space number (Some (record f { oldest = None; flush = flush.Idle })) in
+      let e : PageEngine = engine_with log beside m space number (Some (record f { oldest = None; flush = flush.Idle })) in
       let closed : e.writing ≡ false = not_open e.writing (λ t. absurd (false≢true (k.dirty t))) in
       record {
         rule = rule_kept space number (world copy e) Evicted k.rule (closed, refl, refl);
@@ -154,7 +154,7 @@ module _ (log : List (List Record)) (beside : Beside) (m : DiskImage) (space num
   -- a mini-transaction left the page
   pub passed_page : (records : List Record) (frame : Option Frame) → Suits space number log records → redone space number (log ++ records ∷ []) ≡ redone space number log → IsKeptPage log beside m space number frame → IsKeptPage (log ++ records ∷ []) beside m space number frame
   passed_page records frame suits same k =
-      let e : Engine = engine_with log beside m space number frame in
+      let e : PageEngine = engine_with log beside m space number frame in
       let writes : Standing → Bool = λ s. is_open (page_of m space number) && has_space s in
       let new : record e { log = log ++ records ∷ [] } ≡ engine_with (log ++ records ∷ []) beside m space number frame = λ i. record e { log = log ++ records ∷ []; writing = writes (sym same i) } in
       record {
@@ -168,7 +168,7 @@ module _ (log : List (List Record)) (beside : Beside) (m : DiskImage) (space num
   pub changed_page : (records : List Record) (frame : Option Frame) (g : Frame) → Suits space number log records → HasSpace (redone space number log) → redone space number (log ++ records ∷ []) ≡ stands g.page
       → g.oldest ≡ Some (unwrap_or (oldest_in frame) (ends log)) → g.flush ≡ noted (ends log) (flush_in frame) → IsKeptPage log beside m space number frame → IsKeptPage (log ++ records ∷ []) beside m space number (Some g)
   changed_page records frame g suits has becomes oldest flush_is k =
-      let e : Engine = engine_with log beside m space number frame in
+      let e : PageEngine = engine_with log beside m space number frame in
       let writes : Standing → Bool = λ s. is_open (page_of m space number) && has_space s in
       let writing : e.writing ≡ (engine_with (log ++ records ∷ []) beside m space number (Some g)).writing = ap (λ (b : Bool). is_open (page_of m space number) && b) (spaced (redone space number log) has) ∙ sym (ap writes becomes) in
       let image : Option (List ℕ) = beside.image space number in
@@ -187,7 +187,7 @@ module _ (log : List (List Record)) (beside : Beside) (m : DiskImage) (space num
   pub dropped_page : (records : List Record) (frame : Option Frame) → Suits space number log records → redone space number (log ++ records ∷ []) ≡ no_space → NoFiles copy → is_begun (flush_in frame) ≡ false
       → IsKeptPage log beside m space number frame → IsKeptPage (log ++ records ∷ []) beside m space number None
   dropped_page records frame suits gone calm landed k =
-      let e : Engine = engine_with log beside m space number frame in
+      let e : PageEngine = engine_with log beside m space number frame in
       let writes : Standing → Bool = λ s. is_open (page_of m space number) && has_space s in
       let closed : false ≡ writes (redone space number (log ++ records ∷ [])) = sym (ap writes gone ∙ never (is_open (page_of m space number))) in
       let new : record e { log = log ++ records ∷ []; writing = false; frame = None; oldest = None; flight = None } ≡ engine_with (log ++ records ∷ []) beside m space number None =

@@ -1,6 +1,6 @@
 -- A mini-transaction that makes a space which the disk has already, with pages of zero bytes.
 use Rattle.std.proofs.Common.{◌≡◌, ◌↔◌, ◌≢◌, ◌<◌, ◌≤◌, ◌+◌, ◌^◌, ◌&&◌, ◌==◌, ◌⊎◌, inl, inr, ◌++◌, ℕ, Bool, true, false, List, [], ◌∷◌, length, replicate, slice_get, nat_lt, refl, sym, ap, subst, ◌∙◌, arith, Option, Some, None, Result, Ok, Err, option_and_then, unwrap_or, IsSome, IsTrue, if◌then◌else◌}
-use Rattle.clone_buffer.proofs.Common.{page_of-made, Image, HasFrame, Shown, Shows, AllByRecursion, cases_eq, cases_lt, false≢true, get_or-replicate, length-replicate, DiskImage, ForTold, zero_page, Record, Standing, no_space, past_end, stands, redone, ends, Suits, Engine, Copy, rule_kept, Frame, Flush, frame_at, is_begun, holder, noted, Beside, frame_of, flight_of, disk_standing, is_open, has_space, engine_with, IsKeptPage, IsKept, Create, spelling, replayed, IsSpelled, replayed_is_redone, page_of-past, page_of-elsewhere, passes, touches, suits_unnamed, free_in, LogFull, Content, Unused, Fresh, IsPool, Buffered, IsBuffer, any_names, written, Writes, MakesSpace, Creates}
+use Rattle.clone_buffer.proofs.Common.{page_of-made, Image, HasFrame, Shown, Shows, AllByRecursion, cases_eq, cases_lt, false≢true, get_or-replicate, length-replicate, DiskImage, ForTold, zero_page, Record, Standing, no_space, past_end, stands, redone, ends, Suits, PageEngine, Copy, rule_kept, Frame, Flush, frame_at, is_begun, holder, noted, Beside, frame_of, flight_of, disk_standing, is_open, has_space, engine_with, IsKeptPage, IsKept, Create, spelling, replayed, IsSpelled, replayed_is_redone, page_of-past, page_of-elsewhere, passes, touches, suits_unnamed, free_in, LogFull, Content, Unused, Fresh, IsPool, Buffered, IsBuffer, any_names, written, Writes, MakesSpace, Creates}
 use Rattle.std.proofs.lemmas.Bool.{lt-ltb, ltb-true, ltb-false, eq-eqb}
 use Rattle.std.proofs.lemmas.Option.{slice_get-get_or, slice_get_past}
 use Rattle.std.specs.FinMap as finite
@@ -62,7 +62,7 @@ module _ (log : List (List Record)) (beside : Beside) (m : DiskImage) (space num
   -- a page without a frame
   pub created_page : Suits space number log records → redone space number longer ≡ made number pages → IsKeptPage log beside m space number None → IsKeptPage longer beside m space number None
   created_page suits is k =
-      let e : Engine = engine_with log beside m space number None in
+      let e : PageEngine = engine_with log beside m space number None in
       let on_disk : redone space number longer ≡ disk_standing m space number = is ∙ sym standing in
       let shut = closed (redone space number longer) in
       let new : record e { log = longer; disk = redone space number longer; writing = false } ≡ engine_with longer beside m space number None = λ i. record e { log = longer; disk = on_disk i; writing = shut i } in
@@ -76,7 +76,7 @@ module _ (log : List (List Record)) (beside : Beside) (m : DiskImage) (space num
   -- a page whose frame the mini-transaction changes
   pub opened_page : (g : Frame) → number < pages → Suits space number log records → redone space number longer ≡ stands g.page → redone space number log ≡ no_space → g.oldest ≡ Some (ends log) → g.flush ≡ flush.Idle → IsKeptPage log beside m space number None → IsKeptPage longer beside m space number (Some g)
   opened_page g low suits is absent oldest idle k =
-      let e : Engine = engine_with log beside m space number None in
+      let e : PageEngine = engine_with log beside m space number None in
       let on_disk : stands zero_page ≡ disk_standing m space number = sym (standing ∙ ap (λ (b : Bool). if b then stands zero_page else past_end) (lt-ltb number pages low)) in
       let shut = closed (redone space number longer) in
       let grounded : None ≡ flight_of g.flush (beside.image space number) = sym (ap (λ (x : Flush). flight_of x (beside.image space number)) idle) in

@@ -8,7 +8,7 @@ use Rattle.clone_mtr.specs.declared.record.Record.{Record}
 use Rattle.clone_image.specs.Replay.{first_lsn}
 use Rattle.clone_image.specs.Redone.{Standing, no_space, past_end, stands, redone}
 use Rattle.clone_law.specs.Machine as machine
-use Rattle.clone_law.specs.Machine.{Copy, Engine, Flight, NoFiles, World}
+use Rattle.clone_law.specs.Machine.{Copy, PageEngine, Flight, NoFiles, PageWorld}
 use Rattle.clone_pool.specs.declared.frame.Frame.{Frame}
 use Rattle.clone_pool.specs.declared.frame.Flush.{Flush}
 use Rattle.clone_pool.specs.declared.frame.Flush.TheVariants.{Idle, Begun, Failed}
@@ -92,7 +92,7 @@ flight_of (Begun later) image = option_map (λ bytes. record { image = bytes; la
 flight_of Failed image = None
 
 -- the page as the log, the disk, its frame and its flush have it
-abbrev pub engine_with : List (List Record) → Beside → DiskImage → ℕ → ℕ → Option Frame → Engine
+abbrev pub engine_with : List (List Record) → Beside → DiskImage → ℕ → ℕ → Option Frame → PageEngine
 engine_with log beside m space number frame = record {
   log = log;
   checkpoint = beside.checkpoint;
@@ -103,17 +103,17 @@ engine_with log beside m space number frame = record {
   flight = flight_of (flush_in frame) (beside.image space number);
 }
 
-abbrev pub engine_of : Buffered → Beside → DiskImage → ℕ → ℕ → Engine
+abbrev pub engine_of : Buffered → Beside → DiskImage → ℕ → ℕ → PageEngine
 engine_of v beside m space number =
     engine_with v.log beside m space number (frame_of v.pool.frames space number)
 
 -- the page in the donor, and in a clone
-abbrev pub world_with : List (List Record) → Beside → DiskImage → ℕ → ℕ → Option Frame → World
+abbrev pub world_with : List (List Record) → Beside → DiskImage → ℕ → ℕ → Option Frame → PageWorld
 world_with log beside m space number frame = record {
   engine = engine_with log beside m space number frame;
   copy = beside.copy space number;
 }
 
-abbrev pub world_of : Buffered → Beside → DiskImage → ℕ → ℕ → World
+abbrev pub world_of : Buffered → Beside → DiskImage → ℕ → ℕ → PageWorld
 world_of v beside m space number =
     world_with v.log beside m space number (frame_of v.pool.frames space number)

@@ -6,13 +6,13 @@ use Rattle.clone_outside.specs.Disk as disk
 use Rattle.clone_outside.specs.Disk.{DiskImage, ForTold, GivesQuiet}
 use Rattle.clone_image.specs.Image.{page_of}
 use Rattle.clone_image.specs.Redone.{redone}
-use Rattle.clone_law.specs.Machine.{Engine, Allowed, HasSpace, FileRead, PageRead}
+use Rattle.clone_law.specs.Machine.{PageEngine, Allowed, HasSpace, FileRead, PageRead}
 use Rattle.clone_buffer.specs.Buffered.{Buffered, IsBuffer, image_of}
 use Rattle.clone_buffer.specs.OnePage.{Beside, engine_of, world_of}
 use Rattle.clone_buffer.specs.Keeping.{IsKept}
 
 -- no write of the page is open, and no flush of it is under way
-pub record IsClosed (e : Engine) : Type 0 where
+pub record IsClosed (e : PageEngine) : Type 0 where
   pub closed : e.writing ≡ false
   pub grounded : e.flight ≡ None
 

@@ -15,7 +15,7 @@ use Rattle.clone_image.specs.Redone.{Standing, no_space, past_end, stands, made,
 use Rattle.clone_image.specs.Replay.{first_lsn, end_of, after_log, replayed, IsSpelled}
 use Rattle.clone_image.proofs.Logs.{log_of-push, after_log-push}
 use Rattle.clone_image.proofs.Pages.{records_whole}
-use Rattle.clone_image.proofs.Redoing.{replayed_is_redone}
+use Rattle.clone_image.proofs.RedoLemmas.{replayed_is_redone}
 use Rattle.clone_image.proofs.Standings.{edited_standing, after_standing, after_record-standing}
 use Rattle.clone_contents.specs.Placed.{IsPlaced, WasPlaced}
 use Rattle.clone_contents.proofs.ImagePages.{within_space}

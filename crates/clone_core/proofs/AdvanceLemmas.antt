@@ -7,7 +7,7 @@ use Rattle.clone_outside.specs.Disk.{DiskImage, ForTold}
 use Rattle.clone_model.specs.History.{Entry, fold}
 use Rattle.clone_plain.specs.Donor as plain
 use Rattle.clone_plain.specs.Donor.{history}
-use Rattle.clone_apply.specs.Holds.{HoldsCopy}
+use Rattle.clone_staged.specs.Holds.{HoldsCopy}
 use Rattle.clone_engine.proofs.DiskLemmas.{for_told}
 use Rattle.clone_engine.specs.Disks.{DiskState, Visits}
 use Rattle.clone_events.specs.World.{IsUnderWay as Goes, HasEnded, Stop, Progress, copying, complete, broken, spent, Clone, IsSure, before_stop, completed_at, ended_by, reached, stop_by, stop_now}

@@ -13,7 +13,7 @@ use Rattle.clone_events.specs.World.{Stop, Clone, IsSure, index_in}
 use Rattle.clone_events.specs.Events.{made, counted, Sees}
 use Rattle.clone_events.proofs.BinlogLemmas.{Adds, adds_none, made_adds}
 use Rattle.clone_events.proofs.StopLemmas.{before_stop-longer}
-use Rattle.clone_apply.specs.Holds.{HoldsCopy}
+use Rattle.clone_staged.specs.Holds.{HoldsCopy}
 use Rattle.clone_session.specs.Cloning.{Cloning}
 use Rattle.clone_session.specs.CloneCalls.{Archives}
 use Rattle.clone_session.specs.Effects.{Becomes, with_noted}

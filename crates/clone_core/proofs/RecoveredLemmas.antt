@@ -10,7 +10,7 @@ use Rattle.clone_recover.specs.Restores.{Answers, ForStep, HasRecovered, IsCause
 use Rattle.clone_recover.specs.declared.recovery.Recovered.{Recovered}
 use Rattle.clone_recover.specs.declared.refusal.RecoverRefusal.{RecoverRefusal}
 use Rattle.clone_recover.specs.declared.refusal.RecoverRefusal.TheVariants.{Incomplete, Damaged, DiskFault, NoMemory}
-use Rattle.clone_apply.proofs.EndMarks.{not_both, recovered_not_under_way}
+use Rattle.clone_staged.proofs.EndMarks.{not_both, recovered_not_under_way}
 use Rattle.clone_core.specs.Showing.{ShowsRecovered}
 
 abbrev RowsRead : Type 0

@@ -5,7 +5,7 @@ use Rattle.std.specs.Option.{ForSome}
 use Rattle.clone_outside.specs.Disk.{DiskImage, ForTold, blank}
 use Rattle.clone_model.specs.History.{fold}
 use Rattle.clone_recover.specs.Restores.{IsRecoveredDisk}
-use Rattle.clone_apply.specs.Holds.{HoldsCopy}
+use Rattle.clone_staged.specs.Holds.{HoldsCopy}
 use Rattle.clone_plain.specs.Donor.{Donor, history}
 use Rattle.clone_events.specs.World.{Stop, Progress, absent, copying, complete, broken, spent, Clone, HasEnded, IsSure, before_stop}
 use Rattle.clone_session.specs.declared.info.Stop as session

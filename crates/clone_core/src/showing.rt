@@ -9,10 +9,10 @@ use crate::World;
 use crate::rows::recovered_rows;
 use crate::texts::{damage_text, recipient_fault, rows_shown};
 use crate::world::Course;
-use clone_apply::holds_laws;
 use clone_model::Value;
 use clone_outside::PageDisk;
 use clone_recover::RecoverRefusal;
+use clone_staged::holds_laws;
 use std::alloc::{AllocError, Global};
 
 // What the requester looks up, what the donor archives, and the rows of the clone.

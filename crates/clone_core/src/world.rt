@@ -68,7 +68,7 @@ pub struct World<D: PageDisk, R: PageDisk> {
 impl<D: PageDisk, R: PageDisk> Model for World<D, R> {
     ghost use Rattle.std.specs.Coded.{codes};
     ghost use Rattle.std.specs.Prelude.{is_some, ◌&&◌};
-    ghost use Rattle.clone_track.specs.Tracking.{tracking_code};
+    ghost use Rattle.clone_track.specs.TrackedPages.{tracked_pages_code};
     ghost use Rattle.clone_engine.specs.Codes.{disk_code, engine_code};
     ghost use Rattle.clone_core.specs.Codes.{begun_code};
     ghost use Rattle.clone_core.specs.Lines.{State};
@@ -76,7 +76,7 @@ impl<D: PageDisk, R: PageDisk> Model for World<D, R> {
 
     ghost Value = { State };
 
-    ghost coded = { Prim.hlevel (codes, begun_code, disk_code, engine_code, tracking_code) };
+    ghost coded = { Prim.hlevel (codes, begun_code, disk_code, engine_code, tracked_pages_code) };
 
     ghost view = { λ w. record {
       donor = record {

@@ -6,7 +6,7 @@ use Rattle.std.specs.Option.{option_map_or}
 use Rattle.clone_outside.specs.Disk.{DiskImage, ForTold}
 use Rattle.clone_mtr.specs.declared.record.Record.{Record}
 use Rattle.clone_contents.specs.Placed.{WasPlaced}
-use Rattle.clone_track.specs.Tracking.{Pages, listed}
+use Rattle.clone_track.specs.TrackedPages.{Pages, listed}
 use Rattle.clone_archive.specs.Archived.{Archived, begun, stopped}
 use Rattle.clone_ring.specs.Window.{end_of}
 use Rattle.clone_snapshot.specs.StageLists.{StageList, Files, Redo, Nothing}

@@ -4,7 +4,7 @@ use Rattle.std.specs.declared.alloc.AllocError.{AllocError}
 use Rattle.std.specs.Option.{ForSome}
 use Rattle.clone_outside.specs.Disk.{DiskImage, ForTold}
 use Rattle.clone_mtr.specs.declared.record.Record.{Record}
-use Rattle.clone_track.specs.Tracking.{Pages}
+use Rattle.clone_track.specs.TrackedPages.{Pages}
 use Rattle.clone_archive.specs.Archived.{Archived}
 use Rattle.clone_snapshot.specs.StageLists.{StageList, Files, Redo, Nothing}
 use Rattle.clone_snapshot.specs.StageLists as lists

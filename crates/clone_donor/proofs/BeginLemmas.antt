@@ -3,7 +3,7 @@ use Rattle.std.proofs.Common.{◌≡◌, ◌∙◌, ℕ, List, arith, refl, sym,
 use Rattle.std.specs.FinMap as finite
 use Rattle.clone_outside.specs.Disk.{DiskImage, ForTold}
 use Rattle.clone_archive.specs.Archived.{Archived, kept_from}
-use Rattle.clone_track.specs.Tracking.{Pages, all_noted}
+use Rattle.clone_track.specs.TrackedPages.{Pages, all_noted}
 use Rattle.clone_snapshot.specs.StageLists as lists
 use Rattle.clone_pool.specs.Pool.{AreOpenPages, IsPool}
 use Rattle.clone_buffer.specs.Buffered.{IsBuffer}

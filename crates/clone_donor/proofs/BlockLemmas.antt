@@ -11,7 +11,7 @@ use Rattle.clone_donor.specs.declared.block.BlockPage.{BlockPage}
 use Rattle.clone_donor.specs.Donor.{IsPageOf}
 use Rattle.clone_donor.specs.Copies as copies
 use Rattle.clone_donor.specs.Copies.{AreInFiles, AreInPages, with_pages}
-use Rattle.clone_track.specs.Tracking.{Pages}
+use Rattle.clone_track.specs.TrackedPages.{Pages}
 use Rattle.clone_donor.proofs.TakenPages.{MayRead, files_read, pages_read}
 use Rattle.clone_donor.proofs.ToldLemmas.{of_told}
 

@@ -2,7 +2,7 @@
 use Rattle.std.proofs.Common.{◌≡◌, ℕ, Bool, true, false, List, [], ◌∷◌, refl, sym, ap, subst, ◌∙◌, Option, None, Some, if◌then◌else◌}
 use Rattle.clone_mtr.specs.declared.record.Record.{Record}
 use Rattle.clone_image.specs.Redone.{Standing, no_space, past_end, stands, redone}
-use Rattle.clone_law.specs.Machine.{Engine, Copy, Idle, Untracked, Tracked, Copied, Stopped, World, FileRead, FilesEnded, PageRead, PagesEnded, Allowed, noted, files_ended, pages_ended}
+use Rattle.clone_law.specs.Machine.{PageEngine, Copy, Idle, Untracked, Tracked, Copied, Stopped, PageWorld, FileRead, FilesEnded, PageRead, PagesEnded, Allowed, noted, files_ended, pages_ended}
 use Rattle.clone_law.specs.Rule.{Held, Framed, Bare, EngineRule, CopyRule}
 use Rattle.clone_law.proofs.TouchLemmas.{Lax-refl}
 use Rattle.clone_law.proofs.EventLemmas.{copy_kept}
@@ -23,9 +23,9 @@ pub files_ended_copied : (tracked : Bool) (copy : Copy) (base : ℕ) → IsInFil
 files_ended_copied true copy base is = subst (λ (c : Copy). IsInPages base (files_ended base c)) (sym is) ([], refl)
 files_ended_copied false copy base is = subst (λ (c : Copy). IsInPages base (files_ended base c)) (sym is.1) (is.0, refl)
 
-module _ (space number : ℕ) (e : Engine) (r : EngineRule space number e) where
+module _ (space number : ℕ) (e : PageEngine) (r : EngineRule space number e) where
   -- the page, and what the clone has of it
-  abbrev pub beside : Copy → World
+  abbrev pub beside : Copy → PageWorld
   beside copy = record { engine = e; copy = copy }
 
   abbrev Kept : Copy → Type 0

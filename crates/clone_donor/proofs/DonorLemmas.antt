@@ -5,7 +5,7 @@ use Rattle.std.specs.Option.{ForSome}
 use Rattle.clone_outside.specs.Disk.{ForTold}
 use Rattle.clone_mtr.specs.declared.record.Record.{Record}
 use Rattle.clone_archive.specs.Archived.{Archived, kept_from}
-use Rattle.clone_track.specs.Tracking.{Pages}
+use Rattle.clone_track.specs.TrackedPages.{Pages}
 use Rattle.clone_buffer.specs.Buffered.{IsBuffer}
 use Rattle.clone_flush.specs.Calls.{needed_from}
 use Rattle.clone_session.specs.Cloning.{Cloning}

@@ -4,7 +4,7 @@ use Rattle.clone_outside.specs.Disk.{ForTold}
 use Rattle.clone_mtr.specs.declared.record.Record.{Record}
 use Rattle.clone_pool.specs.declared.frame.PageName.{PageName}
 use Rattle.clone_pool.specs.Pool.{IsPool}
-use Rattle.clone_track.specs.Tracking.{Pages, noted}
+use Rattle.clone_track.specs.TrackedPages.{Pages, noted}
 use Rattle.clone_buffer.specs.Buffered.{IsBuffer}
 use Rattle.clone_buffer.specs.Flushing.{with_noted as with_noted_page}
 use Rattle.clone_buffer.specs.OnePage.{no_copies}

@@ -6,7 +6,7 @@ use Rattle.clone_base.proofs.Lists.{All-push}
 use Rattle.std.specs.Option.{ForSome}
 use Rattle.std.proofs.lemmas.List.{map-append, take_more}
 use Rattle.clone_outside.specs.Disk.{ForTold}
-use Rattle.clone_track.specs.Tracking.{Pages}
+use Rattle.clone_track.specs.TrackedPages.{Pages}
 use Rattle.clone_archive.specs.Archived.{Archived, kept_from}
 use Rattle.clone_flush.specs.Calls.{needed_from}
 use Rattle.clone_snapshot.specs.StageLists.{StageList}

@@ -15,7 +15,7 @@ use Rattle.std.proofs.lemmas.Bool.Decides.{eqb_tells}
 use Rattle.std.proofs.lemmas.List.Sums.{sum_by-le}
 use Rattle.std.proofs.lemmas.List.Elements.{All-nil, All-cons}
 use Rattle.clone_image.specs.Redone.{no_space, redone, standing_in}
-use Rattle.clone_image.proofs.Redoing.{replayed_is_redone}
+use Rattle.clone_image.proofs.RedoLemmas.{replayed_is_redone}
 use Rattle.clone_buffer.specs.Buffered.{IsBuffer, image_of}
 use Rattle.clone_flush.specs.Flights.{Files}
 use Rattle.clone_trx.specs.Kept.{IsSafe}

@@ -2,7 +2,7 @@
 use Rattle.std.proofs.Common.{◌≡◌, ◌∙◌, List, refl, sym, subst, Option, Some, None}
 use Rattle.clone_outside.specs.Disk.{DiskImage, ForTold}
 use Rattle.clone_mtr.specs.declared.record.Record.{Record}
-use Rattle.clone_track.specs.Tracking.{Pages}
+use Rattle.clone_track.specs.TrackedPages.{Pages}
 use Rattle.clone_buffer.specs.OnePage.{no_copies}
 use Rattle.clone_flush.specs.Flights.{IsFlown}
 use Rattle.clone_session.specs.Cloning.{Cloning}

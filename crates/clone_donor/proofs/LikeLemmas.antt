@@ -1,7 +1,7 @@
 -- A donor whose clone has changed in its room, its chunks or its caller alone, and that goes on.
 use Rattle.std.proofs.Common.{◌≡◌, ◌∙◌, ℕ, refl, sym, ap, subst, Option, Some, None, Result, Ok, Err}
 use Rattle.clone_outside.specs.Disk.{ForTold}
-use Rattle.clone_track.specs.Tracking.{Pages}
+use Rattle.clone_track.specs.TrackedPages.{Pages}
 use Rattle.clone_archive.specs.Archived.{Archived, kept_from}
 use Rattle.clone_flush.specs.Calls.{needed_from}
 use Rattle.clone_session.specs.declared.caller.Caller.{Caller}

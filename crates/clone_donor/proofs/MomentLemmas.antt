@@ -24,9 +24,9 @@ use Rattle.clone_recover.specs.Reading.{redo_of}
 use Rattle.clone_trx.specs.Sound.{IsKept}
 use Rattle.clone_archive.specs.Archived.{Archived, archived_of}
 use Rattle.clone_snapshot.specs.StageLists.{StageList, Files, Pages, Redo, Nothing}
-use Rattle.clone_apply.specs.Staged.{IsStaged}
-use Rattle.clone_apply.proofs.HeldCopies.{staged_holds}
-use Rattle.clone_apply.proofs.PlacedPages.{may_start}
+use Rattle.clone_staged.specs.Staged.{IsStaged}
+use Rattle.clone_staged.proofs.HeldCopies.{staged_holds}
+use Rattle.clone_staged.proofs.PlacedPages.{may_start}
 use Rattle.clone_session.specs.Cloning.{Cloning, Session, IsCloning, IsInSession, IsInStage}
 use Rattle.clone_donor.specs.Acts.{Act, Runs, after_act}
 use Rattle.clone_donor.specs.Archives.{IsOfLog}

@@ -6,7 +6,7 @@ use Rattle.clone_mtr.specs.declared.record.Record.{Record}
 use Rattle.clone_pool.specs.declared.frame.PageName.{PageName}
 use Rattle.clone_pool.specs.Index.{is_same}
 use Rattle.clone_pool.specs.Pool.{IsPool}
-use Rattle.clone_track.specs.Tracking.{Pages, noted}
+use Rattle.clone_track.specs.TrackedPages.{Pages, noted}
 use Rattle.clone_archive.specs.Archived.{Archived}
 use Rattle.clone_snapshot.specs.StageLists.{StageList, Files, Redo, Nothing}
 use Rattle.clone_snapshot.specs.StageLists as lists

@@ -11,7 +11,7 @@ use Rattle.std.proofs.lemmas.Map.Views.{Contains-from_any, list_any-from_Contain
 use Rattle.clone_base.proofs.MapEntries.{is_equal}
 use Rattle.clone_model.specs.Keys.{row_cmp}
 use Rattle.clone_model.proofs.RowMaps.{row_cmp_exact, row_cmp_total}
-use Rattle.clone_track.specs.Tracking.{Pages, all_noted, listed}
+use Rattle.clone_track.specs.TrackedPages.{Pages, all_noted, listed}
 use Rattle.clone_engine.specs.Engine.{Engine}
 use Rattle.clone_donor.specs.Copies.{is_noted}
 use Rattle.clone_donor.specs.Donor.{ArePages, IsPageOf, NotesPages}

@@ -5,7 +5,7 @@ use Rattle.clone_pool.specs.declared.frame.PageName.{PageName}
 use Rattle.clone_pool.specs.Frames.{counts_as_open, frame_at, is_fresh, name_of, open_page}
 use Rattle.clone_pool.specs.Pool.{AreOpenPages, IsFrame, IsPool}
 use Rattle.clone_buffer.specs.Buffered.{Buffered, IsBuffer}
-use Rattle.clone_track.specs.Tracking.{all_noted}
+use Rattle.clone_track.specs.TrackedPages.{all_noted}
 use Rattle.std.specs.FinMap as finite
 use Rattle.clone_engine.specs.Engine.{Engine}
 use Rattle.clone_engine.proofs.PageLemmas.{in_image}

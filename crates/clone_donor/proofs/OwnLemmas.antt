@@ -8,7 +8,7 @@ use Rattle.clone_image.specs.Image.{page_of}
 use Rattle.clone_image.specs.Replay.{replayed}
 use Rattle.clone_buffer.specs.OnePage.{no_copies}
 use Rattle.clone_flush.specs.Flights.{Files, IsFlown}
-use Rattle.clone_track.specs.Tracking.{Pages}
+use Rattle.clone_track.specs.TrackedPages.{Pages}
 use Rattle.clone_snapshot.specs.StageLists.{StageList, Redo, Nothing}
 use Rattle.clone_snapshot.specs.StageLists as lists
 use Rattle.clone_engine.specs.Engine.{Engine, IsEngine}

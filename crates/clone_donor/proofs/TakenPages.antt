@@ -11,7 +11,7 @@ use Rattle.clone_outside.specs.Disk.{DiskImage}
 use Rattle.clone_mtr.specs.declared.record.Record.{Record}
 use Rattle.clone_image.specs.Redone.{no_space, stands, redone}
 use Rattle.clone_law.specs.Machine as machine
-use Rattle.clone_law.specs.Machine.{Engine, Copy, Idle, FileRead, PageRead, Allowed}
+use Rattle.clone_law.specs.Machine.{PageEngine, Copy, Idle, FileRead, PageRead, Allowed}
 use Rattle.clone_law.specs.Rule.{EngineRule, CopyRule}
 use Rattle.clone_model.specs.Keys.{row_cmp}
 use Rattle.clone_model.proofs.RowMaps.{row_cmp_total}
@@ -22,14 +22,14 @@ use Rattle.clone_buffer.specs.Flushing.{with_noted}
 use Rattle.clone_buffer.specs.OnePage.{Copies, no_copies, engine_of}
 use Rattle.clone_buffer.proofs.LawLemmas.{copy_keeps}
 use Rattle.clone_flush.specs.Flights.{Flights, IsFlown, beside_of, beyond}
-use Rattle.clone_track.specs.Tracking.{Pages, noted}
+use Rattle.clone_track.specs.TrackedPages.{Pages, noted}
 use Rattle.clone_donor.specs.Copies as copies
 use Rattle.clone_donor.specs.Copies.{IsInFiles, AreInFiles, AreInPages, AreStopped, is_noted, answered, with_page, with_pages, first_copies, first_starts, files_over, pages_over}
 use Rattle.clone_donor.proofs.CopyEvents.{IsInPages, noted_in_files, files_ended_copied, pages_ended_stopped, file_answered, page_answered, files_ended_rule, pages_ended_rule, first_rule, first_in_files}
 
 module _ (b : Buffered) (f : Flights) (m : DiskImage) where
   -- the page in the donor, whatever a clone has of it
-  abbrev pub engine_at : ℕ → ℕ → Engine
+  abbrev pub engine_at : ℕ → ℕ → PageEngine
   engine_at space number = engine_of b (beside_of f no_copies) m space number
 
   abbrev Flown : Copies → Type 0

@@ -8,7 +8,7 @@ use Rattle.clone_law.specs.Machine as machine
 use Rattle.clone_law.specs.Machine.{Copy, file_read, page_read}
 use Rattle.clone_buffer.specs.OnePage.{Copies}
 use Rattle.clone_flush.specs.Flights.{Files, ends_before}
-use Rattle.clone_track.specs.Tracking.{Pages}
+use Rattle.clone_track.specs.TrackedPages.{Pages}
 
 -- the page was noted, while pages are tracked
 abbrev pub is_noted : Option Pages → ℕ → ℕ → Bool

@@ -7,7 +7,7 @@ use Rattle.std.specs.List.{AllByRecursion}
 use Rattle.clone_outside.specs.Disk.{ForTold}
 use Rattle.clone_image.specs.Image.{page_of}
 use Rattle.clone_contents.specs.Placed.{WasPlaced}
-use Rattle.clone_track.specs.Tracking.{Pages}
+use Rattle.clone_track.specs.TrackedPages.{Pages}
 use Rattle.clone_archive.specs.Archived.{kept_from}
 use Rattle.clone_snapshot.specs.StageLists as lists
 use Rattle.clone_snapshot.specs.StageLists.{StageList}

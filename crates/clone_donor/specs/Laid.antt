@@ -11,8 +11,8 @@ use Rattle.clone_overlay.specs.Images.{redo_space, image_of, IsQuiet}
 use Rattle.clone_recover.specs.Reading.{redo_of}
 use Rattle.clone_model.specs.History.{fold}
 use Rattle.clone_plain.specs.Donor.{history}
-use Rattle.clone_apply.specs.Staged.{completed}
-use Rattle.clone_apply.specs.Holds.{HoldsCopy}
+use Rattle.clone_staged.specs.Staged.{completed}
+use Rattle.clone_staged.specs.Holds.{HoldsCopy}
 use Rattle.clone_session.specs.declared.info.Stop.{Stop}
 use Rattle.clone_engine.specs.Engine.{Engine}
 use Rattle.clone_donor.specs.Donor.{Donor}

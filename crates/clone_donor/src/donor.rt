@@ -37,13 +37,13 @@ pub struct Donor<D: PageDisk> {
 
 impl<D: PageDisk> Model for Donor<D> {
     ghost use Rattle.std.specs.Coded.{codes};
-    ghost use Rattle.clone_track.specs.Tracking.{tracking_code};
+    ghost use Rattle.clone_track.specs.TrackedPages.{tracked_pages_code};
     ghost use Rattle.clone_engine.specs.Codes.{engine_code};
     ghost use Rattle.clone_donor.specs.Donor.{Donor, IsDonor};
 
     ghost Value = { Donor };
 
-    ghost coded = { Prim.hlevel (codes, engine_code, tracking_code) };
+    ghost coded = { Prim.hlevel (codes, engine_code, tracked_pages_code) };
 
     ghost view = { λ d. record { engine = d.engine; cloning = d.cloning } };
 

@@ -27,7 +27,7 @@ use Rattle.clone_flush.specs.Flights.{Files}
 use Rattle.clone_contents.specs.Records.{system_size}
 use Rattle.clone_model.specs.declared.line.TheConstants.{MOST_PAGES}
 use Rattle.clone_image.specs.Redone.{redone, standing_at, standing_in}
-use Rattle.clone_image.proofs.Redoing.{replayed_is_redone}
+use Rattle.clone_image.proofs.RedoLemmas.{replayed_is_redone}
 use Rattle.clone_law.specs.Machine.{HasSpace}
 use Rattle.clone_buffer.proofs.ImageLemmas.{below_count}
 use Rattle.clone_engine.specs.Engine.{AreOfDonor}

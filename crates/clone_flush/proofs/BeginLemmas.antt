@@ -9,7 +9,7 @@ use Rattle.clone_model.specs.declared.line.TheConstants.{MOST_PAGES}
 use Rattle.clone_outside.specs.Disk as disk
 use Rattle.clone_outside.specs.Disk.{DiskImage, ForTold, IsBeforeOrAfter}
 use Rattle.clone_law.specs.Machine as machine
-use Rattle.clone_law.specs.Machine.{Copy, Engine, Idle, Untracked, Tracked, Copied, Stopped}
+use Rattle.clone_law.specs.Machine.{Copy, PageEngine, Idle, Untracked, Tracked, Copied, Stopped}
 use Rattle.clone_law.specs.Rule.{CopyRule}
 use Rattle.clone_pool.specs.Frames.{frame_at, name_of, no_frame, is_waiting, begun, failed}
 use Rattle.clone_pool.specs.Index.{is_name_of}
@@ -83,7 +83,7 @@ module _ (b : Buffered) (f : Flights) (copies : Copies) (m : DiskImage) (k : IsF
   flown_fault page at c d waits = record { kept = fault_keeps b (beside_of f copies) m page at c d waits k.kept; there = k.there; floor = k.floor }
 
   -- what a clone has of each page, once a page of it is noted
-  noted_rule : (space number : ℕ) (e : Engine) (copy : Copy) → CopyRule space number e copy → CopyRule space number e (machine.noted copy)
+  noted_rule : (space number : ℕ) (e : PageEngine) (copy : Copy) → CopyRule space number e copy → CopyRule space number e (machine.noted copy)
   noted_rule space number e Idle rule = tt
   noted_rule space number e (Untracked starts) rule = tt
   noted_rule space number e Tracked rule = tt
@@ -96,7 +96,7 @@ module _ (b : Buffered) (f : Flights) (copies : Copies) (m : DiskImage) (k : IsF
       rule : (space number : ℕ) → CopyRule space number (engine_of b (beside_of f copies) m space number) (with_noted page copies space number)
       rule space number = by (is_name_of page (Some (record { space = space; number = number })))
         where
-          e : Engine
+          e : PageEngine
           e = engine_of b (beside_of f copies) m space number
 
           had : CopyRule space number e (copies space number)

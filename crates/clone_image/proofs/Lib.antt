@@ -1,8 +1,8 @@
 pub mod Records
-pub mod Adding
-pub mod Shown
+pub mod RowMapLemmas
+pub mod ImageRowLemmas
 pub mod Images
 pub mod Logs
 pub mod Pages
 pub mod Standings
-pub mod Redoing
+pub mod RedoLemmas

@@ -20,7 +20,7 @@ use Rattle.clone_image.specs.Rows.{HoldsSlots, HoldsRow, HasRows}
 use Rattle.clone_image.proofs.Images.{page_of-edited_same, page_of-edited_other}
 use Rattle.clone_image.specs.Redone.{redone_from}
 use Rattle.clone_image.specs.Replay.{replayed}
-use Rattle.clone_image.proofs.Redoing.{replayed_is_redone}
+use Rattle.clone_image.proofs.RedoLemmas.{replayed_is_redone}
 use Rattle.clone_mtr.specs.declared.record.Record.{Record}
 use Rattle.clone_law.specs.Laws.{IsLaid}
 use Rattle.clone_law.specs.Touches.{Lax}

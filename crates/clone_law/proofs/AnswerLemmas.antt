@@ -3,7 +3,7 @@ use Rattle.std.proofs.Common.{◌≡◌, ℕ, true, List, [], ◌∷◌, subst, 
 use Rattle.std.specs.List.{AllByRecursion}
 use Rattle.std.proofs.lemmas.Bool.{false≢true}
 use Rattle.clone_image.specs.Redone.{Standing}
-use Rattle.clone_law.specs.Machine.{Copy, Idle, Untracked, Tracked, Copied, Stopped, World, Event, Created, Begun, Failed, Started, FileRead, FilesEnded, PageRead, PagesEnded, Left, noted, created, file_read, files_ended, page_read, pages_ended, happens, Runs}
+use Rattle.clone_law.specs.Machine.{Copy, Idle, Untracked, Tracked, Copied, Stopped, PageWorld, Event, Created, Begun, Failed, Started, FileRead, FilesEnded, PageRead, PagesEnded, Left, noted, created, file_read, files_ended, page_read, pages_ended, happens, Runs}
 use Rattle.clone_law.specs.Starts.{HasStart, HasCopied, InSession, InCalm}
 
 read_keeps : (bytes : List ℕ) (c : Copy) (u : Standing) → HasStart c u → HasStart (file_read bytes c) u
@@ -42,14 +42,14 @@ page_copied bytes (Copied base starts) u has = inr has
 page_copied bytes (Stopped base log starts) u has = has
 
 module _ (space number : ℕ) (u : Standing) where
-  ends_keep : (w : World) (c : Copy) → HasStart c u → HasStart (pages_ended w.engine.log c) u
+  ends_keep : (w : PageWorld) (c : Copy) → HasStart c u → HasStart (pages_ended w.engine.log c) u
   ends_keep w Idle has = has
   ends_keep w (Untracked starts) has = has
   ends_keep w Tracked has = has
   ends_keep w (Copied base starts) has = has
   ends_keep w (Stopped base log starts) has = has
 
-  ends_copied : (w : World) (c : Copy) → HasCopied c u → HasCopied (pages_ended w.engine.log c) u
+  ends_copied : (w : PageWorld) (c : Copy) → HasCopied c u → HasCopied (pages_ended w.engine.log c) u
   ends_copied w Idle has = has
   ends_copied w (Untracked starts) has = absurd has
   ends_copied w Tracked has = has
@@ -80,7 +80,7 @@ module _ (space number : ℕ) (u : Standing) where
   read_copied bytes (Copied base starts) has = has
   read_copied bytes (Stopped base log starts) has = has
 
-  calm_step : (w : World) (e : Event) → InCalm e ≡ true → HasStart w.copy u → HasStart (happens space number w e).copy u
+  calm_step : (w : PageWorld) (e : Event) → InCalm e ≡ true → HasStart w.copy u → HasStart (happens space number w e).copy u
   calm_step w (Created m) calm has = absurd (false≢true calm)
   calm_step w (Begun bytes) calm has = absurd (false≢true calm)
   calm_step w (Failed disk) calm has = absurd (false≢true calm)
@@ -92,7 +92,7 @@ module _ (space number : ℕ) (u : Standing) where
   calm_step w PagesEnded calm has = ends_keep w w.copy has
   calm_step w _ calm has = has
 
-  session_step : (w : World) (e : Event) → InSession e ≡ true → HasCopied w.copy u → HasCopied (happens space number w e).copy u
+  session_step : (w : PageWorld) (e : Event) → InSession e ≡ true → HasCopied w.copy u → HasCopied (happens space number w e).copy u
   session_step w (Started listed) inside has = absurd (false≢true inside)
   session_step w Left inside has = absurd (false≢true inside)
   session_step w (Created m) inside has = created_copied _ w.copy has
@@ -104,10 +104,10 @@ module _ (space number : ℕ) (u : Standing) where
   session_step w PagesEnded inside has = ends_copied w w.copy has
   session_step w _ inside has = has
 
-  pub calm_keeps : (w v : World) (es : List Event) → Runs space number w es v → AllByRecursion (λ e. InCalm e ≡ true) es → HasStart w.copy u → HasStart v.copy u
-  calm_keeps w v [] run calm has = subst (λ (x : World). HasStart x.copy u) run has
+  pub calm_keeps : (w v : PageWorld) (es : List Event) → Runs space number w es v → AllByRecursion (λ e. InCalm e ≡ true) es → HasStart w.copy u → HasStart v.copy u
+  calm_keeps w v [] run calm has = subst (λ (x : PageWorld). HasStart x.copy u) run has
   calm_keeps w v (e ∷ es) run calm has = calm_keeps (happens space number w e) v es run.1 calm.1 (calm_step w e calm.0 has)
 
-  pub session_keeps : (w v : World) (es : List Event) → Runs space number w es v → AllByRecursion (λ e. InSession e ≡ true) es → HasCopied w.copy u → HasCopied v.copy u
-  session_keeps w v [] run inside has = subst (λ (x : World). HasCopied x.copy u) run has
+  pub session_keeps : (w v : PageWorld) (es : List Event) → Runs space number w es v → AllByRecursion (λ e. InSession e ≡ true) es → HasCopied w.copy u → HasCopied v.copy u
+  session_keeps w v [] run inside has = subst (λ (x : PageWorld). HasCopied x.copy u) run has
   session_keeps w v (e ∷ es) run inside has = session_keeps (happens space number w e) v es run.1 inside.1 (session_step w e inside.0 has)

@@ -10,7 +10,7 @@ use Rattle.clone_image.specs.Redone.{Standing, no_space, past_end, stands, redon
 use Rattle.clone_image.proofs.Logs.{log_of-push, log_of-append}
 use Rattle.clone_law.specs.Touches.{Lax}
 use Rattle.clone_law.specs.Since.{ends, Since, IsAt, Suits, AllFit}
-use Rattle.clone_law.specs.Machine.{Flight, Engine, Copy, Idle, Untracked, Tracked, Copied, Stopped, World, Event, Passed, Changed, Created, Opened, Dropped, Fetched, Evicted, Begun, Lengthened, Half, Landed, Failed, Checkpointed, Started, FileRead, FilesEnded, PageRead, PagesEnded, Left, first_of, dirtied, landed, outside, noted, started, created, file_read, files_ended, page_read, pages_ended, happens, HasSpace, Stands, NoFiles, AtMost, Allowed, Runs, nothing}
+use Rattle.clone_law.specs.Machine.{Flight, PageEngine, Copy, Idle, Untracked, Tracked, Copied, Stopped, PageWorld, Event, Passed, Changed, Created, Opened, Dropped, Fetched, Evicted, Begun, Lengthened, Half, Landed, Failed, Checkpointed, Started, FileRead, FilesEnded, PageRead, PagesEnded, Left, first_of, dirtied, landed, outside, noted, started, created, file_read, files_ended, page_read, pages_ended, happens, HasSpace, Stands, NoFiles, AtMost, Allowed, Runs, nothing}
 use Rattle.clone_law.specs.Rule.{Held, Framed, Flying, Bare, IsLater, InOrder, EngineRule, CopyRule, Rule}
 use Rattle.clone_law.specs.Starts.{Gives, IsStart}
 use Rattle.clone_law.proofs.TouchLemmas.{Lax-refl, Lax-same}
@@ -127,7 +127,7 @@ dirtied_none : (at : ℕ) (flight : Option Flight) → flight ≡ None → dirti
 dirtied_none at flight is = ap (dirtied at) is
 
 module _ (space number : ℕ) where
-  copy_passed : (e : Engine) (m : List Record) (copy : Copy) → redone space number (e.log ++ m ∷ []) ≡ redone space number e.log → CopyRule space number e copy → CopyRule space number (record e { log = e.log ++ m ∷ [] }) copy
+  copy_passed : (e : PageEngine) (m : List Record) (copy : Copy) → redone space number (e.log ++ m ∷ []) ≡ redone space number e.log → CopyRule space number e copy → CopyRule space number (record e { log = e.log ++ m ∷ [] }) copy
   copy_passed e m Idle same rule = tt
   copy_passed e m (Untracked starts) same rule =
       (rule.0, rule.1, all_map (λ s. Held space number e.oldest s e.log) (λ s. Held space number e.oldest s (e.log ++ m ∷ [])) starts (λ s held. held_passed space number e.oldest s e.log m same held) rule.2)
@@ -135,7 +135,7 @@ module _ (space number : ℕ) where
   copy_passed e m (Copied base starts) same rule = copy_longer space number e.log m base starts rule
   copy_passed e m (Stopped base log starts) same rule = rule
 
-  copy_changed : (e : Engine) (m : List Record) (frame : Option (List ℕ)) (copy : Copy) → CopyRule space number e copy
+  copy_changed : (e : PageEngine) (m : List Record) (frame : Option (List ℕ)) (copy : Copy) → CopyRule space number e copy
       → CopyRule space number (record e { log = e.log ++ m ∷ []; frame = frame; oldest = first_of (ends e.log) e.oldest; flight = dirtied (ends e.log) e.flight }) copy
   copy_changed e m frame Idle rule = tt
   copy_changed e m frame (Untracked starts) rule =
@@ -145,7 +145,7 @@ module _ (space number : ℕ) where
   copy_changed e m frame (Stopped base log starts) rule = rule
 
   -- any other change of the engine, with a log that is longer
-  copy_reset : (e new : Engine) (m : List Record) (copy : Copy) → new.log ≡ e.log ++ m ∷ [] → NoFiles copy → CopyRule space number e copy → CopyRule space number new copy
+  copy_reset : (e new : PageEngine) (m : List Record) (copy : Copy) → new.log ≡ e.log ++ m ∷ [] → NoFiles copy → CopyRule space number e copy → CopyRule space number new copy
   copy_reset e new m Idle same calm rule = tt
   copy_reset e new m (Untracked starts) same calm rule = absurd calm
   copy_reset e new m Tracked same calm rule = tt
@@ -153,7 +153,7 @@ module _ (space number : ℕ) where
       subst (λ (l : List (List Record)). IsAt base l × AllByRecursion (λ s. Since space number base s l) starts) (sym same) (copy_longer space number e.log m base starts rule)
   copy_reset e new m (Stopped base log starts) same calm rule = rule
 
-  copy_created : (e new : Engine) (m : List Record) (copy : Copy) (v : Standing) → new.log ≡ e.log ++ m ∷ [] → new.writing ≡ false → new.flight ≡ None → Held space number new.oldest v new.log → CopyRule space number e copy
+  copy_created : (e new : PageEngine) (m : List Record) (copy : Copy) (v : Standing) → new.log ≡ e.log ++ m ∷ [] → new.writing ≡ false → new.flight ≡ None → Held space number new.oldest v new.log → CopyRule space number e copy
       → CopyRule space number new (created v copy)
   copy_created e new m Idle v same closed none held rule = tt
   copy_created e new m (Untracked starts) v same closed none held rule = (closed, none, (held, tt))
@@ -162,7 +162,7 @@ module _ (space number : ℕ) where
   copy_created e new m (Stopped base log starts) v same closed none held rule = rule
 
   -- the tracker noted the page
-  copy_noted : (e new : Engine) (copy : Copy) → new.log ≡ e.log → CopyRule space number e copy → CopyRule space number new (noted copy)
+  copy_noted : (e new : PageEngine) (copy : Copy) → new.log ≡ e.log → CopyRule space number e copy → CopyRule space number new (noted copy)
   copy_noted e new Idle same rule = tt
   copy_noted e new (Untracked starts) same rule = tt
   copy_noted e new Tracked same rule = tt
@@ -170,7 +170,7 @@ module _ (space number : ℕ) where
   copy_noted e new (Stopped base log starts) same rule = rule
 
   -- no change of the log and of the oldest modification, nor, while the page isn't tracked, of its write
-  copy_same : (e new : Engine) (copy : Copy) → new.log ≡ e.log → new.oldest ≡ e.oldest → (e.writing ≡ false → e.flight ≡ None → (new.writing ≡ false) × (new.flight ≡ None)) → CopyRule space number e copy → CopyRule space number new copy
+  copy_same : (e new : PageEngine) (copy : Copy) → new.log ≡ e.log → new.oldest ≡ e.oldest → (e.writing ≡ false → e.flight ≡ None → (new.writing ≡ false) × (new.flight ≡ None)) → CopyRule space number e copy → CopyRule space number new copy
   copy_same e new Idle same old calm rule = tt
   copy_same e new (Untracked starts) same old calm rule =
       let c = calm rule.0 rule.1 in
@@ -181,7 +181,7 @@ module _ (space number : ℕ) where
 
   -- the engine's events
 
-  passed : (e : Engine) (m : List Record) → EngineRule space number e → Suits space number e.log m → redone space number (e.log ++ m ∷ []) ≡ redone space number e.log → EngineRule space number (record e { log = e.log ++ m ∷ [] })
+  passed : (e : PageEngine) (m : List Record) → EngineRule space number e → Suits space number e.log m → redone space number (e.log ++ m ∷ []) ≡ redone space number e.log → EngineRule space number (record e { log = e.log ++ m ∷ [] })
   passed e m r suits same = record {
     fits = fits_push space number e.log m r.fits suits;
     framed = subst (λ (v : Standing). Framed e.frame v) (sym same) r.framed;
@@ -193,7 +193,7 @@ module _ (space number : ℕ) where
     aligned = at_longer e.checkpoint e.log m r.aligned;
   }
 
-  changed : (e : Engine) (m : List Record) (bytes : List ℕ) → EngineRule space number e → Suits space number e.log m → redone space number (e.log ++ m ∷ []) ≡ stands bytes → HasSpace (redone space number e.log)
+  changed : (e : PageEngine) (m : List Record) (bytes : List ℕ) → EngineRule space number e → Suits space number e.log m → redone space number (e.log ++ m ∷ []) ≡ stands bytes → HasSpace (redone space number e.log)
       → EngineRule space number (record e { log = e.log ++ m ∷ []; frame = Some bytes; oldest = first_of (ends e.log) e.oldest; flight = dirtied (ends e.log) e.flight })
   changed e m bytes r suits now has = record {
     fits = fits_push space number e.log m r.fits suits;
@@ -206,10 +206,10 @@ module _ (space number : ℕ) where
     aligned = at_longer e.checkpoint e.log m r.aligned;
   }
 
-  at_end : (e : Engine) (m : List Record) → EngineRule space number e → e.checkpoint ≤ ends (e.log ++ m ∷ [])
+  at_end : (e : PageEngine) (m : List Record) → EngineRule space number e → e.checkpoint ≤ ends (e.log ++ m ∷ [])
   at_end e m r = omega (arith, at_low e.checkpoint e.log r.aligned, ends-push e.log m)
 
-  made : (e : Engine) (m : List Record) → EngineRule space number e → Suits space number e.log m
+  made : (e : PageEngine) (m : List Record) → EngineRule space number e → Suits space number e.log m
       → EngineRule space number (record e { log = e.log ++ m ∷ []; disk = redone space number (e.log ++ m ∷ []); writing = false; frame = None; oldest = None; flight = None })
   made e m r suits = record {
     fits = fits_push space number e.log m r.fits suits;
@@ -222,7 +222,7 @@ module _ (space number : ℕ) where
     aligned = at_longer e.checkpoint e.log m r.aligned;
   }
 
-  opened : (e : Engine) (m : List Record) (bytes : List ℕ) → EngineRule space number e → Suits space number e.log m → redone space number (e.log ++ m ∷ []) ≡ stands bytes → redone space number e.log ≡ no_space
+  opened : (e : PageEngine) (m : List Record) (bytes : List ℕ) → EngineRule space number e → Suits space number e.log m → redone space number (e.log ++ m ∷ []) ≡ stands bytes → redone space number e.log ≡ no_space
       → EngineRule space number (record e { log = e.log ++ m ∷ []; disk = stands zero_page; writing = false; frame = Some bytes; oldest = Some (ends e.log); flight = None })
   opened e m bytes r suits now none = record {
     fits = fits_push space number e.log m r.fits suits;
@@ -235,7 +235,7 @@ module _ (space number : ℕ) where
     aligned = at_longer e.checkpoint e.log m r.aligned;
   }
 
-  dropped : (e : Engine) (m : List Record) (disk : Standing) → EngineRule space number e → Suits space number e.log m → redone space number (e.log ++ m ∷ []) ≡ no_space
+  dropped : (e : PageEngine) (m : List Record) (disk : Standing) → EngineRule space number e → Suits space number e.log m → redone space number (e.log ++ m ∷ []) ≡ no_space
       → EngineRule space number (record e { log = e.log ++ m ∷ []; disk = disk; writing = false; frame = None; oldest = None; flight = None })
   dropped e m disk r suits none = record {
     fits = fits_push space number e.log m r.fits suits;
@@ -249,7 +249,7 @@ module _ (space number : ℕ) where
   }
 
   -- a page without a frame is the disk's
-  on_disk : (e : Engine) (bytes : List ℕ) → EngineRule space number e → e.frame ≡ None → e.disk ≡ stands bytes → HasSpace (redone space number e.log) → Lax (stands bytes) (redone space number e.log)
+  on_disk : (e : PageEngine) (bytes : List ℕ) → EngineRule space number e → e.frame ≡ None → e.disk ≡ stands bytes → HasSpace (redone space number e.log) → Lax (stands bytes) (redone space number e.log)
   on_disk e bytes r bare disk has =
       let b = subst (λ (f : Option (List ℕ)). Bare f e.writing e.oldest e.flight) bare r.bare in
       let held = subst (λ (o : Option ℕ). Held space number o e.disk e.log) b.1 (r.quiet b.0 has) in
@@ -265,7 +265,7 @@ module _ (space number : ℕ) where
   space_of_standing past_end is = tt
   space_of_standing (stands page) is = tt
 
-  fetched : (e : Engine) (bytes : List ℕ) → EngineRule space number e → e.frame ≡ None → e.disk ≡ stands bytes → Stands (redone space number e.log) → EngineRule space number (record e { frame = Some bytes })
+  fetched : (e : PageEngine) (bytes : List ℕ) → EngineRule space number e → e.frame ≡ None → e.disk ≡ stands bytes → Stands (redone space number e.log) → EngineRule space number (record e { frame = Some bytes })
   fetched e bytes r bare disk is = record {
     fits = r.fits;
     framed = stood bytes (redone space number e.log) is (on_disk e bytes r bare disk (space_of_standing _ is));
@@ -277,13 +277,13 @@ module _ (space number : ℕ) where
     aligned = r.aligned;
   }
 
-  evicted : (e : Engine) → EngineRule space number e → e.writing ≡ false → e.oldest ≡ None → e.flight ≡ None → EngineRule space number (record e { frame = None })
+  evicted : (e : PageEngine) → EngineRule space number e → e.writing ≡ false → e.oldest ≡ None → e.flight ≡ None → EngineRule space number (record e { frame = None })
   evicted e r closed clean none = record { fits = r.fits; framed = tt; quiet = r.quiet; flying = r.flying; bare = (closed, clean, none); order = r.order; low = r.low; aligned = r.aligned }
 
-  bare_flight : (e : Engine) (flight : Option Flight) (writing : Bool) (bytes : List ℕ) → e.frame ≡ Some bytes → Bare e.frame writing e.oldest flight
+  bare_flight : (e : PageEngine) (flight : Option Flight) (writing : Bool) (bytes : List ℕ) → e.frame ≡ Some bytes → Bare e.frame writing e.oldest flight
   bare_flight e flight writing bytes framed = subst (λ (f : Option (List ℕ)). Bare f writing e.oldest flight) (sym framed) tt
 
-  begun : (e : Engine) (bytes : List ℕ) → EngineRule space number e → e.frame ≡ Some bytes → EngineRule space number (record e { flight = Some (record { image = bytes; later = None }) })
+  begun : (e : PageEngine) (bytes : List ℕ) → EngineRule space number e → e.frame ≡ Some bytes → EngineRule space number (record e { flight = Some (record { image = bytes; later = None }) })
   begun e bytes r framed = record {
     fits = r.fits;
     framed = r.framed;
@@ -298,7 +298,7 @@ module _ (space number : ℕ) where
   zero_lax : (v : Standing) → v ≡ past_end → Lax (stands zero_page) v
   zero_lax v is = subst (λ (x : Standing). Lax (stands zero_page) x) (sym is) refl
 
-  lengthened : (e : Engine) → EngineRule space number e → e.disk ≡ past_end → EngineRule space number (record e { disk = stands zero_page })
+  lengthened : (e : PageEngine) → EngineRule space number e → e.disk ≡ past_end → EngineRule space number (record e { disk = stands zero_page })
   lengthened e r past = record {
     fits = r.fits;
     framed = r.framed;
@@ -311,14 +311,14 @@ module _ (space number : ℕ) where
   }
 
   -- a page in flight has a frame
-  flown : (e : Engine) (frame : Option (List ℕ)) (i : Flight) (writing : Bool) → e.flight ≡ Some i → Bare frame e.writing e.oldest e.flight → Bare frame writing e.oldest e.flight
+  flown : (e : PageEngine) (frame : Option (List ℕ)) (i : Flight) (writing : Bool) → e.flight ≡ Some i → Bare frame e.writing e.oldest e.flight → Bare frame writing e.oldest e.flight
   flown e None i writing some bare = absurd (no_flight (sym some ∙ bare.2))
     where
       no_flight : Some i ≡ None → ⊥
       no_flight is = cc
   flown e (Some bytes) i writing some bare = tt
 
-  half : (e : Engine) (disk : Standing) (i : Flight) → EngineRule space number e → e.flight ≡ Some i → EngineRule space number (record e { disk = disk; writing = true })
+  half : (e : PageEngine) (disk : Standing) (i : Flight) → EngineRule space number e → e.flight ≡ Some i → EngineRule space number (record e { disk = disk; writing = true })
   half e disk i r some = record {
     fits = r.fits;
     framed = r.framed;
@@ -330,7 +330,7 @@ module _ (space number : ℕ) where
     aligned = r.aligned;
   }
 
-  failed : (e : Engine) (disk : Standing) (bytes : List ℕ) → EngineRule space number e → e.frame ≡ Some bytes → EngineRule space number (record e { disk = disk; writing = true; flight = None })
+  failed : (e : PageEngine) (disk : Standing) (bytes : List ℕ) → EngineRule space number e → e.frame ≡ Some bytes → EngineRule space number (record e { disk = disk; writing = true; flight = None })
   failed e disk bytes r framed = record {
     fits = r.fits;
     framed = r.framed;
@@ -342,7 +342,7 @@ module _ (space number : ℕ) where
     aligned = r.aligned;
   }
 
-  flew : (e : Engine) (flight : Option Flight) → EngineRule space number e → e.flight ≡ flight → EngineRule space number (landed e flight)
+  flew : (e : PageEngine) (flight : Option Flight) → EngineRule space number e → e.flight ≡ flight → EngineRule space number (landed e flight)
   flew e None r is = r
   flew e (Some i) r is =
       let flying = subst (λ (f : Option Flight). Flying space number f e.log) is r.flying in
@@ -365,10 +365,10 @@ module _ (space number : ℕ) where
       aground None bare = absurd (no_flight bare.2)
       aground (Some bytes) bare = tt
 
-  checked : (e : Engine) (at : ℕ) → EngineRule space number e → AtMost at e.oldest e.log → IsAt at e.log → EngineRule space number (record e { checkpoint = at })
+  checked : (e : PageEngine) (at : ℕ) → EngineRule space number e → AtMost at e.oldest e.log → IsAt at e.log → EngineRule space number (record e { checkpoint = at })
   checked e at r low is = record { fits = r.fits; framed = r.framed; quiet = r.quiet; flying = r.flying; bare = r.bare; order = r.order; low = low; aligned = is }
 
-  copy_landed : (e : Engine) (flight : Option Flight) (copy : Copy) → e.flight ≡ flight → CopyRule space number e copy → CopyRule space number (landed e flight) copy
+  copy_landed : (e : PageEngine) (flight : Option Flight) (copy : Copy) → e.flight ≡ flight → CopyRule space number e copy → CopyRule space number (landed e flight) copy
   copy_landed e None copy is rule = rule
   copy_landed e (Some i) Idle is rule = tt
   copy_landed e (Some i) (Untracked starts) is rule = absurd (no_flight (sym is ∙ rule.1))
@@ -381,7 +381,7 @@ module _ (space number : ℕ) where
 
   -- the session's events
 
-  outside_held : (e : Engine) (v : Standing) → EngineRule space number e → e.writing ≡ false → redone space number e.log ≡ v → Held space number e.oldest (outside v e.disk) e.log
+  outside_held : (e : PageEngine) (v : Standing) → EngineRule space number e → e.writing ≡ false → redone space number e.log ≡ v → Held space number e.oldest (outside v e.disk) e.log
   outside_held e no_space r closed is =
       let bare = unframed e.frame r.framed r.bare in
       subst (λ (o : Option ℕ). Held space number o no_space e.log) (sym bare) (subst (λ (x : Standing). Lax no_space x) (sym is) tt)
@@ -395,14 +395,14 @@ module _ (space number : ℕ) where
   outside_held e past_end r closed is = r.quiet closed (subst (λ (x : Standing). HasSpace x) (sym is) tt)
   outside_held e (stands page) r closed is = r.quiet closed (subst (λ (x : Standing). HasSpace x) (sym is) tt)
 
-  starting : (e : Engine) (writing : Bool) (flight : Option Flight) (listed : Bool) → EngineRule space number e → e.writing ≡ writing → e.flight ≡ flight
+  starting : (e : PageEngine) (writing : Bool) (flight : Option Flight) (listed : Bool) → EngineRule space number e → e.writing ≡ writing → e.flight ≡ flight
       → CopyRule space number e (started writing flight (if listed then [] else (outside (redone space number e.log) e.disk ∷ [])))
   starting e true flight listed r closed none = tt
   starting e false (Some i) listed r closed none = tt
   starting e false None true r closed none = (closed, none, tt)
   starting e false None false r closed none = (closed, none, (outside_held e (redone space number e.log) r closed refl, tt))
 
-  reading : (e : Engine) (bytes : List ℕ) (copy : Copy) → EngineRule space number e → HasSpace (redone space number e.log) → (e.writing ≡ false → e.disk ≡ stands bytes) → CopyRule space number e copy → CopyRule space number e (file_read bytes copy)
+  reading : (e : PageEngine) (bytes : List ℕ) (copy : Copy) → EngineRule space number e → HasSpace (redone space number e.log) → (e.writing ≡ false → e.disk ≡ stands bytes) → CopyRule space number e copy → CopyRule space number e (file_read bytes copy)
   reading e bytes Idle r has quiet rule = tt
   reading e bytes (Untracked starts) r has quiet rule =
       (rule.0, rule.1, (subst (λ (s : Standing). Held space number e.oldest s e.log) (quiet rule.0) (r.quiet rule.0 has), rule.2))
@@ -410,7 +410,7 @@ module _ (space number : ℕ) where
   reading e bytes (Copied base starts) r has quiet rule = rule
   reading e bytes (Stopped base log starts) r has quiet rule = rule
 
-  files_over : (e : Engine) (copy : Copy) → EngineRule space number e → CopyRule space number e copy → CopyRule space number e (files_ended e.checkpoint copy)
+  files_over : (e : PageEngine) (copy : Copy) → EngineRule space number e → CopyRule space number e copy → CopyRule space number e (files_ended e.checkpoint copy)
   files_over e Idle r rule = tt
   files_over e (Untracked starts) r rule =
       (r.aligned, all_map (λ s. Held space number e.oldest s e.log) (λ s. Since space number e.checkpoint s e.log) starts (λ s held. held_since space number e.checkpoint e.oldest s e.log r.low held) rule.2)
@@ -418,18 +418,18 @@ module _ (space number : ℕ) where
   files_over e (Copied base starts) r rule = rule
   files_over e (Stopped base log starts) r rule = rule
 
-  now_read : (e : Engine) (bytes : List ℕ) → EngineRule space number e → Allowed space number (record { engine = e; copy = Idle }) (PageRead bytes) → Lax (stands bytes) (redone space number e.log)
+  now_read : (e : PageEngine) (bytes : List ℕ) → EngineRule space number e → Allowed space number (record { engine = e; copy = Idle }) (PageRead bytes) → Lax (stands bytes) (redone space number e.log)
   now_read e bytes r (inl framed) = Lax-same _ _ (sym (has_space e.frame bytes _ framed r.framed))
   now_read e bytes r (inr bare) = on_disk e bytes r bare.0 bare.1 (space_of_standing _ bare.2)
 
-  page_reading : (e : Engine) (bytes : List ℕ) (copy : Copy) → Lax (stands bytes) (redone space number e.log) → CopyRule space number e copy → CopyRule space number e (page_read bytes copy)
+  page_reading : (e : PageEngine) (bytes : List ℕ) (copy : Copy) → Lax (stands bytes) (redone space number e.log) → CopyRule space number e copy → CopyRule space number e (page_read bytes copy)
   page_reading e bytes Idle now rule = tt
   page_reading e bytes (Untracked starts) now rule = rule
   page_reading e bytes Tracked now rule = tt
   page_reading e bytes (Copied base starts) now rule = (rule.0, (since_now space number base (stands bytes) e.log (at_low base e.log rule.0) now, rule.1))
   page_reading e bytes (Stopped base log starts) now rule = rule
 
-  pages_over : (e : Engine) (copy : Copy) → EngineRule space number e → CopyRule space number e copy → CopyRule space number e (pages_ended e.log copy)
+  pages_over : (e : PageEngine) (copy : Copy) → EngineRule space number e → CopyRule space number e copy → CopyRule space number e (pages_ended e.log copy)
   pages_over e Idle r rule = tt
   pages_over e (Untracked starts) r rule = rule
   pages_over e Tracked r rule = tt
@@ -438,7 +438,7 @@ module _ (space number : ℕ) where
 
   -- EACH EVENT KEEPS THE INVARIANT
 
-  pub engine_kept : (w : World) (event : Event) → EngineRule space number w.engine → Allowed space number w event → EngineRule space number (happens space number w event).engine
+  pub engine_kept : (w : PageWorld) (event : Event) → EngineRule space number w.engine → Allowed space number w event → EngineRule space number (happens space number w event).engine
   engine_kept w (Passed m) r may = passed w.engine m r may.0 may.1
   engine_kept w (Changed m bytes) r may = changed w.engine m bytes r may.0 may.1 may.2
   engine_kept w (Created m) r may = made w.engine m r may
@@ -459,7 +459,7 @@ module _ (space number : ℕ) where
   engine_kept w PagesEnded r may = r
   engine_kept w Left r may = r
 
-  pub copy_kept : (w : World) (event : Event) → EngineRule space number w.engine → CopyRule space number w.engine w.copy → Allowed space number w event → CopyRule space number (happens space number w event).engine (happens space number w event).copy
+  pub copy_kept : (w : PageWorld) (event : Event) → EngineRule space number w.engine → CopyRule space number w.engine w.copy → Allowed space number w event → CopyRule space number (happens space number w event).engine (happens space number w event).copy
   copy_kept w (Passed m) r rule may = copy_passed w.engine m w.copy may.1 rule
   copy_kept w (Changed m bytes) r rule may = copy_changed w.engine m (Some bytes) w.copy rule
   copy_kept w (Created m) r rule may = copy_created w.engine (happens space number w (Created m)).engine m w.copy (redone space number (w.engine.log ++ m ∷ [])) refl refl refl (Lax-refl _) rule
@@ -483,11 +483,11 @@ module _ (space number : ℕ) where
   copy_kept w PagesEnded r rule may = pages_over w.engine w.copy r rule
   copy_kept w Left r rule may = tt
 
-  pub kept : (w : World) (event : Event) → Rule space number w → Allowed space number w event → Rule space number (happens space number w event)
+  pub kept : (w : PageWorld) (event : Event) → Rule space number w → Allowed space number w event → Rule space number (happens space number w event)
   kept w event r may = record { engine = engine_kept w event r.engine may; copy = copy_kept w event r.engine r.copy may }
 
-  pub all_kept : (w : World) (events : List Event) (v : World) → Rule space number w → Runs space number w events v → Rule space number v
-  all_kept w [] v r run = subst (λ (x : World). Rule space number x) run r
+  pub all_kept : (w : PageWorld) (events : List Event) (v : PageWorld) → Rule space number w → Runs space number w events v → Rule space number v
+  all_kept w [] v r run = subst (λ (x : PageWorld). Rule space number x) run r
   all_kept w (event ∷ events) v r run = all_kept (happens space number w event) events v (kept w event r run.0) run.1
 
   pub nothing_kept : Rule space number nothing
@@ -511,19 +511,19 @@ module _ (space number : ℕ) where
   given base log (s ∷ starts) u fits all (inr later) = given base log starts u fits all.1 later
 
   -- THE CENTRAL LAW
-  pub central : (events : List Event) (w : World) (base : ℕ) (log : List (List Record)) (starts : List Standing) (u : Standing) → Runs space number nothing events w → w.copy ≡ Stopped base log starts → IsStart starts u → IsAt base log × Gives space number base log u
+  pub central : (events : List Event) (w : PageWorld) (base : ℕ) (log : List (List Record)) (starts : List Standing) (u : Standing) → Runs space number nothing events w → w.copy ≡ Stopped base log starts → IsStart starts u → IsAt base log × Gives space number base log u
   central events w base log starts u run is start =
       let r = subst (λ (c : Copy). CopyRule space number w.engine c) is (all_kept nothing events w nothing_kept run).copy in
       (r.1, given base log starts u r.0 r.2 start)
 
   -- A page that is quiet, with a frame: redo from its oldest modification makes the frame of the disk's page, and a clean frame is the disk's page.
-  pub clean_is_disk : (e : Engine) (bytes : List ℕ) → EngineRule space number e → e.writing ≡ false → e.frame ≡ Some bytes → e.oldest ≡ None → e.disk ≡ stands bytes
+  pub clean_is_disk : (e : PageEngine) (bytes : List ℕ) → EngineRule space number e → e.writing ≡ false → e.frame ≡ Some bytes → e.oldest ≡ None → e.disk ≡ stands bytes
   clean_is_disk e bytes r closed framed clean =
       let now = has_space e.frame bytes _ framed r.framed in
       let held = subst (λ (o : Option ℕ). Held space number o e.disk e.log) clean (r.quiet closed (subst (λ (v : Standing). HasSpace v) (sym now) tt)) in
       subst (λ (v : Standing). Lax e.disk v) now held
 
-  pub dirty_is_redone : (e : Engine) (bytes : List ℕ) (o : ℕ) → EngineRule space number e → e.writing ≡ false → e.frame ≡ Some bytes → e.oldest ≡ Some o
+  pub dirty_is_redone : (e : PageEngine) (bytes : List ℕ) (o : ℕ) → EngineRule space number e → e.writing ≡ false → e.frame ≡ Some bytes → e.oldest ≡ Some o
       → (front rest : List (List Record)) → e.log ≡ front ++ rest → ends front ≡ o → redone_from o space number e.disk rest ≡ stands bytes
   dirty_is_redone e bytes o r closed framed dirty front rest split moment =
       let now = has_space e.frame bytes _ framed r.framed in

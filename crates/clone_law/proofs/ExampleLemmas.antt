@@ -10,7 +10,7 @@ use Rattle.clone_image.specs.Redone.{Standing, past_end, stands, redone, redone_
 use Rattle.clone_image.specs.Replay.{end_of}
 use Rattle.clone_law.specs.Touches.{touches, applied, Sound, Lax}
 use Rattle.clone_law.specs.Since.{ends, IsAt, Suits, AllFit}
-use Rattle.clone_law.specs.Machine.{World, Stopped, nothing, Runs}
+use Rattle.clone_law.specs.Machine.{PageWorld, Stopped, nothing, Runs}
 use Rattle.clone_law.specs.Examples.{opening, overflow, making, first_change, second_change, made_log, changed_log, last_log, first_page, second_page, flushed_run}
 use Rattle.clone_law.proofs.RedoLemmas.{fits_push}
 use Rattle.clone_law.proofs.AppendLemmas.{appended, suits_there}
@@ -56,7 +56,7 @@ at_end log = record { before = log; behind = []; split = sym (append-nil log); m
 
 -- THE RUN OF A PAGE THAT IS FLUSHED IN FILE COPY
 
-pub flushed : (w : World) × Runs 1 0 nothing flushed_run w × (w.copy ≡ Stopped (ends made_log) last_log (stands first_page ∷ []))
+pub flushed : (w : PageWorld) × Runs 1 0 nothing flushed_run w × (w.copy ≡ Stopped (ends made_log) last_log (stands first_page ∷ []))
 flushed = (
   _,
   (

@@ -7,7 +7,7 @@ use Rattle.clone_mtr.specs.Spelling.{spelling}
 use Rattle.clone_mtr.specs.declared.record.Record.{Record}
 use Rattle.clone_mtr.specs.declared.record.Record.TheVariants.{Init, Write, Extend, Create}
 use Rattle.clone_image.specs.Redone.{Standing, past_end, stands, redone, redone_from}
-use Rattle.clone_law.specs.Machine.{World, Stopped, nothing, Runs, Event, Created, Fetched, Changed, Begun, Half, Landed, Checkpointed, Started, FileRead, FilesEnded, PageRead, PagesEnded}
+use Rattle.clone_law.specs.Machine.{PageWorld, Stopped, nothing, Runs, Event, Created, Fetched, Changed, Begun, Half, Landed, Checkpointed, Started, FileRead, FilesEnded, PageRead, PagesEnded}
 use Rattle.clone_law.specs.Mistakes.{Mistake, LeavesFlightOut, BeginsUnnoted, ArchivesLate, LandsClean, ChecksPast}
 use Rattle.clone_law.specs.Since.{ends, Suits}
 
@@ -76,7 +76,7 @@ flushed_run =
 -- the run comes to the stop with what PAGE COPY sent
 abbrev pub FlushedStops : Type 0
 FlushedStops =
-    (w : World) × Runs 1 0 nothing flushed_run w
+    (w : PageWorld) × Runs 1 0 nothing flushed_run w
     × (w.copy ≡ Stopped (ends made_log) last_log (stands first_page ∷ []))
 
 -- and the archived log makes that the page as it is

@@ -12,7 +12,7 @@ use Rattle.clone_image.specs.Redone.{Standing, no_space, stands, made, stretched
 use Rattle.clone_image.specs.Replay.{end_of, replayed}
 use Rattle.clone_image.specs.Rows.{HasRows}
 use Rattle.clone_law.specs.Alike.{CanTakeBack}
-use Rattle.clone_law.specs.Machine.{Engine, World, Event, Stopped, nothing, happens, Allowed, Runs}
+use Rattle.clone_law.specs.Machine.{PageEngine, PageWorld, Event, Stopped, nothing, happens, Allowed, Runs}
 use Rattle.clone_law.specs.Rule.{EngineRule, Rule}
 use Rattle.clone_law.specs.Since.{ends, Since, IsAt, Suits, AllFit}
 use Rattle.clone_law.specs.Starts.{Gives, IsStart, HasStart, HasCopied, InCalm, InSession}
@@ -124,20 +124,20 @@ RuleBegins = (space number : ℕ) → Rule space number nothing
 
 abbrev pub RuleKept : Type 0
 RuleKept =
-    (space number : ℕ) (w : World) (event : Event) → Rule space number w
+    (space number : ℕ) (w : PageWorld) (event : Event) → Rule space number w
     → Allowed space number w event → Rule space number (happens space number w event)
 
 -- a clean frame is the disk's page
 abbrev pub CleanIsDisk : Type 0
 CleanIsDisk =
-    (space number : ℕ) (e : Engine) (bytes : List ℕ) → EngineRule space number e → e.writing ≡ false
+    (space number : ℕ) (e : PageEngine) (bytes : List ℕ) → EngineRule space number e → e.writing ≡ false
     → e.frame ≡ Some bytes → e.oldest ≡ None
     → e.disk ≡ stands bytes
 
 -- a dirty frame is what redo from its oldest modification makes of the disk's page
 abbrev pub DirtyIsRedone : Type 0
 DirtyIsRedone =
-    (space number : ℕ) (e : Engine) (bytes : List ℕ) (o : ℕ) → EngineRule space number e
+    (space number : ℕ) (e : PageEngine) (bytes : List ℕ) (o : ℕ) → EngineRule space number e
     → e.writing ≡ false → e.frame ≡ Some bytes → e.oldest ≡ Some o
     → (front rest : List (List Record)) → e.log ≡ front ++ rest → ends front ≡ o
     → redone_from o space number e.disk rest ≡ stands bytes
@@ -145,7 +145,7 @@ DirtyIsRedone =
 -- at the stop, redo by the archived log makes each starting value the page as it is
 abbrev pub StartsGive : Type 0
 StartsGive =
-    (space number : ℕ) (events : List Event) (w : World) (base : ℕ) (log : List (List Record))
+    (space number : ℕ) (events : List Event) (w : PageWorld) (base : ℕ) (log : List (List Record))
     (starts : List Standing) (u : Standing)
     → Runs space number nothing events w → w.copy ≡ Stopped base log starts → IsStart starts u
     → IsAt base log × Gives space number base log u
@@ -154,14 +154,14 @@ StartsGive =
 -- session stands
 abbrev pub FilesStay : Type 0
 FilesStay =
-    (space number : ℕ) (u : Standing) (w v : World) (es : List Event) → Runs space number w es v
+    (space number : ℕ) (u : Standing) (w v : PageWorld) (es : List Event) → Runs space number w es v
     → AllByRecursion (λ e. InCalm e ≡ true) es
     → HasStart w.copy u → HasStart v.copy u
 
 -- and one that counts in PAGE COPY as long as the session stands
 abbrev pub PagesStay : Type 0
 PagesStay =
-    (space number : ℕ) (u : Standing) (w v : World) (es : List Event) → Runs space number w es v
+    (space number : ℕ) (u : Standing) (w v : PageWorld) (es : List Event) → Runs space number w es v
     → AllByRecursion (λ e. InSession e ≡ true) es
     → HasCopied w.copy u → HasCopied v.copy u
 

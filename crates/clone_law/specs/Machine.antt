@@ -14,7 +14,7 @@ pub record Flight : Type 0 where
   pub later : Option ℕ
 
 -- the page in the donor
-pub record Engine : Type 0 where
+pub record PageEngine : Type 0 where
   pub log : List (List Record)
   pub checkpoint : ℕ
   -- how the page stands on disk, and whether its write is open
@@ -38,8 +38,8 @@ pub data Copy : Type 0 where
   Stopped : ℕ → List (List Record) → List Standing → Copy
 
 -- the page in the donor, and in the clone
-pub record World : Type 0 where
-  pub engine : Engine
+pub record PageWorld : Type 0 where
+  pub engine : PageEngine
   pub copy : Copy
 
 pub data Event : Type 0 where
@@ -89,7 +89,7 @@ dirtied at None = None
 dirtied at (Some i) = Some (record { image = i.image; later = first_of at i.later })
 
 -- the disk has the image, and the page is dirty from the first change since its flush began
-abbrev pub landed : Engine → Option Flight → Engine
+abbrev pub landed : PageEngine → Option Flight → PageEngine
 landed e None = e
 landed e (Some i) =
     record {
@@ -159,7 +159,7 @@ pages_ended log (Copied base starts) = Stopped base log starts
 pages_ended log (Stopped base before starts) = Stopped base before starts
 
 -- WHAT AN EVENT DOES
-abbrev pub happens : ℕ → ℕ → World → Event → World
+abbrev pub happens : ℕ → ℕ → PageWorld → Event → PageWorld
 happens space number w (Passed m) =
     record { engine = record w.engine { log = w.engine.log ++ m ∷ [] }; copy = w.copy }
 happens space number w (Changed m bytes) =
@@ -270,7 +270,7 @@ AtMost at None log = at ≤ ends log
 AtMost at (Some o) log = (at ≤ o) × IsAt o log
 
 -- WHEN AN EVENT MAY COME: what the donor guarantees when it makes it
-abbrev pub Allowed : ℕ → ℕ → World → Event → Type 0
+abbrev pub Allowed : ℕ → ℕ → PageWorld → Event → Type 0
 Allowed space number w (Passed m) =
     Suits space number w.engine.log m
     × (redone space number (w.engine.log ++ m ∷ []) ≡ redone space number w.engine.log)
@@ -311,13 +311,13 @@ Allowed space number w PagesEnded = Unit {0}
 Allowed space number w Left = Unit {0}
 
 -- these events, one after the other
-abbrev pub Runs : ℕ → ℕ → World → List Event → World → Type 0
+abbrev pub Runs : ℕ → ℕ → PageWorld → List Event → PageWorld → Type 0
 Runs space number w [] v = w ≡ v
 Runs space number w (e ∷ es) v =
     Allowed space number w e × Runs space number (happens space number w e) es v
 
 -- before the log begins
-abbrev pub nothing : World
+abbrev pub nothing : PageWorld
 nothing = record {
   engine = record {
     log = [];

@@ -2,7 +2,7 @@
 use Rattle.std.specs.Prelude.{ℕ, ◌≡◌, List, [], ◌∷◌, None, if◌then◌else◌}
 use Rattle.clone_mtr.specs.declared.record.Record.{Record}
 use Rattle.clone_image.specs.Redone.{Standing, redone}
-use Rattle.clone_law.specs.Machine.{Untracked, Stopped, World, Event, Begun, Landed, Checkpointed, Started, FilesEnded, outside, landed, files_ended, happens, Allowed, nothing}
+use Rattle.clone_law.specs.Machine.{Untracked, Stopped, PageWorld, Event, Begun, Landed, Checkpointed, Started, FilesEnded, outside, landed, files_ended, happens, Allowed, nothing}
 use Rattle.clone_law.specs.Since.{ends, IsAt}
 use Rattle.clone_law.specs.Starts.{Gives, IsStart}
 
@@ -18,7 +18,7 @@ pub data Mistake : Type 0 where
   -- a checkpoint may pass a dirty page
   ChecksPast : Mistake
 
-abbrev pub left_out : ℕ → ℕ → World → Event → World
+abbrev pub left_out : ℕ → ℕ → PageWorld → Event → PageWorld
 left_out space number w (Started listed) =
     record {
       engine = w.engine;
@@ -27,33 +27,33 @@ left_out space number w (Started listed) =
     }
 left_out space number w e = happens space number w e
 
-abbrev pub unnoted : ℕ → ℕ → World → Event → World
+abbrev pub unnoted : ℕ → ℕ → PageWorld → Event → PageWorld
 unnoted space number w (Begun bytes) =
     record { engine = (happens space number w (Begun bytes)).engine; copy = w.copy }
 unnoted space number w e = happens space number w e
 
-abbrev pub archived_late : ℕ → ℕ → World → Event → World
+abbrev pub archived_late : ℕ → ℕ → PageWorld → Event → PageWorld
 archived_late space number w FilesEnded =
     record { engine = w.engine; copy = files_ended (ends w.engine.log) w.copy }
 archived_late space number w e = happens space number w e
 
-abbrev pub landed_clean : ℕ → ℕ → World → Event → World
+abbrev pub landed_clean : ℕ → ℕ → PageWorld → Event → PageWorld
 landed_clean space number w Landed =
     record { engine = record (landed w.engine w.engine.flight) { oldest = None }; copy = w.copy }
 landed_clean space number w e = happens space number w e
 
-abbrev pub mistaken : Mistake → ℕ → ℕ → World → Event → World
+abbrev pub mistaken : Mistake → ℕ → ℕ → PageWorld → Event → PageWorld
 mistaken LeavesFlightOut = left_out
 mistaken BeginsUnnoted = unnoted
 mistaken ArchivesLate = archived_late
 mistaken LandsClean = landed_clean
 mistaken ChecksPast = happens
 
-abbrev pub AllowedPast : ℕ → ℕ → World → Event → Type 0
+abbrev pub AllowedPast : ℕ → ℕ → PageWorld → Event → Type 0
 AllowedPast space number w (Checkpointed at) = IsAt at w.engine.log
 AllowedPast space number w e = Allowed space number w e
 
-abbrev pub AllowedBy : Mistake → ℕ → ℕ → World → Event → Type 0
+abbrev pub AllowedBy : Mistake → ℕ → ℕ → PageWorld → Event → Type 0
 AllowedBy LeavesFlightOut = Allowed
 AllowedBy BeginsUnnoted = Allowed
 AllowedBy ArchivesLate = Allowed
@@ -61,7 +61,7 @@ AllowedBy LandsClean = Allowed
 AllowedBy ChecksPast = AllowedPast
 
 -- these events, one after the other, in the wrong machine
-abbrev pub Misruns : Mistake → ℕ → ℕ → World → List Event → World → Type 0
+abbrev pub Misruns : Mistake → ℕ → ℕ → PageWorld → List Event → PageWorld → Type 0
 Misruns mistake space number w [] v = w ≡ v
 Misruns mistake space number w (e ∷ es) v =
     AllowedBy mistake space number w e
@@ -71,7 +71,7 @@ Misruns mistake space number w (e ∷ es) v =
 -- starting values the page as it is at the stop.
 pub record Misleads (mistake : Mistake) (space number : ℕ) (events : List Event)
     (start : Standing) : Type 0 where
-  pub world : World
+  pub world : PageWorld
   pub run : Misruns mistake space number nothing events world
   pub base : ℕ
   pub log : List (List Record)

@@ -7,7 +7,7 @@ use Rattle.clone_mtr.specs.declared.record.Record.{Record}
 use Rattle.clone_image.specs.Redone.{Standing, stands, redone}
 use Rattle.clone_law.specs.Touches.{Lax}
 use Rattle.clone_law.specs.Since.{Since, IsAt, AllFit}
-use Rattle.clone_law.specs.Machine.{Flight, Engine, Copy, Idle, Untracked, Tracked, Copied, Stopped, World, HasSpace, AtMost}
+use Rattle.clone_law.specs.Machine.{Flight, PageEngine, Copy, Idle, Untracked, Tracked, Copied, Stopped, PageWorld, HasSpace, AtMost}
 
 -- The page is this now, or it was so at a moment not before its oldest modification.
 abbrev pub Held : ℕ → ℕ → Option ℕ → Standing → List (List Record) → Type 0
@@ -42,7 +42,7 @@ InOrder oldest (Some i) log = IsLater oldest i.later log
 
 -- Whatever the donor has of the page is the page now, or as it was late enough for redo from its
 -- oldest modification. The checkpoint is before that.
-pub record EngineRule (space number : ℕ) (e : Engine) : Type 0 where
+pub record EngineRule (space number : ℕ) (e : PageEngine) : Type 0 where
   pub fits : AllFit space number e.log
   pub framed : Framed e.frame (redone space number e.log)
   pub quiet : e.writing ≡ false → HasSpace (redone space number e.log)
@@ -55,7 +55,7 @@ pub record EngineRule (space number : ℕ) (e : Engine) : Type 0 where
 
 -- Whatever was answered is the page now, or as it was late enough for redo from where the archive
 -- starts, or, in FILE COPY, from the oldest modification.
-abbrev pub CopyRule : ℕ → ℕ → Engine → Copy → Type 0
+abbrev pub CopyRule : ℕ → ℕ → PageEngine → Copy → Type 0
 CopyRule space number e Idle = Unit {0}
 CopyRule space number e (Untracked starts) =
     (e.writing ≡ false) × (e.flight ≡ None)
@@ -68,6 +68,6 @@ CopyRule space number e (Stopped base log starts) =
     × AllByRecursion (λ s. Since space number base s log) starts
 
 -- THE RULE
-pub record Rule (space number : ℕ) (w : World) : Type 0 where
+pub record Rule (space number : ℕ) (w : PageWorld) : Type 0 where
   pub engine : EngineRule space number w.engine
   pub copy : CopyRule space number w.engine w.copy

@@ -1,6 +1,6 @@
-pub mod Carrying
-pub mod Seen
-pub mod Sending
-pub mod Settling
-pub mod Naming
-pub mod EndSending
+pub mod LinkRunLemmas
+pub mod EndViewLemmas
+pub mod SendLemmas
+pub mod JoinedEndLemmas
+pub mod ConnectionLemmas
+pub mod EndThreadLemmas

@@ -1,6 +1,6 @@
 pub mod RowMaps
 pub mod TextLemmas
-pub mod Ordered
+pub mod SlotOrderLemmas
 pub mod Cuts
 pub mod Decimals
 pub mod HexTexts

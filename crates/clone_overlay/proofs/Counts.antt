@@ -10,7 +10,7 @@ use Rattle.clone_image.specs.Redone.{Standing, no_space, past_end, stands, stand
 use Rattle.clone_overlay.specs.Covers.{Cover, Overlay}
 use Rattle.clone_overlay.specs.Images.{pages_in}
 use Rattle.clone_overlay.specs.Shown.{standing_over, leaf_over, Shows}
-use Rattle.clone_overlay.proofs.Covered.{standing_past}
+use Rattle.clone_overlay.proofs.CoverLemmas.{standing_past}
 
 tag : Standing → ℕ
 tag no_space = 0

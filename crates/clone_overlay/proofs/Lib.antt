@@ -1,8 +1,8 @@
 pub mod Entries
 pub mod Bases
-pub mod Covered
-pub mod Showing
-pub mod Fetching
-pub mod Applying
-pub mod Opening
+pub mod CoverLemmas
+pub mod OverlayImageLemmas
+pub mod FetchLemmas
+pub mod RecordLemmas
+pub mod OpenLemmas
 pub mod Counts

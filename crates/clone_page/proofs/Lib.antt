@@ -1,4 +1,4 @@
-pub mod Reading
+pub mod NumberLemmas
 pub mod Choices
-pub mod Laying
+pub mod PieceLemmas
 pub mod Parts

@@ -1,2 +1,2 @@
-pub mod Ending
-pub mod Running
+pub mod OutcomeLemmas
+pub mod RunLemmas

@@ -18,8 +18,8 @@ use Rattle.clone_recover.specs.Undoing.{HasChanges}
 use Rattle.clone_recover.specs.Damage.{ForImage, PageOrOn, IsPageOr, CountsTooMany, CountsFit, HasBroken, IsFirstBroken}
 use Rattle.clone_recover.specs.Undoing.{HasHeader, IsHeaderOf}
 use Rattle.clone_recover.specs.declared.refusal.RecoverRefusal.{RecoverRefusal}
-use Rattle.clone_recover.proofs.Undone.{page_or}
-use Rattle.clone_recover.proofs.Shown.{system_is, for_same, both_for, weaker_for}
+use Rattle.clone_recover.proofs.DiskUndoLemmas.{page_or}
+use Rattle.clone_recover.proofs.OverlayReadLemmas.{system_is, for_same, both_for, weaker_for}
 
 -- One slot.
 

@@ -12,7 +12,7 @@ use Rattle.clone_outside.specs.declared.disk.Held.{Held}
 use Rattle.clone_outside.specs.declared.disk.TheConstants.{HALF_PAGE}
 use Rattle.clone_overlay.proofs.Entries.{get_set, get_here}
 use Rattle.clone_recover.specs.Written.{whole_written, with_whole}
-use Rattle.clone_recover.proofs.Joined.{take_front}
+use Rattle.clone_recover.proofs.JoinedPageLemmas.{take_front}
 
 written_whole : (page : List ℕ) (held : Held) → length page ≡ 4096 → rest_written page (half_written page held) ≡ whole_written page
 written_whole page held long =

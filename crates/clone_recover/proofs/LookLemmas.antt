@@ -18,9 +18,9 @@ use Rattle.clone_overlay.specs.Covers.{Cover, Overlay}
 use Rattle.clone_overlay.specs.Images.{image_of, pages_in, IsQuiet}
 use Rattle.clone_overlay.specs.Shown.{leaf_over, standing_over, Fits, Shows, ForBase, IsMisplaced}
 use Rattle.clone_overlay.proofs.Bases.{read_on}
-use Rattle.clone_overlay.proofs.Covered.{standing_held, standing_kept}
-use Rattle.clone_overlay.proofs.Fetching.{gives_misplaced}
-use Rattle.clone_overlay.proofs.Showing.{page_stands, page_standing, page_past, page_nowhere}
+use Rattle.clone_overlay.proofs.CoverLemmas.{standing_held, standing_kept}
+use Rattle.clone_overlay.proofs.FetchLemmas.{gives_misplaced}
+use Rattle.clone_overlay.proofs.OverlayImageLemmas.{page_stands, page_standing, page_past, page_nowhere}
 use Rattle.clone_recover.specs.Chains.{next_in}
 use Rattle.clone_recover.specs.Damage.{ForImage}
 use Rattle.clone_recover.specs.Walks.{SeesBehind, held, unused, read}

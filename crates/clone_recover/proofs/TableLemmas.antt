@@ -21,7 +21,7 @@ use Rattle.clone_recover.specs.declared.refusal.RecoverRefusal.{RecoverRefusal}
 use Rattle.clone_recover.specs.declared.refusal.RecoverRefusal.TheVariants.{Incomplete, Damaged, DiskFault, NoMemory}
 use Rattle.clone_recover.specs.Refusals.{IsOfDisk}
 use Rattle.clone_recover.proofs.ChainLemmas.{whole_unbroken}
-use Rattle.clone_recover.proofs.Shown.{both_for, weaker_for}
+use Rattle.clone_recover.proofs.OverlayReadLemmas.{both_for, weaker_for}
 
 at_entry : (system : List ℕ) (entry_number other : ℕ) → entry_number ≡ other → (entry_in (dictionary system) entry_number).table ≡ (entry_in (dictionary system) other).table
 at_entry system entry_number other same = ap (λ (k : ℕ). (entry_in (dictionary system) k).table) same

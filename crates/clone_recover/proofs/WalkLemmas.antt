@@ -15,7 +15,7 @@ use Rattle.clone_recover.specs.Walks.{IsStamped, AreStamped, BreaksAt}
 use Rattle.clone_recover.specs.declared.refusal.Why.TheVariants as why
 use Rattle.clone_recover.specs.declared.refusal.RecoverRefusal.{RecoverRefusal}
 use Rattle.clone_recover.specs.declared.refusal.RecoverRefusal.TheVariants.{Damaged}
-use Rattle.clone_recover.proofs.Shown.{both_for, weaker_for}
+use Rattle.clone_recover.proofs.OverlayReadLemmas.{both_for, weaker_for}
 use Rattle.clone_recover.proofs.TableLemmas.{header_chain}
 use Rattle.clone_recover.proofs.ChainLemmas.{same_some, at_next, whole_last, whole_back}
 

@@ -29,7 +29,7 @@ use Rattle.clone_lay.specs.Sized.{PageCounts}
 use Rattle.clone_snapshot.specs.StageLists as lists
 use Rattle.clone_snapshot.specs.StageLists.{StageList, Part, chunk_count, stage_of}
 use Rattle.clone_snapshot.specs.Snaps.{IsInLog, IsSnap}
-use Rattle.clone_track.specs.Tracking.{listed}
+use Rattle.clone_track.specs.TrackedPages.{listed}
 use Rattle.clone_plain.specs.Donor as plain
 use Rattle.clone_session.specs.declared.info.StageInfo.{StageInfo}
 use Rattle.clone_session.specs.declared.info.Stop.{Stop}

@@ -5,8 +5,8 @@ use Rattle.clone_outside.specs.Disk.{DiskImage, ForTold, IsBeforeOrAfter, Steps}
 use Rattle.clone_outside.specs.Mark.{IsEnd}
 use Rattle.clone_outside.specs.declared.mark.CloneEnd.{CloneEnd}
 use Rattle.clone_outside.specs.declared.mark.Mark.TheVariants.{Complete}
-use Rattle.clone_apply.specs.Staged.{completed}
-use Rattle.clone_apply.specs.Holds.{HoldsCopy}
+use Rattle.clone_staged.specs.Staged.{completed}
+use Rattle.clone_staged.specs.Holds.{HoldsCopy}
 use Rattle.clone_lay.specs.Marked.{marked}
 use Rattle.clone_model.specs.History.{fold}
 use Rattle.clone_plain.specs.Donor as plain

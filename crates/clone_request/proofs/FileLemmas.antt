@@ -12,7 +12,7 @@ use Rattle.clone_outside.specs.Disk.{DiskImage}
 use Rattle.clone_contents.specs.Records.{system_size}
 use Rattle.clone_image.specs.Image.{page_count}
 use Rattle.clone_image.specs.Redone.{Standing, past_end, standing_of}
-use Rattle.clone_track.specs.Tracking.{Pages}
+use Rattle.clone_track.specs.TrackedPages.{Pages}
 use Rattle.clone_lay.specs.Laid.{pages_in}
 use Rattle.clone_overlay.specs.Images.{redo_space}
 use Rattle.clone_overlay.specs.Images as overlay

@@ -17,7 +17,7 @@ use Rattle.clone_lay.specs.Redo.{filled, laid_redo, pages_for, redo_block, redo_
 use Rattle.clone_lay.proofs.BlockLemmas.{blocks_are_pages, blocks_more}
 use Rattle.clone_lay.proofs.SpaceLemmas.{get_there}
 use Rattle.clone_recover.specs.Reading.{joined, redo_of}
-use Rattle.clone_recover.proofs.Joined.{take_front}
+use Rattle.clone_recover.proofs.JoinedPageLemmas.{take_front}
 use Rattle.clone_request.specs.Waiting.{HoldsRedo}
 
 -- the copy of redo begins

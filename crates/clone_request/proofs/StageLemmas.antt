@@ -20,7 +20,7 @@ use Rattle.clone_mtr.specs.declared.record.Record.{Record}
 use Rattle.clone_buffer.specs.OnePage.{Copies}
 use Rattle.clone_buffer.specs.Flushing.{with_noted}
 use Rattle.clone_pool.specs.declared.frame.PageName.{PageName}
-use Rattle.clone_track.specs.Tracking.{Pages, listed}
+use Rattle.clone_track.specs.TrackedPages.{Pages, listed}
 use Rattle.clone_chunk.specs.declared.chunk.Chunk.TheVariants.{Free}
 use Rattle.clone_snapshot.specs.StageLists as lists
 use Rattle.clone_snapshot.specs.StageLists.{chunk_count}

@@ -8,7 +8,7 @@ use Rattle.clone_model.specs.History.{fold}
 use Rattle.clone_plain.specs.Donor as plain
 use Rattle.clone_plain.specs.Donor.{history}
 use Rattle.clone_lay.specs.Marked.{marked}
-use Rattle.clone_apply.specs.Holds.{HoldsCopy}
+use Rattle.clone_staged.specs.Holds.{HoldsCopy}
 use Rattle.clone_engine.specs.Disks.{Visits}
 use Rattle.clone_donor.specs.Acts as act
 use Rattle.clone_donor.specs.Acts.{Act}

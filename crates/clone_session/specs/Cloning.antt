@@ -2,7 +2,7 @@
 use Rattle.std.specs.Prelude.{ℕ, ◌≡◌, ◌≤◌, ◌<◌, ◌+◌, ◌-◌, min, None, Some, IsSome}
 use Rattle.std.specs.declared.option.Option.{Option}
 use Rattle.clone_base.specs.declared.limits.TheConstants.{LSN_LIMIT}
-use Rattle.clone_track.specs.Tracking.{Tracking}
+use Rattle.clone_track.specs.TrackedPages.{TrackedPages}
 use Rattle.clone_archive.specs.Archived.{Archived, archived_of}
 use Rattle.clone_snapshot.specs.StageLists.{StageList, Files, Pages, Redo, Nothing, chunk_count}
 use Rattle.clone_snapshot.specs.Snaps.{Snap}
@@ -20,7 +20,7 @@ pub record Session : Type 0 where
 pub record Cloning : Type 0 where
   pub session : Option Session
   -- the pages that were noted, while files are copied
-  pub tracking : Tracking
+  pub tracking : TrackedPages
   -- the redo that is kept for the session
   pub archive : Option Archived
   -- the last stop

@@ -6,7 +6,7 @@ use Rattle.std.specs.FinMap as finite
 use Rattle.clone_chunk.specs.declared.chunk.Chunk.TheVariants.{Free, Claimed, Finished}
 use Rattle.clone_chunk.specs.declared.stage.Stage.{Stage}
 use Rattle.clone_chunk.specs.declared.stage.Stage.TheVariants.{FileCopy, PageCopy, RedoCopy, Done}
-use Rattle.clone_track.specs.Tracking.{all_noted, listed, noted}
+use Rattle.clone_track.specs.TrackedPages.{all_noted, listed, noted}
 use Rattle.clone_archive.specs.Archived.{Archived}
 use Rattle.clone_snapshot.specs.StageLists.{StageList, Files, Pages, Redo, Nothing, chunk_count}
 use Rattle.clone_snapshot.specs.Snaps.{Snap}

@@ -30,11 +30,11 @@ pub struct Cloning {
 impl Model for Cloning {
     ghost use Rattle.clone_session.specs.Cloning.{Cloning, IsCloning};
     ghost use Rattle.std.specs.Coded.{codes};
-    ghost use Rattle.clone_track.specs.Tracking.{tracking_code};
+    ghost use Rattle.clone_track.specs.TrackedPages.{tracked_pages_code};
 
     ghost Value = { Cloning };
 
-    ghost coded = { Prim.hlevel (codes, tracking_code) };
+    ghost coded = { Prim.hlevel (codes, tracked_pages_code) };
 
     ghost view = { λ c. record {
       session = c.session;

@@ -21,7 +21,7 @@ use Rattle.std.proofs.lemmas.Map.Views.{Contains-from_any, list_any-from_Contain
 use Rattle.clone_base.proofs.MapEntries.{is_equal}
 use Rattle.clone_model.specs.Keys.{row_cmp}
 use Rattle.clone_model.proofs.RowMaps.{row_cmp_total, row_cmp_exact}
-use Rattle.clone_track.specs.Tracking.{Pages, all_noted}
+use Rattle.clone_track.specs.TrackedPages.{Pages, all_noted}
 
 -- two pages are the same
 abbrev same : ℕ × ℕ → ℕ × ℕ → Bool

@@ -1,2 +1,2 @@
-pub mod Tracking
+pub mod TrackedPages
 pub mod SortedRuns

@@ -7,7 +7,7 @@ use Rattle.std.specs.Coded.{Coded, code_by, coded×, coded_ℕ}
 use Rattle.std.specs.List.{flat_map, AllByRecursion}
 use Rattle.std.specs.List.Sorted.{IsStrictlySortedBy}
 use Rattle.clone_model.specs.Keys.{row_cmp}
-use Rattle.clone_track.specs.Tracking.{Pages, pages_code}
+use Rattle.clone_track.specs.TrackedPages.{Pages, pages_code}
 use Rattle.clone_track.specs.declared.runs.TheConstants.{RUN_PAGES, RUN_LIMIT}
 
 -- the pages that runs hold, how often they hold one, and for how many more there is room

@@ -3,7 +3,7 @@
 //! which has its whole room from the start. The list is empty, and has room for the pages of all.
 ghost use Rattle.std.specs.Prelude.{◌≡◌, ◌+◌, ◌≤◌, ◌++◌, length, IfOk, OnOk, OnErr, vec_len, vec_capacity};
 ghost use Rattle.std.specs.FinMap as finite;
-ghost use Rattle.clone_track.specs.Tracking.{all_noted};
+ghost use Rattle.clone_track.specs.TrackedPages.{all_noted};
 ghost use Rattle.clone_track.specs.SortedRuns.{joined};
 
 use std::alloc::{AllocError, Global};
@@ -31,7 +31,7 @@ pub struct Runs {
 impl Model for Runs {
     ghost use Rattle.std.specs.Prelude.{◌-◌, ◌++◌, length};
     ghost use Rattle.std.specs.FinMap as finite;
-    ghost use Rattle.clone_track.specs.Tracking.{all_noted};
+    ghost use Rattle.clone_track.specs.TrackedPages.{all_noted};
     ghost use Rattle.clone_track.specs.SortedRuns.{Noted, noted_code, IsRuns, joined};
     ghost use Rattle.clone_track.specs.declared.runs.TheConstants.{RUN_PAGES};
 

@@ -3,7 +3,7 @@
 //! are pages.
 ghost use Rattle.std.specs.Prelude.{◌≡◌, ◌+◌, ◌≤◌, ◌↔◌, None, Some, length, IsTrue, IsSome, IsOk, OnOk, OnErr};
 ghost use Rattle.std.specs.FinMap as finite;
-ghost use Rattle.clone_track.specs.Tracking.{all_noted, listed, noted};
+ghost use Rattle.clone_track.specs.TrackedPages.{all_noted, listed, noted};
 
 use crate::runs::{Runs, TRACKED_LIMIT};
 use std::alloc::{AllocError, Global};
@@ -19,12 +19,12 @@ pub struct Tracker {
 }
 
 impl Model for Tracker {
-    ghost use Rattle.clone_track.specs.Tracking.{Tracking, tracking_code};
+    ghost use Rattle.clone_track.specs.TrackedPages.{TrackedPages, tracked_pages_code};
     ghost use Rattle.clone_track.specs.SortedRuns.{pages_of, kept_of, room_of};
 
-    ghost Value = { Tracking };
+    ghost Value = { TrackedPages };
 
-    ghost coded = { tracking_code };
+    ghost coded = { tracked_pages_code };
 
     ghost view = { λ t. record {
       pages = pages_of t.runs;

@@ -11,10 +11,10 @@ use Rattle.clone_outside.specs.declared.disk.Held.{Held}
 use Rattle.clone_mtr.specs.declared.record.Record.{Record}
 use Rattle.clone_mtr.specs.declared.record.Record.TheVariants.{Create}
 use Rattle.clone_image.proofs.Images.{get-put_same, get-put_other}
-use Rattle.clone_image.proofs.Redoing.{replayed_is_redone}
+use Rattle.clone_image.proofs.RedoLemmas.{replayed_is_redone}
 use Rattle.clone_image.specs.Redone as image
 use Rattle.clone_image.specs.Redone.{Standing, no_space, redone}
-use Rattle.clone_law.specs.Machine.{Engine, HasSpace}
+use Rattle.clone_law.specs.Machine.{PageEngine, HasSpace}
 use Rattle.clone_law.specs.Rule.{Rule, Bare}
 use Rattle.clone_pool.specs.declared.frame.Frame.{Frame}
 use Rattle.clone_pool.specs.Frames.{counts_as_open}
@@ -32,7 +32,7 @@ module _ (log : List (List Record)) (beside : Beside) (m n : DiskImage) (space n
   off_log none k = record {
     rule =
         let r = k.rule.engine in
-        let e : Engine = engine_with log beside n space number frame in
+        let e : PageEngine = engine_with log beside n space number frame in
         record {
           engine = record {
             fits = r.fits;
@@ -54,7 +54,7 @@ module _ (log : List (List Record)) (beside : Beside) (m n : DiskImage) (space n
       shut : (d : DiskImage) → (is_open (page_of d space number) && has_space (redone space number log)) ≡ false
       shut d = ap (λ (s : Standing). is_open (page_of d space number) && has_space s) none ∙ and-false (is_open (page_of d space number))
 
-  abbrev engine : Option (List Held) → Engine
+  abbrev engine : Option (List Held) → PageEngine
   engine o = record {
     log = log;
     checkpoint = beside.checkpoint;

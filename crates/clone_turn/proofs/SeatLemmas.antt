@@ -6,7 +6,7 @@ use Rattle.atomic_table.specs.Seated.{TableId}
 use Rattle.clone_turn.specs.declared.view.View.{View}
 use Rattle.clone_turn.specs.Runs.{Agree, entries, calls, meld}
 use Rattle.clone_turn.specs.Rule.{Calls, joined_view}
-use Rattle.clone_turn.proofs.Melding.{meld_left, meld_right, calls-meld}
+use Rattle.clone_turn.proofs.MeldedViewLemmas.{meld_left, meld_right, calls-meld}
 use Rattle.clone_turn.specs.Seats.{SeatModel, seat_of, MakesCall}
 
 module _ {S C A : Type 0} where

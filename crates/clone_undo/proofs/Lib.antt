@@ -1,4 +1,4 @@
-pub mod Laying
+pub mod BytePieceLemmas
 pub mod Entries
 pub mod Edits
 pub mod Headers

@@ -1,4 +1,4 @@
-use Rattle.clone_image.proofs.Redoing.{replayed_is_redone}
+use Rattle.clone_image.proofs.RedoLemmas.{replayed_is_redone}
 use Rattle.clone_image.proofs.laws.redone_laws.Goals as goal
 
 pub returns : goal.returns

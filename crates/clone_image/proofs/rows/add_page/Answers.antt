@@ -1,4 +1,4 @@
-use Rattle.clone_image.proofs.Adding.{adds_kind}
+use Rattle.clone_image.proofs.RowMapLemmas.{adds_kind}
 use Rattle.clone_image.proofs.rows.add_page.Goals as goal
 
 pub returns-in_ok-add_slots : goal.returns-in_ok-add_slots

@@ -1,5 +1,5 @@
 use Rattle.std.proofs.Common.{◌∙◌, sym}
-use Rattle.clone_image.proofs.Adding.{adds_slot}
+use Rattle.clone_image.proofs.RowMapLemmas.{adds_slot}
 use Rattle.clone_image.proofs.rows.add_slot.Goals as goal
 
 pub returns-in_ok-set : goal.returns-in_ok-set

@@ -1,5 +1,5 @@
 use Rattle.clone_image.specs.Added.{InSlot}
-use Rattle.clone_image.proofs.Adding.{adds_none, adds_next}
+use Rattle.clone_image.proofs.RowMapLemmas.{adds_none, adds_next}
 use Rattle.clone_image.proofs.rows.add_slots.Goals as goal
 
 pub loop-slot_number-init : goal.loop-slot_number-init

@@ -1,4 +1,4 @@
-use Rattle.clone_memlink.proofs.Carrying.{carries_all, honest}
+use Rattle.clone_memlink.proofs.LinkRunLemmas.{carries_all, honest}
 use Rattle.clone_memlink.proofs.connection.received_begins_sent.Goals as goal
 
 pub returns-clause-carries : goal.returns-clause-carries

@@ -1,4 +1,4 @@
-use Rattle.clone_memlink.proofs.Naming.{inserted_cut}
+use Rattle.clone_memlink.proofs.ConnectionLemmas.{inserted_cut}
 use Rattle.clone_memlink.proofs.mem_net.plan_cut.Goals as goal
 
 pub returns-clause-ok : goal.returns-clause-ok

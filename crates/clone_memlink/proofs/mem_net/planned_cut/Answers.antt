@@ -1,7 +1,7 @@
 use Rattle.std.proofs.Common.{rules, ◌≡◌, sym, ◌∙◌}
 use Rattle.std.specs.Ordering.{nat_cmp}
 use Rattle.std.specs.BTreeMap.{get}
-use Rattle.clone_memlink.proofs.Naming.{get_cut}
+use Rattle.clone_memlink.proofs.ConnectionLemmas.{get_cut}
 use Rattle.clone_memlink.proofs.mem_net.planned_cut.Goals as goal
 
 pub returns : goal.returns

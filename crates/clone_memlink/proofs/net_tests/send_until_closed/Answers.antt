@@ -4,8 +4,8 @@ use denote.Param.Send.{IsSend, sendable, param_send, arg_send, shr_send}
 use Rattle.std.specs.contracts.alloc.AllocError as AllocError
 use Rattle.std.proofs.alloc.Global.TheSendSync.{the_sync as global_sync}
 use Rattle.std.proofs.result.Result.TheSendSync.{the_send as result_send}
-use Rattle.clone_turn.proofs.Crossing.{two_send}
-use Rattle.clone_memlink.proofs.EndSending.{end_send}
+use Rattle.clone_turn.proofs.TupleThreadLemmas.{two_send}
+use Rattle.clone_memlink.proofs.EndThreadLemmas.{end_send}
 use Rattle.clone_memlink.proofs.net_tests.send_until_closed.Goals as goal
 
 pub join-one-requires-send-A : goal.join-one-requires-send-A

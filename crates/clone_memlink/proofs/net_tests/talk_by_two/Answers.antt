@@ -9,8 +9,8 @@ use Rattle.std.below.std_heap.proofs.GlobalAllocator.TheSendSync.{the_frees}
 use Rattle.std.proofs.alloc.Global.TheSendSync.{the_send as global_send, the_sync as global_sync}
 use Rattle.std.proofs.result.Result.TheSendSync.{the_send as result_send}
 use Rattle.std.proofs.vec.Vec.TheSendSync.{the_send as vec_send}
-use Rattle.clone_turn.proofs.Crossing.{two_send, three_send}
-use Rattle.clone_memlink.proofs.EndSending.{end_send}
+use Rattle.clone_turn.proofs.TupleThreadLemmas.{two_send, three_send}
+use Rattle.clone_memlink.proofs.EndThreadLemmas.{end_send}
 use Rattle.clone_memlink.proofs.net_tests.talk_by_two.Goals as goal
 
 pub join-one-requires-send-A : goal.join-one-requires-send-A

@@ -1,4 +1,4 @@
-use Rattle.clone_model.proofs.Ordered.{wrote_present}
+use Rattle.clone_model.proofs.SlotOrderLemmas.{wrote_present}
 use Rattle.clone_model.proofs.tables.rows_of.Goals as goal
 
 pub returns : goal.returns

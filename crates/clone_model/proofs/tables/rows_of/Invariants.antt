@@ -1,5 +1,5 @@
 use Rattle.std.proofs.Common.{◌≡◌, ◌++◌}
-use Rattle.clone_model.proofs.Ordered.{present_rows}
+use Rattle.clone_model.proofs.SlotOrderLemmas.{present_rows}
 use Rattle.clone_model.proofs.tables.rows_of.Given as goal
 
 abbrev pub invariant-loop-table : goal.invariant-loop-table

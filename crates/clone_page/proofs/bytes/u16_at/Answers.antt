@@ -1,5 +1,5 @@
 use Rattle.std.proofs.Common.{arith, ◌∙◌, ◌-◌, ◌+◌, ◌≤◌}
-use Rattle.clone_page.proofs.Reading.{field_of_slice}
+use Rattle.clone_page.proofs.NumberLemmas.{field_of_slice}
 use Rattle.clone_page.proofs.bytes.u16_at.Goals as goal
 
 pub returns : goal.returns

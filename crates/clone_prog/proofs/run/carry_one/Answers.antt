@@ -2,7 +2,7 @@ use Rattle.std.proofs.Common.{◌≡◌, List, ℕ, refl, rules, subst, string_b
 use Rattle.clone_outside.specs.Bytes.{TakesSome}
 use Rattle.clone_model.specs.Texts.{ended}
 use Rattle.clone_prog.specs.Carrying.{behind_it}
-use Rattle.clone_prog.proofs.Running.{nothing_taken, on_err}
+use Rattle.clone_prog.proofs.RunLemmas.{nothing_taken, on_err}
 use Rattle.clone_prog.proofs.run.carry_one.Goals as goal
 
 pub returns-in_err-push-clause-err : goal.returns-in_err-push-clause-err

@@ -1,6 +1,6 @@
 use Rattle.std.proofs.Common.{arith, ◌≤◌, length, take, ◌^◌, ◌-◌}
 use Rattle.std.proofs.lemmas.List.{length-take}
-use Rattle.clone_prog.proofs.Running.{begun, one_more, stopped, at_end, on_err}
+use Rattle.clone_prog.proofs.RunLemmas.{begun, one_more, stopped, at_end, on_err}
 use Rattle.clone_prog.proofs.run.carry_out.Goals as goal
 
 pub loop-line-init : goal.loop-line-init

@@ -1,5 +1,5 @@
 use Rattle.std.proofs.Common.{◌≤◌}
-use Rattle.clone_prog.proofs.Running.{Sofar}
+use Rattle.clone_prog.proofs.RunLemmas.{Sofar}
 use Rattle.clone_prog.proofs.run.carry_out.Given as goal
 
 abbrev pub invariant-loop-line : goal.invariant-loop-line

@@ -1,5 +1,5 @@
 use Rattle.std.proofs.Common.{refl}
-use Rattle.clone_prog.proofs.Ending.{not_read}
+use Rattle.clone_prog.proofs.OutcomeLemmas.{not_read}
 use Rattle.clone_prog.proofs.run.clone_main.Goals.{in-Ok, in-Err}
 use Rattle.clone_prog.proofs.run.clone_main.Goals as goal
 

@@ -1,5 +1,5 @@
 use Rattle.std.proofs.Common.{refl}
-use Rattle.clone_prog.proofs.Ending.{LawsFrom, lent, left_so, not_begun, ran}
+use Rattle.clone_prog.proofs.OutcomeLemmas.{LawsFrom, lent, left_so, not_begun, ran}
 use Rattle.clone_prog.proofs.run.run_script.Goals as goal
 
 pub returns-in-Err : goal.returns-in-Err

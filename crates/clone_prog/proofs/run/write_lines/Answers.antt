@@ -2,7 +2,7 @@ use Rattle.std.proofs.Common.{List, ℕ, refl, ap, ◌∙◌, subst, inl, inr}
 use Rattle.clone_outside.specs.Bytes.{TakesSome}
 use Rattle.clone_model.specs.Texts.{binlog_text}
 use Rattle.clone_prog.specs.Carrying.{in_lines, in_binlog}
-use Rattle.clone_prog.proofs.Running.{nothing_taken, finished, fault_kept, no_fault, on_err}
+use Rattle.clone_prog.proofs.RunLemmas.{nothing_taken, finished, fault_kept, no_fault, on_err}
 use Rattle.clone_prog.proofs.run.write_lines.Goals as goal
 
 pub returns-in_err-carry_out-clause-err : goal.returns-in_err-carry_out-clause-err

@@ -1,6 +1,6 @@
 use Rattle.std.proofs.lemmas.Result.{err_from_is_err_and, on_ok_weaker, IfErr-weaker}
 use Rattle.clone_recover.specs.Chains.{IsFirstBrokenChain}
-use Rattle.clone_recover.proofs.Following.{on_ok_known}
+use Rattle.clone_recover.proofs.DiskStepLemmas.{on_ok_known}
 use Rattle.clone_recover.proofs.TableLemmas.{header_fails, chains_unbroken, chains_fail, chains_nowhere}
 use Rattle.clone_recover.proofs.chains.check_chains.Goals as goal
 

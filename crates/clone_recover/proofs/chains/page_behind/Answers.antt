@@ -2,7 +2,7 @@ use Rattle.std.proofs.Common.{◌∙◌, sym, ap, Err}
 use Rattle.std.specs.Prelude.{option_copied}
 use Rattle.clone_recover.proofs.Faults.{fetch_known}
 use Rattle.clone_recover.proofs.LookLemmas.{nowhere_behind, sees_behind, sees_misplaced}
-use Rattle.clone_recover.proofs.Shown.{fetch_fails}
+use Rattle.clone_recover.proofs.OverlayReadLemmas.{fetch_fails}
 use Rattle.clone_recover.proofs.chains.page_behind.Goals as goal
 
 pub returns-in_default-clause-behind : goal.returns-in_default-clause-behind

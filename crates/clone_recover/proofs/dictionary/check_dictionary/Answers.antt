@@ -3,7 +3,7 @@ use Rattle.clone_overlay.specs.Images.{image_of}
 use Rattle.clone_recover.specs.Damage.{IsAgainst}
 use Rattle.clone_recover.specs.declared.refusal.Why.TheVariants as why
 use Rattle.clone_recover.specs.declared.refusal.RecoverRefusal.TheVariants.{Damaged}
-use Rattle.clone_recover.proofs.Shown.{for_shown}
+use Rattle.clone_recover.proofs.OverlayReadLemmas.{for_shown}
 use Rattle.clone_recover.proofs.dictionary.check_dictionary.Goals as goal
 
 pub returns-in-Some-clause-cause : goal.returns-in-Some-clause-cause

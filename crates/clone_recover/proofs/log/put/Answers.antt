@@ -1,5 +1,5 @@
 use Rattle.std.proofs.Common.{◌≡◌, ◌+◌, ◌-◌, ◌++◌, ◌∙◌, ℕ, take, drop, ap, arith}
-use Rattle.clone_recover.proofs.Joined.{drop_twice}
+use Rattle.clone_recover.proofs.JoinedPageLemmas.{drop_twice}
 use Rattle.clone_recover.proofs.log.put.Goals as goal
 
 behind : (to : ℕ) → to + ((to + 4096) - to) ≡ to + 4096

@@ -7,7 +7,7 @@ use Rattle.clone_outside.specs.declared.mark.Mark.TheVariants as mark
 use Rattle.clone_recover.specs.Refusals.{refusal_of}
 use Rattle.clone_recover.specs.Written.{written_out}
 use Rattle.clone_recover.proofs.Faults.{of_disk, disk_known, disk_undamaged, disk_damage}
-use Rattle.clone_recover.proofs.Recovering.{restores}
+use Rattle.clone_recover.proofs.RecoveryLemmas.{restores}
 use Rattle.clone_recover.proofs.Marks.{marked_step}
 use Rattle.clone_recover.proofs.recovery.recover_from.Goals as goal
 

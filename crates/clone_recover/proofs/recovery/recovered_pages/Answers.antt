@@ -7,8 +7,8 @@ use Rattle.clone_recover.specs.Damage.{AgainstOn, PageOrOn, HasBroken}
 use Rattle.clone_recover.specs.Refusals.{refusal_of}
 use Rattle.clone_recover.specs.Restores.{LeavesOn, IsRedoCause}
 use Rattle.clone_recover.proofs.Faults.{of_disk, disk_known, disk_damage}
-use Rattle.clone_recover.proofs.Recovering.{log_fails, redo_fails, dictionary_fails, undo_fails, takes_back, chains_damage, undoes}
-use Rattle.clone_recover.proofs.Redoing.{retold}
+use Rattle.clone_recover.proofs.RecoveryLemmas.{log_fails, redo_fails, dictionary_fails, undo_fails, takes_back, chains_damage, undoes}
+use Rattle.clone_recover.proofs.RedoLemmas.{retold}
 use Rattle.clone_recover.proofs.recovery.recovered_pages.Goals as goal
 
 pub returns-in_err-check_log-clause-cause : goal.returns-in_err-check_log-clause-cause

@@ -2,7 +2,7 @@ use Rattle.std.proofs.Common.{ap, ◌∙◌, is_some}
 use Rattle.clone_outside.specs.Mark.{mark_bytes}
 use Rattle.clone_outside.specs.declared.mark.Mark.TheVariants as mark
 use Rattle.clone_recover.specs.Written.{written_out}
-use Rattle.clone_recover.proofs.Following.{then_marked, on_ok_known}
+use Rattle.clone_recover.proofs.DiskStepLemmas.{then_marked, on_ok_known}
 use Rattle.clone_recover.proofs.TellLemmas.{written_tells}
 use Rattle.clone_recover.proofs.recovery.write_recovered.Goals as goal
 

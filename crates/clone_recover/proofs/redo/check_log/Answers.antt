@@ -2,7 +2,7 @@ use Rattle.std.proofs.Common.{◌∙◌, arith, subst, Some, None}
 use Rattle.std.proofs.lemmas.Result.{err_from_is_err_and}
 use Rattle.clone_recover.specs.Reading.{ContinuesOn, StopsOn, redo_length}
 use Rattle.clone_recover.proofs.Faults.{disk_known, disk_no_redo}
-use Rattle.clone_recover.proofs.Redoing.{read_begins, read_goes_on, read_ends, read_fails, retold}
+use Rattle.clone_recover.proofs.RedoLemmas.{read_begins, read_goes_on, read_ends, read_fails, retold}
 use Rattle.clone_recover.proofs.redo.check_log.Goals as goal
 
 pub loop-mtr-init : goal.loop-mtr-init

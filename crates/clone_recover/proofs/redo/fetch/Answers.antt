@@ -1,6 +1,6 @@
 use Rattle.std.proofs.Common.{ap, Err}
 use Rattle.clone_recover.proofs.Faults.{fetch_known}
-use Rattle.clone_recover.proofs.Shown.{fetch_fails}
+use Rattle.clone_recover.proofs.OverlayReadLemmas.{fetch_fails}
 use Rattle.clone_recover.proofs.redo.fetch.Goals as goal
 
 pub returns-in-Err-clause-cause : goal.returns-in-Err-clause-cause

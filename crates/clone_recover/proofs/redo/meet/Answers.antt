@@ -1,8 +1,8 @@
 use Rattle.std.proofs.Common.{◌∙◌, ℕ, ap, sym, false, option_copied}
 use Rattle.std.specs.Prelude.{nat_lt}
 use Rattle.std.proofs.lemmas.Result.{err_from_is_err_and}
-use Rattle.clone_recover.proofs.Meeting.{meets_none, meets_page, meets_on}
-use Rattle.clone_recover.proofs.Shown.{always}
+use Rattle.clone_recover.proofs.RecordPageLemmas.{meets_none, meets_page, meets_on}
+use Rattle.clone_recover.proofs.OverlayReadLemmas.{always}
 use Rattle.clone_recover.proofs.redo.meet.Goals as goal
 
 pub returns-in_ok-settle-in-Some-clause-met : goal.returns-in_ok-settle-in-Some-clause-met

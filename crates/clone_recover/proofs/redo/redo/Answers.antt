@@ -4,7 +4,7 @@ use Rattle.clone_recover.specs.Damage.{HeaderOn}
 use Rattle.clone_recover.specs.Reading.{ContinuesOn, StopsOn}
 use Rattle.clone_recover.specs.Redo.{RedoesOn}
 use Rattle.clone_recover.proofs.Faults.{disk_known, disk_redo_cause}
-use Rattle.clone_recover.proofs.Redoing.{progress_begins, progress_goes_on, progress_ends, stopped, misplaced, retold}
+use Rattle.clone_recover.proofs.RedoLemmas.{progress_begins, progress_goes_on, progress_ends, stopped, misplaced, retold}
 use Rattle.clone_recover.proofs.redo.redo.Goals as goal
 
 pub loop-mtr-init : goal.loop-mtr-init

@@ -1,6 +1,6 @@
 use Rattle.std.proofs.Common.{◌≡◌, ◌≤◌, ◌-◌}
 use Rattle.clone_recover.specs.Reading.{read_of, total_of, redo_length}
-use Rattle.clone_recover.proofs.Redoing.{ProgressOn}
+use Rattle.clone_recover.proofs.RedoLemmas.{ProgressOn}
 use Rattle.clone_recover.proofs.redo.redo.Given as goal
 
 abbrev pub invariant-loop-mtr : goal.invariant-loop-mtr

@@ -1,8 +1,8 @@
 use Rattle.std.proofs.Common.{true, false, subst}
 use Rattle.std.proofs.lemmas.Result.{err_from_is_err_and}
 use Rattle.clone_recover.specs.Redo.{MeetsOn}
-use Rattle.clone_recover.proofs.Shown.{always}
-use Rattle.clone_recover.proofs.Stepping.{ready_for, steps_counted, steps_passed, steps_space, names_space, space_ready}
+use Rattle.clone_recover.proofs.OverlayReadLemmas.{always}
+use Rattle.clone_recover.proofs.RedoRuleLemmas.{ready_for, steps_counted, steps_passed, steps_space, names_space, space_ready}
 use Rattle.clone_recover.proofs.redo.redo_record.Goals as goal
 
 pub apply-requires-in-Init : goal.apply-requires-in-Init

@@ -1,6 +1,6 @@
 use Rattle.std.proofs.Common.{◌+◌, drop, refl, ◌∙◌, arith}
 use Rattle.std.proofs.lemmas.Result.{err_from_is_err_and}
-use Rattle.clone_recover.proofs.Going.{begins, goes_on, ends, half_header}
+use Rattle.clone_recover.proofs.MiniTransactionLemmas.{begins, goes_on, ends, half_header}
 use Rattle.clone_recover.proofs.Loops.{drop_item, drop_done}
 use Rattle.clone_recover.proofs.redo.redo_records.Goals as goal
 

@@ -1,5 +1,5 @@
 use Rattle.std.proofs.Common.{◌≡◌, ◌≤◌, drop}
-use Rattle.clone_recover.proofs.Going.{HalfwayOn}
+use Rattle.clone_recover.proofs.MiniTransactionLemmas.{HalfwayOn}
 use Rattle.clone_recover.proofs.redo.redo_records.Given as goal
 
 abbrev pub invariant-loop-entry : goal.invariant-loop-entry

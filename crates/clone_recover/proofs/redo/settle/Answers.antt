@@ -1,4 +1,4 @@
-use Rattle.clone_recover.proofs.Meeting.{settled_now}
+use Rattle.clone_recover.proofs.RecordPageLemmas.{settled_now}
 use Rattle.clone_recover.proofs.redo.settle.Goals as goal
 
 pub returns-clause-met : goal.returns-clause-met

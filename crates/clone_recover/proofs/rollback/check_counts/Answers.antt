@@ -3,7 +3,7 @@ use Rattle.std.proofs.lemmas.Result.{err_from_is_err_and}
 use Rattle.clone_recover.specs.Damage.{CountsTooMany, HasTooMany}
 use Rattle.clone_undo.specs.Places.{undo_slot_count}
 use Rattle.clone_recover.proofs.Counts.{fits_begin, fits_go_on, fits_end}
-use Rattle.clone_recover.proofs.Shown.{same_itself, same_twice, page_or_on}
+use Rattle.clone_recover.proofs.OverlayReadLemmas.{same_itself, same_twice, page_or_on}
 use Rattle.clone_recover.proofs.rollback.check_counts.Goals as goal
 
 pub loop-slot-init : goal.loop-slot-init

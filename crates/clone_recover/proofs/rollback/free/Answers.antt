@@ -5,7 +5,7 @@ use Rattle.clone_image.specs.Image.{with_edit, edited}
 use Rattle.clone_image.specs.Recovered.{freed}
 use Rattle.clone_overlay.specs.Images.{image_of}
 use Rattle.clone_overlay.specs.Shown.{Shows}
-use Rattle.clone_recover.proofs.Shown.{for_shown}
+use Rattle.clone_recover.proofs.OverlayReadLemmas.{for_shown}
 use Rattle.clone_recover.proofs.rollback.free.Goals as goal
 
 pub returns-clause-freed : goal.returns-clause-freed

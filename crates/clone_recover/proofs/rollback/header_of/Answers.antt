@@ -5,7 +5,7 @@ use Rattle.clone_undo.specs.Slots.{is_in_use}
 use Rattle.clone_overlay.specs.Images.{image_of}
 use Rattle.clone_recover.specs.Damage.{CountsTooMany}
 use Rattle.clone_recover.specs.Undoing.{HasHeader}
-use Rattle.clone_recover.proofs.Shown.{for_shown, header_nowhere, header_there, too_many, undo_damage}
+use Rattle.clone_recover.proofs.OverlayReadLemmas.{for_shown, header_nowhere, header_there, too_many, undo_damage}
 use Rattle.clone_recover.proofs.rollback.header_of.Goals as goal
 
 pub returns-in_default-clause-header : goal.returns-in_default-clause-header

@@ -3,8 +3,8 @@ use Rattle.std.proofs.lemmas.Result.{err_from_is_err_and}
 use Rattle.clone_image.specs.Image.{page_of}
 use Rattle.clone_overlay.specs.Images.{image_of}
 use Rattle.clone_recover.specs.Undoing.{HasSoundRecord}
-use Rattle.clone_recover.proofs.Shown.{for_shown, for_same, same_twice, header_same}
-use Rattle.clone_recover.proofs.Sound.{sound_record, unlisted, unstanding}
+use Rattle.clone_recover.proofs.OverlayReadLemmas.{for_shown, for_same, same_twice, header_same}
+use Rattle.clone_recover.proofs.UndoRecordLemmas.{sound_record, unlisted, unstanding}
 use Rattle.clone_recover.proofs.rollback.sound_change.Goals as goal
 
 pub returns-in_default-clause-change : goal.returns-in_default-clause-change

@@ -8,8 +8,8 @@ use Rattle.clone_undo.specs.declared.reading.SlotHeader.{SlotHeader}
 use Rattle.clone_image.specs.Recovered.{system_pages, all_undone}
 use Rattle.clone_recover.specs.Damage.{HeaderOn, PageOrOn, CountsTooMany, IsBroken}
 use Rattle.clone_recover.specs.Undoing.{IsHeaderOf}
-use Rattle.clone_recover.proofs.Shown.{same_itself, page_or_on}
-use Rattle.clone_recover.proofs.Taking.{no_header, stays_taken, free_in_range, free_unbroken, unbroken, taken_through, taken_in_range, undo_fails, free_fails}
+use Rattle.clone_recover.proofs.OverlayReadLemmas.{same_itself, page_or_on}
+use Rattle.clone_recover.proofs.UndoSlotLemmas.{no_header, stays_taken, free_in_range, free_unbroken, unbroken, taken_through, taken_in_range, undo_fails, free_fails}
 use Rattle.clone_recover.proofs.rollback.take_back.Goals as goal
 
 pub returns-in_err-header-clause-cause : goal.returns-in_err-header-clause-cause

@@ -4,7 +4,7 @@ use Rattle.clone_undo.specs.Places.{undo_slot_count}
 use Rattle.clone_image.specs.Recovered.{undo_slot_of, taken_back}
 use Rattle.clone_recover.specs.Undoing.{IsSlotInRange}
 use Rattle.clone_recover.specs.Damage.{ForImage, ShowsEdited, PageOrOn, IsBroken}
-use Rattle.clone_recover.proofs.Undone.{take_begins, take_goes_on, take_ends, take_sound, take_fails}
+use Rattle.clone_recover.proofs.DiskUndoLemmas.{take_begins, take_goes_on, take_ends, take_sound, take_fails}
 use Rattle.clone_recover.proofs.rollback.take_back_all.Goals as goal
 
 pub loop-slot-init : goal.loop-slot-init

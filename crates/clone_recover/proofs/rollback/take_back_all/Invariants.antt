@@ -1,5 +1,5 @@
 use Rattle.std.proofs.Common.{◌≡◌, ◌≤◌}
-use Rattle.clone_recover.proofs.Undone.{TakingOn}
+use Rattle.clone_recover.proofs.DiskUndoLemmas.{TakingOn}
 use Rattle.clone_recover.proofs.rollback.take_back_all.Given as goal
 
 abbrev pub invariant-loop-slot : goal.invariant-loop-slot

@@ -3,7 +3,7 @@ use Rattle.std.proofs.lemmas.Result.{err_from_is_err_and, on_ok_weaker, IfErr-we
 use Rattle.clone_image.specs.Recovered.{recovered}
 use Rattle.clone_recover.specs.Damage.{PageOrOn, HasTooMany, HasBroken, IsFirstBroken}
 use Rattle.clone_recover.proofs.Counts.{first_broken}
-use Rattle.clone_recover.proofs.Shown.{same_itself, for_same, edited_after, page_or_on}
+use Rattle.clone_recover.proofs.OverlayReadLemmas.{same_itself, for_same, edited_after, page_or_on}
 use Rattle.clone_recover.proofs.rollback.take_back_open.Goals as goal
 
 pub returns-in_err-check_counts-clause-cause : goal.returns-in_err-check_counts-clause-cause

@@ -2,8 +2,8 @@ use Rattle.std.proofs.Common.{subst, arith}
 use Rattle.std.proofs.lemmas.Result.{err_from_is_err_and}
 use Rattle.clone_recover.specs.Damage.{IsUnsoundAt}
 use Rattle.clone_recover.specs.Undoing.{IsSoundRecord}
-use Rattle.clone_recover.proofs.Shown.{header_on_or}
-use Rattle.clone_recover.proofs.Sound.{undone_shows, entry_in_range, never_unsound}
+use Rattle.clone_recover.proofs.OverlayReadLemmas.{header_on_or}
+use Rattle.clone_recover.proofs.UndoRecordLemmas.{undone_shows, entry_in_range, never_unsound}
 use Rattle.clone_recover.proofs.rollback.undo_change.Goals as goal
 
 pub returns-in_err-fetch-clause-cause : goal.returns-in_err-fetch-clause-cause

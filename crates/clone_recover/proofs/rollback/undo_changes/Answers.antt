@@ -4,7 +4,7 @@ use Rattle.clone_undo.specs.Entries.{IsEntry}
 use Rattle.clone_image.specs.Recovered.{undone}
 use Rattle.clone_recover.specs.Damage.{ForImage, ShowsEdited, PageOrOn, IsUnsoundAt}
 use Rattle.clone_recover.specs.Undoing.{record_of}
-use Rattle.clone_recover.proofs.Undone.{half_begins, half_goes_on, half_edits, half_ranges, half_sound, half_fails}
+use Rattle.clone_recover.proofs.DiskUndoLemmas.{half_begins, half_goes_on, half_edits, half_ranges, half_sound, half_fails}
 use Rattle.clone_recover.proofs.rollback.undo_changes.Goals as goal
 
 pub loop-number-init : goal.loop-number-init

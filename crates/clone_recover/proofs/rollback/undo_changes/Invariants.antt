@@ -1,5 +1,5 @@
 use Rattle.std.proofs.Common.{◌≡◌, ◌≤◌}
-use Rattle.clone_recover.proofs.Undone.{HalfwayOn}
+use Rattle.clone_recover.proofs.DiskUndoLemmas.{HalfwayOn}
 use Rattle.clone_recover.proofs.rollback.undo_changes.Given as goal
 
 abbrev pub invariant-loop-number : goal.invariant-loop-number

@@ -1,6 +1,6 @@
 use Rattle.std.proofs.Common.{◌≡◌, ◌<◌, ◌∙◌, ℕ, refl, arith}
 use Rattle.std.specs.Prelude.{unwrap_or}
-use Rattle.clone_recover.proofs.Listing.{pages_begin, pages_go_on, pages_end}
+use Rattle.clone_recover.proofs.RowListLemmas.{pages_begin, pages_go_on, pages_end}
 use Rattle.clone_recover.proofs.rows.add_table.Goals as goal
 
 pub loop-number-init : goal.loop-number-init

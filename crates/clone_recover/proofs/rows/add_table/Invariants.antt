@@ -1,5 +1,5 @@
 use Rattle.std.proofs.Common.{◌≡◌, ◌≤◌}
-use Rattle.clone_recover.proofs.Listing.{AddsPages}
+use Rattle.clone_recover.proofs.RowListLemmas.{AddsPages}
 use Rattle.clone_recover.proofs.rows.add_table.Given as goal
 
 -- the rows of the pages so far

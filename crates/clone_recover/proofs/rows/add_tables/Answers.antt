@@ -3,7 +3,7 @@ use Rattle.std.specs.Prelude.{unwrap_or}
 use Rattle.clone_model.specs.History.{Rows}
 use Rattle.clone_page.specs.Dictionary.{entry_count}
 use Rattle.clone_overlay.specs.Images.{redo_space}
-use Rattle.clone_recover.proofs.Listing.{AddsEntries, entries_go_on, entries_pass, entries_end, none_listed}
+use Rattle.clone_recover.proofs.RowListLemmas.{AddsEntries, entries_go_on, entries_pass, entries_end, none_listed}
 use Rattle.clone_recover.proofs.rows.add_tables.Goals as goal
 use Rattle.clone_recover.proofs.rows.add_tables.Goals.{then-table-ne0+then-table-lt-REDO_SPACE+in_ok-add_table, else-table-ne0, else-table-ne0-via-then-table-ne0+else-table-lt-REDO_SPACE, else-table-ne0-via-else-table-ne0}
 

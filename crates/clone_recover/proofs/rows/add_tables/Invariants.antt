@@ -1,5 +1,5 @@
 use Rattle.std.proofs.Common.{◌≡◌, ◌≤◌}
-use Rattle.clone_recover.proofs.Listing.{AddsEntries}
+use Rattle.clone_recover.proofs.RowListLemmas.{AddsEntries}
 use Rattle.clone_recover.proofs.rows.add_tables.Given as goal
 
 -- the rows of the entries so far

@@ -6,7 +6,7 @@ use Rattle.clone_outside.specs.declared.mark.Mark.{Mark}
 use Rattle.clone_recover.specs.Restores.{IsMarkOf}
 use Rattle.clone_recover.specs.declared.refusal.RecoverRefusal.{RecoverRefusal}
 use Rattle.clone_recover.specs.declared.refusal.RecoverRefusal.TheVariants.{Incomplete, DiskFault}
-use Rattle.clone_recover.proofs.Listing.{lists_rows, unrecovered}
+use Rattle.clone_recover.proofs.RowListLemmas.{lists_rows, unrecovered}
 use Rattle.clone_recover.proofs.rows.open_rows.Goals as goal
 
 no_fault : {T : Type 0} → ◌≡◌ {A = Result T RecoverRefusal} (Err Incomplete) (Err DiskFault) → ⊥

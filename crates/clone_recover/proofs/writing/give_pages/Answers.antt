@@ -1,6 +1,6 @@
 use Rattle.std.proofs.Common.{◌∙◌, sym}
 use Rattle.std.proofs.lemmas.Result.{on_ok_weaker}
-use Rattle.clone_recover.proofs.Following.{made_anew, made_longer}
+use Rattle.clone_recover.proofs.DiskStepLemmas.{made_anew, made_longer}
 use Rattle.clone_recover.proofs.TellLemmas.{written_tells}
 use Rattle.clone_recover.proofs.writing.give_pages.Goals as goal
 

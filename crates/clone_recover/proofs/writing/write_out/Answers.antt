@@ -3,7 +3,7 @@ use Rattle.std.proofs.lemmas.Result.{on_ok_weaker}
 use Rattle.clone_outside.specs.Disk.{Steps}
 use Rattle.clone_overlay.specs.Covers.{Overlay, covers_of}
 use Rattle.clone_recover.specs.Written.{without_spaces}
-use Rattle.clone_recover.proofs.Following.{all_written}
+use Rattle.clone_recover.proofs.DiskStepLemmas.{all_written}
 use Rattle.clone_recover.proofs.writing.write_out.Goals as goal
 
 pub returns-clause-written : goal.returns-clause-written

@@ -4,7 +4,7 @@ use Rattle.std.proofs.lemmas.Result.{on_ok_weaker}
 use Rattle.clone_outside.specs.Disk.{Steps}
 use Rattle.clone_overlay.specs.Covers.{Leaves}
 use Rattle.clone_recover.specs.Written.{with_count, with_leaves}
-use Rattle.clone_recover.proofs.Following.{then_step}
+use Rattle.clone_recover.proofs.DiskStepLemmas.{then_step}
 use Rattle.clone_recover.proofs.writing.write_sheet.Goals as goal
 
 pub returns-clause-written : goal.returns-clause-written

@@ -1,7 +1,7 @@
 use Rattle.std.proofs.Common.{◌≡◌, ℕ, List, ◌∷◌, ◌++◌, length, replicate, refl, ap, ◌∙◌}
 use Rattle.byteorder.specs.Endian.{big_bytes}
 use Rattle.clone_page.specs.Bytes.{put_at}
-use Rattle.clone_page.proofs.Laying.{padded}
+use Rattle.clone_page.proofs.PieceLemmas.{padded}
 use Rattle.clone_row.proofs.slots.present_image.Goals as goal
 
 pub returns : goal.returns

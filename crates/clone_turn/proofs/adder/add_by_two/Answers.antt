@@ -12,9 +12,9 @@ use Rattle.std.proofs.alloc.Global.TheSendSync.{the_send as global_send, the_syn
 use Rattle.std.below.std_heap.proofs.GlobalAllocator.TheSendSync.{the_frees}
 use Rattle.clone_turn.specs.Seats.{first_seat}
 use Rattle.clone_turn.specs.Adding.{HasMade, answers_of}
-use Rattle.clone_turn.proofs.AddingLemmas.{summed, answered}
-use Rattle.clone_turn.proofs.AdderSending.{number_send, adder_seat, adder_cell}
-use Rattle.clone_turn.proofs.Crossing.{two_send, five_send}
+use Rattle.clone_turn.proofs.AdderLemmas.{summed, answered}
+use Rattle.clone_turn.proofs.AdderThreadLemmas.{number_send, adder_seat, adder_cell}
+use Rattle.clone_turn.proofs.TupleThreadLemmas.{two_send, five_send}
 use Rattle.clone_turn.proofs.adder.add_by_two.Goals as goal
 
 pub join-one-requires-send-A : goal.join-one-requires-send-A

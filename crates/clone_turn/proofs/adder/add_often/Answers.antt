@@ -1,5 +1,5 @@
 use Rattle.std.proofs.Common.{◌∙◌}
-use Rattle.clone_turn.proofs.AddingLemmas.{made_one, answered_one}
+use Rattle.clone_turn.proofs.AdderLemmas.{made_one, answered_one}
 use Rattle.clone_turn.proofs.adder.add_often.Goals as goal
 
 pub loop-preserved : goal.loop-preserved

@@ -2,8 +2,8 @@ use denote.Param.Send.{param_send, param_sync, arg_send, shr_send}
 use denote.Builtin.{u32}
 use denote.Exit as Exit
 use denote.Param.Send.{IsSync, sendable}
-use Rattle.clone_turn.proofs.AdderSending.{adder_seat, adder_cell}
-use Rattle.clone_turn.proofs.Crossing.{four_send}
+use Rattle.clone_turn.proofs.AdderThreadLemmas.{adder_seat, adder_cell}
+use Rattle.clone_turn.proofs.TupleThreadLemmas.{four_send}
 use Rattle.clone_turn.proofs.tests.+add_by_threads+fn-add_by_threads-join+arg2+fn-add_by_threads-join+arg3.Goals as goal
 
 pub join-one-requires-send-A : goal.join-one-requires-send-A

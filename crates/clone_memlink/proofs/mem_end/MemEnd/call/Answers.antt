@@ -4,7 +4,7 @@ use Rattle.clone_turn.specs.Seats.{MakesCall}
 use Rattle.clone_memlink.specs.Connections.{Steps}
 use Rattle.clone_memlink.specs.Ends.{sent_of, received_of}
 use Rattle.clone_memlink.specs.Held.{EndModel, sent_by, received_by}
-use Rattle.clone_memlink.proofs.Seen.{half_after, step_made, sent_more, received_more}
+use Rattle.clone_memlink.proofs.EndViewLemmas.{half_after, step_made, sent_more, received_more}
 use Rattle.clone_memlink.proofs.mem_end.MemEnd.call.Goals as goal
 
 pub invariant_of-self : goal.invariant_of-self

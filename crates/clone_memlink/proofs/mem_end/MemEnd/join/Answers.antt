@@ -5,7 +5,7 @@ use Rattle.clone_turn.specs.Runs.{Agree}
 use Rattle.clone_turn.specs.Seats.{ClosesAt, joined_seat}
 use Rattle.clone_memlink.specs.Connections.{Steps}
 use Rattle.clone_memlink.specs.Held.{EndModel, IsHalf}
-use Rattle.clone_memlink.proofs.Settling.{to_donor, to_requester, ends_to_donor, ends_to_requester}
+use Rattle.clone_memlink.proofs.JoinedEndLemmas.{to_donor, to_requester, ends_to_donor, ends_to_requester}
 use Rattle.clone_memlink.proofs.mem_end.MemEnd.join.Goals as goal
 
 pub returns-clause-to_donor : goal.returns-clause-to_donor

@@ -2,7 +2,7 @@ use Rattle.std.proofs.Common.{rules, ◌≡◌, ℕ, subst}
 use Rattle.std.specs.Prelude.{Result, Ok}
 use Rattle.clone_outside.specs.declared.link.LinkRefusal.{LinkRefusal}
 use Rattle.clone_memlink.specs.Held.{SendsFront}
-use Rattle.clone_memlink.proofs.Sending.{front_then}
+use Rattle.clone_memlink.proofs.SendLemmas.{front_then}
 use Rattle.clone_memlink.proofs.mem_end.MemEnd.send_some.Goals as goal
 
 pub returns-clause-sent : goal.returns-clause-sent

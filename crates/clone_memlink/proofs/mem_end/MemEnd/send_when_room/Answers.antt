@@ -2,7 +2,7 @@ use Rattle.std.proofs.Common.{rules, ◌≡◌, ℕ, [], subst}
 use Rattle.std.specs.Prelude.{Result, Ok}
 use Rattle.clone_outside.specs.declared.link.LinkRefusal.{LinkRefusal}
 use Rattle.clone_memlink.specs.Held.{SendsFront}
-use Rattle.clone_memlink.proofs.Sending.{front_then, sent_then}
+use Rattle.clone_memlink.proofs.SendLemmas.{front_then, sent_then}
 use Rattle.clone_memlink.proofs.mem_end.MemEnd.send_when_room.Goals as goal
 
 pub returns-in_default-clause-sent : goal.returns-in_default-clause-sent

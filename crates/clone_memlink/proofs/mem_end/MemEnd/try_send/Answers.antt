@@ -4,7 +4,7 @@ use Rattle.clone_memlink.specs.declared.connection.Connection.{Connection}
 use Rattle.clone_memlink.specs.declared.connection.LinkCall.TheVariants.{Send}
 use Rattle.clone_memlink.specs.declared.connection.LinkAnswer.TheVariants.{Sent, Lost, NoMemory}
 use Rattle.clone_memlink.specs.Connections.{Steps}
-use Rattle.clone_memlink.proofs.Seen.{sends_one, sends_lost, sends_no_memory}
+use Rattle.clone_memlink.proofs.EndViewLemmas.{sends_one, sends_lost, sends_no_memory}
 use Rattle.clone_memlink.proofs.mem_end.MemEnd.try_send.Goals as goal
 
 pub returns-after-n-gt0-clause-sent : goal.returns-after-n-gt0-clause-sent

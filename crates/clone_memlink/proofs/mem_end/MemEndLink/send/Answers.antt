@@ -2,7 +2,7 @@ use Rattle.std.proofs.Common.{rules, ◌≡◌, ◌≤◌, ◌+◌, ◌-◌, ℕ
 use Rattle.std.specs.Prelude.{Result, Ok, Err, Some}
 use Rattle.clone_outside.specs.declared.link.LinkRefusal.{LinkRefusal}
 use Rattle.clone_memlink.specs.Held.{SendsBytes}
-use Rattle.clone_memlink.proofs.Sending.{sent_more_then, stopped, sent_all, sent_is, received_is}
+use Rattle.clone_memlink.proofs.SendLemmas.{sent_more_then, stopped, sent_all, sent_is, received_is}
 use Rattle.clone_memlink.proofs.mem_end.MemEndLink.send.Goals as goal
 
 pub returns-in_err-done-clause-calls : goal.returns-in_err-done-clause-calls

@@ -1,6 +1,6 @@
 use Rattle.std.proofs.Common.{ap, sym}
 use Rattle.clone_memlink.specs.Nets.{NetModel}
-use Rattle.clone_memlink.proofs.Naming.{made_last, made_before}
+use Rattle.clone_memlink.proofs.ConnectionLemmas.{made_last, made_before}
 use Rattle.clone_memlink.proofs.mem_net.MemNetNet.pair.Goals as goal
 
 pub returns-clause-made : goal.returns-clause-made

@@ -2,7 +2,7 @@ use Rattle.std.proofs.Common.{sym, subst}
 use Rattle.std.proofs.lemmas.Result.{on_ok_weaker}
 use Rattle.clone_overlay.specs.Covers.{Overlay, covers_of}
 use Rattle.clone_overlay.specs.Shown.{Shows, IsReadyFor}
-use Rattle.clone_overlay.proofs.Applying.{applied_change, applied_extend, applied_create, applied_drop}
+use Rattle.clone_overlay.proofs.RecordLemmas.{applied_change, applied_extend, applied_create, applied_drop}
 use Rattle.clone_overlay.proofs.overlay.Overlay.apply.Goals as goal
 
 pub returns-in-Init-clause-ok : goal.returns-in-Init-clause-ok

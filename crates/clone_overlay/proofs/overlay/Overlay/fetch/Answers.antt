@@ -2,7 +2,7 @@ use Rattle.std.proofs.Common.{subst}
 use Rattle.std.proofs.lemmas.Result.{on_ok_weaker}
 use Rattle.clone_overlay.specs.Covers.{Overlay, covers_of}
 use Rattle.clone_overlay.specs.Shown.{ShowsSame, ForBase, IsMisplaced}
-use Rattle.clone_overlay.proofs.Fetching.{fetched_ready, fetched_shows, gives_misplaced}
+use Rattle.clone_overlay.proofs.FetchLemmas.{fetched_ready, fetched_shows, gives_misplaced}
 use Rattle.clone_overlay.proofs.overlay.Overlay.fetch.Goals as goal
 
 pub returns-clause-ready : goal.returns-clause-ready

@@ -3,7 +3,7 @@ use Rattle.clone_page.specs.Bytes.{put_at}
 use Rattle.clone_image.specs.Image.{with_edit, edited}
 use Rattle.clone_overlay.specs.Covers.{Overlay, covers_of}
 use Rattle.clone_overlay.specs.Shown.{Shows, IsReady}
-use Rattle.clone_overlay.proofs.Showing.{shows_laid}
+use Rattle.clone_overlay.proofs.OverlayImageLemmas.{shows_laid}
 use Rattle.clone_overlay.proofs.overlay.Overlay.lay.Goals as goal
 
 pub returns : goal.returns

@@ -1,5 +1,5 @@
 use Rattle.clone_overlay.specs.Covers.{covers_of}
-use Rattle.clone_overlay.proofs.Opening.{opened_told}
+use Rattle.clone_overlay.proofs.OpenLemmas.{opened_told}
 use Rattle.clone_overlay.proofs.overlay.Overlay.open.Goals as goal
 
 pub returns-clause-shows : goal.returns-clause-shows

@@ -2,7 +2,7 @@ use Rattle.std.proofs.Common.{◌∙◌, ap, sym, subst, arith, option_copied}
 use Rattle.clone_overlay.specs.Covers.{Overlay, covers_of}
 use Rattle.clone_overlay.specs.Shown.{Shows, IsReady}
 use Rattle.clone_overlay.proofs.Entries.{get_cover}
-use Rattle.clone_overlay.proofs.Showing.{page_nowhere, page_past, page_ready}
+use Rattle.clone_overlay.proofs.OverlayImageLemmas.{page_nowhere, page_past, page_ready}
 use Rattle.clone_overlay.proofs.overlay.Overlay.page.Goals as goal
 
 pub returns-in_err-sheet : goal.returns-in_err-sheet

@@ -1,7 +1,7 @@
 use Rattle.std.proofs.Common.{◌≡◌, ◌∙◌, true, false, sym}
 use Rattle.std.specs.FinMap as finite
 use Rattle.clone_overlay.specs.Covers.{Cover}
-use Rattle.clone_overlay.proofs.Fetching.{unready}
+use Rattle.clone_overlay.proofs.FetchLemmas.{unready}
 use Rattle.clone_overlay.proofs.sheet.Sheet.fetch.Goals as goal
 
 pub bring-requires-clause-there : goal.bring-requires-clause-there

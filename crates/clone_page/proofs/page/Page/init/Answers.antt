@@ -2,7 +2,7 @@
 use Rattle.std.proofs.Common.{◌≡◌, ◌∙◌, ap, length, replicate, refl, ℕ}
 use Rattle.std.proofs.lemmas.List.{length-replicate}
 use Rattle.clone_page.specs.Header.{header, trailer}
-use Rattle.clone_page.proofs.Laying.{laid, room, joined}
+use Rattle.clone_page.proofs.PieceLemmas.{laid, room, joined}
 use Rattle.clone_page.proofs.page.Page.init.Goals as goal
 
 pub returns : goal.returns

@@ -2,7 +2,7 @@
 use Rattle.std.proofs.Common.{◌≡◌, ◌∙◌, ap, refl, take, drop}
 use Rattle.byteorder.specs.Endian.{big_bytes}
 use Rattle.clone_page.specs.Bytes.{put_at}
-use Rattle.clone_page.proofs.Laying.{written}
+use Rattle.clone_page.proofs.PieceLemmas.{written}
 use Rattle.clone_page.proofs.page.Page.set_lsn.Goals as goal
 
 pub returns : goal.returns

@@ -1,6 +1,6 @@
 use Rattle.std.proofs.Common.{refl}
 use Rattle.std.proofs.lemmas.Result.{on_ok_weaker}
-use Rattle.clone_recover.proofs.Loading.{turned}
+use Rattle.clone_recover.proofs.RedoPageLemmas.{turned}
 use Rattle.clone_recover.proofs.log.Log.make_ready.Goals as goal
 
 pub returns-clause-keeps : goal.returns-clause-keeps

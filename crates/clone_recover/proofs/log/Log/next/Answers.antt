@@ -2,8 +2,8 @@ use Rattle.std.proofs.Common.{◌≡◌}
 use Rattle.std.proofs.lemmas.Result.{err_from_is_err_and}
 use Rattle.clone_recover.specs.declared.refusal.RecoverRefusal.TheVariants.{DiskFault, Incomplete}
 use Rattle.clone_recover.proofs.Faults.{disk_known, redo_known}
-use Rattle.clone_recover.proofs.Loading.{read_on, not_read}
-use Rattle.clone_recover.proofs.Reading.{of_redo_fault}
+use Rattle.clone_recover.proofs.RedoPageLemmas.{read_on, not_read}
+use Rattle.clone_recover.proofs.RedoFrontLemmas.{of_redo_fault}
 use Rattle.clone_recover.proofs.log.Log.next.Goals as goal
 
 pub returns-in_err-read-clause-fault : goal.returns-in_err-read-clause-fault

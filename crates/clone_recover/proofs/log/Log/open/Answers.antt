@@ -1,6 +1,6 @@
 use Rattle.std.proofs.Common.{◌≡◌, ◌-◌, ◌*◌, ◌∙◌, min, refl}
 use Rattle.std.specs.Prelude.{unwrap_or}
-use Rattle.clone_recover.proofs.Loading.{opened}
+use Rattle.clone_recover.proofs.RedoPageLemmas.{opened}
 use Rattle.clone_recover.proofs.log.Log.open.Goals as goal
 
 pub returns-clause-reads : goal.returns-clause-reads

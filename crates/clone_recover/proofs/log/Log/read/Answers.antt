@@ -5,7 +5,7 @@ use Rattle.clone_mtr.specs.Spelling.{Spells}
 use Rattle.clone_mtr.specs.declared.record.Record.{Record}
 use Rattle.clone_recover.specs.Reading.{IsOfTable, rest_of, total_of}
 use Rattle.clone_recover.specs.declared.log.Log.{Log}
-use Rattle.clone_recover.proofs.Reading.{IsInOrder, reads_next, no_log, no_tables, is_no_redo, not_decoded, spelled_some}
+use Rattle.clone_recover.proofs.RedoFrontLemmas.{IsInOrder, reads_next, no_log, no_tables, is_no_redo, not_decoded, spelled_some}
 use Rattle.clone_recover.proofs.log.Log.read.Goals as goal
 
 order : (log : Log) → length log.window ≡ 8192 → IsInOrder log

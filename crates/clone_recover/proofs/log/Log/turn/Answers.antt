@@ -1,6 +1,6 @@
 use Rattle.std.proofs.Common.{◌∙◌, ap, take, drop, arith}
 use Rattle.std.proofs.lemmas.List.{length-drop}
-use Rattle.clone_recover.proofs.Joined.{take_front}
+use Rattle.clone_recover.proofs.JoinedPageLemmas.{take_front}
 use Rattle.clone_recover.proofs.log.Log.turn.Goals as goal
 
 pub returns-clause-front : goal.returns-clause-front

@@ -1,6 +1,6 @@
 use Rattle.std.proofs.Common.{◌≡◌, ◌≤◌, take}
 use Rattle.std.specs.FinMap as finite
-use Rattle.clone_track.specs.Tracking.{all_noted}
+use Rattle.clone_track.specs.TrackedPages.{all_noted}
 use Rattle.clone_track.proofs.runs.Runs.of.Given as goal
 
 -- the pages that were passed are noted, with a note for each at most

@@ -1,5 +1,5 @@
 use Rattle.std.proofs.Common.{ap}
-use Rattle.clone_turn.proofs.Calling.{closed_key}
+use Rattle.clone_turn.proofs.CallLemmas.{closed_key}
 use Rattle.clone_turn.proofs.cell.TurnCell.close.Goals as goal
 
 pub returns-clause-key : goal.returns-clause-key

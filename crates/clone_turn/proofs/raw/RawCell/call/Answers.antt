@@ -1,6 +1,6 @@
 use Rattle.std.proofs.Common.{subst, sym}
 use Rattle.clone_turn.specs.Runs.{end_of, entries}
-use Rattle.clone_turn.proofs.Calling.{fits_at, step_at, called}
+use Rattle.clone_turn.proofs.CallLemmas.{fits_at, step_at, called}
 use Rattle.clone_turn.proofs.raw.RawCell.call.Goals as goal
 
 pub step-answer-requires : goal.step-answer-requires

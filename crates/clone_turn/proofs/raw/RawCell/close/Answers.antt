@@ -1,4 +1,4 @@
-use Rattle.clone_turn.proofs.Calling.{closed}
+use Rattle.clone_turn.proofs.CallLemmas.{closed}
 use Rattle.clone_turn.proofs.raw.RawCell.close.Goals as goal
 
 pub returns : goal.returns

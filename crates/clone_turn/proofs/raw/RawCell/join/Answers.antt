@@ -1,7 +1,7 @@
 use Rattle.std.proofs.Common.{arith, ◌<◌, ◌∙◌, ap, sym, subst}
 use Rattle.clone_turn.specs.Rule.{Idle}
-use Rattle.clone_turn.proofs.Joining.{may_join}
-use Rattle.clone_turn.proofs.Settling.{may_settle}
+use Rattle.clone_turn.proofs.JoinLemmas.{may_join}
+use Rattle.clone_turn.proofs.SettleLemmas.{may_settle}
 use Rattle.clone_turn.proofs.raw.RawCell.join.Goals as goal
 
 pub join_seat-requires : goal.join_seat-requires

@@ -1,5 +1,5 @@
 use Rattle.std.proofs.Common.{arith, ◌<◌}
-use Rattle.clone_turn.proofs.Turning.{may_look}
+use Rattle.clone_turn.proofs.TurnLemmas.{may_look}
 use Rattle.clone_turn.proofs.raw.RawCell.look.Goals as goal
 
 pub load-requires : goal.load-requires

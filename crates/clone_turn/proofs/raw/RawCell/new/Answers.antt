@@ -1,5 +1,5 @@
 use Rattle.std.proofs.Common.{ap, ◌∙◌, ◌++◌, ◌∷◌, [], Some, None}
-use Rattle.clone_turn.proofs.Opening.{opened}
+use Rattle.clone_turn.proofs.OpenLemmas.{opened}
 use Rattle.clone_turn.proofs.raw.RawCell.new.Goals as goal
 
 pub new-requires : goal.new-requires

@@ -1,6 +1,6 @@
 use Rattle.std.proofs.Common.{arith, ◌<◌, refl, ap, ◌∙◌, Some, ◌∷◌}
 use Rattle.atomic_table.specs.Table.{rest}
-use Rattle.clone_turn.proofs.Releasing.{may_release}
+use Rattle.clone_turn.proofs.ReleaseLemmas.{may_release}
 use Rattle.clone_turn.proofs.raw.RawCell.put_home.Goals as goal
 
 pub store-requires : goal.store-requires

@@ -1,5 +1,5 @@
 use Rattle.std.proofs.Common.{arith, ◌<◌}
-use Rattle.clone_turn.proofs.Splitting.{may_split}
+use Rattle.clone_turn.proofs.SplitLemmas.{may_split}
 use Rattle.clone_turn.proofs.raw.RawCell.split.Goals as goal
 
 pub split_seat-other-requires : goal.split_seat-other-requires

@@ -1,5 +1,5 @@
 use Rattle.std.proofs.Common.{arith, ◌<◌, refl}
-use Rattle.clone_turn.proofs.Turning.{may_draw}
+use Rattle.clone_turn.proofs.TurnLemmas.{may_draw}
 use Rattle.clone_turn.proofs.raw.RawCell.try_draw.Goals as goal
 
 pub compare_exchange-found-requires : goal.compare_exchange-found-requires

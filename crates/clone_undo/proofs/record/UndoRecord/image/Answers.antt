@@ -2,8 +2,8 @@
 use Rattle.std.proofs.Common.{◌≡◌, ℕ, List, ◌∷◌, ◌++◌, length, replicate, refl, ap, ◌∙◌}
 use Rattle.byteorder.specs.Endian.{big_bytes}
 use Rattle.clone_undo.specs.Entries.{UndoEntry}
-use Rattle.clone_page.proofs.Laying.{padded}
-use Rattle.clone_undo.proofs.Laying.{pair, told}
+use Rattle.clone_page.proofs.PieceLemmas.{padded}
+use Rattle.clone_undo.proofs.BytePieceLemmas.{pair, told}
 use Rattle.clone_undo.proofs.record.UndoRecord.image.Goals as goal
 
 pub returns-clause-bytes : goal.returns-clause-bytes
