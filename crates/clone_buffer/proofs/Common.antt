@@ -33,7 +33,7 @@ pub use Rattle.clone_pool.specs.declared.frame.PageName.{PageName}
 pub use Rattle.clone_pool.specs.declared.pool.FetchRefusal.{FetchRefusal}
 pub use Rattle.clone_ring.specs.Window.{free_in, Window}
 pub use Rattle.clone_ring.specs.declared.log_full.LogFull.{LogFull}
-pub use Rattle.clone_shadow.specs.State.{State}
+pub use Rattle.clone_buffer.specs.ShadowState.{State}
 pub use Rattle.std.proofs.lemmas.Bool.{and_parts, cases_eq, cases_lt, eqb-true, true≢false, false≢true}
 pub use Rattle.std.proofs.lemmas.List.{get_or-set_same, length-replicate, length-append, get_or-set_other, get_or-replicate}
 pub use Rattle.std.specs.FinMap.{get-empty}

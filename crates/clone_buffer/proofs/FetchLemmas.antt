@@ -8,7 +8,7 @@ use Rattle.clone_pool.specs.declared.frame.Flush.TheVariants as flush
 use Rattle.clone_pool.specs.declared.pool.FetchRefusal.TheVariants.{PoolFull, DiskFault}
 use Rattle.clone_pool.specs.Frames.{may_go, filled, emptied}
 use Rattle.clone_pool.specs.Pool.{Fills, Fetches, Misses}
-use Rattle.clone_shadow.specs.State.{is_page}
+use Rattle.clone_buffer.specs.ShadowState.{is_page}
 use Rattle.clone_buffer.specs.Keeping.{Stands}
 use Rattle.clone_buffer.proofs.PageLemmas.{like_page, lost_page, read_bytes, read_page}
 use Rattle.clone_buffer.proofs.FrameLemmas.{some_of, holder_name, some_name, no_name, none_some, counted, Becomes, set_becomes, moved, held_on}

@@ -1,3 +1,4 @@
+pub mod ShadowWalks
 pub mod Common
 pub mod FrameLemmas
 pub mod ShownLemmas

@@ -1,3 +1,6 @@
+pub mod RecordCodes
+pub mod ShadowState
+pub mod Noted
 pub mod Buffered
 pub mod OnePage
 pub mod Keeping

@@ -21,13 +21,13 @@ ghost use Rattle.clone_pool.specs.declared.frame.Content.TheVariants.{Held};
 ghost use Rattle.clone_pool.specs.declared.frame.PageName.{PageName};
 ghost use Rattle.clone_pool.specs.Pool.{IsPool, Fetches, Freshens, IsHolder, KeepsOthers, KeepsInUse, AreClean, IsOldest, HasPinRoom, with_frame, AreNotWaiting, AreOpenPages, IsNextToFlush};
 
+use crate::shadow::{Note, Shadow};
 use clone_base::PAGE_SIZE;
 use clone_mtr::{LONGEST_MTR, Record, encode_into, spelling_length};
 use clone_outside::{PageDisk, Refusal};
 use clone_page::Page;
 use clone_pool::{FetchRefusal, Frame, PageName, Pool};
 use clone_ring::{LogFull, Ring};
-use clone_shadow::{Note, Shadow};
 use std::alloc::{AllocError, Global};
 use std::marker::Model;
 

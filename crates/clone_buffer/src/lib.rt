@@ -2,8 +2,10 @@
 #![tactic(auto)]
 
 mod buffer;
+mod shadow;
 
 pub use buffer::{Buffer, copy_laws, flush_laws, read_laws};
+pub use shadow::{Note, Shadow, sent};
 
 #[cfg(test)]
 mod tests;

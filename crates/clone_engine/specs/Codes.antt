@@ -14,7 +14,7 @@ use Rattle.clone_pool.specs.declared.frame.Flush.TheVariants as flush
 use Rattle.clone_pool.specs.declared.frame.Frame.{Frame}
 use Rattle.clone_pool.specs.declared.frame.PageName.{PageName}
 use Rattle.clone_pool.specs.Pool.{Frames}
-use Rattle.clone_shadow.specs.Codes.{record_code}
+use Rattle.clone_buffer.specs.RecordCodes.{record_code}
 use Rattle.clone_buffer.specs.Buffered.{Buffered}
 use Rattle.clone_flush.specs.Flights.{Flights, flights_code}
 use Rattle.clone_plain.specs.Donor.{Donor, donor_code}

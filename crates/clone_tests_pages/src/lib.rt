@@ -13,8 +13,6 @@ mod recover;
 #[cfg(test)]
 mod row;
 #[cfg(test)]
-mod shadow;
-#[cfg(test)]
 mod space;
 #[cfg(test)]
 mod undo;

@@ -2,9 +2,9 @@
 use Rattle.std.specs.Prelude.{◌&&◌, ◌++◌, ◌∷◌, []}
 use Rattle.clone_image.specs.Image.{page_of}
 use Rattle.clone_image.specs.Replay.{replayed}
-use Rattle.clone_shadow.specs.State.{State, is_page}
-use Rattle.clone_shadow.specs.declared.shadow.Note.{Note}
-use Rattle.clone_shadow.specs.declared.shadow.Note.TheVariants as note
+use Rattle.clone_buffer.specs.ShadowState.{State, is_page}
+use Rattle.clone_buffer.specs.declared.shadow.Note.{Note}
+use Rattle.clone_buffer.specs.declared.shadow.Note.TheVariants as note
 
 abbrev pub noted : State → Note → State
 noted s (note.Read space number page) = record s {

@@ -1,6 +1,6 @@
 -- A shadow owns nothing, so it may go to another thread.
 use denote.Param.Send.{IsSend, owning_send}
-use Rattle.clone_shadow.specs.contracts.shadow.Shadow.{the_row, the_type}
+use Rattle.clone_buffer.specs.contracts.shadow.Shadow.{the_row, the_type}
 
 pub send : IsSend the_row
 send = owning_send the_type tt (λ d. tt) (λ k x w. tt)

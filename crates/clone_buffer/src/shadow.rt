@@ -1,6 +1,8 @@
+//! What proofs alone read of a donor: its redo log from the beginning, and whether each page that
+//! was read is the one that the log makes. It has no bytes, and does nothing at run time.
 ghost use Rattle.std.specs.Prelude.{◌≡◌};
 ghost use Rattle.std.specs.Borrow.{ftrue};
-ghost use Rattle.clone_shadow.specs.State.{State, state_code, first};
+ghost use Rattle.clone_buffer.specs.ShadowState.{State, state_code, first};
 
 use clone_mtr::Record;
 use clone_page::Page;
@@ -31,7 +33,7 @@ pub enum Note<'a> {
 }
 
 impl Shadow {
-    ghost use Rattle.clone_shadow.specs.Noted.{noted};
+    ghost use Rattle.clone_buffer.specs.Noted.{noted};
 
     /// An empty log, and no page was read.
     pub fn new() -> Shadow
@@ -47,4 +49,17 @@ impl Shadow {
     {
         Shadow {}
     }
+}
+
+/// A shadow may go to another thread.
+pub fn sent(shadow: Shadow) -> Shadow
+    ensures { result.state ≡ shadow.state }
+{
+    moved(shadow)
+}
+
+fn moved<T: Send>(value: T) -> T
+    ensures { result ≡ value }
+{
+    value
 }

@@ -25,14 +25,14 @@ use denote.Triple.Entry.{alive}
 use denote.Triple.Spec.{Meets, triple_of}
 use denote.Triple.Table.{entered}
 use denote.Triple.Walked.{says, Stays, stay_dropped, walk_of, ends_at, walk_Meets, Goes-dropped}
-use Rattle.clone_shadow.proofs.Walks.{none, none_made}
-use Rattle.clone_shadow.specs.contracts.shadow.Shadow as Shadow
-use Rattle.clone_shadow.specs.contracts.shadow.Note as Note
-use Rattle.clone_shadow.specs.Noted.{noted}
-use Rattle.clone_shadow.specs.contracts.shadow.Shadow.then as F
-use Rattle.clone_shadow.specs.contracts.shadow.Shadow.then.Key.{name as #self}
-use Rattle.clone_shadow.proofs.shadow.Shadow.then.Statement as stated
-use Rattle.clone_shadow.proofs.shadow.Shadow.then.Code as code
+use Rattle.clone_buffer.proofs.ShadowWalks.{none, none_made}
+use Rattle.clone_buffer.specs.contracts.shadow.Shadow as Shadow
+use Rattle.clone_buffer.specs.contracts.shadow.Note as Note
+use Rattle.clone_buffer.specs.Noted.{noted}
+use Rattle.clone_buffer.specs.contracts.shadow.Shadow.then as F
+use Rattle.clone_buffer.specs.contracts.shadow.Shadow.then.Key.{name as #self}
+use Rattle.clone_buffer.proofs.shadow.Shadow.then.Statement as stated
+use Rattle.clone_buffer.proofs.shadow.Shadow.then.Code as code
 
 abbrev function : Fn
 function = code.function

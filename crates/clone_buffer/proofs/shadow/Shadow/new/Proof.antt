@@ -23,13 +23,13 @@ use denote.Triple.Entry.{alive}
 use denote.Triple.Spec.{Meets, triple_of}
 use denote.Triple.Table.{entered}
 use denote.Triple.Walked.{says, Stays, walk_of, ends_at, walk_Meets}
-use Rattle.clone_shadow.proofs.Walks.{none, none_made}
-use Rattle.clone_shadow.specs.State.{first}
-use Rattle.clone_shadow.specs.contracts.shadow.Shadow as Shadow
-use Rattle.clone_shadow.specs.contracts.shadow.Shadow.new as F
-use Rattle.clone_shadow.specs.contracts.shadow.Shadow.new.Key.{name as #self}
-use Rattle.clone_shadow.proofs.shadow.Shadow.new.Statement as stated
-use Rattle.clone_shadow.proofs.shadow.Shadow.new.Code as code
+use Rattle.clone_buffer.proofs.ShadowWalks.{none, none_made}
+use Rattle.clone_buffer.specs.ShadowState.{first}
+use Rattle.clone_buffer.specs.contracts.shadow.Shadow as Shadow
+use Rattle.clone_buffer.specs.contracts.shadow.Shadow.new as F
+use Rattle.clone_buffer.specs.contracts.shadow.Shadow.new.Key.{name as #self}
+use Rattle.clone_buffer.proofs.shadow.Shadow.new.Statement as stated
+use Rattle.clone_buffer.proofs.shadow.Shadow.new.Code as code
 
 abbrev function : Fn
 function = code.function

@@ -3,7 +3,7 @@ use Rattle.std.specs.Prelude.{Bool, true, false, ℕ, List, [], None, Some, refl
 use Rattle.std.specs.declared.option.Option.{Option}
 use Rattle.std.specs.Coded.{Coded, code_by, coded×, coded_bool, coded_list}
 use Rattle.clone_mtr.specs.declared.record.Record.{Record}
-use Rattle.clone_shadow.specs.Codes.{record_code}
+use Rattle.clone_buffer.specs.RecordCodes.{record_code}
 
 -- the mini-transactions written so far, and whether each page that was read so far was the one that
 -- the log made
