@@ -62,7 +62,7 @@ impl Pool {
     {
         let mut frames = Vec::with_capacity(alloc, count as usize)?;
         for _ in 0..count {
-            frames.push(Frame::unused())?;
+            frames.push_reserved(Frame::unused());
         }
         Ok(Pool {
             frames,
