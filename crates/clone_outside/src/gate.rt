@@ -1,4 +1,4 @@
-/// Where a job stands between two of its calls. Each number is that of the writer or of the task.
+/// Where a job is between two of its calls. Each number is that of the writer or of the task.
 #[derive(Clone, Copy, Debug, PartialEq, Eq)]
 pub enum Point {
     /// A writer after a call that was no commit, or a commit that was refused.

@@ -79,7 +79,8 @@ pub struct HoldingGate<R> {
 }
 
 impl<R: Wait> HoldingGate<R> {
-    /// A gate with these holds, which gives up after so many turns. The error is want of memory.
+    /// A gate with these holds, which gives up after so many turns. The error is that
+    /// there is no memory.
     pub fn new(
         rt: R,
         alloc: Global,

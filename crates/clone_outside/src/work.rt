@@ -68,7 +68,7 @@ impl<H: Threads> Crew<H> {
         Crew { rt, faults: 0 }
     }
 
-    /// How often a thread could not be started. The count never falls, and one that stands at
+    /// How often a thread could not be started. The count never falls, and one that is at
     /// 2^64 - 1 counts as risen.
     pub fn faults(&self) -> u64
         ensures { result ≡ self.now }

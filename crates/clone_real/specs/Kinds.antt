@@ -8,6 +8,7 @@ use Rattle.clone_real.specs.declared.any_net.AnyName.TheVariants as name
 use Rattle.clone_real.specs.declared.any_net.AnyNet.{AnyNet}
 use Rattle.clone_real.specs.declared.any_net.AnyNet.TheVariants as net
 
+-- what is said of the disk that is there, and so of an end and of a net
 abbrev pub of_disk : {M F T : Type 0} → (M → T) → (F → T) → AnyDisk M F → T
 of_disk memory real (disk.Memory d) = memory d
 of_disk memory real (disk.Real d) = real d

@@ -1,5 +1,5 @@
--- What contracts see of streams of the system. What std tells of their bytes stands here, where it
--- tells them: of the program's own streams it tells nothing.
+-- What contracts see of streams of the system: their bytes where std says them. Of the program's
+-- own streams it says nothing.
 use Rattle.std.specs.Prelude.{ℕ, List}
 use Rattle.std.specs.declared.option.Option.{Option}
 use Rattle.std.specs.Io.KnownBytes.{append_known}

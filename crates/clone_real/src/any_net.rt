@@ -1,6 +1,6 @@
 use clone_outside::{Link, LinkRefusal, Net, Received, Refusal};
 
-/// What names a connection of either kind. It stands in contracts alone.
+/// What names a connection of either kind. Only contracts have it.
 pub enum AnyName<M, S> {
     /// That of one in memory.
     Memory(M),

@@ -69,7 +69,7 @@ impl<R: Files<File = File> + AllocGlobal + Clone + Drop> Directory<R> {
         }
     }
 
-    /// Reads a page. Want of memory for a file that isn't open yet is a fault.
+    /// Reads a page. No memory for a file that isn't open yet is a fault.
     pub(crate) fn read_page(
         &mut self,
         space: u32,
@@ -218,7 +218,7 @@ impl<R: Files<File = File> + AllocGlobal + Clone + Drop> Directory<R> {
     }
 }
 
-// Why a listing failed. It changed nothing, so want of memory is no fault.
+// Why a listing failed. It changed nothing, so no memory is no fault.
 fn refusal_of(error: &io::Error) -> Refusal {
     if error.kind() == ErrorKind::OutOfMemory {
         Refusal::NoMemory

@@ -19,7 +19,7 @@ use std::rt::Files;
 ///
 /// A directory that is missing counts as empty for reading, and is made by the first call that
 /// writes. A path that is no directory, a file that isn't whole pages, a page that isn't there, and
-/// each error of the system is a fault, which is counted. The disk tells nothing of what it holds.
+/// each error of the system is a fault, which is counted. Contracts know nothing of what it holds.
 #[derive(Drop)]
 pub struct FileDisk<R> {
     directory: Directory<R>,
@@ -36,7 +36,7 @@ impl<R> Model for FileDisk<R> {
 }
 
 impl<R: Files<File = File> + AllocGlobal + Clone + Drop> FileDisk<R> {
-    /// The disk in the directory at this path. The error is want of memory for the path.
+    /// The disk in the directory at this path. The error is that there is no memory for the path.
     pub fn new(rt: R, directory: &str) -> Result<FileDisk<R>, AllocError>
         ensures { IfOk result (λ disk. disk ≡ calm) }
     {

@@ -5,15 +5,15 @@ ghost use Rattle.clone_real.specs.Names.{file_name};
 
 use std::alloc::{AllocError, Global};
 
-/// Adds the name of the file of a space. The error is want of memory.
+/// Adds the name of the file of a space. The error is that there is no memory.
 pub fn push_file_name(path: &mut String, space: u32) -> Result<(), AllocError>
     ensures { OnOk result (string_bytes path.new ≡ string_bytes path.old ++ file_name space) }
 {
     write!(path, "space_{space}.pages")
 }
 
-/// The space whose file has this name, or none where the file is a foreign one. The error is want
-/// of memory.
+/// The space whose file has this name, or none where the file is a foreign one. The error is that
+/// there is no memory.
 pub fn space_named(alloc: Global, name: &str) -> Result<Option<u32>, AllocError>
     ensures { IfOk result (λ space. IfSome space (λ n. name.now ≡ file_name n)) }
 {

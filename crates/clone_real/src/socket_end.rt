@@ -13,7 +13,7 @@ const LAST_PIECES: usize = 256;
 
 const LAST_PIECE: usize = 16_384;
 
-/// One end of a connection over TCP. It tells nothing of the bytes.
+/// One end of a connection over TCP. Contracts know nothing of its bytes.
 #[derive(Drop)]
 pub struct SocketEnd {
     stream: Option<TcpStream>,

@@ -23,7 +23,7 @@ const RECEIVE_WAIT: u64 = 1;
 const MOST_STRANGERS: usize = 1_024;
 
 /// What makes connections over TCP. The two ends of each are connected on the loopback address, by
-/// a listener that is closed once they stand; whoever else connects to it is refused.
+/// a listener that is closed once they are connected; whoever else connects to it is refused.
 #[derive(Drop)]
 pub struct SocketNet<R> {
     rt: R,

@@ -19,8 +19,8 @@ pub const SINK_ROOM: usize = 32_768;
 /// is full and by `flush`: its owner flushes it at the end, and before it waits. It counts its
 /// faults, and no byte that it took is dropped.
 ///
-/// As a sink it tells nothing of what it took, since a stream may begin to tell; where std tells
-/// what was written, so do the clauses of `write` and `flush`.
+/// What it took is not known of it as a sink, since a stream may begin to say what it holds. Where
+/// std says what a stream holds, so do the clauses of `write` and `flush`.
 #[derive(Drop)]
 pub struct StdSink<W: Write> {
     stream: W,
@@ -45,7 +45,8 @@ impl<W: Write> Model for StdSink<W> {
 }
 
 impl<W: Write> StdSink<W> {
-    /// A sink without faults so far, and with nothing that waits. The error is want of memory.
+    /// A sink without faults so far, and with nothing that waits. The error is that
+    /// there is no memory.
     pub fn new(alloc: Global, stream: W) -> Result<StdSink<W>, AllocError>
     where
         W: Drop,
@@ -92,7 +93,7 @@ impl<W: Write> StdSink<W> {
         Ok(())
     }
 
-    // Takes the bytes into the buffer. The error is want of memory, and none was taken.
+    // Takes the bytes into the buffer. The error is that there is no memory, and none was taken.
     fn keep(&mut self, bytes: &[u8]) -> Result<(), AllocError>
         ensures told { OnOk result (Appends (taken_by self.old) (taken_by self.new) bytes.now) }
         ensures same { OnErr result (self.new ≡ self.old) }

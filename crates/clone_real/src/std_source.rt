@@ -8,9 +8,9 @@ use clone_outside::{Refusal, Source};
 use std::io::Read;
 use std::marker::Model;
 
-/// A source over a stream of the system. It counts its faults. As a source it tells nothing of what
-/// it reads, since a stream may begin to tell; where std tells what is left, so does the clause of
-/// `read`.
+/// A source over a stream of the system. It counts its faults. What is left is not known of it as a
+/// source, since a stream may begin to say what it has. Where std says what a stream has left, so
+/// does the clause of `read`.
 #[derive(Drop)]
 pub struct StdSource<R: Read> {
     stream: R,
