@@ -10,7 +10,9 @@ ghost use Rattle.clone_wire.specs.declared.limits.TheConstants.{MOST_SPACES};
 ghost use Rattle.clone_wire.specs.declared.limits.TheConstants.{MOST_PAGES, MOST_REDO};
 ghost use Rattle.clone_wire.specs.Reading.{Gives, init, attach, reinit, ack, stage, pages, redo};
 ghost use Rattle.clone_wire.specs.Reading.{framed, space, page, bitmap, planned, plan_fields};
-ghost use Rattle.clone_wire.specs.Reading.{stage_plan, refusal, copy_in, attempt};
+ghost use Rattle.clone_wire.specs.Reading.{stage_plan, refusal, copy_in, attempt, number_in};
+ghost use Rattle.clone_wire.specs.Choices.{only};
+ghost use Rattle.std.specs.Prelude.{nat_le};
 ghost use Rattle.clone_wire.specs.declared.frame.Frame.TheVariants.{Execute, End, Refused};
 ghost use Rattle.clone_wire.specs.declared.fault.Fault.TheVariants.{Short};
 ghost use Rattle.clone_bytes.specs.Formats.{◌&◌, list, list_at, run_at};
@@ -168,10 +170,7 @@ fn plan_of(alloc: Global, n: usize, reader: &mut Reader) -> Result<StagePlan, Fa
     let stage = number_in(17, 1, Numbers::between(1, most), reader)?;
     let chunks = number_in(18, 4, any_if(stage != 4, 0xFFFF_FFFF), reader)?;
     let checkpoint = number_in(22, 8, any_if(stage >= 3, u64::MAX), reader)?;
-    let lsn = number_in(30, 8, any_if(stage >= 3, u64::MAX), reader)?;
-    let position = number_in(38, 8, any_if(stage >= 2, u64::MAX), reader)?;
-    number_in(46, 2, Numbers::only(n as u64), reader)?;
-    let spaces = spaces_of(alloc, n, reader)?;
+    let (lsn, (position, (_, spaces))) = ends_of(alloc, n, stage, reader)?;
     Ok(planned(
         stage,
         chunks as u32,
@@ -180,6 +179,34 @@ fn plan_of(alloc: Global, n: usize, reader: &mut Reader) -> Result<StagePlan, Fa
         position,
         spaces,
     ))
+}
+
+fn ends_of(
+    alloc: Global,
+    n: usize,
+    stage: u64,
+    reader: &mut Reader,
+) -> Result<(u64, (u64, (u64, Spaces))), Fault>
+    requires { n ≤ MOST_SPACES }
+    ensures { Gives (λ x. (x, reader.new)) result
+        ((number_in 30 8 (any_if (nat_le 3 stage) 0xFFFFFFFFFFFFFFFF)
+        & number_in 38 8 (any_if (nat_le 2 stage) 0xFFFFFFFFFFFFFFFF)
+        & number_in 46 2 (only n) & list space n).read reader.old) }
+{
+    let lsn = number_in(30, 8, any_if(stage >= 3, u64::MAX), reader)?;
+    let position = number_in(38, 8, any_if(stage >= 2, u64::MAX), reader)?;
+    let listed = listed_of(alloc, n, reader)?;
+    Ok((lsn, (position, listed)))
+}
+
+fn listed_of(alloc: Global, n: usize, reader: &mut Reader) -> Result<(u64, Spaces), Fault>
+    requires { n ≤ MOST_SPACES }
+    ensures { Gives (λ x. (x, reader.new)) result
+        ((number_in 46 2 (only n) & list space n).read reader.old) }
+{
+    let count = number_in(46, 2, Numbers::only(n as u64), reader)?;
+    let spaces = spaces_of(alloc, n, reader)?;
+    Ok((count, spaces))
 }
 
 // All numbers up to the most where the frame has a value there, and else 0.
