@@ -14,8 +14,9 @@ ghost use Rattle.clone_request.specs.Reading.{AreLow, IsFit, with_block, work_af
 
 use crate::asking::{claim, read};
 use crate::requester::{Requester, StepRefusal};
+use clone_base::Counts;
 use clone_donor::{Block, BlockPage, Donor};
-use clone_lay::{Sizes, lay_page, lay_redo};
+use clone_lay::{lay_page, lay_redo};
 use clone_model::MOST_PAGES;
 use clone_outside::{PageDisk, Refusal};
 use clone_session::StageInfo;
@@ -131,7 +132,7 @@ impl Requester {
 /// Lays a block at its place.
 fn lay<R: PageDisk>(
     disk: &mut R,
-    sizes: &mut Sizes,
+    sizes: &mut Counts,
     checkpoint: u64,
     block: &Block,
 ) -> Result<(), Refusal>
@@ -154,7 +155,7 @@ fn lay<R: PageDisk>(
 /// Lays pages, each at its place. No space has a page of a number above its limit.
 fn lay_pages<R: PageDisk>(
     disk: &mut R,
-    sizes: &mut Sizes,
+    sizes: &mut Counts,
     pages: &[BlockPage],
 ) -> Result<(), Refusal>
     requires sizes { ForTold (R.told disk.old) (AreSizes sizes.old) }

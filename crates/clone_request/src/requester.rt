@@ -14,9 +14,10 @@ ghost use Rattle.clone_request.specs.Copying.{IsDone};
 ghost use Rattle.clone_request.specs.Laying.{KeepsMark, with_rooms};
 
 use crate::asking::CALLER;
+use clone_base::Counts;
 use clone_chunk::Stage;
 use clone_donor::Donor;
-use clone_lay::{Sizes, begin_copy, complete, make_room};
+use clone_lay::{begin_copy, complete, make_room};
 use clone_outside::{CloneEnd, PageDisk, Refusal};
 use clone_session::{SpaceList, StageInfo};
 use std::alloc::{AllocError, Global};
@@ -78,7 +79,7 @@ impl From<AllocError> for StepRefusal {
 /// A requester of the one clone that it takes, whose first session and only task it is.
 #[derive(Drop)]
 pub struct Requester {
-    pub(crate) sizes: Sizes,
+    pub(crate) sizes: Counts,
     pub(crate) stages: u8,
 }
 
@@ -107,7 +108,7 @@ impl Requester {
     {
         begin_copy(disk, SESSION)?;
         Ok(Requester {
-            sizes: Sizes::new(alloc),
+            sizes: Counts::new(alloc),
             stages: 0,
         })
     }
