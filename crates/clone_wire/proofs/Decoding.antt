@@ -1,10 +1,10 @@
 -- What reading a frame gives is what the decoder has to answer.
-use Rattle.std.proofs.Common.{◌≡◌, ℕ, ◌+◌, ◌-◌, ◌<◌, ◌≤◌, ◌⊎◌, List, [], ◌++◌, length, take, drop, Ok, Err, refl, sym, ap, subst, ◌∙◌, append_assoc, arith, inl, inr}
-use Rattle.std.proofs.lemmas.List.{append-nil, length-append, length-drop, take_at, drop_at}
+use Rattle.std.proofs.Common.{◌≡◌, ℕ, ◌+◌, ◌<◌, ◌≤◌, List, [], ◌++◌, length, take, drop, Ok, Err, refl, sym, ap, subst, ◌∙◌, append_assoc, arith, inl, inr}
+use Rattle.std.proofs.lemmas.List.{append-nil, length-append, take_at}
 use Rattle.clone_bytes.specs.Fields.{IsBytes}
 use Rattle.clone_bytes.specs.Formats.{◌>>=◌, Begun}
 use Rattle.clone_bytes.proofs.Numbers.{IsBytes-front}
-use Rattle.clone_bytes.proofs.Answers.{bind, outcome, same_ok, not_both}
+use Rattle.clone_bytes.proofs.Answers.{outcome, not_both}
 use Rattle.clone_bytes.proofs.FirstBytes.{Decides, unique, none_yet, none_ever, first_byte}
 use Rattle.clone_wire.specs.declared.frame.Side.{Side}
 use Rattle.clone_wire.specs.declared.frame.Frame.{Frame}

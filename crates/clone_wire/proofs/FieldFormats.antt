@@ -1,5 +1,5 @@
 -- The fields of frames are formats.
-use Rattle.std.proofs.Common.{◌≡◌, ℕ, zero, suc, ◌+◌, ◌-◌, ◌*◌, ◌^◌, ◌<◌, ◌≤◌, ◌==◌, Bool, true, false, cond, get_or, List, [], ◌∷◌, ◌++◌, length, replicate, Result, Ok, Err, refl, sym, ap, subst, ◌∙◌, arith, inl, inr}
+use Rattle.std.proofs.Common.{◌≡◌, ℕ, zero, suc, ◌-◌, ◌*◌, ◌^◌, ◌<◌, ◌≤◌, ◌==◌, Bool, true, false, get_or, List, [], ◌∷◌, ◌++◌, length, replicate, Ok, Err, refl, sym, ap, subst, ◌∙◌, arith, inl, inr}
 use Rattle.std.proofs.Math.Nat.{zero-mod, one-le-pow}
 use Rattle.std.proofs.lemmas.Bool.{lt-ltb}
 use Rattle.std.proofs.lemmas.List.{length-append, length-replicate, get_or-append_right, get_or-replicate}
@@ -8,10 +8,9 @@ use Rattle.clone_bytes.specs.Fields.{IsBytes}
 use Rattle.clone_bytes.specs.Formats.{run, tested, Begun, IsFormat}
 use Rattle.clone_bytes.proofs.Numbers.{IsBytes-append, IsBytes-replicate}
 use Rattle.clone_bytes.proofs.Answers.{either_way, same_err, not_both}
-use Rattle.clone_bytes.proofs.Fields.{IsJudge, number_laws, run_laws, judged_laws}
+use Rattle.clone_bytes.proofs.Fields.{number_laws, run_laws, judged_laws}
 use Rattle.clone_bytes.proofs.Formats.{followed_laws, seen_laws, made_laws, tested_laws}
 use Rattle.clone_wire.specs.declared.numbers.Numbers.{Numbers}
-use Rattle.clone_wire.specs.declared.fault.Fault.{Fault}
 use Rattle.clone_wire.specs.declared.fault.Fault.TheVariants.{Short, Garbled}
 use Rattle.clone_wire.specs.declared.stage.CopyStage.{CopyStage}
 use Rattle.clone_wire.specs.declared.stage.CopyStage.TheVariants as copy
@@ -21,9 +20,8 @@ use Rattle.clone_wire.specs.Bitmaps.{Bits, ends_at}
 use Rattle.clone_wire.specs.Choices.{has_between, between, only, any_if}
 use Rattle.clone_wire.specs.Frames.{IsOneOf}
 use Rattle.clone_wire.specs.Stages.{copy_number, copy_numbered, page_number, page_numbered}
-use Rattle.clone_wire.specs.Spelling.{flag, attempt_bytes, space_bytes, page_bytes}
-use Rattle.clone_wire.specs.Ranges.{IsAttempt, IsSpace, IsPageAt}
-use Rattle.clone_wire.specs.Reading.{refusals, word, judge_in, number_in, bitmap, flag_in, copy_in, pages_in, attempt, space}
+use Rattle.clone_wire.specs.Spelling.{flag}
+use Rattle.clone_wire.specs.Reading.{refusals, word, judge_in, one_in, number_in, bitmap, flag_in, copy_in, pages_in, attempt, space}
 use Rattle.clone_wire.specs.Reading as Reading
 use Rattle.clone_wire.proofs.Choosing.{between_tells, between_again}
 
@@ -39,6 +37,7 @@ pub record IsChoice (width : ℕ) (numbers : Numbers) : Type 0 where
   pub within : numbers.most < 256 ^ width
 
 pub number_in_laws : (at width p : ℕ) (numbers : Numbers) → IsChoice width numbers → at ≤ p → IsFormat refusals p (number_in at width numbers)
+unfolding one_in
 number_in_laws at width p numbers choice there = judged_laws (record {
   some = (numbers.least, record { low = omega arith; high = choice.some; steps = (let none : numbers.least - numbers.least ≡ 0 = omega arith in rw none (zero-mod numbers.step)) });
   within = λ x one. omega (arith, one.high, choice.within);

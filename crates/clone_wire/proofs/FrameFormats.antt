@@ -1,28 +1,21 @@
 -- Frames are formats, each by its code and its length.
-use Rattle.std.proofs.Common.{◌≡◌, ℕ, zero, suc, ◌+◌, ◌-◌, ◌*◌, ◌/◌, ◌^◌, ◌<◌, ◌≤◌, ◌==◌, Bool, true, false, cond, List, [], ◌∷◌, ◌++◌, length, refl, sym, ap, subst, ◌∙◌, arith, inl, inr}
-use Rattle.std.specs.List.{flat_map, AllByRecursion}
-use Rattle.std.proofs.lemmas.Bool.{eqb-true, eqb-false}
-use Rattle.std.proofs.lemmas.List.{length-append}
-use Rattle.clone_bytes.specs.Formats.{Format, ◌&◌, chosen, choose, IsFormat}
+use Rattle.std.proofs.Common.{◌≡◌, ℕ, ◌-◌, ◌*◌, ◌/◌, ◌^◌, ◌<◌, ◌≤◌, ◌==◌, Bool, true, false, cond, List, length, refl, sym, ap, subst, ◌∙◌, arith}
+use Rattle.std.proofs.lemmas.Bool.{eqb-true}
+use Rattle.clone_bytes.specs.Formats.{◌&◌, IsFormat}
 use Rattle.clone_bytes.proofs.Fields.{run_laws}
-use Rattle.clone_bytes.proofs.Formats.{nothing_laws, led_laws, followed_laws, made_laws, choose_laws, list_laws, worded, which}
+use Rattle.clone_bytes.proofs.Formats.{nothing_laws, followed_laws, made_laws, choose_laws, list_laws}
 use Rattle.clone_wire.specs.declared.numbers.Numbers.{Numbers}
-use Rattle.clone_wire.specs.declared.fault.Fault.{Fault}
 use Rattle.clone_wire.specs.declared.frame.Side.{Side}
 use Rattle.clone_wire.specs.declared.frame.Side.TheVariants.{Command, Answer}
 use Rattle.clone_wire.specs.declared.frame.Frame.{Frame}
-use Rattle.clone_wire.specs.declared.frame.Frame.TheVariants.{Init, Attach, Reinit, Execute, Ack, Exit, Stage, Pages, Redo, End, Refused}
-use Rattle.clone_wire.specs.declared.spaces.SpaceSize.{SpaceSize}
-use Rattle.clone_wire.specs.declared.pages.PageAt.{PageAt}
-use Rattle.clone_wire.specs.declared.stage.StagePlan.{StagePlan}
-use Rattle.clone_wire.specs.Choices.{between, only}
+use Rattle.clone_wire.specs.declared.frame.Frame.TheVariants.{Execute, Exit, End, Refused}
+use Rattle.clone_wire.specs.Choices.{only}
 use Rattle.clone_wire.specs.Frames.{IsOneOf, IsHead, codes, lengths}
-use Rattle.clone_wire.specs.Ranges.{AllAre, IsPageAt, IsFrame}
-use Rattle.clone_wire.specs.Spelling.{side_of, code_of, spaces_of, space_bytes, page_bytes, plan_bytes, payload, spelling}
+use Rattle.clone_wire.specs.Spelling.{payload}
 use Rattle.clone_wire.specs.Reading.{refusals, framed, copy_in, attempt, init, attach, reinit, ack, exit, refusal, payload_of, head, frame, frame_at}
 use Rattle.clone_wire.specs.Reading as Reading
-use Rattle.clone_wire.proofs.FieldFormats.{IsChoice, words, number_in_laws, range_choice, in_range, same_number, flag_laws, copy_laws, pages_in_laws, has_flag, has_copy, has_pages, bitmap_laws, attempt_laws, page_laws}
-use Rattle.clone_wire.proofs.PlanFormats.{plan_is, plan_laws, has_plan, refusal_laws, refusal_fits, has_refusal}
+use Rattle.clone_wire.proofs.FieldFormats.{IsChoice, words, number_in_laws, range_choice, same_number, flag_laws, copy_laws, pages_in_laws, bitmap_laws, attempt_laws, page_laws}
+use Rattle.clone_wire.proofs.PlanFormats.{plan_laws, refusal_laws}
 
 -- ---- payloads
 

@@ -1,10 +1,10 @@
 -- The frames of a side are those in their ranges that it sends.
-use Rattle.std.proofs.Common.{◌≡◌, ℕ, zero, suc, ◌+◌, ◌-◌, ◌*◌, ◌/◌, ◌^◌, ◌<◌, ◌≤◌, ◌⊎◌, ◌==◌, Bool, true, false, cond, List, [], ◌∷◌, ◌++◌, length, refl, sym, ap, subst, ◌∙◌, append_assoc, arith, inl, inr}
-use Rattle.std.specs.List.{flat_map, AllByRecursion}
+use Rattle.std.proofs.Common.{◌≡◌, ℕ, ◌+◌, ◌-◌, ◌*◌, ◌/◌, ◌≤◌, ◌==◌, true, false, List, [], ◌∷◌, ◌++◌, length, refl, sym, ap, subst, ◌∙◌, append_assoc, arith, inl, inr}
+use Rattle.std.specs.List.{flat_map}
 use Rattle.std.proofs.lemmas.Bool.{eqb-true, eqb-false}
 use Rattle.std.proofs.lemmas.List.{length-append}
 use Rattle.byteorder.specs.Endian.{big_bytes}
-use Rattle.clone_bytes.specs.Formats.{Format, ◌&◌, chosen, run, list, IsFormat}
+use Rattle.clone_bytes.specs.Formats.{Format, ◌&◌, run, list, IsFormat}
 use Rattle.clone_bytes.proofs.Formats.{led_laws, worded, which}
 use Rattle.clone_wire.specs.declared.fault.Fault.{Fault}
 use Rattle.clone_wire.specs.declared.frame.Side.{Side}
@@ -21,11 +21,11 @@ use Rattle.clone_wire.specs.declared.refusal.Refusal.{Refusal}
 use Rattle.clone_wire.specs.declared.fault.Fault.TheVariants.{Short}
 use Rattle.clone_bytes.specs.Fields.{IsBytes}
 use Rattle.clone_wire.specs.Frames.{IsOneOf, IsHead, codes, lengths}
-use Rattle.clone_wire.specs.Ranges.{AllAre, IsSpace, IsPageAt, IsPlan, IsFrame}
+use Rattle.clone_wire.specs.Ranges.{AllAre, IsPageAt, IsPlan, IsFrame}
 use Rattle.clone_wire.specs.Spelling.{side_of, code_of, spaces_of, space_bytes, page_bytes, plan_bytes, payload, spelling}
 use Rattle.clone_wire.specs.Reading.{refusals, framed, copy_in, attempt, counted, init, attach, reinit, ack, refusal, payload_of, head, frame, frame_at}
 use Rattle.clone_wire.specs.Reading as Reading
-use Rattle.clone_wire.proofs.FieldFormats.{in_range, same_number, has_flag, has_copy, has_pages}
+use Rattle.clone_wire.proofs.FieldFormats.{in_range, has_flag, has_copy, has_pages}
 use Rattle.clone_wire.proofs.PlanFormats.{plan_is, has_plan, refusal_fits, has_refusal, only_one}
 use Rattle.clone_wire.proofs.FrameFormats.{known, payload_laws, payload_text, head_laws}
 

@@ -1,8 +1,8 @@
 -- No spelling begins another, and one answer fits the bytes.
-use Rattle.std.proofs.Common.{◌≡◌, ℕ, ◌+◌, ◌≤◌, ◌⊎◌, List, ◌++◌, length, take, drop, Result, Ok, Err, refl, sym, ap, ◌∙◌, arith, inl, inr}
+use Rattle.std.proofs.Common.{◌≡◌, ℕ, ◌≤◌, ◌⊎◌, List, ◌++◌, length, take, drop, Result, Ok, Err, refl, sym, ap, ◌∙◌, arith, inl, inr}
 use Rattle.std.proofs.lemmas.List.{length-drop, take-append-drop}
 use Rattle.clone_bytes.specs.Fields.{IsBytes}
-use Rattle.clone_bytes.proofs.Answers.{outcome, same_ok, same_err, not_both}
+use Rattle.clone_bytes.proofs.Answers.{same_ok, same_err, not_both}
 use Rattle.clone_bytes.proofs.FirstBytes.{unique, front_short}
 use Rattle.clone_wire.specs.declared.frame.Side.{Side}
 use Rattle.clone_wire.specs.declared.frame.Frame.{Frame}
@@ -10,10 +10,10 @@ use Rattle.clone_wire.specs.declared.fault.Fault.TheVariants as fault
 use Rattle.clone_wire.specs.declared.fault.WireRefusal.{WireRefusal}
 use Rattle.clone_wire.specs.declared.fault.WireRefusal.TheVariants.{NotYet, Garbled, NoMemory}
 use Rattle.clone_wire.specs.Spelling.{spelling}
-use Rattle.clone_wire.specs.Reading.{frame_at, head_at}
+use Rattle.clone_wire.specs.Reading.{frame_at}
 use Rattle.clone_wire.specs.Answers.{Spells, IsFront, Needs, Decodes}
 use Rattle.clone_wire.proofs.FrameSpellings.{frame_laws}
-use Rattle.clone_wire.proofs.Decoding.{decides, only_spelling, spelled_has, head_is, head_long, in_head, head_whole}
+use Rattle.clone_wire.proofs.Decoding.{decides, only_spelling, head_is, head_whole}
 
 pub one_spelling : (side : Side) (a b x y : List ℕ) (m n : Frame) → Spells side a m → Spells side b n → a ++ x ≡ b ++ y → (a ≡ b) × (m ≡ n)
 one_spelling side a b x y m n p q e =

@@ -1,8 +1,8 @@
--- The fields of each frame from left to right, as formats. Reading gives a value and the bytes after
--- it, or stops where the bytes end, or at the first field whose bytes begin nothing that may stand
--- there.
+-- The fields of each frame from left to right, as formats. Reading gives a value and the bytes
+-- after it, or stops where the bytes end, or at the first field whose bytes begin nothing that may
+-- stand there.
 use Rattle.std.specs.Prelude.{ℕ, ◌≡◌, ◌-◌, ◌*◌, ◌/◌, Bool, List, length, if◌then◌else◌, nat_le, not}
-use Rattle.std.specs.Prelude.{◌==◌, ◌++◌, Ok, Err, Result, ⊤}
+use Rattle.std.specs.Prelude.{◌==◌, Ok, Err, Result, ⊤}
 use Rattle.byteorder.specs.Endian.{big_bytes}
 use Rattle.clone_bytes.specs.Formats.{Format, Judge, Refusals, number, run, judged, nothing, led}
 use Rattle.clone_bytes.specs.Formats.{followed, ◌&◌, seen, made, tested, choose, list}
@@ -64,9 +64,14 @@ abbrev pub judge_in : ℕ → Numbers → Judge Fault
 judge_in at numbers least most =
     if has_between numbers least most then Ok tt else Err (Garbled at)
 
--- a number of so many bytes that is one of these; the field begins at this offset
+-- reading a number of so many bytes that is one of these; the field begins at this offset
+unfoldable pub one_in : ℕ → ℕ → Numbers → List ℕ → Result (ℕ × List ℕ) Fault
+one_in at width numbers = (judged Short (IsOneOf numbers) (judge_in at numbers) width).read
+
+-- such a field
 abbrev pub number_in : ℕ → ℕ → Numbers → Format Fault ℕ
-number_in at width numbers = judged Short (IsOneOf numbers) (judge_in at numbers) width
+number_in at width numbers =
+    record { Has = IsOneOf numbers; text = big_bytes width; read = one_in at width numbers }
 
 -- a bitmap for so many chunks, which has so many bytes and begins at this offset
 abbrev pub bitmap : ℕ → ℕ → ℕ → Format Fault Bits

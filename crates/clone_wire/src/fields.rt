@@ -75,6 +75,7 @@ pub(crate) fn pages_stage_of(at: usize, reader: &mut Reader) -> Result<PageStage
 }
 
 // A number of `width` bytes, which is one of these. The field begins at `at`.
+#[tactic(auto, unfolding(crate::specs::Reading::one_in))]
 pub(crate) fn number_in(
     at: usize,
     width: usize,

@@ -3,25 +3,23 @@
 //! where it stands.
 ghost use Rattle.std.specs.Prelude.{◌≡◌, ◌≤◌, ◌+◌, ◌/◌};
 ghost use Rattle.clone_base.specs.declared.limits.TheConstants.{PAGE_SIZE};
-ghost use Rattle.clone_wire.specs.Bitmaps.{HasLength};
 ghost use Rattle.clone_wire.specs.Choices.{any_if};
 ghost use Rattle.clone_wire.specs.declared.limits.TheConstants.{MOST_BITMAP, MOST_CHUNKS};
 ghost use Rattle.clone_wire.specs.declared.limits.TheConstants.{MOST_SPACES};
 ghost use Rattle.clone_wire.specs.declared.limits.TheConstants.{MOST_PAGES, MOST_REDO};
 ghost use Rattle.clone_wire.specs.Reading.{Gives, init, attach, reinit, ack, stage, pages, redo};
-ghost use Rattle.clone_wire.specs.Reading.{framed, space, page, bitmap, planned, plan_fields};
-ghost use Rattle.clone_wire.specs.Reading.{stage_plan, refusal, copy_in, attempt, number_in};
-ghost use Rattle.clone_wire.specs.Choices.{only};
-ghost use Rattle.std.specs.Prelude.{nat_le};
+ghost use Rattle.clone_wire.specs.Reading.{framed, space, page, bitmap, planned};
+ghost use Rattle.clone_wire.specs.Reading.{stage_plan, refusal, copy_in, attempt};
 ghost use Rattle.clone_wire.specs.declared.frame.Frame.TheVariants.{Execute, End, Refused};
 ghost use Rattle.clone_wire.specs.declared.fault.Fault.TheVariants.{Short};
-ghost use Rattle.clone_bytes.specs.Formats.{◌&◌, list, list_at, run_at};
+ghost use Rattle.clone_bytes.specs.Formats.{◌&◌, list, run_at};
 ghost use Rattle.clone_wire.specs.Refusals.{value_count};
 
 use crate::bitmap::ends_at;
 use crate::fault::Fault;
 use crate::fields::{
-    attempt_of, bytes_of, copy_of, flag_of, number_in, pages_stage_of, u8_of, u16_of, u32_of, u64_of,
+    attempt_of, bytes_of, copy_of, flag_of, number_in, pages_stage_of, u8_of, u16_of, u32_of,
+    u64_of,
 };
 use crate::numbers::Numbers;
 use crate::{
@@ -64,9 +62,7 @@ pub(crate) fn execute_of(reader: &mut Reader) -> Result<Frame, Fault>
     ensures { Gives (λ x. (x, reader.new)) result ((framed Execute (copy_in 5)).read reader.old) }
 {
     let stage = copy_of(5, reader)?;
-    Ok(Frame::Execute {
-        stage,
-    })
+    Ok(Frame::Execute { stage })
 }
 
 pub(crate) fn ack_of(reader: &mut Reader) -> Result<Frame, Fault>
@@ -74,22 +70,16 @@ pub(crate) fn ack_of(reader: &mut Reader) -> Result<Frame, Fault>
 {
     let stage = copy_of(5, reader)?;
     let floor = u64_of(reader)?;
-    Ok(Frame::Ack {
-        stage,
-        floor,
-    })
+    Ok(Frame::Ack { stage, floor })
 }
 
 pub(crate) fn end_of(reader: &mut Reader) -> Result<Frame, Fault>
-    ensures { Gives (λ x. (x, reader.new)) result ((framed (λ x. End x.0 x.1) (attempt & copy_in 17)).read
-        reader.old) }
+    ensures { Gives (λ x. (x, reader.new)) result
+        ((framed (λ x. End x.0 x.1) (attempt & copy_in 17)).read reader.old) }
 {
     let attempt = attempt_of(reader)?;
     let stage = copy_of(17, reader)?;
-    Ok(Frame::End {
-        attempt,
-        stage,
-    })
+    Ok(Frame::End { attempt, stage })
 }
 
 // The bitmap has `n` bytes.
@@ -170,43 +160,11 @@ fn plan_of(alloc: Global, n: usize, reader: &mut Reader) -> Result<StagePlan, Fa
     let stage = number_in(17, 1, Numbers::between(1, most), reader)?;
     let chunks = number_in(18, 4, any_if(stage != 4, 0xFFFF_FFFF), reader)?;
     let checkpoint = number_in(22, 8, any_if(stage >= 3, u64::MAX), reader)?;
-    let (lsn, (position, (_, spaces))) = ends_of(alloc, n, stage, reader)?;
-    Ok(planned(
-        stage,
-        chunks as u32,
-        checkpoint,
-        lsn,
-        position,
-        spaces,
-    ))
-}
-
-fn ends_of(
-    alloc: Global,
-    n: usize,
-    stage: u64,
-    reader: &mut Reader,
-) -> Result<(u64, (u64, (u64, Spaces))), Fault>
-    requires { n ≤ MOST_SPACES }
-    ensures { Gives (λ x. (x, reader.new)) result
-        ((number_in 30 8 (any_if (nat_le 3 stage) 0xFFFFFFFFFFFFFFFF)
-        & number_in 38 8 (any_if (nat_le 2 stage) 0xFFFFFFFFFFFFFFFF)
-        & number_in 46 2 (only n) & list space n).read reader.old) }
-{
     let lsn = number_in(30, 8, any_if(stage >= 3, u64::MAX), reader)?;
     let position = number_in(38, 8, any_if(stage >= 2, u64::MAX), reader)?;
-    let listed = listed_of(alloc, n, reader)?;
-    Ok((lsn, (position, listed)))
-}
-
-fn listed_of(alloc: Global, n: usize, reader: &mut Reader) -> Result<(u64, Spaces), Fault>
-    requires { n ≤ MOST_SPACES }
-    ensures { Gives (λ x. (x, reader.new)) result
-        ((number_in 46 2 (only n) & list space n).read reader.old) }
-{
-    let count = number_in(46, 2, Numbers::only(n as u64), reader)?;
+    number_in(46, 2, Numbers::only(n as u64), reader)?;
     let spaces = spaces_of(alloc, n, reader)?;
-    Ok((count, spaces))
+    Ok(planned(stage, chunks as u32, checkpoint, lsn, position, spaces))
 }
 
 // All numbers up to the most where the frame has a value there, and else 0.

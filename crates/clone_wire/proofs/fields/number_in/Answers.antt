@@ -1,7 +1,8 @@
-use Rattle.std.proofs.Common.{◌≡◌, ◌+◌, ◌-◌, ◌*◌, ◌^◌, true, false, sym, ◌∙◌, arith, inr}
+use Rattle.std.proofs.Common.{◌≡◌, ◌+◌, ◌-◌, ◌*◌, true, false, sym, ◌∙◌, arith, inr}
 use Rattle.clone_bytes.specs.Formats.{least_of, most_of}
 use Rattle.clone_wire.specs.Choices.{has_between}
-use Rattle.clone_wire.proofs.Digits.{Room, room, goes_on, garbles}
+use Rattle.clone_wire.specs.Reading.{one_in}
+use Rattle.clone_wire.proofs.Digits.{room, goes_on, garbles}
 use Rattle.clone_wire.proofs.fields.number_in.Goals as goal
 
 pub overflow_mul-number : goal.overflow_mul-number
@@ -31,6 +32,7 @@ overflow_add-least c =
     rw c.pow-unit.ensures (omega (arith, r.whole, r.some))
 
 pub returns-then-not-has_between-clause-gives : goal.returns-then-not-has_between-clause-gives
+unfolding one_in
 returns-then-not-has_between-clause-gives c =
     let w : c.args.width - c.loop-done.done - 1 ≡ c.args.width - (c.loop-done.done + 1) = omega arith in
     let none : has_between c.args.numbers (least_of (c.args.width - (c.loop-done.done + 1)) (c.loop-done.number * 256 + c.in_ok-byte.byte)) (most_of (c.args.width - (c.loop-done.done + 1)) (c.loop-done.number * 256 + c.in_ok-byte.byte)) ≡ false =
