@@ -22,25 +22,3 @@ fn wraps_and_refuses(rt: HostRuntime) -> Result<(), Fail> {
     assert_eq!(rt; [ring.floor(), ring.end(), ring.free()], [8195, 8201, 2]);
     Ok(())
 }
-
-// Rings of one block, of more than one, and of blocks of which the last is shorter.
-#[test]
-fn goes_round_over_blocks(rt: HostRuntime) -> Result<(), Fail> {
-    for size in [4_096, 4_097, 8_192, 9_000] {
-        let mut ring = Ring::new(rt.alloc(), size)?;
-        let mut read = [0; 1_000];
-        for turn in 0..30u8 {
-            let piece = [turn; 1_000];
-            let end = ring.end();
-            assert_eq!(rt; ring.append(&piece), Ok(end + 1_000));
-            if ring.floor() <= end && end + 1_000 <= ring.end() {
-                ring.read(end, &mut read);
-            }
-            assert!(rt; read.as_slice() == piece.as_slice());
-            if ring.floor() <= end - 1_000 && 8_192 < end {
-                ring.raise_floor(end - 1_000);
-            }
-        }
-    }
-    Ok(())
-}
