@@ -2,9 +2,9 @@
 //! bytes of the log from the ring's floor on, and ends where the log ends, below LSN 2^39. As long
 //! as each page that was read was right, each frame that holds a page has the page that the log
 //! makes.
-ghost use Rattle.std.specs.Prelude.{◌≡◌, ◌≢◌, ◌<◌, ◌≤◌, ◌+◌, ◌-◌, ◌^◌, ◌↔◌, ℕ, true, [], None, Some, IfOk, IfNone, IfSome, IsOk, OnOk, OnErr, IfErr, IsSome, IsTrue, length, option_copied, take, drop, replicate};
+ghost use Rattle.std.specs.Prelude.{◌≡◌, ◌≢◌, ◌<◌, ◌≤◌, ◌+◌, ◌-◌, ◌^◌, ◌↔◌, ℕ, true, [], None, Some, IfOk, IfNone, IfSome, IsOk, OnOk, OnErr, IfErr, IsErr, IsErrOf, IsSome, IsTrue, length, option_copied, take, drop, replicate};
 ghost use Rattle.std.specs.Option.{ForSome};
-ghost use Rattle.clone_outside.specs.Causes.{Rose};
+ghost use Rattle.clone_outside.specs.DiskCalls.{Reads};
 ghost use Rattle.clone_buffer.specs.Writing.{after_records, changed_at, named_frame};
 ghost use Rattle.clone_buffer.specs.Dropping.{AreUnpinned, given_up};
 ghost use Rattle.std.specs.List.{AllByRecursion};
@@ -117,13 +117,10 @@ impl Buffer {
             × (page_of (image_of self.old) space number
             ≡ Some (frame_at self.new.pool.frames at).page))) }
         ensures refused { OnErr result (self.new.right ≡ self.old.right) }
-        ensures fault { result ≡ Err FetchRefusal.DiskFault
-            → Rose (D.failures disk.old) (D.failures disk.new) }
-        ensures later { D.failures disk.old ≤ D.failures disk.new }
-        ensures disk { D.told disk.new ≡ D.told disk.old }
-        ensures orders { D.orders disk.new ≡ D.orders disk.old }
-        ensures stands { (beside : Beside) → Stands self.old beside (D.told disk.old)
-            → Stands self.new beside (D.told disk.new) }
+        ensures reads { Reads (IsErrOf result FetchRefusal.DiskFault)
+            (D.state disk.old) (D.state disk.new) }
+        ensures stands { (beside : Beside) → Stands self.old beside (D.state disk.old).told
+            → Stands self.new beside (D.state disk.new).told }
     {
         self.pool.laws();
         let fetched = self.pool.fetch(disk, space, number);
@@ -210,12 +207,9 @@ impl Buffer {
         ensures frame { IfSome (bytes_in (frame_of self.now.pool.frames space number))
             (λ bytes. IsOk result × (into.new ≡ bytes)) }
         ensures latest { OnOk result
-            (ReadsLatest self.now (D.told disk.old) space number into.new) }
-        ensures fault { OnErr result (Rose (D.failures disk.old) (D.failures disk.new)) }
+            (ReadsLatest self.now (D.state disk.old).told space number into.new) }
+        ensures reads { Reads (IsErr result) (D.state disk.old) (D.state disk.new) }
         ensures memory { result ≢ Err Refusal.NoMemory }
-        ensures later { D.failures disk.old ≤ D.failures disk.new }
-        ensures disk { D.told disk.new ≡ D.told disk.old }
-        ensures orders { D.orders disk.new ≡ D.orders disk.old }
     {
         if let Some(page) = self.page(space, number) {
             *into = *page.bytes();

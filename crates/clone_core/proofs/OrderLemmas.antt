@@ -8,7 +8,8 @@ use Rattle.clone_plain.specs.Calls.{Call, call_of, refused}
 use Rattle.clone_events.specs.Events.{Side, to_donor, to_recipient, Event, made, cleaned, looked, archived, started, started_before, readied, not_started, completed, completed_before, broke, broke_before, lost, lost_before, showed, incomplete, hidden, damaged, ordered, Events}
 use Rattle.clone_events.specs.Headline.{donor_order, recipient_order}
 use Rattle.clone_events.specs.Runs.{Makes, MakesOne, MakesSet, not_begun, not_changed, set, MakesClean, all_clean, not_flushed, flushed, MakesEvent, MakesClone, Starts, Advances, Finishes, Archives, Looks, MakesRows, are_shown, not_there, not_read, not_sound}
-use Rattle.clone_engine.specs.Disks.{DiskState, Visits}
+use Rattle.clone_engine.specs.Disks.{Visits}
+use Rattle.clone_outside.specs.DiskCalls.{DiskState}
 use Rattle.clone_engine.specs.Engine.{Engine}
 use Rattle.clone_donor.specs.Donor as staged
 use Rattle.clone_core.specs.System.{System, SystemStep, VisitsRecipient, CopiesOn, ArchivesTo, donor_of}

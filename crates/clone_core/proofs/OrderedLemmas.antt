@@ -7,7 +7,8 @@ use Rattle.clone_outside.specs.declared.disk.DiskOrder.{DiskOrder}
 use Rattle.clone_plain.specs.Answers.{Text}
 use Rattle.clone_events.specs.World.{Clone}
 use Rattle.clone_events.specs.Events.{to_donor, to_recipient, ordered}
-use Rattle.clone_engine.specs.Disks.{DiskState, with_order}
+use Rattle.clone_engine.specs.Disks.{with_order}
+use Rattle.clone_outside.specs.DiskCalls.{DiskState}
 use Rattle.clone_donor.specs.Donor as staged
 use Rattle.clone_donor.specs.Acts as act
 use Rattle.clone_donor.specs.Acts.{Acts}
@@ -56,25 +57,22 @@ module _ (begun : finite.FinMap nat_cmp ℕ) (way : Course) (floor : ℕ) (doubt
   donor_kept s d t recipient is disk acts = ap (λ (x : staged.Donor). world_of x recipient) (same_donor d t d.engine.disk disk acts) ∙ is
 
   -- the recipient's disk got it
-  pub recipient_noted : (s : State) (d : staged.Donor) (old new : DiskState) (order : DiskOrder) (text : Text) → world_of d old ≡ s → new.told ≡ old.told → new.failures ≡ old.failures → new.orders ≡ old.orders ++ order ∷ [] → text ≡ codes "noted" → Notes s (ordered to_recipient order) text (world_of d new)
-  recipient_noted s d old new order text is told failures orders says =
-      let disk : new ≡ with_order order old = λ i. record { told = told i; failures = failures i; orders = orders i } in
+  pub recipient_noted : (s : State) (d : staged.Donor) (old new : DiskState) (order : DiskOrder) (text : Text) → world_of d old ≡ s → new ≡ with_order order old → text ≡ codes "noted" → Notes s (ordered to_recipient order) text (world_of d new)
+  recipient_noted s d old new order text is disk says =
       subst (λ (w : State). Notes w (ordered to_recipient order) text (world_of d new)) is (record {
         happened = record {
           step = ap (λ (x : DiskState). record { donor = d; recipient = x }) disk;
           begun = refl;
           clone = refl;
-          tells = ap (λ (o : Option DiskImage). is_some d.engine.disk.told && is_some o) told;
+          tells = ap (λ (x : DiskState). is_some d.engine.disk.told && is_some x.told) disk;
           sees = λ _. tt;
         };
         is = says;
       })
 
   -- there was no memory for it
-  pub recipient_kept : (s : State) (d : staged.Donor) (old new : DiskState) → world_of d old ≡ s → new.told ≡ old.told → new.failures ≡ old.failures → new.orders ≡ old.orders → world_of d new ≡ s
-  recipient_kept s d old new is told failures orders =
-      let disk : new ≡ old = λ i. record { told = told i; failures = failures i; orders = orders i } in
-      ap (world_of d) disk ∙ is
+  pub recipient_kept : (s : State) (d : staged.Donor) (old new : DiskState) → world_of d old ≡ s → new ≡ old → world_of d new ≡ s
+  recipient_kept s d old new is disk = ap (world_of d) disk ∙ is
 
 -- what the recipient's disk holds of the clone stands
 pub recipient_holds : (d : staged.Donor) (donor_tells : Bool) (clone : Clone) (old new : Option DiskImage) (way : Course) → new ≡ old → HoldsClone d (donor_tells && is_some old) clone old way → HoldsClone d (donor_tells && is_some new) clone new way

@@ -19,7 +19,8 @@ use Rattle.clone_recover.specs.declared.refusal.RecoverRefusal.{RecoverRefusal}
 use Rattle.clone_recover.specs.declared.refusal.RecoverRefusal.TheVariants.{Incomplete, Damaged, DiskFault, NoMemory}
 use Rattle.clone_staged.specs.Holds.{HoldsCopy}
 use Rattle.clone_staged.proofs.EndMarks.{not_under_way, recovered_not_under_way}
-use Rattle.clone_engine.specs.Disks.{DiskState, Visits}
+use Rattle.clone_engine.specs.Disks.{Visits}
+use Rattle.clone_outside.specs.DiskCalls.{DiskState}
 use Rattle.clone_donor.specs.Donor as staged
 use Rattle.clone_request.specs.declared.requester.TheConstants.{SESSION}
 use Rattle.clone_core.specs.declared.world.Course.{Course}

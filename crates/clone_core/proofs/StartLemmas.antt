@@ -7,7 +7,8 @@ use Rattle.clone_outside.specs.Causes.{Rose}
 use Rattle.clone_outside.specs.Disk.{DiskImage, ForTold, IsBeforeOrAfter, blank}
 use Rattle.clone_outside.specs.declared.mark.Mark.TheVariants.{InProgress}
 use Rattle.clone_lay.specs.Marked.{marked}
-use Rattle.clone_engine.specs.Disks.{DiskState, Visits}
+use Rattle.clone_engine.specs.Disks.{Visits}
+use Rattle.clone_outside.specs.DiskCalls.{DiskState}
 use Rattle.clone_events.specs.World.{absent, copying, HasEnded}
 use Rattle.clone_events.specs.Events.{started, started_before, broke, Happens}
 use Rattle.clone_donor.specs.Donor as staged

@@ -26,7 +26,8 @@ use Rattle.clone_flush.specs.declared.refusal.FlushRefusal.{FlushRefusal}
 use Rattle.clone_flush.specs.declared.refusal.FlushRefusal.TheVariants as flush
 use Rattle.clone_pool.specs.declared.pool.FetchRefusal.{FetchRefusal}
 use Rattle.clone_pool.specs.declared.pool.FetchRefusal.TheVariants as fetch
-use Rattle.clone_engine.specs.Disks.{DiskState, Visits}
+use Rattle.clone_engine.specs.Disks.{Visits}
+use Rattle.clone_outside.specs.DiskCalls.{DiskState}
 use Rattle.clone_engine.specs.Engine.{Engine}
 use Rattle.clone_engine.specs.Steps as steps
 use Rattle.clone_engine.specs.Steps.{AnswersDrop, Looks, Ends, Flushes, Transacts, Did, way_of, refusal_of}

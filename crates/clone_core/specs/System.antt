@@ -10,7 +10,8 @@ use Rattle.clone_recover.specs.declared.refusal.RecoverRefusal.TheVariants.{Dama
 use Rattle.clone_plain.specs.Donor.{Donor}
 use Rattle.clone_plain.specs.Answers.{Text}
 use Rattle.clone_events.specs.Events.{to_donor, to_recipient, Event, made, cleaned, looked, archived, started, started_before, readied, not_started, completed, completed_before, broke, broke_before, lost, lost_before, showed, incomplete, hidden, damaged, ordered}
-use Rattle.clone_engine.specs.Disks.{DiskState, Visits, with_order}
+use Rattle.clone_engine.specs.Disks.{Visits, with_order}
+use Rattle.clone_outside.specs.DiskCalls.{DiskState}
 use Rattle.clone_plain.specs.Calls.{Made, done, refused, call_of}
 use Rattle.clone_plain.specs.declared.refusal.EngineRefusal.TheVariants.{Because}
 use Rattle.clone_donor.specs.Acts as act

@@ -1,6 +1,6 @@
-ghost use Rattle.std.specs.Prelude.{◌≡◌, ◌≤◌, ℕ, IfOk, IfErr, IsErrOf, is_some};
-ghost use Rattle.clone_outside.specs.Causes.{Rose};
+ghost use Rattle.std.specs.Prelude.{◌≡◌, ℕ, IfOk, IfErr, IsErrOf};
 ghost use Rattle.clone_outside.specs.Disk.{ForTold};
+ghost use Rattle.clone_outside.specs.DiskCalls.{Alters};
 ghost use Rattle.clone_model.specs.History.{Rows, rows_in};
 ghost use Rattle.clone_recover.specs.Restores.{ForStep, IsCause};
 ghost use Rattle.clone_recover.specs.declared.refusal.RecoverRefusal.TheVariants.{Damaged};
@@ -18,19 +18,17 @@ pub fn recovered_rows<R: PageDisk>(
     alloc: Global,
     disk: &mut R,
 ) -> Result<Vec<(u32, u64, Value)>, RecoverRefusal>
-    ensures rows { IfOk result (λ list. ForStep (R.told disk.old) (R.told disk.new)
+    ensures rows { IfOk result (λ list. ForStep (R.state disk.old).told (R.state disk.new).told
         (λ m n. ShowsRecovered m n list.items)) }
     ensures ascending { IfOk result (λ list. (rows : Rows) × (list.items ≡ rows_in rows)) }
-    ensures cause { IfErr result (λ refusal. ForTold (R.told disk.old) (λ m. IsCause m refusal)) }
-    ensures fault { IsErrOf result RecoverRefusal.DiskFault
-        → Rose (R.failures disk.old) (R.failures disk.new) }
+    ensures cause { IfErr result
+        (λ refusal. ForTold (R.state disk.old).told (λ m. IsCause m refusal)) }
+    ensures works { Alters (IsErrOf result RecoverRefusal.DiskFault)
+        (R.state disk.old) (R.state disk.new) }
     ensures incomplete { IsErrOf result RecoverRefusal.Incomplete
-        → R.told disk.new ≡ R.told disk.old }
+        → (R.state disk.new).told ≡ (R.state disk.old).told }
     ensures damaged { (space page : ℕ) (why : Why) → IsErrOf result (Damaged space page why)
-        → R.told disk.new ≡ R.told disk.old }
-    ensures tells { is_some (R.told disk.new) ≡ is_some (R.told disk.old) }
-    ensures orders { R.orders disk.new ≡ R.orders disk.old }
-    ensures later { R.failures disk.old ≤ R.failures disk.new }
+        → (R.state disk.new).told ≡ (R.state disk.old).told }
 {
     recover(alloc, disk)?;
     open_rows(alloc, disk)

@@ -81,21 +81,17 @@ impl<D: PageDisk, R: PageDisk> Model for World<D, R> {
     ghost view = { λ w. record {
       donor = record {
         donor = w.donor;
-        recipient = record {
-          told = R.told w.recipient;
-          failures = R.failures w.recipient;
-          orders = R.orders w.recipient;
-        };
+        recipient = R.state w.recipient;
       };
       begun = w.begun;
       clone = clone_of w.course w.donor.cloning.stop w.floor w.doubted w.shown;
-      tells = is_some w.donor.engine.disk.told && is_some (R.told w.recipient);
+      tells = is_some w.donor.engine.disk.told && is_some (R.state w.recipient).told;
     } };
 
     ghost invariant = { λ w. HoldsClone w.donor
-        (is_some w.donor.engine.disk.told && is_some (R.told w.recipient))
+        (is_some w.donor.engine.disk.told && is_some (R.state w.recipient).told)
         (clone_of w.course w.donor.cloning.stop w.floor w.doubted w.shown)
-        (R.told w.recipient) w.course };
+        (R.state w.recipient).told w.course };
 }
 
 impl<D: PageDisk, R: PageDisk> World<D, R> {
@@ -105,14 +101,10 @@ impl<D: PageDisk, R: PageDisk> World<D, R> {
         requires taken { IsTaken donor nothing }
         requires idle { donor.cloning.session ≡ None }
         requires stop { donor.cloning.stop ≡ None }
-        requires blank { ForTold (R.told recipient) (λ m. m ≡ blank) }
+        requires blank { ForTold (R.state recipient).told (λ m. m ≡ blank) }
         ensures new { IsNew result }
         ensures donor { result.donor.donor ≡ donor }
-        ensures recipient { result.donor.recipient ≡ record {
-          told = R.told recipient;
-          failures = R.failures recipient;
-          orders = R.orders recipient;
-        } }
+        ensures recipient { result.donor.recipient ≡ R.state recipient }
     {
         keeping_laws();
         World {
@@ -160,12 +152,8 @@ impl<D: PageDisk, R: PageDisk> World<D, R> {
 
     /// Gives the donor's disk and the recipient's back, and the drops.
     pub fn into_disks(self) -> (D, R, Drops)
-        ensures donor_told { D.told result.0 ≡ self.donor.donor.engine.disk.told }
-        ensures donor_failures { D.failures result.0 ≡ self.donor.donor.engine.disk.failures }
-        ensures donor_orders { D.orders result.0 ≡ self.donor.donor.engine.disk.orders }
-        ensures recipient_told { R.told result.1 ≡ self.donor.recipient.told }
-        ensures recipient_failures { R.failures result.1 ≡ self.donor.recipient.failures }
-        ensures recipient_orders { R.orders result.1 ≡ self.donor.recipient.orders }
+        ensures donor { D.state result.0 ≡ self.donor.donor.engine.disk }
+        ensures recipient { R.state result.1 ≡ self.donor.recipient }
         ensures drops { result.2.list ≡ (donor_of self.donor).drops }
     {
         let World {

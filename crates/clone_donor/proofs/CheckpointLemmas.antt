@@ -7,7 +7,7 @@ use Rattle.clone_archive.specs.Archived.{kept_from}
 use Rattle.clone_buffer.specs.Buffered.{Buffered}
 use Rattle.clone_flush.specs.Calls.{State, needed_from, settled}
 use Rattle.clone_session.specs.CloneCalls.{CanArchive}
-use Rattle.clone_engine.specs.Disks.{DiskState}
+use Rattle.clone_outside.specs.DiskCalls.{DiskState}
 use Rattle.clone_engine.specs.Engine.{Engine, StandsBeside}
 use Rattle.clone_engine.specs.Steps.{Checks}
 use Rattle.clone_donor.specs.Archives.{IsOfLog}

@@ -3,7 +3,7 @@ use Rattle.std.proofs.Common.{◌≡◌, refl, sym, ap, subst, Option, Result, O
 use Rattle.std.specs.declared.alloc.AllocError.{AllocError}
 use Rattle.clone_outside.specs.Disk.{DiskImage}
 use Rattle.clone_outside.specs.declared.disk.DiskOrder.{DiskOrder}
-use Rattle.clone_engine.specs.Disks.{DiskState, Orders}
+use Rattle.clone_outside.specs.DiskCalls.{DiskState, Orders}
 use Rattle.clone_engine.specs.Engine.{Engine}
 use Rattle.clone_donor.specs.Acts as act
 use Rattle.clone_donor.specs.Acts.{Acts}

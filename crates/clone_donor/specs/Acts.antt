@@ -9,7 +9,7 @@ use Rattle.clone_session.specs.declared.info.StageInfo.{StageInfo}
 use Rattle.clone_session.specs.declared.refusal.CloneCause.{CloneCause}
 use Rattle.clone_session.specs.CloneCalls.{Archives, Claims}
 use Rattle.clone_session.specs.Effects.{Becomes, left}
-use Rattle.clone_engine.specs.Disks.{DiskState}
+use Rattle.clone_outside.specs.DiskCalls.{DiskState}
 use Rattle.clone_engine.specs.Reading.{OnlyVisits}
 use Rattle.clone_donor.specs.declared.block.Block.{Block}
 use Rattle.clone_donor.specs.Donor.{Donor}

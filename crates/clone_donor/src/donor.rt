@@ -3,7 +3,6 @@
 ghost use Rattle.std.specs.Prelude.{◌≡◌, ◌≤◌, ◌<◌, ◌^◌, IfErr, IfOk, None, is_some, length, option_copied, option_map};
 ghost use Rattle.std.specs.FinMap as finite;
 ghost use Rattle.std.specs.Option.{ForSome};
-ghost use Rattle.clone_outside.specs.Causes.{Rose};
 ghost use Rattle.clone_outside.specs.Disk.{ForTold, blank};
 ghost use Rattle.clone_model.specs.Config.{IsConfig};
 ghost use Rattle.clone_image.specs.Replay.{first_lsn};
@@ -13,7 +12,8 @@ ghost use Rattle.clone_snapshot.specs.Snaps.{IsSnap};
 ghost use Rattle.clone_plain.specs.Causes.{least_unused};
 ghost use Rattle.clone_trx.specs.Kept.{IsSafe};
 ghost use Rattle.clone_session.specs.Cloning.{IsCloning, Session};
-ghost use Rattle.clone_engine.specs.Disks.{Orders, Visits};
+ghost use Rattle.clone_engine.specs.Disks.{Visits};
+ghost use Rattle.clone_outside.specs.DiskCalls.{Alters, Orders};
 ghost use Rattle.clone_engine.specs.Engine.{IsEngine};
 ghost use Rattle.clone_engine.specs.Opened.{IsNotEmpty, IsOpened};
 ghost use Rattle.clone_engine.specs.declared.opening.OpenCause.TheVariants as causes;
@@ -61,19 +61,12 @@ impl<D: PageDisk> Donor<D> {
         ensures idle { IfOk result (λ d. d.cloning.session ≡ None) }
         ensures stop { IfOk result (λ d. d.cloning.stop ≡ None) }
         ensures taken { IfOk result (λ d. IsTaken d nothing) }
-        ensures empty { IfOk result (λ _. ForTold (D.told disk) (λ m. m ≡ blank)) }
-        ensures visits { IfOk result (λ d. Visits (record {
-          told = D.told disk;
-          failures = D.failures disk;
-          orders = D.orders disk;
-        }) d.engine.disk) }
+        ensures empty { IfOk result (λ _. ForTold (D.state disk).told (λ m. m ≡ blank)) }
+        ensures visits { IfOk result (λ d. Visits (D.state disk) d.engine.disk) }
         ensures not_empty { IfErr result (λ r. r.cause ≡ causes.NotEmpty
-            → ForTold (D.told disk) IsNotEmpty) }
-        ensures fault { IfErr result (λ r. r.cause ≡ causes.DiskFault
-            → Rose (D.failures disk) (D.failures r.disk)) }
-        ensures later { IfErr result (λ r. D.failures disk ≤ D.failures r.disk) }
-        ensures orders { IfErr result (λ r. D.orders r.disk ≡ D.orders disk) }
-        ensures tells { IfErr result (λ r. is_some (D.told r.disk) ≡ is_some (D.told disk)) }
+            → ForTold (D.state disk).told IsNotEmpty) }
+        ensures refused { IfErr result (λ r. Alters (r.cause ≡ causes.DiskFault)
+            (D.state disk) (D.state r.disk)) }
     {
         let ring = config.ring;
         match Engine::open(alloc, disk, config) {
@@ -156,9 +149,7 @@ impl<D: PageDisk> Donor<D> {
 
     /// Gives the disk back, and the drops.
     pub fn into_disk(self) -> (D, Drops)
-        ensures told { D.told result.0 ≡ self.engine.disk.told }
-        ensures failures { D.failures result.0 ≡ self.engine.disk.failures }
-        ensures orders { D.orders result.0 ≡ self.engine.disk.orders }
+        ensures disk { D.state result.0 ≡ self.engine.disk }
         ensures drops { result.1.list ≡ self.engine.donor.drops }
     {
         let Donor { engine, cloning: _ } = self;

@@ -32,7 +32,7 @@ use Rattle.clone_trx.specs.Sound.{HasSize}
 use Rattle.clone_trx.specs.Ways.{Way, Answers, StaysOutsideFiles}
 use Rattle.clone_trx.proofs.Common.{same_Some}
 use Rattle.clone_trx.proofs.CreateLemmas.{no_space}
-use Rattle.clone_engine.specs.Disks.{DiskState}
+use Rattle.clone_outside.specs.DiskCalls.{DiskState}
 use Rattle.clone_engine.specs.Engine.{AreOfDonor, IsEngine, IsInFile}
 use Rattle.clone_engine.specs.Growth.{PagesStay}
 use Rattle.clone_engine.proofs.BeyondLemmas.{stands_with, past_rule}

@@ -39,7 +39,7 @@ use Rattle.clone_trx.specs.Kept.{IsSafe, Keeps}
 use Rattle.clone_trx.specs.Ways.{CarriesDrop, Drops, Goes, StaysOutside, StaysStanding, held, page_in}
 use Rattle.clone_trx.proofs.CauseLemmas.{both_none, is_not}
 use Rattle.clone_trx.proofs.Common.{get-removed_other, get-removed_same, nat_cmp-IsAntisymmetric, nat_cmp_total, len-without}
-use Rattle.clone_engine.specs.Disks.{DiskState}
+use Rattle.clone_outside.specs.DiskCalls.{DiskState}
 use Rattle.clone_engine.specs.Engine.{AreOfDonor, Engine, IsEngine, IsInFile}
 use Rattle.clone_engine.specs.Steps as steps
 use Rattle.clone_engine.specs.Steps.{Serves, answer_of, left_by}

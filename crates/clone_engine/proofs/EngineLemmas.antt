@@ -10,7 +10,7 @@ use Rattle.clone_plain.specs.declared.refusal.Cause.{Cause}
 use Rattle.clone_plain.specs.declared.refusal.EngineRefusal.{EngineRefusal}
 use Rattle.clone_trx.specs.Kept.{Keeps}
 use Rattle.clone_trx.specs.Ways.{Way, Answers, StaysStanding}
-use Rattle.clone_engine.specs.Disks.{DiskState}
+use Rattle.clone_outside.specs.DiskCalls.{DiskState}
 use Rattle.clone_engine.specs.Growth.{PagesStay}
 use Rattle.clone_engine.specs.Engine.{Engine, IsEngine, IsInFile}
 use Rattle.clone_engine.proofs.WayLemmas.{WritesOfTables, Grows, goes_grows, same_grows}

@@ -32,7 +32,7 @@ use Rattle.clone_recover.specs.Reading.{AreOfTables}
 use Rattle.clone_plain.specs.Donor.{Donor}
 use Rattle.clone_trx.specs.Kept.{Keeps}
 use Rattle.clone_trx.proofs.Common.{same_Some}
-use Rattle.clone_engine.specs.Disks.{DiskState}
+use Rattle.clone_outside.specs.DiskCalls.{DiskState}
 use Rattle.clone_engine.specs.Engine.{AreOfDonor, IsEngine, IsInFile}
 use Rattle.clone_plain.specs.declared.refusal.EngineRefusal.{EngineRefusal}
 use Rattle.clone_engine.specs.Steps as steps

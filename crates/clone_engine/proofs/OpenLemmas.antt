@@ -26,7 +26,7 @@ use Rattle.clone_recover.specs.Reading.{AreOfTables}
 use Rattle.clone_plain.specs.Donor.{Donor, no_donor}
 use Rattle.clone_trx.specs.Kept.{Keeps}
 use Rattle.clone_trx.proofs.Common.{get-empty, same_Some}
-use Rattle.clone_engine.specs.Disks.{DiskState}
+use Rattle.clone_outside.specs.DiskCalls.{DiskState}
 use Rattle.clone_engine.specs.Engine.{AreOfDonor, IsEngine, IsInFile}
 use Rattle.clone_engine.specs.Opened.{IsNotEmpty}
 use Rattle.clone_engine.proofs.BeyondLemmas.{past_rule, stands_with}

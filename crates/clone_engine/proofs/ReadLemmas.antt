@@ -1,4 +1,5 @@
 -- What was read of a donor's pages.
+use Rattle.std.specs.Prelude.{IsErr}
 use Rattle.std.proofs.Common.{◌≡◌, ◌≤◌, ℕ, List, refl, sym, subst, arith, Option, None, Some, IsSome, IfSome, Result, Ok, Err, IsOk, OnOk, OnErr, IfErr}
 use Rattle.clone_outside.specs.Disk as disk
 use Rattle.clone_outside.specs.Disk.{DiskImage, ForTold, GivesQuiet}
@@ -15,7 +16,7 @@ use Rattle.clone_plain.specs.Donor.{Donor}
 use Rattle.clone_plain.specs.declared.refusal.Cause.TheVariants.{DiskFault}
 use Rattle.clone_plain.specs.declared.refusal.EngineRefusal.{EngineRefusal}
 use Rattle.clone_plain.specs.declared.refusal.EngineRefusal.TheVariants.{Because}
-use Rattle.clone_engine.specs.Disks.{DiskState}
+use Rattle.clone_outside.specs.DiskCalls.{DiskState, Reads}
 use Rattle.clone_engine.specs.Engine.{Engine, IsEngine, IsInFile}
 use Rattle.clone_engine.specs.Reading.{ReadsFile, ReadsPage, ListsOpen, OnlyVisits, read_answer}
 use Rattle.clone_engine.proofs.EngineLemmas.{engine}
@@ -80,9 +81,15 @@ lists_open e pages is others = by e.disk.told is.stands
     by (Some m) stands = λ copies. others m stands
 
 -- a call that only asked the disk
-pub visited : (d : Donor) (b : Buffered) (f : Flights) (k l : DiskState) (s : Engine) → engine d b f k ≡ s → l.told ≡ k.told → l.orders ≡ k.orders → k.failures ≤ l.failures → OnlyVisits s (engine d b f l)
-visited d b f k l s is told orders later =
-    subst (λ (s : Engine). OnlyVisits s (engine d b f l)) is (record { same = λ i. engine d b f (record { told = told i; failures = l.failures; orders = orders i }); later = later })
+pub visited : {P : Type 0} (d : Donor) (b : Buffered) (f : Flights) (k l : DiskState) (s : Engine) → engine d b f k ≡ s → Reads P k l → OnlyVisits s (engine d b f l)
+visited d b f k l s is r =
+    subst (λ (s : Engine). OnlyVisits s (engine d b f l)) is
+    (record { same = λ i. engine d b f (record { told = r.told i; stops = r.stops i; failures = l.failures; orders = r.orders i }); later = r.later })
+
+-- what is known of an answer that is an error
+pub on_err_is : {T E P : Type 0} (result : Result T E) → (IsErr result → P) → OnErr result P
+on_err_is (Ok x) known = tt
+on_err_is (Err e) known = known refl
 
 -- The answer of a read.
 module _ {X : Type 0} (read : Result X Refusal) (result : Result X EngineRefusal) (is : result ≡ read_answer read) where

@@ -1,8 +1,10 @@
 -- How the state of a donor is stored.
-use Rattle.std.specs.Prelude.{ℕ, Bool, true, false, ◌≡◌, List, None, Some, refl}
+use Rattle.std.specs.Prelude.{ℕ, Bool, true, false, ◌≡◌, ◌⊎◌, List, None, Some, refl}
+use Rattle.std.proofs.Common.{inl, inr}
 use Rattle.std.specs.declared.option.Option.{Option}
-use Rattle.std.specs.Coded.{Coded, code_by, coded×, coded_ℕ, coded_bool, coded_list, coded_option}
+use Rattle.std.specs.Coded.{Coded, code_by, coded×, coded⊎, coded_ℕ, coded_bool, coded_list, coded_option}
 use Rattle.clone_outside.specs.Disk.{DiskImage}
+use Rattle.clone_outside.specs.Stops.{DiskChange, WriteHalf, WriteRest, Extend, Create, Remove, WriteMark, Moment, Moments}
 use Rattle.clone_outside.specs.declared.disk.DiskOrder.{DiskOrder}
 use Rattle.clone_memdisk.specs.Stored.{image_code, order_code}
 use Rattle.clone_mtr.specs.declared.record.Record.{Record}
@@ -18,7 +20,7 @@ use Rattle.clone_buffer.specs.RecordCodes.{record_code}
 use Rattle.clone_buffer.specs.Buffered.{Buffered}
 use Rattle.clone_flush.specs.Flights.{Flights, flights_code}
 use Rattle.clone_plain.specs.Donor.{Donor, donor_code}
-use Rattle.clone_engine.specs.Disks.{DiskState}
+use Rattle.clone_outside.specs.DiskCalls.{DiskState}
 use Rattle.clone_engine.specs.Engine.{Engine}
 
 abbrev pub name_code : Coded PageName
@@ -96,12 +98,60 @@ buffer_code =
     (λ b. (b.log, (b.right, (b.ring, b.pool))))
     (λ p. record { log = p.0; right = p.1.0; ring = p.1.1.0; pool = p.1.1.1 }) (λ _. refl)
 
+-- a change of a disk, by its kind
+abbrev pub ChangeParts : Type 0
+ChangeParts = (ℕ × ℕ) ⊎ ((ℕ × ℕ) ⊎ ((ℕ × ℕ) ⊎ ((ℕ × ℕ) ⊎ (ℕ ⊎ List ℕ))))
+
+abbrev pub change_parts : DiskChange → ChangeParts
+change_parts (WriteHalf space number) = inl (space, number)
+change_parts (WriteRest space number) = inr (inl (space, number))
+change_parts (Extend space count) = inr (inr (inl (space, count)))
+change_parts (Create space count) = inr (inr (inr (inl (space, count))))
+change_parts (Remove space) = inr (inr (inr (inr (inl space))))
+change_parts (WriteMark bytes) = inr (inr (inr (inr (inr bytes))))
+
+abbrev pub change_of_parts : ChangeParts → DiskChange
+change_of_parts (inl (space, number)) = WriteHalf space number
+change_of_parts (inr (inl (space, number))) = WriteRest space number
+change_of_parts (inr (inr (inl (space, count)))) = Extend space count
+change_of_parts (inr (inr (inr (inl (space, count))))) = Create space count
+change_of_parts (inr (inr (inr (inr (inl space))))) = Remove space
+change_of_parts (inr (inr (inr (inr (inr bytes))))) = WriteMark bytes
+
+pub change_back : (c : DiskChange) → change_of_parts (change_parts c) ≡ c
+change_back (WriteHalf space number) = refl
+change_back (WriteRest space number) = refl
+change_back (Extend space count) = refl
+change_back (Create space count) = refl
+change_back (Remove space) = refl
+change_back (WriteMark bytes) = refl
+
+abbrev pub pair_code : Coded (ℕ × ℕ)
+pair_code = coded× coded_ℕ coded_ℕ
+
+abbrev pub change_code : Coded DiskChange
+change_code =
+    code_by ChangeParts (coded⊎ pair_code (coded⊎ pair_code (coded⊎ pair_code
+    (coded⊎ pair_code (coded⊎ coded_ℕ (coded_list coded_ℕ))))))
+    change_parts change_of_parts change_back
+
+abbrev pub moment_code : Coded Moment
+moment_code =
+    code_by (DiskImage × List DiskChange) (coded× image_code (coded_list change_code))
+    (λ m. (m.durable, m.since)) (λ p. record { durable = p.0; since = p.1 }) (λ _. refl)
+
+abbrev pub moments_code : Coded Moments
+moments_code =
+    code_by (Moment × List Moment) (coded× moment_code (coded_list moment_code))
+    (λ m. (m.now, m.before)) (λ p. record { now = p.0; before = p.1 }) (λ _. refl)
+
 abbrev pub disk_code : Coded DiskState
 disk_code =
-    code_by (Option DiskImage × (ℕ × List DiskOrder))
-    (coded× (coded_option image_code) (coded× coded_ℕ (coded_list order_code)))
-    (λ d. (d.told, (d.failures, d.orders)))
-    (λ p. record { told = p.0; failures = p.1.0; orders = p.1.1 }) (λ _. refl)
+    code_by (Option DiskImage × (Option Moments × (ℕ × List DiskOrder)))
+    (coded× (coded_option image_code) (coded× (coded_option moments_code)
+    (coded× coded_ℕ (coded_list order_code))))
+    (λ d. (d.told, (d.stops, (d.failures, d.orders))))
+    (λ p. record { told = p.0; stops = p.1.0; failures = p.1.1.0; orders = p.1.1.1 }) (λ _. refl)
 
 abbrev pub engine_code : Coded Engine
 engine_code =

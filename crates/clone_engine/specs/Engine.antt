@@ -11,7 +11,7 @@ use Rattle.clone_flush.specs.Flights.{Files, Flights, HasFiles, StandsFlown, bey
 use Rattle.clone_recover.specs.Reading.{AreOfTables}
 use Rattle.clone_plain.specs.Donor.{Donor}
 use Rattle.clone_trx.specs.Kept.{Keeps}
-use Rattle.clone_engine.specs.Disks.{DiskState}
+use Rattle.clone_outside.specs.DiskCalls.{DiskState}
 
 pub record Engine : Type 0 where
   pub donor : Donor

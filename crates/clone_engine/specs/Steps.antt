@@ -25,7 +25,8 @@ use Rattle.clone_plain.specs.declared.refusal.EngineRefusal.TheVariants.{Because
 use Rattle.clone_trx.specs.Calls.{create_way, drop_way, begin_way, change_way, get_way, undo_way, commit_way}
 use Rattle.clone_trx.specs.Ways as ways
 use Rattle.clone_trx.specs.Ways.{Way, ends, Answers, CarriesDrop}
-use Rattle.clone_engine.specs.Disks.{DiskState, Visits}
+use Rattle.clone_engine.specs.Disks.{Visits}
+use Rattle.clone_outside.specs.DiskCalls.{DiskState}
 use Rattle.clone_engine.specs.Engine.{Engine, StandsBeside, state_of}
 
 -- what a call answered, as the call that was carried out or why it wasn't

@@ -6,7 +6,7 @@ ghost use Rattle.clone_pool.specs.Pool.{IsPool};
 ghost use Rattle.clone_buffer.specs.Buffered.{IsBuffer};
 ghost use Rattle.clone_plain.specs.Causes.{least_unused};
 ghost use Rattle.clone_trx.specs.Kept.{IsSafe};
-ghost use Rattle.clone_engine.specs.Disks.{Orders};
+ghost use Rattle.clone_outside.specs.DiskCalls.{Orders};
 ghost use Rattle.clone_engine.specs.Engine.{IsEngine};
 
 use clone_buffer::Buffer;
@@ -38,22 +38,14 @@ impl<D: PageDisk> Model for Engine<D> {
       donor = e.transactions;
       buffer = e.buffer;
       flights = e.flusher;
-      disk = record {
-        told = D.told e.disk;
-        failures = D.failures e.disk;
-        orders = D.orders e.disk;
-      };
+      disk = D.state e.disk;
     } };
 
     ghost invariant = { λ e. IsEngine (record {
       donor = e.transactions;
       buffer = e.buffer;
       flights = e.flusher;
-      disk = record {
-        told = D.told e.disk;
-        failures = D.failures e.disk;
-        orders = D.orders e.disk;
-      };
+      disk = D.state e.disk;
     }) };
 }
 
@@ -105,9 +97,7 @@ impl<D: PageDisk> Engine<D> {
 
     /// Gives the disk back, and the drops.
     pub fn into_disk(self) -> (D, Drops)
-        ensures told { D.told result.0 ≡ self.disk.told }
-        ensures failures { D.failures result.0 ≡ self.disk.failures }
-        ensures orders { D.orders result.0 ≡ self.disk.orders }
+        ensures disk { D.state result.0 ≡ self.disk }
         ensures drops { result.1.list ≡ self.donor.drops }
     {
         let Engine {

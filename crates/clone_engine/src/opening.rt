@@ -1,7 +1,7 @@
 ghost use Rattle.std.specs.Prelude.{◌≡◌, ◌≤◌, ◌∷◌, [], Err, IfOk, IfErr, IsTrue, OnOk, false, is_some};
 ghost use Rattle.std.specs.FinMap as finite;
-ghost use Rattle.clone_outside.specs.Causes.{HasCause, Rose};
 ghost use Rattle.clone_outside.specs.Disk.{ForTold, Steps, blank, with_created};
+ghost use Rattle.clone_outside.specs.DiskCalls.{Alters, Asks};
 ghost use Rattle.clone_model.specs.Config.{IsConfig};
 ghost use Rattle.clone_image.specs.Replay.{first_lsn};
 ghost use Rattle.clone_contents.specs.Records.{opening_records, system_size};
@@ -53,19 +53,12 @@ impl<D: PageDisk> Engine<D> {
         ensures checkpoint { IfOk result (λ e. e.flights.checkpoint ≡ first_lsn) }
         ensures files { IfOk result (λ e. e.flights.files
             ≡ finite.insert finite.empty 0 system_size) }
-        ensures empty { IfOk result (λ _. ForTold (D.told disk) (λ m. m ≡ blank)) }
-        ensures visits { IfOk result (λ d. Visits (record {
-          told = D.told disk;
-          failures = D.failures disk;
-          orders = D.orders disk;
-        }) d.disk) }
+        ensures empty { IfOk result (λ _. ForTold (D.state disk).told (λ m. m ≡ blank)) }
+        ensures visits { IfOk result (λ d. Visits (D.state disk) d.disk) }
         ensures not_empty { IfErr result (λ r. r.cause ≡ causes.NotEmpty
-            → ForTold (D.told disk) IsNotEmpty) }
-        ensures fault { IfErr result (λ r. r.cause ≡ causes.DiskFault
-            → Rose (D.failures disk) (D.failures r.disk)) }
-        ensures later { IfErr result (λ r. D.failures disk ≤ D.failures r.disk) }
-        ensures orders { IfErr result (λ r. D.orders r.disk ≡ D.orders disk) }
-        ensures tells { IfErr result (λ r. is_some (D.told r.disk) ≡ is_some (D.told disk)) }
+            → ForTold (D.state disk).told IsNotEmpty) }
+        ensures refused { IfErr result (λ r. Alters (r.cause ≡ causes.DiskFault)
+            (D.state disk) (D.state r.disk)) }
     {
         let mut disk = disk;
         match parts(alloc, &mut disk, config) {
@@ -99,16 +92,12 @@ fn parts<D: PageDisk>(
         ≡ finite.insert finite.empty 0 system_size) }
     ensures floor { IfOk result (λ parts. parts.1.ring.floor ≡ first_lsn) }
     ensures size { IfOk result (λ parts. parts.1.ring.size ≡ config.ring) }
-    ensures stands { IfOk result (λ parts. Stands parts.1 at_rest (D.told disk.new)) }
-    ensures empty { OnOk result (ForTold (D.told disk.old) (λ m. m ≡ blank)) }
-    ensures made { OnOk result (Steps (D.told disk.old) (D.told disk.new)
+    ensures stands { IfOk result (λ parts. Stands parts.1 at_rest (D.state disk.new).told) }
+    ensures empty { OnOk result (ForTold (D.state disk.old).told (λ m. m ≡ blank)) }
+    ensures made { OnOk result (Steps (D.state disk.old).told (D.state disk.new).told
         (λ m. with_created m 0 system_size)) }
-    ensures not_empty { result ≡ Err causes.NotEmpty → ForTold (D.told disk.old) IsNotEmpty }
-    ensures fault { result ≡ Err causes.DiskFault
-        → Rose (D.failures disk.old) (D.failures disk.new) }
-    ensures later { D.failures disk.old ≤ D.failures disk.new }
-    ensures orders { D.orders disk.new ≡ D.orders disk.old }
-    ensures tells { is_some (D.told disk.new) ≡ is_some (D.told disk.old) }
+    ensures not_empty { result ≡ Err causes.NotEmpty → ForTold (D.state disk.old).told IsNotEmpty }
+    ensures works { Alters (result ≡ Err causes.DiskFault) (D.state disk.old) (D.state disk.new) }
 {
     if !is_empty(alloc, disk)? {
         return Err(OpenCause::NotEmpty);
@@ -122,12 +111,10 @@ fn parts<D: PageDisk>(
 /// Whether a disk holds neither a space nor a mark.
 pub fn is_empty<D: PageDisk>(alloc: Global, disk: &mut D) -> Result<bool, Refusal>
     ensures empty { IfOk result
-        (λ empty. IsTrue empty → ForTold (D.told disk.old) (λ m. m ≡ blank)) }
+        (λ empty. IsTrue empty → ForTold (D.state disk.old).told (λ m. m ≡ blank)) }
     ensures not_empty { IfOk result
-        (λ empty. empty ≡ false → ForTold (D.told disk.old) IsNotEmpty) }
-    ensures told { D.told disk.new ≡ D.told disk.old }
-    ensures cause { HasCause (D.failures disk.old) (D.failures disk.new) result }
-    ensures orders { D.orders disk.new ≡ D.orders disk.old }
+        (λ empty. empty ≡ false → ForTold (D.state disk.old).told IsNotEmpty) }
+    ensures asks { Asks (D.state disk.old) (D.state disk.new) result }
 {
     if !disk.spaces(alloc)?.is_empty() {
         return Ok(false);

@@ -1,13 +1,15 @@
 //! The writes of pages that are under way, and the files. A page's write is kept here exactly while
 //! its frame's flush has begun. A file that is known has at least so many pages on the disk.
-ghost use Rattle.std.specs.Prelude.{ℕ, ◌≡◌, ◌≢◌, ◌↔◌, ◌==◌, ◌<◌, ◌≤◌, Err, IfErr, IfNone, IfOk, IfSome, IsErrOf, IsSome, IsTrue, OnErr, OnOk, Some, false, option_copied, is_some, true};
+ghost use Rattle.std.specs.Prelude.{ℕ, ◌≡◌, ◌≢◌, ◌↔◌, ◌==◌, ◌+◌, ◌<◌, ◌≤◌, Err, IfErr, IfNone, IfOk, IfSome, IsErrOf, IsSome, IsTrue, OnErr, OnOk, Some, false, option_copied, is_some, true};
 ghost use Rattle.std.specs.FinMap as finite;
 ghost use Rattle.std.specs.BTreeMap.{keys};
 ghost use Rattle.std.specs.List.{list_any};
 ghost use Rattle.std.specs.Ordering.{eq_by_cmp};
 ghost use Rattle.std.specs.Set.{is_member};
 ghost use Rattle.clone_model.specs.Keys.{row_cmp};
-ghost use Rattle.clone_outside.specs.Causes.{HasCause, Rose};
+ghost use Rattle.clone_outside.specs.DiskCalls as calls;
+ghost use Rattle.clone_outside.specs.Stops.{Notes};
+ghost use Rattle.clone_outside.specs.Stops as change;
 ghost use Rattle.clone_outside.specs.Disk.{DiskImage, ForTold, IsBeforeOrAfter, Opens, page_of};
 ghost use Rattle.clone_image.specs.Replay.{first_lsn};
 ghost use Rattle.std.specs.declared.option.Option.{Option};
@@ -146,23 +148,23 @@ impl Flusher {
         ensures begins { Begins (record { space = space; number = number })
             (record { buffer = buffer.old; flights = self.old })
             (record { buffer = buffer.new; flights = self.new })
-            (D.told disk.old) (D.told disk.new) result }
-        ensures fault { result ≡ Err FlushRefusal.DiskFault
-            → Rose (D.failures disk.old) (D.failures disk.new) }
-        ensures later { D.failures disk.old ≤ D.failures disk.new }
-        ensures orders { D.orders disk.new ≡ D.orders disk.old }
-        ensures files { ForTold (D.told disk.old) (HasFiles self.old.files)
-            → ForTold (D.told disk.new) (HasFiles self.new.files) }
+            (D.state disk.old).told (D.state disk.new).told result }
+        ensures counts { calls.Counts (IsErrOf result FlushRefusal.DiskFault)
+            (D.state disk.old) (D.state disk.new) }
+        ensures stops { Notes (D.state disk.old).stops (D.state disk.new).stops
+            (change.Extend space (number + 1)) }
+        ensures files { ForTold (D.state disk.old).told (HasFiles self.old.files)
+            → ForTold (D.state disk.new).told (HasFiles self.new.files) }
         ensures stands { (copies : Copies)
-            → StandsFlown buffer.old self.old copies (D.told disk.old)
-            → ForTold (D.told disk.old) (HasFiles self.old.files)
+            → StandsFlown buffer.old self.old copies (D.state disk.old).told
+            → ForTold (D.state disk.old).told (HasFiles self.old.files)
             → IsSome (finite.get self.old.files space) → number < MOST_PAGES
             → StandsFlown buffer.new self.new (after_begin
             (record { space = space; number = number }) (has_begun result) copies)
-            (D.told disk.new) }
+            (D.state disk.new).told }
         ensures unwritten { result ≡ Err FlushRefusal.DiskFault → (copies : Copies)
-            → StandsFlown buffer.old self.old copies (D.told disk.old)
-            → StandsFlown buffer.new self.new copies (D.told disk.new) }
+            → StandsFlown buffer.old self.old copies (D.state disk.old).told
+            → StandsFlown buffer.new self.new copies (D.state disk.new).told }
     {
         let at = waiting(buffer, space, number)?;
         buffer.laws();
@@ -199,16 +201,20 @@ impl Flusher {
             (record { space = space; number = number }) self.old)) }
         ensures disk { OnOk result (Lengthens
             (ends_short (record { space = space; number = number }) self.old)
-            (record { space = space; number = number }) (D.told disk.old) (D.told disk.new)) }
+            (record { space = space; number = number })
+            (D.state disk.old).told (D.state disk.new).told) }
         ensures err { OnErr result (self.new ≡ self.old) }
         ensures short { IsErrOf result Refusal.Fault
             → ends_short (record { space = space; number = number }) self.old ≡ true }
         ensures fault { IsErrOf result Refusal.Fault
-            → IsBeforeOrAfter (D.told disk.old) (D.told disk.new)
+            → IsBeforeOrAfter (D.state disk.old).told (D.state disk.new).told
             (reaching (record { space = space; number = number })) }
-        ensures memory { IsErrOf result Refusal.NoMemory → D.told disk.new ≡ D.told disk.old }
-        ensures cause { HasCause (D.failures disk.old) (D.failures disk.new) result }
-        ensures orders { D.orders disk.new ≡ D.orders disk.old }
+        ensures memory { IsErrOf result Refusal.NoMemory
+            → (D.state disk.new).told ≡ (D.state disk.old).told }
+        ensures counts { calls.Counts (IsErrOf result Refusal.Fault)
+            (D.state disk.old) (D.state disk.new) }
+        ensures stops { Notes (D.state disk.old).stops (D.state disk.new).stops
+            (change.Extend space (number + 1)) }
     {
         let before = self.keep(space, number, frame)?;
         match self.reach(space, number, disk) {
@@ -272,16 +278,20 @@ impl Flusher {
             (record { space = space; number = number }) self.old) }
         ensures disk { OnOk result (Lengthens
             (ends_short (record { space = space; number = number }) self.old)
-            (record { space = space; number = number }) (D.told disk.old) (D.told disk.new)) }
+            (record { space = space; number = number })
+            (D.state disk.old).told (D.state disk.new).told) }
         ensures err { OnErr result (self.new ≡ self.old) }
         ensures short { OnErr result
             (ends_short (record { space = space; number = number }) self.old ≡ true) }
         ensures fault { IsErrOf result Refusal.Fault
-            → IsBeforeOrAfter (D.told disk.old) (D.told disk.new)
+            → IsBeforeOrAfter (D.state disk.old).told (D.state disk.new).told
             (reaching (record { space = space; number = number })) }
-        ensures memory { IsErrOf result Refusal.NoMemory → D.told disk.new ≡ D.told disk.old }
-        ensures cause { HasCause (D.failures disk.old) (D.failures disk.new) result }
-        ensures orders { D.orders disk.new ≡ D.orders disk.old }
+        ensures memory { IsErrOf result Refusal.NoMemory
+            → (D.state disk.new).told ≡ (D.state disk.old).told }
+        ensures counts { calls.Counts (IsErrOf result Refusal.Fault)
+            (D.state disk.old) (D.state disk.new) }
+        ensures stops { Notes (D.state disk.old).stops (D.state disk.new).stops
+            (change.Extend space (number + 1)) }
     {
         if !self.ends_short(space, number) {
             return Ok(());
@@ -385,14 +395,14 @@ impl Flusher {
         ensures halves { Halves (record { space = space; number = number })
             (record { buffer = buffer.old; flights = self.old })
             (record { buffer = buffer.new; flights = self.new })
-            (D.told disk.old) (D.told disk.new) result }
-        ensures fault { result ≡ Err FlushRefusal.DiskFault
-            → Rose (D.failures disk.old) (D.failures disk.new) }
-        ensures later { D.failures disk.old ≤ D.failures disk.new }
-        ensures orders { D.orders disk.new ≡ D.orders disk.old }
+            (D.state disk.old).told (D.state disk.new).told result }
+        ensures counts { calls.Counts (IsErrOf result FlushRefusal.DiskFault)
+            (D.state disk.old) (D.state disk.new) }
+        ensures stops { Notes (D.state disk.old).stops (D.state disk.new).stops
+            (change.WriteHalf space number) }
         ensures stands { (copies : Copies)
-            → StandsFlown buffer.old self.old copies (D.told disk.old)
-            → StandsFlown buffer.new self.new copies (D.told disk.new) }
+            → StandsFlown buffer.old self.old copies (D.state disk.old).told
+            → StandsFlown buffer.new self.new copies (D.state disk.new).told }
     {
         buffer.laws();
         let at = self.under_way(buffer, space, number, false)?;
@@ -426,19 +436,19 @@ impl Flusher {
         ensures lands { Lands (record { space = space; number = number })
             (record { buffer = buffer.old; flights = self.old })
             (record { buffer = buffer.new; flights = self.new })
-            (D.told disk.old) (D.told disk.new) result }
+            (D.state disk.old).told (D.state disk.new).told result }
         ensures image { OnOk result ((copies : Copies)
-            → StandsFlown buffer.old self.old copies (D.told disk.old)
-            → ForTold (D.told disk.new) (λ m. (w : PageWrite)
+            → StandsFlown buffer.old self.old copies (D.state disk.old).told
+            → ForTold (D.state disk.new).told (λ m. (w : PageWrite)
             → write_of self.old (record { space = space; number = number }) ≡ Some w
             → page_of m space number ≡ Some (record { bytes = w.image; writing = false }))) }
-        ensures fault { result ≡ Err FlushRefusal.DiskFault
-            → Rose (D.failures disk.old) (D.failures disk.new) }
-        ensures later { D.failures disk.old ≤ D.failures disk.new }
-        ensures orders { D.orders disk.new ≡ D.orders disk.old }
+        ensures counts { calls.Counts (IsErrOf result FlushRefusal.DiskFault)
+            (D.state disk.old) (D.state disk.new) }
+        ensures stops { Notes (D.state disk.old).stops (D.state disk.new).stops
+            (change.WriteRest space number) }
         ensures stands { (copies : Copies)
-            → StandsFlown buffer.old self.old copies (D.told disk.old)
-            → StandsFlown buffer.new self.new copies (D.told disk.new) }
+            → StandsFlown buffer.old self.old copies (D.state disk.old).told
+            → StandsFlown buffer.new self.new copies (D.state disk.new).told }
     {
         buffer.laws();
         let at = self.under_way(buffer, space, number, true)?;

@@ -6,15 +6,14 @@ use Rattle.std.proofs.lemmas.List.{drop-drop, drop-take, length-drop, length-tak
 use Rattle.std.proofs.lemmas.List.FromFn.{get_or-map-range_with_len}
 use Rattle.std.proofs.lemmas.Option.{slice_get-get_or, slice_get_past, slice_get_within}
 use Rattle.clone_base.specs.declared.limits.TheConstants.{REDO_SPACE}
-use Rattle.clone_outside.specs.Disk.{DiskImage}
+use Rattle.clone_outside.specs.Disk.{DiskImage, pages_in, whole, IsSameBut}
 use Rattle.clone_outside.specs.declared.disk.Held.{Held}
-use Rattle.clone_lay.specs.Faults.{IsSameBut}
-use Rattle.clone_lay.specs.Laid.{laid_over, pages_in, whole}
+use Rattle.clone_lay.specs.Laid.{laid_over}
 use Rattle.clone_lay.specs.Redo.{filled, laid_blocks, laid_redo, pages_for, redo_block, redo_page, redo_pages}
 use Rattle.clone_lay.proofs.LaidLemmas.{extended_there, laid_before, laid_behind, laid_here, length-laid_over}
 use Rattle.clone_lay.proofs.IndexLemmas.{same_elements}
 use Rattle.clone_lay.proofs.RedoLemmas.{length-redo_pages}
-use Rattle.clone_lay.proofs.SpaceLemmas.{get_there, pages_here}
+use Rattle.clone_outside.proofs.SpaceLemmas.{get_there, pages_here}
 
 page_at : (redo : List ℕ) (i : ℕ) → i < pages_for (length redo) → slice_get (redo_pages redo) i ≡ Some (whole (redo_page redo i))
 page_at redo i low =

@@ -1,14 +1,13 @@
 -- Room is made in a space of a disk, and then pages are written there, one after the other.
-use Rattle.std.proofs.Common.{◌≡◌, ◌+◌, ◌<◌, ◌≤◌, ℕ, List, [], ◌∷◌, ◌++◌, length, None, Some, refl, sym, ap, ◌∙◌, arith}
+use Rattle.std.proofs.Common.{◌≡◌, ◌+◌, ◌<◌, ◌≤◌, ℕ, List, [], ◌∷◌, ◌++◌, length, None, Some, refl, sym, ap, ◌∙◌, arith, inl, inr}
 use Rattle.std.specs.Prelude.{option_map}
 use Rattle.std.specs.declared.option.Option.{Option}
-use Rattle.clone_outside.specs.Disk.{DiskImage, Steps, extended, with_page}
+use Rattle.clone_outside.specs.Disk.{DiskImage, Steps, extended, with_page, pages_in, whole, with_space, ChangesOnly, IsBeforeOrAfter}
 use Rattle.clone_outside.specs.declared.disk.Held.{Held}
-use Rattle.clone_lay.specs.Laid.{laid_over, laid_page, pages_in, whole, with_laid, with_room, with_space}
-use Rattle.clone_lay.specs.Faults.{ChangesOnly}
-use Rattle.clone_lay.proofs.FaultLemmas.{changes_by, space_changes}
+use Rattle.clone_lay.specs.Laid.{laid_over, laid_page, with_laid, with_room}
+use Rattle.clone_outside.proofs.FaultLemmas.{changes_by, changes_none, space_changes}
 use Rattle.clone_lay.proofs.LaidLemmas.{laid_in_room, laid_next, laid_none, length-extended}
-use Rattle.clone_lay.proofs.SpaceLemmas.{page_given}
+use Rattle.clone_outside.proofs.SpaceLemmas.{page_given}
 
 module _ (s first : ℕ) where
   -- pages that are laid in room that was made for them
@@ -55,3 +54,13 @@ pub page_laid : (told mid now : Option DiskImage) (s n : ℕ) (bytes : List ℕ)
 page_laid told mid now s n bytes room write =
     laid_ends s n told now (n + 1) (whole bytes ∷ []) refl
     (laid_goes_on s n told mid now (n + 1) n [] (whole bytes) (omega arith) (omega arith) (laid_begins s n told mid (n + 1) (omega arith) room) write)
+
+-- where room is made, the space alone changes
+module _ (s : ℕ) where
+  pub room_changes : (told now : Option DiskImage) (count : ℕ) → Steps told now (with_room s count) → ChangesOnly s told now
+  room_changes told now count steps = changes_by s told now (with_room s count) (λ m. space_changes s (extended count (pages_in m s)) m) steps
+
+  -- room was made, or not
+  pub either_changes : (told now : Option DiskImage) (count : ℕ) → IsBeforeOrAfter told now (with_room s count) → ChangesOnly s told now
+  either_changes told now count (inl same) = changes_none s told now same
+  either_changes told now count (inr steps) = room_changes told now count steps

@@ -1,8 +1,5 @@
 pub mod IndexLemmas
 pub mod LaidLemmas
-pub mod SpaceLemmas
-pub mod HalfLemmas
-pub mod FaultLemmas
 pub mod SizeLemmas
 pub mod LayingLemmas
 pub mod RedoLemmas

@@ -8,11 +8,11 @@ use Rattle.std.specs.FinMap as finite
 use Rattle.std.proofs.lemmas.Bool.{cases_lt, le-ltb, lt-ltb}
 use Rattle.std.proofs.lemmas.Bool.Decides.{eqb_tells}
 use Rattle.std.proofs.lemmas.Option.{slice_get-get_or, slice_get_past}
-use Rattle.clone_outside.specs.Disk.{DiskImage, extended, page_of, zero_page}
+use Rattle.clone_outside.specs.Disk.{DiskImage, extended, page_of, zero_page, pages_in, whole, with_space}
 use Rattle.clone_outside.specs.declared.disk.Held.{Held}
-use Rattle.clone_lay.specs.Laid.{PageAt, bytes_at, laid_over, laid_page, laid_pages, last_bytes, pages_in, reaches_past, standing, whole, with_room, with_space}
+use Rattle.clone_lay.specs.Laid.{PageAt, bytes_at, laid_over, laid_page, laid_pages, last_bytes, reaches_past, standing, with_room}
 use Rattle.clone_lay.proofs.LaidLemmas.{extended_past, extended_there, extended_zero, laid_before, laid_behind, laid_here}
-use Rattle.clone_lay.proofs.SpaceLemmas.{get_here, get_there}
+use Rattle.clone_outside.proofs.SpaceLemmas.{get_here, get_there}
 
 -- What stands, by cases.
 

@@ -3,9 +3,9 @@ use Rattle.std.proofs.Common.{◌≡◌, ◌+◌, ◌-◌, ◌*◌, ◌<◌, ◌
 use Rattle.std.proofs.lemmas.List.{append-nil, length-take-le, take_all, take_more, take_rest}
 use Rattle.std.proofs.lemmas.List.FromFn.{get_or-map-range_with_len, length-map-range_with_len}
 use Rattle.clone_base.specs.declared.limits.TheConstants.{REDO_SPACE}
-use Rattle.clone_outside.specs.Disk.{DiskImage, Steps, with_page}
+use Rattle.clone_outside.specs.Disk.{DiskImage, Steps, with_page, whole}
 use Rattle.clone_outside.specs.declared.disk.Held.{Held}
-use Rattle.clone_lay.specs.Laid.{whole, with_laid}
+use Rattle.clone_lay.specs.Laid.{with_laid}
 use Rattle.clone_lay.specs.Redo.{filled, pages_for, redo_page, redo_pages}
 use Rattle.clone_lay.proofs.LayingLemmas.{HasLaid, laid_ends, laid_goes_on}
 

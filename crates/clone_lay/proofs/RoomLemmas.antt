@@ -8,12 +8,12 @@ use Rattle.std.specs.FinMap.{same_map}
 use Rattle.std.specs.Cmp.{nat_cmp_total}
 use Rattle.std.proofs.lemmas.Bool.{cases_eq, cases_lt, eqb-true, lt-ltb, ltb-true}
 use Rattle.std.proofs.lemmas.Map.Lookups.{exact_unsigned}
-use Rattle.clone_outside.specs.Disk.{DiskImage, extended, page_of}
+use Rattle.clone_outside.specs.Disk.{DiskImage, extended, page_of, pages_in, whole}
 use Rattle.clone_outside.specs.declared.disk.Held.{Held}
-use Rattle.clone_lay.specs.Laid.{PageAt, bytes_at, laid_over, laid_page, laid_pages, last_bytes, pages_in, reaches_past, standing, whole, with_room}
+use Rattle.clone_lay.specs.Laid.{PageAt, bytes_at, laid_over, laid_page, laid_pages, last_bytes, reaches_past, standing, with_room}
 use Rattle.clone_lay.proofs.PageLemmas.{page_in_pages, pages_mark, pages_place, room_place, standing_twice}
 use Rattle.clone_lay.proofs.IndexLemmas.{same_elements}
-use Rattle.clone_lay.proofs.SpaceLemmas.{get_here, get_there}
+use Rattle.clone_outside.proofs.SpaceLemmas.{get_here, get_there}
 
 -- what a space has once pages were laid follows from what it had
 laid_alike : (pages : List PageAt) (m n : DiskImage) (q : ℕ) → finite.get m.spaces q ≡ finite.get n.spaces q → finite.get (laid_pages pages m).spaces q ≡ finite.get (laid_pages pages n).spaces q

@@ -12,12 +12,12 @@ use Rattle.std.proofs.lemmas.Map.Lookups.{exact_unsigned}
 use Rattle.std.proofs.lemmas.Option.{same_Some, none-some}
 use Rattle.clone_base.proofs.MapEntries.{get-set_same, get-set_other}
 use Rattle.clone_base.proofs.OrderedMaps.{inserted_same}
-use Rattle.clone_outside.specs.Disk.{DiskImage, Spaces, ForTold, IsBeforeOrAfter, Steps, changed, edited, extended, page_count, space_numbers, with_page, with_created, with_extended, zero_page}
+use Rattle.clone_outside.specs.Disk.{DiskImage, Spaces, ForTold, IsBeforeOrAfter, Steps, changed, edited, extended, page_count, space_numbers, with_page, with_created, with_extended, zero_page, pages_in, with_space}
 use Rattle.clone_outside.specs.declared.disk.Held.{Held}
-use Rattle.clone_lay.specs.Laid.{pages_in, with_space, with_room}
+use Rattle.clone_lay.specs.Laid.{with_room}
 use Rattle.clone_lay.specs.Sized.{PageCounts, AreSizes}
 use Rattle.clone_lay.proofs.LaidLemmas.{length-extended}
-use Rattle.clone_lay.proofs.SpaceLemmas.{get_here, get_there}
+use Rattle.clone_outside.proofs.SpaceLemmas.{get_here, get_there}
 
 -- the pages behind a number of pages, if that is known
 pages_behind : (o : Option (List Held)) (n : ℕ) → option_map length o ≡ Some n → (pages : List Held) × (o ≡ Some pages) × (length pages ≡ n)

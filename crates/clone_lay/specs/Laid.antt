@@ -1,28 +1,15 @@
 -- Pages that are laid on a disk, each at its place, over those that are there.
-use Rattle.std.specs.Prelude.{◌==◌, ◌&&◌, ◌+◌, ℕ, Bool, true, false, nat_lt, List, [], ◌∷◌, ◌++◌, length, take, drop, None, Some, unwrap_or, if◌then◌else◌}
+use Rattle.std.specs.Prelude.{◌==◌, ◌&&◌, ◌+◌, ℕ, Bool, true, false, nat_lt, List, [], ◌∷◌, ◌++◌, length, take, drop, None, Some, if◌then◌else◌}
 use Rattle.std.specs.Option.{option_or}
 use Rattle.std.specs.List.{list_any}
 use Rattle.std.specs.declared.option.Option.{Option}
-use Rattle.std.specs.FinMap as finite
-use Rattle.clone_outside.specs.Disk.{DiskImage, zero_page, extended}
+use Rattle.clone_outside.specs.Disk.{DiskImage, zero_page, extended, pages_in, whole, with_space}
 use Rattle.clone_outside.specs.declared.disk.Held.{Held}
-
--- the pages of a space, none where it isn't there
-abbrev pub pages_in : DiskImage → ℕ → List Held
-pages_in m space = unwrap_or (finite.get m.spaces space) []
-
--- the space is there, with these pages
-abbrev pub with_space : ℕ → List Held → DiskImage → DiskImage
-with_space space pages m = record m { spaces = finite.insert m.spaces space pages }
 
 -- The space has at least so many pages. It is made where it isn't there, and else extended, and its
 -- new pages are of zero bytes.
 abbrev pub with_room : ℕ → ℕ → DiskImage → DiskImage
 with_room space count m = with_space space (extended count (pages_in m space)) m
-
--- a page with these bytes, of which no write is open
-abbrev pub whole : List ℕ → Held
-whole bytes = record { bytes = bytes; writing = false }
 
 -- pages from a number on, over those that were there; pages of zero bytes fill what was short of it
 abbrev pub laid_over : ℕ → List Held → List Held → List Held

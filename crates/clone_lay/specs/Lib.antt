@@ -1,4 +1,3 @@
-pub mod Faults
 pub mod Laid
 pub mod Marked
 pub mod Redo

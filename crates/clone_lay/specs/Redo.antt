@@ -3,10 +3,10 @@ use Rattle.std.specs.Prelude.{ℕ, ◌-◌, ◌*◌, ◌/◌, List, [], ◌∷�
 use Rattle.std.specs.Int.{div_ceil}
 use Rattle.std.specs.List.{range_with_len}
 use Rattle.clone_base.specs.declared.limits.TheConstants.{PAGE_SIZE, REDO_SPACE}
-use Rattle.clone_outside.specs.Disk.{DiskImage}
+use Rattle.clone_outside.specs.Disk.{DiskImage, whole}
 use Rattle.clone_outside.specs.declared.disk.Held.{Held}
 use Rattle.clone_lay.specs.declared.laying.TheConstants.{REDO_BLOCK}
-use Rattle.clone_lay.specs.Laid.{whole, with_laid}
+use Rattle.clone_lay.specs.Laid.{with_laid}
 
 -- how many pages so many bytes take
 abbrev pub pages_for : ℕ → ℕ

@@ -2,10 +2,9 @@ ghost use Rattle.std.specs.Prelude.{◌≡◌, ◌<◌, ◌*◌, ◌+◌, ◌++�
 ghost use Rattle.std.specs.List.{list_any};
 ghost use Rattle.std.specs.FinMap as finite;
 ghost use Rattle.clone_base.specs.declared.limits.TheConstants.{REDO_SPACE};
-ghost use Rattle.clone_outside.specs.Disk.{DiskImage, page_of, space_numbers};
+ghost use Rattle.clone_outside.specs.Disk.{DiskImage, page_of, space_numbers, pages_in, IsSameBut};
 ghost use Rattle.clone_lay.specs.declared.laying.TheConstants.{REDO_BLOCK};
-ghost use Rattle.clone_lay.specs.Faults.{IsSameBut};
-ghost use Rattle.clone_lay.specs.Laid.{PageAt, laid_page, laid_pages, last_bytes, pages_in, reaches_past, standing, with_room};
+ghost use Rattle.clone_lay.specs.Laid.{PageAt, laid_page, laid_pages, last_bytes, reaches_past, standing, with_room};
 ghost use Rattle.clone_lay.specs.Redo.{laid_blocks, laid_redo, redo_block, redo_pages};
 ghost use Rattle.clone_lay.specs.Sized.{AreSizes};
 

@@ -1,18 +1,17 @@
 //! Where a clone stands on a disk: page n of a space is at n of that space, and redo byte i,
 //! counted from the checkpoint, is in the redo's space on page i / 4,096 at i mod 4,096. Behind
 //! the last redo byte its page has zero bytes. A page that is made to give room has zero bytes.
-ghost use Rattle.std.specs.Prelude.{◌≡◌, ◌<◌, ◌≤◌, ◌+◌, ◌-◌, ◌*◌, ◌%◌, ◌^◌, OnOk, OnErr, is_some, length};
+ghost use Rattle.std.specs.Prelude.{◌≡◌, ◌<◌, ◌≤◌, ◌+◌, ◌-◌, ◌*◌, ◌%◌, ◌^◌, OnOk, OnErr, length};
 ghost use Rattle.std.specs.FinMap as finite;
 ghost use Rattle.clone_base.specs.declared.limits.TheConstants.{LSN_LIMIT, PAGE_SIZE, REDO_SPACE};
-ghost use Rattle.clone_outside.specs.Causes.{HasCause};
-ghost use Rattle.clone_outside.specs.Disk.{ForTold, IsBeforeOrAfter, Steps, with_page};
-ghost use Rattle.clone_lay.specs.Faults.{ChangesOnly};
-ghost use Rattle.clone_lay.specs.Laid.{with_room, laid_page, whole};
+ghost use Rattle.clone_outside.specs.Disk.{ForTold, IsBeforeOrAfter, Steps, with_page, whole, ChangesOnly};
+ghost use Rattle.clone_outside.specs.DiskCalls.{Works};
+ghost use Rattle.clone_lay.specs.Laid.{with_room, laid_page};
 ghost use Rattle.clone_lay.specs.Redo.{filled, redo_page, laid_redo};
 ghost use Rattle.clone_lay.specs.Sized.{AreSizes};
 
 use clone_base::{Counts, PAGE_SIZE, REDO_SPACE};
-use clone_outside::{PageDisk, Refusal};
+use clone_outside::{PageDisk, Refusal, write_page};
 
 /// How many bytes a block of redo has. The last one may have fewer.
 pub const REDO_BLOCK: usize = 4 * PAGE_SIZE;
@@ -27,14 +26,13 @@ pub fn make_room<R: PageDisk>(
     space: u32,
     pages: u32,
 ) -> Result<(), Refusal>
-    requires { ForTold (R.told disk.old) (AreSizes sizes.old) }
-    ensures ok { OnOk result (Steps (R.told disk.old) (R.told disk.new) (with_room space pages)) }
-    ensures sizes { OnOk result (ForTold (R.told disk.new) (AreSizes sizes.new)) }
+    requires { ForTold (R.state disk.old).told (AreSizes sizes.old) }
+    ensures ok { OnOk result
+        (Steps (R.state disk.old).told (R.state disk.new).told (with_room space pages)) }
+    ensures sizes { OnOk result (ForTold (R.state disk.new).told (AreSizes sizes.new)) }
     ensures partial { OnErr result
-        (IsBeforeOrAfter (R.told disk.old) (R.told disk.new) (with_room space pages)) }
-    ensures cause { HasCause (R.failures disk.old) (R.failures disk.new) result }
-    ensures tells { is_some (R.told disk.new) ≡ is_some (R.told disk.old) }
-    ensures orders { R.orders disk.new ≡ R.orders disk.old }
+        (IsBeforeOrAfter (R.state disk.old).told (R.state disk.new).told (with_room space pages)) }
+    ensures works { Works (R.state disk.old) (R.state disk.new) result }
 {
     if sizes.reaches(space, pages) {
         return Ok(());
@@ -46,13 +44,12 @@ pub fn make_room<R: PageDisk>(
 
 // Makes a space of so many pages, or extends it where it is there.
 fn grow<R: PageDisk>(disk: &mut R, sizes: &Counts, space: u32, pages: u32) -> Result<(), Refusal>
-    requires { ForTold (R.told disk.old) (AreSizes sizes.now) }
-    ensures ok { OnOk result (Steps (R.told disk.old) (R.told disk.new) (with_room space pages)) }
+    requires { ForTold (R.state disk.old).told (AreSizes sizes.now) }
+    ensures ok { OnOk result
+        (Steps (R.state disk.old).told (R.state disk.new).told (with_room space pages)) }
     ensures partial { OnErr result
-        (IsBeforeOrAfter (R.told disk.old) (R.told disk.new) (with_room space pages)) }
-    ensures cause { HasCause (R.failures disk.old) (R.failures disk.new) result }
-    ensures tells { is_some (R.told disk.new) ≡ is_some (R.told disk.old) }
-    ensures orders { R.orders disk.new ≡ R.orders disk.old }
+        (IsBeforeOrAfter (R.state disk.old).told (R.state disk.new).told (with_room space pages)) }
+    ensures works { Works (R.state disk.old) (R.state disk.new) result }
 {
     match sizes.get(space) {
         Some(_) => disk.extend(space, pages),
@@ -69,18 +66,17 @@ pub fn lay_page<R: PageDisk>(
     number: u32,
     page: &[u8; PAGE_SIZE],
 ) -> Result<(), Refusal>
-    requires sizes { ForTold (R.told disk.old) (AreSizes sizes.old) }
+    requires sizes { ForTold (R.state disk.old).told (AreSizes sizes.old) }
     requires within { number < 2 ^ 32 - 1 }
     ensures ok { OnOk result
-        (Steps (R.told disk.old) (R.told disk.new) (laid_page space number page.now)) }
-    ensures sizes { OnOk result (ForTold (R.told disk.new) (AreSizes sizes.new)) }
-    ensures partial { OnErr result (ChangesOnly space (R.told disk.old) (R.told disk.new)) }
-    ensures cause { HasCause (R.failures disk.old) (R.failures disk.new) result }
-    ensures tells { is_some (R.told disk.new) ≡ is_some (R.told disk.old) }
-    ensures orders { R.orders disk.new ≡ R.orders disk.old }
+        (Steps (R.state disk.old).told (R.state disk.new).told (laid_page space number page.now)) }
+    ensures sizes { OnOk result (ForTold (R.state disk.new).told (AreSizes sizes.new)) }
+    ensures partial { OnErr result
+        (ChangesOnly space (R.state disk.old).told (R.state disk.new).told) }
+    ensures works { Works (R.state disk.old) (R.state disk.new) result }
 {
     make_room(disk, sizes, space, number + 1)?;
-    write_whole(disk, space, number, page)
+    write_page(disk, space, number, page)
 }
 
 /// Lays redo bytes from an LSN on, in the redo's space at their distance from the checkpoint. Zero
@@ -92,17 +88,17 @@ pub fn lay_redo<R: PageDisk>(
     from: u64,
     bytes: &[u8],
 ) -> Result<(), Refusal>
-    requires sizes { ForTold (R.told disk.old) (AreSizes sizes.old) }
+    requires sizes { ForTold (R.state disk.old).told (AreSizes sizes.old) }
     requires behind { checkpoint ≤ from }
     requires whole { (from - checkpoint) % PAGE_SIZE ≡ 0 }
     requires within { from + length bytes.now ≤ LSN_LIMIT }
     ensures ok { OnOk result
-        (Steps (R.told disk.old) (R.told disk.new) (laid_redo (from - checkpoint) bytes.now)) }
-    ensures sizes { OnOk result (ForTold (R.told disk.new) (AreSizes sizes.new)) }
-    ensures partial { OnErr result (ChangesOnly REDO_SPACE (R.told disk.old) (R.told disk.new)) }
-    ensures cause { HasCause (R.failures disk.old) (R.failures disk.new) result }
-    ensures tells { is_some (R.told disk.new) ≡ is_some (R.told disk.old) }
-    ensures orders { R.orders disk.new ≡ R.orders disk.old }
+        (Steps (R.state disk.old).told (R.state disk.new).told
+        (laid_redo (from - checkpoint) bytes.now)) }
+    ensures sizes { OnOk result (ForTold (R.state disk.new).told (AreSizes sizes.new)) }
+    ensures partial { OnErr result
+        (ChangesOnly REDO_SPACE (R.state disk.old).told (R.state disk.new).told) }
+    ensures works { Works (R.state disk.old) (R.state disk.new) result }
 {
     let first = ((from - checkpoint) / PAGE_SIZE as u64) as u32;
     let count = bytes.len().div_ceil(PAGE_SIZE) as u32;
@@ -122,17 +118,16 @@ fn write_redo_page<R: PageDisk>(
 ) -> Result<(), Refusal>
     requires within { PAGE_SIZE * number ≤ length bytes.now }
     requires fits { first + number < 2 ^ 32 }
-    ensures ok { OnOk result (Steps (R.told disk.old) (R.told disk.new)
+    ensures ok { OnOk result (Steps (R.state disk.old).told (R.state disk.new).told
         (λ m. with_page m REDO_SPACE (first + number) (λ _. whole (redo_page bytes.now number)))) }
-    ensures partial { OnErr result (ChangesOnly REDO_SPACE (R.told disk.old) (R.told disk.new)) }
-    ensures cause { HasCause (R.failures disk.old) (R.failures disk.new) result }
-    ensures tells { is_some (R.told disk.new) ≡ is_some (R.told disk.old) }
-    ensures orders { R.orders disk.new ≡ R.orders disk.old }
+    ensures partial { OnErr result
+        (ChangesOnly REDO_SPACE (R.state disk.old).told (R.state disk.new).told) }
+    ensures works { Works (R.state disk.old) (R.state disk.new) result }
 {
     let rest = &bytes[PAGE_SIZE * number as usize..];
     match rest.first_chunk() {
-        Some(page) => write_whole(disk, REDO_SPACE, first + number, page),
-        None => write_whole(disk, REDO_SPACE, first + number, &fill(rest)),
+        Some(page) => write_page(disk, REDO_SPACE, first + number, page),
+        None => write_page(disk, REDO_SPACE, first + number, &fill(rest)),
     }
 }
 
@@ -144,22 +139,4 @@ fn fill(bytes: &[u8]) -> [u8; PAGE_SIZE]
     let mut page = [0; PAGE_SIZE];
     page[..bytes.len()].copy_from_slice(bytes);
     page
-}
-
-// Writes both halves of a page.
-fn write_whole<R: PageDisk>(
-    disk: &mut R,
-    space: u32,
-    number: u32,
-    page: &[u8; PAGE_SIZE],
-) -> Result<(), Refusal>
-    ensures ok { OnOk result (Steps (R.told disk.old) (R.told disk.new)
-        (λ m. with_page m space number (λ _. whole page.now))) }
-    ensures partial { OnErr result (ChangesOnly space (R.told disk.old) (R.told disk.new)) }
-    ensures cause { HasCause (R.failures disk.old) (R.failures disk.new) result }
-    ensures tells { is_some (R.told disk.new) ≡ is_some (R.told disk.old) }
-    ensures orders { R.orders disk.new ≡ R.orders disk.old }
-{
-    disk.write_half(space, number, page)?;
-    disk.write_rest(space, number, page)
 }

@@ -8,6 +8,7 @@ use Rattle.std.specs.Coded.{Coded, code_by, coded×, coded⊎, coded_ℕ, coded_
 use Rattle.clone_base.specs.declared.limits.TheConstants.{PAGE_SIZE}
 use Rattle.clone_outside.specs.Calls.{Calls, no_calls, FailsNext, after_call, with_failing, nth_from_now}
 use Rattle.clone_outside.specs.Disk.{DiskImage, Spaces, blank}
+use Rattle.clone_outside.specs.DiskCalls.{DiskState}
 use Rattle.clone_outside.specs.declared.Refusal.{Refusal}
 use Rattle.clone_outside.specs.declared.Refusal.TheVariants.{Fault}
 use Rattle.clone_outside.specs.declared.disk.Held.{Held}
@@ -20,6 +21,11 @@ pub record Stored : Type 0 where
   pub tear : Option ℕ
   pub calls : Calls
   pub orders : List DiskOrder
+
+-- what it tells, which is nothing of what a stop leaves
+abbrev pub state_of : Stored → DiskState
+state_of d =
+    record { told = Some d.image; stops = None; failures = d.calls.faults; orders = d.orders }
 
 abbrev pub held_code : Coded Held
 held_code =

@@ -1,10 +1,11 @@
-ghost use Rattle.std.specs.Prelude.{◌≡◌, ◌≢◌, ◌++◌, ◌∷◌, [], IfOk, OnOk, OnErr, IsErrOf, Some, replicate, option_map, length};
+ghost use Rattle.std.specs.Prelude.{◌≡◌, ◌≢◌, ◌++◌, ◌∷◌, [], IfOk, OnOk, OnErr, IsErr, Some, replicate, option_map, length};
 ghost use Rattle.std.specs.BTreeMap.{keys};
 ghost use Rattle.std.specs.FinMap as finite;
 ghost use Rattle.std.specs.List.Sorted.{IsStrictlyIncreasing};
-ghost use Rattle.clone_outside.specs.Causes.{HasCause, Rose};
+ghost use Rattle.clone_outside.specs.DiskCalls.{Asks, Orders, Reads, Syncs, Takes, Writes};
+ghost use Rattle.clone_outside.specs.Stops as change;
 ghost use Rattle.clone_outside.specs.Disk.{Opens, GivesQuiet, IsBeforeOrAfter, space_numbers, page_count, page_in, page_of, with_page, with_pages, half_written, rest_written, with_extended, with_created, with_removed, with_mark, extended, edited, zero_page};
-ghost use Rattle.clone_memdisk.specs.Stored.{IsCounted, fresh, interrupted, ordered, given, IsRead};
+ghost use Rattle.clone_memdisk.specs.Stored.{IsCounted, state_of, fresh, interrupted, ordered, given, IsRead};
 ghost use Rattle.clone_memdisk.specs.Listed.{spaces_of};
 
 use crate::space::Space;
@@ -67,13 +68,9 @@ impl MemDisk {
 }
 
 impl PageDisk for MemDisk {
-    ghost use Rattle.std.specs.Prelude.{Some};
+    ghost state = { state_of };
 
-    ghost told = { λ d. Some d.image };
-
-    ghost failures = { λ d. d.calls.faults };
-
-    ghost orders = { λ d. d.orders };
+    ghost held = { λ _. tt };
 
     fn faults(&self) -> u64 {
         self.plan.faults()
@@ -83,9 +80,7 @@ impl PageDisk for MemDisk {
     fn spaces(&mut self, alloc: Global) -> Result<Vec<u32>, Refusal>
         ensures ascending { IfOk result (λ all. IsStrictlyIncreasing all.items) }
         ensures all { IfOk result (λ all. all.items ≡ space_numbers self.old.image) }
-        ensures same { Some self.new.image ≡ Some self.old.image }
-        ensures cause { HasCause self.old.calls.faults self.new.calls.faults result }
-        ensures orders { self.new.orders ≡ self.old.orders }
+        ensures asks { Asks (state_of self.old) (state_of self.new) result }
 
         ensures counted { IsCounted self.old self.new result }
     {
@@ -95,9 +90,7 @@ impl PageDisk for MemDisk {
 
     fn pages(&mut self, space: u32) -> Result<Option<u32>, Refusal>
         ensures count { IfOk result (λ n. n ≡ page_count self.old.image space) }
-        ensures same { Some self.new.image ≡ Some self.old.image }
-        ensures cause { HasCause self.old.calls.faults self.new.calls.faults result }
-        ensures orders { self.new.orders ≡ self.old.orders }
+        ensures asks { Asks (state_of self.old) (state_of self.new) result }
 
         ensures memory { result ≢ Err Refusal.NoMemory }
         ensures counted { IsCounted self.old self.new result }
@@ -114,11 +107,8 @@ impl PageDisk for MemDisk {
         into: &mut [u8; PAGE_SIZE],
     ) -> Result<(), Refusal>
         ensures quiet { OnOk result (GivesQuiet self.old.image space page into.new) }
-        ensures same { Some self.new.image ≡ Some self.old.image }
-        ensures fault { OnErr result (Rose self.old.calls.faults self.new.calls.faults) }
         ensures memory { result ≢ Err Refusal.NoMemory }
-        ensures cause { HasCause self.old.calls.faults self.new.calls.faults result }
-        ensures orders { self.new.orders ≡ self.old.orders }
+        ensures reads { Reads (IsErr result) (state_of self.old) (state_of self.new) }
 
         ensures read { OnOk result
             (IsRead self.old.tear (page_of self.old.image space page) into.old into.new) }
@@ -130,14 +120,8 @@ impl PageDisk for MemDisk {
     }
 
     fn write_half(&mut self, space: u32, page: u32, from: &[u8; PAGE_SIZE]) -> Result<(), Refusal>
-        ensures written { OnOk result (Some self.new.image
-            ≡ Some (with_page self.old.image space page (half_written from.now))) }
-        ensures fault { IsErrOf result Refusal.Fault
-            → Opens space page (Some self.old.image) (Some self.new.image) }
-        ensures memory { IsErrOf result Refusal.NoMemory
-            → Some self.new.image ≡ Some self.old.image }
-        ensures cause { HasCause self.old.calls.faults self.new.calls.faults result }
-        ensures orders { self.new.orders ≡ self.old.orders }
+        ensures writes { Writes change.WriteHalf space page (half_written from.now)
+            (state_of self.old) (state_of self.new) result }
 
         ensures opened { OnErr result
             (self.new.image ≡ with_page self.old.image space page interrupted) }
@@ -152,14 +136,8 @@ impl PageDisk for MemDisk {
     }
 
     fn write_rest(&mut self, space: u32, page: u32, from: &[u8; PAGE_SIZE]) -> Result<(), Refusal>
-        ensures written { OnOk result (Some self.new.image
-            ≡ Some (with_page self.old.image space page (rest_written from.now))) }
-        ensures fault { IsErrOf result Refusal.Fault
-            → Opens space page (Some self.old.image) (Some self.new.image) }
-        ensures memory { IsErrOf result Refusal.NoMemory
-            → Some self.new.image ≡ Some self.old.image }
-        ensures cause { HasCause self.old.calls.faults self.new.calls.faults result }
-        ensures orders { self.new.orders ≡ self.old.orders }
+        ensures writes { Writes change.WriteRest space page (rest_written from.now)
+            (state_of self.old) (state_of self.new) result }
 
         ensures opened { OnErr result
             (self.new.image ≡ with_page self.old.image space page interrupted) }
@@ -174,14 +152,8 @@ impl PageDisk for MemDisk {
     }
 
     fn extend(&mut self, space: u32, pages: u32) -> Result<(), Refusal>
-        ensures extended { OnOk result
-            (Some self.new.image ≡ Some (with_extended self.old.image space pages)) }
-        ensures fault { IsErrOf result Refusal.Fault → IsBeforeOrAfter (Some self.old.image)
-            (Some self.new.image) (λ m. with_extended m space pages) }
-        ensures memory { IsErrOf result Refusal.NoMemory
-            → Some self.new.image ≡ Some self.old.image }
-        ensures cause { HasCause self.old.calls.faults self.new.calls.faults result }
-        ensures orders { self.new.orders ≡ self.old.orders }
+        ensures takes { Takes (change.Extend space pages) (λ m. with_extended m space pages)
+            (state_of self.old) (state_of self.new) result }
 
         ensures failed { OnErr result (self.new.image ≡ self.old.image) }
         ensures counted { IsCounted self.old self.new result }
@@ -192,14 +164,8 @@ impl PageDisk for MemDisk {
     }
 
     fn create(&mut self, space: u32, pages: u32) -> Result<(), Refusal>
-        ensures created { OnOk result
-            (Some self.new.image ≡ Some (with_created self.old.image space pages)) }
-        ensures fault { IsErrOf result Refusal.Fault → IsBeforeOrAfter (Some self.old.image)
-            (Some self.new.image) (λ m. with_created m space pages) }
-        ensures memory { IsErrOf result Refusal.NoMemory
-            → Some self.new.image ≡ Some self.old.image }
-        ensures cause { HasCause self.old.calls.faults self.new.calls.faults result }
-        ensures orders { self.new.orders ≡ self.old.orders }
+        ensures takes { Takes (change.Create space pages) (λ m. with_created m space pages)
+            (state_of self.old) (state_of self.new) result }
 
         ensures failed { OnErr result (self.new.image ≡ self.old.image) }
         ensures counted { IsCounted self.old self.new result }
@@ -210,13 +176,9 @@ impl PageDisk for MemDisk {
     }
 
     fn remove(&mut self, space: u32) -> Result<(), Refusal>
-        ensures removed { OnOk result
-            (Some self.new.image ≡ Some (with_removed self.old.image space)) }
-        ensures fault { IsErrOf result Refusal.Fault → IsBeforeOrAfter (Some self.old.image)
-            (Some self.new.image) (λ m. with_removed m space) }
         ensures memory { result ≢ Err Refusal.NoMemory }
-        ensures cause { HasCause self.old.calls.faults self.new.calls.faults result }
-        ensures orders { self.new.orders ≡ self.old.orders }
+        ensures takes { Takes (change.Remove space) (λ m. with_removed m space)
+            (state_of self.old) (state_of self.new) result }
 
         ensures failed { OnErr result (self.new.image ≡ self.old.image) }
         ensures counted { IsCounted self.old self.new result }
@@ -228,9 +190,7 @@ impl PageDisk for MemDisk {
 
     fn read_mark(&mut self) -> Result<Option<[u8; MARK_SIZE]>, Refusal>
         ensures mark { IfOk result (λ mark. mark ≡ self.old.image.mark) }
-        ensures same { Some self.new.image ≡ Some self.old.image }
-        ensures cause { HasCause self.old.calls.faults self.new.calls.faults result }
-        ensures orders { self.new.orders ≡ self.old.orders }
+        ensures asks { Asks (state_of self.old) (state_of self.new) result }
 
         ensures memory { result ≢ Err Refusal.NoMemory }
         ensures counted { IsCounted self.old self.new result }
@@ -240,14 +200,8 @@ impl PageDisk for MemDisk {
     }
 
     fn write_mark(&mut self, mark: &[u8; MARK_SIZE]) -> Result<(), Refusal>
-        ensures written { OnOk result
-            (Some self.new.image ≡ Some (with_mark self.old.image mark.now)) }
-        ensures fault { IsErrOf result Refusal.Fault → IsBeforeOrAfter (Some self.old.image)
-            (Some self.new.image) (λ m. with_mark m mark.now) }
-        ensures memory { IsErrOf result Refusal.NoMemory
-            → Some self.new.image ≡ Some self.old.image }
-        ensures cause { HasCause self.old.calls.faults self.new.calls.faults result }
-        ensures orders { self.new.orders ≡ self.old.orders }
+        ensures takes { Takes (change.WriteMark mark.now) (λ m. with_mark m mark.now)
+            (state_of self.old) (state_of self.new) result }
 
         ensures failed { OnErr result (self.new.image ≡ self.old.image) }
         ensures counted { IsCounted self.old self.new result }
@@ -258,9 +212,7 @@ impl PageDisk for MemDisk {
     }
 
     fn sync(&mut self) -> Result<(), Refusal>
-        ensures same { Some self.new.image ≡ Some self.old.image }
-        ensures cause { HasCause self.old.calls.faults self.new.calls.faults result }
-        ensures orders { self.new.orders ≡ self.old.orders }
+        ensures syncs { Syncs (state_of self.old) (state_of self.new) result }
 
         ensures memory { result ≢ Err Refusal.NoMemory }
         ensures counted { IsCounted self.old self.new result }
@@ -271,10 +223,7 @@ impl PageDisk for MemDisk {
 
     /// Lets a call fail, or says what reads of open pages give from now on.
     fn order(&mut self, order: DiskOrder) -> Result<(), AllocError>
-        ensures ok { OnOk result (self.new.orders ≡ self.old.orders ++ order ∷ []) }
-        ensures err { OnErr result (self.new.orders ≡ self.old.orders) }
-        ensures same { Some self.new.image ≡ Some self.old.image }
-        ensures faults { self.new.calls.faults ≡ self.old.calls.faults }
+        ensures given { Orders order (state_of self.old) (state_of self.new) result }
 
         ensures carried { OnOk result (self.new ≡ ordered order self.old) }
         ensures refused { OnErr result (self.new ≡ self.old) }

@@ -6,3 +6,5 @@ pub mod Mark
 pub mod MarkLayout
 pub mod Link
 pub mod Memory
+pub mod Stops
+pub mod DiskCalls

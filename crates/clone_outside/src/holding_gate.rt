@@ -1,5 +1,4 @@
 //! A gate for tests, which holds who passes a point until another point was passed often enough.
-ghost use Rattle.std.specs.Prelude.{◌≡◌, IfOk, OnOk, OnErr, [], ◌++◌, ◌∷◌};
 
 use crate::gate::{Gate, Point};
 use std::alloc::{AllocError, Global};

@@ -3,7 +3,7 @@ ghost use Rattle.std.specs.FinMap as finite;
 ghost use Rattle.clone_page.specs.Bytes.{put_at};
 ghost use Rattle.clone_page.specs.Header.{IsAllowed};
 ghost use Rattle.clone_mtr.specs.Effects.{effect};
-ghost use Rattle.clone_outside.specs.Causes.{HasCause, Rose};
+ghost use Rattle.clone_outside.specs.DiskCalls.{Asks, Reads};
 ghost use Rattle.clone_outside.specs.Disk.{ForTold};
 ghost use Rattle.clone_image.specs.Image.{Image, page_of, page_count, with_edit, edited, after_record, MakesNoPage};
 ghost use Rattle.clone_overlay.specs.Covers.{covers_of, with_cover, with_leaf, stretched_to, unused};
@@ -76,11 +76,9 @@ impl Overlay {
 
     /// The disk as it is: its spaces below the redo's, with no page held.
     pub fn open<D: PageDisk>(alloc: Global, disk: &mut D) -> Result<Overlay, Refusal>
-        ensures shows { IfOk result (λ overlay. ForTold (D.told disk.old)
+        ensures shows { IfOk result (λ overlay. ForTold (D.state disk.old).told
             (λ m. Shows (image_of m) (image_of m) overlay)) }
-        ensures told { D.told disk.new ≡ D.told disk.old }
-        ensures cause { HasCause (D.failures disk.old) (D.failures disk.new) result }
-        ensures orders { D.orders disk.new ≡ D.orders disk.old }
+        ensures asks { Asks (D.state disk.old) (D.state disk.new) result }
     {
         let spaces = disk.spaces(alloc)?;
         let sheets = sheets_of(alloc, disk, &spaces)?;
@@ -111,14 +109,11 @@ impl Overlay {
         number: u32,
     ) -> Result<(), FetchRefusal>
         ensures ready { OnOk result (IsReady self.new space number) }
-        ensures shows { OnOk result (ShowsSame (D.told disk.old) self.old self.new) }
+        ensures shows { OnOk result (ShowsSame (D.state disk.old).told self.old self.new) }
         ensures header { IsErrOf result FetchRefusal.Header
-            → ForBase (D.told disk.old) self.old (IsMisplaced space number) }
-        ensures fault { IsErrOf result FetchRefusal.DiskFault
-            → Rose (D.failures disk.old) (D.failures disk.new) }
-        ensures told { D.told disk.new ≡ D.told disk.old }
-        ensures orders { D.orders disk.new ≡ D.orders disk.old }
-        ensures later { D.failures disk.old ≤ D.failures disk.new }
+            → ForBase (D.state disk.old).told self.old (IsMisplaced space number) }
+        ensures reads { Reads (IsErrOf result FetchRefusal.DiskFault)
+            (D.state disk.old) (D.state disk.new) }
     {
         fetch_in(&mut self.sheets, disk, space, number)
     }
@@ -178,11 +173,9 @@ impl Overlay {
 
 // The sheets of these spaces, with no page held.
 fn sheets_of<D: PageDisk>(alloc: Global, disk: &mut D, spaces: &[u32]) -> Result<Sheets, Refusal>
-    ensures sheets { IfOk result (λ sheets. ForTold (D.told disk.old)
+    ensures sheets { IfOk result (λ sheets. ForTold (D.state disk.old).told
         (λ m. covers_of sheets.entries ≡ with_spaces m finite.empty spaces.now)) }
-    ensures told { D.told disk.new ≡ D.told disk.old }
-    ensures cause { HasCause (D.failures disk.old) (D.failures disk.new) result }
-    ensures orders { D.orders disk.new ≡ D.orders disk.old }
+    ensures asks { Asks (D.state disk.old) (D.state disk.new) result }
 {
     let mut sheets = BTreeMap::new(alloc);
     for space in spaces {
@@ -198,11 +191,9 @@ fn add<D: PageDisk>(
     sheets: &mut Sheets,
     space: u32,
 ) -> Result<(), Refusal>
-    ensures added { OnOk result (ForTold (D.told disk.old)
+    ensures added { OnOk result (ForTold (D.state disk.old).told
         (λ m. covers_of sheets.new.entries ≡ with_space m (covers_of sheets.old.entries) space)) }
-    ensures told { D.told disk.new ≡ D.told disk.old }
-    ensures cause { HasCause (D.failures disk.old) (D.failures disk.new) result }
-    ensures orders { D.orders disk.new ≡ D.orders disk.old }
+    ensures asks { Asks (D.state disk.old) (D.state disk.new) result }
 {
     if space >= REDO_SPACE {
         return Ok(());
@@ -228,15 +219,12 @@ fn fetch_in<D: PageDisk>(
     space: u32,
     number: u32,
 ) -> Result<(), FetchRefusal>
-    ensures ok { OnOk result (FetchedIn (D.told disk.old) space number
+    ensures ok { OnOk result (FetchedIn (D.state disk.old).told space number
         (covers_of sheets.old.entries) (covers_of sheets.new.entries)) }
     ensures header { IsErrOf result FetchRefusal.Header
-        → HasMisplaced (D.told disk.old) space number (covers_of sheets.old.entries) }
-    ensures fault { IsErrOf result FetchRefusal.DiskFault
-        → Rose (D.failures disk.old) (D.failures disk.new) }
-    ensures told { D.told disk.new ≡ D.told disk.old }
-    ensures orders { D.orders disk.new ≡ D.orders disk.old }
-    ensures later { D.failures disk.old ≤ D.failures disk.new }
+        → HasMisplaced (D.state disk.old).told space number (covers_of sheets.old.entries) }
+    ensures reads { Reads (IsErrOf result FetchRefusal.DiskFault)
+        (D.state disk.old) (D.state disk.new) }
 {
     match sheets.get_mut(&space) {
         Some(sheet) => sheet.fetch(disk, space, number),

@@ -6,7 +6,7 @@ ghost use Rattle.std.specs.FinMap as finite;
 ghost use Rattle.clone_page.specs.Bytes.{put_at};
 ghost use Rattle.clone_page.specs.Header.{IsAllowed};
 ghost use Rattle.clone_mtr.specs.Effects.{effect};
-ghost use Rattle.clone_outside.specs.Causes.{Rose};
+ghost use Rattle.clone_outside.specs.DiskCalls.{Reads};
 ghost use Rattle.clone_outside.specs.Disk.{ForTold, GivesQuiet};
 ghost use Rattle.clone_overlay.specs.Covers.{holding, with_leaf, leaf_edited, stretched_to, leaves_of};
 ghost use Rattle.clone_overlay.specs.Shown.{IsPage};
@@ -99,14 +99,11 @@ impl Sheet {
         space: u32,
         number: u32,
     ) -> Result<(), FetchRefusal>
-        ensures ok { OnOk result (Fetched (D.told disk.old) space number self.old self.new) }
+        ensures ok { OnOk result (Fetched (D.state disk.old).told space number self.old self.new) }
         ensures header { IsErrOf result FetchRefusal.Header
-            → GivesMisplaced (D.told disk.old) space number self.old }
-        ensures fault { IsErrOf result FetchRefusal.DiskFault
-            → Rose (D.failures disk.old) (D.failures disk.new) }
-        ensures told { D.told disk.new ≡ D.told disk.old }
-        ensures orders { D.orders disk.new ≡ D.orders disk.old }
-        ensures later { D.failures disk.old ≤ D.failures disk.new }
+            → GivesMisplaced (D.state disk.old).told space number self.old }
+        ensures reads { Reads (IsErrOf result FetchRefusal.DiskFault)
+            (D.state disk.old) (D.state disk.new) }
     {
         if self.is_ready(number) {
             return Ok(());
@@ -125,14 +122,11 @@ impl Sheet {
     ) -> Result<(), FetchRefusal>
         requires there { number < self.old.count }
         requires free { finite.get self.old.leaves number ≡ None }
-        ensures ok { OnOk result (Fetched (D.told disk.old) space number self.old self.new) }
+        ensures ok { OnOk result (Fetched (D.state disk.old).told space number self.old self.new) }
         ensures header { IsErrOf result FetchRefusal.Header
-            → GivesMisplaced (D.told disk.old) space number self.old }
-        ensures fault { IsErrOf result FetchRefusal.DiskFault
-            → Rose (D.failures disk.old) (D.failures disk.new) }
-        ensures told { D.told disk.new ≡ D.told disk.old }
-        ensures orders { D.orders disk.new ≡ D.orders disk.old }
-        ensures later { D.failures disk.old ≤ D.failures disk.new }
+            → GivesMisplaced (D.state disk.old).told space number self.old }
+        ensures reads { Reads (IsErrOf result FetchRefusal.DiskFault)
+            (D.state disk.old) (D.state disk.new) }
     {
         if number >= self.kept {
             return Ok(self.hold(number, Page::zero())?);
@@ -187,16 +181,13 @@ impl Sheet {
 
 // Reads a page and tests its header.
 fn read<D: PageDisk>(disk: &mut D, space: u32, number: u32) -> Result<Page, FetchRefusal>
-    ensures given { IfOk result (λ page. ForTold (D.told disk.old)
+    ensures given { IfOk result (λ page. ForTold (D.state disk.old).told
         (λ m. GivesQuiet m space number page)) }
     ensures page { IfOk result (λ page. IsPage space number page) }
     ensures header { IsErrOf result FetchRefusal.Header
-        → GivesAgainst (D.told disk.old) space number }
-    ensures fault { IsErrOf result FetchRefusal.DiskFault
-        → Rose (D.failures disk.old) (D.failures disk.new) }
-    ensures told { D.told disk.new ≡ D.told disk.old }
-    ensures orders { D.orders disk.new ≡ D.orders disk.old }
-    ensures later { D.failures disk.old ≤ D.failures disk.new }
+        → GivesAgainst (D.state disk.old).told space number }
+    ensures reads { Reads (IsErrOf result FetchRefusal.DiskFault)
+        (D.state disk.old) (D.state disk.new) }
 {
     let mut page = Page::zero();
     match disk.read_page(space, number, page.bytes_mut()) {

@@ -1,10 +1,10 @@
 //! The frames, and the orders beside them. No page has two frames, and no frame was used later
 //! than the count of uses says. The orders are always those of the frames as they are. A frame
 //! keeps the rule of `frame`. There are fewer than 2^32 frames.
-ghost use Rattle.std.specs.Prelude.{◌≡◌, ◌<◌, ◌≤◌, ◌-◌, ◌^◌, ℕ, None, true, false, IfOk, IfErr, IfNone, IfSome, OnOk, OnErr, length, replicate, slice_set};
+ghost use Rattle.std.specs.Prelude.{◌≡◌, ◌<◌, ◌≤◌, ◌-◌, ◌^◌, ℕ, None, true, false, IfOk, IfErr, IsErr, IsErrOf, IfNone, IfSome, OnOk, length, replicate, slice_set};
 ghost use Rattle.std.specs.Option.{ForSome};
 ghost use Rattle.std.specs.List.{filter_map};
-ghost use Rattle.clone_outside.specs.Causes.{Rose};
+ghost use Rattle.clone_outside.specs.DiskCalls.{Reads};
 ghost use Rattle.clone_outside.specs.Disk.{ForTold, GivesQuiet};
 ghost use Rattle.clone_pool.specs.Frames.{no_frame, frame_at, name_of, holder, HoldsPage, IsInFlight, is_dirty, is_waiting, open_page, page_changed, emptied, filled, pinned, unpinned, changed, begun, landed, failed, discarded, next_use};
 
@@ -89,14 +89,11 @@ impl Pool {
             (IsHolder (record { space = space; number = page }) self.new.frames) }
         ensures others { IfOk result (λ at. KeepsOthers at self.old.frames self.new.frames) }
         ensures kept { KeepsInUse self.old.frames self.new.frames }
-        ensures fault { result ≡ Err FetchRefusal.DiskFault
-            → Rose (D.failures disk.old) (D.failures disk.new) }
-        ensures later { D.failures disk.old ≤ D.failures disk.new }
-        ensures disk { D.told disk.new ≡ D.told disk.old }
-        ensures orders { D.orders disk.new ≡ D.orders disk.old }
+        ensures reads { Reads (IsErrOf result FetchRefusal.DiskFault)
+            (D.state disk.old) (D.state disk.new) }
         ensures read { IfOk result
             (λ at. holder self.old.frames (record { space = space; number = page }) ≡ None
-            → ForTold (D.told disk.old)
+            → ForTold (D.state disk.old).told
             (λ m. GivesQuiet m space page (frame_at self.new.frames at).page)) }
     {
         let name = PageName {
@@ -357,12 +354,9 @@ impl Pool {
         ensures ok { OnOk result (Fills name at self.old self.new) }
         ensures err { IfErr result
             (λ e. (e ≡ FetchRefusal.DiskFault) × Empties at self.old self.new) }
-        ensures fault { OnErr result (Rose (D.failures disk.old) (D.failures disk.new)) }
-        ensures later { D.failures disk.old ≤ D.failures disk.new }
-        ensures disk { D.told disk.new ≡ D.told disk.old }
-        ensures orders { D.orders disk.new ≡ D.orders disk.old }
+        ensures reads { Reads (IsErr result) (D.state disk.old) (D.state disk.new) }
         ensures read { OnOk result
-            (ForTold (D.told disk.old)
+            (ForTold (D.state disk.old).told
             (λ m. GivesQuiet m name.space name.number (frame_at self.new.frames at).page)) }
     {
         let number = next_use(self.uses);
@@ -397,12 +391,9 @@ fn read_into<D: PageDisk>(
     ensures ok { OnOk result (frame.new ≡ filled name frame.new.page number frame.old) }
     ensures err { IfErr result
         (λ e. (e ≡ FetchRefusal.DiskFault) × (frame.new ≡ emptied frame.new.page frame.old)) }
-    ensures fault { OnErr result (Rose (D.failures disk.old) (D.failures disk.new)) }
-    ensures later { D.failures disk.old ≤ D.failures disk.new }
-    ensures disk { D.told disk.new ≡ D.told disk.old }
-    ensures orders { D.orders disk.new ≡ D.orders disk.old }
+    ensures reads { Reads (IsErr result) (D.state disk.old) (D.state disk.new) }
     ensures read { OnOk result
-        (ForTold (D.told disk.old) (λ m. GivesQuiet m name.space name.number frame.new.page)) }
+        (ForTold (D.state disk.old).told (λ m. GivesQuiet m name.space name.number frame.new.page)) }
 {
     frame.content = Content::Unused;
     frame.last_use = 0;

@@ -16,7 +16,8 @@ use Rattle.clone_events.specs.Events.{Event, recipient_fault}
 use Rattle.clone_events.specs.Headline.{AreCommits, AreDrops, AreSets, ShowsStop, all_events, donor_order, recipient_order}
 use Rattle.clone_events.specs.Runs.{output}
 use Rattle.clone_events.specs.World.{Stop, no_clone}
-use Rattle.clone_engine.specs.Disks.{DiskState, Visits}
+use Rattle.clone_engine.specs.Disks.{Visits}
+use Rattle.clone_outside.specs.DiskCalls.{DiskState}
 use Rattle.clone_core.specs.System.{donor_of}
 use Rattle.clone_core.specs.Lines.{State, IsNew, Runs}
 use Rattle.clone_core.specs.Copied.{KeepsClone}
@@ -33,7 +34,7 @@ use Rattle.clone_prog.specs.Carrying.{AnsweredAll, Stopped, in_lines, in_binlog}
 use Rattle.clone_prog.specs.Ended.{EndsLines}
 use Rattle.clone_prog.specs.Looking.{IsUnread, IsUnready}
 use Rattle.clone_prog.specs.Saying.{Says, SaysUnread, SaysUnready}
-use Rattle.clone_prog.specs.Main.{End, disk_of, ends, Ends, TellsNothing, IsUntouched, IsRead, IsSaid, WereEmpty, Carried, Steps, Due, Front, Outcome}
+use Rattle.clone_prog.specs.Main.{End, ends, Ends, TellsNothing, IsUntouched, IsRead, IsSaid, WereEmpty, Carried, Steps, Due, Front, Outcome}
 
 -- all that was due by a status was written
 abbrev Whole : Status → List (List ℕ) → Ends → Ends → Type 0
@@ -102,23 +103,13 @@ pub record Left (new : Ends) (final : State) : Type 0 where
   pub stop : new.stop ≡ final.clone.stop
   pub clone : KeepsClone (donor_of final.donor) final.tells final.clone final.donor.recipient.told
 
--- a disk, by what is told of it
-same_disk : (told : Option DiskImage) (failures : ℕ) (orders : List DiskOrder) (d : DiskState) → told ≡ d.told → failures ≡ d.failures → orders ≡ d.orders → disk_of told failures orders ≡ d
-same_disk told failures orders d t f o = λ i. record { told = t i; failures = f i; orders = o i }
-
-pub left_so : (source out binlog : End) (final : State) (a b : Option DiskImage) (m n : ℕ) (xs ys : List DiskOrder) (drops : Drops) (stop : Option Stop)
-    → a ≡ final.donor.donor.engine.disk.told → m ≡ final.donor.donor.engine.disk.failures → xs ≡ final.donor.donor.engine.disk.orders
-    → b ≡ final.donor.recipient.told → n ≡ final.donor.recipient.failures → ys ≡ final.donor.recipient.orders
+pub left_so : (source out binlog : End) (final : State) (donor recipient : DiskState) (drops : Drops) (stop : Option Stop)
+    → donor ≡ final.donor.donor.engine.disk → recipient ≡ final.donor.recipient
     → drops ≡ (donor_of final.donor).drops → stop ≡ final.clone.stop
     → KeepsClone (donor_of final.donor) final.tells final.clone final.donor.recipient.told
-    → Left (ends source out binlog (disk_of a m xs) (disk_of b n ys) drops stop) final
-left_so source out binlog final a b m n xs ys drops stop da dm dx rb rn ry dropped stopped holds = record {
-  donor = same_disk a m xs final.donor.donor.engine.disk da dm dx;
-  recipient = same_disk b n ys final.donor.recipient rb rn ry;
-  drops = dropped;
-  stop = stopped;
-  clone = holds;
-}
+    → Left (ends source out binlog donor recipient drops stop) final
+left_so source out binlog final a b drops stop donor recipient dropped stopped holds =
+    record { donor = donor; recipient = recipient; drops = dropped; stop = stopped; clone = holds }
 
 -- what holds of each run from a world
 pub record LawsFrom (first : State) : Type 0 where

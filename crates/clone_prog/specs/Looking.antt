@@ -3,7 +3,8 @@ use Rattle.std.specs.Prelude.{ℕ, ◌⊎◌, List, ⊤}
 use Rattle.clone_outside.specs.Causes.{Rose}
 use Rattle.clone_outside.specs.Disk.{ForTold}
 use Rattle.clone_script.specs.Script.{IsFirstBad}
-use Rattle.clone_engine.specs.Disks.{DiskState, Visits}
+use Rattle.clone_engine.specs.Disks.{Visits}
+use Rattle.clone_outside.specs.DiskCalls.{DiskState}
 use Rattle.clone_engine.specs.Opened.{IsNotEmpty}
 use Rattle.clone_prog.specs.Main.{End, GaveAll, GaveTooMuch, IsCommand, Looks}
 use Rattle.clone_engine.specs.declared.opening.OpenCause.{OpenCause}

@@ -17,7 +17,8 @@ use Rattle.clone_events.specs.Events.{Event, recipient_fault}
 use Rattle.clone_events.specs.Runs.{output}
 use Rattle.clone_events.specs.World.{Stop, no_clone}
 use Rattle.clone_events.specs.Headline.{AreCommits, AreDrops, AreSets, ShowsStop, all_events, donor_order, recipient_order}
-use Rattle.clone_engine.specs.Disks.{DiskState, Visits}
+use Rattle.clone_engine.specs.Disks.{Visits}
+use Rattle.clone_outside.specs.DiskCalls.{DiskState}
 use Rattle.clone_engine.specs.Opened.{IsNotEmpty}
 use Rattle.clone_core.specs.System.{donor_of}
 use Rattle.clone_core.specs.Lines.{State, IsNew, Runs}
@@ -47,9 +48,6 @@ pub record Ends : Type 0 where
 
 abbrev pub end_of : Option (List ℕ) → ℕ → End
 end_of told faults = record { told = told; faults = faults }
-
-abbrev pub disk_of : Option DiskImage → ℕ → List DiskOrder → DiskState
-disk_of told failures orders = record { told = told; failures = failures; orders = orders }
 
 abbrev pub ends : End → End → End → DiskState → DiskState → Drops → Option Stop → Ends
 ends source out binlog donor recipient drops stop = record {

@@ -1,8 +1,9 @@
-ghost use Rattle.std.specs.Prelude.{◌≡◌, ◌++◌, ◌⊎◌, ◌^◌, ◌-◌, ◌≤◌, ℕ, [], Err, List, IfErr, IfOk, None, OnOk, OnErr, IsErrOf, codes, map, option_map};
+ghost use Rattle.std.specs.Prelude.{◌≡◌, ◌++◌, ◌⊎◌, ◌^◌, ◌-◌, ℕ, [], Err, List, IfErr, IfOk, None, OnOk, OnErr, IsErrOf, codes, map, option_map};
 ghost use Rattle.std.specs.Fmt.{decimal};
 ghost use Rattle.std.specs.String.{string_bytes};
 ghost use Rattle.clone_outside.specs.Causes.{HasCause, Rose};
 ghost use Rattle.clone_outside.specs.Disk.{ForTold, blank};
+ghost use Rattle.clone_outside.specs.DiskCalls.{Reads};
 ghost use Rattle.clone_engine.specs.Disks.{Visits};
 ghost use Rattle.clone_engine.specs.Opened.{IsNotEmpty};
 ghost use Rattle.clone_model.specs.Config.{IsConfig};
@@ -14,7 +15,7 @@ ghost use Rattle.clone_core.specs.Lines.{IsNew};
 ghost use Rattle.clone_prog.specs.Carrying.{Answered, AnsweredAll, AnsweredSome, Finished, Stopped, StoppedAtLine};
 ghost use Rattle.clone_prog.specs.Ended.{EndsLines};
 ghost use Rattle.clone_prog.specs.Looking.{IsUnready};
-ghost use Rattle.clone_prog.specs.Main.{End, IsRead, Outcome, disk_of, end_of, ends};
+ghost use Rattle.clone_prog.specs.Main.{End, IsRead, Outcome, end_of, ends};
 ghost use Rattle.clone_prog.specs.Saying.{Says, SaysUnread, SaysUnready};
 ghost use Rattle.clone_prog.specs.Status.{number_of};
 
@@ -61,14 +62,12 @@ pub fn clone_main<S: Source, K: Sink, B: Sink, D: PageDisk, R: PageDisk>(
         (ends (end_of (S.left source.old) (S.failures source.old))
         (end_of (K.taken out.old) (K.failures out.old))
         (end_of (B.taken binlog.old) (B.failures binlog.old))
-        (disk_of (D.told donor) (D.failures donor) (D.orders donor))
-        (disk_of (R.told recipient) (R.failures recipient) (R.orders recipient)) [] None)
+        (D.state donor) (R.state recipient) [] None)
         (ends (end_of (S.left source.new) (S.failures source.new))
         (end_of (K.taken out.new) (K.failures out.new))
         (end_of (B.taken binlog.new) (B.failures binlog.new))
-        (disk_of (D.told result.donor) (D.failures result.donor) (D.orders result.donor))
-        (disk_of (R.told result.recipient) (R.failures result.recipient)
-        (R.orders result.recipient)) result.drops.list (option_map stop_of result.stop)) }
+        (D.state result.donor) (R.state result.recipient) result.drops.list
+        (option_map stop_of result.stop)) }
 {
     let Left {
         status,
@@ -139,13 +138,11 @@ fn run_script<K: Sink, B: Sink, D: PageDisk, R: PageDisk>(
         → Outcome result.status words
         (ends before (end_of (K.taken out.old) (K.failures out.old))
         (end_of (B.taken binlog.old) (B.failures binlog.old))
-        (disk_of (D.told donor) (D.failures donor) (D.orders donor))
-        (disk_of (R.told recipient) (R.failures recipient) (R.orders recipient)) [] None)
+        (D.state donor) (R.state recipient) [] None)
         (ends after (end_of (K.taken out.new) (K.failures out.new))
         (end_of (B.taken binlog.new) (B.failures binlog.new))
-        (disk_of (D.told result.donor) (D.failures result.donor) (D.orders result.donor))
-        (disk_of (R.told result.recipient) (R.failures result.recipient)
-        (R.orders result.recipient)) result.drops.list (option_map stop_of result.stop)) }
+        (D.state result.donor) (R.state result.recipient) result.drops.list
+        (option_map stop_of result.stop)) }
 {
     let mut world = match begin(alloc, script.config, donor, recipient) {
         Ok(world) => world,
@@ -188,20 +185,14 @@ fn begin<D: PageDisk, R: PageDisk>(
 ) -> Result<World<D, R>, Unbegun<D, R>>
     requires { IsConfig config }
     ensures new { IfOk result IsNew }
-    ensures empty { OnOk result (ForTold (D.told donor) (λ m. m ≡ blank)
-        × ForTold (R.told recipient) (λ m. m ≡ blank)) }
-    ensures donor { IfOk result (λ world.
-        Visits (disk_of (D.told donor) (D.failures donor) (D.orders donor))
-        world.donor.donor.engine.disk) }
-    ensures recipient { IfOk result (λ world.
-        Visits (disk_of (R.told recipient) (R.failures recipient) (R.orders recipient))
-        world.donor.recipient) }
-    ensures why { IfErr result (λ unbegun. IsUnready
-        (disk_of (D.told donor) (D.failures donor) (D.orders donor))
-        (disk_of (R.told recipient) (R.failures recipient) (R.orders recipient))
-        (disk_of (D.told unbegun.donor) (D.failures unbegun.donor) (D.orders unbegun.donor))
-        (disk_of (R.told unbegun.recipient) (R.failures unbegun.recipient)
-        (R.orders unbegun.recipient)) unbegun.why) }
+    ensures empty { OnOk result (ForTold (D.state donor).told (λ m. m ≡ blank)
+        × ForTold (R.state recipient).told (λ m. m ≡ blank)) }
+    ensures donor { IfOk result
+        (λ world. Visits (D.state donor) world.donor.donor.engine.disk) }
+    ensures recipient { IfOk result
+        (λ world. Visits (R.state recipient) world.donor.recipient) }
+    ensures why { IfErr result (λ unbegun. IsUnready (D.state donor) (R.state recipient)
+        (D.state unbegun.donor) (R.state unbegun.recipient) unbegun.why) }
 {
     let mut donor = donor;
     let mut recipient = recipient;
@@ -228,20 +219,15 @@ fn look<D: PageDisk, R: PageDisk>(
     donor: &mut D,
     recipient: &mut R,
 ) -> Result<(), Unready>
-    ensures empty { OnOk result (ForTold (D.told donor.old) (λ m. m ≡ blank)
-        × ForTold (R.told recipient.old) (λ m. m ≡ blank)) }
-    ensures donor_fault { result ≡ Err Unready.DonorFault
-        → Rose (D.failures donor.old) (D.failures donor.new) }
-    ensures recipient_fault { result ≡ Err Unready.RecipientFault
-        → Rose (R.failures recipient.old) (R.failures recipient.new) }
+    ensures empty { OnOk result (ForTold (D.state donor.old).told (λ m. m ≡ blank)
+        × ForTold (R.state recipient.old).told (λ m. m ≡ blank)) }
+    ensures donor { Reads (result ≡ Err Unready.DonorFault)
+        (D.state donor.old) (D.state donor.new) }
+    ensures recipient { Reads (result ≡ Err Unready.RecipientFault)
+        (R.state recipient.old) (R.state recipient.new) }
     ensures not_empty { result ≡ Err Unready.NotEmpty
-        → ForTold (D.told donor.old) IsNotEmpty ⊎ ForTold (R.told recipient.old) IsNotEmpty }
-    ensures donor_told { D.told donor.new ≡ D.told donor.old }
-    ensures recipient_told { R.told recipient.new ≡ R.told recipient.old }
-    ensures donor_later { D.failures donor.old ≤ D.failures donor.new }
-    ensures recipient_later { R.failures recipient.old ≤ R.failures recipient.new }
-    ensures donor_orders { D.orders donor.new ≡ D.orders donor.old }
-    ensures recipient_orders { R.orders recipient.new ≡ R.orders recipient.old }
+        → ForTold (D.state donor.old).told IsNotEmpty ⊎ ForTold (R.state recipient.old).told
+        IsNotEmpty }
 {
     let donor_empty = match is_empty(alloc, donor) {
         Ok(empty) => empty,

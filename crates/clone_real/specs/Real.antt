@@ -1,6 +1,7 @@
 -- What contracts see of a disk of files. Of what the files hold they see nothing.
-use Rattle.std.specs.Prelude.{ℕ, List, [], Result, Ok, Err}
+use Rattle.std.specs.Prelude.{ℕ, List, [], None, Result, Ok, Err}
 use Rattle.clone_outside.specs.Causes.{raised}
+use Rattle.clone_outside.specs.DiskCalls.{DiskState}
 use Rattle.clone_outside.specs.declared.Refusal.{Refusal}
 use Rattle.clone_outside.specs.declared.Refusal.TheVariants.{Fault, NoMemory}
 use Rattle.clone_outside.specs.declared.disk.DiskOrder.{DiskOrder}
@@ -19,3 +20,7 @@ abbrev pub counted : {T : Type 0} → ℕ → Result T Refusal → ℕ
 counted faults (Ok x) = faults
 counted faults (Err Fault) = raised faults
 counted faults (Err NoMemory) = faults
+
+-- it tells nothing of what it holds, nor of what a stop may leave
+abbrev pub state_of : FileDiskModel → DiskState
+state_of d = record { told = None; stops = None; failures = d.faults; orders = d.orders }

@@ -15,13 +15,11 @@ pub enum AnyDisk<M, F> {
 }
 
 impl<M: PageDisk, F: PageDisk> PageDisk for AnyDisk<M, F> {
-    ghost use Rattle.clone_real.specs.Kinds.{of_disk};
+    ghost use Rattle.clone_real.specs.Kinds.{of_disk, held_of};
 
-    ghost told = { of_disk M.told F.told };
+    ghost state = { of_disk M.state F.state };
 
-    ghost failures = { of_disk M.failures F.failures };
-
-    ghost orders = { of_disk M.orders F.orders };
+    ghost held = { held_of M.state F.state M.held F.held };
 
     fn faults(&self) -> u64 {
         match self {

@@ -50,13 +50,11 @@ impl<R: Files<File = File> + AllocGlobal + Clone + Drop> FileDisk<R> {
 }
 
 impl<R: Files<File = File> + AllocGlobal + Clone + Drop> PageDisk for FileDisk<R> {
-    ghost use Rattle.std.specs.Prelude.{None};
+    ghost use Rattle.clone_real.specs.Real.{state_of};
 
-    ghost told = { λ _. None };
+    ghost state = { state_of };
 
-    ghost failures = { λ d. d.faults };
-
-    ghost orders = { λ d. d.orders };
+    ghost held = { λ _. tt };
 
     fn faults(&self) -> u64 {
         self.faults.get()

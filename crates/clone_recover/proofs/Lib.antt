@@ -12,13 +12,11 @@ pub mod Marks
 pub mod Faults
 pub mod RecoveryLemmas
 pub mod OverlayReadLemmas
-pub mod Halves
 pub mod RedoPageLemmas
 pub mod Counts
 pub mod UndoSlotLemmas
 pub mod UndoRecordLemmas
 pub mod RowListLemmas
-pub mod TellLemmas
 pub mod UndoChanges
 pub mod UndoSlots
 pub mod ChainLemmas

@@ -17,7 +17,7 @@ use Rattle.std.proofs.lemmas.Map.Lookups.{exact_unsigned}
 use Rattle.std.proofs.lemmas.Option.{slice_get-get_or, slice_get_past, slice_get-map}
 use Rattle.clone_base.proofs.MapEntries.{slice_get-set_same, slice_get-set_other}
 use Rattle.clone_page.specs.Header as header
-use Rattle.clone_outside.specs.Disk.{DiskImage, Spaces, page_of, zero_page, changed, with_pages, edited, extended, with_created, with_extended, with_removed, space_numbers}
+use Rattle.clone_outside.specs.Disk.{DiskImage, Spaces, page_of, whole, zero_page, changed, with_pages, edited, extended, with_created, with_extended, with_removed, space_numbers}
 use Rattle.clone_outside.specs.declared.disk.Held.{Held}
 use Rattle.clone_image.specs.Image.{Image}
 use Rattle.clone_image.specs.Redone.{no_space, past_end, stands, standing_at, standing_in}
@@ -26,7 +26,7 @@ use Rattle.clone_overlay.specs.Images.{redo_space, bytes_of, image_of, pages_in,
 use Rattle.clone_overlay.specs.Shown.{leaf_over, standing_over, Fits, Shows}
 use Rattle.clone_overlay.proofs.Bases.{get_image}
 use Rattle.clone_overlay.proofs.Entries.{get_set, get_taken, tied}
-use Rattle.clone_recover.specs.Written.{whole_written, with_whole, with_leaves, with_count, with_sheet, with_sheets, without_space, without_spaces, written_out, HasTablesOnly, IsWritten}
+use Rattle.clone_recover.specs.Written.{with_whole, with_leaves, with_count, with_sheet, with_sheets, without_space, without_spaces, written_out, HasTablesOnly, IsWritten}
 
 abbrev Pages : Type 0
 Pages = Option (List Held)
@@ -78,13 +78,13 @@ pages_touch m s change = at (finite.get m.spaces s) refl
 
 put_in : List (ℕ × List ℕ) → Pages → Pages
 put_in [] o = o
-put_in (e ∷ es) o = put_in es (option_map (edited e.0 (λ _. whole_written e.1)) o)
+put_in (e ∷ es) o = put_in es (option_map (edited e.0 (λ _. whole e.1)) o)
 
 leaves_touch : (s : ℕ) (m : DiskImage) (es : List (ℕ × List ℕ)) → Touches s (put_in es) m (with_leaves s m es)
 unfolding put_in
 leaves_touch s m [] = record { own = refl; others = λ q other. refl; mark = refl }
 leaves_touch s m (e ∷ es) =
-    let edit = edited e.0 (λ _. whole_written e.1) in
+    let edit = edited e.0 (λ _. whole e.1) in
     touch_both s (option_map edit) (put_in es) m (with_whole s m e.0 e.1) (with_leaves s (with_whole s m e.0 e.1) es) (pages_touch m s edit) (leaves_touch s (with_whole s m e.0 e.1) es)
 
 counted : Cover → Pages → Pages
@@ -243,7 +243,7 @@ at_some overlay m q cover is =
 
 leaf_on : Option (List ℕ) → Held → Held
 leaf_on None held = held
-leaf_on (Some page) held = whole_written page
+leaf_on (Some page) held = whole page
 
 over_leaf : (o : Option Held) (leaf : Option (List ℕ)) → leaf ≡ None → option_map (leaf_on leaf) o ≡ o
 unfolding leaf_on
@@ -252,12 +252,12 @@ over_leaf (Some held) leaf none = ap (λ l. Some (leaf_on l held)) none
 
 put_pages : List (ℕ × List ℕ) → List Held → List Held
 put_pages [] pages = pages
-put_pages (e ∷ es) pages = put_pages es (edited e.0 (λ _. whole_written e.1) pages)
+put_pages (e ∷ es) pages = put_pages es (edited e.0 (λ _. whole e.1) pages)
 
 put_some : (es : List (ℕ × List ℕ)) (pages : List Held) → put_in es (Some pages) ≡ Some (put_pages es pages)
 unfolding put_in put_pages
 put_some [] pages = refl
-put_some (e ∷ es) pages = put_some es (edited e.0 (λ _. whole_written e.1) pages)
+put_some (e ∷ es) pages = put_some es (edited e.0 (λ _. whole e.1) pages)
 
 at_edited : (pages : List Held) (k : ℕ) (held : Held) → slice_get (slice_set pages k held) k ≡ option_map (λ _. held) (slice_get pages k)
 at_edited pages k held = elim (cases_lt k (length pages)) [
@@ -279,7 +279,7 @@ put_at_page [] pages n sorted = same (slice_get pages n)
     same (Some h) = refl
 put_at_page (e ∷ es) pages n sorted =
     let p = parts (below_all nat_cmp e.0 es) (is_sorted nat_cmp es) sorted in
-    let held = whole_written e.1 in
+    let held = whole e.1 in
     let rest = put_at_page es (edited e.0 (λ _. held) pages) n p.1 in
     elim (eqb_tells e.0 n) [
       | inl same ↦

@@ -13,7 +13,7 @@ use Rattle.clone_mtr.proofs.Spellings.{one_spelling, spelling_some}
 use Rattle.clone_outside.specs.Disk.{DiskImage}
 use Rattle.clone_image.specs.Replay.{IsSpelled}
 use Rattle.clone_image.proofs.Logs.{log_of-push, same_tails, spelled_by}
-use Rattle.clone_recover.specs.Reading.{IsOfTable, AreOfTables, redo_pages, joined, HasRedo, IsAtHand, Reads, rest_of, IsNoRedo, IsOfRedo}
+use Rattle.clone_recover.specs.Reading.{IsOfTable, AreOfTables, redo_pages, joined, HasRedo, IsAtHand, HasRead, rest_of, IsNoRedo, IsOfRedo}
 use Rattle.clone_recover.specs.declared.log.Log.{Log}
 use Rattle.clone_recover.specs.declared.refusal.Why.TheVariants as why
 use Rattle.clone_recover.specs.declared.refusal.RecoverRefusal.{RecoverRefusal}
@@ -103,15 +103,15 @@ record Parts (m : DiskImage) (done : List (List Record)) (log : Log) : Type 0 wh
   more : List ℕ
   is : joined (redo_pages m) ≡ log_of done ++ (rest_of log ++ more)
 
-parts : (m : DiskImage) (done : List (List Record)) (log : Log) → IsInOrder log → Reads m done log → Parts m done log
+parts : (m : DiskImage) (done : List (List Record)) (log : Log) → IsInOrder log → HasRead m done log → Parts m done log
 parts m done log o r =
     let a = ahead m log o r.hand in
     let all = joined (redo_pages m) in
     record { more = a.more; is = sym (take-append-drop log.at all) ∙ ap (λ xs. xs ++ drop log.at all) r.text ∙ ap (λ xs. log_of done ++ xs) a.is }
 
 -- the mini-transaction at the front of the bytes at hand is read
-pub reads_next : (m : DiskImage) (done : List (List Record)) (old new : Log) (n : ℕ) (mtr : List Record) → IsInOrder old → Reads m done old → Spells (take n (rest_of old)) mtr → n ≤ length (rest_of old) → AllByRecursion IsOfTable mtr
-    → new.at ≡ old.at + n → new.total ≡ old.total → new.available ≡ old.available → new.first ≡ old.first → new.window ≡ old.window → Reads m (done ++ mtr ∷ []) new
+pub reads_next : (m : DiskImage) (done : List (List Record)) (old new : Log) (n : ℕ) (mtr : List Record) → IsInOrder old → HasRead m done old → Spells (take n (rest_of old)) mtr → n ≤ length (rest_of old) → AllByRecursion IsOfTable mtr
+    → new.at ≡ old.at + n → new.total ≡ old.total → new.available ≡ old.available → new.first ≡ old.first → new.window ≡ old.window → HasRead m (done ++ mtr ∷ []) new
 reads_next m done old new n mtr o r spelled le tables at total available first window =
     let p = parts m done old o r in
     let rest = rest_of old in
@@ -157,7 +157,7 @@ record Next (log : Log) (more : List ℕ) : Type 0 where
   is : rest_of log ++ more ≡ spelling mtr ++ back
   within : log.at + length (spelling mtr) ≤ log.total
 
-next_of : (m : DiskImage) (done : List (List Record)) (log : Log) → IsInOrder log → log.at < log.total → (r : Reads m done log) → (p : Parts m done log) → HasRedo m log.total → Next log p.more
+next_of : (m : DiskImage) (done : List (List Record)) (log : Log) → IsInOrder log → log.at < log.total → (r : HasRead m done log) → (p : Parts m done log) → HasRedo m log.total → Next log p.more
 next_of m done log o some r p has =
     let redo = has.1 in
     let ahead_bytes = rest_of log ++ p.more in
@@ -183,7 +183,7 @@ next_of m done log o some r p has =
         }
 
 -- the bytes at hand reach as far as the next mini-transaction
-reaches : (m : DiskImage) (done : List (List Record)) (log : Log) (n : ℕ) → IsInOrder log → log.at ≤ 4096 * log.first + 4096 → Reads m done log → HasRedo m log.total → n ≤ 1024 → log.at + n ≤ log.total → n ≤ length (rest_of log)
+reaches : (m : DiskImage) (done : List (List Record)) (log : Log) (n : ℕ) → IsInOrder log → log.at ≤ 4096 * log.first + 4096 → HasRead m done log → HasRedo m log.total → n ≤ 1024 → log.at + n ≤ log.total → n ≤ length (rest_of log)
 reaches m done log n o near r has few within =
     let pages = redo_pages m in
     let long = rest_long log o in
@@ -200,7 +200,7 @@ reaches m done log n o near r has few within =
     ]
 
 -- where no mini-transaction is at the front of the bytes at hand, the redo is no log
-pub no_log : (m : DiskImage) (done : List (List Record)) (log : Log) → IsInOrder log → log.at ≤ 4096 * log.first + 4096 → log.at < log.total → Reads m done log → BeginsNone (rest_of log) → HasRedo m log.total → ⊥
+pub no_log : (m : DiskImage) (done : List (List Record)) (log : Log) → IsInOrder log → log.at ≤ 4096 * log.first + 4096 → log.at < log.total → HasRead m done log → BeginsNone (rest_of log) → HasRedo m log.total → ⊥
 no_log m done log o near some r none has =
     let p = parts m done log o r in
     let n = next_of m done log o some r p has in
@@ -209,7 +209,7 @@ no_log m done log o near some r none has =
     none one (drop (length one) (rest_of log)) n.mtr (front_within (rest_of log) p.more one n.back n.is le) n.spelled
 
 -- where the next one names a space that is no table, neither
-pub no_tables : (m : DiskImage) (done : List (List Record)) (log : Log) (n : ℕ) (mtr : List Record) → IsInOrder log → log.at < log.total → Reads m done log → Spells (take n (rest_of log)) mtr → (AllByRecursion IsOfTable mtr → ⊥) → HasRedo m log.total → ⊥
+pub no_tables : (m : DiskImage) (done : List (List Record)) (log : Log) (n : ℕ) (mtr : List Record) → IsInOrder log → log.at < log.total → HasRead m done log → Spells (take n (rest_of log)) mtr → (AllByRecursion IsOfTable mtr → ⊥) → HasRedo m log.total → ⊥
 no_tables m done log n mtr o some r spelled foreign has =
     let p = parts m done log o r in
     let next = next_of m done log o some r p has in

@@ -13,7 +13,7 @@ use Rattle.clone_overlay.specs.Covers.{Overlay}
 use Rattle.clone_overlay.specs.Images.{image_of, IsQuiet}
 use Rattle.clone_overlay.specs.Shown.{Shows}
 use Rattle.clone_recover.specs.Damage.{HeaderOn, IsHeader}
-use Rattle.clone_recover.specs.Reading.{HasRedoOn, IsNoRedoOn, redo_of, redo_length, HasRedo, IsNoRedo, total_of, Reads, ReadsOn, ContinuesOn, StopsOn}
+use Rattle.clone_recover.specs.Reading.{HasRedoOn, IsNoRedoOn, redo_of, redo_length, HasRedo, IsNoRedo, total_of, HasRead, ReadsOn, ContinuesOn, StopsOn}
 use Rattle.clone_recover.specs.Redo.{RedoesOn}
 use Rattle.clone_recover.specs.Restores.{LeavesOn, IsDamage, by_redo, by_header, IsDamaged, IsRedoCause}
 use Rattle.clone_recover.specs.declared.log.Log.{Log}
@@ -32,7 +32,7 @@ redone-push start s n p (x ∷ done) mtr end is =
 -- what was read of the redo was carried out
 pub record Progress (m : DiskImage) (end : CloneEnd) (overlay : Overlay) (log : Log) : Type 0 where
   pub done : List (List Record)
-  pub reads : Reads m done log
+  pub reads : HasRead m done log
   pub left : Image
   pub shows : Shows (image_of m) left overlay
   pub by_page : (s n : ℕ) → standing_of left s n ≡ redone_from end.checkpoint s n (standing_of (image_of m) s n) done
@@ -118,7 +118,7 @@ misplaced (Some m) e end first overlay log p header = λ quiet has shows.
 
 -- some mini-transactions were read of a quiet disk
 abbrev pub ReadOn : Option DiskImage → Log → Type 0
-ReadOn told log = ForTold told (λ m. IsQuiet m → (done : List (List Record)) × Reads m done log)
+ReadOn told log = ForTold told (λ m. IsQuiet m → (done : List (List Record)) × HasRead m done log)
 
 pub read_begins : (told : Option DiskImage) (log : Log) → ReadsOn told [] log → ReadOn told log
 read_begins None log reads = tt

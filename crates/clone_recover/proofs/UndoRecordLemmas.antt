@@ -17,7 +17,10 @@ use Rattle.clone_overlay.specs.Covers.{Overlay}
 use Rattle.clone_overlay.specs.Images.{image_of}
 use Rattle.clone_overlay.specs.Shown.{Shows, ShowsSame}
 use Rattle.clone_recover.proofs.UndoChanges.{undone_by}
-use Rattle.clone_recover.specs.Damage.{ForImage, ShowsEdited, IsSound, IsUnsoundAt}
+use Rattle.clone_recover.specs.Damage.{ForImage, IsPageOr, PageOrOn, ShowsEdited, IsSound, IsUnsoundAt}
+use Rattle.clone_recover.specs.declared.refusal.RecoverRefusal.{RecoverRefusal}
+use Rattle.clone_recover.specs.declared.refusal.RecoverRefusal.TheVariants.{Damaged}
+use Rattle.clone_recover.specs.declared.refusal.Why.TheVariants.{Undo}
 use Rattle.clone_recover.specs.Undoing.{record_of, IsRecordOn, IsRecordOf, HasSoundRecord, IsSoundRecord}
 use Rattle.clone_recover.proofs.OverlayReadLemmas.{for_same, both_for, weaker_for, same_twice, record_is}
 
@@ -86,3 +89,11 @@ sound_at image s number on page e is r sound unsound = unsound.against r.bytes (
 pub never_unsound : (told : Option DiskImage) (old : Overlay) (s number on : ℕ) (e : UndoEntry) → on ≡ record_page s number → IsSoundRecord told old on number (Some e) → ForImage told old (λ m image. (page : ℕ) → IsUnsoundAt image s number page → ⊥)
 never_unsound told old s number on e is sound =
     weaker_for told old (λ m image. HasSoundRecord image on number (Some e)) (λ m image. (page : ℕ) → IsUnsoundAt image s number page → ⊥) (λ m image has page unsound. sound_at image s number on page e is has.0 has.1 unsound) sound
+
+-- no sound record was found
+pub unsound_fails : (told : Option DiskImage) (now : Overlay) (slot number on : ℕ) (found : Option UndoEntry) (e : RecoverRefusal) → on ≡ record_page slot number → ((x : UndoEntry) → found ≡ Some x → ⊥) → e ≡ Damaged 0 on Undo → IsSoundRecord told now on number found
+    → PageOrOn told now (λ image. IsUnsoundAt image slot number) e
+unsound_fails None now slot number on found e page none is not = tt
+unsound_fails (Some m) now slot number on (Some x) e page none is not = absurd (none x refl)
+unsound_fails (Some m) now slot number on None e page none is not = λ quiet image shows.
+    subst (IsPageOr (IsUnsoundAt image slot number) m) (sym is) (refl, record { is = page; against = not quiet image shows })

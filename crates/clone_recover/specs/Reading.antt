@@ -98,7 +98,7 @@ pub record Loads (told : Option DiskImage) (page to : ℕ) (old new : Log) : Typ
   pub puts : PAGE_SIZE * page < old.available → Puts told page to old.window new.window
 
 -- these mini-transactions were read from the front of a disk's redo
-pub record Reads (m : DiskImage) (done : List (List Record)) (log : Log) : Type 0 where
+pub record HasRead (m : DiskImage) (done : List (List Record)) (log : Log) : Type 0 where
   pub hand : IsAtHand m log
   pub each : AllByRecursion IsSpelled done
   pub tables : AreOfTables done
@@ -106,23 +106,23 @@ pub record Reads (m : DiskImage) (done : List (List Record)) (log : Log) : Type 
   pub long : length (log_of done) ≡ log.at
 
 abbrev pub ReadsOn : Option DiskImage → List (List Record) → Log → Type 0
-ReadsOn told done log = ForTold told (λ m. IsQuiet m → Reads m done log)
+ReadsOn told done log = ForTold told (λ m. IsQuiet m → HasRead m done log)
 
 -- what was read of a quiet disk stays so
 abbrev pub KeepsOn : Option DiskImage → Log → Log → Type 0
 KeepsOn told old new =
-    ForTold told (λ m. IsQuiet m → (done : List (List Record)) → Reads m done old
-    → Reads m done new)
+    ForTold told (λ m. IsQuiet m → (done : List (List Record)) → HasRead m done old
+    → HasRead m done new)
 
 -- one mini-transaction more was read, or all were
 abbrev pub Continues : DiskImage → List (List Record) → Log → Option (List Record) → Type 0
 Continues m done log None = IsRedo m (total_of log) done
-Continues m done log (Some mtr) = Reads m (done ++ mtr ∷ []) log
+Continues m done log (Some mtr) = HasRead m (done ++ mtr ∷ []) log
 
 -- a mini-transaction is read of a quiet disk
 abbrev pub ContinuesOn : Option DiskImage → Log → Log → Option (List Record) → Type 0
 ContinuesOn told old new next =
-    ForTold told (λ m. IsQuiet m → (done : List (List Record)) → Reads m done old
+    ForTold told (λ m. IsQuiet m → (done : List (List Record)) → HasRead m done old
     → Continues m done new next)
 
 -- the first redo bytes of a disk, so many, are no log, if that is what a refusal says
@@ -139,7 +139,7 @@ IsNoRedo m total NoMemory = ⊤
 -- why no mini-transaction was read of a quiet disk
 abbrev pub StopsOn : Option DiskImage → Log → RecoverRefusal → Type 0
 StopsOn told log refusal =
-    ForTold told (λ m. IsQuiet m → (done : List (List Record)) → Reads m done log
+    ForTold told (λ m. IsQuiet m → (done : List (List Record)) → HasRead m done log
     → IsNoRedo m (total_of log) refusal)
 
 abbrev pub HasRedoOn : Option DiskImage → ℕ → Type 0

@@ -1,19 +1,14 @@
 -- An overlay that is written to its disk.
 use Rattle.std.specs.Prelude.{ℕ, ◌≡◌, ◌≤◌, ◌==◌, ◌&&◌, nat_lt, is_none, false, if◌then◌else◌, List, None, fold}
 use Rattle.std.specs.FinMap as finite
-use Rattle.clone_outside.specs.Disk.{DiskImage, with_page, with_extended, with_created, with_removed, space_numbers}
-use Rattle.clone_outside.specs.declared.disk.Held.{Held}
+use Rattle.clone_outside.specs.Disk.{DiskImage, whole, with_page, with_extended, with_created, with_removed, space_numbers}
 use Rattle.clone_image.specs.Image.{Image}
 use Rattle.clone_overlay.specs.Covers.{Cover, Overlay}
 use Rattle.clone_overlay.specs.Images.{redo_space, image_of, IsQuiet}
 
--- a page of which both halves were written
-abbrev pub whole_written : List ℕ → Held
-whole_written page = record { bytes = page; writing = false }
-
 -- a page is written whole
 abbrev pub with_whole : ℕ → DiskImage → ℕ → List ℕ → DiskImage
-with_whole space m number page = with_page m space number (λ _. whole_written page)
+with_whole space m number page = with_page m space number (λ _. whole page)
 
 -- pages of a space are written, one after the other
 abbrev pub with_leaves : ℕ → DiskImage → List (ℕ × List ℕ) → DiskImage

@@ -4,7 +4,7 @@
 //! looked at once, and none is held for it.
 ghost use Rattle.std.specs.Prelude.{◌≡◌, ◌≤◌, ◌<◌, ◌+◌, ◌^◌, ◌↔◌, ◌⊎◌, ℕ, IsTrue, OnOk, IfOk, IfErr, IsErrOf, length, get_or, option_copied};
 ghost use Rattle.std.specs.FinMap as finite;
-ghost use Rattle.clone_outside.specs.Causes.{Rose};
+ghost use Rattle.clone_outside.specs.DiskCalls.{Reads};
 ghost use Rattle.clone_overlay.specs.Answers.{GivesAgainst, GivesMisplaced};
 ghost use Rattle.clone_overlay.specs.Shown.{ShowsSame};
 ghost use Rattle.clone_recover.specs.Chains.{next_in, IsWholeChain, HasBrokenChain, BreaksFirst, IsFirstBrokenChain};
@@ -28,16 +28,14 @@ pub fn check_chains<R: PageDisk>(
     disk: &mut R,
     overlay: &mut Overlay,
 ) -> Result<(), RecoverRefusal>
-    ensures shows { OnOk result (ShowsSame (R.told disk.old) overlay.old overlay.new) }
-    ensures sound { OnOk result (ForImage (R.told disk.old) overlay.old
+    ensures shows { OnOk result (ShowsSame (R.state disk.old).told overlay.old overlay.new) }
+    ensures sound { OnOk result (ForImage (R.state disk.old).told overlay.old
         (λ m image. (table page : ℕ) → HasBrokenChain image table page → ⊥)) }
-    ensures cause { IfErr result (ChainOrOn (R.told disk.old) overlay.old IsFirstBrokenChain) }
+    ensures cause { IfErr result
+        (ChainOrOn (R.state disk.old).told overlay.old IsFirstBrokenChain) }
     ensures known { IsErrOf result RecoverRefusal.Incomplete → ⊥ }
-    ensures fault { IsErrOf result RecoverRefusal.DiskFault
-        → Rose (R.failures disk.old) (R.failures disk.new) }
-    ensures told { R.told disk.new ≡ R.told disk.old }
-    ensures orders { R.orders disk.new ≡ R.orders disk.old }
-    ensures later { R.failures disk.old ≤ R.failures disk.new }
+    ensures reads { Reads (IsErrOf result RecoverRefusal.DiskFault)
+        (R.state disk.old) (R.state disk.new) }
 {
     fetch(disk, overlay, 0, 0)?;
     match overlay.page(0, 0) {
@@ -53,16 +51,13 @@ fn check_tables<R: PageDisk>(
     overlay: &Overlay,
     system: &Page,
 ) -> Result<(), RecoverRefusal>
-    ensures sound { OnOk result (ForImage (R.told disk.old) overlay.now
+    ensures sound { OnOk result (ForImage (R.state disk.old).told overlay.now
         (λ m image. AreAllWhole image system.now)) }
-    ensures cause { IfErr result (ChainOrOn (R.told disk.old) overlay.now
+    ensures cause { IfErr result (ChainOrOn (R.state disk.old).told overlay.now
         (λ image. BreaksFirst image system.now)) }
     ensures known { IsErrOf result RecoverRefusal.Incomplete → ⊥ }
-    ensures fault { IsErrOf result RecoverRefusal.DiskFault
-        → Rose (R.failures disk.old) (R.failures disk.new) }
-    ensures told { R.told disk.new ≡ R.told disk.old }
-    ensures orders { R.orders disk.new ≡ R.orders disk.old }
-    ensures later { R.failures disk.old ≤ R.failures disk.new }
+    ensures reads { Reads (IsErrOf result RecoverRefusal.DiskFault)
+        (R.state disk.old) (R.state disk.new) }
 {
     let mut above = 0;
     while let Some(table) = next_table(system, above) {
@@ -109,16 +104,13 @@ fn check_table<R: PageDisk>(
     table: u32,
     buckets: u32,
 ) -> Result<(), RecoverRefusal>
-    ensures sound { OnOk result (ForImage (R.told disk.old) overlay.now
+    ensures sound { OnOk result (ForImage (R.state disk.old).told overlay.now
         (λ m image. AreWhole image table buckets)) }
     ensures cause { IfErr result
-        (ChainOrOn (R.told disk.old) overlay.now (BreaksBelow table buckets)) }
+        (ChainOrOn (R.state disk.old).told overlay.now (BreaksBelow table buckets)) }
     ensures known { IsErrOf result RecoverRefusal.Incomplete → ⊥ }
-    ensures fault { IsErrOf result RecoverRefusal.DiskFault
-        → Rose (R.failures disk.old) (R.failures disk.new) }
-    ensures told { R.told disk.new ≡ R.told disk.old }
-    ensures orders { R.orders disk.new ≡ R.orders disk.old }
-    ensures later { R.failures disk.old ≤ R.failures disk.new }
+    ensures reads { Reads (IsErrOf result RecoverRefusal.DiskFault)
+        (R.state disk.old) (R.state disk.new) }
 {
     let pages = overlay.pages(table).unwrap_or(0);
     let mut stamps = vec![in alloc; 0; pages as usize]?;
@@ -133,17 +125,14 @@ fn check_buckets<R: PageDisk>(
     buckets: u32,
     stamps: &mut [u32],
 ) -> Result<(), RecoverRefusal>
-    ensures sound { OnOk result (ForImage (R.told disk.old) overlay.now
+    ensures sound { OnOk result (ForImage (R.state disk.old).told overlay.now
         (λ m image. AreStamped image table 0 stamps.old → AreWhole image table buckets)) }
-    ensures cause { IfErr result (λ refusal. ForImage (R.told disk.old) overlay.now
+    ensures cause { IfErr result (λ refusal. ForImage (R.state disk.old).told overlay.now
         (λ m image. AreStamped image table 0 stamps.old
         → IsChainOr (BreaksBelow table buckets image) m refusal)) }
     ensures known { IsErrOf result RecoverRefusal.Incomplete → ⊥ }
-    ensures fault { IsErrOf result RecoverRefusal.DiskFault
-        → Rose (R.failures disk.old) (R.failures disk.new) }
-    ensures told { R.told disk.new ≡ R.told disk.old }
-    ensures orders { R.orders disk.new ≡ R.orders disk.old }
-    ensures later { R.failures disk.old ≤ R.failures disk.new }
+    ensures reads { Reads (IsErrOf result RecoverRefusal.DiskFault)
+        (R.state disk.old) (R.state disk.new) }
 {
     for bucket in 0..buckets {
         check_chain(disk, overlay, table, bucket, stamps)?;
@@ -161,21 +150,18 @@ fn check_chain<R: PageDisk>(
     stamps: &mut [u32],
 ) -> Result<(), RecoverRefusal>
     requires { bucket + 1 < 2 ^ 32 }
-    ensures stamped { OnOk result (ForImage (R.told disk.old) overlay.now
+    ensures stamped { OnOk result (ForImage (R.state disk.old).told overlay.now
         (λ m image. AreStamped image table bucket stamps.old
         → AreStamped image table (bucket + 1) stamps.new)) }
-    ensures whole { OnOk result (ForImage (R.told disk.old) overlay.now
+    ensures whole { OnOk result (ForImage (R.state disk.old).told overlay.now
         (λ m image. AreStamped image table bucket stamps.old
         → IsWholeChain image table bucket)) }
-    ensures cause { IfErr result (λ refusal. ForImage (R.told disk.old) overlay.now
+    ensures cause { IfErr result (λ refusal. ForImage (R.state disk.old).told overlay.now
         (λ m image. AreStamped image table bucket stamps.old
         → IsChainOr (BreaksAt table bucket image) m refusal)) }
     ensures known { IsErrOf result RecoverRefusal.Incomplete → ⊥ }
-    ensures fault { IsErrOf result RecoverRefusal.DiskFault
-        → Rose (R.failures disk.old) (R.failures disk.new) }
-    ensures told { R.told disk.new ≡ R.told disk.old }
-    ensures orders { R.orders disk.new ≡ R.orders disk.old }
-    ensures later { R.failures disk.old ≤ R.failures disk.new }
+    ensures reads { Reads (IsErrOf result RecoverRefusal.DiskFault)
+        (R.state disk.old) (R.state disk.new) }
 {
     if bucket as usize >= stamps.len() {
         return Err(damaged_chain(table, bucket));
@@ -213,15 +199,12 @@ fn page_behind<R: PageDisk>(
     space: u32,
     number: u32,
 ) -> Result<Option<u32>, RecoverRefusal>
-    ensures behind { IfOk result (λ next. ForImage (R.told disk.old) overlay.now
+    ensures behind { IfOk result (λ next. ForImage (R.state disk.old).told overlay.now
         (λ m image. next ≡ next_in image space number)) }
-    ensures cause { IfErr result (HeaderOn (R.told disk.old) overlay.now) }
+    ensures cause { IfErr result (HeaderOn (R.state disk.old).told overlay.now) }
     ensures known { IsErrOf result RecoverRefusal.Incomplete → ⊥ }
-    ensures fault { IsErrOf result RecoverRefusal.DiskFault
-        → Rose (R.failures disk.old) (R.failures disk.new) }
-    ensures told { R.told disk.new ≡ R.told disk.old }
-    ensures orders { R.orders disk.new ≡ R.orders disk.old }
-    ensures later { R.failures disk.old ≤ R.failures disk.new }
+    ensures reads { Reads (IsErrOf result RecoverRefusal.DiskFault)
+        (R.state disk.old) (R.state disk.new) }
 {
     let Some(sheet) = sheet_of(overlay, space) else {
         return Ok(None);
@@ -246,14 +229,11 @@ fn behind_in<R: PageDisk>(
     space: u32,
     number: u32,
 ) -> Result<Option<u32>, FetchRefusal>
-    ensures sees { IfOk result (SeesBehind (R.told disk.old) space number sheet.now) }
+    ensures sees { IfOk result (SeesBehind (R.state disk.old).told space number sheet.now) }
     ensures header { IsErrOf result FetchRefusal.Header
-        → GivesMisplaced (R.told disk.old) space number sheet.now }
-    ensures fault { IsErrOf result FetchRefusal.DiskFault
-        → Rose (R.failures disk.old) (R.failures disk.new) }
-    ensures told { R.told disk.new ≡ R.told disk.old }
-    ensures orders { R.orders disk.new ≡ R.orders disk.old }
-    ensures later { R.failures disk.old ≤ R.failures disk.new }
+        → GivesMisplaced (R.state disk.old).told space number sheet.now }
+    ensures reads { Reads (IsErrOf result FetchRefusal.DiskFault)
+        (R.state disk.old) (R.state disk.new) }
 {
     if let Some(page) = sheet.page(number) {
         return Ok(next_page(page));
@@ -272,14 +252,11 @@ fn behind_read<R: PageDisk>(
     space: u32,
     number: u32,
 ) -> Result<Option<u32>, FetchRefusal>
-    ensures reads { IfOk result (ReadsBehind (R.told disk.old) space number) }
+    ensures reads { IfOk result (ReadsBehind (R.state disk.old).told space number) }
     ensures header { IsErrOf result FetchRefusal.Header
-        → GivesAgainst (R.told disk.old) space number }
-    ensures fault { IsErrOf result FetchRefusal.DiskFault
-        → Rose (R.failures disk.old) (R.failures disk.new) }
-    ensures told { R.told disk.new ≡ R.told disk.old }
-    ensures orders { R.orders disk.new ≡ R.orders disk.old }
-    ensures later { R.failures disk.old ≤ R.failures disk.new }
+        → GivesAgainst (R.state disk.old).told space number }
+    ensures asks { Reads (IsErrOf result FetchRefusal.DiskFault)
+        (R.state disk.old) (R.state disk.new) }
 {
     let mut page = Page::zero();
     match disk.read_page(space, number, page.bytes_mut()) {

@@ -1,5 +1,5 @@
-ghost use Rattle.std.specs.Prelude.{◌≡◌, ◌≢◌, ◌<◌, ◌≤◌, ◌↔◌, ℕ, IsTrue, OnOk, IfErr, IsErrOf, true, false};
-ghost use Rattle.clone_outside.specs.Causes.{Rose};
+ghost use Rattle.std.specs.Prelude.{◌≡◌, ◌≢◌, ◌<◌, ◌↔◌, ℕ, IsTrue, OnOk, IfErr, IsErrOf, true, false};
+ghost use Rattle.clone_outside.specs.DiskCalls.{Reads};
 ghost use Rattle.clone_page.specs.Dictionary.{entry_count, entry_space, Lists};
 ghost use Rattle.clone_image.specs.Image.{Image};
 ghost use Rattle.clone_overlay.specs.Shown.{Shows, ShowsSame, IsReady};
@@ -17,16 +17,13 @@ pub fn check_dictionary<R: PageDisk>(
     disk: &mut R,
     overlay: &mut Overlay,
 ) -> Result<(), RecoverRefusal>
-    ensures shows { OnOk result (ShowsSame (R.told disk.old) overlay.old overlay.new) }
-    ensures sound { OnOk result (ForImage (R.told disk.old) overlay.old
+    ensures shows { OnOk result (ShowsSame (R.state disk.old).told overlay.old overlay.new) }
+    ensures sound { OnOk result (ForImage (R.state disk.old).told overlay.old
         (λ m image. NamesMissing image → ⊥)) }
-    ensures cause { IfErr result (AgainstOn (R.told disk.old) overlay.old) }
+    ensures cause { IfErr result (AgainstOn (R.state disk.old).told overlay.old) }
     ensures known { IsErrOf result RecoverRefusal.Incomplete → ⊥ }
-    ensures fault { IsErrOf result RecoverRefusal.DiskFault
-        → Rose (R.failures disk.old) (R.failures disk.new) }
-    ensures told { R.told disk.new ≡ R.told disk.old }
-    ensures orders { R.orders disk.new ≡ R.orders disk.old }
-    ensures later { R.failures disk.old ≤ R.failures disk.new }
+    ensures reads { Reads (IsErrOf result RecoverRefusal.DiskFault)
+        (R.state disk.old) (R.state disk.new) }
 {
     fetch(disk, overlay, 0, 0)?;
     match overlay.page(0, 0) {

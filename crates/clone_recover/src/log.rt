@@ -1,4 +1,5 @@
 ghost use Rattle.std.specs.Prelude.{◌≡◌, ◌≤◌, ◌<◌, ◌+◌, ◌*◌, ◌++◌, take, drop, length};
+ghost use Rattle.clone_outside.specs.DiskCalls.{Reads};
 ghost use Rattle.clone_base.specs.declared.limits.TheConstants.{PAGE_SIZE, LSN_LIMIT};
 
 use crate::RecoverRefusal;
@@ -36,21 +37,17 @@ pub struct Log {
 impl Log {
     ghost use Rattle.std.specs.Prelude.{◌≡◌, ◌≤◌, ◌<◌, ◌+◌, ◌*◌, [], ◌∷◌, ◌++◌, List, take, drop, length, OnOk, IfOk, IfErr, IfSome, IsErrOf};
     ghost use Rattle.clone_mtr.specs.declared.record.Record.{Record};
-    ghost use Rattle.clone_outside.specs.Causes.{Rose};
     ghost use Rattle.clone_outside.specs.Disk.{DiskImage};
     ghost use Rattle.clone_recover.specs.Refusals.{IsOfDisk};
-    ghost use Rattle.clone_recover.specs.Reading.{redo_length, IsNoRedo, read_of, total_of, rest_of, base_of, Reads, ReadsOn, KeepsOn, ContinuesOn, StopsOn, Loads, IsOfRedo};
+    ghost use Rattle.clone_recover.specs.Reading.{redo_length, IsNoRedo, read_of, total_of, rest_of, base_of, HasRead, ReadsOn, KeepsOn, ContinuesOn, StopsOn, Loads, IsOfRedo};
 
     /// The log from the checkpoint to the end of a clone, of which nothing was read.
     pub fn open<R: PageDisk>(disk: &mut R, end: &CloneEnd) -> Result<Log, RecoverRefusal>
-        ensures reads { IfOk result (ReadsOn (R.told disk.old) []) }
+        ensures reads { IfOk result (ReadsOn (R.state disk.old).told []) }
         ensures total { IfOk result (λ log. total_of log ≡ redo_length end.now) }
         ensures cause { IfErr result IsOfDisk }
-        ensures fault { IsErrOf result RecoverRefusal.DiskFault
-            → Rose (R.failures disk.old) (R.failures disk.new) }
-        ensures told { R.told disk.new ≡ R.told disk.old }
-        ensures orders { R.orders disk.new ≡ R.orders disk.old }
-        ensures later { R.failures disk.old ≤ R.failures disk.new }
+        ensures asks { Reads (IsErrOf result RecoverRefusal.DiskFault)
+            (R.state disk.old) (R.state disk.new) }
     {
         let total = end.lsn - end.checkpoint;
         let pages = disk.pages(REDO_SPACE)?.unwrap_or(0);
@@ -81,18 +78,15 @@ impl Log {
         alloc: Global,
         disk: &mut R,
     ) -> Result<Option<Mtr>, RecoverRefusal>
-        ensures next { IfOk result (ContinuesOn (R.told disk.old) self.old self.new) }
+        ensures next { IfOk result (ContinuesOn (R.state disk.old).told self.old self.new) }
         ensures more { IfOk result
             (λ next. IfSome next (λ _. read_of self.old < read_of self.new)) }
         ensures most { read_of self.new ≤ total_of self.new }
         ensures total { total_of self.new ≡ total_of self.old }
-        ensures cause { IfErr result (StopsOn (R.told disk.old) self.old) }
+        ensures cause { IfErr result (StopsOn (R.state disk.old).told self.old) }
         ensures known { IsErrOf result RecoverRefusal.Incomplete → ⊥ }
-        ensures fault { IsErrOf result RecoverRefusal.DiskFault
-            → Rose (R.failures disk.old) (R.failures disk.new) }
-        ensures told { R.told disk.new ≡ R.told disk.old }
-        ensures orders { R.orders disk.new ≡ R.orders disk.old }
-        ensures later { R.failures disk.old ≤ R.failures disk.new }
+        ensures reads { Reads (IsErrOf result RecoverRefusal.DiskFault)
+            (R.state disk.old) (R.state disk.new) }
     {
         if self.at == self.total {
             return Ok(None);
@@ -122,16 +116,13 @@ impl Log {
 
     // Makes the page at hand that has the next byte.
     fn make_ready<R: PageDisk>(&mut self, disk: &mut R) -> Result<(), RecoverRefusal>
-        ensures keeps { OnOk result (KeepsOn (R.told disk.old) self.old self.new) }
+        ensures keeps { OnOk result (KeepsOn (R.state disk.old).told self.old self.new) }
         ensures near { OnOk result (read_of self.new ≤ base_of self.new + PAGE_SIZE) }
         ensures read { read_of self.new ≡ read_of self.old }
         ensures total { total_of self.new ≡ total_of self.old }
         ensures cause { IfErr result IsOfDisk }
-        ensures fault { IsErrOf result RecoverRefusal.DiskFault
-            → Rose (R.failures disk.old) (R.failures disk.new) }
-        ensures told { R.told disk.new ≡ R.told disk.old }
-        ensures orders { R.orders disk.new ≡ R.orders disk.old }
-        ensures later { R.failures disk.old ≤ R.failures disk.new }
+        ensures reads { Reads (IsErrOf result RecoverRefusal.DiskFault)
+            (R.state disk.old) (R.state disk.new) }
     {
         if self.at - self.base() < PAGE_BYTES {
             return Ok(());
@@ -162,18 +153,15 @@ impl Log {
         to: usize,
     ) -> Result<(), RecoverRefusal>
         requires { to ≤ PAGE_SIZE }
-        ensures loads { OnOk result (Loads (R.told disk.old) page to self.old self.new) }
+        ensures loads { OnOk result (Loads (R.state disk.old).told page to self.old self.new) }
         ensures long { length self.new.window ≡ 2 * PAGE_SIZE }
         ensures first { self.new.first ≡ self.old.first }
         ensures at { self.new.at ≡ self.old.at }
         ensures total { self.new.total ≡ self.old.total }
         ensures available { self.new.available ≡ self.old.available }
         ensures cause { IfErr result IsOfDisk }
-        ensures fault { IsErrOf result RecoverRefusal.DiskFault
-            → Rose (R.failures disk.old) (R.failures disk.new) }
-        ensures told { R.told disk.new ≡ R.told disk.old }
-        ensures orders { R.orders disk.new ≡ R.orders disk.old }
-        ensures later { R.failures disk.old ≤ R.failures disk.new }
+        ensures reads { Reads (IsErrOf result RecoverRefusal.DiskFault)
+            (R.state disk.old) (R.state disk.new) }
     {
         if PAGE_BYTES * u64::from(page) >= self.available {
             return Ok(());
@@ -189,13 +177,13 @@ impl Log {
         requires near { read_of self.old ≤ base_of self.old + PAGE_SIZE }
         requires some { read_of self.old < total_of self.old }
         ensures read { IfOk result (λ mtr. (m : DiskImage) (done : List (List Record))
-            → Reads m done self.old → Reads m (done ++ mtr ∷ []) self.new) }
+            → HasRead m done self.old → HasRead m (done ++ mtr ∷ []) self.new) }
         ensures more { OnOk result (read_of self.old < read_of self.new) }
         ensures most { read_of self.new ≤ total_of self.new }
         ensures total { total_of self.new ≡ total_of self.old }
         ensures redo { IfErr result IsOfRedo }
         ensures cause { IfErr result (λ refusal. (m : DiskImage) (done : List (List Record))
-            → Reads m done self.old → IsNoRedo m (total_of self.old) refusal) }
+            → HasRead m done self.old → IsNoRedo m (total_of self.old) refusal) }
     {
         match decode(alloc, self.rest()) {
             Ok((mtr, _)) if names_foreign(mtr.records()) => Err(self.foreign()),

@@ -1,6 +1,6 @@
-ghost use Rattle.std.specs.Prelude.{◌≡◌, ◌≤◌, ℕ, IfOk, IfErr, OnOk, IsErrOf, is_some};
-ghost use Rattle.clone_outside.specs.Causes.{HasCause, Rose};
+ghost use Rattle.std.specs.Prelude.{◌≡◌, ℕ, IfOk, IfErr, OnOk, IsErrOf};
 ghost use Rattle.clone_outside.specs.Disk.{ForTold, Steps, with_mark};
+ghost use Rattle.clone_outside.specs.DiskCalls.{Alters, Reads, Works};
 ghost use Rattle.clone_outside.specs.Mark.{mark_bytes, IsEnd};
 ghost use Rattle.clone_outside.specs.declared.mark.Mark.TheVariants as mark;
 ghost use Rattle.clone_recover.specs.Written.{written_out};
@@ -33,19 +33,17 @@ pub struct Recovered {
 /// disk gets the recovered mark. On a recovered disk nothing is written. `Incomplete` comes exactly
 /// where no mark or the in-progress mark stands.
 pub fn recover<R: PageDisk>(alloc: Global, disk: &mut R) -> Result<Recovered, RecoverRefusal>
-    ensures ok { IfOk result (λ numbers. ForStep (R.told disk.old) (R.told disk.new)
+    ensures ok { IfOk result (λ numbers. ForStep (R.state disk.old).told (R.state disk.new).told
         (λ m n. Answers m n numbers)) }
-    ensures marked { OnOk result (ForTold (R.told disk.new) HasRecovered) }
-    ensures cause { IfErr result (λ refusal. ForTold (R.told disk.old) (λ m. IsCause m refusal)) }
-    ensures fault { IsErrOf result RecoverRefusal.DiskFault
-        → Rose (R.failures disk.old) (R.failures disk.new) }
+    ensures marked { OnOk result (ForTold (R.state disk.new).told HasRecovered) }
+    ensures cause { IfErr result
+        (λ refusal. ForTold (R.state disk.old).told (λ m. IsCause m refusal)) }
+    ensures works { Alters (IsErrOf result RecoverRefusal.DiskFault)
+        (R.state disk.old) (R.state disk.new) }
     ensures incomplete { IsErrOf result RecoverRefusal.Incomplete
-        → R.told disk.new ≡ R.told disk.old }
+        → (R.state disk.new).told ≡ (R.state disk.old).told }
     ensures damaged { (space page : ℕ) (why : Why) → IsErrOf result (Damaged space page why)
-        → R.told disk.new ≡ R.told disk.old }
-    ensures tells { is_some (R.told disk.new) ≡ is_some (R.told disk.old) }
-    ensures orders { R.orders disk.new ≡ R.orders disk.old }
-    ensures later { R.failures disk.old ≤ R.failures disk.new }
+        → (R.state disk.new).told ≡ (R.state disk.old).told }
 {
     match mark_of(disk)? {
         Some(Mark::Recovered(end)) => Ok(numbers_of(end)),
@@ -70,13 +68,10 @@ fn numbers_of(end: CloneEnd) -> Recovered
 
 /// The mark of a disk, if it has one.
 pub fn mark_of<R: PageDisk>(disk: &mut R) -> Result<Option<Mark>, RecoverRefusal>
-    ensures mark { IfOk result (λ mark. ForTold (R.told disk.old) (λ m. IsMarkOf m mark)) }
+    ensures mark { IfOk result (λ mark. ForTold (R.state disk.old).told (λ m. IsMarkOf m mark)) }
     ensures cause { IfErr result IsOfDisk }
-    ensures fault { IsErrOf result RecoverRefusal.DiskFault
-        → Rose (R.failures disk.old) (R.failures disk.new) }
-    ensures told { R.told disk.new ≡ R.told disk.old }
-    ensures orders { R.orders disk.new ≡ R.orders disk.old }
-    ensures later { R.failures disk.old ≤ R.failures disk.new }
+    ensures reads { Reads (IsErrOf result RecoverRefusal.DiskFault)
+        (R.state disk.old) (R.state disk.new) }
 {
     match disk.read_mark()? {
         Some(bytes) => Ok(Mark::from_bytes(&bytes)),
@@ -90,18 +85,15 @@ fn recover_from<R: PageDisk>(
     disk: &mut R,
     end: &CloneEnd,
 ) -> Result<(), RecoverRefusal>
-    ensures ok { OnOk result (RestoresOn (R.told disk.old) (R.told disk.new) end.now) }
+    ensures ok { OnOk result (RestoresOn (R.state disk.old).told (R.state disk.new).told end.now) }
     ensures marked { OnOk result
-        (ForTold (R.told disk.new) (λ m. HasMark m (mark.Recovered end.now))) }
-    ensures cause { IfErr result (DamagedOn (R.told disk.old) end.now) }
+        (ForTold (R.state disk.new).told (λ m. HasMark m (mark.Recovered end.now))) }
+    ensures cause { IfErr result (DamagedOn (R.state disk.old).told end.now) }
     ensures known { IsErrOf result RecoverRefusal.Incomplete → ⊥ }
-    ensures fault { IsErrOf result RecoverRefusal.DiskFault
-        → Rose (R.failures disk.old) (R.failures disk.new) }
+    ensures works { Alters (IsErrOf result RecoverRefusal.DiskFault)
+        (R.state disk.old) (R.state disk.new) }
     ensures damaged { (space page : ℕ) (why : Why) → IsErrOf result (Damaged space page why)
-        → R.told disk.new ≡ R.told disk.old }
-    ensures tells { is_some (R.told disk.new) ≡ is_some (R.told disk.old) }
-    ensures orders { R.orders disk.new ≡ R.orders disk.old }
-    ensures later { R.failures disk.old ≤ R.failures disk.new }
+        → (R.state disk.new).told ≡ (R.state disk.old).told }
 {
     let overlay = recovered_pages(alloc, disk, end)?;
     Ok(write_recovered(alloc, disk, &overlay, end)?)
@@ -114,11 +106,9 @@ fn write_recovered<R: PageDisk>(
     overlay: &Overlay,
     end: &CloneEnd,
 ) -> Result<(), Refusal>
-    ensures ok { OnOk result (Steps (R.told disk.old) (R.told disk.new)
+    ensures ok { OnOk result (Steps (R.state disk.old).told (R.state disk.new).told
         (λ m. with_mark (written_out overlay.now m) (mark_bytes (mark.Recovered end.now)))) }
-    ensures tells { is_some (R.told disk.new) ≡ is_some (R.told disk.old) }
-    ensures cause { HasCause (R.failures disk.old) (R.failures disk.new) result }
-    ensures orders { R.orders disk.new ≡ R.orders disk.old }
+    ensures works { Works (R.state disk.old) (R.state disk.new) result }
 {
     write_out(alloc, disk, overlay)?;
     disk.sync()?;
@@ -132,14 +122,11 @@ fn recovered_pages<R: PageDisk>(
     disk: &mut R,
     end: &CloneEnd,
 ) -> Result<Overlay, RecoverRefusal>
-    ensures ok { IfOk result (UndoesOn (R.told disk.old) end.now) }
-    ensures cause { IfErr result (DamagedOn (R.told disk.old) end.now) }
+    ensures ok { IfOk result (UndoesOn (R.state disk.old).told end.now) }
+    ensures cause { IfErr result (DamagedOn (R.state disk.old).told end.now) }
     ensures known { IsErrOf result RecoverRefusal.Incomplete → ⊥ }
-    ensures fault { IsErrOf result RecoverRefusal.DiskFault
-        → Rose (R.failures disk.old) (R.failures disk.new) }
-    ensures told { R.told disk.new ≡ R.told disk.old }
-    ensures orders { R.orders disk.new ≡ R.orders disk.old }
-    ensures later { R.failures disk.old ≤ R.failures disk.new }
+    ensures reads { Reads (IsErrOf result RecoverRefusal.DiskFault)
+        (R.state disk.old) (R.state disk.new) }
 {
     check_log(alloc, disk, end)?;
     let mut overlay = Overlay::open(alloc, disk)?;

@@ -1,5 +1,5 @@
-ghost use Rattle.std.specs.Prelude.{◌≡◌, ◌≤◌, OnOk, IfOk, IfErr, IsErrOf, unwrap_or};
-ghost use Rattle.clone_outside.specs.Causes.{Rose};
+ghost use Rattle.std.specs.Prelude.{◌≡◌, OnOk, IfOk, IfErr, IsErrOf, unwrap_or};
+ghost use Rattle.clone_outside.specs.DiskCalls.{Reads};
 ghost use Rattle.clone_overlay.specs.Shown.{IsReady, ShowsSame};
 ghost use Rattle.clone_recover.specs.Damage.{HeaderOn};
 ghost use Rattle.clone_recover.specs.Meetings.{met, Settles};
@@ -32,14 +32,11 @@ pub fn check_log<R: PageDisk>(
     disk: &mut R,
     end: &CloneEnd,
 ) -> Result<(), RecoverRefusal>
-    ensures redo { OnOk result (HasRedoOn (R.told disk.old) (redo_length end.now)) }
-    ensures cause { IfErr result (IsNoRedoOn (R.told disk.old) (redo_length end.now)) }
+    ensures redo { OnOk result (HasRedoOn (R.state disk.old).told (redo_length end.now)) }
+    ensures cause { IfErr result (IsNoRedoOn (R.state disk.old).told (redo_length end.now)) }
     ensures known { IsErrOf result RecoverRefusal.Incomplete → ⊥ }
-    ensures fault { IsErrOf result RecoverRefusal.DiskFault
-        → Rose (R.failures disk.old) (R.failures disk.new) }
-    ensures told { R.told disk.new ≡ R.told disk.old }
-    ensures orders { R.orders disk.new ≡ R.orders disk.old }
-    ensures later { R.failures disk.old ≤ R.failures disk.new }
+    ensures reads { Reads (IsErrOf result RecoverRefusal.DiskFault)
+        (R.state disk.old) (R.state disk.new) }
 {
     let mut log = Log::open(disk, end)?;
     while let Some(_mtr) = log.next(alloc, disk)? {}
@@ -53,14 +50,11 @@ pub fn redo<R: PageDisk>(
     overlay: &mut Overlay,
     end: &CloneEnd,
 ) -> Result<(), RecoverRefusal>
-    ensures ok { OnOk result (LeavesOn (R.told disk.old) end.now overlay.old overlay.new) }
-    ensures cause { IfErr result (IsRedoCause (R.told disk.old) end.now overlay.old) }
+    ensures ok { OnOk result (LeavesOn (R.state disk.old).told end.now overlay.old overlay.new) }
+    ensures cause { IfErr result (IsRedoCause (R.state disk.old).told end.now overlay.old) }
     ensures known { IsErrOf result RecoverRefusal.Incomplete → ⊥ }
-    ensures fault { IsErrOf result RecoverRefusal.DiskFault
-        → Rose (R.failures disk.old) (R.failures disk.new) }
-    ensures told { R.told disk.new ≡ R.told disk.old }
-    ensures orders { R.orders disk.new ≡ R.orders disk.old }
-    ensures later { R.failures disk.old ≤ R.failures disk.new }
+    ensures reads { Reads (IsErrOf result RecoverRefusal.DiskFault)
+        (R.state disk.old) (R.state disk.new) }
 {
     let mut log = Log::open(disk, end)?;
     while let Some(mtr) = log.next(alloc, disk)? {
@@ -79,14 +73,11 @@ fn redo_records<R: PageDisk>(
     lsn: u64,
 ) -> Result<(), RecoverRefusal>
     ensures ok { OnOk result
-        (RedoesOn (R.told disk.old) lsn overlay.old overlay.new records.now) }
-    ensures cause { IfErr result (HeaderOn (R.told disk.old) overlay.old) }
+        (RedoesOn (R.state disk.old).told lsn overlay.old overlay.new records.now) }
+    ensures cause { IfErr result (HeaderOn (R.state disk.old).told overlay.old) }
     ensures known { IsErrOf result RecoverRefusal.Incomplete → ⊥ }
-    ensures fault { IsErrOf result RecoverRefusal.DiskFault
-        → Rose (R.failures disk.old) (R.failures disk.new) }
-    ensures told { R.told disk.new ≡ R.told disk.old }
-    ensures orders { R.orders disk.new ≡ R.orders disk.old }
-    ensures later { R.failures disk.old ≤ R.failures disk.new }
+    ensures reads { Reads (IsErrOf result RecoverRefusal.DiskFault)
+        (R.state disk.old) (R.state disk.new) }
 {
     let mut meetings = Vec::new(alloc);
     for entry in records {
@@ -104,15 +95,12 @@ fn redo_record<R: PageDisk>(
     entry: &Record,
     lsn: u64,
 ) -> Result<(), RecoverRefusal>
-    ensures ok { OnOk result (StepsOn (R.told disk.old) lsn overlay.old overlay.new
+    ensures ok { OnOk result (StepsOn (R.state disk.old).told lsn overlay.old overlay.new
         meetings.old.items meetings.new.items entry.now) }
-    ensures cause { IfErr result (HeaderOn (R.told disk.old) overlay.old) }
+    ensures cause { IfErr result (HeaderOn (R.state disk.old).told overlay.old) }
     ensures known { IsErrOf result RecoverRefusal.Incomplete → ⊥ }
-    ensures fault { IsErrOf result RecoverRefusal.DiskFault
-        → Rose (R.failures disk.old) (R.failures disk.new) }
-    ensures told { R.told disk.new ≡ R.told disk.old }
-    ensures orders { R.orders disk.new ≡ R.orders disk.old }
-    ensures later { R.failures disk.old ≤ R.failures disk.new }
+    ensures reads { Reads (IsErrOf result RecoverRefusal.DiskFault)
+        (R.state disk.old) (R.state disk.new) }
 {
     match entry {
         Record::Init { space, page, .. } | Record::Write { space, page, .. } => {
@@ -138,15 +126,12 @@ fn meet<R: PageDisk>(
     lsn: u64,
 ) -> Result<bool, RecoverRefusal>
     ensures ready { OnOk result (IsReady overlay.new space number) }
-    ensures met { IfOk result (MeetsOn (R.told disk.old) lsn space number
+    ensures met { IfOk result (MeetsOn (R.state disk.old).told lsn space number
         overlay.old overlay.new meetings.old.items meetings.new.items) }
-    ensures cause { IfErr result (HeaderOn (R.told disk.old) overlay.old) }
+    ensures cause { IfErr result (HeaderOn (R.state disk.old).told overlay.old) }
     ensures known { IsErrOf result RecoverRefusal.Incomplete → ⊥ }
-    ensures fault { IsErrOf result RecoverRefusal.DiskFault
-        → Rose (R.failures disk.old) (R.failures disk.new) }
-    ensures told { R.told disk.new ≡ R.told disk.old }
-    ensures orders { R.orders disk.new ≡ R.orders disk.old }
-    ensures later { R.failures disk.old ≤ R.failures disk.new }
+    ensures reads { Reads (IsErrOf result RecoverRefusal.DiskFault)
+        (R.state disk.old) (R.state disk.new) }
 {
     fetch(disk, overlay, space, number)?;
     match overlay.page(space, number) {
@@ -198,14 +183,11 @@ pub fn fetch<R: PageDisk>(
     number: u32,
 ) -> Result<(), RecoverRefusal>
     ensures ready { OnOk result (IsReady overlay.new space number) }
-    ensures shows { OnOk result (ShowsSame (R.told disk.old) overlay.old overlay.new) }
-    ensures cause { IfErr result (HeaderOn (R.told disk.old) overlay.old) }
+    ensures shows { OnOk result (ShowsSame (R.state disk.old).told overlay.old overlay.new) }
+    ensures cause { IfErr result (HeaderOn (R.state disk.old).told overlay.old) }
     ensures known { IsErrOf result RecoverRefusal.Incomplete → ⊥ }
-    ensures fault { IsErrOf result RecoverRefusal.DiskFault
-        → Rose (R.failures disk.old) (R.failures disk.new) }
-    ensures told { R.told disk.new ≡ R.told disk.old }
-    ensures orders { R.orders disk.new ≡ R.orders disk.old }
-    ensures later { R.failures disk.old ≤ R.failures disk.new }
+    ensures reads { Reads (IsErrOf result RecoverRefusal.DiskFault)
+        (R.state disk.old) (R.state disk.new) }
 {
     match overlay.fetch(disk, space, number) {
         Ok(()) => Ok(()),

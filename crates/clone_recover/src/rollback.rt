@@ -1,6 +1,6 @@
 ghost use Rattle.std.specs.Prelude.{◌≡◌, ◌<◌, ◌≤◌, ℕ, List, true, false, OnOk, IfOk, IfErr, IfSome, IfNone, IsErrOf, Some, is_some};
 ghost use Rattle.std.specs.List.{AllByRecursion};
-ghost use Rattle.clone_outside.specs.Causes.{Rose};
+ghost use Rattle.clone_outside.specs.DiskCalls.{Reads};
 ghost use Rattle.clone_undo.specs.Entries.{IsEntry};
 ghost use Rattle.clone_undo.specs.Places as places;
 ghost use Rattle.clone_undo.specs.Slots.{entry_on, entries};
@@ -31,17 +31,14 @@ pub fn take_back_open<R: PageDisk>(
     overlay: &mut Overlay,
 ) -> Result<(), RecoverRefusal>
     ensures recovered { OnOk result
-        (ShowsEdited (R.told disk.old) overlay.old overlay.new recovered) }
-    ensures sound { OnOk result (ForImage (R.told disk.old) overlay.old
+        (ShowsEdited (R.state disk.old).told overlay.old overlay.new recovered) }
+    ensures sound { OnOk result (ForImage (R.state disk.old).told overlay.old
         (λ m image. (page : ℕ) → HasBroken image page → ⊥)) }
-    ensures cause { IfErr result (PageOrOn (R.told disk.old) overlay.old HasBroken) }
-    ensures order { IfErr result (PageOrOn (R.told disk.old) overlay.old IsFirstBroken) }
+    ensures cause { IfErr result (PageOrOn (R.state disk.old).told overlay.old HasBroken) }
+    ensures order { IfErr result (PageOrOn (R.state disk.old).told overlay.old IsFirstBroken) }
     ensures known { IsErrOf result RecoverRefusal.Incomplete → ⊥ }
-    ensures fault { IsErrOf result RecoverRefusal.DiskFault
-        → Rose (R.failures disk.old) (R.failures disk.new) }
-    ensures told { R.told disk.new ≡ R.told disk.old }
-    ensures orders { R.orders disk.new ≡ R.orders disk.old }
-    ensures later { R.failures disk.old ≤ R.failures disk.new }
+    ensures reads { Reads (IsErrOf result RecoverRefusal.DiskFault)
+        (R.state disk.old) (R.state disk.new) }
 {
     check_counts(disk, overlay)?;
     take_back_all(disk, overlay)
@@ -49,16 +46,13 @@ pub fn take_back_open<R: PageDisk>(
 
 // Tests the count of each undo slot that is in use.
 fn check_counts<R: PageDisk>(disk: &mut R, overlay: &mut Overlay) -> Result<(), RecoverRefusal>
-    ensures shows { OnOk result (ShowsSame (R.told disk.old) overlay.old overlay.new) }
-    ensures counts { OnOk result (ForImage (R.told disk.old) overlay.old
+    ensures shows { OnOk result (ShowsSame (R.state disk.old).told overlay.old overlay.new) }
+    ensures counts { OnOk result (ForImage (R.state disk.old).told overlay.old
         (λ m image. CountsFit image)) }
-    ensures cause { IfErr result (PageOrOn (R.told disk.old) overlay.old HasTooMany) }
+    ensures cause { IfErr result (PageOrOn (R.state disk.old).told overlay.old HasTooMany) }
     ensures known { IsErrOf result RecoverRefusal.Incomplete → ⊥ }
-    ensures fault { IsErrOf result RecoverRefusal.DiskFault
-        → Rose (R.failures disk.old) (R.failures disk.new) }
-    ensures told { R.told disk.new ≡ R.told disk.old }
-    ensures orders { R.orders disk.new ≡ R.orders disk.old }
-    ensures later { R.failures disk.old ≤ R.failures disk.new }
+    ensures reads { Reads (IsErrOf result RecoverRefusal.DiskFault)
+        (R.state disk.old) (R.state disk.new) }
 {
     for slot in 0..UNDO_SLOT_COUNT {
         header_of(disk, overlay, slot)?;
@@ -69,16 +63,13 @@ fn check_counts<R: PageDisk>(disk: &mut R, overlay: &mut Overlay) -> Result<(), 
 // Takes back the changes of each undo slot that is in use and frees it.
 fn take_back_all<R: PageDisk>(disk: &mut R, overlay: &mut Overlay) -> Result<(), RecoverRefusal>
     ensures recovered { OnOk result
-        (ShowsEdited (R.told disk.old) overlay.old overlay.new recovered) }
-    ensures sound { OnOk result (ForImage (R.told disk.old) overlay.old
+        (ShowsEdited (R.state disk.old).told overlay.old overlay.new recovered) }
+    ensures sound { OnOk result (ForImage (R.state disk.old).told overlay.old
         (λ m image. (page : ℕ) → HasBroken image page → ⊥)) }
-    ensures cause { IfErr result (PageOrOn (R.told disk.old) overlay.old HasBroken) }
+    ensures cause { IfErr result (PageOrOn (R.state disk.old).told overlay.old HasBroken) }
     ensures known { IsErrOf result RecoverRefusal.Incomplete → ⊥ }
-    ensures fault { IsErrOf result RecoverRefusal.DiskFault
-        → Rose (R.failures disk.old) (R.failures disk.new) }
-    ensures told { R.told disk.new ≡ R.told disk.old }
-    ensures orders { R.orders disk.new ≡ R.orders disk.old }
-    ensures later { R.failures disk.old ≤ R.failures disk.new }
+    ensures reads { Reads (IsErrOf result RecoverRefusal.DiskFault)
+        (R.state disk.old) (R.state disk.new) }
 {
     for slot in 0..UNDO_SLOT_COUNT {
         take_back(disk, overlay, slot)?;
@@ -93,20 +84,17 @@ fn take_back<R: PageDisk>(
     slot: u32,
 ) -> Result<(), RecoverRefusal>
     requires { slot < places.undo_slot_count }
-    ensures taken_back { OnOk result (ShowsEdited (R.told disk.old) overlay.old overlay.new
+    ensures taken_back { OnOk result (ShowsEdited (R.state disk.old).told overlay.old overlay.new
         (λ image. taken_back image slot (undo_slot_of image slot))) }
-    ensures ranges { OnOk result (ForImage (R.told disk.old) overlay.old
+    ensures ranges { OnOk result (ForImage (R.state disk.old).told overlay.old
         (λ m image. IsSlotInRange (undo_slot_of image slot))) }
-    ensures sound { OnOk result (ForImage (R.told disk.old) overlay.old
+    ensures sound { OnOk result (ForImage (R.state disk.old).told overlay.old
         (λ m image. (page : ℕ) → IsBroken image slot page → ⊥)) }
     ensures cause { IfErr result
-        (PageOrOn (R.told disk.old) overlay.old (λ image. IsBroken image slot)) }
+        (PageOrOn (R.state disk.old).told overlay.old (λ image. IsBroken image slot)) }
     ensures known { IsErrOf result RecoverRefusal.Incomplete → ⊥ }
-    ensures fault { IsErrOf result RecoverRefusal.DiskFault
-        → Rose (R.failures disk.old) (R.failures disk.new) }
-    ensures told { R.told disk.new ≡ R.told disk.old }
-    ensures orders { R.orders disk.new ≡ R.orders disk.old }
-    ensures later { R.failures disk.old ≤ R.failures disk.new }
+    ensures reads { Reads (IsErrOf result RecoverRefusal.DiskFault)
+        (R.state disk.old) (R.state disk.new) }
 {
     let Some(header) = header_of(disk, overlay, slot)? else {
         return Ok(());
@@ -119,14 +107,11 @@ fn take_back<R: PageDisk>(
 fn free<R: PageDisk>(disk: &mut R, overlay: &mut Overlay, slot: u32) -> Result<(), RecoverRefusal>
     requires { slot < places.undo_slot_count }
     ensures freed { OnOk result
-        (ShowsEdited (R.told disk.old) overlay.old overlay.new (λ image. freed image slot)) }
-    ensures cause { IfErr result (HeaderOn (R.told disk.old) overlay.old) }
+        (ShowsEdited (R.state disk.old).told overlay.old overlay.new (λ image. freed image slot)) }
+    ensures cause { IfErr result (HeaderOn (R.state disk.old).told overlay.old) }
     ensures known { IsErrOf result RecoverRefusal.Incomplete → ⊥ }
-    ensures fault { IsErrOf result RecoverRefusal.DiskFault
-        → Rose (R.failures disk.old) (R.failures disk.new) }
-    ensures told { R.told disk.new ≡ R.told disk.old }
-    ensures orders { R.orders disk.new ≡ R.orders disk.old }
-    ensures later { R.failures disk.old ≤ R.failures disk.new }
+    ensures reads { Reads (IsErrOf result RecoverRefusal.DiskFault)
+        (R.state disk.old) (R.state disk.new) }
 {
     let number = header_page(slot);
     fetch(disk, overlay, 0, number)?;
@@ -142,16 +127,13 @@ fn header_of<R: PageDisk>(
 ) -> Result<Option<SlotHeader>, RecoverRefusal>
     requires { slot < places.undo_slot_count }
     ensures count { IfOk result (λ header. IfSome header (λ h. h.count ≤ places.capacity)) }
-    ensures header { IfOk result (IsHeaderOf (R.told disk.old) overlay.old slot) }
-    ensures shows { OnOk result (ShowsSame (R.told disk.old) overlay.old overlay.new) }
+    ensures header { IfOk result (IsHeaderOf (R.state disk.old).told overlay.old slot) }
+    ensures shows { OnOk result (ShowsSame (R.state disk.old).told overlay.old overlay.new) }
     ensures cause { IfErr result
-        (PageOrOn (R.told disk.old) overlay.old (λ image. CountsTooMany image slot)) }
+        (PageOrOn (R.state disk.old).told overlay.old (λ image. CountsTooMany image slot)) }
     ensures known { IsErrOf result RecoverRefusal.Incomplete → ⊥ }
-    ensures fault { IsErrOf result RecoverRefusal.DiskFault
-        → Rose (R.failures disk.old) (R.failures disk.new) }
-    ensures told { R.told disk.new ≡ R.told disk.old }
-    ensures orders { R.orders disk.new ≡ R.orders disk.old }
-    ensures later { R.failures disk.old ≤ R.failures disk.new }
+    ensures reads { Reads (IsErrOf result RecoverRefusal.DiskFault)
+        (R.state disk.old) (R.state disk.new) }
 {
     let number = header_page(slot);
     fetch(disk, overlay, 0, number)?;
@@ -173,20 +155,17 @@ fn undo_changes<R: PageDisk>(
 ) -> Result<(), RecoverRefusal>
     requires slot { slot < places.undo_slot_count }
     requires count { count ≤ places.capacity }
-    ensures undone { OnOk result (ShowsEdited (R.told disk.old) overlay.old overlay.new
+    ensures undone { OnOk result (ShowsEdited (R.state disk.old).told overlay.old overlay.new
         (λ image. all_undone image (entries slot (system_pages image) count))) }
-    ensures ranges { OnOk result (ForImage (R.told disk.old) overlay.old
+    ensures ranges { OnOk result (ForImage (R.state disk.old).told overlay.old
         (λ m image. AllByRecursion IsEntry (entries slot (system_pages image) count))) }
-    ensures sound { OnOk result (ForImage (R.told disk.old) overlay.old
+    ensures sound { OnOk result (ForImage (R.state disk.old).told overlay.old
         (λ m image. (page : ℕ) → IsUnsoundBelow image slot count page → ⊥)) }
-    ensures cause { IfErr result (PageOrOn (R.told disk.old) overlay.old
+    ensures cause { IfErr result (PageOrOn (R.state disk.old).told overlay.old
         (λ image. IsUnsoundBelow image slot count)) }
     ensures known { IsErrOf result RecoverRefusal.Incomplete → ⊥ }
-    ensures fault { IsErrOf result RecoverRefusal.DiskFault
-        → Rose (R.failures disk.old) (R.failures disk.new) }
-    ensures told { R.told disk.new ≡ R.told disk.old }
-    ensures orders { R.orders disk.new ≡ R.orders disk.old }
-    ensures later { R.failures disk.old ≤ R.failures disk.new }
+    ensures reads { Reads (IsErrOf result RecoverRefusal.DiskFault)
+        (R.state disk.old) (R.state disk.new) }
 {
     for number in (0..count as usize).rev() {
         undo_change(disk, overlay, slot, number)?;
@@ -203,20 +182,17 @@ fn undo_change<R: PageDisk>(
 ) -> Result<(), RecoverRefusal>
     requires slot { slot < places.undo_slot_count }
     requires number { number < places.capacity }
-    ensures undone { OnOk result (ShowsEdited (R.told disk.old) overlay.old overlay.new
+    ensures undone { OnOk result (ShowsEdited (R.state disk.old).told overlay.old overlay.new
         (λ image. undone image (record_of image slot number))) }
-    ensures range { OnOk result (ForImage (R.told disk.old) overlay.old
+    ensures range { OnOk result (ForImage (R.state disk.old).told overlay.old
         (λ m image. IsEntry (record_of image slot number))) }
-    ensures sound { OnOk result (ForImage (R.told disk.old) overlay.old
+    ensures sound { OnOk result (ForImage (R.state disk.old).told overlay.old
         (λ m image. (page : ℕ) → IsUnsoundAt image slot number page → ⊥)) }
-    ensures cause { IfErr result (PageOrOn (R.told disk.old) overlay.old
+    ensures cause { IfErr result (PageOrOn (R.state disk.old).told overlay.old
         (λ image. IsUnsoundAt image slot number)) }
     ensures known { IsErrOf result RecoverRefusal.Incomplete → ⊥ }
-    ensures fault { IsErrOf result RecoverRefusal.DiskFault
-        → Rose (R.failures disk.old) (R.failures disk.new) }
-    ensures told { R.told disk.new ≡ R.told disk.old }
-    ensures orders { R.orders disk.new ≡ R.orders disk.old }
-    ensures later { R.failures disk.old ≤ R.failures disk.new }
+    ensures reads { Reads (IsErrOf result RecoverRefusal.DiskFault)
+        (R.state disk.old) (R.state disk.new) }
 {
     let on = record_page(slot, number);
     let Some(change) = sound_change(disk, overlay, on, number)? else {
@@ -238,15 +214,12 @@ fn sound_change<R: PageDisk>(
 ) -> Result<Option<UndoRecord>, RecoverRefusal>
     requires { number < places.capacity }
     ensures change { IfOk result
-        (IsSoundRecord (R.told disk.old) overlay.old on number) }
-    ensures shows { OnOk result (ShowsSame (R.told disk.old) overlay.old overlay.new) }
-    ensures cause { IfErr result (HeaderOn (R.told disk.old) overlay.old) }
+        (IsSoundRecord (R.state disk.old).told overlay.old on number) }
+    ensures shows { OnOk result (ShowsSame (R.state disk.old).told overlay.old overlay.new) }
+    ensures cause { IfErr result (HeaderOn (R.state disk.old).told overlay.old) }
     ensures known { IsErrOf result RecoverRefusal.Incomplete → ⊥ }
-    ensures fault { IsErrOf result RecoverRefusal.DiskFault
-        → Rose (R.failures disk.old) (R.failures disk.new) }
-    ensures told { R.told disk.new ≡ R.told disk.old }
-    ensures orders { R.orders disk.new ≡ R.orders disk.old }
-    ensures later { R.failures disk.old ≤ R.failures disk.new }
+    ensures reads { Reads (IsErrOf result RecoverRefusal.DiskFault)
+        (R.state disk.old) (R.state disk.new) }
 {
     fetch(disk, overlay, 0, on)?;
     let Some(change) = change_on(overlay, on, number) else {
@@ -281,18 +254,15 @@ fn is_listed<R: PageDisk>(
     table: u32,
 ) -> Result<bool, RecoverRefusal>
     requires { 0 < table }
-    ensures yes { IfOk result (λ listed. ForImage (R.told disk.old) overlay.old
+    ensures yes { IfOk result (λ listed. ForImage (R.state disk.old).told overlay.old
         (λ m image. listed ≡ true → IsListed (page_of image) table)) }
-    ensures no { IfOk result (λ listed. ForImage (R.told disk.old) overlay.old
+    ensures no { IfOk result (λ listed. ForImage (R.state disk.old).told overlay.old
         (λ m image. listed ≡ false → IsListed (page_of image) table → ⊥)) }
-    ensures shows { OnOk result (ShowsSame (R.told disk.old) overlay.old overlay.new) }
-    ensures cause { IfErr result (HeaderOn (R.told disk.old) overlay.old) }
+    ensures shows { OnOk result (ShowsSame (R.state disk.old).told overlay.old overlay.new) }
+    ensures cause { IfErr result (HeaderOn (R.state disk.old).told overlay.old) }
     ensures known { IsErrOf result RecoverRefusal.Incomplete → ⊥ }
-    ensures fault { IsErrOf result RecoverRefusal.DiskFault
-        → Rose (R.failures disk.old) (R.failures disk.new) }
-    ensures told { R.told disk.new ≡ R.told disk.old }
-    ensures orders { R.orders disk.new ≡ R.orders disk.old }
-    ensures later { R.failures disk.old ≤ R.failures disk.new }
+    ensures reads { Reads (IsErrOf result RecoverRefusal.DiskFault)
+        (R.state disk.old) (R.state disk.new) }
 {
     fetch(disk, overlay, 0, 0)?;
     match overlay.page(0, 0) {
@@ -308,16 +278,13 @@ fn stands<R: PageDisk>(
     space: u32,
     number: u32,
 ) -> Result<bool, RecoverRefusal>
-    ensures there { IfOk result (λ there. ForImage (R.told disk.old) overlay.old
+    ensures there { IfOk result (λ there. ForImage (R.state disk.old).told overlay.old
         (λ m image. there ≡ is_some (page_of image space number))) }
-    ensures shows { OnOk result (ShowsSame (R.told disk.old) overlay.old overlay.new) }
-    ensures cause { IfErr result (HeaderOn (R.told disk.old) overlay.old) }
+    ensures shows { OnOk result (ShowsSame (R.state disk.old).told overlay.old overlay.new) }
+    ensures cause { IfErr result (HeaderOn (R.state disk.old).told overlay.old) }
     ensures known { IsErrOf result RecoverRefusal.Incomplete → ⊥ }
-    ensures fault { IsErrOf result RecoverRefusal.DiskFault
-        → Rose (R.failures disk.old) (R.failures disk.new) }
-    ensures told { R.told disk.new ≡ R.told disk.old }
-    ensures orders { R.orders disk.new ≡ R.orders disk.old }
-    ensures later { R.failures disk.old ≤ R.failures disk.new }
+    ensures reads { Reads (IsErrOf result RecoverRefusal.DiskFault)
+        (R.state disk.old) (R.state disk.new) }
 {
     fetch(disk, overlay, space, number)?;
     Ok(overlay.page(space, number).is_some())

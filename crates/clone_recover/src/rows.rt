@@ -1,6 +1,6 @@
-ghost use Rattle.std.specs.Prelude.{◌≡◌, ◌≤◌, ◌<◌, OnOk, IfOk, IfErr, IsErrOf};
-ghost use Rattle.clone_outside.specs.Causes.{Rose};
+ghost use Rattle.std.specs.Prelude.{◌≡◌, ◌<◌, OnOk, IfOk, IfErr, IsErrOf};
 ghost use Rattle.clone_outside.specs.Disk.{ForTold};
+ghost use Rattle.clone_outside.specs.DiskCalls.{Reads};
 ghost use Rattle.clone_model.specs.History.{Rows, rows_in};
 ghost use Rattle.clone_recover.specs.Refusals.{IsOfDisk};
 ghost use Rattle.clone_recover.specs.Restores.{IsRowsCause};
@@ -22,15 +22,12 @@ pub fn open_rows<R: PageDisk>(
     alloc: Global,
     disk: &mut R,
 ) -> Result<Vec<(u32, u64, Value)>, RecoverRefusal>
-    ensures rows { IfOk result (λ list. ListsRowsOn (R.told disk.old) list.items) }
+    ensures rows { IfOk result (λ list. ListsRowsOn (R.state disk.old).told list.items) }
     ensures ascending { IfOk result (λ list. (rows : Rows) × (list.items ≡ rows_in rows)) }
     ensures cause { IfErr result
-        (λ refusal. ForTold (R.told disk.old) (λ m. IsRowsCause m refusal)) }
-    ensures fault { IsErrOf result RecoverRefusal.DiskFault
-        → Rose (R.failures disk.old) (R.failures disk.new) }
-    ensures told { R.told disk.new ≡ R.told disk.old }
-    ensures orders { R.orders disk.new ≡ R.orders disk.old }
-    ensures later { R.failures disk.old ≤ R.failures disk.new }
+        (λ refusal. ForTold (R.state disk.old).told (λ m. IsRowsCause m refusal)) }
+    ensures reads { Reads (IsErrOf result RecoverRefusal.DiskFault)
+        (R.state disk.old) (R.state disk.new) }
 {
     let Some(mark) = mark_of(disk)? else {
         return Err(RecoverRefusal::Incomplete);
@@ -45,13 +42,10 @@ pub fn open_rows<R: PageDisk>(
 
 // Adds the rows of each table that the dictionary lists.
 fn add_tables<R: PageDisk>(disk: &mut R, tables: &mut Tables) -> Result<(), RecoverRefusal>
-    ensures added { OnOk result (AddsListed (R.told disk.old) tables.old tables.new) }
+    ensures added { OnOk result (AddsListed (R.state disk.old).told tables.old tables.new) }
     ensures cause { IfErr result IsOfDisk }
-    ensures fault { IsErrOf result RecoverRefusal.DiskFault
-        → Rose (R.failures disk.old) (R.failures disk.new) }
-    ensures told { R.told disk.new ≡ R.told disk.old }
-    ensures orders { R.orders disk.new ≡ R.orders disk.old }
-    ensures later { R.failures disk.old ≤ R.failures disk.new }
+    ensures reads { Reads (IsErrOf result RecoverRefusal.DiskFault)
+        (R.state disk.old) (R.state disk.new) }
 {
     if disk.pages(0)?.unwrap_or(0) == 0 {
         return Ok(());
@@ -74,13 +68,10 @@ fn add_table<R: PageDisk>(
     table: u32,
 ) -> Result<(), RecoverRefusal>
     requires { table < REDO_SPACE }
-    ensures added { OnOk result (AddsTable (R.told disk.old) table tables.old tables.new) }
+    ensures added { OnOk result (AddsTable (R.state disk.old).told table tables.old tables.new) }
     ensures cause { IfErr result IsOfDisk }
-    ensures fault { IsErrOf result RecoverRefusal.DiskFault
-        → Rose (R.failures disk.old) (R.failures disk.new) }
-    ensures told { R.told disk.new ≡ R.told disk.old }
-    ensures orders { R.orders disk.new ≡ R.orders disk.old }
-    ensures later { R.failures disk.old ≤ R.failures disk.new }
+    ensures reads { Reads (IsErrOf result RecoverRefusal.DiskFault)
+        (R.state disk.old) (R.state disk.new) }
 {
     let count = disk.pages(table)?.unwrap_or(0);
     let mut page = Page::zero();

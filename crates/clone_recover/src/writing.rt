@@ -1,24 +1,21 @@
 ghost use Rattle.std.specs.Prelude.{◌≡◌, OnOk, is_some};
 ghost use Rattle.std.specs.FinMap as finite;
-ghost use Rattle.clone_outside.specs.Causes.{HasCause};
 ghost use Rattle.clone_outside.specs.Disk.{Steps};
+ghost use Rattle.clone_outside.specs.DiskCalls.{Works};
 ghost use Rattle.clone_overlay.specs.Covers.{covers_of, leaves_of};
-ghost use Rattle.clone_recover.specs.Written.{with_whole, with_leaves, with_count, with_sheet, with_sheets, without_space, without_spaces, written_out};
+ghost use Rattle.clone_recover.specs.Written.{with_leaves, with_count, with_sheet, with_sheets, without_space, without_spaces, written_out};
 
 use clone_base::REDO_SPACE;
-use clone_outside::{PageDisk, Refusal};
+use clone_outside::{PageDisk, Refusal, write_page};
 use clone_overlay::{Leaves, Overlay, Sheet, Sheets};
-use clone_page::Page;
 use std::alloc::Global;
 
 /// Writes an overlay to its disk: spaces that are gone are removed, the others get their pages, and
 /// each page that is held is written. The redo's space and those behind it stay.
 pub fn write_out<R: PageDisk>(alloc: Global, disk: &mut R, overlay: &Overlay) -> Result<(), Refusal>
     ensures written { OnOk result
-        (Steps (R.told disk.old) (R.told disk.new) (written_out overlay.now)) }
-    ensures tells { is_some (R.told disk.new) ≡ is_some (R.told disk.old) }
-    ensures cause { HasCause (R.failures disk.old) (R.failures disk.new) result }
-    ensures orders { R.orders disk.new ≡ R.orders disk.old }
+        (Steps (R.state disk.old).told (R.state disk.new).told (written_out overlay.now)) }
+    ensures works { Works (R.state disk.old) (R.state disk.new) result }
 {
     let sheets = overlay.sheets();
     let spaces = disk.spaces(alloc)?;
@@ -28,11 +25,9 @@ pub fn write_out<R: PageDisk>(alloc: Global, disk: &mut R, overlay: &Overlay) ->
 
 // Removes those of the spaces that are no redo and have no sheet.
 fn remove_gone<R: PageDisk>(disk: &mut R, sheets: &Sheets, spaces: &[u32]) -> Result<(), Refusal>
-    ensures removed { OnOk result (Steps (R.told disk.old) (R.told disk.new)
+    ensures removed { OnOk result (Steps (R.state disk.old).told (R.state disk.new).told
         (λ m. without_spaces (covers_of sheets.now.entries) m spaces.now)) }
-    ensures tells { is_some (R.told disk.new) ≡ is_some (R.told disk.old) }
-    ensures cause { HasCause (R.failures disk.old) (R.failures disk.new) result }
-    ensures orders { R.orders disk.new ≡ R.orders disk.old }
+    ensures works { Works (R.state disk.old) (R.state disk.new) result }
 {
     for space in spaces {
         remove_if_gone(disk, sheets, *space)?;
@@ -42,11 +37,9 @@ fn remove_gone<R: PageDisk>(disk: &mut R, sheets: &Sheets, spaces: &[u32]) -> Re
 
 // Removes a space that is no redo and has no sheet.
 fn remove_if_gone<R: PageDisk>(disk: &mut R, sheets: &Sheets, space: u32) -> Result<(), Refusal>
-    ensures removed { OnOk result (Steps (R.told disk.old) (R.told disk.new)
+    ensures removed { OnOk result (Steps (R.state disk.old).told (R.state disk.new).told
         (λ m. without_space (covers_of sheets.now.entries) m space)) }
-    ensures tells { is_some (R.told disk.new) ≡ is_some (R.told disk.old) }
-    ensures cause { HasCause (R.failures disk.old) (R.failures disk.new) result }
-    ensures orders { R.orders disk.new ≡ R.orders disk.old }
+    ensures works { Works (R.state disk.old) (R.state disk.new) result }
 {
     if space >= REDO_SPACE {
         return Ok(());
@@ -65,11 +58,9 @@ fn has_sheet(sheets: &Sheets, space: u32) -> bool
 }
 
 fn write_sheets<R: PageDisk>(disk: &mut R, sheets: &Sheets) -> Result<(), Refusal>
-    ensures written { OnOk result (Steps (R.told disk.old) (R.told disk.new)
+    ensures written { OnOk result (Steps (R.state disk.old).told (R.state disk.new).told
         (λ m. with_sheets m (finite.entries (covers_of sheets.now.entries)))) }
-    ensures tells { is_some (R.told disk.new) ≡ is_some (R.told disk.old) }
-    ensures cause { HasCause (R.failures disk.old) (R.failures disk.new) result }
-    ensures orders { R.orders disk.new ≡ R.orders disk.old }
+    ensures works { Works (R.state disk.old) (R.state disk.new) result }
 {
     for (space, sheet) in sheets {
         write_sheet(disk, *space, sheet)?;
@@ -80,10 +71,9 @@ fn write_sheets<R: PageDisk>(disk: &mut R, sheets: &Sheets) -> Result<(), Refusa
 // Gives the space its pages, and writes those that are held.
 fn write_sheet<R: PageDisk>(disk: &mut R, space: u32, sheet: &Sheet) -> Result<(), Refusal>
     ensures written { OnOk result
-        (Steps (R.told disk.old) (R.told disk.new) (λ m. with_sheet m space sheet.now)) }
-    ensures tells { is_some (R.told disk.new) ≡ is_some (R.told disk.old) }
-    ensures cause { HasCause (R.failures disk.old) (R.failures disk.new) result }
-    ensures orders { R.orders disk.new ≡ R.orders disk.old }
+        (Steps (R.state disk.old).told (R.state disk.new).told
+        (λ m. with_sheet m space sheet.now)) }
+    ensures works { Works (R.state disk.old) (R.state disk.new) result }
 {
     give_pages(disk, space, sheet)?;
     write_leaves(disk, space, sheet.leaves())
@@ -92,10 +82,9 @@ fn write_sheet<R: PageDisk>(disk: &mut R, space: u32, sheet: &Sheet) -> Result<(
 // Makes the space anew, or keeps the disk's pages of it and adds the others.
 fn give_pages<R: PageDisk>(disk: &mut R, space: u32, sheet: &Sheet) -> Result<(), Refusal>
     ensures given { OnOk result
-        (Steps (R.told disk.old) (R.told disk.new) (λ m. with_count space m sheet.now)) }
-    ensures tells { is_some (R.told disk.new) ≡ is_some (R.told disk.old) }
-    ensures cause { HasCause (R.failures disk.old) (R.failures disk.new) result }
-    ensures orders { R.orders disk.new ≡ R.orders disk.old }
+        (Steps (R.state disk.old).told (R.state disk.new).told
+        (λ m. with_count space m sheet.now)) }
+    ensures works { Works (R.state disk.old) (R.state disk.new) result }
 {
     if sheet.kept() == 0 {
         disk.create(space, sheet.count())
@@ -105,30 +94,12 @@ fn give_pages<R: PageDisk>(disk: &mut R, space: u32, sheet: &Sheet) -> Result<()
 }
 
 fn write_leaves<R: PageDisk>(disk: &mut R, space: u32, leaves: &Leaves) -> Result<(), Refusal>
-    ensures written { OnOk result (Steps (R.told disk.old) (R.told disk.new)
+    ensures written { OnOk result (Steps (R.state disk.old).told (R.state disk.new).told
         (λ m. with_leaves space m (finite.entries (leaves_of leaves.now.entries)))) }
-    ensures tells { is_some (R.told disk.new) ≡ is_some (R.told disk.old) }
-    ensures cause { HasCause (R.failures disk.old) (R.failures disk.new) result }
-    ensures orders { R.orders disk.new ≡ R.orders disk.old }
+    ensures works { Works (R.state disk.old) (R.state disk.new) result }
 {
     for (number, page) in leaves {
-        write_page(disk, space, *number, page)?;
+        write_page(disk, space, *number, page.bytes())?;
     }
     Ok(())
-}
-
-fn write_page<R: PageDisk>(
-    disk: &mut R,
-    space: u32,
-    number: u32,
-    page: &Page,
-) -> Result<(), Refusal>
-    ensures written { OnOk result (Steps (R.told disk.old) (R.told disk.new)
-        (λ m. with_whole space m number page.now)) }
-    ensures tells { is_some (R.told disk.new) ≡ is_some (R.told disk.old) }
-    ensures cause { HasCause (R.failures disk.old) (R.failures disk.new) result }
-    ensures orders { R.orders disk.new ≡ R.orders disk.old }
-{
-    disk.write_half(space, number, page.bytes())?;
-    disk.write_rest(space, number, page.bytes())
 }

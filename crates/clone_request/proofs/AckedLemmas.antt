@@ -5,7 +5,7 @@ use Rattle.std.specs.Option.{ForSome, option_map_or}
 use Rattle.std.proofs.lemmas.List.{drop-append-le, length-drop, take-append-le, take_all}
 use Rattle.clone_base.specs.declared.limits.TheConstants.{REDO_SPACE}
 use Rattle.clone_base.specs.declared.limits.TheConstants.{LSN_LIMIT}
-use Rattle.clone_outside.specs.Disk.{DiskImage, ForTold}
+use Rattle.clone_outside.specs.Disk.{DiskImage, ForTold, pages_in}
 use Rattle.clone_outside.specs.declared.mark.CloneEnd.{CloneEnd}
 use Rattle.clone_mtr.specs.declared.record.Record.{Record}
 use Rattle.clone_mtr.specs.Spelling.{log_of}
@@ -24,7 +24,6 @@ use Rattle.clone_buffer.specs.Buffered.{IsBuffer}
 use Rattle.clone_chunk.specs.declared.chunk.Chunk.{Chunk}
 use Rattle.clone_chunk.specs.declared.chunk.Chunk.TheVariants.{Free, Finished}
 use Rattle.clone_chunk.specs.Stages.{stage_number}
-use Rattle.clone_lay.specs.Laid.{pages_in}
 use Rattle.clone_lay.specs.Sized.{PageCounts}
 use Rattle.clone_snapshot.specs.StageLists as lists
 use Rattle.clone_snapshot.specs.StageLists.{StageList, Part, chunk_count, stage_of}

@@ -3,11 +3,10 @@ use Rattle.std.proofs.Common.{◌≡◌, ℕ, List, Option, None, Some, IsTrue, 
 use Rattle.std.specs.Prelude.{option_map, replicate}
 use Rattle.std.specs.FinMap as finite
 use Rattle.clone_base.specs.declared.limits.TheConstants.{REDO_SPACE}
-use Rattle.clone_outside.specs.Disk.{DiskImage, ForTold, Steps, blank}
+use Rattle.clone_outside.specs.Disk.{DiskImage, ForTold, Steps, blank, pages_in}
 use Rattle.clone_outside.specs.declared.mark.Mark.TheVariants.{InProgress}
 use Rattle.clone_buffer.specs.OnePage.{Copies, no_copies}
 use Rattle.clone_flush.specs.Flights.{IsFlown}
-use Rattle.clone_lay.specs.Laid.{pages_in}
 use Rattle.clone_lay.specs.Marked.{marked}
 use Rattle.clone_lay.specs.Sized.{AreSizes, PageCounts}
 use Rattle.clone_chunk.specs.declared.chunk.Chunk.{Chunk}

@@ -8,12 +8,11 @@ use Rattle.std.proofs.lemmas.List.Elements.{Contains-append_left, Contains-appen
 use Rattle.std.proofs.lemmas.List.FromFn.{get_or-map-range_with_len, length-map-range_with_len}
 use Rattle.std.proofs.lemmas.Option.{slice_get_within}
 use Rattle.clone_base.specs.declared.limits.TheConstants.{REDO_SPACE}
-use Rattle.clone_outside.specs.Disk.{DiskImage}
+use Rattle.clone_outside.specs.Disk.{DiskImage, pages_in}
 use Rattle.clone_contents.specs.Records.{system_size}
 use Rattle.clone_image.specs.Image.{page_count}
 use Rattle.clone_image.specs.Redone.{Standing, past_end, standing_of}
 use Rattle.clone_track.specs.TrackedPages.{Pages}
-use Rattle.clone_lay.specs.Laid.{pages_in}
 use Rattle.clone_overlay.specs.Images.{redo_space}
 use Rattle.clone_overlay.specs.Images as overlay
 use Rattle.clone_law.specs.Machine.{Untracked}

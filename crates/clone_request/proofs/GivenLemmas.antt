@@ -10,7 +10,7 @@ use Rattle.std.proofs.lemmas.List.Sums.{sum_by-set}
 use Rattle.std.proofs.lemmas.Option.{get_or_from_slice_get, slice_get_within}
 use Rattle.std.proofs.Math.Seq.{take-add}
 use Rattle.clone_base.specs.declared.limits.TheConstants.{LSN_LIMIT, REDO_SPACE}
-use Rattle.clone_outside.specs.Disk.{DiskImage, ForTold, Steps}
+use Rattle.clone_outside.specs.Disk.{DiskImage, ForTold, Steps, pages_in}
 use Rattle.clone_model.specs.declared.line.TheConstants.{MOST_PAGES}
 use Rattle.clone_mtr.specs.declared.record.Record.{Record}
 use Rattle.clone_mtr.specs.Spelling.{log_of}
@@ -18,7 +18,6 @@ use Rattle.clone_image.specs.Replay.{first_lsn}
 use Rattle.clone_image.proofs.Logs.{log_of-append}
 use Rattle.clone_law.specs.Since.{ends}
 use Rattle.clone_archive.specs.Archived.{Archived, IsArchived, archived_of}
-use Rattle.clone_lay.specs.Laid.{pages_in}
 use Rattle.clone_lay.specs.Redo.{laid_redo, redo_block}
 use Rattle.clone_lay.specs.Sized.{AreSizes, PageCounts}
 use Rattle.clone_chunk.specs.declared.chunk.Chunk.{Chunk}

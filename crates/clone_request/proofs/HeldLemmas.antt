@@ -3,14 +3,13 @@ use Rattle.std.proofs.Common.{◌≡◌, ◌<◌, ◌∷◌, [], ℕ, List, ◌=
 use Rattle.std.proofs.lemmas.Bool.{and_parts, eqb-true, eq-eqb, true≢false}
 use Rattle.std.specs.List.{AllByRecursion}
 use Rattle.clone_base.specs.declared.limits.TheConstants.{REDO_SPACE}
-use Rattle.clone_outside.specs.Disk.{DiskImage}
+use Rattle.clone_outside.specs.Disk.{DiskImage, IsSameBut}
 use Rattle.clone_contents.specs.Records.{system_size}
 use Rattle.clone_image.specs.Redone.{Standing, stands, standing_of}
 use Rattle.clone_law.specs.Machine as machine
 use Rattle.clone_law.specs.Machine.{Copy}
 use Rattle.clone_buffer.specs.OnePage.{Copies}
 use Rattle.clone_overlay.specs.Images.{redo_space, image_of, IsQuiet}
-use Rattle.clone_lay.specs.Faults.{IsSameBut}
 use Rattle.clone_lay.specs.Laid.{laid_page}
 use Rattle.clone_donor.specs.Copies.{PageRead, answered, with_page, with_pages}
 use Rattle.clone_request.specs.Laying.{with_laid}

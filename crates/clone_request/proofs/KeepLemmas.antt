@@ -15,7 +15,7 @@ use Rattle.clone_session.specs.Cloning.{Cloning, Session}
 use Rattle.clone_session.specs.CloneCalls.{Archives, archived_on}
 use Rattle.clone_session.specs.CloneCauses.{donor_stage}
 use Rattle.clone_session.specs.Effects.{Becomes, with_noted}
-use Rattle.clone_engine.specs.Disks.{DiskState}
+use Rattle.clone_outside.specs.DiskCalls.{DiskState}
 use Rattle.clone_engine.specs.Engine.{Engine}
 use Rattle.clone_engine.specs.Steps.{Ends, Looks, has_begun}
 use Rattle.clone_engine.proofs.DiskLemmas.{for_told}

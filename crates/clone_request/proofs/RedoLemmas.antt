@@ -7,15 +7,13 @@ use Rattle.std.proofs.lemmas.Grind.{div_ceil_times}
 use Rattle.std.proofs.lemmas.List.{append-nil, drop-drop, drop_all, length-drop, length-take, length-take-le, take-append-drop, take_all}
 use Rattle.std.proofs.lemmas.List.Elements.{All-append, All-contains, Contains-append_left, Contains-push}
 use Rattle.clone_base.specs.declared.limits.TheConstants.{REDO_SPACE}
-use Rattle.clone_outside.specs.Disk.{DiskImage}
+use Rattle.clone_outside.specs.Disk.{DiskImage, pages_in, whole, IsSameBut}
 use Rattle.clone_outside.specs.declared.disk.Held.{Held}
 use Rattle.clone_overlay.specs.Images.{bytes_of}
 use Rattle.clone_lay.specs.declared.laying.TheConstants.{REDO_BLOCK}
-use Rattle.clone_lay.specs.Faults.{IsSameBut}
-use Rattle.clone_lay.specs.Laid.{pages_in, whole}
 use Rattle.clone_lay.specs.Redo.{filled, laid_redo, pages_for, redo_block, redo_page, redo_pages}
 use Rattle.clone_lay.proofs.BlockLemmas.{blocks_are_pages, blocks_more}
-use Rattle.clone_lay.proofs.SpaceLemmas.{get_there}
+use Rattle.clone_outside.proofs.SpaceLemmas.{get_there}
 use Rattle.clone_recover.specs.Reading.{joined, redo_of}
 use Rattle.clone_recover.proofs.JoinedPageLemmas.{take_front}
 use Rattle.clone_request.specs.Waiting.{HoldsRedo}

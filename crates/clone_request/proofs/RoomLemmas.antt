@@ -11,15 +11,15 @@ use Rattle.std.proofs.lemmas.Bool.Decides.{eqb_tells}
 use Rattle.std.proofs.lemmas.List.Elements.{All-head, All-tail}
 use Rattle.clone_base.specs.declared.limits.TheConstants.{REDO_SPACE}
 use Rattle.clone_outside.specs.Disk as disk
-use Rattle.clone_outside.specs.Disk.{DiskImage, Spaces, extended}
+use Rattle.clone_outside.specs.Disk.{DiskImage, Spaces, extended, pages_in}
 use Rattle.clone_outside.specs.declared.disk.Held.{Held}
 use Rattle.clone_contents.specs.Records.{system_size}
 use Rattle.clone_image.specs.Redone.{Standing, no_space, past_end, standing_of}
 use Rattle.clone_law.specs.Touches.{Lax}
 use Rattle.clone_overlay.specs.Images.{redo_space, image_of, IsQuiet}
-use Rattle.clone_lay.specs.Laid.{pages_in, standing, with_room}
+use Rattle.clone_lay.specs.Laid.{standing, with_room}
 use Rattle.clone_lay.proofs.PageLemmas.{room_place}
-use Rattle.clone_lay.proofs.SpaceLemmas.{get_there, get_here}
+use Rattle.clone_outside.proofs.SpaceLemmas.{get_there, get_here}
 use Rattle.clone_request.specs.Laying.{with_rooms}
 use Rattle.clone_request.proofs.StandingLemmas.{IsShort, given_lax, held_standing, lax_same, lax_trans, short_from, short_on, space_standing, standing_low, standing_still}
 

@@ -9,7 +9,7 @@ use Rattle.std.proofs.lemmas.Bool.Decides.{eqb_tells}
 use Rattle.std.proofs.lemmas.Option.{slice_get-map}
 use Rattle.clone_base.specs.declared.limits.TheConstants.{PAGE_SIZE, REDO_SPACE}
 use Rattle.clone_outside.specs.Disk as disk
-use Rattle.clone_outside.specs.Disk.{DiskImage}
+use Rattle.clone_outside.specs.Disk.{DiskImage, pages_in, whole, with_space, IsSameBut}
 use Rattle.clone_outside.specs.declared.disk.Held.{Held}
 use Rattle.clone_contents.specs.Records.{system_size}
 use Rattle.clone_image.specs.Image.{page_of}
@@ -19,12 +19,11 @@ use Rattle.clone_law.specs.Starts.{IsStart}
 use Rattle.clone_law.specs.Touches.{Lax}
 use Rattle.clone_overlay.specs.Images.{redo_space, bytes_of, image_of, IsQuiet}
 use Rattle.clone_overlay.proofs.Bases.{get_image}
-use Rattle.clone_lay.specs.Faults.{IsSameBut}
-use Rattle.clone_lay.specs.Laid.{laid_over, laid_page, pages_in, standing, whole, with_space}
+use Rattle.clone_lay.specs.Laid.{laid_over, laid_page, standing}
 use Rattle.clone_lay.specs.Redo.{laid_redo, pages_for, redo_page, redo_pages}
 use Rattle.clone_lay.proofs.LaidLemmas.{extended_there, extended_zero, laid_before, laid_behind, laid_here}
 use Rattle.clone_lay.proofs.PageLemmas.{page_in_pages, pages_place}
-use Rattle.clone_lay.proofs.SpaceLemmas.{get_here, get_there}
+use Rattle.clone_outside.proofs.SpaceLemmas.{get_here, get_there}
 use Rattle.clone_request.specs.Waiting.{Counts}
 
 pub lax_trans : (v u s : Standing) → Lax v u → Lax u s → Lax v s

@@ -2,10 +2,9 @@
 use Rattle.std.proofs.Common.{◌≡◌, ◌≢◌, ◌≤◌, ◌∷◌, ◌++◌, [], ℕ, List, Option, None, Some, Result, Ok, Err, is_some, refl, sym, ap, subst, ◌∙◌, arith, inl, inr}
 use Rattle.std.specs.Prelude.{IsErrAnd, OnErr, OnOk, option_map}
 use Rattle.clone_outside.specs.Causes.{HasCause, Rose}
-use Rattle.clone_outside.specs.Disk.{DiskImage, ForTold, IsBeforeOrAfter, Steps}
+use Rattle.clone_outside.specs.Disk.{DiskImage, ForTold, IsBeforeOrAfter, Steps, ChangesOnly}
 use Rattle.clone_outside.specs.declared.Refusal.{Refusal}
 use Rattle.clone_outside.specs.declared.Refusal.TheVariants as outside
-use Rattle.clone_lay.specs.Faults.{ChangesOnly}
 use Rattle.clone_lay.specs.Laid.{laid_page, with_room}
 use Rattle.clone_donor.specs.Copies.{PageRead}
 use Rattle.clone_donor.specs.Donor.{Donor}

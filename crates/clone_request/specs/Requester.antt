@@ -4,12 +4,11 @@ use Rattle.std.specs.declared.option.Option.{Option}
 use Rattle.std.specs.FinMap as finite
 use Rattle.std.specs.Coded.{Coded, code_by, coded×, coded_ℕ}
 use Rattle.clone_base.specs.declared.limits.TheConstants.{REDO_SPACE}
-use Rattle.clone_outside.specs.Disk.{DiskImage, ForTold, blank}
+use Rattle.clone_outside.specs.Disk.{DiskImage, ForTold, blank, pages_in}
 use Rattle.clone_outside.specs.declared.mark.Mark.TheVariants.{InProgress}
 use Rattle.clone_mtr.specs.Spelling.{log_of}
 use Rattle.clone_image.specs.Replay.{first_lsn}
 use Rattle.clone_archive.specs.Archived.{Archived}
-use Rattle.clone_lay.specs.Laid.{pages_in}
 use Rattle.clone_lay.specs.Marked.{marked}
 use Rattle.clone_lay.specs.Sized.{AreSizes, PageCounts}
 use Rattle.clone_chunk.specs.declared.chunk.Chunk.{Chunk}

@@ -3,7 +3,7 @@ use Rattle.std.specs.Prelude.{ℕ, ◌≡◌, ◌≢◌, ◌≤◌, ◌<◌, ◌
 use Rattle.std.specs.declared.option.Option.{Option}
 use Rattle.std.specs.Option.{ForSome}
 use Rattle.clone_base.specs.declared.limits.TheConstants.{REDO_SPACE}
-use Rattle.clone_outside.specs.Disk.{DiskImage}
+use Rattle.clone_outside.specs.Disk.{DiskImage, pages_in}
 use Rattle.clone_contents.specs.Records.{system_size}
 use Rattle.clone_image.specs.Image.{page_of}
 use Rattle.clone_image.specs.Redone.{Standing, standing_of}
@@ -12,7 +12,6 @@ use Rattle.clone_law.specs.Starts.{HasStart}
 use Rattle.clone_buffer.specs.OnePage.{Copies}
 use Rattle.clone_overlay.specs.Images.{redo_space, image_of, IsQuiet}
 use Rattle.clone_lay.specs.declared.laying.TheConstants.{REDO_BLOCK}
-use Rattle.clone_lay.specs.Laid.{pages_in}
 use Rattle.clone_lay.specs.Redo.{laid_blocks, redo_block}
 use Rattle.clone_chunk.specs.declared.chunk.Chunk.{Chunk}
 use Rattle.clone_chunk.specs.declared.chunk.Chunk.TheVariants.{Claimed, Finished}

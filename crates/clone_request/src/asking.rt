@@ -158,7 +158,8 @@ fn behind(answer: &Result<bool, BlockRefusal>) -> Option<(u64, u64)>
 /// What the answer of a block is to the clone. There is no cause against the block.
 fn answered(answer: Result<bool, BlockRefusal>) -> Result<bool, StepRefusal>
     requires { IfErr answer IsNoCause }
-    ensures answers { MatchResult answer (λ last. result ≡ Ok last) (λ e. result ≡ Err (step_of e)) }
+    ensures answers { MatchResult answer (λ last. result ≡ Ok last)
+        (λ e. result ≡ Err (step_of e)) }
 {
     match answer {
         Ok(last) => Ok(last),

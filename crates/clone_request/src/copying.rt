@@ -1,8 +1,8 @@
-ghost use Rattle.std.specs.Prelude.{◌≡◌, ◌≤◌, ◌<◌, IfOk, OnOk, OnErr, Some, None, Err, is_some};
+ghost use Rattle.std.specs.Prelude.{◌≡◌, ◌<◌, IfOk, OnOk, Some, None, Err};
 ghost use Rattle.std.specs.declared.option.Option.{Option};
 ghost use Rattle.std.specs.List.{AllByRecursion};
-ghost use Rattle.clone_outside.specs.Causes.{HasCause};
 ghost use Rattle.clone_outside.specs.Disk.{ForTold, Steps};
+ghost use Rattle.clone_outside.specs.DiskCalls.{Alters, Works};
 ghost use Rattle.clone_model.specs.declared.line.TheConstants.{MOST_PAGES};
 ghost use Rattle.clone_chunk.specs.Stages.{stage_number};
 ghost use Rattle.clone_lay.specs.Sized.{AreSizes};
@@ -32,22 +32,22 @@ impl Requester {
         disk: &mut R,
         info: &StageInfo,
     ) -> Result<(), StepRefusal>
-        requires copying { (stop : Option plain.Donor) × IsCopying donor.old (R.told disk.old)
+        requires copying { (stop : Option plain.Donor) × IsCopying donor.old (R.state disk.old).told
             self.old.sizes (stage_number info.now.stage) info.now.checkpoint None stop }
         ensures copied { OnOk result ((stop : Option plain.Donor)
-            → IsCopying donor.old (R.told disk.old) self.old.sizes (stage_number info.now.stage)
+            → IsCopying donor.old (R.state disk.old).told self.old.sizes
+            (stage_number info.now.stage)
             info.now.checkpoint None stop
-            → IsAllCopied donor.new (R.told disk.new) self.new.sizes (stage_number info.now.stage)
+            → IsAllCopied donor.new (R.state disk.new).told self.new.sizes
+            (stage_number info.now.stage)
             info.now.checkpoint stop) }
-        ensures mark { KeepsMark (R.told disk.old) (R.told disk.new) }
+        ensures mark { KeepsMark (R.state disk.old).told (R.state disk.new).told }
         ensures stages { self.new.stages ≡ self.old.stages }
         ensures stop { donor.new.cloning.stop ≡ donor.old.cloning.stop }
         ensures lends { Lends donor.old donor.new }
-        ensures fault { HasRisen result donor.old donor.new (R.failures disk.old)
-            (R.failures disk.new) }
-        ensures later { R.failures disk.old ≤ R.failures disk.new }
-        ensures tells { is_some (R.told disk.new) ≡ is_some (R.told disk.old) }
-        ensures orders { R.orders disk.new ≡ R.orders disk.old }
+        ensures fault { HasRisen result donor.old donor.new (R.state disk.old).failures
+            (R.state disk.new).failures }
+        ensures works { Alters ⊥ (R.state disk.old) (R.state disk.new) }
     {
         let stage = info.stage.number();
         while let Some(chunk) = claim(donor, stage) {
@@ -65,24 +65,24 @@ impl Requester {
         info: &StageInfo,
         chunk: u32,
     ) -> Result<(), StepRefusal>
-        requires copying { (stop : Option plain.Donor) × IsCopying donor.old (R.told disk.old)
+        requires copying { (stop : Option plain.Donor) × IsCopying donor.old (R.state disk.old).told
             self.old.sizes (stage_number info.now.stage) info.now.checkpoint
             (Some (record { chunk = chunk; laid = 0 })) stop }
         ensures copied { OnOk result ((stop : Option plain.Donor)
-            → IsCopying donor.old (R.told disk.old) self.old.sizes (stage_number info.now.stage)
+            → IsCopying donor.old (R.state disk.old).told self.old.sizes
+            (stage_number info.now.stage)
             info.now.checkpoint (Some (record { chunk = chunk; laid = 0 })) stop
-            → IsCopying donor.new (R.told disk.new) self.new.sizes (stage_number info.now.stage)
+            → IsCopying donor.new (R.state disk.new).told self.new.sizes
+            (stage_number info.now.stage)
             info.now.checkpoint None stop) }
         ensures free { OnOk result (free_left donor.new ≡ free_left donor.old) }
-        ensures mark { KeepsMark (R.told disk.old) (R.told disk.new) }
+        ensures mark { KeepsMark (R.state disk.old).told (R.state disk.new).told }
         ensures stages { self.new.stages ≡ self.old.stages }
         ensures stop { donor.new.cloning.stop ≡ donor.old.cloning.stop }
         ensures lends { Lends donor.old donor.new }
-        ensures fault { HasRisen result donor.old donor.new (R.failures disk.old)
-            (R.failures disk.new) }
-        ensures later { R.failures disk.old ≤ R.failures disk.new }
-        ensures tells { is_some (R.told disk.new) ≡ is_some (R.told disk.old) }
-        ensures orders { R.orders disk.new ≡ R.orders disk.old }
+        ensures fault { HasRisen result donor.old donor.new (R.state disk.old).failures
+            (R.state disk.new).failures }
+        ensures works { Alters ⊥ (R.state disk.old) (R.state disk.new) }
     {
         let mut number = 0;
         loop {
@@ -103,24 +103,24 @@ impl Requester {
         chunk: u32,
         number: u8,
     ) -> Result<bool, StepRefusal>
-        requires copying { (stop : Option plain.Donor) × IsCopying donor.old (R.told disk.old)
+        requires copying { (stop : Option plain.Donor) × IsCopying donor.old (R.state disk.old).told
             self.old.sizes (stage_number info.now.stage) info.now.checkpoint
             (Some (record { chunk = chunk; laid = number })) stop }
         ensures copied { IfOk result (λ last. (stop : Option plain.Donor)
-            → IsCopying donor.old (R.told disk.old) self.old.sizes (stage_number info.now.stage)
+            → IsCopying donor.old (R.state disk.old).told self.old.sizes
+            (stage_number info.now.stage)
             info.now.checkpoint (Some (record { chunk = chunk; laid = number })) stop
-            → IsCopying donor.new (R.told disk.new) self.new.sizes (stage_number info.now.stage)
+            → IsCopying donor.new (R.state disk.new).told self.new.sizes
+            (stage_number info.now.stage)
             info.now.checkpoint (work_after chunk number last) stop) }
         ensures free { OnOk result (free_left donor.new ≡ free_left donor.old) }
-        ensures mark { KeepsMark (R.told disk.old) (R.told disk.new) }
+        ensures mark { KeepsMark (R.state disk.old).told (R.state disk.new).told }
         ensures stages { self.new.stages ≡ self.old.stages }
         ensures stop { donor.new.cloning.stop ≡ donor.old.cloning.stop }
         ensures lends { Lends donor.old donor.new }
-        ensures fault { HasRisen result donor.old donor.new (R.failures disk.old)
-            (R.failures disk.new) }
-        ensures later { R.failures disk.old ≤ R.failures disk.new }
-        ensures tells { is_some (R.told disk.new) ≡ is_some (R.told disk.old) }
-        ensures orders { R.orders disk.new ≡ R.orders disk.old }
+        ensures fault { HasRisen result donor.old donor.new (R.state disk.old).failures
+            (R.state disk.new).failures }
+        ensures works { Alters ⊥ (R.state disk.old) (R.state disk.new) }
     {
         let mut block = Block::Pages(Vec::new(alloc));
         let last = read(alloc, donor, info.stage.number(), chunk, number, &mut block)?;
@@ -136,15 +136,13 @@ fn lay<R: PageDisk>(
     checkpoint: u64,
     block: &Block,
 ) -> Result<(), Refusal>
-    requires sizes { ForTold (R.told disk.old) (AreSizes sizes.old) }
+    requires sizes { ForTold (R.state disk.old).told (AreSizes sizes.old) }
     requires fit { IsFit checkpoint block.now }
     ensures ok { OnOk result (AreLow block.now
-        → Steps (R.told disk.old) (R.told disk.new) (with_block checkpoint block.now)) }
-    ensures sizes { OnOk result (ForTold (R.told disk.new) (AreSizes sizes.new)) }
-    ensures mark { KeepsMark (R.told disk.old) (R.told disk.new) }
-    ensures cause { HasCause (R.failures disk.old) (R.failures disk.new) result }
-    ensures tells { is_some (R.told disk.new) ≡ is_some (R.told disk.old) }
-    ensures orders { R.orders disk.new ≡ R.orders disk.old }
+        → Steps (R.state disk.old).told (R.state disk.new).told (with_block checkpoint block.now)) }
+    ensures sizes { OnOk result (ForTold (R.state disk.new).told (AreSizes sizes.new)) }
+    ensures mark { KeepsMark (R.state disk.old).told (R.state disk.new).told }
+    ensures works { Works (R.state disk.old) (R.state disk.new) result }
 {
     match block {
         Block::Pages(pages) => lay_pages(disk, sizes, pages),
@@ -158,14 +156,12 @@ fn lay_pages<R: PageDisk>(
     sizes: &mut Counts,
     pages: &[BlockPage],
 ) -> Result<(), Refusal>
-    requires sizes { ForTold (R.told disk.old) (AreSizes sizes.old) }
+    requires sizes { ForTold (R.state disk.old).told (AreSizes sizes.old) }
     ensures ok { OnOk result (AllByRecursion (λ p. p.number < MOST_PAGES) pages.now
-        → Steps (R.told disk.old) (R.told disk.new) (with_laid (reads_of pages.now))) }
-    ensures sizes { OnOk result (ForTold (R.told disk.new) (AreSizes sizes.new)) }
-    ensures mark { KeepsMark (R.told disk.old) (R.told disk.new) }
-    ensures cause { HasCause (R.failures disk.old) (R.failures disk.new) result }
-    ensures tells { is_some (R.told disk.new) ≡ is_some (R.told disk.old) }
-    ensures orders { R.orders disk.new ≡ R.orders disk.old }
+        → Steps (R.state disk.old).told (R.state disk.new).told (with_laid (reads_of pages.now))) }
+    ensures sizes { OnOk result (ForTold (R.state disk.new).told (AreSizes sizes.new)) }
+    ensures mark { KeepsMark (R.state disk.old).told (R.state disk.new).told }
+    ensures works { Works (R.state disk.old) (R.state disk.new) result }
 {
     for page in pages {
         if page.number >= MOST_PAGES {

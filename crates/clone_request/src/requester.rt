@@ -1,7 +1,7 @@
-ghost use Rattle.std.specs.Prelude.{◌≡◌, ◌≤◌, ◌<◌, Option, None, IfOk, IsErrOf, OnErr, OnOk, length, is_some};
+ghost use Rattle.std.specs.Prelude.{◌≡◌, ◌≤◌, ◌<◌, Option, None, IfOk, OnErr, OnOk, length};
 ghost use Rattle.clone_base.specs.declared.limits.TheConstants.{LSN_LIMIT};
-ghost use Rattle.clone_outside.specs.Causes.{HasCause, Rose};
 ghost use Rattle.clone_outside.specs.Disk.{ForTold, IsBeforeOrAfter, Steps, blank};
+ghost use Rattle.clone_outside.specs.DiskCalls.{Alters, Works};
 ghost use Rattle.clone_outside.specs.Mark.{IsEnd};
 ghost use Rattle.clone_outside.specs.declared.mark.Mark.TheVariants.{InProgress};
 ghost use Rattle.clone_plain.specs.Donor as plain;
@@ -96,15 +96,14 @@ impl Model for Requester {
 impl Requester {
     /// Begins a clone on a blank disk, by the mark of a copy that is in progress. No donor is asked.
     pub fn start<R: PageDisk>(alloc: Global, disk: &mut R) -> Result<Requester, Refusal>
-        requires blank { ForTold (R.told disk.old) (λ m. m ≡ blank) }
+        requires blank { ForTold (R.state disk.old).told (λ m. m ≡ blank) }
         ensures stages { IfOk result (λ r. r.stages ≡ 0) }
         ensures under_way { IfOk result (λ r. (d : staged.Donor) → IsUnasked d
-            → IsUnderWay d r (R.told disk.new) None) }
-        ensures partial { OnErr result (IsBeforeOrAfter (R.told disk.old) (R.told disk.new)
+            → IsUnderWay d r (R.state disk.new).told None) }
+        ensures partial { OnErr result
+            (IsBeforeOrAfter (R.state disk.old).told (R.state disk.new).told
             (marked (InProgress SESSION))) }
-        ensures cause { HasCause (R.failures disk.old) (R.failures disk.new) result }
-        ensures tells { is_some (R.told disk.new) ≡ is_some (R.told disk.old) }
-        ensures orders { R.orders disk.new ≡ R.orders disk.old }
+        ensures works { Works (R.state disk.old) (R.state disk.new) result }
     {
         begin_copy(disk, SESSION)?;
         Ok(Requester {
@@ -134,17 +133,15 @@ impl Requester {
         floor: u64,
     ) -> Result<Advanced, StepRefusal>
         requires under_way { (stop : Option plain.Donor)
-            × IsUnderWay donor.old self.old (R.told disk.old) stop }
+            × IsUnderWay donor.old self.old (R.state disk.old).told stop }
         requires floor { floor ≤ length donor.old.engine.donor.binlog }
         ensures leaves { (stop : Option plain.Donor)
-            → IsUnderWay donor.old self.old (R.told disk.old) stop
-            → Leaves self.old donor.old stop result self.new donor.new (R.told disk.new) }
+            → IsUnderWay donor.old self.old (R.state disk.old).told stop
+            → Leaves self.old donor.old stop result self.new donor.new (R.state disk.new).told }
         ensures lends { Lends donor.old donor.new }
-        ensures fault { HasRisen result donor.old donor.new (R.failures disk.old)
-            (R.failures disk.new) }
-        ensures later { R.failures disk.old ≤ R.failures disk.new }
-        ensures tells { is_some (R.told disk.new) ≡ is_some (R.told disk.old) }
-        ensures orders { R.orders disk.new ≡ R.orders disk.old }
+        ensures fault { HasRisen result donor.old donor.new (R.state disk.old).failures
+            (R.state disk.new).failures }
+        ensures works { Alters ⊥ (R.state disk.old) (R.state disk.new) }
     {
         let info = self.ask(alloc, donor, floor)?;
         donor.laws();
@@ -160,15 +157,13 @@ impl Requester {
 
     // Makes room for the files of all spaces.
     fn make_rooms<R: PageDisk>(&mut self, disk: &mut R, spaces: &SpaceList) -> Result<(), Refusal>
-        requires sizes { ForTold (R.told disk.old) (AreSizes self.old.sizes) }
+        requires sizes { ForTold (R.state disk.old).told (AreSizes self.old.sizes) }
         ensures ok { OnOk result
-            (Steps (R.told disk.old) (R.told disk.new) (with_rooms spaces.now)) }
-        ensures sizes { OnOk result (ForTold (R.told disk.new) (AreSizes self.new.sizes)) }
+            (Steps (R.state disk.old).told (R.state disk.new).told (with_rooms spaces.now)) }
+        ensures sizes { OnOk result (ForTold (R.state disk.new).told (AreSizes self.new.sizes)) }
         ensures stages { self.new.stages ≡ self.old.stages }
-        ensures mark { KeepsMark (R.told disk.old) (R.told disk.new) }
-        ensures cause { HasCause (R.failures disk.old) (R.failures disk.new) result }
-        ensures tells { is_some (R.told disk.new) ≡ is_some (R.told disk.old) }
-        ensures orders { R.orders disk.new ≡ R.orders disk.old }
+        ensures mark { KeepsMark (R.state disk.old).told (R.state disk.new).told }
+        ensures works { Works (R.state disk.old) (R.state disk.new) result }
     {
         for (space, pages) in spaces.as_slice() {
             make_room(disk, &mut self.sizes, *space, *pages)?;
@@ -184,17 +179,17 @@ impl Requester {
         info: &StageInfo,
     ) -> Result<Advanced, StepRefusal>
         requires done { (stop : Option plain.Donor)
-            × IsDone donor.old (R.told disk.old) info.now stop }
+            × IsDone donor.old (R.state disk.old).told info.now stop }
         ensures completes { (stop : Option plain.Donor)
-            → IsDone donor.old (R.told disk.old) info.now stop → IsStopOf stop donor.old.cloning.stop
-            → Completes donor.old stop result donor.new (R.told disk.old) (R.told disk.new) }
+            → IsDone donor.old (R.state disk.old).told info.now stop → IsStopOf stop
+            donor.old.cloning.stop
+            → Completes donor.old stop result donor.new (R.state disk.old).told
+            (R.state disk.new).told }
         ensures stages { self.new.stages ≡ self.old.stages }
         ensures lends { Lends donor.old donor.new }
-        ensures fault { HasRisen result donor.old donor.new (R.failures disk.old)
-            (R.failures disk.new) }
-        ensures later { R.failures disk.old ≤ R.failures disk.new }
-        ensures tells { is_some (R.told disk.new) ≡ is_some (R.told disk.old) }
-        ensures orders { R.orders disk.new ≡ R.orders disk.old }
+        ensures fault { HasRisen result donor.old donor.new (R.state disk.old).failures
+            (R.state disk.new).failures }
+        ensures works { Alters ⊥ (R.state disk.old) (R.state disk.new) }
     {
         donor.laws();
         let end = end_at(info.checkpoint, info.lsn, info.position);

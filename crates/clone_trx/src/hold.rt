@@ -1,8 +1,8 @@
-ghost use Rattle.std.specs.Prelude.{ℕ, ◌≡◌, ◌<◌, ◌≤◌, ◌+◌, IfOk, IfErr, IsTrue, IsSome, None, Some, Err, ◌⊎◌, length, drop, if◌then◌else◌};
+ghost use Rattle.std.specs.Prelude.{ℕ, ◌≡◌, ◌<◌, ◌≤◌, ◌+◌, IfOk, IfErr, IsTrue, IsErrOf, IsSome, None, Some, ◌⊎◌, length, drop, if◌then◌else◌};
 ghost use Rattle.std.specs.declared.option.Option.{Option};
 ghost use Rattle.std.specs.List.{AllByRecursion};
-ghost use Rattle.clone_outside.specs.Causes.{Rose};
 ghost use Rattle.clone_outside.specs.Disk.{DiskImage, ForTold};
+ghost use Rattle.clone_outside.specs.DiskCalls.{Reads};
 ghost use Rattle.clone_mtr.specs.Spelling.{spelling, longest};
 ghost use Rattle.clone_image.specs.Image.{page_of, EditsPages};
 ghost use Rattle.clone_pool.specs.declared.frame.PageName.{PageName};
@@ -52,12 +52,10 @@ pub fn hold<D: PageDisk>(
     ensures before { IsTrue buffer.new.right → IsTrue buffer.old.right }
     ensures pins { (most : ℕ) → PinsAtMost most buffer.old.pool.frames
         → PinsAtMost (most + 1) buffer.new.pool.frames }
-    ensures fault { result ≡ Err (Because DiskFault)
-        → Rose (D.failures disk.old) (D.failures disk.new) }
-    ensures later { D.failures disk.old ≤ D.failures disk.new }
-    ensures told { D.told disk.new ≡ D.told disk.old }
-    ensures orders { D.orders disk.new ≡ D.orders disk.old }
-    ensures stands { StaysStanding buffer.old buffer.new (D.told disk.old) (D.told disk.new) }
+    ensures reads { Reads (IsErrOf result (Because DiskFault))
+        (D.state disk.old) (D.state disk.new) }
+    ensures stands { StaysStanding buffer.old buffer.new
+        (D.state disk.old).told (D.state disk.new).told }
 {
     buffer.laws();
     let fetched = buffer.fetch(disk, space, number);

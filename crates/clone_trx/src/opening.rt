@@ -1,7 +1,7 @@
-ghost use Rattle.std.specs.Prelude.{◌≡◌, ◌<◌, ◌≤◌, ◌∷◌, [], Err, IfOk, OnOk, IsTrue, is_some, length};
+ghost use Rattle.std.specs.Prelude.{◌≡◌, ◌<◌, ◌≤◌, ◌∷◌, [], IfOk, OnOk, IsErrOf, IsTrue, is_some, length};
 ghost use Rattle.std.specs.FinMap as finite;
-ghost use Rattle.clone_outside.specs.Causes.{Rose};
 ghost use Rattle.clone_outside.specs.Disk.{ForTold, Steps, with_created};
+ghost use Rattle.clone_outside.specs.DiskCalls.{Alters};
 ghost use Rattle.clone_mtr.specs.Spelling.{spelling};
 ghost use Rattle.clone_contents.specs.Records.{opening_records, system_size};
 ghost use Rattle.clone_image.specs.Replay.{first_lsn};
@@ -52,17 +52,15 @@ pub fn open<D: PageDisk>(
     ensures log { IfOk result (λ opened. opened.1.log ≡ opening_records ∷ []) }
     ensures right { IfOk result (λ opened. IsTrue opened.1.right) }
     ensures kept { IfOk result (λ opened. Keeps opened.0 opened.1) }
-    ensures fault { result ≡ Err OpenRefusal.DiskFault
-        → Rose (D.failures disk.old) (D.failures disk.new) }
-    ensures later { D.failures disk.old ≤ D.failures disk.new }
-    ensures orders { D.orders disk.new ≡ D.orders disk.old }
-    ensures tells { is_some (D.told disk.new) ≡ is_some (D.told disk.old) }
+    ensures works { Alters (IsErrOf result OpenRefusal.DiskFault)
+        (D.state disk.old) (D.state disk.new) }
     ensures made { OnOk result
-        (Steps (D.told disk.old) (D.told disk.new) (λ m. with_created m 0 system_size)) }
+        (Steps (D.state disk.old).told (D.state disk.new).told
+        (λ m. with_created m 0 system_size)) }
     ensures ring { IfOk result (λ opened. opened.1.ring.floor ≡ first_lsn) }
     ensures size { IfOk result (λ opened. opened.1.ring.size ≡ ring) }
-    ensures stands { ForTold (D.told disk.old) (λ m. m.spaces ≡ finite.empty)
-        → IfOk result (λ opened. Stands opened.1 at_rest (D.told disk.new)) }
+    ensures stands { ForTold (D.state disk.old).told (λ m. m.spaces ≡ finite.empty)
+        → IfOk result (λ opened. Stands opened.1 at_rest (D.state disk.new).told) }
 {
     let mut buffer = Buffer::new(alloc, frames, ring)?;
     let transactions = Transactions::new(alloc)?;

@@ -1,9 +1,9 @@
 //! Walks along the chain of a bucket. Whatever the pages tell, a walk ends, and behind it one page
 //! at most stays pinned.
-ghost use Rattle.std.specs.Prelude.{ℕ, ◌≡◌, ◌<◌, ◌≤◌, Err, IfErr, IfOk, IfSome, IsTrue};
+ghost use Rattle.std.specs.Prelude.{ℕ, ◌≡◌, ◌<◌, ◌≤◌, Err, IfErr, IfOk, IfSome, IsErrOf, IsTrue};
 ghost use Rattle.std.specs.declared.option.Option.{Option};
-ghost use Rattle.clone_outside.specs.Causes.{Rose};
 ghost use Rattle.clone_outside.specs.Disk.{DiskImage};
+ghost use Rattle.clone_outside.specs.DiskCalls.{Reads};
 ghost use Rattle.clone_contents.specs.Contents.{contents_of};
 ghost use Rattle.clone_pool.specs.declared.frame.PageName.{PageName};
 ghost use Rattle.clone_pool.specs.Frames.{frame_at};
@@ -65,12 +65,10 @@ pub fn walk<D: PageDisk>(
     ensures walked { WalksAll course buffer.old buffer.new result }
     ensures has { IfOk result
         (λ spot. Has (chain_page course spot.page) spot.at buffer.new.pool.frames) }
-    ensures fault { result ≡ Err (Because DiskFault)
-        → Rose (D.failures disk.old) (D.failures disk.new) }
-    ensures later { D.failures disk.old ≤ D.failures disk.new }
-    ensures told { D.told disk.new ≡ D.told disk.old }
-    ensures orders { D.orders disk.new ≡ D.orders disk.old }
-    ensures stands { StaysStanding buffer.old buffer.new (D.told disk.old) (D.told disk.new) }
+    ensures reads { Reads (IsErrOf result (Because DiskFault))
+        (D.state disk.old) (D.state disk.new) }
+    ensures stands { StaysStanding buffer.old buffer.new
+        (D.state disk.old).told (D.state disk.new).told }
 {
     let mut page = course.first;
     let mut kept = None;
@@ -101,12 +99,10 @@ fn visit<D: PageDisk>(
     ensures next { IfOk result (λ step. Follows course left page kept buffer.old buffer.new step) }
     ensures missed { IfErr result
         (λ refusal. Walks course left page kept buffer.old buffer.new (Err refusal)) }
-    ensures fault { result ≡ Err (Because DiskFault)
-        → Rose (D.failures disk.old) (D.failures disk.new) }
-    ensures later { D.failures disk.old ≤ D.failures disk.new }
-    ensures told { D.told disk.new ≡ D.told disk.old }
-    ensures orders { D.orders disk.new ≡ D.orders disk.old }
-    ensures stands { StaysStanding buffer.old buffer.new (D.told disk.old) (D.told disk.new) }
+    ensures reads { Reads (IsErrOf result (Because DiskFault))
+        (D.state disk.old) (D.state disk.new) }
+    ensures stands { StaysStanding buffer.old buffer.new
+        (D.state disk.old).told (D.state disk.new).told }
 {
     match hold(buffer, disk, course.table, page) {
         Ok(at) => Ok(look(buffer, course, left, page, at, kept)),

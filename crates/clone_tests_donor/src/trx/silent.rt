@@ -42,16 +42,11 @@ impl SilentDisk {
 }
 
 impl PageDisk for SilentDisk {
-    ghost use Rattle.std.specs.Prelude.{List, ℕ, None, []};
-    ghost use Rattle.std.specs.declared.option.Option.{Option};
-    ghost use Rattle.clone_outside.specs.declared.disk.DiskOrder.{DiskOrder};
-    ghost use Rattle.clone_outside.specs.Disk.{DiskImage};
+    ghost use Rattle.std.specs.Prelude.{None, []};
 
-    ghost told = { λ _. None };
+    ghost state = { λ d. record { told = None; stops = None; failures = d.faults; orders = [] } };
 
-    ghost failures = { λ d. d.faults };
-
-    ghost orders = { λ _. [] };
+    ghost held = { λ _. tt };
 
     fn faults(&self) -> u64 {
         self.faults

@@ -1,9 +1,9 @@
-ghost use Rattle.std.specs.Prelude.{Err, IsSome, IsTrue, MatchResult, None, Some, length, true, ◌==◌, ◌≡◌, ◌≤◌};
+ghost use Rattle.std.specs.Prelude.{IsErrOf, IsSome, IsTrue, MatchResult, None, Some, length, true, ◌==◌, ◌≡◌, ◌≤◌};
 ghost use Rattle.std.specs.declared.option.Option.{Option};
 ghost use Rattle.std.specs.FinMap as finite;
 ghost use Rattle.std.specs.List.{AllByRecursion};
-ghost use Rattle.clone_outside.specs.Causes.{Rose};
 ghost use Rattle.clone_outside.specs.Disk.{DiskImage};
+ghost use Rattle.clone_outside.specs.DiskCalls.{Reads};
 ghost use Rattle.clone_mtr.specs.Spelling.{longest, spelling};
 ghost use Rattle.clone_undo.specs.Places.{header_page, record_page};
 ghost use Rattle.clone_undo.specs.Changes.{records_of_change};
@@ -69,12 +69,10 @@ impl Transactions {
             (λ _. Changes self.old trx (put_of table key value.now) self.new) }
         ensures kept { Keeps self.new buffer.new }
         ensures between { KeptBetween self.old buffer.old buffer.new }
-        ensures fault { result ≡ Err (Because DiskFault)
-            → Rose (D.failures disk.old) (D.failures disk.new) }
-        ensures later { D.failures disk.old ≤ D.failures disk.new }
-        ensures told { D.told disk.new ≡ D.told disk.old }
-        ensures orders { D.orders disk.new ≡ D.orders disk.old }
-        ensures stands { StaysStanding buffer.old buffer.new (D.told disk.old) (D.told disk.new) }
+        ensures reads { Reads (IsErrOf result (Because DiskFault))
+            (D.state disk.old) (D.state disk.new) }
+        ensures stands { StaysStanding buffer.old buffer.new
+            (D.state disk.old).told (D.state disk.new).told }
     {
         let bucket = self.check_change(trx, table, key, value.len())?;
         let Some(value) = Value::new(value) else {
@@ -105,12 +103,10 @@ impl Transactions {
             (λ _. Changes self.old trx (delete_of table key) self.new) }
         ensures kept { Keeps self.new buffer.new }
         ensures between { KeptBetween self.old buffer.old buffer.new }
-        ensures fault { result ≡ Err (Because DiskFault)
-            → Rose (D.failures disk.old) (D.failures disk.new) }
-        ensures later { D.failures disk.old ≤ D.failures disk.new }
-        ensures told { D.told disk.new ≡ D.told disk.old }
-        ensures orders { D.orders disk.new ≡ D.orders disk.old }
-        ensures stands { StaysStanding buffer.old buffer.new (D.told disk.old) (D.told disk.new) }
+        ensures reads { Reads (IsErrOf result (Because DiskFault))
+            (D.state disk.old) (D.state disk.new) }
+        ensures stands { StaysStanding buffer.old buffer.new
+            (D.state disk.old).told (D.state disk.new).told }
     {
         let bucket = self.check_change(trx, table, key, 0)?;
         let change = Change {
@@ -162,12 +158,10 @@ impl Transactions {
             (λ _. Changes self.old trx change self.new) }
         ensures kept { Keeps self.new buffer.new }
         ensures between { KeptBetween self.old buffer.old buffer.new }
-        ensures fault { result ≡ Err (Because DiskFault)
-            → Rose (D.failures disk.old) (D.failures disk.new) }
-        ensures later { D.failures disk.old ≤ D.failures disk.new }
-        ensures told { D.told disk.new ≡ D.told disk.old }
-        ensures orders { D.orders disk.new ≡ D.orders disk.old }
-        ensures stands { StaysStanding buffer.old buffer.new (D.told disk.old) (D.told disk.new) }
+        ensures reads { Reads (IsErrOf result (Because DiskFault))
+            (D.state disk.old) (D.state disk.new) }
+        ensures stands { StaysStanding buffer.old buffer.new
+            (D.state disk.old).told (D.state disk.new).told }
     {
         self.laws();
         let course = Course {
@@ -201,12 +195,10 @@ impl Transactions {
         ensures donor { Carries self.old self.new result
             (λ _. Changes self.old trx change self.new) }
         ensures kept { IsTrue buffer.new.right → IsKept self.new (image_of buffer.new) }
-        ensures fault { result ≡ Err (Because DiskFault)
-            → Rose (D.failures disk.old) (D.failures disk.new) }
-        ensures later { D.failures disk.old ≤ D.failures disk.new }
-        ensures told { D.told disk.new ≡ D.told disk.old }
-        ensures orders { D.orders disk.new ≡ D.orders disk.old }
-        ensures stands { StaysStanding buffer.old buffer.new (D.told disk.old) (D.told disk.new) }
+        ensures reads { Reads (IsErrOf result (Because DiskFault))
+            (D.state disk.old) (D.state disk.new) }
+        ensures stands { StaysStanding buffer.old buffer.new
+            (D.state disk.old).told (D.state disk.new).told }
     {
         self.laws();
         buffer.laws();
@@ -256,12 +248,10 @@ impl Transactions {
         ensures donor { Carries self.old self.new result
             (λ _. Changes self.old trx change self.new) }
         ensures kept { IsTrue buffer.new.right → IsKept self.new (image_of buffer.new) }
-        ensures fault { result ≡ Err (Because DiskFault)
-            → Rose (D.failures disk.old) (D.failures disk.new) }
-        ensures later { D.failures disk.old ≤ D.failures disk.new }
-        ensures told { D.told disk.new ≡ D.told disk.old }
-        ensures orders { D.orders disk.new ≡ D.orders disk.old }
-        ensures stands { StaysStanding buffer.old buffer.new (D.told disk.old) (D.told disk.new) }
+        ensures reads { Reads (IsErrOf result (Because DiskFault))
+            (D.state disk.old) (D.state disk.new) }
+        ensures stands { StaysStanding buffer.old buffer.new
+            (D.state disk.old).told (D.state disk.new).told }
     {
         self.laws();
         let header = hold(buffer, disk, 0, header_page(trx))?;
@@ -292,12 +282,10 @@ impl Transactions {
         ensures donor { Carries self.old self.new result
             (λ _. Changes self.old trx change self.new) }
         ensures kept { IsTrue buffer.new.right → IsKept self.new (image_of buffer.new) }
-        ensures fault { result ≡ Err (Because DiskFault)
-            → Rose (D.failures disk.old) (D.failures disk.new) }
-        ensures later { D.failures disk.old ≤ D.failures disk.new }
-        ensures told { D.told disk.new ≡ D.told disk.old }
-        ensures orders { D.orders disk.new ≡ D.orders disk.old }
-        ensures stands { StaysStanding buffer.old buffer.new (D.told disk.old) (D.told disk.new) }
+        ensures reads { Reads (IsErrOf result (Because DiskFault))
+            (D.state disk.old) (D.state disk.new) }
+        ensures stands { StaysStanding buffer.old buffer.new
+            (D.state disk.old).told (D.state disk.new).told }
     {
         self.laws();
         let at = hold(buffer, disk, 0, record_page(trx, target.count as usize))?;

@@ -1,6 +1,8 @@
-ghost use Rattle.std.specs.Prelude.{Err, IsTrue, None, OnErr, OnOk, ◌≡◌, ◌≤◌};
-ghost use Rattle.clone_outside.specs.Causes.{Rose};
+ghost use Rattle.std.specs.Prelude.{Err, IsErrOf, IsTrue, None, OnErr, OnOk, ◌≡◌, ◌≤◌};
 ghost use Rattle.clone_outside.specs.Disk.{IsBeforeOrAfter, Steps, with_created};
+ghost use Rattle.clone_outside.specs.DiskCalls.{Counts};
+ghost use Rattle.clone_outside.specs.Stops.{Notes};
+ghost use Rattle.clone_outside.specs.Stops as change;
 ghost use Rattle.clone_model.specs.declared.line.TheConstants.{HIGHEST_TABLE, MOST_BUCKETS};
 ghost use Rattle.clone_space.specs.Records.{records_of_create};
 ghost use Rattle.clone_buffer.specs.Buffered.{image_of};
@@ -39,19 +41,19 @@ impl Transactions {
             self.old self.new buffer.old buffer.new result
             (λ _. self.new ≡ created table buckets self.old) }
         ensures kept { Keeps self.new buffer.new }
-        ensures fault { result ≡ Err (Because DiskFault)
-            → Rose (D.failures disk.old) (D.failures disk.new) }
-        ensures later { D.failures disk.old ≤ D.failures disk.new }
-        ensures orders { D.orders disk.new ≡ D.orders disk.old }
-        ensures made { OnOk result (Steps (D.told disk.old) (D.told disk.new)
+        ensures counts { Counts (IsErrOf result (Because DiskFault))
+            (D.state disk.old) (D.state disk.new) }
+        ensures stops { Notes (D.state disk.old).stops (D.state disk.new).stops
+            (change.Create table buckets) }
+        ensures made { OnOk result (Steps (D.state disk.old).told (D.state disk.new).told
             (λ m. with_created m table buckets)) }
         ensures left { result ≡ Err (Because DiskFault)
-            → IsBeforeOrAfter (D.told disk.old) (D.told disk.new)
+            → IsBeforeOrAfter (D.state disk.old).told (D.state disk.new).told
             (λ m. with_created m table buckets) }
         ensures same { (result ≡ Err (Because DiskFault) → ⊥)
-            → OnErr result (D.told disk.new ≡ D.told disk.old) }
+            → OnErr result ((D.state disk.new).told ≡ (D.state disk.old).told) }
         ensures stands { StaysOutsideFiles table buffer.old buffer.new
-            (D.told disk.old) (D.told disk.new) }
+            (D.state disk.old).told (D.state disk.new).told }
     {
         let (table, buckets) = (table.get(), buckets.get());
         if self.tables.get(table).is_some() {
@@ -88,19 +90,19 @@ impl Transactions {
         ensures donor { Carries self.old self.new result
             (λ _. self.new ≡ created table buckets self.old) }
         ensures kept { IsTrue buffer.new.right → IsKept self.new (image_of buffer.new) }
-        ensures fault { result ≡ Err (Because DiskFault)
-            → Rose (D.failures disk.old) (D.failures disk.new) }
-        ensures later { D.failures disk.old ≤ D.failures disk.new }
-        ensures orders { D.orders disk.new ≡ D.orders disk.old }
-        ensures made { OnOk result (Steps (D.told disk.old) (D.told disk.new)
+        ensures counts { Counts (IsErrOf result (Because DiskFault))
+            (D.state disk.old) (D.state disk.new) }
+        ensures stops { Notes (D.state disk.old).stops (D.state disk.new).stops
+            (change.Create table buckets) }
+        ensures made { OnOk result (Steps (D.state disk.old).told (D.state disk.new).told
             (λ m. with_created m table buckets)) }
         ensures left { result ≡ Err (Because DiskFault)
-            → IsBeforeOrAfter (D.told disk.old) (D.told disk.new)
+            → IsBeforeOrAfter (D.state disk.old).told (D.state disk.new).told
             (λ m. with_created m table buckets) }
         ensures same { (result ≡ Err (Because DiskFault) → ⊥)
-            → OnErr result (D.told disk.new ≡ D.told disk.old) }
+            → OnErr result ((D.state disk.new).told ≡ (D.state disk.old).told) }
         ensures stands { StaysOutsideFiles table buffer.old buffer.new
-            (D.told disk.old) (D.told disk.new) }
+            (D.state disk.old).told (D.state disk.new).told }
     {
         buffer.laws();
         let entry_number = least_free(buffer.frame(at)).unwrap_or(0);

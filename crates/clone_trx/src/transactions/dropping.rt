@@ -1,6 +1,8 @@
-ghost use Rattle.std.specs.Prelude.{Err, IsTrue, None, OnErr, OnOk, ◌<◌, ◌≡◌, ◌≤◌};
-ghost use Rattle.clone_outside.specs.Causes.{Rose};
+ghost use Rattle.std.specs.Prelude.{Err, IsErrOf, IsTrue, None, OnErr, OnOk, ◌<◌, ◌≡◌};
 ghost use Rattle.clone_outside.specs.Disk.{IsBeforeOrAfter, Steps, with_removed};
+ghost use Rattle.clone_outside.specs.DiskCalls.{Counts};
+ghost use Rattle.clone_outside.specs.Stops.{Notes};
+ghost use Rattle.clone_outside.specs.Stops as change;
 ghost use Rattle.clone_page.specs.Dictionary.{entry_count};
 ghost use Rattle.clone_contents.specs.Contents.{contents_of};
 ghost use Rattle.clone_buffer.specs.Buffered.{image_of};
@@ -39,19 +41,20 @@ impl Transactions {
         ensures way { Goes (drop_way table) buffer.old buffer.new result }
         ensures donor { CarriesDrop table self.old self.new buffer.old buffer.new result }
         ensures kept { Keeps self.new buffer.new }
-        ensures fault { result ≡ Err (Because DiskFault)
-            → Rose (D.failures disk.old) (D.failures disk.new) }
-        ensures later { D.failures disk.old ≤ D.failures disk.new }
-        ensures orders { D.orders disk.new ≡ D.orders disk.old }
+        ensures counts { Counts (IsErrOf result (Because DiskFault))
+            (D.state disk.old) (D.state disk.new) }
+        ensures stops { Notes (D.state disk.old).stops (D.state disk.new).stops
+            (change.Remove table) }
         ensures gone { OnOk result
-            (Steps (D.told disk.old) (D.told disk.new) (λ m. with_removed m table)) }
-        ensures removed { IsBeforeOrAfter (D.told disk.old) (D.told disk.new)
+            (Steps (D.state disk.old).told (D.state disk.new).told (λ m. with_removed m table)) }
+        ensures removed { IsBeforeOrAfter (D.state disk.old).told (D.state disk.new).told
             (λ m. with_removed m table) }
-        ensures same { buffer.new.log ≡ buffer.old.log → D.told disk.new ≡ D.told disk.old }
+        ensures same { buffer.new.log ≡ buffer.old.log
+            → (D.state disk.new).told ≡ (D.state disk.old).told }
         ensures stays { buffer.new.log ≡ buffer.old.log → StaysStanding buffer.old buffer.new
-            (D.told disk.old) (D.told disk.new) }
+            (D.state disk.old).told (D.state disk.new).told }
         ensures stands { StaysOutside table buffer.old buffer.new
-            (D.told disk.old) (D.told disk.new) }
+            (D.state disk.old).told (D.state disk.new).told }
     {
         self.laws();
         let at = hold(buffer, disk, 0, 0)?;
@@ -84,19 +87,20 @@ impl Transactions {
         ensures way { Goes (drop_at table entry_number pages) buffer.old buffer.new result }
         ensures donor { CarriesDrop table self.old self.new buffer.old buffer.new result }
         ensures kept { IsTrue buffer.new.right → IsKept self.new (image_of buffer.new) }
-        ensures fault { result ≡ Err (Because DiskFault)
-            → Rose (D.failures disk.old) (D.failures disk.new) }
-        ensures later { D.failures disk.old ≤ D.failures disk.new }
-        ensures orders { D.orders disk.new ≡ D.orders disk.old }
+        ensures counts { Counts (IsErrOf result (Because DiskFault))
+            (D.state disk.old) (D.state disk.new) }
+        ensures stops { Notes (D.state disk.old).stops (D.state disk.new).stops
+            (change.Remove table) }
         ensures gone { OnOk result
-            (Steps (D.told disk.old) (D.told disk.new) (λ m. with_removed m table)) }
-        ensures removed { IsBeforeOrAfter (D.told disk.old) (D.told disk.new)
+            (Steps (D.state disk.old).told (D.state disk.new).told (λ m. with_removed m table)) }
+        ensures removed { IsBeforeOrAfter (D.state disk.old).told (D.state disk.new).told
             (λ m. with_removed m table) }
-        ensures same { buffer.new.log ≡ buffer.old.log → D.told disk.new ≡ D.told disk.old }
+        ensures same { buffer.new.log ≡ buffer.old.log
+            → (D.state disk.new).told ≡ (D.state disk.old).told }
         ensures stays { buffer.new.log ≡ buffer.old.log → StaysStanding buffer.old buffer.new
-            (D.told disk.old) (D.told disk.new) }
+            (D.state disk.old).told (D.state disk.new).told }
         ensures stands { StaysOutside table buffer.old buffer.new
-            (D.told disk.old) (D.told disk.new) }
+            (D.state disk.old).told (D.state disk.new).told }
     {
         let records = drop_records(entry_number, table);
         check_room(buffer, &records)?;
@@ -112,13 +116,13 @@ impl Transactions {
 // The disk removes the file of a table that was dropped.
 fn remove_file<D: PageDisk>(disk: &mut D, table: u32) -> Result<(), EngineRefusal>
     ensures refused { OnErr result (result ≡ Err (Because DiskFault)) }
-    ensures fault { result ≡ Err (Because DiskFault)
-        → Rose (D.failures disk.old) (D.failures disk.new) }
-    ensures later { D.failures disk.old ≤ D.failures disk.new }
-    ensures orders { D.orders disk.new ≡ D.orders disk.old }
+    ensures counts { Counts (IsErrOf result (Because DiskFault))
+        (D.state disk.old) (D.state disk.new) }
+    ensures stops { Notes (D.state disk.old).stops (D.state disk.new).stops
+        (change.Remove table) }
     ensures gone { OnOk result
-        (Steps (D.told disk.old) (D.told disk.new) (λ m. with_removed m table)) }
-    ensures removed { IsBeforeOrAfter (D.told disk.old) (D.told disk.new)
+        (Steps (D.state disk.old).told (D.state disk.new).told (λ m. with_removed m table)) }
+    ensures removed { IsBeforeOrAfter (D.state disk.old).told (D.state disk.new).told
         (λ m. with_removed m table) }
 {
     match disk.remove(table) {

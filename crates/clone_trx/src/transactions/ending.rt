@@ -1,7 +1,7 @@
-ghost use Rattle.std.specs.Prelude.{Err, IsTrue, None, length, ◌+◌, ◌≡◌, ◌≢◌, ◌≤◌};
+ghost use Rattle.std.specs.Prelude.{Err, IsErrOf, IsTrue, None, length, ◌+◌, ◌≡◌, ◌≢◌};
 ghost use Rattle.std.specs.declared.option.Option.{Option};
-ghost use Rattle.clone_outside.specs.Causes.{Rose};
 ghost use Rattle.clone_outside.specs.Disk.{DiskImage};
+ghost use Rattle.clone_outside.specs.DiskCalls.{Reads};
 ghost use Rattle.clone_undo.specs.Places.{header_page};
 ghost use Rattle.clone_contents.specs.Records.{commit_records};
 ghost use Rattle.clone_buffer.specs.Buffered.{image_of};
@@ -38,12 +38,10 @@ impl Transactions {
             (λ position. Commits self.old trx position self.new) }
         ensures memory { result ≢ Err NoMemory }
         ensures kept { Keeps self.new buffer.new }
-        ensures fault { result ≡ Err (Because DiskFault)
-            → Rose (D.failures disk.old) (D.failures disk.new) }
-        ensures later { D.failures disk.old ≤ D.failures disk.new }
-        ensures told { D.told disk.new ≡ D.told disk.old }
-        ensures orders { D.orders disk.new ≡ D.orders disk.old }
-        ensures stands { StaysStanding buffer.old buffer.new (D.told disk.old) (D.told disk.new) }
+        ensures reads { Reads (IsErrOf result (Because DiskFault))
+            (D.state disk.old) (D.state disk.new) }
+        ensures stands { StaysStanding buffer.old buffer.new
+            (D.state disk.old).told (D.state disk.new).told }
     {
         if self.active.get(trx).is_none() {
             return Err(Cause::NoSuchTrx.into());
@@ -72,12 +70,10 @@ impl Transactions {
             (λ position. Commits self.old trx position self.new) }
         ensures memory { result ≢ Err NoMemory }
         ensures kept { IsTrue buffer.new.right → IsKept self.new (image_of buffer.new) }
-        ensures fault { result ≡ Err (Because DiskFault)
-            → Rose (D.failures disk.old) (D.failures disk.new) }
-        ensures later { D.failures disk.old ≤ D.failures disk.new }
-        ensures told { D.told disk.new ≡ D.told disk.old }
-        ensures orders { D.orders disk.new ≡ D.orders disk.old }
-        ensures stands { StaysStanding buffer.old buffer.new (D.told disk.old) (D.told disk.new) }
+        ensures reads { Reads (IsErrOf result (Because DiskFault))
+            (D.state disk.old) (D.state disk.new) }
+        ensures stands { StaysStanding buffer.old buffer.new
+            (D.state disk.old).told (D.state disk.new).told }
     {
         let system = hold(buffer, disk, 0, 0)?;
         let committed = self.commit_held(buffer, trx);

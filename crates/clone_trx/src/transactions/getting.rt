@@ -1,5 +1,5 @@
-ghost use Rattle.std.specs.Prelude.{Err, IsTrue, ◌≡◌, ◌≢◌, ◌≤◌};
-ghost use Rattle.clone_outside.specs.Causes.{Rose};
+ghost use Rattle.std.specs.Prelude.{Err, IsErrOf, IsTrue, ◌≡◌, ◌≢◌};
+ghost use Rattle.clone_outside.specs.DiskCalls.{Reads};
 ghost use Rattle.clone_plain.specs.Causes.{get_cause};
 ghost use Rattle.clone_plain.specs.Effects.{Gets};
 ghost use Rattle.clone_plain.specs.declared.refusal.Cause.TheVariants.{DiskFault};
@@ -35,12 +35,10 @@ impl Transactions {
             (λ value. IsTrue buffer.new.right → Gets self.now trx table key value) }
         ensures memory { result ≢ Err NoMemory }
         ensures kept { Keeps self.now buffer.new }
-        ensures fault { result ≡ Err (Because DiskFault)
-            → Rose (D.failures disk.old) (D.failures disk.new) }
-        ensures later { D.failures disk.old ≤ D.failures disk.new }
-        ensures told { D.told disk.new ≡ D.told disk.old }
-        ensures orders { D.orders disk.new ≡ D.orders disk.old }
-        ensures stands { StaysStanding buffer.old buffer.new (D.told disk.old) (D.told disk.new) }
+        ensures reads { Reads (IsErrOf result (Because DiskFault))
+            (D.state disk.old) (D.state disk.new) }
+        ensures stands { StaysStanding buffer.old buffer.new
+            (D.state disk.old).told (D.state disk.new).told }
     {
         if self.active.get(trx).is_none() {
             return Err(Cause::NoSuchTrx.into());

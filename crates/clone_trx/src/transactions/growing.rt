@@ -1,5 +1,5 @@
-ghost use Rattle.std.specs.Prelude.{Err, IsTrue, ◌<◌, ◌≡◌, ◌≤◌};
-ghost use Rattle.clone_outside.specs.Causes.{Rose};
+ghost use Rattle.std.specs.Prelude.{IsErrOf, IsTrue, ◌<◌, ◌≡◌};
+ghost use Rattle.clone_outside.specs.DiskCalls.{Reads};
 ghost use Rattle.clone_page.specs.Dictionary.{entry_count};
 ghost use Rattle.clone_contents.specs.Contents.{contents_of};
 ghost use Rattle.clone_buffer.specs.Buffered.{image_of};
@@ -51,12 +51,10 @@ impl Transactions {
         ensures donor { Carries self.old self.new result
             (λ _. Changes self.old trx change self.new) }
         ensures kept { IsTrue buffer.new.right → IsKept self.new (image_of buffer.new) }
-        ensures fault { result ≡ Err (Because DiskFault)
-            → Rose (D.failures disk.old) (D.failures disk.new) }
-        ensures later { D.failures disk.old ≤ D.failures disk.new }
-        ensures told { D.told disk.new ≡ D.told disk.old }
-        ensures orders { D.orders disk.new ≡ D.orders disk.old }
-        ensures stands { StaysStanding buffer.old buffer.new (D.told disk.old) (D.told disk.new) }
+        ensures reads { Reads (IsErrOf result (Because DiskFault))
+            (D.state disk.old) (D.state disk.new) }
+        ensures stands { StaysStanding buffer.old buffer.new
+            (D.state disk.old).told (D.state disk.new).told }
     {
         self.laws();
         let at = hold(buffer, disk, 0, 0)?;
@@ -98,12 +96,10 @@ impl Transactions {
         ensures donor { Carries self.old self.new result
             (λ _. Changes self.old trx change self.new) }
         ensures kept { IsTrue buffer.new.right → IsKept self.new (image_of buffer.new) }
-        ensures fault { result ≡ Err (Because DiskFault)
-            → Rose (D.failures disk.old) (D.failures disk.new) }
-        ensures later { D.failures disk.old ≤ D.failures disk.new }
-        ensures told { D.told disk.new ≡ D.told disk.old }
-        ensures orders { D.orders disk.new ≡ D.orders disk.old }
-        ensures stands { StaysStanding buffer.old buffer.new (D.told disk.old) (D.told disk.new) }
+        ensures reads { Reads (IsErrOf result (Because DiskFault))
+            (D.state disk.old) (D.state disk.new) }
+        ensures stands { StaysStanding buffer.old buffer.new
+            (D.state disk.old).told (D.state disk.new).told }
     {
         let at = hold_new(buffer, change.table, growth.entry.pages)?;
         let changed = self.change_grown(buffer, trx, change, growth, disk);
@@ -138,12 +134,10 @@ impl Transactions {
         ensures donor { Carries self.old self.new result
             (λ _. Changes self.old trx change self.new) }
         ensures kept { IsTrue buffer.new.right → IsKept self.new (image_of buffer.new) }
-        ensures fault { result ≡ Err (Because DiskFault)
-            → Rose (D.failures disk.old) (D.failures disk.new) }
-        ensures later { D.failures disk.old ≤ D.failures disk.new }
-        ensures told { D.told disk.new ≡ D.told disk.old }
-        ensures orders { D.orders disk.new ≡ D.orders disk.old }
-        ensures stands { StaysStanding buffer.old buffer.new (D.told disk.old) (D.told disk.new) }
+        ensures reads { Reads (IsErrOf result (Because DiskFault))
+            (D.state disk.old) (D.state disk.new) }
+        ensures stands { StaysStanding buffer.old buffer.new
+            (D.state disk.old).told (D.state disk.new).told }
     {
         self.laws();
         if growth.entry.is_full() {

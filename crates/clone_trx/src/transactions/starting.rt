@@ -1,7 +1,7 @@
-ghost use Rattle.std.specs.Prelude.{Err, IsTrue, Some, ◌≡◌, ◌≤◌};
+ghost use Rattle.std.specs.Prelude.{IsErrOf, IsTrue, Some, ◌≡◌};
 ghost use Rattle.std.specs.declared.option.Option.{Option};
-ghost use Rattle.clone_outside.specs.Causes.{Rose};
 ghost use Rattle.clone_outside.specs.Disk.{DiskImage};
+ghost use Rattle.clone_outside.specs.DiskCalls.{Reads};
 ghost use Rattle.clone_undo.specs.Places.{header_page};
 ghost use Rattle.clone_undo.specs.Changes.{records_of_begin};
 ghost use Rattle.clone_buffer.specs.Buffered.{image_of};
@@ -40,12 +40,10 @@ impl Transactions {
             self.old self.new buffer.old buffer.new result
             (λ trx. Begins self.old writer index trx self.new) }
         ensures kept { Keeps self.new buffer.new }
-        ensures fault { result ≡ Err (Because DiskFault)
-            → Rose (D.failures disk.old) (D.failures disk.new) }
-        ensures later { D.failures disk.old ≤ D.failures disk.new }
-        ensures told { D.told disk.new ≡ D.told disk.old }
-        ensures orders { D.orders disk.new ≡ D.orders disk.old }
-        ensures stands { StaysStanding buffer.old buffer.new (D.told disk.old) (D.told disk.new) }
+        ensures reads { Reads (IsErrOf result (Because DiskFault))
+            (D.state disk.old) (D.state disk.new) }
+        ensures stands { StaysStanding buffer.old buffer.new
+            (D.state disk.old).told (D.state disk.new).told }
     {
         let Some(trx) = self.active.least_free() else {
             return Err(Cause::TooManyTransactions.into());

@@ -1,7 +1,7 @@
-ghost use Rattle.std.specs.Prelude.{Err, IsSome, IsTrue, None, ◌-◌, ◌<◌, ◌≡◌, ◌≢◌, ◌≤◌};
+ghost use Rattle.std.specs.Prelude.{Err, IsErrOf, IsSome, IsTrue, None, ◌-◌, ◌<◌, ◌≡◌, ◌≢◌, ◌≤◌};
 ghost use Rattle.std.specs.declared.option.Option.{Option};
-ghost use Rattle.clone_outside.specs.Causes.{Rose};
 ghost use Rattle.clone_outside.specs.Disk.{DiskImage};
+ghost use Rattle.clone_outside.specs.DiskCalls.{Reads};
 ghost use Rattle.clone_undo.specs.Places.{capacity, header_page, record_page};
 ghost use Rattle.clone_undo.specs.Slots.{entry_on};
 ghost use Rattle.clone_undo.specs.Changes.{records_of_end, records_of_taking_back};
@@ -44,12 +44,10 @@ impl Transactions {
             (λ undone. Undoes self.old trx undone self.new) }
         ensures memory { result ≢ Err NoMemory }
         ensures kept { Keeps self.new buffer.new }
-        ensures fault { result ≡ Err (Because DiskFault)
-            → Rose (D.failures disk.old) (D.failures disk.new) }
-        ensures later { D.failures disk.old ≤ D.failures disk.new }
-        ensures told { D.told disk.new ≡ D.told disk.old }
-        ensures orders { D.orders disk.new ≡ D.orders disk.old }
-        ensures stands { StaysStanding buffer.old buffer.new (D.told disk.old) (D.told disk.new) }
+        ensures reads { Reads (IsErrOf result (Because DiskFault))
+            (D.state disk.old) (D.state disk.new) }
+        ensures stands { StaysStanding buffer.old buffer.new
+            (D.state disk.old).told (D.state disk.new).told }
     {
         if self.active.get(trx).is_none() {
             return Err(Cause::NoSuchTrx.into());
@@ -79,12 +77,10 @@ impl Transactions {
             (λ undone. Undoes self.old trx undone self.new) }
         ensures memory { result ≢ Err NoMemory }
         ensures kept { IsTrue buffer.new.right → IsKept self.new (image_of buffer.new) }
-        ensures fault { result ≡ Err (Because DiskFault)
-            → Rose (D.failures disk.old) (D.failures disk.new) }
-        ensures later { D.failures disk.old ≤ D.failures disk.new }
-        ensures told { D.told disk.new ≡ D.told disk.old }
-        ensures orders { D.orders disk.new ≡ D.orders disk.old }
-        ensures stands { StaysStanding buffer.old buffer.new (D.told disk.old) (D.told disk.new) }
+        ensures reads { Reads (IsErrOf result (Because DiskFault))
+            (D.state disk.old) (D.state disk.new) }
+        ensures stands { StaysStanding buffer.old buffer.new
+            (D.state disk.old).told (D.state disk.new).told }
     {
         let Some(commit) = self.active.get(trx) else {
             unreachable!();
@@ -139,12 +135,10 @@ impl Transactions {
             (λ undone. Undoes self.old trx undone self.new) }
         ensures memory { result ≢ Err NoMemory }
         ensures kept { IsTrue buffer.new.right → IsKept self.new (image_of buffer.new) }
-        ensures fault { result ≡ Err (Because DiskFault)
-            → Rose (D.failures disk.old) (D.failures disk.new) }
-        ensures later { D.failures disk.old ≤ D.failures disk.new }
-        ensures told { D.told disk.new ≡ D.told disk.old }
-        ensures orders { D.orders disk.new ≡ D.orders disk.old }
-        ensures stands { StaysStanding buffer.old buffer.new (D.told disk.old) (D.told disk.new) }
+        ensures reads { Reads (IsErrOf result (Because DiskFault))
+            (D.state disk.old) (D.state disk.new) }
+        ensures stands { StaysStanding buffer.old buffer.new
+            (D.state disk.old).told (D.state disk.new).told }
     {
         self.laws();
         let at = hold(buffer, disk, 0, record_page(trx, count as usize - 1))?;
@@ -193,12 +187,10 @@ impl Transactions {
             (λ undone. Undoes self.old trx undone self.new) }
         ensures memory { result ≢ Err NoMemory }
         ensures kept { IsTrue buffer.new.right → IsKept self.new (image_of buffer.new) }
-        ensures fault { result ≡ Err (Because DiskFault)
-            → Rose (D.failures disk.old) (D.failures disk.new) }
-        ensures later { D.failures disk.old ≤ D.failures disk.new }
-        ensures told { D.told disk.new ≡ D.told disk.old }
-        ensures orders { D.orders disk.new ≡ D.orders disk.old }
-        ensures stands { StaysStanding buffer.old buffer.new (D.told disk.old) (D.told disk.new) }
+        ensures reads { Reads (IsErrOf result (Because DiskFault))
+            (D.state disk.old) (D.state disk.new) }
+        ensures stands { StaysStanding buffer.old buffer.new
+            (D.state disk.old).told (D.state disk.new).told }
     {
         self.laws();
         let at = hold(buffer, disk, entry.table(), entry.page())?;

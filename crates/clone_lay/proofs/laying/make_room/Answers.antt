@@ -4,10 +4,10 @@ use Rattle.clone_lay.proofs.laying.make_room.Goals as goal
 
 pub returns-then-reaches-clause-ok : goal.returns-then-reaches-clause-ok
 returns-then-reaches-clause-ok g c =
-    still_roomy c.args.sizes.now c.args.space c.args.pages (g.R.PageDisk.told c.args.disk.now) c.requires (c.if-reaches.ensures.0 refl)
+    still_roomy c.args.sizes.now c.args.space c.args.pages (g.R.PageDisk.state c.args.disk.now).told c.requires (c.if-reaches.ensures.0 refl)
 
 pub returns-clause-sizes : goal.returns-clause-sizes
 returns-clause-sizes g c =
-    sizes_made c.args.sizes.now c.args.space c.args.pages c.insert.new.self (g.R.PageDisk.told c.args.disk.now) (g.R.PageDisk.told c.grow.new.disk) c.requires
+    sizes_made c.args.sizes.now c.args.space c.args.pages c.insert.new.self (g.R.PageDisk.state c.args.disk.now).told (g.R.PageDisk.state c.grow.new.disk).told c.requires
     (less_room c.args.sizes.now c.args.space c.args.pages (λ room. let yes = c.if-reaches.ensures.1 room in cc))
     c.in_ok-insert.ensures.ok c.in_ok-grow.ensures.ok

@@ -1,18 +1,17 @@
 use Rattle.std.proofs.Common.{◌+◌, ℕ, List, OnOk, arith, subst, ◌∙◌}
 use Rattle.clone_base.specs.declared.limits.TheConstants.{REDO_SPACE}
-use Rattle.clone_outside.specs.Disk.{Steps, with_page}
-use Rattle.clone_lay.specs.Laid.{whole}
+use Rattle.clone_outside.specs.Disk.{Steps, with_page, whole}
 use Rattle.clone_lay.proofs.RedoLemmas.{full_page, last_page}
 use Rattle.clone_lay.proofs.laying.write_redo_page.Goals as goal
 
 pub returns-in-Some-clause-ok : goal.returns-in-Some-clause-ok
 returns-in-Some-clause-ok g c =
-    subst (λ (page : List ℕ). OnOk c.write_whole.result (Steps (g.R.PageDisk.told c.args.disk.now) (g.R.PageDisk.told c.write_whole.new.disk) (λ m. with_page m REDO_SPACE (c.args.first + c.args.number) (λ _. whole page))))
+    subst (λ (page : List ℕ). OnOk c.write_page.result (Steps (g.R.PageDisk.state c.args.disk.now).told (g.R.PageDisk.state c.write_page.new.disk).told (λ m. with_page m REDO_SPACE (c.args.first + c.args.number) (λ _. whole page))))
     (full_page c.args.bytes.now c.args.number c.in-Some.page.now c.in-Some.ensures.cases.enough c.in-Some.ensures.cases.same)
-    c.write_whole.ensures.ok
+    c.write_page.ensures.written
 
 pub returns-in-None-clause-ok : goal.returns-in-None-clause-ok
 returns-in-None-clause-ok g c =
-    subst (λ (page : List ℕ). OnOk c.write_whole-in-None.result (Steps (g.R.PageDisk.told c.args.disk.now) (g.R.PageDisk.told c.write_whole-in-None.new.disk) (λ m. with_page m REDO_SPACE (c.args.first + c.args.number) (λ _. whole page))))
+    subst (λ (page : List ℕ). OnOk c.write_page-in-None.result (Steps (g.R.PageDisk.state c.args.disk.now).told (g.R.PageDisk.state c.write_page-in-None.new.disk).told (λ m. with_page m REDO_SPACE (c.args.first + c.args.number) (λ _. whole page))))
     (c.fill.ensures ∙ last_page c.args.bytes.now c.args.number (omega (arith, c.in-None.ensures.cases)))
-    c.write_whole-in-None.ensures.ok
+    c.write_page-in-None.ensures.written

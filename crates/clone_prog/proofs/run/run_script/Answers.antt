@@ -20,6 +20,6 @@ returns g c = λ words before after read.
       donor_fault = λ lines events t run met. c.run_laws.ensures.donor_fault _ lines events t c.in-Ok.ensures.new run met;
     } in
     let gave = c.into_disks-donor.ensures in
-    let left = left_so after _ _ c.run_lines-status.new.world _ _ _ _ _ _ _ _ gave.donor_told gave.donor_failures gave.donor_orders gave.recipient_told gave.recipient_failures gave.recipient_orders gave.drops c.stop-stop.ensures c.laws.ensures in
+    let left = left_so after _ _ c.run_lines-status.new.world _ _ _ _ gave.donor gave.recipient gave.drops c.stop-stop.ensures c.laws.ensures in
     ran words _ _ _ _ c.in-Ok.world _ _ read record { new = c.in-Ok.ensures.new; empty = record { donor = c.in-Ok.ensures.empty.0; recipient = c.in-Ok.ensures.empty.1 }; donor = c.in-Ok.ensures.donor; recipient = c.in-Ok.ensures.recipient } laws left
     (lent _ _ _ _ _ _ _ _ _ _ _ _ _ c.deref.ensures.value c.run_lines-status.ensures)

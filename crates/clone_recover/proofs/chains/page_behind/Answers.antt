@@ -6,15 +6,15 @@ use Rattle.clone_recover.proofs.OverlayReadLemmas.{fetch_fails}
 use Rattle.clone_recover.proofs.chains.page_behind.Goals as goal
 
 pub returns-in_default-clause-behind : goal.returns-in_default-clause-behind
-returns-in_default-clause-behind g c = nowhere_behind (g.R.PageDisk.told c.args.disk.now) c.args.overlay.now c.args.space c.args.number (sym c.sheet_of.ensures ∙ ap option_copied c.in_default.is)
+returns-in_default-clause-behind g c = nowhere_behind (g.R.PageDisk.state c.args.disk.now).told c.args.overlay.now c.args.space c.args.number (sym c.sheet_of.ensures ∙ ap option_copied c.in_default.is)
 
 pub returns-in-Ok-clause-behind : goal.returns-in-Ok-clause-behind
 returns-in-Ok-clause-behind g c =
-    sees_behind (g.R.PageDisk.told c.args.disk.now) c.args.overlay.now c.args.space c.args.number c.in-Some.sheet.now c.in-Ok.next (sym c.sheet_of.ensures ∙ ap option_copied c.in-Some.is) c.in-Ok.ensures.sees
+    sees_behind (g.R.PageDisk.state c.args.disk.now).told c.args.overlay.now c.args.space c.args.number c.in-Some.sheet.now c.in-Ok.next (sym c.sheet_of.ensures ∙ ap option_copied c.in-Some.is) c.in-Ok.ensures.sees
 
 pub returns-in-Err-clause-cause : goal.returns-in-Err-clause-cause
 returns-in-Err-clause-cause g c =
-    let told = g.R.PageDisk.told c.args.disk.now in
+    let told = (g.R.PageDisk.state c.args.disk.now).told in
     fetch_fails told c.args.overlay.now c.args.space c.args.number c.in-Err.cause c.not_fetched.result c.not_fetched.ensures
     (λ same. sees_misplaced told c.args.overlay.now c.args.space c.args.number c.in-Some.sheet.now (sym c.sheet_of.ensures ∙ ap option_copied c.in-Some.is) (c.in-Err.ensures.header (ap (λ r. Err r) same)))
 

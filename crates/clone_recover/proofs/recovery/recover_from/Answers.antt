@@ -19,7 +19,7 @@ returns-in_err-overlay-clause-cause g c =
 pub returns-in_err-write_recovered-clause-cause : goal.returns-in_err-write_recovered-clause-cause
 returns-in_err-write_recovered-clause-cause g c =
     let p = err_from_is_err_and c.from_residual-in_err-write_recovered.result c.from_residual-in_err-write_recovered.ensures.1 in
-    rw (p.1, p.2) (disk_damage (g.R.PageDisk.told c.args.disk.now) c.args.end.now (refusal_of c.in_err-write_recovered.field-0.0) (of_disk c.in_err-write_recovered.field-0.0))
+    rw (p.1, p.2) (disk_damage (g.R.PageDisk.state c.args.disk.now).told c.args.end.now (refusal_of c.in_err-write_recovered.field-0.0) (of_disk c.in_err-write_recovered.field-0.0))
 
 pub returns-in_err-write_recovered-clause-known : goal.returns-in_err-write_recovered-clause-known
 returns-in_err-write_recovered-clause-known g c = λ is.
@@ -34,10 +34,10 @@ returns-in_err-write_recovered-clause-damaged g c = λ space page why is.
 pub returns-clause-ok : goal.returns-clause-ok
 returns-clause-ok g c =
     let step : DiskImage → DiskImage = λ m. with_mark (written_out c.in_ok-overlay.overlay m) (mark_bytes (mark.Recovered c.args.end.now)) in
-    restores (g.R.PageDisk.told c.args.disk.now) (g.R.PageDisk.told c.write_recovered.new.disk) c.args.end.now c.in_ok-overlay.overlay c.in_ok-overlay.ensures.ok
-    (c.in_ok-write_recovered.ensures.ok ∙ ap (option_map step) c.in_ok-overlay.ensures.told)
+    restores (g.R.PageDisk.state c.args.disk.now).told (g.R.PageDisk.state c.write_recovered.new.disk).told c.args.end.now c.in_ok-overlay.overlay c.in_ok-overlay.ensures.ok
+    (c.in_ok-write_recovered.ensures.ok ∙ ap (option_map step) c.in_ok-overlay.ensures.reads.told)
 
 pub returns-clause-marked : goal.returns-clause-marked
 returns-clause-marked g c =
     let step : DiskImage → DiskImage = λ m. with_mark (written_out c.in_ok-overlay.overlay m) (mark_bytes (mark.Recovered c.args.end.now)) in
-    marked_step (g.R.PageDisk.told c.recovered_pages.new.disk) (g.R.PageDisk.told c.write_recovered.new.disk) step (mark_bytes (mark.Recovered c.args.end.now)) (λ m. refl) c.in_ok-write_recovered.ensures.ok
+    marked_step (g.R.PageDisk.state c.recovered_pages.new.disk).told (g.R.PageDisk.state c.write_recovered.new.disk).told step (mark_bytes (mark.Recovered c.args.end.now)) (λ m. refl) c.in_ok-write_recovered.ensures.ok

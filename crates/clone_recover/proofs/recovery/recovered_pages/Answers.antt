@@ -14,12 +14,12 @@ use Rattle.clone_recover.proofs.recovery.recovered_pages.Goals as goal
 pub returns-in_err-check_log-clause-cause : goal.returns-in_err-check_log-clause-cause
 returns-in_err-check_log-clause-cause g c =
     let p = err_from_is_err_and c.from_residual.result c.from_residual.ensures.1 in
-    rw (p.1, p.2) (log_fails (g.R.PageDisk.told c.args.disk.now) c.args.end.now c.in_err-check_log.field-0.0 c.in_err-check_log.ensures.cause)
+    rw (p.1, p.2) (log_fails (g.R.PageDisk.state c.args.disk.now).told c.args.end.now c.in_err-check_log.field-0.0 c.in_err-check_log.ensures.cause)
 
 pub returns-in_err-overlay-clause-cause : goal.returns-in_err-overlay-clause-cause
 returns-in_err-overlay-clause-cause g c =
     let p = err_from_is_err_and c.from_residual-in_err-overlay.result c.from_residual-in_err-overlay.ensures.1 in
-    rw (p.1, p.2) (disk_damage (g.R.PageDisk.told c.args.disk.now) c.args.end.now (refusal_of c.in_err-overlay.field-0.0) (of_disk c.in_err-overlay.field-0.0))
+    rw (p.1, p.2) (disk_damage (g.R.PageDisk.state c.args.disk.now).told c.args.end.now (refusal_of c.in_err-overlay.field-0.0) (of_disk c.in_err-overlay.field-0.0))
 
 pub returns-in_err-overlay-clause-known : goal.returns-in_err-overlay-clause-known
 returns-in_err-overlay-clause-known g c = λ is.
@@ -28,9 +28,9 @@ returns-in_err-overlay-clause-known g c = λ is.
 
 pub returns-in_err-redo-clause-cause : goal.returns-in_err-redo-clause-cause
 returns-in_err-redo-clause-cause g c =
-    let told = g.R.PageDisk.told c.args.disk.now in
-    let logged = c.in_ok-check_log.ensures.told in
-    let opened = c.in_ok-overlay.ensures.told ∙ logged in
+    let told = (g.R.PageDisk.state c.args.disk.now).told in
+    let logged = c.in_ok-check_log.ensures.reads.told in
+    let opened = c.in_ok-overlay.ensures.asks.told ∙ logged in
     let end = c.args.end.now in
     let first = c.in_ok-overlay.overlay in
     let p = err_from_is_err_and c.from_residual-in_err-redo.result c.from_residual-in_err-redo.ensures.1 in
@@ -40,10 +40,10 @@ returns-in_err-redo-clause-cause g c =
 
 pub returns-in_err-check_dictionary-clause-cause : goal.returns-in_err-check_dictionary-clause-cause
 returns-in_err-check_dictionary-clause-cause g c =
-    let told = g.R.PageDisk.told c.args.disk.now in
-    let logged = c.in_ok-check_log.ensures.told in
-    let opened = c.in_ok-overlay.ensures.told ∙ logged in
-    let redone = c.in_ok-redo.ensures.told ∙ opened in
+    let told = (g.R.PageDisk.state c.args.disk.now).told in
+    let logged = c.in_ok-check_log.ensures.reads.told in
+    let opened = c.in_ok-overlay.ensures.asks.told ∙ logged in
+    let redone = c.in_ok-redo.ensures.reads.told ∙ opened in
     let end = c.args.end.now in
     let first = c.in_ok-overlay.overlay in
     let left = c.redo.new.overlay in
@@ -54,11 +54,11 @@ returns-in_err-check_dictionary-clause-cause g c =
 
 pub returns-in_err-take_back_open-clause-cause : goal.returns-in_err-take_back_open-clause-cause
 returns-in_err-take_back_open-clause-cause g c =
-    let told = g.R.PageDisk.told c.args.disk.now in
-    let logged = c.in_ok-check_log.ensures.told in
-    let opened = c.in_ok-overlay.ensures.told ∙ logged in
-    let redone = c.in_ok-redo.ensures.told ∙ opened in
-    let tested = c.in_ok-check_dictionary.ensures.told ∙ redone in
+    let told = (g.R.PageDisk.state c.args.disk.now).told in
+    let logged = c.in_ok-check_log.ensures.reads.told in
+    let opened = c.in_ok-overlay.ensures.asks.told ∙ logged in
+    let redone = c.in_ok-redo.ensures.reads.told ∙ opened in
+    let tested = c.in_ok-check_dictionary.ensures.reads.told ∙ redone in
     let end = c.args.end.now in
     let first = c.in_ok-overlay.overlay in
     let left = c.redo.new.overlay in
@@ -71,20 +71,20 @@ returns-in_err-take_back_open-clause-cause g c =
 
 pub returns-in_err-check_chains-clause-cause : goal.returns-in_err-check_chains-clause-cause
 returns-in_err-check_chains-clause-cause g c =
-    let same = c.in_ok-take_back_open.ensures.told ∙ c.in_ok-check_dictionary.ensures.told ∙ c.in_ok-redo.ensures.told ∙ c.in_ok-overlay.ensures.told ∙ c.in_ok-check_log.ensures.told in
+    let same = c.in_ok-take_back_open.ensures.reads.told ∙ c.in_ok-check_dictionary.ensures.reads.told ∙ c.in_ok-redo.ensures.reads.told ∙ c.in_ok-overlay.ensures.asks.told ∙ c.in_ok-check_log.ensures.reads.told in
     let takes =
-    takes_back (g.R.PageDisk.told c.args.disk.now) (g.R.PageDisk.told c.check_log.new.disk) (g.R.PageDisk.told c.open.new.disk) (g.R.PageDisk.told c.redo.new.disk) (g.R.PageDisk.told c.check_dictionary.new.disk) c.args.end.now c.in_ok-overlay.overlay c.redo.new.overlay
-    c.check_dictionary.new.overlay c.take_back_open.new.overlay c.in_ok-check_log.ensures.told c.in_ok-overlay.ensures.told c.in_ok-redo.ensures.told c.in_ok-check_dictionary.ensures.told c.in_ok-overlay.ensures.shows c.in_ok-redo.ensures.ok
+    takes_back (g.R.PageDisk.state c.args.disk.now).told (g.R.PageDisk.state c.check_log.new.disk).told (g.R.PageDisk.state c.open.new.disk).told (g.R.PageDisk.state c.redo.new.disk).told (g.R.PageDisk.state c.check_dictionary.new.disk).told c.args.end.now c.in_ok-overlay.overlay c.redo.new.overlay
+    c.check_dictionary.new.overlay c.take_back_open.new.overlay c.in_ok-check_log.ensures.reads.told c.in_ok-overlay.ensures.asks.told c.in_ok-redo.ensures.reads.told c.in_ok-check_dictionary.ensures.reads.told c.in_ok-overlay.ensures.shows c.in_ok-redo.ensures.ok
     c.in_ok-check_dictionary.ensures.shows c.in_ok-take_back_open.ensures.recovered in
     let p = err_from_is_err_and c.from_residual-in_err-check_chains.result c.from_residual-in_err-check_chains.ensures.1 in
     rw (p.1, p.2)
-    (chains_damage (g.R.PageDisk.told c.args.disk.now) (g.R.PageDisk.told c.take_back_open.new.disk) c.args.end.now c.take_back_open.new.overlay c.in_err-check_chains.field-0.0 same takes c.in_err-check_chains.ensures.cause)
+    (chains_damage (g.R.PageDisk.state c.args.disk.now).told (g.R.PageDisk.state c.take_back_open.new.disk).told c.args.end.now c.take_back_open.new.overlay c.in_err-check_chains.field-0.0 same takes c.in_err-check_chains.ensures.cause)
 
 pub returns-clause-ok : goal.returns-clause-ok
 returns-clause-ok g c =
-    let same = c.in_ok-take_back_open.ensures.told ∙ c.in_ok-check_dictionary.ensures.told ∙ c.in_ok-redo.ensures.told ∙ c.in_ok-overlay.ensures.told ∙ c.in_ok-check_log.ensures.told in
+    let same = c.in_ok-take_back_open.ensures.reads.told ∙ c.in_ok-check_dictionary.ensures.reads.told ∙ c.in_ok-redo.ensures.reads.told ∙ c.in_ok-overlay.ensures.asks.told ∙ c.in_ok-check_log.ensures.reads.told in
     let takes =
-    takes_back (g.R.PageDisk.told c.args.disk.now) (g.R.PageDisk.told c.check_log.new.disk) (g.R.PageDisk.told c.open.new.disk) (g.R.PageDisk.told c.redo.new.disk) (g.R.PageDisk.told c.check_dictionary.new.disk) c.args.end.now c.in_ok-overlay.overlay c.redo.new.overlay
-    c.check_dictionary.new.overlay c.take_back_open.new.overlay c.in_ok-check_log.ensures.told c.in_ok-overlay.ensures.told c.in_ok-redo.ensures.told c.in_ok-check_dictionary.ensures.told c.in_ok-overlay.ensures.shows c.in_ok-redo.ensures.ok
+    takes_back (g.R.PageDisk.state c.args.disk.now).told (g.R.PageDisk.state c.check_log.new.disk).told (g.R.PageDisk.state c.open.new.disk).told (g.R.PageDisk.state c.redo.new.disk).told (g.R.PageDisk.state c.check_dictionary.new.disk).told c.args.end.now c.in_ok-overlay.overlay c.redo.new.overlay
+    c.check_dictionary.new.overlay c.take_back_open.new.overlay c.in_ok-check_log.ensures.reads.told c.in_ok-overlay.ensures.asks.told c.in_ok-redo.ensures.reads.told c.in_ok-check_dictionary.ensures.reads.told c.in_ok-overlay.ensures.shows c.in_ok-redo.ensures.ok
     c.in_ok-check_dictionary.ensures.shows c.in_ok-take_back_open.ensures.recovered in
-    undoes (g.R.PageDisk.told c.args.disk.now) (g.R.PageDisk.told c.take_back_open.new.disk) c.args.end.now c.take_back_open.new.overlay c.check_chains.new.overlay same takes c.in_ok-check_chains.ensures.shows c.in_ok-check_chains.ensures.sound
+    undoes (g.R.PageDisk.state c.args.disk.now).told (g.R.PageDisk.state c.take_back_open.new.disk).told c.args.end.now c.take_back_open.new.overlay c.check_chains.new.overlay same takes c.in_ok-check_chains.ensures.shows c.in_ok-check_chains.ensures.sound

@@ -1,4 +1,5 @@
-use Rattle.std.proofs.Common.{◌≡◌, ◌≤◌, ◌-◌}
+use Rattle.std.proofs.Common.{◌≡◌, ◌-◌}
+use Rattle.clone_outside.specs.DiskCalls.{Reads}
 use Rattle.clone_recover.specs.Reading.{read_of, total_of, redo_length}
 use Rattle.clone_recover.proofs.RedoLemmas.{ProgressOn}
 use Rattle.clone_recover.proofs.redo.redo.Given as goal
@@ -6,11 +7,9 @@ use Rattle.clone_recover.proofs.redo.redo.Given as goal
 abbrev pub invariant-loop-mtr : goal.invariant-loop-mtr
 invariant-loop-mtr g l =
     record {
-      progress : ProgressOn (g.R.PageDisk.told l.fn.disk) l.end l.fn.overlay l.overlay l.log;
+      progress : ProgressOn (g.R.PageDisk.state l.fn.disk).told l.end l.fn.overlay l.overlay l.log;
       total : total_of l.log ≡ redo_length l.end;
-      told : g.R.PageDisk.told l.disk ≡ g.R.PageDisk.told l.fn.disk;
-      later : g.R.PageDisk.failures l.fn.disk ≤ g.R.PageDisk.failures l.disk;
-      orders : g.R.PageDisk.orders l.disk ≡ g.R.PageDisk.orders l.fn.disk;
+      reads : Reads ⊥ (g.R.PageDisk.state l.fn.disk) (g.R.PageDisk.state l.disk);
     }
 
 abbrev pub decreases-loop-mtr : goal.decreases-loop-mtr

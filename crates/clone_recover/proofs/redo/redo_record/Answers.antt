@@ -13,21 +13,21 @@ apply-requires g c = space_ready c.args.overlay.now c.args.entry.now (names_spac
 
 pub returns-in_ok-apply-in-Init-clause-ok : goal.returns-in_ok-apply-in-Init-clause-ok
 returns-in_ok-apply-in-Init-clause-ok g c =
-    let told = g.R.PageDisk.told c.args.disk.now in
+    let told = (g.R.PageDisk.state c.args.disk.now).told in
     let met : MeetsOn told c.args.lsn c.in-Init.space c.in-Init.page c.args.overlay.now c.meet.new.overlay c.args.meetings.now.items c.meet.new.meetings.items true =
     subst (MeetsOn told c.args.lsn c.in-Init.space c.in-Init.page c.args.overlay.now c.meet.new.overlay c.args.meetings.now.items c.meet.new.meetings.items) c.if-not-branch.false c.in_ok-meet-in-Init.ensures.met in
     steps_counted told c.args.lsn c.in-Init.space c.in-Init.page c.args.overlay.now c.meet.new.overlay c.apply-in-Init.new.self c.args.meetings.now.items c.meet.new.meetings.items c.args.entry.now c.in-Init.is met c.in_ok-apply-in-Init.ensures.ok
 
 pub returns-then-not-branch-clause-ok : goal.returns-then-not-branch-clause-ok
 returns-then-not-branch-clause-ok g c =
-    let told = g.R.PageDisk.told c.args.disk.now in
+    let told = (g.R.PageDisk.state c.args.disk.now).told in
     let met : MeetsOn told c.args.lsn c.in-Init.space c.in-Init.page c.args.overlay.now c.meet.new.overlay c.args.meetings.now.items c.meet.new.meetings.items false =
     subst (MeetsOn told c.args.lsn c.in-Init.space c.in-Init.page c.args.overlay.now c.meet.new.overlay c.args.meetings.now.items c.meet.new.meetings.items) c.if-not-branch.true c.in_ok-meet-in-Init.ensures.met in
     steps_passed told c.args.lsn c.in-Init.space c.in-Init.page c.args.overlay.now c.meet.new.overlay c.args.meetings.now.items c.meet.new.meetings.items c.args.entry.now c.in-Init.is met
 
 pub returns-in_ok-apply-in-Extend-clause-ok : goal.returns-in_ok-apply-in-Extend-clause-ok
 returns-in_ok-apply-in-Extend-clause-ok g c =
-    steps_space (g.R.PageDisk.told c.args.disk.now) c.args.lsn c.args.overlay.now c.apply.new.self c.args.meetings.now.items c.args.entry.now (names_space c.args.entry.now c.in-Extend.is) c.in_ok-apply-in-Extend.ensures.ok
+    steps_space (g.R.PageDisk.state c.args.disk.now).told c.args.lsn c.args.overlay.now c.apply.new.self c.args.meetings.now.items c.args.entry.now (names_space c.args.entry.now c.in-Extend.is) c.in_ok-apply-in-Extend.ensures.ok
 
 pub returns-in_err-meet-in-Init-clause-cause : goal.returns-in_err-meet-in-Init-clause-cause
 returns-in_err-meet-in-Init-clause-cause g c =
@@ -37,9 +37,9 @@ returns-in_err-meet-in-Init-clause-cause g c =
 pub returns-in_err-apply-in-Init-clause-cause : goal.returns-in_err-apply-in-Init-clause-cause
 returns-in_err-apply-in-Init-clause-cause g c =
     let p = err_from_is_err_and c.from_residual-in_err-apply-in-Init.result c.from_residual-in_err-apply-in-Init.ensures.1 in
-    rw (p.1, p.2) (always (g.R.PageDisk.told c.args.disk.now) c.args.overlay.now)
+    rw (p.1, p.2) (always (g.R.PageDisk.state c.args.disk.now).told c.args.overlay.now)
 
 pub returns-in_err-apply-in-Extend-clause-cause : goal.returns-in_err-apply-in-Extend-clause-cause
 returns-in_err-apply-in-Extend-clause-cause g c =
     let p = err_from_is_err_and c.from_residual.result c.from_residual.ensures.1 in
-    rw (p.1, p.2) (always (g.R.PageDisk.told c.args.disk.now) c.args.overlay.now)
+    rw (p.1, p.2) (always (g.R.PageDisk.state c.args.disk.now).told c.args.overlay.now)

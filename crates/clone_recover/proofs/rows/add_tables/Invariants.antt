@@ -1,4 +1,4 @@
-use Rattle.std.proofs.Common.{◌≡◌, ◌≤◌}
+use Rattle.clone_outside.specs.DiskCalls.{Reads}
 use Rattle.clone_recover.proofs.RowListLemmas.{AddsEntries}
 use Rattle.clone_recover.proofs.rows.add_tables.Given as goal
 
@@ -6,8 +6,6 @@ use Rattle.clone_recover.proofs.rows.add_tables.Given as goal
 abbrev pub invariant-loop-entry_number : goal.invariant-loop-entry_number
 invariant-loop-entry_number g l =
     record {
-      added : AddsEntries (g.R.PageDisk.told l.fn.disk) l.entry_number l.system l.fn.tables l.tables;
-      told : g.R.PageDisk.told l.disk ≡ g.R.PageDisk.told l.fn.disk;
-      later : g.R.PageDisk.failures l.fn.disk ≤ g.R.PageDisk.failures l.disk;
-      orders : g.R.PageDisk.orders l.disk ≡ g.R.PageDisk.orders l.fn.disk;
+      added : AddsEntries (g.R.PageDisk.state l.fn.disk).told l.entry_number l.system l.fn.tables l.tables;
+      reads : Reads ⊥ (g.R.PageDisk.state l.fn.disk) (g.R.PageDisk.state l.disk);
     }

@@ -9,9 +9,9 @@ use Rattle.clone_recover.proofs.writing.write_sheet.Goals as goal
 
 pub returns-clause-written : goal.returns-clause-written
 returns-clause-written g c =
-    let first = g.R.PageDisk.told c.args.disk.now in
-    let mid = g.R.PageDisk.told c.give_pages.new.disk in
-    let last = g.R.PageDisk.told c.write_leaves.new.disk in
+    let first = (g.R.PageDisk.state c.args.disk.now).told in
+    let mid = (g.R.PageDisk.state c.give_pages.new.disk).told in
+    let last = (g.R.PageDisk.state c.write_leaves.new.disk).told in
     let space : ℕ = c.args.space in
     on_ok_weaker c.write_leaves.result
     (λ written. then_step first mid last (λ m. with_count space m c.args.sheet.now) (λ m. with_leaves space m (finite.entries c.args.sheet.now.leaves)) c.in_ok-give_pages.ensures.given

@@ -50,8 +50,8 @@ returns-clause-kept g c =
 
 pub returns-clause-stands : goal.returns-clause-stands
 returns-clause-stands g c = λ _.
-    let before = g.D.PageDisk.told c.args.disk.now in
-    let after = g.D.PageDisk.told c.create.new.self in
-    let step : Steps before after (λ m. with_created m 0 system_size) = c.in-Ok.ensures.created in
+    let before = (g.D.PageDisk.state c.args.disk.now).told in
+    let after = (g.D.PageDisk.state c.create.new.self).told in
+    let step : Steps before after (λ m. with_created m 0 system_size) = c.in-Ok.ensures.takes.done in
     let made = subst (λ (rs : List Record). ForTold after (HasMade rs)) (sym c.opening.ensures) (has_made before after 0 system_size (Init 0 0 System ∷ []) step) in
     c.unpin.ensures.stands at_rest after (c.write_space_held.ensures.stands at_rest after made (subst (λ (rs : List Record). NoFilesOfMade rs no_copies) (sym c.opening.ensures) (λ number. tt)) (c.in-Ok-fresh.ensures.stands at_rest after (stands_first c.in_ok-buffer.buffer after c.in_ok-buffer.ensures.log c.in_ok-buffer.ensures.stands)))

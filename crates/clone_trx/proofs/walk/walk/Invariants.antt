@@ -1,4 +1,5 @@
-use Rattle.std.proofs.Common.{◌≡◌, ◌≤◌, Result}
+use Rattle.std.proofs.Common.{Result}
+use Rattle.clone_outside.specs.DiskCalls.{Reads}
 use Rattle.clone_buffer.specs.Buffered.{Buffered}
 use Rattle.clone_plain.specs.declared.refusal.EngineRefusal.{EngineRefusal}
 use Rattle.clone_trx.specs.declared.walk.Spot.{Spot}
@@ -11,10 +12,8 @@ invariant-loop-spot g l =
     record {
       may : MayGoOn l.course l.page l.kept l.buffer;
       walked : (last : Buffered) (result : Result Spot EngineRefusal) → Walks l.course l.left l.page l.kept l.buffer last result → WalksAll l.course l.fn.buffer last result;
-      later : g.D.PageDisk.failures l.fn.disk ≤ g.D.PageDisk.failures l.disk;
-      told : g.D.PageDisk.told l.disk ≡ g.D.PageDisk.told l.fn.disk;
-      orders : g.D.PageDisk.orders l.disk ≡ g.D.PageDisk.orders l.fn.disk;
-      stands : StaysStanding l.fn.buffer l.buffer (g.D.PageDisk.told l.fn.disk) (g.D.PageDisk.told l.disk);
+      reads : Reads ⊥ (g.D.PageDisk.state l.fn.disk) (g.D.PageDisk.state l.disk);
+      stands : StaysStanding l.fn.buffer l.buffer (g.D.PageDisk.state l.fn.disk).told (g.D.PageDisk.state l.disk).told;
     }
 
 abbrev pub decreases-loop-spot : goal.decreases-loop-spot

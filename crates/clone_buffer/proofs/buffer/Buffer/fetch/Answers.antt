@@ -8,18 +8,16 @@ use Rattle.clone_buffer.proofs.buffer.Buffer.fetch.Goals as goal
 pub returns-in_err-at-clause-stands : goal.returns-in_err-at-clause-stands
 returns-in_err-at-clause-stands g c =
     let i = c.self.inside in
-    let told = g.D.PageDisk.told in
     let v : Buffered = record { log = i.shadow.state.log; right = i.shadow.state.right; ring = i.ring; pool = i.pool } in
     let small : ends v.log < 2 ^ 64 = omega (arith, c.self.invariant.below) in
-    λ beside st. stands_refused v beside (told c.args.disk.now) (told c.fetch-fetched.new.disk) c.fetch-fetched.new.self c.fetch-fetched.result c.args.space c.args.number c.in_err-at.field-0.0 c.laws.ensures c.laws-2.ensures
-    c.fetch-fetched.ensures.answer small c.in_err-at.was c.fetch-fetched.ensures.disk (subst (λ (s : Buffered). Stands s beside (told c.args.disk.now)) (sym c.self.view_is) st)
+    λ beside st. stands_refused v beside (g.D.PageDisk.state c.args.disk.now).told (g.D.PageDisk.state c.fetch-fetched.new.disk).told c.fetch-fetched.new.self c.fetch-fetched.result c.args.space c.args.number c.in_err-at.field-0.0 c.laws.ensures c.laws-2.ensures
+    c.fetch-fetched.ensures.answer small c.in_err-at.was c.fetch-fetched.ensures.reads.told (subst (λ (s : Buffered). Stands s beside (g.D.PageDisk.state c.args.disk.now).told) (sym c.self.view_is) st)
 
 pub returns-clause-stands : goal.returns-clause-stands
 returns-clause-stands g c =
     let i = c.self.inside in
-    let told = g.D.PageDisk.told in
     let v : Buffered = record { log = i.shadow.state.log; right = i.shadow.state.right; ring = i.ring; pool = i.pool } in
     let small : ends v.log < 2 ^ 64 = omega (arith, c.self.invariant.below) in
-    λ beside st. stands_fetched v beside (told c.args.disk.now) (told c.fetch-fetched.new.disk) c.fetch-fetched.new.self c.fetch-fetched.result c.args.space c.args.number c.in_ok-at.at c.frame.result.now c.then-self-inside.result.state c.laws.ensures c.laws-2.ensures
-    c.fetch-fetched.ensures.answer small (subst (λ (s : Buffered). IsTrue s.right → IsSome (page_of (replayed s.log) c.args.space c.args.number)) (sym c.self.view_is) c.requires.there) c.self.invariant.shows c.in_ok-at.was c.fetch-fetched.ensures.disk c.in_ok-at.ensures.read c.frame.ensures c.then-self-inside.ensures
-    (subst (λ (s : Buffered). Stands s beside (told c.args.disk.now)) (sym c.self.view_is) st)
+    λ beside st. stands_fetched v beside (g.D.PageDisk.state c.args.disk.now).told (g.D.PageDisk.state c.fetch-fetched.new.disk).told c.fetch-fetched.new.self c.fetch-fetched.result c.args.space c.args.number c.in_ok-at.at c.frame.result.now c.then-self-inside.result.state c.laws.ensures c.laws-2.ensures
+    c.fetch-fetched.ensures.answer small (subst (λ (s : Buffered). IsTrue s.right → IsSome (page_of (replayed s.log) c.args.space c.args.number)) (sym c.self.view_is) c.requires.there) c.self.invariant.shows c.in_ok-at.was c.fetch-fetched.ensures.reads.told c.in_ok-at.ensures.read c.frame.ensures c.then-self-inside.ensures
+    (subst (λ (s : Buffered). Stands s beside (g.D.PageDisk.state c.args.disk.now).told) (sym c.self.view_is) st)

@@ -1,5 +1,5 @@
 use Rattle.std.proofs.Common.{Ok, Err, refl, ap, ◌∙◌}
-use Rattle.clone_engine.specs.Disks.{DiskState}
+use Rattle.clone_outside.specs.DiskCalls.{DiskState}
 use Rattle.clone_request.specs.declared.requester.Advanced.{Advanced}
 use Rattle.clone_request.specs.declared.requester.StepRefusal.{StepRefusal}
 use Rattle.clone_request.specs.declared.requester.StepRefusal.TheVariants.{RecipientFault, DonorFault, NoMemory}
@@ -13,13 +13,13 @@ returns-in-Absent g c = (tt, not_started_yet _ _ c.self.inside.course c.self.vie
 pub returns-in-Complete : goal.returns-in-Complete
 returns-in-Complete g c =
     let i = c.self.inside in
-    let disk : g.row.R.Denot → DiskState = λ r. record { told = g.R.PageDisk.told r; failures = g.R.PageDisk.failures r; orders = g.R.PageDisk.orders r } in
+    let disk : g.row.R.Denot → DiskState = λ r. g.R.PageDisk.state r in
     (tt, completed_earlier i.donor (disk i.recipient) i.begun i.course i.floor i.doubted i.shown c.in-Complete.position c.in-Complete.is c.self.invariant _ c.self.view_is)
 
 pub invariant_of-self-in-Complete : goal.invariant_of-self-in-Complete
 invariant_of-self-in-Complete g c =
     let i = c.self.inside in
-    let disk : g.row.R.Denot → DiskState = λ r. record { told = g.R.PageDisk.told r; failures = g.R.PageDisk.failures r; orders = g.R.PageDisk.orders r } in
+    let disk : g.row.R.Denot → DiskState = λ r. g.R.PageDisk.state r in
     completed_holds i.donor (disk i.recipient) i.begun i.course i.floor i.doubted i.shown c.in-Complete.position c.in-Complete.is c.self.invariant
 
 pub returns-in-Broken : goal.returns-in-Broken
@@ -31,7 +31,7 @@ returns-in-Spent g c = (tt, lost_earlier _ _ c.self.inside.course c.self.view_is
 pub advance-requires-clause-under_way : goal.advance-requires-clause-under_way
 advance-requires-clause-under_way g c =
     let i = c.self.inside in
-    let disk : g.row.R.Denot → DiskState = λ r. record { told = g.R.PageDisk.told r; failures = g.R.PageDisk.failures r; orders = g.R.PageDisk.orders r } in
+    let disk : g.row.R.Denot → DiskState = λ r. g.R.PageDisk.state r in
     may_advance i.donor (disk i.recipient) i.course i.floor i.doubted i.shown c.in-Copying.requester c.in-Copying.is c.self.invariant
 
 pub advance-requires-clause-floor : goal.advance-requires-clause-floor
@@ -43,8 +43,8 @@ invariant_of-self-in-Ok-Ready g c =
     let e = c.advance.ensures in
     let r = c.in-Copying.requester in
     let u = c.advance.new.self in
-    let disk : g.row.R.Denot → DiskState = λ r. record { told = g.R.PageDisk.told r; failures = g.R.PageDisk.failures r; orders = g.R.PageDisk.orders r } in
-    let step : Advance i.donor c.advance.new.donor (disk i.recipient) (disk c.advance.new.disk) r u c.advance.result = record { leaves = e.leaves; lends = e.lends; visits = record { later = e.later; orders = e.orders; tells = e.tells }; fault = e.fault } in
+    let disk : g.row.R.Denot → DiskState = λ r. g.R.PageDisk.state r in
+    let step : Advance i.donor c.advance.new.donor (disk i.recipient) (disk c.advance.new.disk) r u c.advance.result = record { leaves = e.leaves; lends = e.lends; visits = record { later = e.works.later; orders = e.works.orders; tells = e.works.tells }; fault = e.fault } in
     readies_holds i.donor c.advance.new.donor (disk i.recipient) (disk c.advance.new.disk) i.begun i.course i.floor i.doubted i.shown r u c.advance.result c.in-Copying.is c.self.invariant step c.in-Ok-Ready.stage (c.in-Ok-Ready.is ∙ ap (λ (a : Advanced). Ok a) c.in-Ok-Ready.field-0-is)
 
 pub returns-in-Ok-Ready : goal.returns-in-Ok-Ready
@@ -53,8 +53,8 @@ returns-in-Ok-Ready g c =
     let e = c.advance.ensures in
     let r = c.in-Copying.requester in
     let u = c.advance.new.self in
-    let disk : g.row.R.Denot → DiskState = λ r. record { told = g.R.PageDisk.told r; failures = g.R.PageDisk.failures r; orders = g.R.PageDisk.orders r } in
-    let step : Advance i.donor c.advance.new.donor (disk i.recipient) (disk c.advance.new.disk) r u c.advance.result = record { leaves = e.leaves; lends = e.lends; visits = record { later = e.later; orders = e.orders; tells = e.tells }; fault = e.fault } in
+    let disk : g.row.R.Denot → DiskState = λ r. g.R.PageDisk.state r in
+    let step : Advance i.donor c.advance.new.donor (disk i.recipient) (disk c.advance.new.disk) r u c.advance.result = record { leaves = e.leaves; lends = e.lends; visits = record { later = e.works.later; orders = e.works.orders; tells = e.works.tells }; fault = e.fault } in
     (tt, readies i.donor c.advance.new.donor (disk i.recipient) (disk c.advance.new.disk) i.begun i.course i.floor i.doubted i.shown r u c.advance.result c.in-Copying.is c.self.invariant step _ c.in-Ok-Ready.stage c.self.view_is (c.in-Ok-Ready.is ∙ ap (λ (a : Advanced). Ok a) c.in-Ok-Ready.field-0-is))
 
 pub invariant_of-self-in-Ok-Complete : goal.invariant_of-self-in-Ok-Complete
@@ -63,8 +63,8 @@ invariant_of-self-in-Ok-Complete g c =
     let e = c.advance.ensures in
     let r = c.in-Copying.requester in
     let u = c.advance.new.self in
-    let disk : g.row.R.Denot → DiskState = λ r. record { told = g.R.PageDisk.told r; failures = g.R.PageDisk.failures r; orders = g.R.PageDisk.orders r } in
-    let step : Advance i.donor c.advance.new.donor (disk i.recipient) (disk c.advance.new.disk) r u c.advance.result = record { leaves = e.leaves; lends = e.lends; visits = record { later = e.later; orders = e.orders; tells = e.tells }; fault = e.fault } in
+    let disk : g.row.R.Denot → DiskState = λ r. g.R.PageDisk.state r in
+    let step : Advance i.donor c.advance.new.donor (disk i.recipient) (disk c.advance.new.disk) r u c.advance.result = record { leaves = e.leaves; lends = e.lends; visits = record { later = e.works.later; orders = e.works.orders; tells = e.works.tells }; fault = e.fault } in
     completes_holds i.donor c.advance.new.donor (disk i.recipient) (disk c.advance.new.disk) i.begun i.course i.floor i.doubted i.shown r u c.advance.result c.in-Copying.is c.self.invariant step c.in-Ok-Complete.position (c.in-Ok-Complete.is ∙ ap (λ (a : Advanced). Ok a) c.in-Ok-Complete.field-0-is)
 
 pub returns-in-Ok-Complete : goal.returns-in-Ok-Complete
@@ -73,8 +73,8 @@ returns-in-Ok-Complete g c =
     let e = c.advance.ensures in
     let r = c.in-Copying.requester in
     let u = c.advance.new.self in
-    let disk : g.row.R.Denot → DiskState = λ r. record { told = g.R.PageDisk.told r; failures = g.R.PageDisk.failures r; orders = g.R.PageDisk.orders r } in
-    let step : Advance i.donor c.advance.new.donor (disk i.recipient) (disk c.advance.new.disk) r u c.advance.result = record { leaves = e.leaves; lends = e.lends; visits = record { later = e.later; orders = e.orders; tells = e.tells }; fault = e.fault } in
+    let disk : g.row.R.Denot → DiskState = λ r. g.R.PageDisk.state r in
+    let step : Advance i.donor c.advance.new.donor (disk i.recipient) (disk c.advance.new.disk) r u c.advance.result = record { leaves = e.leaves; lends = e.lends; visits = record { later = e.works.later; orders = e.works.orders; tells = e.works.tells }; fault = e.fault } in
     (tt, completes i.donor c.advance.new.donor (disk i.recipient) (disk c.advance.new.disk) i.begun i.course i.floor i.doubted i.shown r u c.advance.result c.in-Copying.is c.self.invariant step _ c.in-Ok-Complete.position c.self.view_is (c.in-Ok-Complete.is ∙ ap (λ (a : Advanced). Ok a) c.in-Ok-Complete.field-0-is))
 
 pub invariant_of-self-in-Err-RecipientFault : goal.invariant_of-self-in-Err-RecipientFault
@@ -83,8 +83,8 @@ invariant_of-self-in-Err-RecipientFault g c =
     let e = c.advance.ensures in
     let r = c.in-Copying.requester in
     let u = c.advance.new.self in
-    let disk : g.row.R.Denot → DiskState = λ r. record { told = g.R.PageDisk.told r; failures = g.R.PageDisk.failures r; orders = g.R.PageDisk.orders r } in
-    let step : Advance i.donor c.advance.new.donor (disk i.recipient) (disk c.advance.new.disk) r u c.advance.result = record { leaves = e.leaves; lends = e.lends; visits = record { later = e.later; orders = e.orders; tells = e.tells }; fault = e.fault } in
+    let disk : g.row.R.Denot → DiskState = λ r. g.R.PageDisk.state r in
+    let step : Advance i.donor c.advance.new.donor (disk i.recipient) (disk c.advance.new.disk) r u c.advance.result = record { leaves = e.leaves; lends = e.lends; visits = record { later = e.works.later; orders = e.works.orders; tells = e.works.tells }; fault = e.fault } in
     breaks_holds i.donor c.advance.new.donor (disk i.recipient) (disk c.advance.new.disk) i.begun i.course i.floor i.doubted i.shown r u c.advance.result c.in-Copying.is c.self.invariant step RecipientFault (c.in-Err-RecipientFault.is ∙ ap (λ (x : StepRefusal). Err x) c.in-Err-RecipientFault.field-0-is)
 
 pub returns-in-Err-RecipientFault : goal.returns-in-Err-RecipientFault
@@ -93,8 +93,8 @@ returns-in-Err-RecipientFault g c =
     let e = c.advance.ensures in
     let r = c.in-Copying.requester in
     let u = c.advance.new.self in
-    let disk : g.row.R.Denot → DiskState = λ r. record { told = g.R.PageDisk.told r; failures = g.R.PageDisk.failures r; orders = g.R.PageDisk.orders r } in
-    let step : Advance i.donor c.advance.new.donor (disk i.recipient) (disk c.advance.new.disk) r u c.advance.result = record { leaves = e.leaves; lends = e.lends; visits = record { later = e.later; orders = e.orders; tells = e.tells }; fault = e.fault } in
+    let disk : g.row.R.Denot → DiskState = λ r. g.R.PageDisk.state r in
+    let step : Advance i.donor c.advance.new.donor (disk i.recipient) (disk c.advance.new.disk) r u c.advance.result = record { leaves = e.leaves; lends = e.lends; visits = record { later = e.works.later; orders = e.works.orders; tells = e.works.tells }; fault = e.fault } in
     (tt, breaks i.donor c.advance.new.donor (disk i.recipient) (disk c.advance.new.disk) i.begun i.course i.floor i.doubted i.shown r u c.advance.result c.in-Copying.is c.self.invariant step _ c.self.view_is (c.in-Err-RecipientFault.is ∙ ap (λ (x : StepRefusal). Err x) c.in-Err-RecipientFault.field-0-is))
 
 pub invariant_of-self-in-Err-DonorFault : goal.invariant_of-self-in-Err-DonorFault
@@ -103,8 +103,8 @@ invariant_of-self-in-Err-DonorFault g c =
     let e = c.advance.ensures in
     let r = c.in-Copying.requester in
     let u = c.advance.new.self in
-    let disk : g.row.R.Denot → DiskState = λ r. record { told = g.R.PageDisk.told r; failures = g.R.PageDisk.failures r; orders = g.R.PageDisk.orders r } in
-    let step : Advance i.donor c.advance.new.donor (disk i.recipient) (disk c.advance.new.disk) r u c.advance.result = record { leaves = e.leaves; lends = e.lends; visits = record { later = e.later; orders = e.orders; tells = e.tells }; fault = e.fault } in
+    let disk : g.row.R.Denot → DiskState = λ r. g.R.PageDisk.state r in
+    let step : Advance i.donor c.advance.new.donor (disk i.recipient) (disk c.advance.new.disk) r u c.advance.result = record { leaves = e.leaves; lends = e.lends; visits = record { later = e.works.later; orders = e.works.orders; tells = e.works.tells }; fault = e.fault } in
     loses_holds i.donor c.advance.new.donor (disk i.recipient) (disk c.advance.new.disk) i.begun i.course i.floor i.doubted i.shown r u c.advance.result c.in-Copying.is c.self.invariant step DonorFault (c.in-Err-DonorFault.is ∙ ap (λ (x : StepRefusal). Err x) c.in-Err-DonorFault.field-0-is)
 
 pub returns-in-Err-DonorFault : goal.returns-in-Err-DonorFault
@@ -113,8 +113,8 @@ returns-in-Err-DonorFault g c =
     let e = c.advance.ensures in
     let r = c.in-Copying.requester in
     let u = c.advance.new.self in
-    let disk : g.row.R.Denot → DiskState = λ r. record { told = g.R.PageDisk.told r; failures = g.R.PageDisk.failures r; orders = g.R.PageDisk.orders r } in
-    let step : Advance i.donor c.advance.new.donor (disk i.recipient) (disk c.advance.new.disk) r u c.advance.result = record { leaves = e.leaves; lends = e.lends; visits = record { later = e.later; orders = e.orders; tells = e.tells }; fault = e.fault } in
+    let disk : g.row.R.Denot → DiskState = λ r. g.R.PageDisk.state r in
+    let step : Advance i.donor c.advance.new.donor (disk i.recipient) (disk c.advance.new.disk) r u c.advance.result = record { leaves = e.leaves; lends = e.lends; visits = record { later = e.works.later; orders = e.works.orders; tells = e.works.tells }; fault = e.fault } in
     (tt, loses i.donor c.advance.new.donor (disk i.recipient) (disk c.advance.new.disk) i.begun i.course i.floor i.doubted i.shown r u c.advance.result c.in-Copying.is c.self.invariant step _ c.self.view_is (c.in-Err-DonorFault.is ∙ ap (λ (x : StepRefusal). Err x) c.in-Err-DonorFault.field-0-is))
 
 pub invariant_of-self-in-Err-NoMemory : goal.invariant_of-self-in-Err-NoMemory
@@ -123,8 +123,8 @@ invariant_of-self-in-Err-NoMemory g c =
     let e = c.advance.ensures in
     let r = c.in-Copying.requester in
     let u = c.advance.new.self in
-    let disk : g.row.R.Denot → DiskState = λ r. record { told = g.R.PageDisk.told r; failures = g.R.PageDisk.failures r; orders = g.R.PageDisk.orders r } in
-    let step : Advance i.donor c.advance.new.donor (disk i.recipient) (disk c.advance.new.disk) r u c.advance.result = record { leaves = e.leaves; lends = e.lends; visits = record { later = e.later; orders = e.orders; tells = e.tells }; fault = e.fault } in
+    let disk : g.row.R.Denot → DiskState = λ r. g.R.PageDisk.state r in
+    let step : Advance i.donor c.advance.new.donor (disk i.recipient) (disk c.advance.new.disk) r u c.advance.result = record { leaves = e.leaves; lends = e.lends; visits = record { later = e.works.later; orders = e.works.orders; tells = e.works.tells }; fault = e.fault } in
     breaks_holds i.donor c.advance.new.donor (disk i.recipient) (disk c.advance.new.disk) i.begun i.course i.floor i.doubted i.shown r u c.advance.result c.in-Copying.is c.self.invariant step NoMemory (c.in-Err-NoMemory.is ∙ ap (λ (x : StepRefusal). Err x) c.in-Err-NoMemory.field-0-is)
 
 pub returns-in-Err-NoMemory : goal.returns-in-Err-NoMemory
@@ -133,8 +133,8 @@ returns-in-Err-NoMemory g c =
     let e = c.advance.ensures in
     let r = c.in-Copying.requester in
     let u = c.advance.new.self in
-    let disk : g.row.R.Denot → DiskState = λ r. record { told = g.R.PageDisk.told r; failures = g.R.PageDisk.failures r; orders = g.R.PageDisk.orders r } in
-    let step : Advance i.donor c.advance.new.donor (disk i.recipient) (disk c.advance.new.disk) r u c.advance.result = record { leaves = e.leaves; lends = e.lends; visits = record { later = e.later; orders = e.orders; tells = e.tells }; fault = e.fault } in
+    let disk : g.row.R.Denot → DiskState = λ r. g.R.PageDisk.state r in
+    let step : Advance i.donor c.advance.new.donor (disk i.recipient) (disk c.advance.new.disk) r u c.advance.result = record { leaves = e.leaves; lends = e.lends; visits = record { later = e.works.later; orders = e.works.orders; tells = e.works.tells }; fault = e.fault } in
     advance_keeps i.donor c.advance.new.donor (disk i.recipient) (disk c.advance.new.disk) i.begun i.course i.floor i.doubted i.shown r u c.advance.result c.in-Copying.is c.self.invariant step _ course.Broken c.self.view_is
 
 pub invariant_of-self : goal.invariant_of-self

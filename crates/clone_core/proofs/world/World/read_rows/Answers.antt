@@ -9,10 +9,10 @@ invariant_of-self g c = read_holds c.holds_laws.ensures.again c.self.inside.cour
   rows = c.recovered_rows-read.ensures.rows;
   ascending = c.recovered_rows-read.ensures.ascending;
   cause = c.recovered_rows-read.ensures.cause;
-  fault = c.recovered_rows-read.ensures.fault;
+  fault = c.recovered_rows-read.ensures.works.fault;
   incomplete = c.recovered_rows-read.ensures.incomplete;
   damaged = c.recovered_rows-read.ensures.damaged;
-  visits = record { later = c.recovered_rows-read.ensures.later; orders = c.recovered_rows-read.ensures.orders; tells = c.recovered_rows-read.ensures.tells };
+  visits = record { later = c.recovered_rows-read.ensures.works.later; orders = c.recovered_rows-read.ensures.works.orders; tells = c.recovered_rows-read.ensures.works.tells };
 })
 
 pub returns-in-Ok : goal.returns-in-Ok
@@ -20,10 +20,10 @@ returns-in-Ok g c = reads c.holds_laws.ensures.listed c.self.inside.course _ _ _
   rows = c.recovered_rows-read.ensures.rows;
   ascending = c.recovered_rows-read.ensures.ascending;
   cause = c.recovered_rows-read.ensures.cause;
-  fault = c.recovered_rows-read.ensures.fault;
+  fault = c.recovered_rows-read.ensures.works.fault;
   incomplete = c.recovered_rows-read.ensures.incomplete;
   damaged = c.recovered_rows-read.ensures.damaged;
-  visits = record { later = c.recovered_rows-read.ensures.later; orders = c.recovered_rows-read.ensures.orders; tells = c.recovered_rows-read.ensures.tells };
+  visits = record { later = c.recovered_rows-read.ensures.works.later; orders = c.recovered_rows-read.ensures.works.orders; tells = c.recovered_rows-read.ensures.works.tells };
 })
 
 pub returns-in-Err-Damaged : goal.returns-in-Err-Damaged
@@ -33,8 +33,8 @@ returns-in-Err-Damaged g c =
       rows = c.recovered_rows-read.ensures.rows;
       ascending = c.recovered_rows-read.ensures.ascending;
       cause = c.recovered_rows-read.ensures.cause;
-      fault = c.recovered_rows-read.ensures.fault;
+      fault = c.recovered_rows-read.ensures.works.fault;
       incomplete = c.recovered_rows-read.ensures.incomplete;
       damaged = c.recovered_rows-read.ensures.damaged;
-      visits = record { later = c.recovered_rows-read.ensures.later; orders = c.recovered_rows-read.ensures.orders; tells = c.recovered_rows-read.ensures.tells };
+      visits = record { later = c.recovered_rows-read.ensures.works.later; orders = c.recovered_rows-read.ensures.works.orders; tells = c.recovered_rows-read.ensures.works.tells };
     })

@@ -19,7 +19,7 @@ invariant_of-self g c =
     let new = c.begin.new in
     let is = c.begin.ensures in
     let l = begin_leaves old.transactions new.self old.buffer new.buffer c.args.writer c.args.index c.begin.result is.answer in
-    still_engine 1 old.transactions new.self old.buffer new.buffer old.flusher _ _ c.self.invariant is.kept l.grows l.pages is.stands is.told l.tables
+    still_engine 1 old.transactions new.self old.buffer new.buffer old.flusher _ _ c.self.invariant is.kept l.grows l.pages is.stands is.reads.told l.tables
 
 pub returns-clause-step : goal.returns-clause-step
 returns-clause-step g c =
@@ -30,11 +30,11 @@ returns-clause-step g c =
     let e : Donor = new.self in
     let call = call.begin c.args.writer c.args.index in
     let did = λ (trx : ℕ). did_begin c.args.writer c.args.index trx in
-    let s : Engine = engine d old.buffer old.flusher (record { told = g.D.PageDisk.told old.disk; failures = g.D.PageDisk.failures old.disk; orders = g.D.PageDisk.orders old.disk }) in
-    let t : Engine = engine e new.buffer old.flusher (record { told = g.D.PageDisk.told new.disk; failures = g.D.PageDisk.failures new.disk; orders = g.D.PageDisk.orders new.disk }) in
+    let s : Engine = engine d old.buffer old.flusher (g.D.PageDisk.state old.disk) in
+    let t : Engine = engine e new.buffer old.flusher (g.D.PageDisk.state new.disk) in
     subst (λ (s : Engine). Transacts call s t (answer_of did c.begin.result)) c.self.view_is
     (transacts did call s t c.begin.result (λ (trx : ℕ). Begins d c.args.writer c.args.index trx e) (λ x does. record { is = refl; does = does; sees = tt }) (still_flown did c.begin.result old.flusher (λ _. refl)) is.answer
-    (record { later = is.later; orders = is.orders; tells = ap is_some is.told }) is.fault)
+    (record { later = is.reads.later; orders = is.reads.orders; tells = ap is_some is.reads.told }) is.reads.fault)
 
 pub returns-clause-copies : goal.returns-clause-copies
 returns-clause-copies g c =
@@ -42,7 +42,7 @@ returns-clause-copies g c =
     let new = c.begin.new in
     let is = c.begin.ensures in
     let l = begin_leaves old.transactions new.self old.buffer new.buffer c.args.writer c.args.index c.begin.result is.answer in
-    λ copies st. stays_flown old.flusher copies old.buffer new.buffer _ _ is.told (is.stands (beside_of old.flusher copies)) l.grows.floor (subst (λ (s : Engine). StandsBeside s copies) (sym c.self.view_is) st)
+    λ copies st. stays_flown old.flusher copies old.buffer new.buffer _ _ is.reads.told (is.stands (beside_of old.flusher copies)) l.grows.floor (subst (λ (s : Engine). StandsBeside s copies) (sym c.self.view_is) st)
 
 pub returns-clause-ring : goal.returns-clause-ring
 returns-clause-ring g c =

@@ -9,7 +9,7 @@ use Rattle.clone_plain.specs.Causes.{create_cause}
 use Rattle.clone_plain.specs.Donor.{Donor}
 use Rattle.clone_plain.specs.Effects.{created}
 use Rattle.clone_trx.specs.Calls.{create_way}
-use Rattle.clone_engine.specs.Disks.{DiskState}
+use Rattle.clone_outside.specs.DiskCalls.{DiskState}
 use Rattle.clone_engine.specs.Engine.{Engine, IsEngine, StandsBeside}
 use Rattle.clone_engine.specs.Growth.{KeepsRing, PagesStay}
 use Rattle.clone_engine.specs.Steps.{Transacts, answer_of}
@@ -21,10 +21,10 @@ use Rattle.clone_engine.proofs.engine.Engine.create.Goals as goal
 -- THE TABLE WAS MADE
 
 abbrev made_before : (g : _) (c : goal.After-laws-in-Ok g) → DiskState
-made_before g c = record { told = g.D.PageDisk.told c.self.inside.disk; failures = g.D.PageDisk.failures c.self.inside.disk; orders = g.D.PageDisk.orders c.self.inside.disk }
+made_before g c = g.D.PageDisk.state c.self.inside.disk
 
 abbrev made_after : (g : _) (c : goal.After-laws-in-Ok g) → DiskState
-made_after g c = record { told = g.D.PageDisk.told c.create.new.disk; failures = g.D.PageDisk.failures c.create.new.disk; orders = g.D.PageDisk.orders c.create.new.disk }
+made_after g c = g.D.PageDisk.state c.create.new.disk
 
 made_unknown : (g : _) (c : goal.After-laws-in-Ok g) → finite.get c.self.inside.flusher.files c.args.table ≡ None
 made_unknown g c = unknown_is c.file.result (finite.get c.self.inside.flusher.files c.args.table) (c.file.ensures ∙ ap (finite.get c.self.inside.flusher.files) c.get-space.ensures.value) (sym c.is_some.ensures ∙ c.if-is_some.false)
@@ -68,10 +68,10 @@ returns-in-Ok-clause-ring g c = subst (λ (s : Engine). KeepsRing s.buffer.ring 
 -- THE TABLE WASN'T MADE
 
 abbrev left_before : (g : _) (c : goal.After-file_gone g) → DiskState
-left_before g c = record { told = g.D.PageDisk.told c.self.inside.disk; failures = g.D.PageDisk.failures c.self.inside.disk; orders = g.D.PageDisk.orders c.self.inside.disk }
+left_before g c = g.D.PageDisk.state c.self.inside.disk
 
 abbrev left_after : (g : _) (c : goal.After-file_gone g) → DiskState
-left_after g c = record { told = g.D.PageDisk.told c.create.new.disk; failures = g.D.PageDisk.failures c.create.new.disk; orders = g.D.PageDisk.orders c.create.new.disk }
+left_after g c = g.D.PageDisk.state c.create.new.disk
 
 left_unknown : (g : _) (c : goal.After-file_gone g) → finite.get c.self.inside.flusher.files c.args.table ≡ None
 left_unknown g c = unknown_is c.file.result (finite.get c.self.inside.flusher.files c.args.table) (c.file.ensures ∙ ap (finite.get c.self.inside.flusher.files) c.get-space.ensures.value) (sym c.is_some.ensures ∙ c.if-is_some.false)
@@ -123,4 +123,4 @@ returns-in-Err-clause-step g c =
     let t : Engine = engine new.self new.buffer c.file_gone.new.self (left_after g c) in
     subst (λ (s : Engine). Transacts call s t (answer_of did (Err c.in-Err.refusal))) c.self.view_is
     (transacts did call s t (Err c.in-Err.refusal) (λ (x : Unit {0}). new.self ≡ created c.args.table c.args.buckets old.transactions) (λ x does. record { is = refl; does = does; sees = tt }) (left_flights g c) c.in-Err.ensures.answer
-    (record { later = c.create.ensures.later; orders = c.create.ensures.orders; tells = created_tells (left_before g c) (left_after g c) c.args.table c.args.buckets c.create.result (left_on g c) }) (λ is. c.create.ensures.fault (c.in-Err.is ∙ is)))
+    (record { later = c.create.ensures.counts.later; orders = c.create.ensures.counts.orders; tells = created_tells (left_before g c) (left_after g c) c.args.table c.args.buckets c.create.result (left_on g c) }) (λ is. c.create.ensures.counts.fault (c.in-Err.is ∙ is)))

@@ -1,7 +1,7 @@
 use Rattle.std.proofs.Common.{sym, subst, ◌∙◌}
 use Rattle.std.proofs.lemmas.Bool.{true≢false}
 use Rattle.clone_flush.specs.Flights.{Flights, StandsFlown}
-use Rattle.clone_engine.specs.Disks.{DiskState}
+use Rattle.clone_outside.specs.DiskCalls.{DiskState}
 use Rattle.clone_engine.specs.Engine.{Engine, IsEngine, StandsBeside}
 use Rattle.clone_engine.specs.Steps as steps
 use Rattle.clone_engine.specs.Steps.{answer_of}
@@ -11,10 +11,10 @@ use Rattle.clone_engine.proofs.EngineLemmas.{engine}
 use Rattle.clone_engine.proofs.engine.Engine.drop_table.Goals as goal
 
 abbrev before : (g : _) (c : goal.After-forget_dropped g) → DiskState
-before g c = record { told = g.D.PageDisk.told c.self.inside.disk; failures = g.D.PageDisk.failures c.self.inside.disk; orders = g.D.PageDisk.orders c.self.inside.disk }
+before g c = g.D.PageDisk.state c.self.inside.disk
 
 abbrev after : (g : _) (c : goal.After-forget_dropped g) → DiskState
-after g c = record { told = g.D.PageDisk.told c.drop_table-dropped.new.disk; failures = g.D.PageDisk.failures c.drop_table-dropped.new.disk; orders = g.D.PageDisk.orders c.drop_table-dropped.new.disk }
+after g c = g.D.PageDisk.state c.drop_table-dropped.new.disk
 
 -- what the transactions say of the drop
 dropping : (g : _) (c : goal.After-forget_dropped g) → Dropping c.self.inside.transactions c.drop_table-dropped.new.self c.self.inside.buffer c.drop_table-dropped.new.buffer c.self.inside.flusher (before g c) (after g c) c.args.table c.drop_table-dropped.result
@@ -36,7 +36,7 @@ returns-clause-step g c =
     let answer = answer_of (λ (x : Unit {0}). did_drop c.args.table) b.result in
     subst (λ (s : Engine). steps.Drops c.args.table s (engine b.new.self b.new.buffer c.forget_dropped.new.flusher (after g c)) answer) c.self.view_is
     (subst (λ (x : Flights). steps.Drops c.args.table (engine old.transactions old.buffer old.flusher (before g c)) (engine b.new.self b.new.buffer x (after g c)) answer) (sym c.forget_dropped.ensures)
-    (drop_step old.transactions b.new.self old.buffer b.new.buffer old.flusher (before g c) (after g c) c.args.table b.result c.self.invariant c.laws.ensures.safe (dropping g c) b.ensures.later b.ensures.orders b.ensures.fault))
+    (drop_step old.transactions b.new.self old.buffer b.new.buffer old.flusher (before g c) (after g c) c.args.table b.result c.self.invariant c.laws.ensures.safe (dropping g c) b.ensures.counts.later b.ensures.counts.orders b.ensures.counts.fault))
 
 pub returns-clause-copies : goal.returns-clause-copies
 returns-clause-copies g c = λ copies calm st.

@@ -7,7 +7,7 @@ use Rattle.clone_flush.specs.Flights.{StandsFlown}
 use Rattle.clone_flush.specs.declared.refusal.FlushRefusal.{FlushRefusal}
 use Rattle.clone_plain.specs.Calls.{did_flush_begin}
 use Rattle.clone_plain.specs.declared.refusal.EngineRefusal.{EngineRefusal}
-use Rattle.clone_engine.specs.Disks.{DiskState}
+use Rattle.clone_outside.specs.DiskCalls.{DiskState}
 use Rattle.clone_engine.specs.Engine.{Engine, StandsBeside}
 use Rattle.clone_engine.specs.Steps.{answer_of, has_begun}
 use Rattle.clone_engine.proofs.FlushLemmas.{begun_engine, same_begun}
@@ -18,8 +18,8 @@ pub invariant_of-self : goal.invariant_of-self
 invariant_of-self g c =
     let old = c.self.inside in
     let new = c.begin.new in
-    let k : DiskState = record { told = g.D.PageDisk.told old.disk; failures = g.D.PageDisk.failures old.disk; orders = g.D.PageDisk.orders old.disk } in
-    let l : DiskState = record { told = g.D.PageDisk.told new.disk; failures = g.D.PageDisk.failures new.disk; orders = g.D.PageDisk.orders new.disk } in
+    let k : DiskState = g.D.PageDisk.state old.disk in
+    let l : DiskState = g.D.PageDisk.state new.disk in
     let is = c.begin.ensures in
     (begun_engine old.transactions (record { buffer = old.buffer; flights = old.flusher }) (record { buffer = new.buffer; flights = new.self }) k l (record { space = c.args.space; number = c.args.page }) c.begin.result
     c.laws-2.ensures.pool c.laws-2.ensures.buffer c.self.invariant (record { begins = is.begins; files = is.files; stands = is.stands; unwritten = is.unwritten })).engine_is
@@ -29,8 +29,8 @@ returns-clause-copies g c =
     let old = c.self.inside in
     let new = c.begin.new in
     let page : PageName = record { space = c.args.space; number = c.args.page } in
-    let k : DiskState = record { told = g.D.PageDisk.told old.disk; failures = g.D.PageDisk.failures old.disk; orders = g.D.PageDisk.orders old.disk } in
-    let l : DiskState = record { told = g.D.PageDisk.told new.disk; failures = g.D.PageDisk.failures new.disk; orders = g.D.PageDisk.orders new.disk } in
+    let k : DiskState = g.D.PageDisk.state old.disk in
+    let l : DiskState = g.D.PageDisk.state new.disk in
     let is = c.begin.ensures in
     let r = begun_engine old.transactions (record { buffer = old.buffer; flights = old.flusher }) (record { buffer = new.buffer; flights = new.self }) k l page c.begin.result
     c.laws-2.ensures.pool c.laws-2.ensures.buffer c.self.invariant (record { begins = is.begins; files = is.files; stands = is.stands; unwritten = is.unwritten }) in

@@ -8,5 +8,5 @@ invariant_of-self g c =
     let new = c.half.new in
     let s : State = record { buffer = old.buffer; flights = old.flusher } in
     let t : State = record { buffer = new.buffer; flights = new.self } in
-    let w = half_written_is old.transactions (record { space = c.args.space; number = c.args.page }) s t (g.D.PageDisk.told old.disk) (g.D.PageDisk.told new.disk) c.half.result c.half.ensures.halves in
+    let w = half_written_is old.transactions (record { space = c.args.space; number = c.args.page }) s t (g.D.PageDisk.state old.disk).told (g.D.PageDisk.state new.disk).told c.half.result c.half.ensures.halves in
     written_engine old.transactions s t _ _ c.self.invariant w c.half.ensures.stands

@@ -21,7 +21,7 @@ invariant_of-self g c =
     let d = old.transactions in
     let does = λ (value : Option (List ℕ)). IsTrue new.buffer.right → Gets d c.args.trx c.args.table c.args.key value in
     let grows = get_grows d c.args.trx c.args.table c.args.key old.buffer new.buffer c.get.result does is.answer in
-    still_engine 0 d d old.buffer new.buffer old.flusher _ _ c.self.invariant is.kept grows (same_pages old.buffer new.buffer (get_log d c.args.trx c.args.table c.args.key old.buffer new.buffer c.get.result does is.answer)) is.stands is.told refl
+    still_engine 0 d d old.buffer new.buffer old.flusher _ _ c.self.invariant is.kept grows (same_pages old.buffer new.buffer (get_log d c.args.trx c.args.table c.args.key old.buffer new.buffer c.get.result does is.answer)) is.stands is.reads.told refl
 
 pub returns-clause-step : goal.returns-clause-step
 returns-clause-step g c =
@@ -31,11 +31,11 @@ returns-clause-step g c =
     let d : Donor = old.transactions in
     let call = call.get c.args.trx c.args.table c.args.key in
     let did = λ (value : Option (List ℕ)). did_get c.args.trx c.args.table c.args.key value in
-    let s : Engine = engine d old.buffer old.flusher (record { told = g.D.PageDisk.told old.disk; failures = g.D.PageDisk.failures old.disk; orders = g.D.PageDisk.orders old.disk }) in
-    let t : Engine = engine d new.buffer old.flusher (record { told = g.D.PageDisk.told new.disk; failures = g.D.PageDisk.failures new.disk; orders = g.D.PageDisk.orders new.disk }) in
+    let s : Engine = engine d old.buffer old.flusher (g.D.PageDisk.state old.disk) in
+    let t : Engine = engine d new.buffer old.flusher (g.D.PageDisk.state new.disk) in
     subst (λ (s : Engine). Transacts call s t (answer_of did c.get.result)) c.self.view_is
     (transacts did call s t c.get.result (λ (value : Option (List ℕ)). IsTrue new.buffer.right → Gets d c.args.trx c.args.table c.args.key value) (λ value sees. record { is = refl; does = refl; sees = sees }) (still_flown did c.get.result old.flusher (λ _. refl)) is.answer
-    (record { later = is.later; orders = is.orders; tells = ap is_some is.told }) is.fault)
+    (record { later = is.reads.later; orders = is.reads.orders; tells = ap is_some is.reads.told }) is.reads.fault)
 
 pub returns-clause-copies : goal.returns-clause-copies
 returns-clause-copies g c =
@@ -45,7 +45,7 @@ returns-clause-copies g c =
     let d = old.transactions in
     let does = λ (value : Option (List ℕ)). IsTrue new.buffer.right → Gets d c.args.trx c.args.table c.args.key value in
     let grows = get_grows d c.args.trx c.args.table c.args.key old.buffer new.buffer c.get.result does is.answer in
-    λ copies st. stays_flown old.flusher copies old.buffer new.buffer _ _ is.told (is.stands (beside_of old.flusher copies)) grows.floor (subst (λ (s : Engine). StandsBeside s copies) (sym c.self.view_is) st)
+    λ copies st. stays_flown old.flusher copies old.buffer new.buffer _ _ is.reads.told (is.stands (beside_of old.flusher copies)) grows.floor (subst (λ (s : Engine). StandsBeside s copies) (sym c.self.view_is) st)
 
 pub returns-clause-ring : goal.returns-clause-ring
 returns-clause-ring g c =

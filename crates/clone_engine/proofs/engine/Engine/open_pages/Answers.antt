@@ -11,6 +11,6 @@ use Rattle.clone_engine.proofs.engine.Engine.open_pages.Goals as goal
 pub returns-clause-closed : goal.returns-clause-closed
 returns-clause-closed g c =
     let i = c.self.inside in
-    let e : Engine = engine i.transactions i.buffer i.flusher (record { told = g.D.PageDisk.told i.disk; failures = g.D.PageDisk.failures i.disk; orders = g.D.PageDisk.orders i.disk }) in
+    let e : Engine = engine i.transactions i.buffer i.flusher (g.D.PageDisk.state i.disk) in
     IfOk-weaker c.open_pages.result _ _ (λ pages closed. subst (λ (e : Engine). ListsOpen e pages.items) c.self.view_is
     (lists_open e pages.items c.self.invariant (λ m flown. closed (beside_of i.flusher no_copies) m flown.kept))) c.open_pages.ensures.closed

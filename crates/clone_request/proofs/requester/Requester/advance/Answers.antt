@@ -16,20 +16,20 @@ pub returns-in-Done-clause-leaves : goal.returns-in-Done-clause-leaves
 returns-in-Done-clause-leaves g c = λ stop way.
     let d = c.args.donor.now in
     let r = c.args.self.now in
-    let told = g.R.PageDisk.told c.args.disk.now in
+    let told = (g.R.PageDisk.state c.args.disk.now).told in
     let asked = asked_done r d c.ask.new.donor told stop c.in_ok-info.info (c.in_ok-info.ensures.asks told stop way) c.in-Done.is in
-    completes_leaves d c.ask.new.donor c.complete.new.donor r c.complete.new.self told (g.R.PageDisk.told c.complete.new.disk) stop c.complete.result c.in_ok-info.ensures.lends asked.0 c.complete.ensures.tells
+    completes_leaves d c.ask.new.donor c.complete.new.donor r c.complete.new.self told (g.R.PageDisk.state c.complete.new.disk).told stop c.complete.result c.in_ok-info.ensures.lends asked.0 c.complete.ensures.works.tells
     (way_unfinished d r told stop way) (c.complete.ensures.completes stop asked.1 asked.2)
 
 pub make_rooms-requires : goal.make_rooms-requires
 make_rooms-requires g c =
-    let told = g.R.PageDisk.told c.args.disk.now in
+    let told = (g.R.PageDisk.state c.args.disk.now).told in
     let stop = c.requires.under_way.0 in
     record { sizes = asked_sizes c.args.self.now c.args.donor.now c.ask.new.donor told stop c.in_ok-info.info (c.in_ok-info.ensures.asks told stop c.requires.under_way.1) c.in-FileCopy.is }
 
 pub copy_stage-requires : goal.copy_stage-requires
 copy_stage-requires g c =
-    let told = g.R.PageDisk.told c.args.disk.now in
+    let told = (g.R.PageDisk.state c.args.disk.now).told in
     let stop = c.requires.under_way.0 in
     let info = c.in_ok-info.info in
     let r = c.args.self.now in
@@ -38,12 +38,12 @@ copy_stage-requires g c =
     elim c.match-info.branch [
       | in-FileCopy+in_ok-make_rooms-in-FileCopy w ↦
           let e = w.in_ok-make_rooms-in-FileCopy.ensures in
-          let now = g.R.PageDisk.told w.make_rooms.new.disk in
-          let is = asked_begins r c.args.donor.now c.ask.new.donor told now w.make_rooms.new.self.sizes stop info c.laws.ensures.engine c.laws.ensures.safe asks w.in-FileCopy.is e.tells e.mark e.ok e.sizes in
+          let now = (g.R.PageDisk.state w.make_rooms.new.disk).told in
+          let is = asked_begins r c.args.donor.now c.ask.new.donor told now w.make_rooms.new.self.sizes stop info c.laws.ensures.engine c.laws.ensures.safe asks w.in-FileCopy.is e.works.tells e.mark e.ok e.sizes in
           record {
             copying = (
               at,
-              subst (λ (disk : g.row.R.Denot). IsCopying c.ask.new.donor (g.R.PageDisk.told disk) c.match-info.self.sizes (stage_number info.stage) info.checkpoint None at) (sym w.disk-is)
+              subst (λ (disk : g.row.R.Denot). IsCopying c.ask.new.donor (g.R.PageDisk.state disk).told c.match-info.self.sizes (stage_number info.stage) info.checkpoint None at) (sym w.disk-is)
                   (subst (λ (s : Requester). IsCopying c.ask.new.donor now s.sizes (stage_number info.stage) info.checkpoint None at) (sym w.self-is) is),
             );
           }
@@ -52,7 +52,7 @@ copy_stage-requires g c =
           record {
             copying = (
               at,
-              subst (λ (disk : g.row.R.Denot). IsCopying c.ask.new.donor (g.R.PageDisk.told disk) c.match-info.self.sizes (stage_number info.stage) info.checkpoint None at) (sym w.disk-is)
+              subst (λ (disk : g.row.R.Denot). IsCopying c.ask.new.donor (g.R.PageDisk.state disk).told c.match-info.self.sizes (stage_number info.stage) info.checkpoint None at) (sym w.disk-is)
                   (subst (λ (s : Requester). IsCopying c.ask.new.donor told s.sizes (stage_number info.stage) info.checkpoint None at) (sym w.self-is) is),
             );
           }
@@ -65,25 +65,25 @@ returns-clause-leaves g c = λ stop way.
     let u = c.copy_stage.new.donor in
     let r = c.args.self.now in
     let info = c.in_ok-info.info in
-    let told = g.R.PageDisk.told c.args.disk.now in
-    let end = g.R.PageDisk.told c.copy_stage.new.disk in
+    let told = (g.R.PageDisk.state c.args.disk.now).told in
+    let end = (g.R.PageDisk.state c.copy_stage.new.disk).told in
     let sizes = c.copy_stage.new.self.sizes in
     let asks = c.in_ok-info.ensures.asks told stop way in
     let at : Option plain.Donor = stop_after_ack r.stages d stop in
-    let Begun : Type 0 = IsCopying t (g.R.PageDisk.told c.match-info.disk) c.match-info.self.sizes (stage_number info.stage) info.checkpoint None at × (stage_number info.stage ≤ 3) × (c.match-info.self.stages ≡ r.stages) in
+    let Begun : Type 0 = IsCopying t (g.R.PageDisk.state c.match-info.disk).told c.match-info.self.sizes (stage_number info.stage) info.checkpoint None at × (stage_number info.stage ≤ 3) × (c.match-info.self.stages ≡ r.stages) in
     let begun : Begun = elim c.match-info.branch [
       | in-FileCopy+in_ok-make_rooms-in-FileCopy w ↦
           let e = w.in_ok-make_rooms-in-FileCopy.ensures in
-          let now = g.R.PageDisk.told w.make_rooms.new.disk in
-          let is = asked_begins r d t told now w.make_rooms.new.self.sizes stop info c.laws.ensures.engine c.laws.ensures.safe asks w.in-FileCopy.is e.tells e.mark e.ok e.sizes in (
-            subst (λ (disk : g.row.R.Denot). IsCopying t (g.R.PageDisk.told disk) c.match-info.self.sizes (stage_number info.stage) info.checkpoint None at) (sym w.disk-is)
+          let now = (g.R.PageDisk.state w.make_rooms.new.disk).told in
+          let is = asked_begins r d t told now w.make_rooms.new.self.sizes stop info c.laws.ensures.engine c.laws.ensures.safe asks w.in-FileCopy.is e.works.tells e.mark e.ok e.sizes in (
+            subst (λ (disk : g.row.R.Denot). IsCopying t (g.R.PageDisk.state disk).told c.match-info.self.sizes (stage_number info.stage) info.checkpoint None at) (sym w.disk-is)
                 (subst (λ (s : Requester). IsCopying t now s.sizes (stage_number info.stage) info.checkpoint None at) (sym w.self-is) is),
             subst (λ (s : Stage). stage_number s ≤ 3) (sym w.in-FileCopy.is) (omega arith),
             ap (λ (s : Requester). s.stages) w.self-is ∙ e.stages,
           )
       | in-PageCopy w ↦
           let is = asked_copies r d t told stop info asks w.in-PageCopy.is in (
-            subst (λ (disk : g.row.R.Denot). IsCopying t (g.R.PageDisk.told disk) c.match-info.self.sizes (stage_number info.stage) info.checkpoint None at) (sym w.disk-is)
+            subst (λ (disk : g.row.R.Denot). IsCopying t (g.R.PageDisk.state disk).told c.match-info.self.sizes (stage_number info.stage) info.checkpoint None at) (sym w.disk-is)
                 (subst (λ (s : Requester). IsCopying t told s.sizes (stage_number info.stage) info.checkpoint None at) (sym w.self-is) is),
             copied_low info.stage w.in-PageCopy.is,
             ap (λ (s : Requester). s.stages) w.self-is,
@@ -99,7 +99,7 @@ returns-clause-leaves g c = λ stop way.
 
 pub returns-in_err-info-clause-leaves : goal.returns-in_err-info-clause-leaves
 returns-in_err-info-clause-leaves g c = λ stop way.
-    let told = g.R.PageDisk.told c.args.disk.now in
+    let told = (g.R.PageDisk.state c.args.disk.now).told in
     leaves_failed c.args.self.now c.args.self.now c.args.donor.now c.ask.new.donor stop c.from_residual.result told _ c.from_residual.ensures.1
     (fails_unfinished c.args.donor.now c.ask.new.donor told stop stop (inl refl) (c.in_err-info.ensures.asks told stop way) (way_unfinished c.args.donor.now c.args.self.now told stop way))
 
@@ -108,17 +108,17 @@ returns-in_err-copy_stage-clause-leaves g c = λ stop way.
     let d = c.args.donor.now in
     let u = c.copy_stage.new.donor in
     let r = c.args.self.now in
-    let told = g.R.PageDisk.told c.args.disk.now in
-    let end = g.R.PageDisk.told c.copy_stage.new.disk in
+    let told = (g.R.PageDisk.state c.args.disk.now).told in
+    let end = (g.R.PageDisk.state c.copy_stage.new.disk).told in
     let at : Option plain.Donor = stop_after_ack r.stages d stop in
     let asks = c.in_ok-info.ensures.asks told stop way in
     let e = c.in_err-copy_stage.ensures in
-    let Marked : g.row.R.Denot → Type 0 = λ disk. ForTold (g.R.PageDisk.told disk) IsUnfinished in
+    let Marked : g.row.R.Denot → Type 0 = λ disk. ForTold (g.R.PageDisk.state disk).told IsUnfinished in
     let marked : Marked c.match-info.disk = elim c.match-info.branch [
       | in-FileCopy+in_ok-make_rooms-in-FileCopy w ↦
           let k = w.in_ok-make_rooms-in-FileCopy.ensures in
-          subst Marked (sym w.disk-is) (still_unfinished told (g.R.PageDisk.told w.make_rooms.new.disk) k.tells k.mark (way_unfinished d r told stop way))
+          subst Marked (sym w.disk-is) (still_unfinished told (g.R.PageDisk.state w.make_rooms.new.disk).told k.works.tells k.mark (way_unfinished d r told stop way))
       | in-PageCopy w ↦ subst Marked (sym w.disk-is) (way_unfinished d r told stop way)
     ] in
     leaves_failed r c.copy_stage.new.self d u stop c.from_residual-in_err-copy_stage.result end _ c.from_residual-in_err-copy_stage.ensures.1
-    (fails_unfinished d u end stop at (stop_either r.stages d stop) (subst (IsStopOf at) (sym e.stop) asks.2) (still_unfinished (g.R.PageDisk.told c.match-info.disk) end e.tells e.mark marked))
+    (fails_unfinished d u end stop at (stop_either r.stages d stop) (subst (IsStopOf at) (sym e.stop) asks.2) (still_unfinished (g.R.PageDisk.state c.match-info.disk).told end e.works.tells e.mark marked))

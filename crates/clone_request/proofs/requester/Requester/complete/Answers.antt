@@ -7,18 +7,18 @@ use Rattle.clone_request.proofs.requester.Requester.complete.Goals as goal
 pub returns-in_err-complete-clause-completes : goal.returns-in_err-complete-clause-completes
 returns-in_err-complete-clause-completes g c = λ stop done stopped.
     let d = c.args.donor.now in
-    let told = g.R.PageDisk.told c.args.disk.now in
-    let now = g.R.PageDisk.told c.complete.new.disk in
+    let told = (g.R.PageDisk.state c.args.disk.now).told in
+    let now = (g.R.PageDisk.state c.complete.new.disk).told in
     let end = c.end_at-end.ensures in
     completes_failed d stop c.from_residual.result told now _ c.from_residual.ensures.1 stopped
-    (partly_holds d told c.args.info.now stop done c.laws.ensures.donor c.laws.ensures.cloning c.end_at-end.result end.ranges (record { checkpoint = end.checkpoint; lsn = end.lsn; position = end.position }) now c.complete.ensures.tells stopped
+    (partly_holds d told c.args.info.now stop done c.laws.ensures.donor c.laws.ensures.cloning c.end_at-end.result end.ranges (record { checkpoint = end.checkpoint; lsn = end.lsn; position = end.position }) now c.complete.ensures.works.tells stopped
     c.in_err-complete.ensures.partial)
 
 pub returns-clause-completes : goal.returns-clause-completes
 returns-clause-completes g c = λ stop done stopped.
     let d = c.args.donor.now in
-    let told = g.R.PageDisk.told c.args.disk.now in
-    let now = g.R.PageDisk.told c.complete.new.disk in
+    let told = (g.R.PageDisk.state c.args.disk.now).told in
+    let now = (g.R.PageDisk.state c.complete.new.disk).told in
     let end = c.end_at-end.ensures in
     let passed = stop_passed d stop d.cloning.stop c.args.info.now.position done.position stopped in (
       passed.0,

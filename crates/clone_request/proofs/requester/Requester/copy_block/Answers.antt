@@ -4,10 +4,10 @@ use Rattle.clone_request.proofs.StepLemmas.{mark_same}
 use Rattle.clone_request.proofs.requester.Requester.copy_block.Goals as goal
 
 pub returns-in_err-last-clause-mark : goal.returns-in_err-last-clause-mark
-returns-in_err-last-clause-mark g c = mark_same (g.R.PageDisk.told c.args.disk.now) (g.R.PageDisk.told c.args.disk.now) refl
+returns-in_err-last-clause-mark g c = mark_same (g.R.PageDisk.state c.args.disk.now).told (g.R.PageDisk.state c.args.disk.now).told refl
 
 pub lay-requires-clause-fit : goal.lay-requires-clause-fit
 lay-requires-clause-fit g c =
-    let told = g.R.PageDisk.told c.args.disk.now in
+    let told = (g.R.PageDisk.state c.args.disk.now).told in
     let of : ℕ → Type 0 = λ stage. IsCopying c.args.donor.now told c.args.self.now.sizes stage c.args.info.now.checkpoint (Some (record { chunk = c.args.chunk; laid = c.args.number })) c.requires.copying.0 in
     (c.in_ok-last.ensures.reads told c.args.self.now.sizes c.args.info.now.checkpoint c.requires.copying.0 (subst of (sym c.number.ensures) c.requires.copying.1)).fit

@@ -1,4 +1,5 @@
 use Rattle.std.proofs.Common.{Bool, ◌+◌, ◌<◌, refl, arith, subst, ◌∙◌}
+use Rattle.clone_outside.proofs.DiskCallLemmas.{works_none, works_then}
 use Rattle.clone_snapshot.proofs.CountLemmas.{few_blocks}
 use Rattle.clone_chunk.specs.Stages.{stage_number}
 use Rattle.clone_request.specs.Copying.{IsCopying}
@@ -8,7 +9,7 @@ use Rattle.clone_request.proofs.requester.Requester.copy_chunk.Goals as goal
 
 pub loop-number-init : goal.loop-number-init
 loop-number-init g c =
-    let told = g.R.PageDisk.told c.args.disk.now in
+    let told = (g.R.PageDisk.state c.args.disk.now).told in
     record {
       copied = λ stop is. is;
       free = refl;
@@ -16,9 +17,7 @@ loop-number-init g c =
       stages = refl;
       stop = refl;
       lends = lends_same c.args.donor.now;
-      later = omega arith;
-      tells = refl;
-      orders = refl;
+      works = works_none;
     }
 
 pub copy_block-requires : goal.copy_block-requires
@@ -26,38 +25,38 @@ copy_block-requires g c = record { copying = (c.requires.copying.0, c.loop-numbe
 
 pub returns-in_err-copy_block-clause-mark : goal.returns-in_err-copy_block-clause-mark
 returns-in_err-copy_block-clause-mark g c =
-    mark_then (g.R.PageDisk.told c.args.disk.now) (g.R.PageDisk.told c.loop-number.disk) (g.R.PageDisk.told c.copy_block.new.disk) c.loop-number.invariant.mark c.in_err-copy_block.ensures.mark
+    mark_then (g.R.PageDisk.state c.args.disk.now).told (g.R.PageDisk.state c.loop-number.disk).told (g.R.PageDisk.state c.copy_block.new.disk).told c.loop-number.invariant.mark c.in_err-copy_block.ensures.mark
 
 pub returns-in_err-copy_block-clause-lends : goal.returns-in_err-copy_block-clause-lends
 returns-in_err-copy_block-clause-lends g c = lends_then c.args.donor.now c.loop-number.donor c.copy_block.new.donor c.loop-number.invariant.lends c.in_err-copy_block.ensures.lends
 
 pub returns-in_err-copy_block-clause-fault : goal.returns-in_err-copy_block-clause-fault
 returns-in_err-copy_block-clause-fault g c =
-    risen_on Bool _ c.from_residual.result c.in_err-copy_block.field-0.0 c.args.donor.now c.loop-number.donor c.copy_block.new.donor (g.R.PageDisk.failures c.args.disk.now) (g.R.PageDisk.failures c.loop-number.disk) (g.R.PageDisk.failures c.copy_block.new.disk)
-    c.loop-number.invariant.lends c.loop-number.invariant.later c.from_residual.ensures.1 c.in_err-copy_block.ensures.fault
+    risen_on Bool _ c.from_residual.result c.in_err-copy_block.field-0.0 c.args.donor.now c.loop-number.donor c.copy_block.new.donor (g.R.PageDisk.state c.args.disk.now).failures (g.R.PageDisk.state c.loop-number.disk).failures (g.R.PageDisk.state c.copy_block.new.disk).failures
+    c.loop-number.invariant.lends c.loop-number.invariant.works.later c.from_residual.ensures.1 c.in_err-copy_block.ensures.fault
 
-pub returns-in_err-copy_block-clause-later : goal.returns-in_err-copy_block-clause-later
-returns-in_err-copy_block-clause-later g c = omega (arith, c.loop-number.invariant.later, c.in_err-copy_block.ensures.later)
+pub returns-in_err-copy_block-clause-works : goal.returns-in_err-copy_block-clause-works
+returns-in_err-copy_block-clause-works g c = works_then c.loop-number.invariant.works c.in_err-copy_block.ensures.works
 
 pub returns-then-branch-clause-copied : goal.returns-then-branch-clause-copied
 returns-then-branch-clause-copied g c = λ stop is.
-    subst (λ (last : Bool). IsCopying c.copy_block.new.donor (g.R.PageDisk.told c.copy_block.new.disk) c.copy_block.new.self.sizes (stage_number c.args.info.now.stage) c.args.info.now.checkpoint (work_after c.args.chunk c.loop-number.number last) stop) c.if-branch.true
+    subst (λ (last : Bool). IsCopying c.copy_block.new.donor (g.R.PageDisk.state c.copy_block.new.disk).told c.copy_block.new.self.sizes (stage_number c.args.info.now.stage) c.args.info.now.checkpoint (work_after c.args.chunk c.loop-number.number last) stop) c.if-branch.true
     (c.in_ok-copy_block.ensures.copied stop (c.loop-number.invariant.copied stop is))
 
 pub returns-then-branch-clause-mark : goal.returns-then-branch-clause-mark
 returns-then-branch-clause-mark g c =
-    mark_then (g.R.PageDisk.told c.args.disk.now) (g.R.PageDisk.told c.loop-number.disk) (g.R.PageDisk.told c.copy_block.new.disk) c.loop-number.invariant.mark c.in_ok-copy_block.ensures.mark
+    mark_then (g.R.PageDisk.state c.args.disk.now).told (g.R.PageDisk.state c.loop-number.disk).told (g.R.PageDisk.state c.copy_block.new.disk).told c.loop-number.invariant.mark c.in_ok-copy_block.ensures.mark
 
 pub returns-then-branch-clause-lends : goal.returns-then-branch-clause-lends
 returns-then-branch-clause-lends g c = lends_then c.args.donor.now c.loop-number.donor c.copy_block.new.donor c.loop-number.invariant.lends c.in_ok-copy_block.ensures.lends
 
-pub returns-then-branch-clause-later : goal.returns-then-branch-clause-later
-returns-then-branch-clause-later g c = omega (arith, c.loop-number.invariant.later, c.in_ok-copy_block.ensures.later)
+pub returns-then-branch-clause-works : goal.returns-then-branch-clause-works
+returns-then-branch-clause-works g c = works_then c.loop-number.invariant.works c.in_ok-copy_block.ensures.works
 
 pub overflow_add-number : goal.overflow_add-number
 overflow_add-number g c =
     let stop = c.requires.copying.0 in
-    let more = subst (λ (last : Bool). IsCopying c.copy_block.new.donor (g.R.PageDisk.told c.copy_block.new.disk) c.copy_block.new.self.sizes (stage_number c.args.info.now.stage) c.args.info.now.checkpoint (work_after c.args.chunk c.loop-number.number last) stop) c.if-branch.false
+    let more = subst (λ (last : Bool). IsCopying c.copy_block.new.donor (g.R.PageDisk.state c.copy_block.new.disk).told c.copy_block.new.self.sizes (stage_number c.args.info.now.stage) c.args.info.now.checkpoint (work_after c.args.chunk c.loop-number.number last) stop) c.if-branch.false
     (c.in_ok-copy_block.ensures.copied stop (c.loop-number.invariant.copied stop c.requires.copying.1)) in
     omega (arith, (more.works (record { chunk = c.args.chunk; laid = c.loop-number.number + 1 }) refl).1, few_blocks more.session.snap.list c.args.chunk)
 
@@ -68,9 +67,9 @@ loop-number-smaller g c =
 
 pub loop-number-preserved : goal.loop-number-preserved
 loop-number-preserved g c =
-    let told = g.R.PageDisk.told c.args.disk.now in
-    let mid = g.R.PageDisk.told c.loop-number.disk in
-    let now = g.R.PageDisk.told c.copy_block.new.disk in
+    let told = (g.R.PageDisk.state c.args.disk.now).told in
+    let mid = (g.R.PageDisk.state c.loop-number.disk).told in
+    let now = (g.R.PageDisk.state c.copy_block.new.disk).told in
     let i = c.loop-number.invariant in
     let e = c.in_ok-copy_block.ensures in
     record {
@@ -80,7 +79,5 @@ loop-number-preserved g c =
       stages = e.stages ∙ i.stages;
       stop = e.stop ∙ i.stop;
       lends = lends_then c.args.donor.now c.loop-number.donor c.copy_block.new.donor i.lends e.lends;
-      later = omega (arith, i.later, e.later);
-      tells = e.tells ∙ i.tells;
-      orders = e.orders ∙ i.orders;
+      works = works_then i.works e.works;
     }

@@ -1,5 +1,6 @@
-use Rattle.std.proofs.Common.{Some, is_some, ◌≡◌, ◌≤◌, ◌-◌}
+use Rattle.std.proofs.Common.{Some, ◌≡◌, ◌-◌}
 use Rattle.std.specs.declared.option.Option.{Option}
+use Rattle.clone_outside.specs.DiskCalls.{Alters}
 use Rattle.clone_chunk.specs.Stages.{stage_number}
 use Rattle.clone_plain.specs.Donor as plain
 use Rattle.clone_request.specs.Advancing.{Lends}
@@ -10,16 +11,14 @@ use Rattle.clone_request.proofs.requester.Requester.copy_chunk.Given as goal
 abbrev pub invariant-loop-number : goal.invariant-loop-number
 invariant-loop-number g l =
     record {
-      copied : (stop : Option plain.Donor) → IsCopying l.fn.donor (g.R.PageDisk.told l.fn.disk) l.fn.self.sizes (stage_number l.info.stage) l.info.checkpoint (Some (record { chunk = l.chunk; laid = 0 })) stop
-          → IsCopying l.donor (g.R.PageDisk.told l.disk) l.self.sizes (stage_number l.info.stage) l.info.checkpoint (Some (record { chunk = l.chunk; laid = l.number })) stop;
+      copied : (stop : Option plain.Donor) → IsCopying l.fn.donor (g.R.PageDisk.state l.fn.disk).told l.fn.self.sizes (stage_number l.info.stage) l.info.checkpoint (Some (record { chunk = l.chunk; laid = 0 })) stop
+          → IsCopying l.donor (g.R.PageDisk.state l.disk).told l.self.sizes (stage_number l.info.stage) l.info.checkpoint (Some (record { chunk = l.chunk; laid = l.number })) stop;
       free : free_left l.donor ≡ free_left l.fn.donor;
-      mark : KeepsMark (g.R.PageDisk.told l.fn.disk) (g.R.PageDisk.told l.disk);
+      mark : KeepsMark (g.R.PageDisk.state l.fn.disk).told (g.R.PageDisk.state l.disk).told;
       stages : l.self.stages ≡ l.fn.self.stages;
       stop : l.donor.cloning.stop ≡ l.fn.donor.cloning.stop;
       lends : Lends l.fn.donor l.donor;
-      later : g.R.PageDisk.failures l.fn.disk ≤ g.R.PageDisk.failures l.disk;
-      tells : is_some (g.R.PageDisk.told l.disk) ≡ is_some (g.R.PageDisk.told l.fn.disk);
-      orders : g.R.PageDisk.orders l.disk ≡ g.R.PageDisk.orders l.fn.disk;
+      works : Alters ⊥ (g.R.PageDisk.state l.fn.disk) (g.R.PageDisk.state l.disk);
     }
 
 abbrev pub decreases-loop-number : goal.decreases-loop-number

@@ -1,4 +1,5 @@
 use Rattle.std.proofs.Common.{ℕ, List, refl, arith, ap, sym, subst, ◌∙◌}
+use Rattle.clone_outside.proofs.DiskCallLemmas.{works_none, works_then}
 use Rattle.clone_outside.specs.Disk.{ForTold, Steps}
 use Rattle.clone_lay.specs.Sized.{AreSizes, PageCounts}
 use Rattle.clone_request.specs.Laying.{with_rooms}
@@ -9,27 +10,25 @@ use Rattle.clone_request.proofs.requester.Requester.make_rooms.Goals as goal
 
 pub loop-space-init : goal.loop-space-init
 loop-space-init g c =
-    let told = g.R.PageDisk.told c.args.disk.now in
+    let told = (g.R.PageDisk.state c.args.disk.now).told in
     record {
       made = steps_none told;
       sizes = subst (λ (s : PageCounts). ForTold told (AreSizes s)) (sym (ap (λ (r : Requester). r.sizes) c.self.view_is)) c.requires.sizes;
       stages = ap (λ (r : Requester). r.stages) c.self.view_is;
       mark = mark_same told told refl;
-      later = omega arith;
-      tells = refl;
-      orders = refl;
+      works = works_none;
     }
 
 pub returns-in_err-make_room-clause-mark : goal.returns-in_err-make_room-clause-mark
 returns-in_err-make_room-clause-mark g c =
-    mark_then (g.R.PageDisk.told c.args.disk.now) (g.R.PageDisk.told c.loop-space.disk) (g.R.PageDisk.told c.make_room.new.disk) c.loop-space.invariant.mark
+    mark_then (g.R.PageDisk.state c.args.disk.now).told (g.R.PageDisk.state c.loop-space.disk).told (g.R.PageDisk.state c.make_room.new.disk).told c.loop-space.invariant.mark
     (mark_either _ _ _ (λ m. refl) c.in_err-make_room.ensures.partial)
 
 pub loop-space-preserved : goal.loop-space-preserved
 loop-space-preserved g c =
-    let told = g.R.PageDisk.told c.args.disk.now in
-    let mid = g.R.PageDisk.told c.loop-space.disk in
-    let now = g.R.PageDisk.told c.make_room.new.disk in
+    let told = (g.R.PageDisk.state c.args.disk.now).told in
+    let mid = (g.R.PageDisk.state c.loop-space.disk).told in
+    let now = (g.R.PageDisk.state c.make_room.new.disk).told in
     let i = c.loop-space.invariant in
     let e = c.in_ok-make_room.ensures in
     record {
@@ -37,13 +36,11 @@ loop-space-preserved g c =
       sizes = e.sizes;
       stages = i.stages;
       mark = mark_then told mid now i.mark (mark_by mid now _ (λ m. refl) e.ok);
-      later = omega (arith, i.later, e.cause.later);
-      tells = e.tells ∙ i.tells;
-      orders = e.orders ∙ i.orders;
+      works = works_then i.works e.works;
     }
 
 pub returns-clause-ok : goal.returns-clause-ok
 returns-clause-ok g c =
-    let told = g.R.PageDisk.told c.args.disk.now in
-    let now = g.R.PageDisk.told c.loop-space.disk in
+    let told = (g.R.PageDisk.state c.args.disk.now).told in
+    let now = (g.R.PageDisk.state c.loop-space.disk).told in
     subst (λ (ss : List (ℕ × ℕ)). Steps told now (with_rooms ss)) c.as_slice-space-items.ensures (rooms_end c.as_slice-space-items.result.now c.loop-space.space-index told now c.loop-space-test.false c.loop-space.invariant.made)

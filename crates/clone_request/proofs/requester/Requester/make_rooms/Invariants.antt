@@ -1,5 +1,6 @@
-use Rattle.std.proofs.Common.{is_some, ◌≡◌, ◌≤◌}
+use Rattle.std.proofs.Common.{◌≡◌}
 use Rattle.clone_outside.specs.Disk.{ForTold}
+use Rattle.clone_outside.specs.DiskCalls.{Alters}
 use Rattle.clone_lay.specs.Sized.{AreSizes}
 use Rattle.clone_request.specs.Laying.{KeepsMark}
 use Rattle.clone_request.proofs.LayLemmas.{HasRooms}
@@ -8,11 +9,9 @@ use Rattle.clone_request.proofs.requester.Requester.make_rooms.Given as goal
 abbrev pub invariant-loop-space : goal.invariant-loop-space
 invariant-loop-space g l =
     record {
-      made : HasRooms l.space-items l.space-index (g.R.PageDisk.told l.fn.disk) (g.R.PageDisk.told l.disk);
-      sizes : ForTold (g.R.PageDisk.told l.disk) (AreSizes l.self-inside.sizes);
+      made : HasRooms l.space-items l.space-index (g.R.PageDisk.state l.fn.disk).told (g.R.PageDisk.state l.disk).told;
+      sizes : ForTold (g.R.PageDisk.state l.disk).told (AreSizes l.self-inside.sizes);
       stages : l.self-inside.stages ≡ l.fn.self.stages;
-      mark : KeepsMark (g.R.PageDisk.told l.fn.disk) (g.R.PageDisk.told l.disk);
-      later : g.R.PageDisk.failures l.fn.disk ≤ g.R.PageDisk.failures l.disk;
-      tells : is_some (g.R.PageDisk.told l.disk) ≡ is_some (g.R.PageDisk.told l.fn.disk);
-      orders : g.R.PageDisk.orders l.disk ≡ g.R.PageDisk.orders l.fn.disk;
+      mark : KeepsMark (g.R.PageDisk.state l.fn.disk).told (g.R.PageDisk.state l.disk).told;
+      works : Alters ⊥ (g.R.PageDisk.state l.fn.disk) (g.R.PageDisk.state l.disk);
     }

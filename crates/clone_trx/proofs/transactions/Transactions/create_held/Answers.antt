@@ -46,7 +46,7 @@ returns-in-Err-clause-stands g c =
     let safe : IsSafe c.args.self.now = subst IsSafe c.self.view_is c.self.invariant.0 in
     let may = may_create c.args.self.now c.args.table safe.tables.few c.requires.cause in
     λ beside _. disk_failed c.args.buffer.now c.args.table c.args.buckets c.laws.ensures.buffer (λ right. no_space c.args.self.now (image_of c.args.buffer.now) c.args.table (c.requires.kept right) c.requires.table.0 may.0)
-    (g.D.PageDisk.told c.args.disk.now) (g.D.PageDisk.told c.create.new.self) c.in-Err.refusal (λ is. c.in-Err.ensures.fault (ap Err is)) (λ is. c.in-Err.ensures.memory (ap Err is)) beside
+    (g.D.PageDisk.state c.args.disk.now).told (g.D.PageDisk.state c.create.new.self).told c.in-Err.refusal (λ is. c.in-Err.ensures.takes.failed (ap Err is)) (λ is. c.in-Err.ensures.takes.memory (ap Err is)) beside
 
 -- Else the table is made.
 
@@ -105,11 +105,11 @@ returns-clause-kept g c =
 
 pub returns-clause-stands : goal.returns-clause-stands
 returns-clause-stands g c = λ beside calm st.
-    let before = g.D.PageDisk.told c.args.disk.now in
-    let after = g.D.PageDisk.told c.create.new.self in
+    let before = (g.D.PageDisk.state c.args.disk.now).told in
+    let after = (g.D.PageDisk.state c.create.new.self).told in
     let safe : IsSafe c.args.self.now = subst IsSafe c.self.view_is c.self.invariant.0 in
     let may = may_create c.args.self.now c.args.table safe.tables.few c.requires.cause in
-    let step : Steps before after (λ m. with_created m c.args.table c.args.buckets) = c.in_default.ensures.created in
+    let step : Steps before after (λ m. with_created m c.args.table c.args.buckets) = c.in_default.ensures.takes.done in
     let stood = disk_made c.args.buffer.now c.args.table c.args.buckets c.laws.ensures.buffer (λ right. no_space c.args.self.now (image_of c.args.buffer.now) c.args.table (c.requires.kept right) c.requires.table.0 may.0) before after step beside st in
     c.write_space_held.ensures.stands beside after
     (subst (λ (rs : List Record). ForTold after (HasMade rs)) (sym (records g c)) (has_made before after c.args.table c.args.buckets (entry_record (number_of_free_entry (page_in c.args.at c.args.buffer.now)) (record { table = c.args.table; buckets = c.args.buckets; pages = c.args.buckets }) ∷ []) step))

@@ -45,8 +45,8 @@ returns-clause-kept g c = λ right. subst (λ (d : Donor). IsKept d (image_of c.
 
 pub returns-clause-stands : goal.returns-clause-stands
 returns-clause-stands g c = λ beside calm quiet st.
-    let before = g.D.PageDisk.told c.args.disk.now in
-    let after = g.D.PageDisk.told c.remove_file.new.disk in
+    let before = (g.D.PageDisk.state c.args.disk.now).told in
+    let after = (g.D.PageDisk.state c.remove_file.new.disk).told in
     let new : Buffered = c.write_drop_held.new.buffer in
     disk_removed new c.args.table c.laws.ensures.buffer (space_gone c.args.self.now new c.args.table (above g c) (keeps g c)) before after c.remove_file.ensures.removed beside
     (c.write_drop_held.ensures.stands before beside calm quiet st)

@@ -4,11 +4,10 @@ use Rattle.std.specs.Prelude.{option_map}
 use Rattle.std.specs.declared.option.Option.{Option}
 use Rattle.std.specs.FinMap as finite
 use Rattle.std.proofs.lemmas.List.{length-take-le, take-append-drop, take_at}
-use Rattle.clone_outside.specs.Disk.{DiskImage, Steps, changed, with_page, edited, half_written, rest_written}
+use Rattle.clone_outside.specs.Disk.{DiskImage, Steps, changed, with_page, edited, half_written, rest_written, whole, with_space}
 use Rattle.clone_outside.specs.declared.disk.Held.{Held}
 use Rattle.clone_outside.specs.declared.disk.TheConstants.{HALF_PAGE}
-use Rattle.clone_lay.specs.Laid.{whole, with_space}
-use Rattle.clone_lay.proofs.SpaceLemmas.{get_here, given_twice}
+use Rattle.clone_outside.proofs.SpaceLemmas.{get_here, given_twice}
 
 halves_join : (page : List ℕ) (held : Held) → length page ≡ 4096 → rest_written page (half_written page held) ≡ whole page
 halves_join page held long =

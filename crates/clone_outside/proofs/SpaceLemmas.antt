@@ -8,9 +8,8 @@ use Rattle.std.specs.Cmp.{nat_cmp_total}
 use Rattle.std.proofs.lemmas.Bool.{cases_eq}
 use Rattle.std.proofs.lemmas.Map.Lookups.{exact_unsigned}
 use Rattle.clone_base.proofs.MapEntries.{get-set_same, get-set_other}
-use Rattle.clone_outside.specs.Disk.{DiskImage, Spaces, changed, with_page, edited}
+use Rattle.clone_outside.specs.Disk.{DiskImage, Spaces, changed, with_page, edited, pages_in, with_space}
 use Rattle.clone_outside.specs.declared.disk.Held.{Held}
-use Rattle.clone_lay.specs.Laid.{pages_in, with_space}
 
 pub get_here : (m : DiskImage) (s : ℕ) (pages : List Held) → finite.get (with_space s pages m).spaces s ≡ Some pages
 get_here m s pages = get-set_same nat_cmp_total exact_unsigned m.spaces s pages

@@ -1,14 +1,12 @@
--- What is left of a disk where a call that changes one space failed, and what it still tells.
-use Rattle.std.proofs.Common.{◌≡◌, ℕ, List, refl, ap, sym, subst, ◌∙◌, Option, None, Some, is_some, Result, Ok, Err, OnOk, OnErr, inl, inr}
+-- What is left of a disk where a call that changes one space failed.
+use Rattle.std.proofs.Common.{◌≡◌, ℕ, List, refl, sym, subst, ◌∙◌, Option, None, Some, Result, Ok, Err, OnErr}
 use Rattle.std.specs.Prelude.{IsErrOf, IsSomeAnd}
 use Rattle.std.specs.FinMap as finite
-use Rattle.clone_outside.specs.Disk.{DiskImage, Steps, IsBeforeOrAfter, Opens, changed, extended, with_page, with_pages, opened, edited}
+use Rattle.clone_outside.specs.Disk.{DiskImage, Steps, Opens, IsSameBut, ChangesOnly, changed, with_page, with_pages, with_space, opened, edited}
 use Rattle.clone_outside.specs.declared.Refusal.{Refusal}
 use Rattle.clone_outside.specs.declared.Refusal.TheVariants.{Fault, NoMemory}
 use Rattle.clone_outside.specs.declared.disk.Held.{Held}
-use Rattle.clone_lay.specs.Faults.{IsSameBut, ChangesOnly}
-use Rattle.clone_lay.specs.Laid.{pages_in, with_room, with_space}
-use Rattle.clone_lay.proofs.SpaceLemmas.{get_there}
+use Rattle.clone_outside.proofs.SpaceLemmas.{get_there}
 
 -- what is known of each error
 pub failed : {T P : Type 0} (r : Result T Refusal) → (IsErrOf r Fault → P) → (IsErrOf r NoMemory → P) → OnErr r P
@@ -20,16 +18,6 @@ failed (Err NoMemory) fault memory = memory refl
 pub on_err_known : {T E P : Type 0} (r : Result T E) → P → OnErr r P
 on_err_known (Ok x) known = tt
 on_err_known (Err e) known = known
-
-pub steps_tell : (old new : Option DiskImage) (step : DiskImage → DiskImage) → Steps old new step → is_some new ≡ is_some old
-steps_tell None new step is = ap is_some is
-steps_tell (Some m) new step is = ap is_some is
-
--- half of a page was written, or a fault left its write open
-pub half_tells : {T : Type 0} (r : Result T Refusal) (old new : Option DiskImage) (s n : ℕ) (step : DiskImage → DiskImage) → OnOk r (Steps old new step) → (IsErrOf r Fault → Opens s n old new) → (IsErrOf r NoMemory → new ≡ old) → is_some new ≡ is_some old
-half_tells (Ok x) old new s n step ok fault memory = steps_tell old new step ok
-half_tells (Err Fault) old new s n step ok fault memory = let opens = fault refl in steps_tell old new _ opens.1
-half_tells (Err NoMemory) old new s n step ok fault memory = ap is_some (memory refl)
 
 -- a space got its pages
 pub space_changes : (s : ℕ) (pages : List Held) (m : DiskImage) → IsSameBut s m (with_space s pages m)
@@ -64,11 +52,3 @@ module _ (s : ℕ) where
       failed r
       (λ is. let opens = fault is in changes_by told now (λ m. with_page m s n (opened opens.0)) (pages_change s (edited n (opened opens.0))) opens.1)
       (λ is. changes_none told now (memory is))
-
-  pub room_changes : (told now : Option DiskImage) (count : ℕ) → Steps told now (with_room s count) → ChangesOnly s told now
-  room_changes told now count steps = changes_by told now (with_room s count) (λ m. space_changes s (extended count (pages_in m s)) m) steps
-
-  -- room was made, or not
-  pub either_changes : (told now : Option DiskImage) (count : ℕ) → IsBeforeOrAfter told now (with_room s count) → ChangesOnly s told now
-  either_changes told now count (inl same) = changes_none told now same
-  either_changes told now count (inr steps) = room_changes told now count steps
