@@ -2,3 +2,5 @@ pub mod Chunks
 pub mod Lives
 pub mod Stages
 pub mod Bitmaps
+pub mod Causes
+pub mod CauseTexts

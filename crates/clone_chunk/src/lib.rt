@@ -1,9 +1,10 @@
 //! The stages of a clone, and the chunks of a stage: which are free, which a task has claimed, and
 //! which are finished. And what donor and requester tell each other of these: a bit for each chunk,
-//! the redo of a block, the spaces of a stage.
+//! the redo of a block, the spaces of a stage, and why a call is refused.
 #![tactic(auto)]
 
 mod bitmap;
+mod cause;
 mod chunk;
 mod copy_stage;
 mod laws;
@@ -13,6 +14,7 @@ mod spaces;
 mod stage;
 
 pub use bitmap::{Bitmap, MOST_CHUNKS, ends_at};
+pub use cause::CloneCause;
 pub use chunk::Chunk;
 pub use copy_stage::CopyStage;
 pub use laws::claimed_once;

@@ -1,4 +1,6 @@
-use clone_page::Page;
+use clone_base::BLOCK_PAGES;
+use clone_chunk::{Bitmap, CloneCause, CopyStage, RedoBytes, SpaceSize, Spaces};
+use clone_page::{Page, PageAt, Pages};
 use clone_wire::*;
 use std::alloc::{AllocError, Global};
 use std::test::*;
@@ -271,10 +273,10 @@ fn others(alloc: Global) -> Result<Vec<Frame>, AllocError> {
                 stage: CopyStage::PageCopy,
             },
             Frame::Refused {
-                refusal: Refusal::ChunksLeft { count: 3 },
+                cause: CloneCause::ChunksLeft { count: 3 },
             },
             Frame::Refused {
-                refusal: Refusal::NoSuchSession,
+                cause: CloneCause::NoSuchSession,
             },
         ],
     )?)
@@ -448,7 +450,7 @@ fn pages_frame(alloc: Global) -> Result<Frame, AllocError> {
             page: Page::from_bytes(&[number; 4096]),
         })?;
     }
-    if list.is_empty() || list.len() > MOST_PAGES {
+    if list.is_empty() || list.len() > BLOCK_PAGES {
         return Err(AllocError);
     }
     Ok(Frame::Pages {

@@ -12,14 +12,15 @@ use Rattle.clone_bytes.proofs.Fields.{number_laws, run_laws, judged_laws}
 use Rattle.clone_bytes.proofs.Formats.{followed_laws, seen_laws, made_laws, tested_laws}
 use Rattle.clone_wire.specs.declared.numbers.Numbers.{Numbers}
 use Rattle.clone_wire.specs.declared.fault.Fault.TheVariants.{Short, Garbled}
-use Rattle.clone_wire.specs.declared.stage.CopyStage.{CopyStage}
-use Rattle.clone_wire.specs.declared.stage.CopyStage.TheVariants as copy
+use Rattle.clone_chunk.specs.declared.copy_stage.CopyStage.{CopyStage}
+use Rattle.clone_chunk.specs.declared.copy_stage.CopyStage.TheVariants as copy
 use Rattle.clone_wire.specs.declared.stage.PageStage.{PageStage}
 use Rattle.clone_wire.specs.declared.stage.PageStage.TheVariants as page
-use Rattle.clone_wire.specs.Bitmaps.{Bits, ends_at}
+use Rattle.clone_chunk.specs.Bitmaps.{Bits, ends_at}
 use Rattle.clone_wire.specs.Choices.{has_between, between, only, any_if}
 use Rattle.clone_wire.specs.Frames.{IsOneOf}
-use Rattle.clone_wire.specs.Stages.{copy_number, copy_numbered, page_number, page_numbered}
+use Rattle.clone_chunk.specs.Stages.{copy_number, copy_numbered}
+use Rattle.clone_wire.specs.Stages.{page_number, page_numbered}
 use Rattle.clone_wire.specs.Spelling.{flag}
 use Rattle.clone_wire.specs.Reading.{refusals, word, judge_in, one_in, number_in, bitmap, flag_in, copy_in, pages_in, attempt, space}
 use Rattle.clone_wire.specs.Reading as Reading

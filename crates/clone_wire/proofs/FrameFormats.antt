@@ -12,10 +12,10 @@ use Rattle.clone_wire.specs.declared.frame.Frame.TheVariants.{Execute, Exit, End
 use Rattle.clone_wire.specs.Choices.{only}
 use Rattle.clone_wire.specs.Frames.{IsOneOf, IsHead, codes, lengths}
 use Rattle.clone_wire.specs.Spelling.{payload}
-use Rattle.clone_wire.specs.Reading.{refusals, framed, copy_in, attempt, init, attach, reinit, ack, exit, refusal, payload_of, head, frame, frame_at}
+use Rattle.clone_wire.specs.Reading.{refusals, framed, copy_in, attempt, init, attach, reinit, ack, exit, cause, payload_of, head, frame, frame_at}
 use Rattle.clone_wire.specs.Reading as Reading
 use Rattle.clone_wire.proofs.FieldFormats.{IsChoice, words, number_in_laws, range_choice, same_number, flag_laws, copy_laws, pages_in_laws, bitmap_laws, attempt_laws, page_laws}
-use Rattle.clone_wire.proofs.PlanFormats.{plan_laws, refusal_laws}
+use Rattle.clone_wire.proofs.PlanFormats.{plan_laws, cause_laws}
 
 -- ---- payloads
 
@@ -57,8 +57,8 @@ redo_laws n few =
 end_laws : IsFormat refusals 5 (framed (λ x. End x.0 x.1) (attempt & copy_in 17))
 end_laws = made_laws payload _ (followed_laws attempt_laws (λ attempt a. copy_laws 17 _ (omega arith))) (λ x has. refl)
 
-refused_laws : IsFormat refusals 5 (framed Refused refusal)
-refused_laws = made_laws payload Refused (refusal_laws (omega arith)) (λ x has. refl)
+refused_laws : IsFormat refusals 5 (framed Refused cause)
+refused_laws = made_laws payload Refused (cause_laws (omega arith)) (λ x has. refl)
 
 -- ---- a payload by its code
 

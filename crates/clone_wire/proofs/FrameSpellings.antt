@@ -11,22 +11,22 @@ use Rattle.clone_wire.specs.declared.frame.Side.{Side}
 use Rattle.clone_wire.specs.declared.frame.Side.TheVariants.{Command, Answer}
 use Rattle.clone_wire.specs.declared.frame.Frame.{Frame}
 use Rattle.clone_wire.specs.declared.frame.Frame.TheVariants.{Init, Attach, Reinit, Execute, Ack, Exit, Stage, Pages, Redo, End, Refused}
-use Rattle.clone_wire.specs.declared.spaces.SpaceSize.{SpaceSize}
-use Rattle.clone_wire.specs.declared.pages.PageAt.{PageAt}
+use Rattle.clone_chunk.specs.declared.spaces.SpaceSize.{SpaceSize}
+use Rattle.clone_page.specs.declared.pages.PageAt.{PageAt}
 use Rattle.clone_wire.specs.declared.stage.StagePlan.{StagePlan}
 use Rattle.clone_wire.specs.declared.stage.StagePlan.TheVariants as plan
 use Rattle.clone_wire.specs.Choices as Choices
-use Rattle.clone_wire.specs.Bitmaps.{ends_at}
-use Rattle.clone_wire.specs.declared.refusal.Refusal.{Refusal}
+use Rattle.clone_chunk.specs.Bitmaps.{ends_at}
+use Rattle.clone_chunk.specs.declared.cause.CloneCause.{CloneCause}
 use Rattle.clone_wire.specs.declared.fault.Fault.TheVariants.{Short}
 use Rattle.clone_bytes.specs.Fields.{IsBytes}
 use Rattle.clone_wire.specs.Frames.{IsOneOf, IsHead, codes, lengths}
 use Rattle.clone_wire.specs.Ranges.{AllAre, IsPageAt, IsPlan, IsFrame}
 use Rattle.clone_wire.specs.Spelling.{side_of, code_of, spaces_of, space_bytes, page_bytes, plan_bytes, payload, spelling}
-use Rattle.clone_wire.specs.Reading.{refusals, framed, copy_in, attempt, counted, init, attach, reinit, ack, refusal, payload_of, head, frame, frame_at}
+use Rattle.clone_wire.specs.Reading.{refusals, framed, copy_in, attempt, counted, init, attach, reinit, ack, cause, payload_of, head, frame, frame_at}
 use Rattle.clone_wire.specs.Reading as Reading
 use Rattle.clone_wire.proofs.FieldFormats.{in_range, has_flag, has_copy, has_pages}
-use Rattle.clone_wire.proofs.PlanFormats.{plan_is, has_plan, refusal_fits, has_refusal, only_one}
+use Rattle.clone_wire.proofs.PlanFormats.{plan_is, has_plan, cause_fits, has_cause, only_one}
 use Rattle.clone_wire.proofs.FrameFormats.{known, payload_laws, payload_text, head_laws}
 
 -- ---- how long lists are
@@ -84,8 +84,8 @@ redo_sound long l a h =
     let run = h.1.1.1.1.1.1 in
     (refl, omega (arith, run.0, l.low), (h.0, h.1.1.0, h.1.1.1.0, h.1.1.1.1.0, run.1, omega (arith, run.0, l.low), omega (arith, run.0, l.high)))
 
-refused_is : (r : Refusal) → refusal.Has r → IsFrame (Refused r)
-refused_is r has = subst (λ r. IsFrame (Refused r)) has.2 (refusal_fits has.0 has.1)
+refused_is : (r : CloneCause) → cause.Has r → IsFrame (Refused r)
+refused_is r has = subst (λ r. IsFrame (Refused r)) has.2 (cause_fits has.0 has.1)
 
 sound : (side : Side) (code long : ℕ) (x : Frame) → IsOneOf (codes side) code → IsHead code long → (payload_of code long).Has x → Sound code long x
 sound side code long x one head has =
@@ -153,7 +153,7 @@ has_fields (Redo attempt chunk block from bytes) is =
     subst (λ m. (Reading.redo m).Has (Redo attempt chunk block from bytes)) size
     ((attempt, (3, (chunk, (block, (from, (n, bytes)))))), (is.0, (only_one 3, (is.1, (is.2, (is.3, (only_one n, (refl, is.4))))))), refl)
 has_fields (End attempt stage) is = ((attempt, stage), (is, has_copy 17 stage), refl)
-has_fields (Refused r) is = (r, has_refusal r is, refl)
+has_fields (Refused r) is = (r, has_cause r is, refl)
 
 few_spaces : (plan : StagePlan) → IsPlan plan → length (spaces_of plan) ≤ 63
 few_spaces (plan.FileCopy chunks spaces) is = is.2

@@ -7,5 +7,4 @@ pub mod Decoding
 pub mod Unique
 pub mod Digits
 pub mod Lists
-mod SetBits
 mod Onward

@@ -1,4 +1,4 @@
--- The plan of a stage and a refusal are formats.
+-- The plan of a stage and the cause of a refusal are formats.
 use Rattle.std.proofs.Common.{◌≡◌, ℕ, zero, suc, ◌+◌, ◌^◌, ◌≤◌, ◌==◌, Bool, true, false, cond, List, [], ◌∷◌, ◌++◌, length, refl, sym, ap, subst, ◌∙◌, arith}
 use Rattle.std.specs.Prelude.{nat_le, not}
 use Rattle.std.specs.List.{flat_map}
@@ -8,15 +8,15 @@ use Rattle.clone_bytes.specs.Formats.{IsFormat}
 use Rattle.clone_bytes.proofs.Formats.{followed_laws, made_laws, list_laws}
 use Rattle.clone_wire.specs.declared.stage.StagePlan.{StagePlan}
 use Rattle.clone_wire.specs.declared.stage.StagePlan.TheVariants as plan
-use Rattle.clone_wire.specs.declared.refusal.Refusal.{Refusal}
-use Rattle.clone_wire.specs.declared.refusal.Refusal.TheVariants.{CloneBusy, VersionMismatch, PageSizeMismatch, CompressionRefused, TasksOutOfRange, NoSuchSession, Stale, StageMismatch, ChunksLeft, FloorAhead, NotClaimed, ArchiveBehind}
-use Rattle.clone_wire.specs.declared.spaces.SpaceSize.{SpaceSize}
+use Rattle.clone_chunk.specs.declared.cause.CloneCause.{CloneCause}
+use Rattle.clone_chunk.specs.declared.cause.CloneCause.TheVariants.{Busy, VersionMismatch, PageSizeMismatch, CompressionRefused, TasksOutOfRange, NoSuchSession, Stale, StageMismatch, ChunksLeft, FloorAhead, NotClaimed, ArchiveBehind}
+use Rattle.clone_chunk.specs.declared.spaces.SpaceSize.{SpaceSize}
 use Rattle.clone_wire.specs.Choices.{between, any_if}
 use Rattle.clone_wire.specs.Frames.{IsOneOf}
 use Rattle.clone_wire.specs.Ranges.{HasWidth, AllAre, IsSpace, IsPlan}
-use Rattle.clone_wire.specs.Refusals.{value_count, refusal_number, refusal_first, refusal_second, refusal_numbered, refusal_text}
-use Rattle.clone_wire.specs.Spelling.{space_bytes, plan_bytes, spaces_of}
-use Rattle.clone_wire.specs.Reading.{refusals, planned, plan_fields, stage_plan, refusal}
+use Rattle.clone_chunk.specs.Causes.{cause_number, cause_first, cause_second, cause_numbered}
+use Rattle.clone_wire.specs.Spelling.{space_bytes, cause_bytes, plan_bytes, spaces_of}
+use Rattle.clone_wire.specs.Reading.{refusals, planned, plan_fields, stage_plan, value_count, cause}
 use Rattle.clone_wire.proofs.FieldFormats.{IsChoice, number_in_laws, range_choice, any_choice, in_range, same_number, space_laws}
 
 abbrev most8 : ℕ
@@ -104,40 +104,40 @@ has_plan (plan.RedoCopy chunks checkpoint lsn position) is =
 has_plan (plan.Done checkpoint lsn position) is =
     ((4, (0, (checkpoint, (lsn, (position, (0, [])))))), (in_range 1 4 4 (omega arith) (omega arith), (none_one false 0xFFFFFFFF, (has_one 8 most8 checkpoint (omega arith) is.0, (has_one 8 most8 lsn (omega arith) is.1, (has_one 8 most8 position (omega arith) is.2, (only_one 0, (refl, tt))))))), refl)
 
--- ---- refusals
+-- ---- causes
 
 abbrev AreFields : ℕ → ℕ → ℕ → Type 0
-AreFields n x y = (refusal_number (refusal_numbered n x y) ≡ n) × (refusal_first (refusal_numbered n x y) ≡ x) × (refusal_second (refusal_numbered n x y) ≡ y)
+AreFields n x y = (cause_number (cause_numbered n x y) ≡ n) × (cause_first (cause_numbered n x y) ≡ x) × (cause_second (cause_numbered n x y) ≡ y)
 
-refusal_is : (number first second : ℕ) → IsOneOf (between 1 12) number → IsOneOf (any_if (nat_le 1 (value_count number)) most8) first → IsOneOf (any_if (nat_le 2 (value_count number)) most8) second → AreFields number first second
-refusal_is zero first second one some more = absurd (omega (arith, one.low))
-refusal_is (suc zero) first second one some more = (refl, refl, no_value most8 second more)
-refusal_is (suc (suc zero)) first second one some more = (refl, refl, no_value most8 second more)
-refusal_is (suc (suc (suc zero))) first second one some more = (refl, refl, no_value most8 second more)
-refusal_is (suc (suc (suc (suc zero)))) first second one some more = (refl, no_value most8 first some, no_value most8 second more)
-refusal_is (suc (suc (suc (suc (suc zero))))) first second one some more = (refl, refl, no_value most8 second more)
-refusal_is (suc (suc (suc (suc (suc (suc zero)))))) first second one some more = (refl, no_value most8 first some, no_value most8 second more)
-refusal_is (suc (suc (suc (suc (suc (suc (suc zero))))))) first second one some more = (refl, refl, no_value most8 second more)
-refusal_is (suc (suc (suc (suc (suc (suc (suc (suc zero)))))))) first second one some more = (refl, refl, refl)
-refusal_is (suc (suc (suc (suc (suc (suc (suc (suc (suc zero))))))))) first second one some more = (refl, refl, no_value most8 second more)
-refusal_is (suc (suc (suc (suc (suc (suc (suc (suc (suc (suc zero)))))))))) first second one some more = (refl, refl, refl)
-refusal_is (suc (suc (suc (suc (suc (suc (suc (suc (suc (suc (suc zero))))))))))) first second one some more = (refl, no_value most8 first some, no_value most8 second more)
-refusal_is (suc (suc (suc (suc (suc (suc (suc (suc (suc (suc (suc (suc zero)))))))))))) first second one some more = (refl, refl, refl)
-refusal_is (suc (suc (suc (suc (suc (suc (suc (suc (suc (suc (suc (suc (suc n))))))))))))) first second one some more = absurd (omega (arith, one.high))
+cause_is : (number first second : ℕ) → IsOneOf (between 1 12) number → IsOneOf (any_if (nat_le 1 (value_count number)) most8) first → IsOneOf (any_if (nat_le 2 (value_count number)) most8) second → AreFields number first second
+cause_is zero first second one some more = absurd (omega (arith, one.low))
+cause_is (suc zero) first second one some more = (refl, refl, no_value most8 second more)
+cause_is (suc (suc zero)) first second one some more = (refl, refl, no_value most8 second more)
+cause_is (suc (suc (suc zero))) first second one some more = (refl, refl, no_value most8 second more)
+cause_is (suc (suc (suc (suc zero)))) first second one some more = (refl, no_value most8 first some, no_value most8 second more)
+cause_is (suc (suc (suc (suc (suc zero))))) first second one some more = (refl, refl, no_value most8 second more)
+cause_is (suc (suc (suc (suc (suc (suc zero)))))) first second one some more = (refl, no_value most8 first some, no_value most8 second more)
+cause_is (suc (suc (suc (suc (suc (suc (suc zero))))))) first second one some more = (refl, refl, no_value most8 second more)
+cause_is (suc (suc (suc (suc (suc (suc (suc (suc zero)))))))) first second one some more = (refl, refl, refl)
+cause_is (suc (suc (suc (suc (suc (suc (suc (suc (suc zero))))))))) first second one some more = (refl, refl, no_value most8 second more)
+cause_is (suc (suc (suc (suc (suc (suc (suc (suc (suc (suc zero)))))))))) first second one some more = (refl, refl, refl)
+cause_is (suc (suc (suc (suc (suc (suc (suc (suc (suc (suc (suc zero))))))))))) first second one some more = (refl, no_value most8 first some, no_value most8 second more)
+cause_is (suc (suc (suc (suc (suc (suc (suc (suc (suc (suc (suc (suc zero)))))))))))) first second one some more = (refl, refl, refl)
+cause_is (suc (suc (suc (suc (suc (suc (suc (suc (suc (suc (suc (suc (suc n))))))))))))) first second one some more = absurd (omega (arith, one.high))
 
-abbrev RefusalFields : ℕ × (ℕ × ℕ) → Type 0
-RefusalFields x = IsOneOf (between 1 12) x.0 × (IsOneOf (any_if (nat_le 1 (value_count x.0)) most8) x.1.0 × IsOneOf (any_if (nat_le 2 (value_count x.0)) most8) x.1.1)
+abbrev CauseFields : ℕ × (ℕ × ℕ) → Type 0
+CauseFields x = IsOneOf (between 1 12) x.0 × (IsOneOf (any_if (nat_le 1 (value_count x.0)) most8) x.1.0 × IsOneOf (any_if (nat_le 2 (value_count x.0)) most8) x.1.1)
 
-pub refusal_laws : {p : ℕ} → 5 ≤ p → IsFormat refusals p refusal
-refusal_laws there =
-    made_laws refusal_text _ (followed_laws (number_in_laws 5 1 _ (between 1 12) (range_choice 1 1 12 (omega arith) (omega arith)) there)
+pub cause_laws : {p : ℕ} → 5 ≤ p → IsFormat refusals p cause
+cause_laws there =
+    made_laws cause_bytes _ (followed_laws (number_in_laws 5 1 _ (between 1 12) (range_choice 1 1 12 (omega arith) (omega arith)) there)
     (λ number n. followed_laws (number_in_laws 6 8 _ _ (any_choice 8 (nat_le 1 (value_count number)) most8 (omega arith)) (omega arith)) (λ first f. number_in_laws 14 8 _ _ (any_choice 8 (nat_le 2 (value_count number)) most8 (omega arith)) (omega arith))))
-    (λ x has. (let are = refusal_is x.0 x.1.0 x.1.1 has.0 has.1.0 has.1.1 in ap (λ k. big_bytes 1 k ++ big_bytes 8 (refusal_first (refusal_numbered x.0 x.1.0 x.1.1)) ++ big_bytes 8 (refusal_second (refusal_numbered x.0 x.1.0 x.1.1))) are.0 ∙ rw (are.1, are.2) refl))
+    (λ x has. (let are = cause_is x.0 x.1.0 x.1.1 has.0 has.1.0 has.1.1 in ap (λ k. big_bytes 1 k ++ big_bytes 8 (cause_first (cause_numbered x.0 x.1.0 x.1.1)) ++ big_bytes 8 (cause_second (cause_numbered x.0 x.1.0 x.1.1))) are.0 ∙ rw (are.1, are.2) refl))
 
--- the values of a refusal that was read have eight bytes each
-pub refusal_fits : (x : ℕ × (ℕ × ℕ)) → RefusalFields x → HasWidth 8 (refusal_first (refusal_numbered x.0 x.1.0 x.1.1)) × HasWidth 8 (refusal_second (refusal_numbered x.0 x.1.0 x.1.1))
-refusal_fits x has =
-    let are = refusal_is x.0 x.1.0 x.1.1 has.0 has.1.0 has.1.1 in
+-- the values of a cause that was read have eight bytes each
+pub cause_fits : (x : ℕ × (ℕ × ℕ)) → CauseFields x → HasWidth 8 (cause_first (cause_numbered x.0 x.1.0 x.1.1)) × HasWidth 8 (cause_second (cause_numbered x.0 x.1.0 x.1.1))
+cause_fits x has =
+    let are = cause_is x.0 x.1.0 x.1.1 has.0 has.1.0 has.1.1 in
     (rw are.1 (has_width (nat_le 1 (value_count x.0)) 8 most8 x.1.0 (omega arith) has.1.0), rw are.2 (has_width (nat_le 2 (value_count x.0)) 8 most8 x.1.1 (omega arith) has.1.1))
 
 value : (x : ℕ) → HasWidth 8 x → IsOneOf (any_if true most8) x
@@ -146,17 +146,17 @@ value x below = has_one 8 most8 x (omega arith) below
 abbrev none : IsOneOf (any_if false most8) 0
 none = none_one false most8
 
--- each refusal has a number
-pub has_refusal : (r : Refusal) → HasWidth 8 (refusal_first r) × HasWidth 8 (refusal_second r) → refusal.Has r
-has_refusal (CloneBusy session) is = ((1, (session, 0)), (in_range 1 12 1 (omega arith) (omega arith), (value session is.0, none)), refl)
-has_refusal (VersionMismatch theirs) is = ((2, (theirs, 0)), (in_range 1 12 2 (omega arith) (omega arith), (value theirs is.0, none)), refl)
-has_refusal (PageSizeMismatch theirs) is = ((3, (theirs, 0)), (in_range 1 12 3 (omega arith) (omega arith), (value theirs is.0, none)), refl)
-has_refusal CompressionRefused is = ((4, (0, 0)), (in_range 1 12 4 (omega arith) (omega arith), (none, none)), refl)
-has_refusal (TasksOutOfRange tasks) is = ((5, (tasks, 0)), (in_range 1 12 5 (omega arith) (omega arith), (value tasks is.0, none)), refl)
-has_refusal NoSuchSession is = ((6, (0, 0)), (in_range 1 12 6 (omega arith) (omega arith), (none, none)), refl)
-has_refusal (Stale incarnation) is = ((7, (incarnation, 0)), (in_range 1 12 7 (omega arith) (omega arith), (value incarnation is.0, none)), refl)
-has_refusal (StageMismatch donor recipient) is = ((8, (donor, recipient)), (in_range 1 12 8 (omega arith) (omega arith), (value donor is.0, value recipient is.1)), refl)
-has_refusal (ChunksLeft count) is = ((9, (count, 0)), (in_range 1 12 9 (omega arith) (omega arith), (value count is.0, none)), refl)
-has_refusal (FloorAhead floor position) is = ((10, (floor, position)), (in_range 1 12 10 (omega arith) (omega arith), (value floor is.0, value position is.1)), refl)
-has_refusal NotClaimed is = ((11, (0, 0)), (in_range 1 12 11 (omega arith) (omega arith), (none, none)), refl)
-has_refusal (ArchiveBehind archived until) is = ((12, (archived, until)), (in_range 1 12 12 (omega arith) (omega arith), (value archived is.0, value until is.1)), refl)
+-- each cause has a number
+pub has_cause : (r : CloneCause) → HasWidth 8 (cause_first r) × HasWidth 8 (cause_second r) → cause.Has r
+has_cause (Busy session) is = ((1, (session, 0)), (in_range 1 12 1 (omega arith) (omega arith), (value session is.0, none)), refl)
+has_cause (VersionMismatch theirs) is = ((2, (theirs, 0)), (in_range 1 12 2 (omega arith) (omega arith), (value theirs is.0, none)), refl)
+has_cause (PageSizeMismatch theirs) is = ((3, (theirs, 0)), (in_range 1 12 3 (omega arith) (omega arith), (value theirs is.0, none)), refl)
+has_cause CompressionRefused is = ((4, (0, 0)), (in_range 1 12 4 (omega arith) (omega arith), (none, none)), refl)
+has_cause (TasksOutOfRange tasks) is = ((5, (tasks, 0)), (in_range 1 12 5 (omega arith) (omega arith), (value tasks is.0, none)), refl)
+has_cause NoSuchSession is = ((6, (0, 0)), (in_range 1 12 6 (omega arith) (omega arith), (none, none)), refl)
+has_cause (Stale incarnation) is = ((7, (incarnation, 0)), (in_range 1 12 7 (omega arith) (omega arith), (value incarnation is.0, none)), refl)
+has_cause (StageMismatch donor recipient) is = ((8, (donor, recipient)), (in_range 1 12 8 (omega arith) (omega arith), (value donor is.0, value recipient is.1)), refl)
+has_cause (ChunksLeft count) is = ((9, (count, 0)), (in_range 1 12 9 (omega arith) (omega arith), (value count is.0, none)), refl)
+has_cause (FloorAhead floor position) is = ((10, (floor, position)), (in_range 1 12 10 (omega arith) (omega arith), (value floor is.0, value position is.1)), refl)
+has_cause NotClaimed is = ((11, (0, 0)), (in_range 1 12 11 (omega arith) (omega arith), (none, none)), refl)
+has_cause (ArchiveBehind archived until) is = ((12, (archived, until)), (in_range 1 12 12 (omega arith) (omega arith), (value archived is.0, value until is.1)), refl)

@@ -7,8 +7,8 @@ use Rattle.clone_wire.specs.declared.stage.StagePlan.TheVariants as plan
 use Rattle.clone_wire.specs.declared.frame.Side.{Side}
 use Rattle.clone_wire.specs.declared.frame.Side.TheVariants.{Command, Answer}
 use Rattle.clone_wire.specs.declared.numbers.Numbers.{Numbers}
-use Rattle.clone_wire.specs.declared.limits.TheConstants.{MOST_BITMAP, MOST_SPACES, MOST_PAGES}
-use Rattle.clone_wire.specs.declared.limits.TheConstants.{MOST_REDO}
+use Rattle.clone_base.specs.declared.limits.TheConstants.{SPACE_LIMIT, BLOCK_PAGES, BLOCK_BYTES}
+use Rattle.clone_wire.specs.declared.limits.TheConstants.{MOST_BITMAP}
 use Rattle.clone_wire.specs.declared.limits.TheConstants.{REINIT_FIELDS, STAGE_FIELDS, PAGES_FIELDS}
 use Rattle.clone_wire.specs.declared.limits.TheConstants.{REDO_FIELDS}
 use Rattle.clone_wire.specs.declared.limits.TheConstants.{SPACE_BYTES, PAGE_AT_BYTES}
@@ -35,9 +35,9 @@ lengths code =
     else (if code == 4 then only 1
     else (if code == 5 then only 9
     else (if code == 6 then only 0
-    else (if code == 16 then listed STAGE_FIELDS 0 MOST_SPACES SPACE_BYTES
-    else (if code == 17 then listed PAGES_FIELDS 1 MOST_PAGES PAGE_AT_BYTES
-    else (if code == 18 then listed REDO_FIELDS 1 MOST_REDO 1
+    else (if code == 16 then listed STAGE_FIELDS 0 SPACE_LIMIT SPACE_BYTES
+    else (if code == 17 then listed PAGES_FIELDS 1 BLOCK_PAGES PAGE_AT_BYTES
+    else (if code == 18 then listed REDO_FIELDS 1 BLOCK_BYTES 1
     else (if code == 19 then only 13
     else only 17)))))))))
 

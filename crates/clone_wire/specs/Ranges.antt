@@ -9,12 +9,12 @@ use Rattle.clone_wire.specs.declared.frame.Frame.TheVariants.{Exit, Stage, Pages
 use Rattle.clone_wire.specs.declared.frame.Frame.TheVariants.{Refused}
 use Rattle.clone_wire.specs.declared.stage.StagePlan.{StagePlan}
 use Rattle.clone_wire.specs.declared.stage.StagePlan.TheVariants as plan
-use Rattle.clone_wire.specs.declared.spaces.SpaceSize.{SpaceSize}
-use Rattle.clone_wire.specs.declared.pages.PageAt.{PageAt}
-use Rattle.clone_wire.specs.declared.limits.TheConstants.{MOST_SPACES, MOST_PAGES, MOST_REDO}
-use Rattle.clone_base.specs.declared.limits.TheConstants.{PAGE_SIZE}
-use Rattle.clone_wire.specs.Bitmaps.{IsBitmap}
-use Rattle.clone_wire.specs.Refusals.{refusal_first, refusal_second}
+use Rattle.clone_chunk.specs.declared.spaces.SpaceSize.{SpaceSize}
+use Rattle.clone_page.specs.declared.pages.PageAt.{PageAt}
+use Rattle.clone_base.specs.declared.limits.TheConstants.{PAGE_SIZE, SPACE_LIMIT, BLOCK_PAGES}
+use Rattle.clone_base.specs.declared.limits.TheConstants.{BLOCK_BYTES}
+use Rattle.clone_chunk.specs.Bitmaps.{IsBitmap}
+use Rattle.clone_chunk.specs.Causes.{cause_first, cause_second}
 
 -- a number of so many bytes
 abbrev pub HasWidth : ℕ → ℕ → Type 0
@@ -37,7 +37,7 @@ pub record IsPageAt (page : PageAt) : Type 0 where
 
 abbrev pub IsPlan : StagePlan → Type 0
 IsPlan (plan.FileCopy chunks spaces) = HasWidth 4 chunks × AllAre IsSpace spaces
-    × (length spaces ≤ MOST_SPACES)
+    × (length spaces ≤ SPACE_LIMIT)
 IsPlan (plan.PageCopy chunks position) = HasWidth 4 chunks × HasWidth 8 position
 IsPlan (plan.RedoCopy chunks checkpoint lsn position) = HasWidth 4 chunks × HasWidth 8 checkpoint
     × HasWidth 8 lsn × HasWidth 8 position
@@ -55,9 +55,9 @@ IsFrame (Ack stage floor) = HasWidth 8 floor
 IsFrame Exit = ⊤
 IsFrame (Stage attempt plan) = IsAttempt attempt × IsPlan plan
 IsFrame (Pages attempt stage chunk block pages) = IsAttempt attempt × HasWidth 4 chunk
-    × HasWidth 1 block × AllAre IsPageAt pages × (1 ≤ length pages) × (length pages ≤ MOST_PAGES)
+    × HasWidth 1 block × AllAre IsPageAt pages × (1 ≤ length pages) × (length pages ≤ BLOCK_PAGES)
 IsFrame (Redo attempt chunk block from bytes) = IsAttempt attempt × HasWidth 4 chunk
     × HasWidth 1 block × HasWidth 8 from × IsBytes bytes × (1 ≤ length bytes)
-    × (length bytes ≤ MOST_REDO)
+    × (length bytes ≤ BLOCK_BYTES)
 IsFrame (End attempt stage) = IsAttempt attempt
-IsFrame (Refused refusal) = HasWidth 8 (refusal_first refusal) × HasWidth 8 (refusal_second refusal)
+IsFrame (Refused cause) = HasWidth 8 (cause_first cause) × HasWidth 8 (cause_second cause)

@@ -12,13 +12,13 @@ use Rattle.clone_wire.specs.declared.frame.Frame.{Frame}
 use Rattle.clone_wire.specs.declared.frame.Frame.TheVariants.{Init, Attach, Reinit, Execute, Ack}
 use Rattle.clone_wire.specs.declared.frame.Frame.TheVariants.{Exit, Stage, Pages, Redo, End}
 use Rattle.clone_wire.specs.declared.frame.Frame.TheVariants.{Refused}
-use Rattle.clone_wire.specs.declared.stage.CopyStage.{CopyStage}
+use Rattle.clone_chunk.specs.declared.copy_stage.CopyStage.{CopyStage}
 use Rattle.clone_wire.specs.declared.stage.PageStage.{PageStage}
 use Rattle.clone_wire.specs.declared.stage.StagePlan.{StagePlan}
 use Rattle.clone_wire.specs.declared.stage.StagePlan.TheVariants as plan
-use Rattle.clone_wire.specs.declared.refusal.Refusal.{Refusal}
-use Rattle.clone_wire.specs.declared.spaces.SpaceSize.{SpaceSize}
-use Rattle.clone_wire.specs.declared.pages.PageAt.{PageAt}
+use Rattle.clone_chunk.specs.declared.cause.CloneCause.{CloneCause}
+use Rattle.clone_chunk.specs.declared.spaces.SpaceSize.{SpaceSize}
+use Rattle.clone_page.specs.declared.pages.PageAt.{PageAt}
 use Rattle.clone_wire.specs.declared.fault.Fault.{Fault}
 use Rattle.clone_wire.specs.declared.fault.Fault.TheVariants.{Short, Garbled, NoMemory}
 use Rattle.clone_wire.specs.declared.numbers.Numbers.{Numbers}
@@ -27,12 +27,14 @@ use Rattle.clone_wire.specs.declared.limits.TheConstants.{SPACE_BYTES, PAGE_AT_B
 use Rattle.clone_wire.specs.declared.limits.TheConstants.{REINIT_FIELDS, STAGE_FIELDS, PAGES_FIELDS}
 use Rattle.clone_wire.specs.declared.limits.TheConstants.{REDO_FIELDS}
 use Rattle.clone_wire.specs.Choices.{between, only, any_if, has_between}
-use Rattle.clone_wire.specs.Bitmaps.{Bits, ends_at}
-use Rattle.clone_wire.specs.Stages.{copy_number, copy_numbered, page_number, page_numbered}
-use Rattle.clone_wire.specs.Refusals.{value_count, refusal_numbered, refusal_text}
+use Rattle.clone_chunk.specs.Bitmaps.{Bits, ends_at}
+use Rattle.clone_chunk.specs.Stages.{copy_number, copy_numbered}
+use Rattle.clone_wire.specs.Stages.{page_number, page_numbered}
+use Rattle.clone_chunk.specs.Causes.{cause_numbered}
 use Rattle.clone_wire.specs.Frames.{IsOneOf, codes, lengths}
 use Rattle.clone_wire.specs.Ranges.{IsAttempt, IsSpace, IsPageAt}
 use Rattle.clone_wire.specs.Spelling.{flag, attempt_bytes, space_bytes, page_bytes, plan_bytes}
+use Rattle.clone_wire.specs.Spelling.{cause_bytes}
 use Rattle.clone_wire.specs.Spelling.{code_of, payload}
 
 -- what a function returned, seen by view, is what reading gives, unless memory ran out
@@ -133,10 +135,16 @@ stage_plan n =
     made plan_bytes (λ x. planned x.0 x.1.0 x.1.1.0 x.1.1.1.0 x.1.1.1.1.0 x.1.1.1.1.1.1)
     (followed (number_in 17 1 (between 1 (if n == 0 then 4 else 1))) (plan_fields n))
 
--- the values that a refusal doesn't have are 0
-abbrev pub refusal : Format Fault Refusal
-refusal =
-    made refusal_text (λ x. refusal_numbered x.0 x.1.0 x.1.1)
+-- how many values the cause of a number from 1 to 12 has
+abbrev pub value_count : ℕ → ℕ
+value_count n =
+    if n == 4 then 0 else (if n == 6 then 0 else (if n == 11 then 0
+    else (if n == 8 then 2 else (if n == 10 then 2 else (if n == 12 then 2 else 1)))))
+
+-- the values that the cause of a refusal doesn't have are 0
+abbrev pub cause : Format Fault CloneCause
+cause =
+    made cause_bytes (λ x. cause_numbered x.0 x.1.0 x.1.1)
     (followed (number_in 5 1 (between 1 12)) (λ number.
     number_in 6 8 (any_if (nat_le 1 (value_count number)) 0xFFFFFFFFFFFFFFFF)
     & number_in 14 8 (any_if (nat_le 2 (value_count number)) 0xFFFFFFFFFFFFFFFF)))
@@ -194,7 +202,7 @@ payload_of code long =
     (choose (code == 17) (pages ((long - PAGES_FIELDS) / PAGE_AT_BYTES))
     (choose (code == 18) (redo (long - REDO_FIELDS))
     (choose (code == 19) (framed (λ x. End x.0 x.1) (attempt & copy_in 17))
-    (framed Refused refusal))))))))))
+    (framed Refused cause))))))))))
 
 -- a frame's code and the length of its payload
 abbrev pub head : Side → Format Fault (ℕ × ℕ)

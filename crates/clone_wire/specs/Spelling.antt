@@ -12,11 +12,12 @@ use Rattle.clone_wire.specs.declared.frame.Frame.TheVariants.{Exit, Stage, Pages
 use Rattle.clone_wire.specs.declared.frame.Frame.TheVariants.{Refused}
 use Rattle.clone_wire.specs.declared.stage.StagePlan.{StagePlan}
 use Rattle.clone_wire.specs.declared.stage.StagePlan.TheVariants as plan
-use Rattle.clone_wire.specs.declared.spaces.SpaceSize.{SpaceSize}
-use Rattle.clone_wire.specs.declared.pages.PageAt.{PageAt}
-use Rattle.clone_chunk.specs.Stages.{stage_number}
-use Rattle.clone_wire.specs.Stages.{copy_number, page_number}
-use Rattle.clone_wire.specs.Refusals.{refusal_number, refusal_first, refusal_second}
+use Rattle.clone_chunk.specs.declared.spaces.SpaceSize.{SpaceSize}
+use Rattle.clone_page.specs.declared.pages.PageAt.{PageAt}
+use Rattle.clone_chunk.specs.Stages.{stage_number, copy_number}
+use Rattle.clone_wire.specs.Stages.{page_number}
+use Rattle.clone_chunk.specs.declared.cause.CloneCause.{CloneCause}
+use Rattle.clone_chunk.specs.Causes.{cause_number, cause_first, cause_second}
 use Rattle.clone_wire.specs.Frames.{stage_of}
 
 -- the side that sends a frame
@@ -31,7 +32,7 @@ side_of (Stage attempt plan) = Answer
 side_of (Pages attempt stage chunk block pages) = Answer
 side_of (Redo attempt chunk block from bytes) = Answer
 side_of (End attempt stage) = Answer
-side_of (Refused refusal) = Answer
+side_of (Refused cause) = Answer
 
 abbrev pub code_of : Frame → ℕ
 code_of (Init attempt version size compressed tasks) = 1
@@ -44,7 +45,7 @@ code_of (Stage attempt plan) = 16
 code_of (Pages attempt stage chunk block pages) = 17
 code_of (Redo attempt chunk block from bytes) = 18
 code_of (End attempt stage) = 19
-code_of (Refused refusal) = 20
+code_of (Refused cause) = 20
 
 -- what a stage says; what it doesn't have is 0
 abbrev pub chunks_of : StagePlan → ℕ
@@ -89,6 +90,11 @@ space_bytes space = big_bytes 4 space.space ++ big_bytes 4 space.pages
 abbrev pub page_bytes : PageAt → List ℕ
 page_bytes page = big_bytes 4 page.space ++ big_bytes 4 page.number ++ page.page
 
+abbrev pub cause_bytes : CloneCause → List ℕ
+cause_bytes cause =
+    big_bytes 1 (cause_number cause) ++ big_bytes 8 (cause_first cause)
+    ++ big_bytes 8 (cause_second cause)
+
 unfoldable pub plan_bytes : StagePlan → List ℕ
 plan_bytes plan =
     big_bytes 1 (stage_number (stage_of plan)) ++ big_bytes 4 (chunks_of plan)
@@ -113,8 +119,7 @@ payload (Redo attempt chunk block from bytes) =
     attempt_bytes attempt ++ big_bytes 1 3 ++ big_bytes 4 chunk ++ big_bytes 1 block
     ++ big_bytes 8 from ++ big_bytes 4 (length bytes) ++ bytes
 payload (End attempt stage) = attempt_bytes attempt ++ big_bytes 1 (copy_number stage)
-payload (Refused refusal) = big_bytes 1 (refusal_number refusal)
-    ++ big_bytes 8 (refusal_first refusal) ++ big_bytes 8 (refusal_second refusal)
+payload (Refused cause) = cause_bytes cause
 
 unfoldable pub spelling : Frame → List ℕ
 spelling frame = big_bytes 1 (code_of frame) ++ big_bytes 4 (length (payload frame))

@@ -6,8 +6,9 @@ ghost use Rattle.clone_wire.specs.declared.fault.Fault.TheVariants.{Short};
 
 use crate::fault::Fault;
 use crate::numbers::Numbers;
-use crate::{Attempt, CopyStage, PageStage};
+use crate::{Attempt, PageStage};
 use clone_bytes::Reader;
+use clone_chunk::CopyStage;
 
 // Each function answers the value of the field at the front, which the reader is behind then.
 

@@ -4,7 +4,9 @@
 use crate::limits::{
     HEAD_BYTES, PAGE_AT_BYTES, PAGES_FIELDS, REDO_FIELDS, REINIT_FIELDS, SPACE_BYTES, STAGE_FIELDS,
 };
-use crate::{Bitmap, CopyStage, PageStage, Pages, RedoBytes, Refusal, StagePlan};
+use crate::{PageStage, StagePlan};
+use clone_chunk::{Bitmap, CloneCause, CopyStage, RedoBytes};
+use clone_page::Pages;
 
 /// One attempt at a clone: a session, and which of its incarnations, since each loss begins
 /// another.
@@ -84,7 +86,7 @@ pub enum Frame {
     },
     /// The donor refuses, and closes the connection.
     Refused {
-        refusal: Refusal,
+        cause: CloneCause,
     },
 }
 

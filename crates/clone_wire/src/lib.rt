@@ -3,7 +3,6 @@
 //! payload. All numbers are big-endian.
 #![tactic(auto)]
 
-mod bitmap;
 mod encoding;
 mod fault;
 mod fields;
@@ -11,27 +10,18 @@ mod frame;
 mod laws;
 mod limits;
 mod numbers;
-mod pages;
 mod payloads;
 mod reading;
-mod redo;
-mod refusal;
-mod spaces;
 mod stage;
 mod writing;
 
-pub use bitmap::Bitmap;
 pub use encoding::encode;
 pub use fault::{HeadRefusal, WireRefusal};
 pub use frame::{Attempt, Frame, Side};
 pub use laws::{one_answer, one_spelling, spells_back};
 pub use limits::{
-    HEAD_BYTES, MOST_BITMAP, MOST_CHUNKS, MOST_PAGES, MOST_REDO, MOST_SPACES, PAGE_AT_BYTES,
-    PAGES_FIELDS, REDO_FIELDS, REINIT_FIELDS, SPACE_BYTES, STAGE_FIELDS,
+    HEAD_BYTES, MOST_BITMAP, PAGE_AT_BYTES, PAGES_FIELDS, REDO_FIELDS, REINIT_FIELDS, SPACE_BYTES,
+    STAGE_FIELDS,
 };
-pub use pages::{PageAt, Pages};
 pub use reading::{decode, read_head};
-pub use redo::RedoBytes;
-pub use refusal::Refusal;
-pub use spaces::{SpaceSize, Spaces};
-pub use stage::{CopyStage, PageStage, StagePlan};
+pub use stage::{PageStage, StagePlan};

@@ -1,22 +1,11 @@
-use clone_base::{PAGE_SIZE, TABLE_LIMIT};
+use clone_base::PAGE_SIZE;
+use clone_chunk::MOST_CHUNKS;
 
 /// The bytes of a frame's code and length.
 pub const HEAD_BYTES: usize = 5;
 
-/// The most chunks of a bitmap.
-pub const MOST_CHUNKS: u32 = 8_388_608;
-
 /// The most bytes of a bitmap, which has 8 chunks a byte.
 pub const MOST_BITMAP: usize = MOST_CHUNKS as usize / 8;
-
-/// The most spaces of a stage: those of the tables, and the system space.
-pub const MOST_SPACES: usize = TABLE_LIMIT + 1;
-
-/// The most pages of a block.
-pub const MOST_PAGES: usize = 8;
-
-/// The most bytes of redo in a block.
-pub const MOST_REDO: usize = 16_384;
 
 /// The bytes of REINIT's fields before the bitmap.
 pub const REINIT_FIELDS: usize = 17;

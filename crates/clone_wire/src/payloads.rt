@@ -2,33 +2,29 @@
 //! that `specs/Spelling.antt` gives. The payload begins at 5. A field out of its range is named by
 //! where it stands.
 ghost use Rattle.std.specs.Prelude.{◌≡◌, ◌≤◌, ◌+◌, ◌/◌};
-ghost use Rattle.clone_base.specs.declared.limits.TheConstants.{PAGE_SIZE};
+ghost use Rattle.clone_base.specs.declared.limits.TheConstants.{PAGE_SIZE, SPACE_LIMIT};
+ghost use Rattle.clone_base.specs.declared.limits.TheConstants.{BLOCK_PAGES, BLOCK_BYTES};
 ghost use Rattle.clone_wire.specs.Choices.{any_if};
-ghost use Rattle.clone_wire.specs.declared.limits.TheConstants.{MOST_BITMAP, MOST_CHUNKS};
-ghost use Rattle.clone_wire.specs.declared.limits.TheConstants.{MOST_SPACES};
-ghost use Rattle.clone_wire.specs.declared.limits.TheConstants.{MOST_PAGES, MOST_REDO};
+ghost use Rattle.clone_chunk.specs.declared.bitmap.TheConstants.{MOST_CHUNKS};
+ghost use Rattle.clone_wire.specs.declared.limits.TheConstants.{MOST_BITMAP};
 ghost use Rattle.clone_wire.specs.Reading.{Gives, init, attach, reinit, ack, stage, pages, redo};
 ghost use Rattle.clone_wire.specs.Reading.{framed, space, page, bitmap, planned};
-ghost use Rattle.clone_wire.specs.Reading.{stage_plan, refusal, copy_in, attempt};
+ghost use Rattle.clone_wire.specs.Reading.{stage_plan, cause, value_count, copy_in, attempt};
 ghost use Rattle.clone_wire.specs.declared.frame.Frame.TheVariants.{Execute, End, Refused};
 ghost use Rattle.clone_wire.specs.declared.fault.Fault.TheVariants.{Short};
 ghost use Rattle.clone_bytes.specs.Formats.{◌&◌, list, run_at};
-ghost use Rattle.clone_wire.specs.Refusals.{value_count};
 
-use crate::bitmap::ends_at;
 use crate::fault::Fault;
 use crate::fields::{
     attempt_of, bytes_of, copy_of, flag_of, number_in, pages_stage_of, u8_of, u16_of, u32_of,
     u64_of,
 };
 use crate::numbers::Numbers;
-use crate::{
-    Bitmap, CopyStage, Frame, PageAt, PageStage, Pages, RedoBytes, Refusal, SpaceSize, Spaces,
-    StagePlan,
-};
+use crate::{Frame, StagePlan};
 use clone_base::PAGE_SIZE;
 use clone_bytes::Reader;
-use clone_page::Page;
+use clone_chunk::{Bitmap, CloneCause, RedoBytes, SpaceSize, Spaces, ends_at};
+use clone_page::{Page, PageAt, Pages};
 use std::alloc::Global;
 
 // Each function reads a payload, which begins at offset 5 of its frame.
@@ -131,7 +127,7 @@ fn space_of(reader: &mut Reader) -> Result<SpaceSize, Fault>
 }
 
 fn spaces_of(alloc: Global, n: usize, reader: &mut Reader) -> Result<Spaces, Fault>
-    requires { n ≤ MOST_SPACES }
+    requires { n ≤ SPACE_LIMIT }
     ensures { Gives (λ x. (x, reader.new)) result ((list space n).read reader.old) }
 {
     let mut spaces = Spaces::new(alloc);
@@ -144,7 +140,7 @@ fn spaces_of(alloc: Global, n: usize, reader: &mut Reader) -> Result<Spaces, Fau
 
 // There are `n` spaces.
 pub(crate) fn stage_of(alloc: Global, n: usize, reader: &mut Reader) -> Result<Frame, Fault>
-    requires { n ≤ MOST_SPACES }
+    requires { n ≤ SPACE_LIMIT }
     ensures { Gives (λ x. (x, reader.new)) result ((stage n).read reader.old) }
 {
     let attempt = attempt_of(reader)?;
@@ -153,7 +149,7 @@ pub(crate) fn stage_of(alloc: Global, n: usize, reader: &mut Reader) -> Result<F
 }
 
 fn plan_of(alloc: Global, n: usize, reader: &mut Reader) -> Result<StagePlan, Fault>
-    requires { n ≤ MOST_SPACES }
+    requires { n ≤ SPACE_LIMIT }
     ensures { Gives (λ x. (x, reader.new)) result ((stage_plan n).read reader.old) }
 {
     let most = if n == 0 { 4 } else { 1 };
@@ -223,7 +219,7 @@ fn body_of(reader: &mut Reader) -> Result<Page, Fault>
 
 fn pages_of(alloc: Global, n: usize, reader: &mut Reader) -> Result<Pages, Fault>
     requires some { 1 ≤ n }
-    requires few { n ≤ MOST_PAGES }
+    requires few { n ≤ BLOCK_PAGES }
     ensures { Gives (λ x. (x, reader.new)) result ((list page n).read reader.old) }
 {
     let mut list = Vec::with_capacity(alloc, n)?;
@@ -237,7 +233,7 @@ fn pages_of(alloc: Global, n: usize, reader: &mut Reader) -> Result<Pages, Fault
 // There are `n` pages.
 pub(crate) fn pages_frame_of(alloc: Global, n: usize, reader: &mut Reader) -> Result<Frame, Fault>
     requires some { 1 ≤ n }
-    requires few { n ≤ MOST_PAGES }
+    requires few { n ≤ BLOCK_PAGES }
     ensures { Gives (λ x. (x, reader.new)) result ((pages n).read reader.old) }
 {
     let attempt = attempt_of(reader)?;
@@ -258,7 +254,7 @@ pub(crate) fn pages_frame_of(alloc: Global, n: usize, reader: &mut Reader) -> Re
 // There are `n` bytes of redo.
 pub(crate) fn redo_of(alloc: Global, n: usize, reader: &mut Reader) -> Result<Frame, Fault>
     requires some { 1 ≤ n }
-    requires few { n ≤ MOST_REDO }
+    requires few { n ≤ BLOCK_BYTES }
     ensures { Gives (λ x. (x, reader.new)) result ((redo n).read reader.old) }
 {
     let attempt = attempt_of(reader)?;
@@ -279,7 +275,7 @@ pub(crate) fn redo_of(alloc: Global, n: usize, reader: &mut Reader) -> Result<Fr
 
 fn redo_bytes_of(alloc: Global, n: usize, reader: &mut Reader) -> Result<RedoBytes, Fault>
     requires some { 1 ≤ n }
-    requires few { n ≤ MOST_REDO }
+    requires few { n ≤ BLOCK_BYTES }
     ensures { Gives (λ x. (x, reader.new)) result (run_at Short n reader.old) }
 {
     let bytes = bytes_of(reader, n)?;
@@ -287,23 +283,23 @@ fn redo_bytes_of(alloc: Global, n: usize, reader: &mut Reader) -> Result<RedoByt
 }
 
 pub(crate) fn refused_of(reader: &mut Reader) -> Result<Frame, Fault>
-    ensures { Gives (λ x. (x, reader.new)) result ((framed Refused refusal).read reader.old) }
+    ensures { Gives (λ x. (x, reader.new)) result ((framed Refused cause).read reader.old) }
 {
-    let refusal = refusal_of(reader)?;
-    Ok(Frame::Refused { refusal })
+    let cause = cause_of(reader)?;
+    Ok(Frame::Refused { cause })
 }
 
-fn refusal_of(reader: &mut Reader) -> Result<Refusal, Fault>
-    ensures { Gives (λ x. (x, reader.new)) result ((refusal).read reader.old) }
+fn cause_of(reader: &mut Reader) -> Result<CloneCause, Fault>
+    ensures { Gives (λ x. (x, reader.new)) result ((cause).read reader.old) }
 {
     let number = number_in(5, 1, Numbers::between(1, 12), reader)?;
     let values = value_count(number);
     let first = number_in(6, 8, any_if(values >= 1, u64::MAX), reader)?;
     let second = number_in(14, 8, any_if(values >= 2, u64::MAX), reader)?;
-    Ok(Refusal::numbered(number, first, second))
+    Ok(CloneCause::numbered(number, first, second))
 }
 
-// How many values the refusal of this number has.
+// How many values the cause of this number has.
 fn value_count(number: u64) -> u8
     ensures { result ≡ value_count number }
 {

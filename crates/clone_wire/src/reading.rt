@@ -6,8 +6,8 @@ ghost use Rattle.clone_wire.specs.Reading.{Gives, head_at, payload_at};
 use crate::fault::Fault;
 use crate::fields::number_in;
 use crate::limits::{
-    HEAD_BYTES, MOST_BITMAP, MOST_PAGES, MOST_REDO, MOST_SPACES, PAGE_AT_BYTES, PAGES_FIELDS,
-    REDO_FIELDS, REINIT_FIELDS, SPACE_BYTES, STAGE_FIELDS,
+    HEAD_BYTES, MOST_BITMAP, PAGE_AT_BYTES, PAGES_FIELDS, REDO_FIELDS, REINIT_FIELDS, SPACE_BYTES,
+    STAGE_FIELDS,
 };
 use crate::numbers::Numbers;
 use crate::payloads::{
@@ -15,6 +15,7 @@ use crate::payloads::{
     stage_of,
 };
 use crate::{Frame, HeadRefusal, Side, WireRefusal};
+use clone_base::{BLOCK_BYTES, BLOCK_PAGES, SPACE_LIMIT};
 use clone_bytes::Reader;
 use std::alloc::Global;
 
@@ -49,9 +50,9 @@ fn lengths(code: u64) -> Numbers
         4 => Numbers::only(1),
         5 => Numbers::only(9),
         6 => Numbers::only(0),
-        16 => Numbers::listed(STAGE_FIELDS, 0, MOST_SPACES, SPACE_BYTES),
-        17 => Numbers::listed(PAGES_FIELDS, 1, MOST_PAGES, PAGE_AT_BYTES),
-        18 => Numbers::listed(REDO_FIELDS, 1, MOST_REDO, 1),
+        16 => Numbers::listed(STAGE_FIELDS, 0, SPACE_LIMIT, SPACE_BYTES),
+        17 => Numbers::listed(PAGES_FIELDS, 1, BLOCK_PAGES, PAGE_AT_BYTES),
+        18 => Numbers::listed(REDO_FIELDS, 1, BLOCK_BYTES, 1),
         _ => Numbers::only(17),
     }
 }

@@ -1,40 +1,7 @@
 ghost use Rattle.std.specs.Prelude.{◌≡◌};
-ghost use Rattle.clone_wire.specs.Stages.{copy_number, page_number};
-ghost use Rattle.clone_wire.specs.Stages.{copy_numbered, page_numbered};
+ghost use Rattle.clone_wire.specs.Stages.{page_number, page_numbered};
 
-use crate::{SpaceSize, Spaces};
-use clone_chunk::Stage;
-
-/// The stages in which something is copied, numbered 1 to 3.
-#[derive(Clone, Copy, Debug, PartialEq, Eq)]
-pub enum CopyStage {
-    FileCopy,
-    PageCopy,
-    RedoCopy,
-}
-
-impl CopyStage {
-    /// The stage's number, from 1 to 3.
-    pub fn number(self) -> u8
-        ensures { result ≡ copy_number self }
-    {
-        match self {
-            CopyStage::FileCopy => 1,
-            CopyStage::PageCopy => 2,
-            CopyStage::RedoCopy => 3,
-        }
-    }
-
-    pub(crate) fn numbered(number: u64) -> CopyStage
-        ensures { result ≡ copy_numbered number }
-    {
-        match number {
-            1 => CopyStage::FileCopy,
-            2 => CopyStage::PageCopy,
-            _ => CopyStage::RedoCopy,
-        }
-    }
-}
+use clone_chunk::{SpaceSize, Spaces, Stage};
 
 /// The stages in which pages are copied, numbered 1 and 2.
 #[derive(Clone, Copy, Debug, PartialEq, Eq)]
@@ -97,7 +64,7 @@ pub enum StagePlan {
 impl StagePlan {
     ghost use Rattle.std.specs.Prelude.{length, ◌≤◌};
     ghost use Rattle.clone_wire.specs.Frames.{stage_of};
-    ghost use Rattle.clone_wire.specs.declared.limits.TheConstants.{MOST_SPACES};
+    ghost use Rattle.clone_base.specs.declared.limits.TheConstants.{SPACE_LIMIT};
     ghost use Rattle.clone_wire.specs.Spelling.{chunks_of, checkpoint_of, lsn_of, position_of};
     ghost use Rattle.clone_wire.specs.Spelling.{spaces_of};
 
@@ -162,7 +129,7 @@ impl StagePlan {
     /// The spaces, which are listed in the copy of files alone.
     pub fn spaces(&self) -> &[SpaceSize]
         ensures value { result.now ≡ spaces_of self.now }
-        ensures few { length result.now ≤ MOST_SPACES }
+        ensures few { length result.now ≤ SPACE_LIMIT }
     {
         match self {
             StagePlan::FileCopy { spaces, .. } => spaces.as_slice(),

@@ -5,9 +5,9 @@
 ghost use Rattle.std.specs.Prelude.{◌≡◌, ◌≤◌, ◌+◌, ◌*◌, ◌++◌, length, vec_len, OnOk};
 ghost use Rattle.std.specs.List.{flat_map};
 ghost use Rattle.byteorder.specs.Endian.{big_bytes};
-ghost use Rattle.clone_chunk.specs.Stages.{stage_number};
-ghost use Rattle.clone_wire.specs.declared.limits.TheConstants.{MOST_BITMAP, MOST_SPACES};
-ghost use Rattle.clone_wire.specs.declared.limits.TheConstants.{MOST_PAGES, MOST_REDO};
+ghost use Rattle.clone_base.specs.declared.limits.TheConstants.{SPACE_LIMIT};
+ghost use Rattle.clone_base.specs.declared.limits.TheConstants.{BLOCK_PAGES, BLOCK_BYTES};
+ghost use Rattle.clone_wire.specs.declared.limits.TheConstants.{MOST_BITMAP};
 ghost use Rattle.clone_wire.specs.declared.limits.TheConstants.{REINIT_FIELDS, STAGE_FIELDS};
 ghost use Rattle.clone_wire.specs.declared.limits.TheConstants.{PAGES_FIELDS, REDO_FIELDS};
 ghost use Rattle.clone_wire.specs.declared.limits.TheConstants.{SPACE_BYTES, PAGE_AT_BYTES};
@@ -16,18 +16,18 @@ ghost use Rattle.clone_wire.specs.Spelling.{attempt_bytes, space_bytes, page_byt
 ghost use Rattle.clone_wire.specs.Spelling.{flag, payload};
 ghost use Rattle.clone_wire.specs.Spelling.{chunks_of, checkpoint_of, lsn_of};
 ghost use Rattle.clone_wire.specs.Spelling.{position_of, spaces_of};
-ghost use Rattle.clone_wire.specs.Stages.{copy_number, page_number};
+ghost use Rattle.clone_chunk.specs.Stages.{stage_number, copy_number};
+ghost use Rattle.clone_wire.specs.Stages.{page_number};
 ghost use Rattle.clone_bytes.specs.Fields.{IsBytes};
-ghost use Rattle.clone_wire.specs.Bitmaps.{IsBitmap};
+ghost use Rattle.clone_chunk.specs.Bitmaps.{IsBitmap};
+ghost use Rattle.clone_chunk.specs.Causes.{cause_number, cause_first, cause_second};
 ghost use Rattle.clone_wire.specs.Ranges.{HasWidth, AllAre, IsAttempt, IsSpace};
 ghost use Rattle.clone_wire.specs.Ranges.{IsPlan, IsPageAt, IsFrame};
-ghost use Rattle.clone_wire.specs.Refusals.{refusal_number, refusal_first, refusal_second};
 
-use crate::{
-    Attempt, Bitmap, CopyStage, Frame, PageAt, PageStage, Pages, RedoBytes, Refusal, SpaceSize,
-    StagePlan,
-};
+use crate::{Attempt, Frame, PageStage, StagePlan};
 use byteorder::{BigEndian, ByteOrder};
+use clone_chunk::{Bitmap, CloneCause, CopyStage, RedoBytes, SpaceSize};
+use clone_page::{PageAt, Pages};
 use std::alloc::AllocError;
 
 // Each function appends fields to a text. Where memory runs out it may have appended some of them.
@@ -201,17 +201,16 @@ fn push_block(
     push_u8(text, block)
 }
 
-fn push_refusal(text: &mut Vec<u8>, refusal: Refusal) -> Result<(), AllocError>
+fn push_cause(text: &mut Vec<u8>, cause: CloneCause) -> Result<(), AllocError>
     ensures text { OnOk result (text.new.items ≡ text.old.items
-        ++ big_bytes 1 (refusal_number refusal) ++ big_bytes 8 (refusal_first refusal)
-        ++ big_bytes 8 (refusal_second refusal)) }
+        ++ big_bytes 1 (cause_number cause) ++ big_bytes 8 (cause_first cause)
+        ++ big_bytes 8 (cause_second cause)) }
     ensures long { OnOk result (vec_len text.new ≤ vec_len text.old + 17) }
-    ensures kept { OnOk result (HasWidth 8 (refusal_first refusal)
-        × HasWidth 8 (refusal_second refusal)) }
+    ensures kept { OnOk result (HasWidth 8 (cause_first cause) × HasWidth 8 (cause_second cause)) }
 {
-    push_u8(text, refusal.number())?;
-    push_u64(text, refusal.first())?;
-    push_u64(text, refusal.second())
+    push_u8(text, cause.number())?;
+    push_u64(text, cause.first())?;
+    push_u64(text, cause.second())
 }
 
 fn push_spaces(text: &mut Vec<u8>, spaces: &[SpaceSize]) -> Result<(), AllocError>
@@ -243,9 +242,9 @@ fn push_counted_pages(text: &mut Vec<u8>, pages: &Pages) -> Result<(), AllocErro
     ensures text { OnOk result (text.new.items ≡ text.old.items ++ big_bytes 1 (length pages.now)
         ++ flat_map page_bytes pages.now) }
     ensures long { OnOk result
-        (vec_len text.new ≤ vec_len text.old + (1 + PAGE_AT_BYTES * MOST_PAGES)) }
+        (vec_len text.new ≤ vec_len text.old + (1 + PAGE_AT_BYTES * BLOCK_PAGES)) }
     ensures kept { OnOk result (AllAre IsPageAt pages.now × (1 ≤ length pages.now)
-        × (length pages.now ≤ MOST_PAGES)) }
+        × (length pages.now ≤ BLOCK_PAGES)) }
 {
     push_u8(text, pages.as_slice().len() as u8)?;
     push_pages(text, pages.as_slice())
@@ -254,9 +253,9 @@ fn push_counted_pages(text: &mut Vec<u8>, pages: &Pages) -> Result<(), AllocErro
 fn push_redo(text: &mut Vec<u8>, from: u64, bytes: &RedoBytes) -> Result<(), AllocError>
     ensures text { OnOk result (text.new.items ≡ text.old.items ++ big_bytes 8 from
         ++ big_bytes 4 (length bytes.now) ++ bytes.now) }
-    ensures long { OnOk result (vec_len text.new ≤ vec_len text.old + (12 + MOST_REDO)) }
+    ensures long { OnOk result (vec_len text.new ≤ vec_len text.old + (12 + BLOCK_BYTES)) }
     ensures kept { OnOk result (HasWidth 8 from × IsBytes bytes.now × (1 ≤ length bytes.now)
-        × (length bytes.now ≤ MOST_REDO)) }
+        × (length bytes.now ≤ BLOCK_BYTES)) }
 {
     push_u64(text, from)?;
     push_u32(text, bytes.as_slice().len() as u32)?;
@@ -271,11 +270,11 @@ fn push_plan(text: &mut Vec<u8>, plan: &StagePlan) -> Result<(), AllocError>
         ++ big_bytes 8 (position_of plan.now) ++ big_bytes 2 (length (spaces_of plan.now))
         ++ flat_map space_bytes (spaces_of plan.now)) }
     ensures long { OnOk result
-        (vec_len text.new ≤ vec_len text.old + (31 + SPACE_BYTES * MOST_SPACES)) }
+        (vec_len text.new ≤ vec_len text.old + (31 + SPACE_BYTES * SPACE_LIMIT)) }
     ensures kept { OnOk result (HasWidth 4 (chunks_of plan.now)
         × HasWidth 8 (checkpoint_of plan.now) × HasWidth 8 (lsn_of plan.now)
         × HasWidth 8 (position_of plan.now) × AllAre IsSpace (spaces_of plan.now)
-        × (length (spaces_of plan.now) ≤ MOST_SPACES)) }
+        × (length (spaces_of plan.now) ≤ SPACE_LIMIT)) }
 {
     push_u8(text, plan.stage().number())?;
     push_u32(text, plan.chunks())?;
@@ -290,7 +289,7 @@ fn push_stage(text: &mut Vec<u8>, attempt: Attempt, plan: &StagePlan) -> Result<
     ensures text { OnOk result (text.new.items ≡ text.old.items ++ attempt_bytes attempt
         ++ plan_bytes plan.now) }
     ensures long { OnOk result
-        (vec_len text.new ≤ vec_len text.old + (STAGE_FIELDS + SPACE_BYTES * MOST_SPACES)) }
+        (vec_len text.new ≤ vec_len text.old + (STAGE_FIELDS + SPACE_BYTES * SPACE_LIMIT)) }
     ensures kept { OnOk result (IsAttempt attempt × IsPlan plan.now) }
 {
     push_attempt(text, attempt)?;
@@ -309,9 +308,9 @@ fn push_pages_block(
         ++ big_bytes 4 attempt.incarnation ++ big_bytes 1 (page_number stage) ++ big_bytes 4 chunk
         ++ big_bytes 1 block ++ big_bytes 1 (length pages.now) ++ flat_map page_bytes pages.now) }
     ensures long { OnOk result
-        (vec_len text.new ≤ vec_len text.old + (PAGES_FIELDS + PAGE_AT_BYTES * MOST_PAGES)) }
+        (vec_len text.new ≤ vec_len text.old + (PAGES_FIELDS + PAGE_AT_BYTES * BLOCK_PAGES)) }
     ensures kept { OnOk result (IsAttempt attempt × HasWidth 4 chunk × HasWidth 1 block
-        × AllAre IsPageAt pages.now × (1 ≤ length pages.now) × (length pages.now ≤ MOST_PAGES)) }
+        × AllAre IsPageAt pages.now × (1 ≤ length pages.now) × (length pages.now ≤ BLOCK_PAGES)) }
 {
     push_block(text, attempt, stage.number(), chunk, block)?;
     push_counted_pages(text, pages)
@@ -329,10 +328,10 @@ fn push_redo_block(
         ++ big_bytes 4 attempt.incarnation ++ big_bytes 1 3 ++ big_bytes 4 chunk
         ++ big_bytes 1 block ++ big_bytes 8 from ++ big_bytes 4 (length bytes.now) ++ bytes.now) }
     ensures long { OnOk result
-        (vec_len text.new ≤ vec_len text.old + (REDO_FIELDS + MOST_REDO)) }
+        (vec_len text.new ≤ vec_len text.old + (REDO_FIELDS + BLOCK_BYTES)) }
     ensures kept { OnOk result (IsAttempt attempt × HasWidth 4 chunk × HasWidth 1 block
         × HasWidth 8 from × IsBytes bytes.now × (1 ≤ length bytes.now)
-        × (length bytes.now ≤ MOST_REDO)) }
+        × (length bytes.now ≤ BLOCK_BYTES)) }
 {
     push_block(text, attempt, 3, chunk, block)?;
     push_redo(text, from, bytes)
@@ -377,6 +376,6 @@ pub(crate) fn push_payload(text: &mut Vec<u8>, frame: &Frame) -> Result<(), Allo
             bytes,
         } => push_redo_block(text, *attempt, *chunk, *block, *from, bytes),
         Frame::End { attempt, stage } => push_staged(text, *attempt, *stage),
-        Frame::Refused { refusal } => push_refusal(text, *refusal),
+        Frame::Refused { cause } => push_cause(text, *cause),
     }
 }

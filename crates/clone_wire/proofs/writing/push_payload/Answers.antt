@@ -18,7 +18,7 @@ pub returns-in-End-clause-text : goal.returns-in-End-clause-text
 returns-in-End-clause-text c = rw c.in-End.is (onward c.push_staged.result (λ written. written ∙ simp append_assoc) c.push_staged.ensures.text)
 
 pub returns-in-Refused-clause-text : goal.returns-in-Refused-clause-text
-returns-in-Refused-clause-text c = rw c.in-Refused.is (onward c.push_refusal.result (λ written. written ∙ simp append_assoc) c.push_refusal.ensures.text)
+returns-in-Refused-clause-text c = rw c.in-Refused.is (onward c.push_cause.result (λ written. written ∙ simp append_assoc) c.push_cause.ensures.text)
 
 pub returns-in-Pages-clause-text : goal.returns-in-Pages-clause-text
 returns-in-Pages-clause-text c = rw c.in-Pages.is (onward c.push_pages_block.result (λ written. written ∙ simp append_assoc) c.push_pages_block.ensures.text)
