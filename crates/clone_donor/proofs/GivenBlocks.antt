@@ -17,8 +17,8 @@ use Rattle.clone_snapshot.proofs.EachBlock.{pages_listed}
 use Rattle.clone_session.specs.declared.caller.Caller.{Caller}
 use Rattle.clone_session.specs.declared.copying.BlockWork.{BlockWork}
 use Rattle.clone_session.specs.declared.copying.BlockWork.TheVariants as work
-use Rattle.clone_session.specs.declared.refusal.CloneCause.{CloneCause}
-use Rattle.clone_session.specs.declared.refusal.CloneCause.TheVariants.{NoSuchSession}
+use Rattle.clone_chunk.specs.declared.cause.CloneCause.{CloneCause}
+use Rattle.clone_chunk.specs.declared.cause.CloneCause.TheVariants.{NoSuchSession}
 use Rattle.clone_session.specs.Cloning.{Cloning, IsCloning, IsInSession, IsInStage, Session}
 use Rattle.clone_session.specs.CloneCalls.{Answers, IsBlockOf, OnSession, part_of}
 use Rattle.clone_session.proofs.PartLemmas.{stands_as}

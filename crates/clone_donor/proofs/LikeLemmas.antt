@@ -5,7 +5,7 @@ use Rattle.clone_track.specs.TrackedPages.{Pages}
 use Rattle.clone_archive.specs.Archived.{Archived, kept_from}
 use Rattle.clone_flush.specs.Calls.{needed_from}
 use Rattle.clone_session.specs.declared.caller.Caller.{Caller}
-use Rattle.clone_session.specs.declared.refusal.CloneCause.{CloneCause}
+use Rattle.clone_chunk.specs.declared.cause.CloneCause.{CloneCause}
 use Rattle.clone_session.specs.Cloning.{Cloning}
 use Rattle.clone_session.specs.declared.refusal.CloneRefusal.{CloneRefusal}
 use Rattle.clone_session.specs.declared.refusal.CloneRefusal.TheVariants.{Because, NoMemory}

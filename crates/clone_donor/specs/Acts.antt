@@ -6,7 +6,7 @@ use Rattle.clone_plain.specs.declared.refusal.EngineRefusal.{EngineRefusal}
 use Rattle.clone_session.specs.declared.caller.Caller.{Caller}
 use Rattle.clone_session.specs.declared.caller.Hello.{Hello}
 use Rattle.clone_session.specs.declared.info.StageInfo.{StageInfo}
-use Rattle.clone_session.specs.declared.refusal.CloneCause.{CloneCause}
+use Rattle.clone_chunk.specs.declared.cause.CloneCause.{CloneCause}
 use Rattle.clone_session.specs.CloneCalls.{Archives, Claims}
 use Rattle.clone_session.specs.Effects.{Becomes, left}
 use Rattle.clone_outside.specs.DiskCalls.{DiskState}

@@ -1,6 +1,7 @@
 use clone_base::PAGE_SIZE;
 use clone_plain::EngineRefusal;
-use clone_session::{CloneCause, CloneRefusal};
+use clone_chunk::CloneCause;
+use clone_session::CloneRefusal;
 use std::alloc::AllocError;
 
 /// A page of a block: where it is, and its 4,096 bytes.

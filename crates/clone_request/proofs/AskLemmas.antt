@@ -8,11 +8,11 @@ use Rattle.clone_chunk.specs.Chunks.{left_of}
 use Rattle.clone_chunk.specs.declared.chunk.Chunk.TheVariants.{Finished}
 use Rattle.clone_session.specs.declared.caller.Hello.{Hello}
 use Rattle.clone_session.specs.declared.limits.TheConstants.{VERSION}
-use Rattle.clone_session.specs.declared.refusal.CloneCause.{CloneCause}
+use Rattle.clone_chunk.specs.declared.cause.CloneCause.{CloneCause}
 use Rattle.clone_session.specs.declared.refusal.CloneRefusal.{CloneRefusal}
 use Rattle.clone_session.specs.declared.refusal.CloneRefusal.TheVariants.{Because}
 use Rattle.clone_session.specs.CloneCalls.{Decided}
-use Rattle.clone_session.specs.declared.refusal.CloneCause.TheVariants.{Stale, StageMismatch, ChunksLeft, FloorAhead, NoSuchSession}
+use Rattle.clone_chunk.specs.declared.cause.CloneCause.TheVariants.{Stale, StageMismatch, ChunksLeft, FloorAhead, NoSuchSession}
 use Rattle.clone_session.specs.Cloning.{Cloning, Session}
 use Rattle.clone_session.specs.CloneCauses.{acknowledgement_cause, chunks_left, donor_stage, floor_ahead, hello_cause, is_acknowledged, on_session, stale, whether}
 use Rattle.clone_request.specs.declared.asking.TheConstants.{CALLER}

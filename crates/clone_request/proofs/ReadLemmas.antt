@@ -20,8 +20,8 @@ use Rattle.clone_session.specs.Cloning.{Cloning, CopiesRedo, IsCloning, IsInSess
 use Rattle.clone_session.specs.CloneCalls.{Archives, archived_on}
 use Rattle.clone_session.specs.CloneCauses.{archive_behind, block_cause, donor_stage, is_claimed, not_claimed, other_stage, session_of, stale, whether}
 use Rattle.clone_session.specs.Effects.{Becomes}
-use Rattle.clone_session.specs.declared.refusal.CloneCause.{CloneCause}
-use Rattle.clone_session.specs.declared.refusal.CloneCause.TheVariants.{ArchiveBehind, NoSuchSession, NotClaimed, Stale, StageMismatch}
+use Rattle.clone_chunk.specs.declared.cause.CloneCause.{CloneCause}
+use Rattle.clone_chunk.specs.declared.cause.CloneCause.TheVariants.{ArchiveBehind, NoSuchSession, NotClaimed, Stale, StageMismatch}
 use Rattle.clone_session.specs.declared.refusal.CloneRefusal.TheVariants as clone
 use Rattle.clone_session.proofs.PartLemmas.{stands_as}
 use Rattle.clone_engine.specs.Engine.{Engine}

@@ -18,7 +18,8 @@ use clone_base::PAGE_SIZE;
 use clone_donor::{Block, BlockRefusal, Donor};
 use clone_outside::PageDisk;
 use clone_plain::EngineRefusal;
-use clone_session::{Caller, CloneCause, CloneRefusal, Hello, StageInfo, VERSION};
+use clone_chunk::CloneCause;
+use clone_session::{Caller, CloneRefusal, Hello, StageInfo, VERSION};
 use std::alloc::Global;
 
 /// The requester's one task, in its first incarnation.

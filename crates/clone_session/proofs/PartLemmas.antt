@@ -10,7 +10,7 @@ use Rattle.clone_snapshot.specs.declared.block.RedoBlock.{RedoBlock}
 use Rattle.clone_snapshot.proofs.EachBlock.{redo_alone, redo_between}
 use Rattle.clone_session.specs.Cloning.{Cloning, Session, CopiesRedo, IsInStage, IsInSession, IsCloning}
 use Rattle.clone_session.specs.declared.caller.Caller.{Caller}
-use Rattle.clone_session.specs.declared.refusal.CloneCause.TheVariants.{NoSuchSession, ArchiveBehind}
+use Rattle.clone_chunk.specs.declared.cause.CloneCause.TheVariants.{NoSuchSession, ArchiveBehind}
 use Rattle.clone_session.specs.CloneCauses.{archive_behind, behind, block_cause, not_claimed, other_stage, session_of, stale, whether}
 use Rattle.clone_session.specs.declared.copying.BlockWork.{BlockWork}
 use Rattle.clone_session.specs.declared.copying.BlockWork.TheVariants.{Pages as BlockPages, Redo as BlockRedo}

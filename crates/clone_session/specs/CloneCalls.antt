@@ -14,7 +14,7 @@ use Rattle.clone_session.specs.declared.copying.BlockWork.TheVariants.{Pages as 
 use Rattle.clone_session.specs.declared.caller.Caller.{Caller}
 use Rattle.clone_session.specs.declared.ending.Moment.{Moment}
 use Rattle.clone_session.specs.declared.info.StageInfo.{StageInfo}
-use Rattle.clone_session.specs.declared.refusal.CloneCause.{CloneCause}
+use Rattle.clone_chunk.specs.declared.cause.CloneCause.{CloneCause}
 use Rattle.clone_session.specs.declared.refusal.CloneRefusal.{CloneRefusal}
 use Rattle.clone_session.specs.declared.refusal.CloneRefusal.TheVariants.{Because, NoMemory}
 use Rattle.clone_session.specs.Cloning.{Cloning, Session}

@@ -13,8 +13,8 @@ use Rattle.clone_snapshot.specs.StageLists.{Part, PagePart, RedoPart, stage_of, 
 use Rattle.clone_session.specs.declared.caller.Caller.{Caller}
 use Rattle.clone_session.specs.declared.caller.Hello.{Hello}
 use Rattle.clone_session.specs.declared.limits.TheConstants.{VERSION, MOST_TASKS}
-use Rattle.clone_session.specs.declared.refusal.CloneCause.{CloneCause}
-use Rattle.clone_session.specs.declared.refusal.CloneCause.TheVariants.{Busy, VersionMismatch, PageSizeMismatch, CompressionRefused, TasksOutOfRange, NoSuchSession, Stale, StageMismatch, ChunksLeft, FloorAhead, NotClaimed, ArchiveBehind}
+use Rattle.clone_chunk.specs.declared.cause.CloneCause.{CloneCause}
+use Rattle.clone_chunk.specs.declared.cause.CloneCause.TheVariants.{Busy, VersionMismatch, PageSizeMismatch, CompressionRefused, TasksOutOfRange, NoSuchSession, Stale, StageMismatch, ChunksLeft, FloorAhead, NotClaimed, ArchiveBehind}
 use Rattle.clone_session.specs.Cloning.{Cloning, Session}
 
 -- a cause where it stands

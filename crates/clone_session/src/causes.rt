@@ -3,13 +3,13 @@ ghost use Rattle.clone_session.specs.CloneCauses.{session_of, stale, other_stage
 ghost use Rattle.clone_session.specs.CloneCauses.{hello_cause, standing_cause, claim_cause};
 ghost use Rattle.clone_session.specs.CloneCauses.{block_cause, acknowledgement_cause, exit_cause};
 ghost use Rattle.clone_session.specs.CloneCauses.{is_acknowledged, donor_stage, archive_behind};
-ghost use Rattle.clone_session.specs.declared.refusal.CloneCause.TheVariants.{NoSuchSession};
+ghost use Rattle.clone_chunk.specs.declared.cause.CloneCause.TheVariants.{NoSuchSession};
 
 use crate::limits::{MOST_TASKS, VERSION};
 use crate::session::Session;
-use crate::{Caller, CloneCause, Cloning, Hello};
+use crate::{Caller, Cloning, Hello};
 use clone_base::PAGE_SIZE;
-use clone_chunk::Stage;
+use clone_chunk::{CloneCause, Stage};
 
 // What is against a call, as its first cause.
 impl Cloning {
@@ -31,19 +31,21 @@ impl Cloning {
     {
         if hello.version != VERSION {
             return Err(CloneCause::VersionMismatch {
-                theirs: hello.version,
+                theirs: u64::from(hello.version),
             });
         }
         if hello.page_size != PAGE_SIZE as u32 {
             return Err(CloneCause::PageSizeMismatch {
-                theirs: hello.page_size,
+                theirs: u64::from(hello.page_size),
             });
         }
         if hello.compress {
             return Err(CloneCause::CompressionRefused);
         }
         if hello.tasks == 0 || MOST_TASKS < hello.tasks {
-            return Err(CloneCause::TasksOutOfRange { tasks: hello.tasks });
+            return Err(CloneCause::TasksOutOfRange {
+                tasks: u64::from(hello.tasks),
+            });
         }
         check_standing(&self.session, hello)
     }
@@ -75,13 +77,15 @@ impl Cloning {
         let donor = session.stage_number();
         if !is_acknowledged(session, stage) {
             return Err(CloneCause::StageMismatch {
-                donor,
-                recipient: stage,
+                donor: u64::from(donor),
+                recipient: u64::from(stage),
             });
         }
         let count = session.snapshot.left();
         if stage == donor && count != 0 {
-            return Err(CloneCause::ChunksLeft { count });
+            return Err(CloneCause::ChunksLeft {
+                count: u64::from(count),
+            });
         }
         if stage == 2 && donor == 2 && position < floor {
             return Err(CloneCause::FloorAhead { floor, position });
@@ -114,13 +118,13 @@ fn check_standing(session: &Option<Session>, hello: &Hello) -> Result<(), CloneC
     }
     if hello.incarnation <= session.incarnation {
         return Err(CloneCause::Stale {
-            incarnation: session.incarnation,
+            incarnation: u64::from(session.incarnation),
         });
     }
     let donor = session.stage_number();
     if donor != 1 {
         return Err(CloneCause::StageMismatch {
-            donor,
+            donor: u64::from(donor),
             recipient: 1,
         });
     }
@@ -134,7 +138,7 @@ pub(crate) fn check_incarnation(session: &Session, incarnation: u32) -> Result<(
 {
     if incarnation < session.incarnation {
         return Err(CloneCause::Stale {
-            incarnation: session.incarnation,
+            incarnation: u64::from(session.incarnation),
         });
     }
     Ok(())
@@ -148,8 +152,8 @@ pub(crate) fn check_stage(session: &Session, stage: u8) -> Result<(), CloneCause
     let donor = session.stage_number();
     if stage != donor {
         return Err(CloneCause::StageMismatch {
-            donor,
-            recipient: stage,
+            donor: u64::from(donor),
+            recipient: u64::from(stage),
         });
     }
     Ok(())

@@ -5,7 +5,8 @@ ghost use Rattle.clone_session.specs.CloneCauses.{archive_behind, block_cause, c
 
 use crate::causes::{check_incarnation, check_stage};
 use crate::session::Session;
-use crate::{Caller, CloneCause, Cloning};
+use crate::{Caller, Cloning};
+use clone_chunk::CloneCause;
 use clone_snapshot::{PageBlock, RedoBlock, Snapshot};
 
 /// What a block is made of.

@@ -8,8 +8,8 @@ ghost use Rattle.clone_session.specs.declared.refusal.CloneRefusal.TheVariants.{
 
 use crate::info::{SpaceList, StageInfo, Stop};
 use crate::session::Session;
-use crate::{Caller, CloneCause, CloneRefusal, Cloning};
-use clone_chunk::Stage;
+use crate::{Caller, CloneRefusal, Cloning};
+use clone_chunk::{CloneCause, Stage};
 use clone_snapshot::{page_chunks, redo_chunks};
 use std::alloc::{AllocError, Global};
 

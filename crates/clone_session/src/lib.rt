@@ -21,4 +21,4 @@ pub use copying::BlockWork;
 pub use ending::Moment;
 pub use info::{SpaceList, StageInfo, Stop};
 pub use limits::{MOST_TASKS, VERSION};
-pub use refusal::{CloneCause, CloneRefusal};
+pub use refusal::CloneRefusal;

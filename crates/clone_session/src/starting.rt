@@ -7,8 +7,8 @@ ghost use Rattle.clone_chunk.specs.declared.stage.Stage.TheVariants.{FileCopy};
 
 use crate::info::{SpaceList, StageInfo};
 use crate::session::Session;
-use crate::{CloneCause, Cloning, Hello};
-use clone_chunk::Stage;
+use crate::{Cloning, Hello};
+use clone_chunk::{CloneCause, Stage};
 use clone_snapshot::Snapshot;
 use std::alloc::{AllocError, Global};
 

@@ -1,12 +1,12 @@
 use crate::trx::opened;
 use clone_base::FIRST_LSN;
-use clone_chunk::Stage;
+use clone_chunk::{CloneCause, Stage};
 use clone_donor::{Block, BlockRefusal, Donor};
 use clone_memdisk::MemDisk;
 use clone_model::{BucketCount, Config, TableNumber};
 use clone_outside::DiskOrder;
 use clone_plain::{Cause, EngineRefusal};
-use clone_session::{Caller, CloneCause, CloneRefusal, Hello, Stop};
+use clone_session::{Caller, CloneRefusal, Hello, Stop};
 use std::alloc::Global;
 use std::process::Abort;
 use std::test::Fail;

@@ -7,7 +7,8 @@ use crate::staged_walk::walk::Walk;
 use clone_donor::{Block, BlockRefusal, Donor};
 use clone_memdisk::MemDisk;
 use clone_plain::{Cause, EngineRefusal};
-use clone_session::{Caller, CloneCause, CloneRefusal};
+use clone_chunk::CloneCause;
+use clone_session::{Caller, CloneRefusal};
 use std::process::Abort;
 use std::test::Fail;
 

@@ -5,11 +5,11 @@ use crate::staged_walk::counts::count;
 use crate::staged_walk::requester::Requester;
 use crate::staged_walk::walk::Walk;
 use crate::trx::recovered::Commits;
-use clone_chunk::Stage;
+use clone_chunk::{CloneCause, Stage};
 use clone_donor::Donor;
 use clone_memdisk::MemDisk;
 use clone_recover::{Recovered, open_rows, recover};
-use clone_session::{Caller, CloneCause, CloneRefusal, Hello, StageInfo, Stop};
+use clone_session::{Caller, CloneRefusal, Hello, StageInfo, Stop};
 use std::process::Abort;
 use std::test::Fail;
 
