@@ -28,7 +28,7 @@ use Rattle.clone_engine.specs.Engine.{Engine, IsInFile}
 use Rattle.clone_engine.specs.Reading.{OnlyVisits}
 use Rattle.clone_donor.specs.declared.block.Block.{Block}
 use Rattle.clone_donor.specs.declared.block.Block.TheVariants as block
-use Rattle.clone_donor.specs.declared.block.BlockPage.{BlockPage}
+use Rattle.clone_page.specs.declared.pages.PageAt.{PageAt}
 use Rattle.clone_donor.specs.Copies.{with_pages}
 use Rattle.clone_donor.specs.Copying.{Gives, IsBlock, IsRedo, ReadsIn, ReadsPageOf, places_of, taken_from}
 use Rattle.clone_donor.specs.Donor.{ArePages, CopiesOwn, Donor, HasPages, IsDonor, IsPageOf, list_of}
@@ -59,13 +59,13 @@ stage_is c caller stage chunk number s stands none =
     eqb-true stage (donor_stage s) (is_so (stage == donor_stage s) _ here.0)
 
 -- what was read, by the stage's list
-reads_as : (l : StageList) (stage : ℕ) (e : Engine) (p : BlockPage) → stage ≡ stage_number (stage_of l) → ReadsIn stage e p → ReadsPageOf l e p
+reads_as : (l : StageList) (stage : ℕ) (e : Engine) (p : PageAt) → stage ≡ stage_number (stage_of l) → ReadsIn stage e p → ReadsPageOf l e p
 reads_as (Files spaces) stage e p is read = read.0 is
 reads_as (lists.Pages list) stage e p is read = read.1 (λ one. omega (arith, is, one))
 reads_as (Redo start end) stage e p is read = read.1 (λ one. omega (arith, is, one))
 reads_as Nothing stage e p is read = read.1 (λ one. omega (arith, is, one))
 
-reads_of : (l : StageList) (stage : ℕ) (e : Engine) (pages : List BlockPage) → stage ≡ stage_number (stage_of l) → AllByRecursion (ReadsIn stage e) pages → AllByRecursion (ReadsPageOf l e) pages
+reads_of : (l : StageList) (stage : ℕ) (e : Engine) (pages : List PageAt) → stage ≡ stage_number (stage_of l) → AllByRecursion (ReadsIn stage e) pages → AllByRecursion (ReadsPageOf l e) pages
 reads_of l stage e [] is all = tt
 reads_of l stage e (p ∷ ps) is all = (reads_as l stage e p is all.0, reads_of l stage e ps is all.1)
 
@@ -90,28 +90,28 @@ module _ (e : Engine) where
 
 -- what holds of the pages that are listed holds of those that were read
 module _ (Own : ℕ × ℕ → Type 0) where
-  of_places : (read : List BlockPage) → AllByRecursion Own (places_of read) → AllByRecursion (λ p. Own (p.space, p.number)) read
+  of_places : (read : List PageAt) → AllByRecursion Own (places_of read) → AllByRecursion (λ p. Own (p.space, p.number)) read
   of_places [] all = tt
   of_places (p ∷ ps) all = (all.0, of_places ps all.1)
 
-  are_own : (listed : List (ℕ × ℕ)) (read : List BlockPage) → All Own listed → All (Contains listed) (places_of read) → AllByRecursion (λ p. Own (p.space, p.number)) read
+  are_own : (listed : List (ℕ × ℕ)) (read : List PageAt) → All Own listed → All (Contains listed) (places_of read) → AllByRecursion (λ p. Own (p.space, p.number)) read
   are_own listed read own are = of_places read (recursion_from_All Own (places_of read) (All-weaker (Contains listed) Own (λ x has. All-contains Own listed x own has) (places_of read) are))
 
 -- no page is listed, so none was read
-none_read : (read : List BlockPage) → All (Contains []) (places_of read) → read ≡ []
+none_read : (read : List PageAt) → All (Contains []) (places_of read) → read ≡ []
 none_read [] listed = refl
 none_read (p ∷ ps) listed = let h = All-head (Contains []) (p.space, p.number) (places_of ps) listed in absurd (omega (arith, h.1))
 
 -- WHAT WAS TAKEN, after these pages were given
 
-abbrev pub after_pages : List BlockPage → Taken → Taken
+abbrev pub after_pages : List PageAt → Taken → Taken
 after_pages read taken = record taken { copies = with_pages (read_of read) taken.copies }
 
 for_told : (P : DiskImage → Type 0) (told : Option DiskImage) → ((m : DiskImage) → told ≡ Some m → P m) → ForTold told P
 for_told P None for = tt
 for_told P (Some m) for = for m refl
 
-module _ (d : Donor) (taken : Taken) (read : List BlockPage) where
+module _ (d : Donor) (taken : Taken) (read : List PageAt) where
   abbrev e : Engine
   e = d.engine
 
@@ -123,7 +123,7 @@ module _ (d : Donor) (taken : Taken) (read : List BlockPage) where
 
   module _ (m : DiskImage) (told : e.disk.told ≡ Some m) (flown : IsFlown e.buffer e.flights taken.copies m) where
     none_taken : (l : StageList) → read ≡ [] → IsTakenIn c e.buffer.log taken l → AreTaken m l
-    none_taken l none are = subst (λ (r : List BlockPage). IsFlown e.buffer e.flights (with_pages (read_of r) taken.copies) m × IsTakenIn c e.buffer.log (after_pages r taken) l) (sym none) (flown, are)
+    none_taken l none are = subst (λ (r : List PageAt). IsFlown e.buffer e.flights (with_pages (read_of r) taken.copies) m × IsTakenIn c e.buffer.log (after_pages r taken) l) (sym none) (flown, are)
 
     taken_in : (s : Session) (l : StageList) → CopiesOwn e l → IsInStage c s l → AllByRecursion (ReadsPageOf l e) read → All (Contains (all_pages l)) (places_of read) → IsTakenIn c e.buffer.log taken l → AreTaken m l
     taken_in s (Files spaces) own stage reads listed are = files_answered e m told read taken.copies flown (are_own (InFile e) (all_pages (Files spaces)) read (files_own e spaces own) listed) c.tracking.pages reads are
@@ -177,7 +177,7 @@ module _ (caller : Caller) (stage chunk number : ℕ) (d f : Donor) (made : Bloc
       let on = may.made_of.0 in
       record { is = may.is; cloning = may.cloning; session = on.0; stands = on.1; made = made; made_of = may.made_of; block = block on.0 on.1; visits = visits; same = same }
 
-  pub has_pages : (pages : List (ℕ × ℕ)) (read : Vec BlockPage Global) → made ≡ work.Pages pages → places_of read.items ≡ pages → AllByRecursion (ReadsIn stage d.engine) read.items → HasBlock caller chunk number d f (block.Pages read)
+  pub has_pages : (pages : List (ℕ × ℕ)) (read : Vec PageAt Global) → made ≡ work.Pages pages → places_of read.items ≡ pages → AllByRecursion (ReadsIn stage d.engine) read.items → HasBlock caller chunk number d f (block.Pages read)
   has_pages pages read is places reads = has_block (block.Pages read)
       (λ s stands. subst (λ w. IsBlock s.snap.list d w (block.Pages read)) (sym is) (places, reads_of s.snap.list stage d.engine read.items (stage_is d.cloning caller stage chunk number s stands may.free) reads))
 

@@ -13,7 +13,7 @@ use Rattle.clone_snapshot.specs.StageLists.{StageList}
 use Rattle.clone_session.specs.Cloning.{Cloning}
 use Rattle.clone_engine.specs.Engine.{Engine}
 use Rattle.clone_engine.specs.Reading.{OnlyVisits}
-use Rattle.clone_donor.specs.declared.block.BlockPage.{BlockPage}
+use Rattle.clone_page.specs.declared.pages.PageAt.{PageAt}
 use Rattle.clone_donor.specs.Copying.{ReadsIn, places_of}
 use Rattle.clone_donor.specs.Donor.{Donor, CopiesOwn, IsDonor, NotesPages}
 use Rattle.clone_donor.proofs.ArchiveRings.{can_same}
@@ -31,7 +31,7 @@ visits_more a b c first second = record {
 }
 
 -- a page that was read then was read of the donor as it was
-as_read : (stage : ℕ) (e f : Engine) (p : BlockPage) → OnlyVisits e f → ReadsIn stage f p → ReadsIn stage e p
+as_read : (stage : ℕ) (e f : Engine) (p : PageAt) → OnlyVisits e f → ReadsIn stage f p → ReadsIn stage e p
 as_read stage e f p is = subst (λ (x : Engine). ReadsIn stage x p → ReadsIn stage e p) (sym is.same)
     (λ r. (λ one. let x = r.0 one in record { quiet = x.quiet; allowed = λ own. x.allowed (record { pages = own.pages; file = own.file; within = own.within }) }, λ other. let x = r.1 other in record { page = x.page; allowed = x.allowed }))
 
@@ -52,17 +52,17 @@ donor_stays e f c visits is = donor_visited (record { engine = e; cloning = c })
 
 -- THE PAGES of a block, of which so many were read, and nothing has changed but the disk's count of
 -- faults
-pub record HasRead (stage : ℕ) (block : List (ℕ × ℕ)) (d e : Donor) (count : ℕ) (pages : List BlockPage) : Type 0 where
+pub record HasRead (stage : ℕ) (block : List (ℕ × ℕ)) (d e : Donor) (count : ℕ) (pages : List PageAt) : Type 0 where
   pub places : places_of pages ≡ take count block
   pub read : AllByRecursion (ReadsIn stage d.engine) pages
   pub visits : OnlyVisits d.engine e.engine
   pub same : e.cloning ≡ d.cloning
 
 -- one page more
-pub read_more : (stage : ℕ) (block : List (ℕ × ℕ)) (d e f : Donor) (i : ℕ) (pages new : List BlockPage) (list : List (ℕ × ℕ)) (page : BlockPage) → list ≡ block → i < length list → OnlyVisits e.engine f.engine → f.cloning ≡ e.cloning → ReadsIn stage e.engine page
+pub read_more : (stage : ℕ) (block : List (ℕ × ℕ)) (d e f : Donor) (i : ℕ) (pages new : List PageAt) (list : List (ℕ × ℕ)) (page : PageAt) → list ≡ block → i < length list → OnlyVisits e.engine f.engine → f.cloning ≡ e.cloning → ReadsIn stage e.engine page
     → (page.space ≡ (get_or list i (0, 0)).0) × (page.number ≡ (get_or list i (0, 0)).1) → new ≡ pages ++ page ∷ [] → HasRead stage block d e i pages → HasRead stage block d f (i + 1) new
 read_more stage block d e f i pages new list page same within visits stays read place is had = record {
-  places = ap places_of is ∙ map-append (λ (x : BlockPage). (x.space, x.number)) pages (page ∷ []) ∙ (λ k. had.places k ++ (place.0 k, place.1 k) ∷ [])
+  places = ap places_of is ∙ map-append (λ (x : PageAt). (x.space, x.number)) pages (page ∷ []) ∙ (λ k. had.places k ++ (place.0 k, place.1 k) ∷ [])
       ∙ ap (λ (l : List (ℕ × ℕ)). take i block ++ get_or l i (0, 0) ∷ []) same ∙ sym (take_more block i (0, 0) (subst (λ (l : List (ℕ × ℕ)). i < length l) same within));
   read = subst (AllByRecursion (ReadsIn stage d.engine)) (sym is) (All-push (ReadsIn stage d.engine) pages page had.read (as_read stage d.engine e.engine page had.visits read));
   visits = visits_more d.engine e.engine f.engine had.visits visits;

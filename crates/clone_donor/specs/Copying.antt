@@ -28,7 +28,7 @@ use Rattle.clone_engine.specs.Engine.{Engine}
 use Rattle.clone_engine.specs.Reading.{OnlyVisits, ReadsFile, ReadsPage}
 use Rattle.clone_donor.specs.declared.block.Block.{Block}
 use Rattle.clone_donor.specs.declared.block.Block.TheVariants.{Pages, Redo}
-use Rattle.clone_donor.specs.declared.block.BlockPage.{BlockPage}
+use Rattle.clone_page.specs.declared.pages.PageAt.{PageAt}
 use Rattle.clone_donor.specs.declared.block.BlockRefusal.{BlockRefusal}
 use Rattle.clone_donor.specs.declared.block.BlockRefusal.TheVariants as refused
 use Rattle.clone_donor.specs.Donor.{Donor, known_files}
@@ -71,19 +71,19 @@ taken_at d t None taken = record {
 taken_at d t (Some s) taken = taken
 
 -- the places of pages
-abbrev pub places_of : List BlockPage → List (ℕ × ℕ)
+abbrev pub places_of : List PageAt → List (ℕ × ℕ)
 places_of pages = map (λ p. (p.space, p.number)) pages
 
 -- a page of a block was read so: in the copy of files from the disk, in that of pages as it is
-abbrev pub ReadsPageOf : StageList → Engine → BlockPage → Type 0
-ReadsPageOf (lists.Files spaces) e p = ReadsFile e p.space p.number p.bytes
-ReadsPageOf list e p = ReadsPage e p.space p.number p.bytes
+abbrev pub ReadsPageOf : StageList → Engine → PageAt → Type 0
+ReadsPageOf (lists.Files spaces) e p = ReadsFile e p.space p.number p.page
+ReadsPageOf list e p = ReadsPage e p.space p.number p.page
 
 -- so it was by the stage's number, of which 1 is the copy of files
-abbrev pub ReadsIn : ℕ → Engine → BlockPage → Type 0
+abbrev pub ReadsIn : ℕ → Engine → PageAt → Type 0
 ReadsIn stage e p =
-    (stage ≡ 1 → ReadsFile e p.space p.number p.bytes)
-    × (stage ≢ 1 → ReadsPage e p.space p.number p.bytes)
+    (stage ≡ 1 → ReadsFile e p.space p.number p.page)
+    × (stage ≢ 1 → ReadsPage e p.space p.number p.page)
 
 -- the block has these bytes of the archive
 abbrev pub IsRedo : Donor → RedoBlock → Block → Type 0
@@ -112,7 +112,7 @@ pub record Gives (caller : Caller) (chunk number : ℕ) (d t : Donor) (block : B
 -- a block as it was answered
 abbrev pub taken_from : Block → Taken → Taken
 taken_from (Pages read) taken = record taken {
-  copies = with_pages (map (λ p. ((p.space, p.number), p.bytes)) read.items) taken.copies;
+  copies = with_pages (map (λ p. ((p.space, p.number), p.page)) read.items) taken.copies;
 }
 taken_from (Redo from bytes) taken = taken
 

@@ -1,25 +1,14 @@
-use clone_base::PAGE_SIZE;
+use clone_page::PageAt;
 use clone_plain::EngineRefusal;
 use clone_chunk::CloneCause;
 use clone_session::CloneRefusal;
 use std::alloc::AllocError;
 
-/// A page of a block: where it is, and its 4,096 bytes.
-#[derive(Drop)]
-pub struct BlockPage {
-    /// The space.
-    pub space: u32,
-    /// The page's number there.
-    pub number: u32,
-    /// Its bytes.
-    pub bytes: [u8; PAGE_SIZE],
-}
-
 /// A block of a chunk.
 #[derive(Drop)]
 pub enum Block {
     /// At most eight pages.
-    Pages(Vec<BlockPage>),
+    Pages(Vec<PageAt>),
     /// At most 16,384 bytes of the log.
     Redo {
         /// The LSN of the first one.

@@ -11,6 +11,6 @@ mod laws;
 mod reading;
 mod serving;
 
-pub use block::{Block, BlockPage, BlockRefusal};
+pub use block::{Block, BlockRefusal};
 pub use donor::Donor;
 pub use laws::run_laws;

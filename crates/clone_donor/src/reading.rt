@@ -9,9 +9,9 @@ ghost use Rattle.clone_donor.specs.Acts as act;
 ghost use Rattle.clone_donor.specs.Acts.{Acts};
 ghost use Rattle.clone_donor.specs.Copying.{FailsReading, Gives, IsRedo, ReadsIn, RefusesBlock, places_of};
 
-use crate::{Block, BlockPage, BlockRefusal, Donor};
-use clone_base::PAGE_SIZE;
+use crate::{Block, BlockRefusal, Donor};
 use clone_outside::PageDisk;
+use clone_page::{Page, PageAt};
 use clone_plain::EngineRefusal;
 use clone_session::{BlockWork, Caller};
 use clone_snapshot::{PageBlock, RedoBlock};
@@ -59,7 +59,7 @@ impl<D: PageDisk> Donor<D> {
         alloc: Global,
         stage: u8,
         block: PageBlock,
-    ) -> Result<Vec<BlockPage>, BlockRefusal>
+    ) -> Result<Vec<PageAt>, BlockRefusal>
         ensures places { IfOk result (λ pages. places_of pages.items ≡ block) }
         ensures read { IfOk result
             (λ pages. AllByRecursion (ReadsIn stage self.old.engine) pages.items) }
@@ -78,7 +78,7 @@ impl<D: PageDisk> Donor<D> {
     }
 
     // A page as the disk has it while files are copied, and as it is after that.
-    fn page(&mut self, stage: u8, space: u32, number: u32) -> Result<BlockPage, EngineRefusal>
+    fn page(&mut self, stage: u8, space: u32, number: u32) -> Result<PageAt, EngineRefusal>
         ensures place { IfOk result (λ page. (page.space ≡ space) × (page.number ≡ number)) }
         ensures read { IfOk result (ReadsIn stage self.old.engine) }
         ensures refused { IfErr result (λ refusal. refusal ≡ EngineRefusal.Because DiskFault) }
@@ -87,16 +87,16 @@ impl<D: PageDisk> Donor<D> {
         ensures visits { OnlyVisits self.old.engine self.new.engine }
         ensures same { self.new.cloning ≡ self.old.cloning }
     {
-        let mut bytes = [0; PAGE_SIZE];
+        let mut page = Page::zero();
         if stage == FILE_COPY {
-            self.engine.file_page(space, number, &mut bytes)?;
+            self.engine.file_page(space, number, page.bytes_mut())?;
         } else {
-            self.engine.latest_page(space, number, &mut bytes)?;
+            self.engine.latest_page(space, number, page.bytes_mut())?;
         }
-        Ok(BlockPage {
+        Ok(PageAt {
             space,
             number,
-            bytes,
+            page,
         })
     }
 

@@ -52,7 +52,7 @@ use Rattle.clone_donor.specs.Donor.{ArePages, CopiesOwn, Donor, IsDonor, IsPageO
 use Rattle.clone_donor.specs.Taken.{HasStopped, IsTaken, IsTakenBy, IsTakenIn, Taken}
 use Rattle.clone_donor.specs.declared.block.Block.{Block}
 use Rattle.clone_donor.specs.declared.block.Block.TheVariants as block
-use Rattle.clone_donor.specs.declared.block.BlockPage.{BlockPage}
+use Rattle.clone_page.specs.declared.pages.PageAt.{PageAt}
 use Rattle.clone_donor.specs.declared.block.BlockRefusal.{BlockRefusal}
 use Rattle.clone_donor.proofs.GivenBlocks.{InFile, OfImage, files_own}
 use Rattle.clone_donor.proofs.ToldLemmas.{of_told}
@@ -96,11 +96,11 @@ mark_stays mark (Some m) now tells keeps had =
 
 -- those of the donor's image
 module _ (e : Engine) (safe : IsSafe e.donor) (kept : IsKept e.donor (image_of e.buffer)) where
-  low_reads : (read : List BlockPage) → AllByRecursion (OfImage e) (places_of read) → AllByRecursion IsLow (reads_of read)
+  low_reads : (read : List PageAt) → AllByRecursion (OfImage e) (places_of read) → AllByRecursion IsLow (reads_of read)
   low_reads [] own = tt
   low_reads (p ∷ ps) own = let low = own_low e safe kept p.space p.number own.0 in ((low.0, low.1), low_reads ps own.1)
 
-  low_numbers : (read : List BlockPage) → AllByRecursion (OfImage e) (places_of read) → AllByRecursion (λ (p : BlockPage). p.number < MOST_PAGES) read
+  low_numbers : (read : List PageAt) → AllByRecursion (OfImage e) (places_of read) → AllByRecursion (λ (p : PageAt). p.number < MOST_PAGES) read
   low_numbers [] own = tt
   low_numbers (p ∷ ps) own = let low = own_low e safe kept p.space p.number own.0 in (low.2, low_numbers ps own.1)
 
@@ -121,11 +121,11 @@ pages_beside (p ∷ ps) m low = pages_beside ps _ low.1 ∙ laid_beside_redo m p
 abbrev IsOther : ℕ → ℕ → ℕ × ℕ → Type 0
 IsOther s n page = s ≡ page.0 → n ≡ page.1 → ⊥
 
-others : (read : List BlockPage) (s n : ℕ) → IsNotOf (reads_of read) s n → AllByRecursion (IsOther s n) (places_of read)
+others : (read : List PageAt) (s n : ℕ) → IsNotOf (reads_of read) s n → AllByRecursion (IsOther s n) (places_of read)
 others [] s n not = tt
 others (p ∷ ps) s n not = (not.0, others ps s n not.1)
 
-not_there : (read : List BlockPage) (s n : ℕ) → IsNotOf (reads_of read) s n → Contains (places_of read) (s, n) → ⊥
+not_there : (read : List PageAt) (s n : ℕ) → IsNotOf (reads_of read) s n → Contains (places_of read) (s, n) → ⊥
 not_there read s n not has = All-contains (IsOther s n) (places_of read) (s, n) (All-from_recursion (IsOther s n) (places_of read) (others read s n not)) has refl refl
 
 -- a block of pages is of a stage that lists pages
@@ -333,7 +333,7 @@ module _ (d t : Donor) (told : Option DiskImage) (sizes : PageCounts) (stage che
     taken_in m there = subst (IsTakenBy d.cloning d.engine.buffer.log was.taken) list_here (of_told (λ _. IsTakenBy d.cloning d.engine.buffer.log was.taken (list_of d.cloning)) d.engine.disk.told m there was.in_stage.is.stage)
 
     -- PAGES
-    module _ (pages : List (ℕ × ℕ)) (read : Vec BlockPage Global) (part_is : part ≡ PagePart pages) (places : places_of read.items ≡ pages) (engine : IsEngine d.engine) (safe : IsSafe d.engine.donor) (is_taken : IsTaken t (taken_from (block.Pages read) was.taken)) where
+    module _ (pages : List (ℕ × ℕ)) (read : Vec PageAt Global) (part_is : part ≡ PagePart pages) (places : places_of read.items ≡ pages) (engine : IsEngine d.engine) (safe : IsSafe d.engine.donor) (is_taken : IsTaken t (taken_from (block.Pages read) was.taken)) where
       pages_are : block_of list chunk number ≡ Some (PagePart pages)
       pages_are = block_is ∙ ap (λ (p : Part). Some p) part_is
 

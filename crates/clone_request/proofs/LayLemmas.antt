@@ -1,42 +1,43 @@
 -- Pages that are laid one after the other, and rooms that are made.
-use Rattle.std.proofs.Common.{◌<◌, ◌≤◌, ◌+◌, ◌∷◌, ◌++◌, [], ℕ, List, length, take, get_or, Option, sym, subst, arith}
+use Rattle.std.proofs.Common.{◌≡◌, ◌∙◌, ap, ◌<◌, ◌≤◌, ◌+◌, ◌∷◌, ◌++◌, [], ℕ, List, length, take, get_or, Option, sym, subst, arith}
 use Rattle.std.specs.List.{AllByRecursion}
 use Rattle.std.proofs.lemmas.List.{map_more, take_all, take_more}
 use Rattle.std.proofs.lemmas.List.Elements.{All-from_recursion}
 use Rattle.clone_model.specs.declared.line.TheConstants.{MOST_PAGES}
 use Rattle.clone_outside.specs.Disk.{DiskImage, Steps}
 use Rattle.clone_lay.specs.Laid.{laid_page, with_room}
-use Rattle.clone_donor.specs.declared.block.BlockPage.{BlockPage}
+use Rattle.clone_page.specs.declared.pages.PageAt.{PageAt}
 use Rattle.clone_donor.specs.Copies.{PageRead}
 use Rattle.clone_request.specs.Laying.{reads_of, with_laid, with_rooms}
 use Rattle.clone_request.proofs.StepLemmas.{laid_more, rooms_more, steps_then}
 
 -- the pages of a block have numbers below the limit
-abbrev pub AreLowPages : List BlockPage → Type 0
-AreLowPages pages = AllByRecursion (λ (p : BlockPage). p.number < MOST_PAGES) pages
+abbrev pub AreLowPages : List PageAt → Type 0
+AreLowPages pages = AllByRecursion (λ (p : PageAt). p.number < MOST_PAGES) pages
 
 -- so many of the pages are laid
-abbrev pub HasLaidPages : List BlockPage → ℕ → Option DiskImage → Option DiskImage → Type 0
+abbrev pub HasLaidPages : List PageAt → ℕ → Option DiskImage → Option DiskImage → Type 0
 HasLaidPages pages k told now = AreLowPages pages → Steps told now (with_laid (reads_of (take k pages)))
 
-abbrev pub no_page : BlockPage
-no_page = record { space = 0; number = 0; bytes = [] }
+abbrev pub read_at : PageAt → PageRead
+read_at p = ((p.space, p.number), p.page)
 
-abbrev pub read_at : List BlockPage → ℕ → PageRead
-read_at pages k = (((get_or pages k no_page).space, (get_or pages k no_page).number), (get_or pages k no_page).bytes)
+reads_more : (pages : List PageAt) (k : ℕ) (p : PageAt) → k < length pages → p ≡ get_or pages k p → reads_of (take (k + 1) pages) ≡ reads_of (take k pages) ++ read_at p ∷ []
+reads_more pages k p within is = map_more read_at pages k p within ∙ ap (λ (q : PageAt). reads_of (take k pages) ++ read_at q ∷ []) (sym is)
 
-pub pages_go_on : (pages : List BlockPage) (k : ℕ) (told mid now : Option DiskImage) → k < length pages → HasLaidPages pages k told mid
-    → Steps mid now (laid_page (get_or pages k no_page).space (get_or pages k no_page).number (get_or pages k no_page).bytes) → HasLaidPages pages (k + 1) told now
-pages_go_on pages k told mid now within laid steps low =
-    subst (λ (reads : List PageRead). Steps told now (with_laid reads)) (sym (map_more (λ (p : BlockPage). ((p.space, p.number), p.bytes)) pages k no_page within))
-    (steps_then told mid now (with_laid (reads_of (take k pages))) _ (with_laid (reads_of (take k pages) ++ read_at pages k ∷ [])) (laid_more (reads_of (take k pages)) (read_at pages k)) (laid low) steps)
+pub pages_go_on : (pages : List PageAt) (k : ℕ) (p : PageAt) (bytes : List ℕ) (told mid now : Option DiskImage) → k < length pages → p ≡ get_or pages k p → bytes ≡ p.page
+    → HasLaidPages pages k told mid → Steps mid now (laid_page p.space p.number bytes) → HasLaidPages pages (k + 1) told now
+pages_go_on pages k p bytes told mid now within is same laid steps low =
+    subst (λ (reads : List PageRead). Steps told now (with_laid reads)) (sym (reads_more pages k p within is))
+    (steps_then told mid now (with_laid (reads_of (take k pages))) _ (with_laid (reads_of (take k pages) ++ read_at p ∷ [])) (laid_more (reads_of (take k pages)) (read_at p)) (laid low)
+    (subst (λ (bytes : List ℕ). Steps mid now (laid_page p.space p.number bytes)) same steps))
 
 -- no page of the block is above the limit
-pub pages_skip : (pages : List BlockPage) (k : ℕ) (told now : Option DiskImage) → k < length pages → MOST_PAGES ≤ (get_or pages k no_page).number → HasLaidPages pages (k + 1) told now
-pages_skip pages k told now within high low = absurd (omega (arith, high, All-from_recursion _ pages low k no_page within))
+pub pages_skip : (pages : List PageAt) (k : ℕ) (p : PageAt) (told now : Option DiskImage) → k < length pages → p ≡ get_or pages k p → MOST_PAGES ≤ p.number → HasLaidPages pages (k + 1) told now
+pages_skip pages k p told now within is high low = absurd (omega (arith, high, subst (λ (q : PageAt). q.number < MOST_PAGES) (sym is) (All-from_recursion _ pages low k p within)))
 
-pub pages_end : (pages : List BlockPage) (k : ℕ) (told now : Option DiskImage) → length pages ≤ k → HasLaidPages pages k told now → AreLowPages pages → Steps told now (with_laid (reads_of pages))
-pages_end pages k told now all laid low = subst (λ (ps : List BlockPage). Steps told now (with_laid (reads_of ps))) (take_all k pages all) (laid low)
+pub pages_end : (pages : List PageAt) (k : ℕ) (told now : Option DiskImage) → length pages ≤ k → HasLaidPages pages k told now → AreLowPages pages → Steps told now (with_laid (reads_of pages))
+pages_end pages k told now all laid low = subst (λ (ps : List PageAt). Steps told now (with_laid (reads_of ps))) (take_all k pages all) (laid low)
 
 -- so many of the rooms are made
 abbrev pub HasRooms : List (ℕ × ℕ) → ℕ → Option DiskImage → Option DiskImage → Type 0

@@ -4,7 +4,7 @@ use Rattle.std.specs.declared.option.Option.{Option}
 use Rattle.clone_outside.specs.Disk.{DiskImage}
 use Rattle.clone_lay.specs.Laid.{laid_page, with_room}
 use Rattle.clone_recover.specs.Restores.{ForStep}
-use Rattle.clone_donor.specs.declared.block.BlockPage.{BlockPage}
+use Rattle.clone_page.specs.declared.pages.PageAt.{PageAt}
 use Rattle.clone_donor.specs.Copies.{PageRead}
 
 -- room is made for each of these spaces in turn
@@ -13,8 +13,8 @@ with_rooms [] m = m
 with_rooms (space ∷ spaces) m = with_rooms spaces (with_room space.0 space.1 m)
 
 -- the pages of a block, as they were answered
-abbrev pub reads_of : List BlockPage → List PageRead
-reads_of pages = map (λ p. ((p.space, p.number), p.bytes)) pages
+abbrev pub reads_of : List PageAt → List PageRead
+reads_of pages = map (λ p. ((p.space, p.number), p.page)) pages
 
 -- these pages are laid, one after the other
 abbrev pub with_laid : List PageRead → DiskImage → DiskImage

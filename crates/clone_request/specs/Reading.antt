@@ -12,7 +12,7 @@ use Rattle.clone_plain.specs.Donor as plain
 use Rattle.clone_session.specs.declared.info.StageInfo.{StageInfo}
 use Rattle.clone_donor.specs.declared.block.Block.{Block}
 use Rattle.clone_donor.specs.declared.block.Block.TheVariants.{Pages, Redo}
-use Rattle.clone_donor.specs.declared.block.BlockPage.{BlockPage}
+use Rattle.clone_page.specs.declared.pages.PageAt.{PageAt}
 use Rattle.clone_donor.specs.Donor.{Donor}
 use Rattle.clone_request.specs.declared.requester.StepRefusal.{StepRefusal}
 use Rattle.clone_request.specs.Advancing.{stop_from}
@@ -43,7 +43,7 @@ IsFit checkpoint (Redo from bytes) =
 
 -- the pages of a block are some that a space may have
 abbrev pub AreLow : Block → Type 0
-AreLow (Pages pages) = AllByRecursion (λ (p : BlockPage). p.number < MOST_PAGES) pages.items
+AreLow (Pages pages) = AllByRecursion (λ (p : PageAt). p.number < MOST_PAGES) pages.items
 AreLow (Redo from bytes) = Unit {0}
 
 -- the disk once a block was laid

@@ -15,10 +15,11 @@ ghost use Rattle.clone_request.specs.Reading.{AreLow, IsFit, with_block, work_af
 use crate::asking::{claim, read};
 use crate::requester::{Requester, StepRefusal};
 use clone_base::Counts;
-use clone_donor::{Block, BlockPage, Donor};
+use clone_donor::{Block, Donor};
 use clone_lay::{lay_page, lay_redo};
 use clone_model::MOST_PAGES;
 use clone_outside::{PageDisk, Refusal};
+use clone_page::PageAt;
 use clone_session::StageInfo;
 use std::alloc::Global;
 
@@ -154,7 +155,7 @@ fn lay<R: PageDisk>(
 fn lay_pages<R: PageDisk>(
     disk: &mut R,
     sizes: &mut Counts,
-    pages: &[BlockPage],
+    pages: &[PageAt],
 ) -> Result<(), Refusal>
     requires sizes { ForTold (R.state disk.old).told (AreSizes sizes.old) }
     ensures ok { OnOk result (AllByRecursion (λ p. p.number < MOST_PAGES) pages.now
@@ -167,7 +168,7 @@ fn lay_pages<R: PageDisk>(
         if page.number >= MOST_PAGES {
             continue;
         }
-        lay_page(disk, sizes, page.space, page.number, &page.bytes)?;
+        lay_page(disk, sizes, page.space, page.number, page.page.bytes())?;
     }
     Ok(())
 }

@@ -4,10 +4,11 @@ ghost use Rattle.clone_base.specs.declared.limits.TheConstants.{LSN_LIMIT, PAGE_
 ghost use Rattle.std.specs.Prelude.{◌≡◌, ◌≤◌, ◌+◌, ◌-◌, ◌%◌, IsTrue};
 
 use clone_base::{Counts, LSN_LIMIT, PAGE_SIZE};
-use clone_donor::{Block, BlockPage};
+use clone_donor::Block;
 use clone_lay::{begin_copy, complete, lay_page, lay_redo, make_room, size_laws};
 use clone_memdisk::MemDisk;
 use clone_outside::CloneEnd;
+use clone_page::PageAt;
 use clone_session::StageInfo;
 use std::alloc::Global;
 use std::test::Fail;
@@ -64,7 +65,7 @@ impl Requester {
     }
 
     // Lays pages, each at its place.
-    fn lay_pages(self, pages: &[BlockPage]) -> Result<Requester, Fail> {
+    fn lay_pages(self, pages: &[PageAt]) -> Result<Requester, Fail> {
         let mut requester = self;
         for page in pages {
             requester = requester.lay_page(page)?;
@@ -72,7 +73,7 @@ impl Requester {
         Ok(requester)
     }
 
-    fn lay_page(self, page: &BlockPage) -> Result<Requester, Fail> {
+    fn lay_page(self, page: &PageAt) -> Result<Requester, Fail> {
         let Requester {
             mut disk,
             mut sizes,
@@ -80,7 +81,7 @@ impl Requester {
         if page.number == u32::MAX {
             return Err(Fail::from("a page at no place"));
         }
-        lay_page(&mut disk, &mut sizes, page.space, page.number, &page.bytes)?;
+        lay_page(&mut disk, &mut sizes, page.space, page.number, page.page.bytes())?;
         Ok(Requester { disk, sizes })
     }
 

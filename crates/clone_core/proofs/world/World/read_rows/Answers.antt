@@ -5,7 +5,7 @@ use Rattle.clone_core.proofs.RowsLemmas.{reads, read_holds}
 use Rattle.clone_core.proofs.world.World.read_rows.Goals as goal
 
 pub invariant_of-self : goal.invariant_of-self
-invariant_of-self g c = read_holds c.holds_laws.ensures.again c.self.inside.course _ _ _ c.recovered_rows-read.result (Ok c.in-Ok.field-0) c.self.view_is refl c.in-Ok.is c.requires.ended c.self.invariant (record {
+invariant_of-self g c = read_holds c.holds_laws.ensures.again c.self.inside.course _ _ (g.R.PageDisk.state c.recovered_rows-read.new.disk) c.recovered_rows-read.result (Ok c.in-Ok.field-0) c.self.view_is refl c.in-Ok.is c.requires.ended c.self.invariant (record {
   rows = c.recovered_rows-read.ensures.rows;
   ascending = c.recovered_rows-read.ensures.ascending;
   cause = c.recovered_rows-read.ensures.cause;
