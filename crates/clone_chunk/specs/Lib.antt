@@ -4,3 +4,4 @@ pub mod Stages
 pub mod Bitmaps
 pub mod Causes
 pub mod CauseTexts
+pub mod Plans

@@ -1,6 +1,6 @@
 //! The stages of a clone, and the chunks of a stage: which are free, which a task has claimed, and
-//! which are finished. And what donor and requester tell each other of these: a bit for each chunk,
-//! the redo of a block, the spaces of a stage, and why a call is refused.
+//! which are finished. And what donor and requester tell each other of these: what is copied in a
+//! stage, a bit for each chunk, the redo of a block, the spaces, and why a call is refused.
 #![tactic(auto)]
 
 mod bitmap;
@@ -9,6 +9,7 @@ mod chunk;
 mod copy_stage;
 mod laws;
 mod map;
+mod plan;
 mod redo_bytes;
 mod spaces;
 mod stage;
@@ -19,6 +20,7 @@ pub use chunk::Chunk;
 pub use copy_stage::CopyStage;
 pub use laws::claimed_once;
 pub use map::ChunkMap;
+pub use plan::StagePlan;
 pub use redo_bytes::RedoBytes;
 pub use spaces::{SpaceSize, Spaces};
 pub use stage::Stage;

@@ -1,5 +1,5 @@
 use clone_base::BLOCK_PAGES;
-use clone_chunk::{Bitmap, CloneCause, CopyStage, RedoBytes, SpaceSize, Spaces};
+use clone_chunk::{Bitmap, CloneCause, CopyStage, RedoBytes, SpaceSize, Spaces, StagePlan};
 use clone_page::{Page, PageAt, Pages};
 use clone_wire::*;
 use std::alloc::{AllocError, Global};

@@ -13,8 +13,8 @@ use Rattle.clone_wire.specs.declared.frame.Frame.{Frame}
 use Rattle.clone_wire.specs.declared.frame.Frame.TheVariants.{Init, Attach, Reinit, Execute, Ack, Exit, Stage, Pages, Redo, End, Refused}
 use Rattle.clone_chunk.specs.declared.spaces.SpaceSize.{SpaceSize}
 use Rattle.clone_page.specs.declared.pages.PageAt.{PageAt}
-use Rattle.clone_wire.specs.declared.stage.StagePlan.{StagePlan}
-use Rattle.clone_wire.specs.declared.stage.StagePlan.TheVariants as plan
+use Rattle.clone_chunk.specs.declared.plan.StagePlan.{StagePlan}
+use Rattle.clone_chunk.specs.declared.plan.StagePlan.TheVariants as plan
 use Rattle.clone_wire.specs.Choices as Choices
 use Rattle.clone_chunk.specs.Bitmaps.{ends_at}
 use Rattle.clone_chunk.specs.declared.cause.CloneCause.{CloneCause}
@@ -22,7 +22,8 @@ use Rattle.clone_wire.specs.declared.fault.Fault.TheVariants.{Short}
 use Rattle.clone_bytes.specs.Fields.{IsBytes}
 use Rattle.clone_wire.specs.Frames.{IsOneOf, IsHead, codes, lengths}
 use Rattle.clone_wire.specs.Ranges.{AllAre, IsPageAt, IsPlan, IsFrame}
-use Rattle.clone_wire.specs.Spelling.{side_of, code_of, spaces_of, space_bytes, page_bytes, plan_bytes, payload, spelling}
+use Rattle.clone_chunk.specs.Plans.{spaces_of}
+use Rattle.clone_wire.specs.Spelling.{side_of, code_of, space_bytes, page_bytes, plan_bytes, payload, spelling}
 use Rattle.clone_wire.specs.Reading.{refusals, framed, copy_in, attempt, counted, init, attach, reinit, ack, cause, payload_of, head, frame, frame_at}
 use Rattle.clone_wire.specs.Reading as Reading
 use Rattle.clone_wire.proofs.FieldFormats.{in_range, has_flag, has_copy, has_pages}

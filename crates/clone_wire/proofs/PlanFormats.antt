@@ -6,8 +6,8 @@ use Rattle.std.proofs.lemmas.Bool.{ne_eqb}
 use Rattle.byteorder.specs.Endian.{big_bytes}
 use Rattle.clone_bytes.specs.Formats.{IsFormat}
 use Rattle.clone_bytes.proofs.Formats.{followed_laws, made_laws, list_laws}
-use Rattle.clone_wire.specs.declared.stage.StagePlan.{StagePlan}
-use Rattle.clone_wire.specs.declared.stage.StagePlan.TheVariants as plan
+use Rattle.clone_chunk.specs.declared.plan.StagePlan.{StagePlan}
+use Rattle.clone_chunk.specs.declared.plan.StagePlan.TheVariants as plan
 use Rattle.clone_chunk.specs.declared.cause.CloneCause.{CloneCause}
 use Rattle.clone_chunk.specs.declared.cause.CloneCause.TheVariants.{Busy, VersionMismatch, PageSizeMismatch, CompressionRefused, TasksOutOfRange, NoSuchSession, Stale, StageMismatch, ChunksLeft, FloorAhead, NotClaimed, ArchiveBehind}
 use Rattle.clone_chunk.specs.declared.spaces.SpaceSize.{SpaceSize}
@@ -15,7 +15,8 @@ use Rattle.clone_wire.specs.Choices.{between, any_if}
 use Rattle.clone_wire.specs.Frames.{IsOneOf}
 use Rattle.clone_wire.specs.Ranges.{HasWidth, AllAre, IsSpace, IsPlan}
 use Rattle.clone_chunk.specs.Causes.{cause_number, cause_first, cause_second, cause_numbered}
-use Rattle.clone_wire.specs.Spelling.{space_bytes, cause_bytes, plan_bytes, spaces_of}
+use Rattle.clone_wire.specs.Spelling.{space_bytes, cause_bytes, plan_bytes}
+use Rattle.clone_chunk.specs.Plans.{spaces_of}
 use Rattle.clone_wire.specs.Reading.{refusals, planned, plan_fields, stage_plan, value_count, cause}
 use Rattle.clone_wire.proofs.FieldFormats.{IsChoice, number_in_laws, range_choice, any_choice, in_range, same_number, space_laws}
 

@@ -1,9 +1,5 @@
 -- The sides of frames, and the codes and the lengths that they have.
 use Rattle.std.specs.Prelude.{ℕ, ◌≡◌, ◌≤◌, ◌-◌, ◌%◌, ◌==◌, if◌then◌else◌}
-use Rattle.clone_chunk.specs.declared.stage.Stage.{Stage}
-use Rattle.clone_chunk.specs.declared.stage.Stage.TheVariants as stage
-use Rattle.clone_wire.specs.declared.stage.StagePlan.{StagePlan}
-use Rattle.clone_wire.specs.declared.stage.StagePlan.TheVariants as plan
 use Rattle.clone_wire.specs.declared.frame.Side.{Side}
 use Rattle.clone_wire.specs.declared.frame.Side.TheVariants.{Command, Answer}
 use Rattle.clone_wire.specs.declared.numbers.Numbers.{Numbers}
@@ -13,12 +9,6 @@ use Rattle.clone_wire.specs.declared.limits.TheConstants.{REINIT_FIELDS, STAGE_F
 use Rattle.clone_wire.specs.declared.limits.TheConstants.{REDO_FIELDS}
 use Rattle.clone_wire.specs.declared.limits.TheConstants.{SPACE_BYTES, PAGE_AT_BYTES}
 use Rattle.clone_wire.specs.Choices.{between, only, listed}
-
-abbrev pub stage_of : StagePlan → Stage
-stage_of (plan.FileCopy chunks spaces) = stage.FileCopy
-stage_of (plan.PageCopy chunks position) = stage.PageCopy
-stage_of (plan.RedoCopy chunks checkpoint lsn position) = stage.RedoCopy
-stage_of (plan.Done checkpoint lsn position) = stage.Done
 
 -- the codes of a side's frames
 abbrev pub codes : Side → Numbers

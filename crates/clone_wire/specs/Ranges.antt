@@ -7,8 +7,8 @@ use Rattle.clone_wire.specs.declared.frame.Frame.{Frame}
 use Rattle.clone_wire.specs.declared.frame.Frame.TheVariants.{Init, Attach, Reinit, Execute, Ack}
 use Rattle.clone_wire.specs.declared.frame.Frame.TheVariants.{Exit, Stage, Pages, Redo, End}
 use Rattle.clone_wire.specs.declared.frame.Frame.TheVariants.{Refused}
-use Rattle.clone_wire.specs.declared.stage.StagePlan.{StagePlan}
-use Rattle.clone_wire.specs.declared.stage.StagePlan.TheVariants as plan
+use Rattle.clone_chunk.specs.declared.plan.StagePlan.{StagePlan}
+use Rattle.clone_chunk.specs.declared.plan.StagePlan.TheVariants as plan
 use Rattle.clone_chunk.specs.declared.spaces.SpaceSize.{SpaceSize}
 use Rattle.clone_page.specs.declared.pages.PageAt.{PageAt}
 use Rattle.clone_base.specs.declared.limits.TheConstants.{PAGE_SIZE, SPACE_LIMIT, BLOCK_PAGES}

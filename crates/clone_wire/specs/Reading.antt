@@ -14,8 +14,8 @@ use Rattle.clone_wire.specs.declared.frame.Frame.TheVariants.{Exit, Stage, Pages
 use Rattle.clone_wire.specs.declared.frame.Frame.TheVariants.{Refused}
 use Rattle.clone_chunk.specs.declared.copy_stage.CopyStage.{CopyStage}
 use Rattle.clone_wire.specs.declared.stage.PageStage.{PageStage}
-use Rattle.clone_wire.specs.declared.stage.StagePlan.{StagePlan}
-use Rattle.clone_wire.specs.declared.stage.StagePlan.TheVariants as plan
+use Rattle.clone_chunk.specs.declared.plan.StagePlan.{StagePlan}
+use Rattle.clone_chunk.specs.declared.plan.StagePlan.TheVariants as plan
 use Rattle.clone_chunk.specs.declared.cause.CloneCause.{CloneCause}
 use Rattle.clone_chunk.specs.declared.spaces.SpaceSize.{SpaceSize}
 use Rattle.clone_page.specs.declared.pages.PageAt.{PageAt}

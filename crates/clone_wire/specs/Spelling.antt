@@ -10,15 +10,15 @@ use Rattle.clone_wire.specs.declared.frame.Frame.{Frame}
 use Rattle.clone_wire.specs.declared.frame.Frame.TheVariants.{Init, Attach, Reinit, Execute, Ack}
 use Rattle.clone_wire.specs.declared.frame.Frame.TheVariants.{Exit, Stage, Pages, Redo, End}
 use Rattle.clone_wire.specs.declared.frame.Frame.TheVariants.{Refused}
-use Rattle.clone_wire.specs.declared.stage.StagePlan.{StagePlan}
-use Rattle.clone_wire.specs.declared.stage.StagePlan.TheVariants as plan
+use Rattle.clone_chunk.specs.declared.plan.StagePlan.{StagePlan}
 use Rattle.clone_chunk.specs.declared.spaces.SpaceSize.{SpaceSize}
 use Rattle.clone_page.specs.declared.pages.PageAt.{PageAt}
 use Rattle.clone_chunk.specs.Stages.{stage_number, copy_number}
 use Rattle.clone_wire.specs.Stages.{page_number}
 use Rattle.clone_chunk.specs.declared.cause.CloneCause.{CloneCause}
 use Rattle.clone_chunk.specs.Causes.{cause_number, cause_first, cause_second}
-use Rattle.clone_wire.specs.Frames.{stage_of}
+use Rattle.clone_chunk.specs.Plans.{stage_of, chunks_of, checkpoint_of, lsn_of, position_of}
+use Rattle.clone_chunk.specs.Plans.{spaces_of}
 
 -- the side that sends a frame
 abbrev pub side_of : Frame → Side
@@ -46,37 +46,6 @@ code_of (Pages attempt stage chunk block pages) = 17
 code_of (Redo attempt chunk block from bytes) = 18
 code_of (End attempt stage) = 19
 code_of (Refused cause) = 20
-
--- what a stage says; what it doesn't have is 0
-abbrev pub chunks_of : StagePlan → ℕ
-chunks_of (plan.FileCopy chunks spaces) = chunks
-chunks_of (plan.PageCopy chunks position) = chunks
-chunks_of (plan.RedoCopy chunks checkpoint lsn position) = chunks
-chunks_of (plan.Done checkpoint lsn position) = 0
-
-abbrev pub checkpoint_of : StagePlan → ℕ
-checkpoint_of (plan.FileCopy chunks spaces) = 0
-checkpoint_of (plan.PageCopy chunks position) = 0
-checkpoint_of (plan.RedoCopy chunks checkpoint lsn position) = checkpoint
-checkpoint_of (plan.Done checkpoint lsn position) = checkpoint
-
-abbrev pub lsn_of : StagePlan → ℕ
-lsn_of (plan.FileCopy chunks spaces) = 0
-lsn_of (plan.PageCopy chunks position) = 0
-lsn_of (plan.RedoCopy chunks checkpoint lsn position) = lsn
-lsn_of (plan.Done checkpoint lsn position) = lsn
-
-abbrev pub position_of : StagePlan → ℕ
-position_of (plan.FileCopy chunks spaces) = 0
-position_of (plan.PageCopy chunks position) = position
-position_of (plan.RedoCopy chunks checkpoint lsn position) = position
-position_of (plan.Done checkpoint lsn position) = position
-
-abbrev pub spaces_of : StagePlan → List SpaceSize
-spaces_of (plan.FileCopy chunks spaces) = spaces
-spaces_of (plan.PageCopy chunks position) = []
-spaces_of (plan.RedoCopy chunks checkpoint lsn position) = []
-spaces_of (plan.Done checkpoint lsn position) = []
 
 abbrev pub flag : Bool → ℕ
 flag set = if set then 1 else 0

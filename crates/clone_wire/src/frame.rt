@@ -1,11 +1,11 @@
 //! The frames of the wire and their lengths. A frame has its code in 1 byte, the length of its
 //! payload in 4, and the payload; a requester's codes are 1 to 6, a donor's 16 to 20. Each value
 //! of this type is within the ranges of its fields, by the types of those.
+use crate::PageStage;
 use crate::limits::{
     HEAD_BYTES, PAGE_AT_BYTES, PAGES_FIELDS, REDO_FIELDS, REINIT_FIELDS, SPACE_BYTES, STAGE_FIELDS,
 };
-use crate::{PageStage, StagePlan};
-use clone_chunk::{Bitmap, CloneCause, CopyStage, RedoBytes};
+use clone_chunk::{Bitmap, CloneCause, CopyStage, RedoBytes, StagePlan};
 use clone_page::Pages;
 
 /// One attempt at a clone: a session, and which of its incarnations, since each loss begins

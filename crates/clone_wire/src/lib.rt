@@ -24,4 +24,4 @@ pub use limits::{
     STAGE_FIELDS,
 };
 pub use reading::{decode, read_head};
-pub use stage::{PageStage, StagePlan};
+pub use stage::PageStage;

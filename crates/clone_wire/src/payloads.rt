@@ -14,16 +14,16 @@ ghost use Rattle.clone_wire.specs.declared.frame.Frame.TheVariants.{Execute, End
 ghost use Rattle.clone_wire.specs.declared.fault.Fault.TheVariants.{Short};
 ghost use Rattle.clone_bytes.specs.Formats.{◌&◌, list, run_at};
 
+use crate::Frame;
 use crate::fault::Fault;
 use crate::fields::{
     attempt_of, bytes_of, copy_of, flag_of, number_in, pages_stage_of, u8_of, u16_of, u32_of,
     u64_of,
 };
 use crate::numbers::Numbers;
-use crate::{Frame, StagePlan};
 use clone_base::PAGE_SIZE;
 use clone_bytes::Reader;
-use clone_chunk::{Bitmap, CloneCause, RedoBytes, SpaceSize, Spaces, ends_at};
+use clone_chunk::{Bitmap, CloneCause, RedoBytes, SpaceSize, Spaces, StagePlan, ends_at};
 use clone_page::{Page, PageAt, Pages};
 use std::alloc::Global;
 

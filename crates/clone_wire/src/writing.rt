@@ -11,11 +11,10 @@ ghost use Rattle.clone_wire.specs.declared.limits.TheConstants.{MOST_BITMAP};
 ghost use Rattle.clone_wire.specs.declared.limits.TheConstants.{REINIT_FIELDS, STAGE_FIELDS};
 ghost use Rattle.clone_wire.specs.declared.limits.TheConstants.{PAGES_FIELDS, REDO_FIELDS};
 ghost use Rattle.clone_wire.specs.declared.limits.TheConstants.{SPACE_BYTES, PAGE_AT_BYTES};
-ghost use Rattle.clone_wire.specs.Frames.{stage_of};
 ghost use Rattle.clone_wire.specs.Spelling.{attempt_bytes, space_bytes, page_bytes, plan_bytes};
 ghost use Rattle.clone_wire.specs.Spelling.{flag, payload};
-ghost use Rattle.clone_wire.specs.Spelling.{chunks_of, checkpoint_of, lsn_of};
-ghost use Rattle.clone_wire.specs.Spelling.{position_of, spaces_of};
+ghost use Rattle.clone_chunk.specs.Plans.{stage_of, chunks_of, checkpoint_of, lsn_of};
+ghost use Rattle.clone_chunk.specs.Plans.{position_of, spaces_of};
 ghost use Rattle.clone_chunk.specs.Stages.{stage_number, copy_number};
 ghost use Rattle.clone_wire.specs.Stages.{page_number};
 ghost use Rattle.clone_bytes.specs.Fields.{IsBytes};
@@ -24,9 +23,9 @@ ghost use Rattle.clone_chunk.specs.Causes.{cause_number, cause_first, cause_seco
 ghost use Rattle.clone_wire.specs.Ranges.{HasWidth, AllAre, IsAttempt, IsSpace};
 ghost use Rattle.clone_wire.specs.Ranges.{IsPlan, IsPageAt, IsFrame};
 
-use crate::{Attempt, Frame, PageStage, StagePlan};
+use crate::{Attempt, Frame, PageStage};
 use byteorder::{BigEndian, ByteOrder};
-use clone_chunk::{Bitmap, CloneCause, CopyStage, RedoBytes, SpaceSize};
+use clone_chunk::{Bitmap, CloneCause, CopyStage, RedoBytes, SpaceSize, StagePlan};
 use clone_page::{PageAt, Pages};
 use std::alloc::AllocError;
 
