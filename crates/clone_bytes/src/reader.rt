@@ -46,6 +46,13 @@ impl<'a> Reader<'a> {
         self.left.len()
     }
 
+    /// The bytes that are left.
+    pub fn rest(&self) -> &'a [u8]
+        ensures { result.now ≡ self.now }
+    {
+        self.left
+    }
+
     /// The next byte. `Short` comes exactly where none is left, and the reader is unchanged then.
     pub fn u8(&mut self) -> Result<u8, Short>
         ensures { Reads (λ x. x ≡ big_number 1 self.old) 1 self.old self.new result }

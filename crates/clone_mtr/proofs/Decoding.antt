@@ -13,7 +13,7 @@ use Rattle.clone_mtr.specs.Spelling.{record_spelling, spelling, Spells}
 use Rattle.clone_mtr.specs.Answers.{BeginsNone, IsLost, IsFront, Stops, Decodes}
 use Rattle.clone_mtr.specs.declared.record.Record.{Record}
 use Rattle.clone_mtr.specs.declared.refusal.DecodeRefusal.{DecodeRefusal}
-use Rattle.clone_mtr.specs.declared.refusal.DecodeRefusal.TheVariants.{Short, BadKind, OutOfPage, TooLong, NoMemory}
+use Rattle.clone_mtr.specs.declared.refusal.DecodeRefusal.TheVariants.{Short, BadKind, OutOfPage, TooLong}
 use Rattle.clone_mtr.specs.Reading.{refusals, item_at}
 use Rattle.clone_mtr.proofs.Items.{item_laws}
 use Rattle.clone_mtr.proofs.Spellings.{text_of, spelling_is, record_some, records, some_of, mtr, mtr_laws, has_of, end_alone}
@@ -23,7 +23,6 @@ decides Short = inl refl
 decides (BadKind at) = inr (λ h. cc)
 decides (OutOfPage at) = inr (λ h. cc)
 decides TooLong = inr (λ h. cc)
-decides NoMemory = inr (λ h. cc)
 
 -- the bytes are these records and then a rest
 pub record Splits (bytes : List ℕ) (rs : List Record) (rest : List ℕ) : Type 0 where
@@ -134,11 +133,20 @@ refuses bytes rest rs at e here so_far failed = by e (subst (λ n. item_at n res
     by (BadKind k) failed = (let p = never (BadKind k) (λ h. cc) failed in (p.0, p.1, inl p.2))
     by (OutOfPage k) failed = never (OutOfPage k) (λ h. cc) failed
     by TooLong failed = never TooLong (λ h. cc) failed
-    by NoMemory failed = tt
 
--- the answer where the end mark stands first
-pub ends_first : (bytes left : List ℕ) → IsBytes bytes → item_at 0 bytes ≡ Ok (None, left) → Decodes bytes (Err (BadKind 0))
-ends_first bytes left fit e =
-    let mark : bytes ≡ 6 ∷ left = ((item_laws 0).from bytes None left fit e).1 in
+-- where nothing was read the end mark stands first
+pub ends_first : (bytes rest left : List ℕ) (rs : List Record) → Splits bytes rs rest → length (text_of rs) ≡ 0 → item_at 0 rest ≡ Ok (None, left) → Decodes bytes (Err (BadKind 0))
+ends_first bytes rest left (r ∷ rs) so_far none e = absurd (omega (arith, record_some r, length-append (record_spelling r) (text_of rs)))
+ends_first bytes rest left [] so_far none e =
+    let mark : bytes ≡ 6 ∷ left = so_far.parts ∙ ((item_laws 0).from rest None left (rest_fits bytes rest [] so_far) e).1 in
     let failed : mtr.read bytes ≡ Err (BadKind 0) = ap mtr.read mark ∙ end_alone left in
-    (begins_none bytes (BadKind 0) failed, lost bytes (BadKind 0) fit (λ h. cc) failed, inr (refl, mark ∙ ap (λ t. 6 ∷ drop 1 t) (sym mark)))
+    (begins_none bytes (BadKind 0) failed, lost bytes (BadKind 0) so_far.fits (λ h. cc) failed, inr (refl, mark ∙ ap (λ t. 6 ∷ drop 1 t) (sym mark)))
+
+-- the bytes before the end mark
+pub front_is : (bytes rest : List ℕ) (rs : List Record) (at : ℕ) → at ≡ length (text_of rs) → Splits bytes rs rest → take at bytes ≡ text_of rs
+front_is bytes rest rs at here so_far = ap (take at) so_far.parts ∙ take_at (text_of rs) rest at (sym here)
+
+-- a text is of one record at least
+pub some_read : (rs : List Record) → 1 ≤ length (text_of rs) → 1 ≤ length rs
+some_read [] some = absurd (omega arith)
+some_read (r ∷ rs) some = omega arith

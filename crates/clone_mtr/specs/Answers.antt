@@ -1,15 +1,17 @@
 -- What the encoder and the decoder answer.
-use Rattle.std.specs.Prelude.{ℕ, ◌∷◌, ◌⊎◌, ◌≡◌, ◌<◌, ◌≤◌, ◌+◌, ◌++◌, List, take, drop, length, min, ◌-◌, ◌^◌, Result, Ok, Err, Vec, ⊤}
+use Rattle.std.specs.Prelude.{ℕ, ◌∷◌, ◌⊎◌, ◌≡◌, ◌<◌, ◌≤◌, ◌+◌, ◌++◌, List, [], take, drop, length, min, ◌-◌, ◌^◌, Result, Ok, Err, None, Some, Vec, ⊤}
 use Rattle.std.specs.declared.alloc.Global.{Global}
 use Rattle.clone_mtr.specs.declared.record.Record.{Record}
-use Rattle.clone_mtr.specs.declared.record.Mtr.{Mtr}
+use Rattle.clone_mtr.specs.declared.reference.RecordRef.{RecordRef}
 use Rattle.clone_mtr.specs.declared.refusal.EncodeRefusal.{EncodeRefusal}
 use Rattle.clone_mtr.specs.declared.refusal.EncodeRefusal.TheVariants as encode
 use Rattle.clone_mtr.specs.declared.refusal.TooLong.{TooLong}
 use Rattle.clone_mtr.specs.declared.refusal.DecodeRefusal.{DecodeRefusal}
 use Rattle.clone_mtr.specs.declared.refusal.DecodeRefusal.TheVariants as decode
+use Rattle.std.specs.declared.option.Option.{Option}
 use Rattle.std.specs.List.{flat_map, AllByRecursion}
 use Rattle.clone_mtr.specs.Records.{IsRecord}
+use Rattle.clone_mtr.specs.References.{record_of}
 use Rattle.clone_mtr.specs.Spelling.{record_spelling, Spells, longest}
 use Rattle.clone_mtr.specs.Reading.{item_at}
 
@@ -56,9 +58,9 @@ pub record Stops (bytes : List ℕ) (cause : DecodeRefusal) : Type 0 where
   pub with_it : IsLost (take (offset + 1) bytes)
 
 -- The mini-transaction whose spelling is at the front, and the length of that front. A refusal
--- other than want of memory comes only where no front is one: `Short` exactly where further bytes
--- would make one, and the others exactly where none could, with the first cause.
-abbrev pub Decodes : List ℕ → Result (Mtr × ℕ) DecodeRefusal → Type 0
+-- comes only where no front is one: `Short` exactly where further bytes would make one, and the
+-- others exactly where none could, with the first cause.
+abbrev pub Decodes : List ℕ → Result (List Record × ℕ) DecodeRefusal → Type 0
 Decodes bytes (Ok found) = Spells (take found.1 bytes) found.0 × (found.1 ≤ length bytes)
 Decodes bytes (Err decode.Short) = BeginsNone bytes × IsFront bytes
 Decodes bytes (Err (decode.BadKind at)) =
@@ -67,4 +69,8 @@ Decodes bytes (Err (decode.BadKind at)) =
 Decodes bytes (Err (decode.OutOfPage at)) =
     BeginsNone bytes × IsLost bytes × Stops bytes (decode.OutOfPage at)
 Decodes bytes (Err decode.TooLong) = BeginsNone bytes × IsLost bytes × Stops bytes decode.TooLong
-Decodes bytes (Err decode.NoMemory) = ⊤
+
+-- the first of the records and those behind it, or none where none is left
+abbrev pub IsNext : List Record → List Record → Option RecordRef → Type 0
+IsNext old new None = (old ≡ []) × (new ≡ [])
+IsNext old new (Some entry) = old ≡ record_of entry ∷ new

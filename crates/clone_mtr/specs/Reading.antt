@@ -17,20 +17,10 @@ use Rattle.clone_mtr.specs.declared.record.Record.{Record}
 use Rattle.clone_mtr.specs.declared.record.Record.TheVariants.{Init, Write, Extend, Create, Drop}
 use Rattle.clone_mtr.specs.declared.fields.Sought.{Sought}
 use Rattle.clone_mtr.specs.declared.fields.Sought.TheVariants.{Kind, Offset, Length}
-use Rattle.clone_mtr.specs.declared.found.Found.{Found}
-use Rattle.clone_mtr.specs.declared.found.Found.TheVariants as found
 use Rattle.clone_mtr.specs.declared.refusal.DecodeRefusal.{DecodeRefusal}
 use Rattle.clone_mtr.specs.declared.refusal.DecodeRefusal.TheVariants.{Short, BadKind, OutOfPage}
-use Rattle.clone_mtr.specs.declared.refusal.DecodeRefusal.TheVariants.{TooLong, NoMemory}
+use Rattle.clone_mtr.specs.declared.refusal.DecodeRefusal.TheVariants.{TooLong}
 use Rattle.clone_mtr.specs.declared.writing.TheConstants.{LONGEST_MTR}
-
--- a record that stands in its spelling
-abbrev pub found_record : Found → Record
-found_record (found.Init space page kind) = Init space page kind
-found_record (found.Write space page patch) = Write space page patch
-found_record (found.Extend space pages) = Extend space pages
-found_record (found.Create space pages) = Create space pages
-found_record (found.Drop space) = Drop space
 
 -- what a function returned, seen by view, is what reading gives
 abbrev pub Gives : {X Y : Type 0} → (X → Y) → Result X DecodeRefusal → Result Y DecodeRefusal
@@ -44,7 +34,6 @@ place (BadKind at) = at
 place (OutOfPage at) = at
 place Short = 0
 place TooLong = 0
-place NoMemory = 0
 
 abbrev pub refusals : Refusals DecodeRefusal
 refusals = record { short = Short; place = place }

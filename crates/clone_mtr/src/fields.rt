@@ -1,10 +1,10 @@
 ghost use Rattle.std.specs.Prelude.{◌≡◌, ◌≤◌, ◌+◌, option_map, IfOk};
 ghost use Rattle.clone_bytes.specs.Formats.{byte_at, number_at, run_at};
-ghost use Rattle.clone_mtr.specs.Reading.{Gives, found_record, code_judge, judge_of, begins, fits, sought, kind, patch, IsSought, fields, kind_numbered};
+ghost use Rattle.clone_mtr.specs.Reading.{Gives, code_judge, judge_of, begins, fits, sought, kind, patch, IsSought, fields, kind_numbered, item_at};
+ghost use Rattle.clone_mtr.specs.References.{record_of};
 ghost use Rattle.clone_mtr.specs.declared.refusal.DecodeRefusal.TheVariants.{Short};
 
-use crate::found::{Found, Span};
-use crate::{DecodeRefusal, LONGEST_MTR};
+use crate::{DecodeRefusal, LONGEST_MTR, PatchRef, RecordRef};
 use clone_bytes::Reader;
 use clone_page::{BODY_AT, LSN_AT, PREVIOUS_AT, PageKind, TRAILER_AT, is_allowed};
 
@@ -19,8 +19,23 @@ pub(crate) enum Sought {
     Length { offset: u16 },
 }
 
-/// Whether an item with this code may stand at this offset.
-pub(crate) fn admitted(at: usize, code: u8) -> Result<(), DecodeRefusal>
+/// The record at the front, or none where the end mark stands. `at` is the offset where it begins.
+#[tactic(auto, unfolding(crate::specs::Reading::item_at))]
+pub(crate) fn item_of<'a>(
+    at: usize,
+    reader: &mut Reader<'a>,
+) -> Result<Option<RecordRef<'a>>, DecodeRefusal>
+    requires { at ≤ LONGEST_MTR }
+    ensures { Gives (λ x. (option_map record_of x, reader.new)) result
+        (item_at at reader.old) }
+{
+    let code = u8_of(reader)?;
+    admitted(at, code)?;
+    fields_of(at, code, reader)
+}
+
+// Whether an item with this code may stand at this offset.
+fn admitted(at: usize, code: u8) -> Result<(), DecodeRefusal>
     requires { at ≤ LONGEST_MTR }
     ensures { Gives (λ x. x) result (code_judge at code) }
 {
@@ -38,14 +53,14 @@ pub(crate) fn admitted(at: usize, code: u8) -> Result<(), DecodeRefusal>
     Ok(())
 }
 
-/// What follows the code of an item: the record, or none after the code of the end mark.
-pub(crate) fn fields_of<'a>(
+// What follows the code of an item: the record, or none after the code of the end mark.
+fn fields_of<'a>(
     at: usize,
     code: u8,
     reader: &mut Reader<'a>,
-) -> Result<Option<Found<'a>>, DecodeRefusal>
+) -> Result<Option<RecordRef<'a>>, DecodeRefusal>
     requires { at ≤ LONGEST_MTR }
-    ensures { Gives (λ x. (option_map found_record x, reader.new)) result
+    ensures { Gives (λ x. (option_map record_of x, reader.new)) result
         ((fields at code).read reader.old) }
 {
     Ok(match code {
@@ -53,27 +68,27 @@ pub(crate) fn fields_of<'a>(
             let space = u32_of(reader)?;
             let page = u32_of(reader)?;
             let kind = kind_of(at + 9, reader)?;
-            Some(Found::Init { space, page, kind })
+            Some(RecordRef::Init { space, page, kind })
         }
         2 => {
             let space = u32_of(reader)?;
             let page = u32_of(reader)?;
             let patch = patch_of(at + 9, reader)?;
-            Some(Found::Write { space, page, patch })
+            Some(RecordRef::Write { space, page, patch })
         }
         3 => {
             let space = u32_of(reader)?;
             let pages = u32_of(reader)?;
-            Some(Found::Extend { space, pages })
+            Some(RecordRef::Extend { space, pages })
         }
         4 => {
             let space = u32_of(reader)?;
             let pages = u32_of(reader)?;
-            Some(Found::Create { space, pages })
+            Some(RecordRef::Create { space, pages })
         }
         5 => {
             let space = u32_of(reader)?;
-            Some(Found::Drop { space })
+            Some(RecordRef::Drop { space })
         }
         _ => None,
     })
@@ -99,7 +114,7 @@ fn kind_numbered(number: u16) -> PageKind
 }
 
 // `at` is where the offset stands.
-fn patch_of<'a>(at: usize, reader: &mut Reader<'a>) -> Result<Span<'a>, DecodeRefusal>
+fn patch_of<'a>(at: usize, reader: &mut Reader<'a>) -> Result<PatchRef<'a>, DecodeRefusal>
     requires low { 9 ≤ at }
     requires high { at ≤ LONGEST_MTR + 9 }
     ensures { Gives (λ x. (x, reader.new)) result ((patch at).read reader.old) }
@@ -107,7 +122,7 @@ fn patch_of<'a>(at: usize, reader: &mut Reader<'a>) -> Result<Span<'a>, DecodeRe
     let offset = two_of(at, Sought::Offset, reader)?;
     let long = two_of(at, Sought::Length { offset }, reader)?;
     let body = bytes_of(reader, long as usize)?;
-    Ok(Span::new(offset, body))
+    Ok(PatchRef::new(offset, body))
 }
 
 fn two_of(at: usize, what: Sought, reader: &mut Reader) -> Result<u16, DecodeRefusal>
@@ -160,7 +175,7 @@ fn fitting(at: usize, offset: u16, long: u16) -> Result<(), DecodeRefusal>
     Ok(())
 }
 
-pub(crate) fn u8_of(reader: &mut Reader) -> Result<u8, DecodeRefusal>
+fn u8_of(reader: &mut Reader) -> Result<u8, DecodeRefusal>
     ensures { Gives (λ x. (x, reader.new)) result (byte_at Short reader.old) }
 {
     Ok(reader.u8()?)

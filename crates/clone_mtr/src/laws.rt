@@ -1,10 +1,8 @@
-ghost use Rattle.std.specs.Prelude.{◌≡◌, ◌++◌, ◌⊎◌, List, ℕ, Result};
+ghost use Rattle.std.specs.Prelude.{◌≡◌, ◌++◌, List, ℕ, Result};
 ghost use Rattle.clone_mtr.specs.Answers.{Decodes};
 ghost use Rattle.clone_mtr.specs.Spelling.{Spells};
-ghost use Rattle.clone_mtr.specs.declared.record.Mtr.{Mtr};
 ghost use Rattle.clone_mtr.specs.declared.record.Record.{Record};
 ghost use Rattle.clone_mtr.specs.declared.refusal.DecodeRefusal.{DecodeRefusal};
-ghost use Rattle.clone_mtr.specs.declared.refusal.DecodeRefusal.TheVariants.{NoMemory};
 
 /// No spelling of a mini-transaction begins another. So what was encoded is decoded again, whatever
 /// follows it.
@@ -13,8 +11,8 @@ pub fn one_spelling()
         → (a ≡ b) × (m ≡ n) }
 {}
 
-/// For every list of bytes one answer of `decode` fits, want of memory aside.
+/// For every list of bytes one answer of `decode` fits.
 pub fn one_answer()
-    ensures { (bytes : List ℕ) (a b : Result (Mtr × ℕ) DecodeRefusal) → Decodes bytes a
-        → Decodes bytes b → (a ≡ b) ⊎ ((a ≡ Err NoMemory) ⊎ (b ≡ Err NoMemory)) }
+    ensures { (bytes : List ℕ) (a b : Result (List Record × ℕ) DecodeRefusal) → Decodes bytes a
+        → Decodes bytes b → a ≡ b }
 {}

@@ -4,12 +4,13 @@
 
 mod effects;
 mod fields;
-mod found;
 mod laws;
 mod laying;
 mod patch;
 mod reading;
 mod record;
+mod records;
+mod reference;
 mod refusal;
 mod writing;
 
@@ -19,5 +20,7 @@ pub use laying::{encode_into, spelling_length};
 pub use patch::{LONGEST_PATCH, Patch, SHORT_PATCH};
 pub use reading::decode;
 pub use record::{Mtr, Record};
+pub use records::Records;
+pub use reference::{PatchRef, RecordRef};
 pub use refusal::{DecodeRefusal, EncodeRefusal, TooLong};
 pub use writing::{LONGEST_MTR, encode};

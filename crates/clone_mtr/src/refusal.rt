@@ -1,7 +1,5 @@
 ghost use Rattle.std.specs.Prelude.{◌≡◌};
-ghost use Rattle.clone_mtr.specs.declared.refusal.DecodeRefusal.TheVariants.{NoMemory, Short};
-
-use std::alloc::AllocError;
+ghost use Rattle.clone_mtr.specs.declared.refusal.DecodeRefusal.TheVariants.{Short};
 
 /// Why a mini-transaction has no spelling.
 #[derive(Clone, Copy, Debug, PartialEq, Eq)]
@@ -20,8 +18,8 @@ pub struct TooLong {
 }
 
 /// Why no mini-transaction was read. `Short` comes exactly where further bytes would make one. The
-/// others but want of memory come exactly where no further bytes could, each for the first cause
-/// that reading from left to right meets.
+/// others come exactly where no further bytes could, each for the first cause that reading from left
+/// to right meets.
 #[derive(Clone, Copy, Debug, PartialEq, Eq)]
 pub enum DecodeRefusal {
     /// The bytes end inside a record, or before the end mark.
@@ -32,16 +30,6 @@ pub enum DecodeRefusal {
     OutOfPage { at: usize },
     /// More than 1,024 bytes would be needed.
     TooLong,
-    /// There was no memory.
-    NoMemory,
-}
-
-impl From<AllocError> for DecodeRefusal {
-    ghost from_gives = { λ _ e. e ≡ NoMemory };
-
-    fn from(_error: AllocError) -> DecodeRefusal {
-        DecodeRefusal::NoMemory
-    }
 }
 
 impl From<clone_bytes::Short> for DecodeRefusal {

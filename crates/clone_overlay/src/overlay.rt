@@ -3,6 +3,7 @@ ghost use Rattle.std.specs.FinMap as finite;
 ghost use Rattle.clone_page.specs.Bytes.{put_at};
 ghost use Rattle.clone_page.specs.Header.{IsAllowed};
 ghost use Rattle.clone_mtr.specs.Effects.{effect};
+ghost use Rattle.clone_mtr.specs.References.{record_of};
 ghost use Rattle.clone_outside.specs.DiskCalls.{Asks, Reads};
 ghost use Rattle.clone_outside.specs.Disk.{ForTold};
 ghost use Rattle.clone_image.specs.Image.{Image, page_of, page_count, with_edit, edited, after_record, MakesNoPage};
@@ -14,7 +15,7 @@ ghost use Rattle.clone_overlay.specs.Answers.{FetchedIn, HasMisplaced};
 
 use crate::Sheet;
 use clone_base::REDO_SPACE;
-use clone_mtr::Record;
+use clone_mtr::RecordRef;
 use clone_outside::{PageDisk, Refusal};
 use clone_page::Page;
 use std::alloc::{AllocError, Global};
@@ -133,26 +134,26 @@ impl Overlay {
 
     /// Does to the pages what the record says. `lsn` is the end of its mini-transaction. After a
     /// refusal the overlay is as before.
-    pub fn apply(&mut self, alloc: Global, entry: &Record, lsn: u64) -> Result<(), AllocError>
-        requires { IsReadyFor self.old entry.now }
+    pub fn apply(&mut self, alloc: Global, entry: &RecordRef, lsn: u64) -> Result<(), AllocError>
+        requires { IsReadyFor self.old (record_of entry.now) }
         ensures ok { OnOk result ((base image : Image) → Shows base image self.old
-            → Shows base (after_record lsn image entry.now) self.new) }
+            → Shows base (after_record lsn image (record_of entry.now)) self.new) }
         ensures err { OnErr result (self.new ≡ self.old) }
-        ensures without_memory { MakesNoPage entry.now → IsOk result }
+        ensures without_memory { MakesNoPage (record_of entry.now) → IsOk result }
     {
         match entry {
-            Record::Init { space, page, .. } | Record::Write { space, page, .. } => {
+            RecordRef::Init { space, page, .. } | RecordRef::Write { space, page, .. } => {
                 change_in(&mut self.sheets, *space, *page, entry, lsn);
                 Ok(())
             }
-            Record::Extend { space, pages } => {
+            RecordRef::Extend { space, pages } => {
                 extend_in(&mut self.sheets, *space, *pages);
                 Ok(())
             }
-            Record::Create { space, pages } => {
+            RecordRef::Create { space, pages } => {
                 create_in(alloc, &mut self.sheets, *space, *pages)
             }
-            Record::Drop { space } => {
+            RecordRef::Drop { space } => {
                 remove_in(&mut self.sheets, *space);
                 Ok(())
             }
@@ -243,10 +244,10 @@ fn count_in(sheets: &Sheets, space: u32) -> Option<u32>
 }
 
 // Changes the page that an INIT or a WRITE names, if it is there.
-fn change_in(sheets: &mut Sheets, space: u32, number: u32, entry: &Record, lsn: u64)
+fn change_in(sheets: &mut Sheets, space: u32, number: u32, entry: &RecordRef, lsn: u64)
     ensures { covers_of sheets.new.entries
         ≡ with_cover (covers_of sheets.old.entries) space
-        (with_leaf number (effect lsn entry.now)) }
+        (with_leaf number (effect lsn (record_of entry.now))) }
 {
     if let Some(sheet) = sheets.get_mut(&space) {
         sheet.change(number, entry, lsn);

@@ -6,6 +6,7 @@ ghost use Rattle.std.specs.FinMap as finite;
 ghost use Rattle.clone_page.specs.Bytes.{put_at};
 ghost use Rattle.clone_page.specs.Header.{IsAllowed};
 ghost use Rattle.clone_mtr.specs.Effects.{effect};
+ghost use Rattle.clone_mtr.specs.References.{record_of};
 ghost use Rattle.clone_outside.specs.DiskCalls.{Reads};
 ghost use Rattle.clone_outside.specs.Disk.{ForTold, GivesQuiet};
 ghost use Rattle.clone_overlay.specs.Covers.{holding, with_leaf, leaf_edited, stretched_to, leaves_of};
@@ -13,7 +14,7 @@ ghost use Rattle.clone_overlay.specs.Shown.{IsPage};
 ghost use Rattle.clone_overlay.specs.Answers.{Fetched, GivesAgainst, GivesMisplaced};
 
 use crate::FetchRefusal;
-use clone_mtr::Record;
+use clone_mtr::RecordRef;
 use clone_outside::PageDisk;
 use clone_page::Page;
 use std::alloc::{AllocError, Global};
@@ -164,8 +165,8 @@ impl Sheet {
 
     /// Does to a page what the record says, if the page is held. `lsn` is the end of its
     /// mini-transaction.
-    pub fn change(&mut self, number: u32, entry: &Record, lsn: u64)
-        ensures { self.new ≡ with_leaf number (effect lsn entry.now) self.old }
+    pub fn change(&mut self, number: u32, entry: &RecordRef, lsn: u64)
+        ensures { self.new ≡ with_leaf number (effect lsn (record_of entry.now)) self.old }
     {
         change_in(&mut self.leaves, number, entry, lsn);
     }
@@ -223,12 +224,12 @@ fn insert_in(leaves: &mut Leaves, number: u32, page: Page) -> Result<(), AllocEr
     Ok(())
 }
 
-fn change_in(leaves: &mut Leaves, number: u32, entry: &Record, lsn: u64)
+fn change_in(leaves: &mut Leaves, number: u32, entry: &RecordRef, lsn: u64)
     ensures { leaves_of leaves.new.entries
-        ≡ leaf_edited (leaves_of leaves.old.entries) number (effect lsn entry.now) }
+        ≡ leaf_edited (leaves_of leaves.old.entries) number (effect lsn (record_of entry.now)) }
 {
     if let Some(page) = leaves.get_mut(&number) {
-        clone_mtr::apply(entry, page, lsn);
+        entry.apply(page, lsn);
     }
 }
 

@@ -30,15 +30,7 @@ module _ {A : Type 0} (step : DiskImage → A → DiskImage) where
   pub left_ends : (first now : Option DiskImage) (rest all : List A) → rest ≡ [] → Left first now rest all → now ≡ option_map (λ m. fold step m all) first
   left_ends first now rest all none l = sym (kept now) ∙ sym (ap (λ (xs : List A). option_map (λ m. fold step m xs) now) none) ∙ l.is
 
-item : {A : Type 0} (i : ℕ) (xs : List A) (x : A) → i < length xs → get_or xs i x ≡ x → drop i xs ≡ x ∷ drop (suc i) xs
-item i [] x lt is = absurd (omega (arith, lt))
-item zero (y ∷ ys) x lt is = ap (λ z. z ∷ ys) is
-item (suc i) (y ∷ ys) x lt is = item i ys x (omega (arith, lt)) is
-
 -- the item of a turn, and those behind it
-pub drop_item : {A : Type 0} (i : ℕ) (xs : List A) (x : A) → i < length xs → x ≡ get_or xs i x → drop i xs ≡ x ∷ drop (i + 1) xs
-drop_item i xs x lt is = let e : suc i ≡ i + 1 = omega arith in item i xs x lt (sym is) ∙ ap (λ (n : ℕ). x ∷ drop n xs) e
-
 pub drop_at : {A : Type 0} (i : ℕ) (xs : List A) (x : A) → i < length xs → drop i xs ≡ get_or xs i x ∷ drop (i + 1) xs
 drop_at i xs x lt = let e : suc i ≡ i + 1 = omega arith in front i xs x lt ∙ ap (λ (n : ℕ). get_or xs i x ∷ drop n xs) e
   where

@@ -13,7 +13,7 @@ use Rattle.clone_mtr.proofs.Spellings.{one_spelling, spelling_some}
 use Rattle.clone_outside.specs.Disk.{DiskImage}
 use Rattle.clone_image.specs.Replay.{IsSpelled}
 use Rattle.clone_image.proofs.Logs.{log_of-push, same_tails, spelled_by}
-use Rattle.clone_recover.specs.Reading.{IsOfTable, AreOfTables, redo_pages, joined, HasRedo, IsAtHand, HasRead, rest_of, IsNoRedo, IsOfRedo}
+use Rattle.clone_recover.specs.Reading.{IsOfTable, AreOfTables, redo_pages, joined, HasRedo, IsAtHand, HasRead, rest_of, IsAhead, IsNoRedo, IsOfRedo}
 use Rattle.clone_recover.specs.declared.log.Log.{Log}
 use Rattle.clone_recover.specs.declared.refusal.Why.TheVariants as why
 use Rattle.clone_recover.specs.declared.refusal.RecoverRefusal.{RecoverRefusal}
@@ -28,6 +28,9 @@ pub record IsInOrder (log : Log) : Type 0 where
   pub most : log.available ≤ log.total
   pub window : length log.window ≡ 8192
 
+pub in_order : (log : Log) → length log.window ≡ 8192 → IsInOrder log
+in_order log long = record { begun = log.begun; at_hand = log.at_hand; within = log.within; most = log.most; window = long }
+
 -- the bytes at hand, and behind them the others
 pub record Ahead (m : DiskImage) (log : Log) : Type 0 where
   pub more : List ℕ
@@ -35,7 +38,7 @@ pub record Ahead (m : DiskImage) (log : Log) : Type 0 where
   pub long : length (rest_of log) ≡ min (log.available - 4096 * log.first) 8192 - (log.at - 4096 * log.first)
 
 -- the numbers of a log that go into its rest
-rest_long : (log : Log) → IsInOrder log → length (rest_of log) ≡ min (log.available - 4096 * log.first) 8192 - (log.at - 4096 * log.first)
+pub rest_long : (log : Log) → IsInOrder log → length (rest_of log) ≡ min (log.available - 4096 * log.first) 8192 - (log.at - 4096 * log.first)
 rest_long log o =
     let from : ℕ = log.at - 4096 * log.first in
     let k : ℕ = min (log.available - 4096 * log.first) 8192 in
@@ -110,13 +113,14 @@ parts m done log o r =
     record { more = a.more; is = sym (take-append-drop log.at all) ∙ ap (λ xs. xs ++ drop log.at all) r.text ∙ ap (λ xs. log_of done ++ xs) a.is }
 
 -- the mini-transaction at the front of the bytes at hand is read
-pub reads_next : (m : DiskImage) (done : List (List Record)) (old new : Log) (n : ℕ) (mtr : List Record) → IsInOrder old → HasRead m done old → Spells (take n (rest_of old)) mtr → n ≤ length (rest_of old) → AllByRecursion IsOfTable mtr
+pub reads_next : (m : DiskImage) (done : List (List Record)) (old new : Log) (n : ℕ) (mtr : List Record) → IsInOrder old → HasRead m done old → IsAhead old (mtr, n)
     → new.at ≡ old.at + n → new.total ≡ old.total → new.available ≡ old.available → new.first ≡ old.first → new.window ≡ old.window → HasRead m (done ++ mtr ∷ []) new
-reads_next m done old new n mtr o r spelled le tables at total available first window =
+reads_next m done old new n mtr o r ahead at total available first window =
+    let spelled = ahead.spelled in
     let p = parts m done old o r in
     let rest = rest_of old in
     let one = spelling mtr in
-    let long : length one ≡ n = ap length (sym spelled.text) ∙ length-take-le n rest le in
+    let long : length one ≡ n = ap length (sym spelled.text) ∙ length-take-le n rest ahead.within in
     let all : joined (redo_pages m) ≡ (log_of done ++ one) ++ (drop n rest ++ p.more) =
     p.is ∙ ap (λ xs. log_of done ++ xs) (ap (λ xs. xs ++ p.more) (sym (take-append-drop n rest) ∙ ap (λ xs. xs ++ drop n rest) spelled.text) ∙ append_assoc one (drop n rest) p.more) ∙ sym (append_assoc (log_of done) one (drop n rest ++ p.more)) in
     let longer : length (log_of done ++ one) ≡ old.at + n = omega (arith, length-append (log_of done) one, r.long, long) in
@@ -128,7 +132,7 @@ reads_next m done old new n mtr o r spelled le tables at total available first w
         long = λ k lt low. r.hand.long k (omega (arith, lt, first)) (omega (arith, low, available));
       };
       each = All-push IsSpelled done mtr r.each (spelled_by (take n rest) mtr spelled);
-      tables = All-push (λ records. AllByRecursion IsOfTable records) done mtr r.tables tables;
+      tables = All-push (λ records. AllByRecursion IsOfTable records) done mtr r.tables ahead.tables;
       text = ap (λ k. take k (joined (redo_pages m))) at ∙ ap (take (old.at + n)) all ∙ take_front (log_of done ++ one) (drop n rest ++ p.more) (old.at + n) (sym longer) ∙ sym (log_of-push done mtr);
       long = ap length (log_of-push done mtr) ∙ longer ∙ sym at;
     }
@@ -230,15 +234,15 @@ is_no_redo DiskFault m total of none = absurd of
 is_no_redo NoMemory m total of none = tt
 
 -- why no mini-transaction was read, by the decoder's refusal
-pub not_decoded : (d : DecodeRefusal) (e : RecoverRefusal) (m : DiskImage) (total : ℕ) (rest : List ℕ) → Decodes rest (Err d) → (d ≡ decode.NoMemory → e ≡ NoMemory) → IsOfRedo e → (BeginsNone rest → HasRedo m total → ⊥) → IsNoRedo m total e
-not_decoded decode.NoMemory e m total rest is memory of none = subst (IsNoRedo m total) (sym (memory refl)) tt
-not_decoded decode.Short e m total rest is memory of none = is_no_redo e m total of (none is.0)
-not_decoded (decode.BadKind at) e m total rest is memory of none = is_no_redo e m total of (none is.0)
-not_decoded (decode.OutOfPage at) e m total rest is memory of none = is_no_redo e m total of (none is.0)
-not_decoded decode.TooLong e m total rest is memory of none = is_no_redo e m total of (none is.0)
+pub not_decoded : (d : DecodeRefusal) (e : RecoverRefusal) (m : DiskImage) (total : ℕ) (rest : List ℕ) → Decodes rest (Err d) → IsOfRedo e → (BeginsNone rest → HasRedo m total → ⊥) → IsNoRedo m total e
+not_decoded decode.Short e m total rest is of none = is_no_redo e m total of (none is.0)
+not_decoded (decode.BadKind at) e m total rest is of none = is_no_redo e m total of (none is.0)
+not_decoded (decode.OutOfPage at) e m total rest is of none = is_no_redo e m total of (none is.0)
+not_decoded decode.TooLong e m total rest is of none = is_no_redo e m total of (none is.0)
 
-pub spelled_some : (bytes : List ℕ) (n : ℕ) (mtr : List Record) → Spells (take n bytes) mtr → n ≤ length bytes → 1 ≤ n
-spelled_some bytes n mtr spelled le = omega (arith, ap length spelled.text, spelling_some mtr, length-take-le n bytes le)
+-- a mini-transaction has some bytes
+pub ahead_some : (log : Log) (n : ℕ) (mtr : List Record) → IsAhead log (mtr, n) → 1 ≤ n
+ahead_some log n mtr is = omega (arith, ap length is.spelled.text, spelling_some mtr, length-take-le n (rest_of log) is.within)
 
 pub of_redo_fault : (e : RecoverRefusal) → IsOfRedo e → e ≡ DiskFault → ⊥
 of_redo_fault e of is = subst IsOfRedo is of

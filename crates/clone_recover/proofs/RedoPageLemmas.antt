@@ -10,7 +10,7 @@ use Rattle.clone_outside.specs.Disk.{DiskImage, ForTold, GivesQuiet, page_count,
 use Rattle.clone_outside.specs.declared.disk.Held.{Held}
 use Rattle.clone_mtr.specs.declared.record.Record.{Record}
 use Rattle.clone_overlay.specs.Images.{redo_space, bytes_of, IsQuiet}
-use Rattle.clone_recover.specs.Reading.{redo_pages, redo_of, IsAtHand, HasRead, ReadsOn, KeepsOn, ContinuesOn, StopsOn, IsNoRedo, total_of, Loads}
+use Rattle.clone_recover.specs.Reading.{redo_pages, redo_of, IsAtHand, HasRead, ReadsOn, KeepsOn, IsNoRedo, total_of, Loads}
 use Rattle.clone_recover.specs.declared.log.Log.{Log}
 use Rattle.clone_recover.specs.declared.refusal.RecoverRefusal.{RecoverRefusal}
 use Rattle.clone_recover.proofs.JoinedPageLemmas.{take_front, drop_front}
@@ -147,13 +147,3 @@ turned (Some m) now old middle new is long first at total available front same l
   text = ap (redo_of m) (same.at ∙ at) ∙ r.text;
   long = r.long ∙ sym (same.at ∙ at);
 }
-
--- The next mini-transaction, over what was told.
-
-pub read_on : (told : Option DiskImage) (old ready new : Log) (mtr : List Record) → KeepsOn told old ready → ((m : DiskImage) (done : List (List Record)) → HasRead m done ready → HasRead m (done ++ mtr ∷ []) new) → ContinuesOn told old new (Some mtr)
-read_on None old ready new mtr keeps reads = tt
-read_on (Some m) old ready new mtr keeps reads = λ quiet done r. reads m done (keeps quiet done r)
-
-pub not_read : (told : Option DiskImage) (old ready : Log) (e : RecoverRefusal) → total_of ready ≡ total_of old → KeepsOn told old ready → ((m : DiskImage) (done : List (List Record)) → HasRead m done ready → IsNoRedo m (total_of ready) e) → StopsOn told old e
-not_read None old ready e total keeps stops = tt
-not_read (Some m) old ready e total keeps stops = λ quiet done r. subst (λ (t : ℕ). IsNoRedo m t e) total (stops m done (keeps quiet done r))

@@ -7,6 +7,9 @@ use Rattle.clone_mtr.specs.Effects.{effect}
 use Rattle.clone_mtr.specs.Patches.{Patched}
 use Rattle.clone_mtr.specs.declared.record.Record.{Record}
 use Rattle.clone_mtr.specs.declared.record.Record.TheVariants.{Init, Write, Extend, Create, Drop}
+use Rattle.clone_mtr.specs.declared.reference.RecordRef.{RecordRef}
+use Rattle.clone_mtr.specs.declared.reference.RecordRef.TheVariants as lent
+use Rattle.clone_mtr.specs.References.{record_of}
 use Rattle.clone_outside.specs.Disk.{DiskImage}
 use Rattle.clone_image.specs.Image.{Image, after_record}
 use Rattle.clone_image.specs.Redone.{Standing, no_space, past_end, stands, Redoing, settled, named_on, redone_by, standing_of, made, stretched}
@@ -123,11 +126,15 @@ steps_space (Some m) end old new meetings r names applied = λ quiet image shows
 pub ready_for : (overlay : Overlay) (s k : ℕ) (r : Record) → NamesPage s k r → IsReady overlay s k → IsReadyFor overlay r
 ready_for overlay s k r is ready = elim is [ inl w ↦ subst (IsReadyFor overlay) (sym w.1) ready | inr w ↦ subst (IsReadyFor overlay) (sym w.1) ready ]
 
+-- the page that a record names, by its kind
+pub names_page : (entry : RecordRef) (s k : ℕ) → ((kind : PageKind) × (entry ≡ lent.Init s k kind)) ⊎ ((patch : Patched) × (entry ≡ lent.Write s k patch)) → NamesPage s k (record_of entry)
+names_page entry s k is = elim is [ inl w ↦ inl (w.0, ap record_of w.1) | inr w ↦ inr (w.0, ap record_of w.1) ]
+
 -- a record of a space, by its kind
-pub names_space : (r : Record) → ((s : ℕ) × (count : ℕ) × (r ≡ Extend s count)) ⊎ (((s : ℕ) × (count : ℕ) × (r ≡ Create s count)) ⊎ ((s : ℕ) × (r ≡ Drop s))) → NamesSpace r
-names_space r (inl w) = subst NamesSpace (sym w.2) tt
-names_space r (inr (inl w)) = subst NamesSpace (sym w.2) tt
-names_space r (inr (inr w)) = subst NamesSpace (sym w.1) tt
+pub names_space : (entry : RecordRef) → ((s : ℕ) × (count : ℕ) × (entry ≡ lent.Extend s count)) ⊎ (((s : ℕ) × (count : ℕ) × (entry ≡ lent.Create s count)) ⊎ ((s : ℕ) × (entry ≡ lent.Drop s))) → NamesSpace (record_of entry)
+names_space entry (inl w) = subst NamesSpace (sym (ap record_of w.2)) tt
+names_space entry (inr (inl w)) = subst NamesSpace (sym (ap record_of w.2)) tt
+names_space entry (inr (inr w)) = subst NamesSpace (sym (ap record_of w.1)) tt
 
 pub space_ready : (overlay : Overlay) (r : Record) → NamesSpace r → IsReadyFor overlay r
 space_ready overlay (Init s k kind) names = absurd names

@@ -8,7 +8,7 @@ use Rattle.clone_outside.specs.Disk.{DiskImage, ForTold, GivesQuiet}
 use Rattle.clone_outside.specs.declared.mark.CloneEnd.{CloneEnd}
 use Rattle.clone_mtr.specs.declared.record.Record.{Record}
 use Rattle.clone_mtr.specs.declared.record.Record.TheVariants.{Init, Write, Extend, Create, Drop}
-use Rattle.clone_mtr.specs.Spelling.{log_of}
+use Rattle.clone_mtr.specs.Spelling.{log_of, Spells}
 use Rattle.clone_image.specs.Replay.{IsSpelled}
 use Rattle.clone_overlay.specs.Images.{redo_space, bytes_of, IsQuiet}
 use Rattle.clone_recover.specs.declared.log.Log.{Log}
@@ -85,6 +85,17 @@ abbrev pub rest_of : Log → List ℕ
 rest_of log = slice_range log.window (log.at - base_of log)
     (min (log.available - base_of log) (2 * PAGE_SIZE))
 
+-- bytes are left of the log, and the first of them is on the first page at hand
+pub record HasNext (log : Log) : Type 0 where
+  pub near : read_of log ≤ base_of log + PAGE_SIZE
+  pub some : read_of log < total_of log
+
+-- This mini-transaction, of so many bytes, is next, and it names tables and the system space alone.
+pub record IsAhead (log : Log) (next : List Record × ℕ) : Type 0 where
+  pub spelled : Spells (take next.1 (rest_of log)) next.0
+  pub within : next.1 ≤ length (rest_of log)
+  pub tables : AllByRecursion IsOfTable next.0
+
 -- the bytes of a page of the redo are put at an offset of the window
 pub record Puts (told : Option DiskImage) (page to : ℕ) (old new : List ℕ) : Type 0 where
   pub bytes : List ℕ
@@ -114,17 +125,6 @@ KeepsOn told old new =
     ForTold told (λ m. IsQuiet m → (done : List (List Record)) → HasRead m done old
     → HasRead m done new)
 
--- one mini-transaction more was read, or all were
-abbrev pub Continues : DiskImage → List (List Record) → Log → Option (List Record) → Type 0
-Continues m done log None = IsRedo m (total_of log) done
-Continues m done log (Some mtr) = HasRead m (done ++ mtr ∷ []) log
-
--- a mini-transaction is read of a quiet disk
-abbrev pub ContinuesOn : Option DiskImage → Log → Log → Option (List Record) → Type 0
-ContinuesOn told old new next =
-    ForTold told (λ m. IsQuiet m → (done : List (List Record)) → HasRead m done old
-    → Continues m done new next)
-
 -- the first redo bytes of a disk, so many, are no log, if that is what a refusal says
 abbrev pub IsNoRedo : DiskImage → ℕ → RecoverRefusal → Type 0
 IsNoRedo m total Incomplete = ⊥
@@ -135,12 +135,6 @@ IsNoRedo m total (Damaged space page why.Undo) = ⊥
 IsNoRedo m total (Damaged space page why.Chain) = ⊥
 IsNoRedo m total DiskFault = ⊤
 IsNoRedo m total NoMemory = ⊤
-
--- why no mini-transaction was read of a quiet disk
-abbrev pub StopsOn : Option DiskImage → Log → RecoverRefusal → Type 0
-StopsOn told log refusal =
-    ForTold told (λ m. IsQuiet m → (done : List (List Record)) → HasRead m done log
-    → IsNoRedo m (total_of log) refusal)
 
 abbrev pub HasRedoOn : Option DiskImage → ℕ → Type 0
 HasRedoOn told total = ForTold told (λ m. IsQuiet m → HasRedo m total)

@@ -1,4 +1,4 @@
-ghost use Rattle.std.specs.Prelude.{◌≡◌, ◌≤◌, ◌<◌, ◌+◌, ◌*◌, ◌++◌, take, drop, length};
+ghost use Rattle.std.specs.Prelude.{◌≡◌, ◌≤◌, ◌<◌, ◌+◌, ◌*◌, ◌++◌, take, drop, length, true, false};
 ghost use Rattle.clone_outside.specs.DiskCalls.{Reads};
 ghost use Rattle.clone_base.specs.declared.limits.TheConstants.{PAGE_SIZE, LSN_LIMIT};
 
@@ -6,9 +6,8 @@ use crate::RecoverRefusal;
 use crate::refusal::damaged_redo;
 use crate::scan::{first_foreign, names_foreign};
 use clone_base::{PAGE_SIZE, REDO_SPACE};
-use clone_mtr::{DecodeRefusal, Mtr, decode};
+use clone_mtr::{DecodeRefusal, Records, decode};
 use clone_outside::{CloneEnd, PageDisk};
-use std::alloc::Global;
 
 // How many bytes of the log are at hand: a mini-transaction lies on one page or on two.
 const WINDOW: usize = 2 * PAGE_SIZE;
@@ -39,7 +38,7 @@ impl Log {
     ghost use Rattle.clone_mtr.specs.declared.record.Record.{Record};
     ghost use Rattle.clone_outside.specs.Disk.{DiskImage};
     ghost use Rattle.clone_recover.specs.Refusals.{IsOfDisk};
-    ghost use Rattle.clone_recover.specs.Reading.{redo_length, IsNoRedo, read_of, total_of, rest_of, base_of, HasRead, ReadsOn, KeepsOn, ContinuesOn, StopsOn, Loads, IsOfRedo};
+    ghost use Rattle.clone_recover.specs.Reading.{redo_length, IsNoRedo, read_of, total_of, rest_of, base_of, HasRead, ReadsOn, KeepsOn, Loads, HasNext, IsAhead, IsOfRedo};
 
     /// The log from the checkpoint to the end of a clone, of which nothing was read.
     pub fn open<R: PageDisk>(disk: &mut R, end: &CloneEnd) -> Result<Log, RecoverRefusal>
@@ -65,34 +64,56 @@ impl Log {
 
     /// How many bytes were read.
     pub fn at(&self) -> u64
-        ensures value { result ≡ read_of self.now }
-        ensures most { read_of self.now ≤ total_of self.now }
+        ensures { result ≡ read_of self.now }
     {
         self.at
     }
 
-    /// The next mini-transaction, or none at the end. `Damaged` comes where none stands there, or
-    /// where one of its records names a space that is no table.
-    pub fn next<R: PageDisk>(
-        &mut self,
-        alloc: Global,
-        disk: &mut R,
-    ) -> Result<Option<Mtr>, RecoverRefusal>
-        ensures next { IfOk result (ContinuesOn (R.state disk.old).told self.old self.new) }
-        ensures more { IfOk result
-            (λ next. IfSome next (λ _. read_of self.old < read_of self.new)) }
-        ensures most { read_of self.new ≤ total_of self.new }
+    /// Whether the log goes on. The page that has its next byte is at hand then.
+    pub fn goes_on<R: PageDisk>(&mut self, disk: &mut R) -> Result<bool, RecoverRefusal>
+        ensures keeps { OnOk result (KeepsOn (R.state disk.old).told self.old self.new) }
+        ensures ready { IfOk result (λ more. more ≡ true → HasNext self.new) }
+        ensures end { IfOk result (λ more. more ≡ false → read_of self.new ≡ total_of self.new) }
+        ensures read { read_of self.new ≡ read_of self.old }
         ensures total { total_of self.new ≡ total_of self.old }
-        ensures cause { IfErr result (StopsOn (R.state disk.old).told self.old) }
-        ensures known { IsErrOf result RecoverRefusal.Incomplete → ⊥ }
+        ensures cause { IfErr result IsOfDisk }
         ensures reads { Reads (IsErrOf result RecoverRefusal.DiskFault)
             (R.state disk.old) (R.state disk.new) }
     {
         if self.at == self.total {
-            return Ok(None);
+            return Ok(false);
         }
         self.make_ready(disk)?;
-        Ok(Some(self.read(alloc)?))
+        Ok(true)
+    }
+
+    /// The next mini-transaction, and how many bytes it has. `Damaged` comes where none stands
+    /// there, or where one of its records names a space that is no table.
+    pub fn next(&self) -> Result<(Records<'_>, u64), RecoverRefusal>
+        requires { HasNext self.now }
+        ensures next { IfOk result (IsAhead self.now) }
+        ensures most { IfOk result (λ next. read_of self.now + next.1 ≤ total_of self.now) }
+        ensures redo { IfErr result IsOfRedo }
+        ensures cause { IfErr result (λ refusal. (m : DiskImage) (done : List (List Record))
+            → HasRead m done self.now → IsNoRedo m (total_of self.now) refusal) }
+    {
+        match decode(self.rest()) {
+            Ok((mtr, _)) if names_foreign(mtr.again()) => Err(self.foreign()),
+            Ok((mtr, length)) => Ok((mtr, length as u64)),
+            Err(refusal) => Err(self.broken(refusal)),
+        }
+    }
+
+    /// Takes the next mini-transaction, of so many bytes, as read.
+    pub fn pass(&mut self, count: u64)
+        requires { count ≤ length (rest_of self.old) }
+        ensures read { (m : DiskImage) (done : List (List Record)) (mtr : List Record)
+            → HasRead m done self.old → IsAhead self.old (mtr, count)
+            → HasRead m (done ++ mtr ∷ []) self.new }
+        ensures at { read_of self.new ≡ read_of self.old + count }
+        ensures total { total_of self.new ≡ total_of self.old }
+    {
+        self.at += count;
     }
 
     // Where in the log the first page at hand begins.
@@ -172,29 +193,6 @@ impl Log {
         Ok(())
     }
 
-    // Reads the mini-transaction that the next bytes are.
-    fn read(&mut self, alloc: Global) -> Result<Mtr, RecoverRefusal>
-        requires near { read_of self.old ≤ base_of self.old + PAGE_SIZE }
-        requires some { read_of self.old < total_of self.old }
-        ensures read { IfOk result (λ mtr. (m : DiskImage) (done : List (List Record))
-            → HasRead m done self.old → HasRead m (done ++ mtr ∷ []) self.new) }
-        ensures more { OnOk result (read_of self.old < read_of self.new) }
-        ensures most { read_of self.new ≤ total_of self.new }
-        ensures total { total_of self.new ≡ total_of self.old }
-        ensures redo { IfErr result IsOfRedo }
-        ensures cause { IfErr result (λ refusal. (m : DiskImage) (done : List (List Record))
-            → HasRead m done self.old → IsNoRedo m (total_of self.old) refusal) }
-    {
-        match decode(alloc, self.rest()) {
-            Ok((mtr, _)) if names_foreign(mtr.records()) => Err(self.foreign()),
-            Ok((mtr, length)) => {
-                self.at += length as u64;
-                Ok(mtr)
-            }
-            Err(refusal) => Err(self.broken(alloc, refusal)),
-        }
-    }
-
     // The refusal for a record that names a space that is no table.
     fn foreign(&self) -> RecoverRefusal
         ensures { IsOfRedo result }
@@ -205,17 +203,12 @@ impl Log {
     // The refusal for bytes that begin no mini-transaction. It names the page of the first byte
     // against the grammar or that is missing, or of an earlier record that names a space that is no
     // table.
-    fn broken(&self, alloc: Global, refusal: DecodeRefusal) -> RecoverRefusal
-        ensures redo { IsOfRedo result }
-        ensures memory { refusal ≡ DecodeRefusal.NoMemory → result ≡ RecoverRefusal.NoMemory }
+    fn broken(&self, refusal: DecodeRefusal) -> RecoverRefusal
+        ensures { IsOfRedo result }
     {
         let page = match refusal {
-            DecodeRefusal::NoMemory => return RecoverRefusal::NoMemory,
             DecodeRefusal::Short => (self.available / PAGE_BYTES) as u32,
-            _ => match self.broken_page(alloc) {
-                Some(page) => page,
-                None => return RecoverRefusal::NoMemory,
-            },
+            _ => self.broken_page(),
         };
         match first_foreign(self.rest()) {
             Some(offset) => damaged_redo(page.min(self.page_at(offset))),
@@ -223,18 +216,17 @@ impl Log {
         }
     }
 
-    // The page of the first byte against the grammar, or none for want of memory: the second at
-    // hand where the bytes on the first begin a mini-transaction.
-    fn broken_page(&self, alloc: Global) -> Option<u32> {
+    // The page of the first byte against the grammar: the second at hand where the bytes on the
+    // first begin a mini-transaction.
+    fn broken_page(&self) -> u32 {
         let rest = self.rest();
         let behind = self.base() + PAGE_BYTES;
         if self.at + rest.len() as u64 <= behind {
-            return Some(self.first);
+            return self.first;
         }
-        match decode(alloc, &rest[..behind.saturating_sub(self.at) as usize]) {
-            Err(DecodeRefusal::Short) => Some(self.first + 1),
-            Err(DecodeRefusal::NoMemory) => None,
-            _ => Some(self.first),
+        match decode(&rest[..behind.saturating_sub(self.at) as usize]) {
+            Err(DecodeRefusal::Short) => self.first + 1,
+            _ => self.first,
         }
     }
 

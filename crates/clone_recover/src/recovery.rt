@@ -128,7 +128,7 @@ fn recovered_pages<R: PageDisk>(
     ensures reads { Reads (IsErrOf result RecoverRefusal.DiskFault)
         (R.state disk.old) (R.state disk.new) }
 {
-    check_log(alloc, disk, end)?;
+    check_log(disk, end)?;
     let mut overlay = Overlay::open(alloc, disk)?;
     redo(alloc, disk, &mut overlay, end)?;
     check_dictionary(disk, &mut overlay)?;

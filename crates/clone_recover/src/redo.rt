@@ -1,4 +1,5 @@
-ghost use Rattle.std.specs.Prelude.{◌≡◌, OnOk, IfOk, IfErr, IsErrOf, unwrap_or};
+ghost use Rattle.std.specs.Prelude.{◌≡◌, [], OnOk, IfOk, IfErr, IsErrOf, unwrap_or};
+ghost use Rattle.clone_mtr.specs.References.{record_of};
 ghost use Rattle.clone_outside.specs.DiskCalls.{Reads};
 ghost use Rattle.clone_overlay.specs.Shown.{IsReady, ShowsSame};
 ghost use Rattle.clone_recover.specs.Damage.{HeaderOn};
@@ -10,7 +11,7 @@ ghost use Rattle.clone_recover.specs.Restores.{LeavesOn, IsRedoCause};
 use crate::RecoverRefusal;
 use crate::log::Log;
 use crate::refusal::not_fetched;
-use clone_mtr::Record;
+use clone_mtr::{RecordRef, Records};
 use clone_outside::{CloneEnd, PageDisk};
 use clone_overlay::Overlay;
 use std::alloc::{AllocError, Global};
@@ -27,11 +28,7 @@ pub struct Meeting {
 }
 
 /// Reads all of the log, and tests that it is one.
-pub fn check_log<R: PageDisk>(
-    alloc: Global,
-    disk: &mut R,
-    end: &CloneEnd,
-) -> Result<(), RecoverRefusal>
+pub fn check_log<R: PageDisk>(disk: &mut R, end: &CloneEnd) -> Result<(), RecoverRefusal>
     ensures redo { OnOk result (HasRedoOn (R.state disk.old).told (redo_length end.now)) }
     ensures cause { IfErr result (IsNoRedoOn (R.state disk.old).told (redo_length end.now)) }
     ensures known { IsErrOf result RecoverRefusal.Incomplete → ⊥ }
@@ -39,7 +36,10 @@ pub fn check_log<R: PageDisk>(
         (R.state disk.old) (R.state disk.new) }
 {
     let mut log = Log::open(disk, end)?;
-    while let Some(_mtr) = log.next(alloc, disk)? {}
+    while log.goes_on(disk)? {
+        let (_, length) = log.next()?;
+        log.pass(length);
+    }
     Ok(())
 }
 
@@ -57,31 +57,36 @@ pub fn redo<R: PageDisk>(
         (R.state disk.old) (R.state disk.new) }
 {
     let mut log = Log::open(disk, end)?;
-    while let Some(mtr) = log.next(alloc, disk)? {
-        let lsn = end.checkpoint + log.at();
-        redo_records(alloc, disk, overlay, mtr.records(), lsn)?;
+    let mut meetings = Vec::new(alloc);
+    while log.goes_on(disk)? {
+        let (mtr, length) = log.next()?;
+        let lsn = end.checkpoint + log.at() + length;
+        meetings.clear();
+        redo_records(alloc, disk, overlay, &mut meetings, mtr, lsn)?;
+        log.pass(length);
     }
     Ok(())
 }
 
-// Carries out the records of a mini-transaction that ends here.
+// Carries out the records of a mini-transaction that ends here. It has met no page yet.
 fn redo_records<R: PageDisk>(
     alloc: Global,
     disk: &mut R,
     overlay: &mut Overlay,
-    records: &[Record],
+    meetings: &mut Vec<Meeting>,
+    mut records: Records,
     lsn: u64,
 ) -> Result<(), RecoverRefusal>
+    requires { meetings.old.items ≡ [] }
     ensures ok { OnOk result
-        (RedoesOn (R.state disk.old).told lsn overlay.old overlay.new records.now) }
+        (RedoesOn (R.state disk.old).told lsn overlay.old overlay.new records.entry) }
     ensures cause { IfErr result (HeaderOn (R.state disk.old).told overlay.old) }
     ensures known { IsErrOf result RecoverRefusal.Incomplete → ⊥ }
     ensures reads { Reads (IsErrOf result RecoverRefusal.DiskFault)
         (R.state disk.old) (R.state disk.new) }
 {
-    let mut meetings = Vec::new(alloc);
-    for entry in records {
-        redo_record(alloc, disk, overlay, &mut meetings, entry, lsn)?;
+    while let Some(entry) = records.next() {
+        redo_record(alloc, disk, overlay, meetings, &entry, lsn)?;
     }
     Ok(())
 }
@@ -92,24 +97,24 @@ fn redo_record<R: PageDisk>(
     disk: &mut R,
     overlay: &mut Overlay,
     meetings: &mut Vec<Meeting>,
-    entry: &Record,
+    entry: &RecordRef,
     lsn: u64,
 ) -> Result<(), RecoverRefusal>
     ensures ok { OnOk result (StepsOn (R.state disk.old).told lsn overlay.old overlay.new
-        meetings.old.items meetings.new.items entry.now) }
+        meetings.old.items meetings.new.items (record_of entry.now)) }
     ensures cause { IfErr result (HeaderOn (R.state disk.old).told overlay.old) }
     ensures known { IsErrOf result RecoverRefusal.Incomplete → ⊥ }
     ensures reads { Reads (IsErrOf result RecoverRefusal.DiskFault)
         (R.state disk.old) (R.state disk.new) }
 {
     match entry {
-        Record::Init { space, page, .. } | Record::Write { space, page, .. } => {
+        RecordRef::Init { space, page, .. } | RecordRef::Write { space, page, .. } => {
             if !meet(disk, overlay, meetings, *space, *page, lsn)? {
                 return Ok(());
             }
             Ok(overlay.apply(alloc, entry, lsn)?)
         }
-        Record::Extend { .. } | Record::Create { .. } | Record::Drop { .. } => {
+        RecordRef::Extend { .. } | RecordRef::Create { .. } | RecordRef::Drop { .. } => {
             Ok(overlay.apply(alloc, entry, lsn)?)
         }
     }

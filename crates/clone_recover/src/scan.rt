@@ -1,10 +1,11 @@
 //! A scan of redo bytes for a record that names a space that is no table.
 ghost use Rattle.std.specs.Prelude.{◌≡◌, ◌≤◌, IfSome, true, false, length};
 ghost use Rattle.std.specs.List.{AllByRecursion};
+ghost use Rattle.clone_mtr.specs.References.{record_of};
 ghost use Rattle.clone_recover.specs.Reading.{named_space, IsOfTable};
 
 use clone_base::REDO_SPACE;
-use clone_mtr::Record;
+use clone_mtr::{RecordRef, Records};
 use clone_page::{u16_at, u32_at};
 
 /// Where the first record begins that names the redo's space or one behind it. The scan ends at the
@@ -41,22 +42,27 @@ fn record_length(bytes: &[u8]) -> Option<usize>
 }
 
 /// Whether one of the records names the redo's space or one behind it.
-pub fn names_foreign(records: &[Record]) -> bool
-    ensures no { result ≡ false → AllByRecursion IsOfTable records.now }
-    ensures yes { result ≡ true → AllByRecursion IsOfTable records.now → ⊥ }
+pub fn names_foreign(mut records: Records) -> bool
+    ensures no { result ≡ false → AllByRecursion IsOfTable records.entry }
+    ensures yes { result ≡ true → AllByRecursion IsOfTable records.entry → ⊥ }
 {
-    records.iter().any(|entry| space_of(entry) >= REDO_SPACE)
+    while let Some(entry) = records.next() {
+        if space_of(&entry) >= REDO_SPACE {
+            return true;
+        }
+    }
+    false
 }
 
 // The space that a record names.
-fn space_of(entry: &Record) -> u32
-    ensures { result ≡ named_space entry.now }
+fn space_of(entry: &RecordRef) -> u32
+    ensures { result ≡ named_space (record_of entry.now) }
 {
     match entry {
-        Record::Init { space, .. }
-        | Record::Write { space, .. }
-        | Record::Extend { space, .. }
-        | Record::Create { space, .. }
-        | Record::Drop { space } => *space,
+        RecordRef::Init { space, .. }
+        | RecordRef::Write { space, .. }
+        | RecordRef::Extend { space, .. }
+        | RecordRef::Create { space, .. }
+        | RecordRef::Drop { space } => *space,
     }
 }

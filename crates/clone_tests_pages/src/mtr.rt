@@ -122,14 +122,38 @@ fn commit(alloc: Global) -> Result<Mtr, AllocError> {
     Ok(mtr)
 }
 
-// What is read of the bytes and written again, or why nothing is read.
-fn again(alloc: Global, bytes: &[u8]) -> Result<Vec<u8>, DecodeRefusal> {
-    let (mtr, _) = decode(alloc, bytes)?;
-    match encode(alloc, &mtr) {
-        Ok(text) => Ok(text),
-        Err(EncodeRefusal::TooLong { .. }) => Err(DecodeRefusal::TooLong),
-        Err(EncodeRefusal::NoMemory) => Err(DecodeRefusal::NoMemory),
+// The record with bytes of its own.
+fn owned(alloc: Global, entry: &RecordRef) -> Result<Record, AllocError> {
+    Ok(match entry {
+        RecordRef::Init { space, page, kind } => Record::Init {
+            space: *space,
+            page: *page,
+            kind: *kind,
+        },
+        RecordRef::Write { space, page, patch } => {
+            let patch = Patch::copied(alloc, patch.offset(), patch.bytes())?;
+            written(*space, *page, patch)
+        }
+        RecordRef::Extend { space, pages } => Record::Extend {
+            space: *space,
+            pages: *pages,
+        },
+        RecordRef::Create { space, pages } => Record::Create {
+            space: *space,
+            pages: *pages,
+        },
+        RecordRef::Drop { space } => Record::Drop { space: *space },
+    })
+}
+
+// These records are written again.
+fn again(alloc: Global, mut records: Records) -> Result<Vec<u8>, Fail> {
+    let first = records.next().ok_or("a record")?;
+    let mut mtr = Mtr::new(alloc, owned(alloc, &first)?)?;
+    while let Some(next) = records.next() {
+        mtr.push(owned(alloc, &next)?)?;
     }
+    encode(alloc, &mtr).ok().ok_or(Fail::from("a text"))
 }
 
 // The mini-transactions have these spellings, and the spellings are read as what they were.
@@ -146,8 +170,9 @@ fn spells(rt: HostRuntime) -> Result<(), Fail> {
     for (mtr, bytes) in &rows {
         let text = encode(alloc, mtr).ok().ok_or("a text")?;
         assert_eq!(rt; text.as_slice(), *bytes);
-        let read = again(alloc, bytes).ok().ok_or("a reading")?;
-        assert_eq!(rt; read.as_slice(), *bytes);
+        let (read, length) = decode(bytes).ok().ok_or("a reading")?;
+        assert_eq!(rt; length, bytes.len());
+        assert_eq!(rt; again(alloc, read)?.as_slice(), *bytes);
     }
     Ok(())
 }
@@ -164,38 +189,37 @@ fn encodes_in_place(rt: HostRuntime) -> Result<(), Fail> {
 
 #[test]
 fn decodes(rt: HostRuntime) -> Result<(), Fail> {
-    let alloc = rt.alloc();
-    let (mtr, length) = decode(alloc, &OPENING).ok().ok_or("the opening")?;
+    let (mut records, length) = decode(&OPENING).ok().ok_or("the opening")?;
     assert_eq!(rt; length, 21);
     assert!(rt;
         matches!(
-            mtr.records(),
-            [
-                Record::Create {
-                    space: 0,
-                    pages: 257
-                },
-                Record::Init {
-                    space: 0,
-                    page: 0,
-                    kind: PageKind::System
-                },
-            ]
+            records.next(),
+            Some(RecordRef::Create {
+                space: 0,
+                pages: 257
+            })
         )
     );
-    let (mtr, length) = decode(alloc, &CREATE_TABLE).ok().ok_or("a table")?;
-    assert_eq!(rt; length, 39);
-    let text = encode(alloc, &mtr).ok().ok_or("a text")?;
-    assert_eq!(rt; text.as_slice(), CREATE_TABLE.as_slice());
+    assert!(rt;
+        matches!(
+            records.next(),
+            Some(RecordRef::Init {
+                space: 0,
+                page: 0,
+                kind: PageKind::System
+            })
+        )
+    );
+    assert!(rt; records.next().is_none());
     Ok(())
 }
 
 // Why a write on page 0 of space 0 that begins with this offset and length isn't read.
-fn write(alloc: Global, field: [u8; 4]) -> Option<DecodeRefusal> {
+fn write(field: [u8; 4]) -> Option<DecodeRefusal> {
     let mut bytes = [0; 13];
     bytes[0] = 2;
     bytes[9..].copy_from_slice(&field);
-    decode(alloc, &bytes).err()
+    decode(&bytes).err()
 }
 
 #[test]
@@ -218,7 +242,7 @@ fn refuses_writes(rt: HostRuntime) {
         ([15, 248, 0, 1], out),
     ];
     for (field, refusal) in rows {
-        assert!(rt; write(rt.alloc(), field) == Some(refusal));
+        assert!(rt; write(field) == Some(refusal));
     }
 }
 
@@ -233,7 +257,7 @@ fn refuses_kinds(rt: HostRuntime) {
         (&[1, 0, 0, 0, 0, 0, 0, 0, 0, 0, 5], 9),
     ];
     for (bytes, at) in rows {
-        assert!(rt; decode(rt.alloc(), bytes).err() == Some(DecodeRefusal::BadKind { at }));
+        assert!(rt; decode(bytes).err() == Some(DecodeRefusal::BadKind { at }));
     }
 }
 
@@ -248,16 +272,16 @@ fn refuses_fronts(rt: HostRuntime) {
     ];
     for bytes in vectors {
         for n in 0..bytes.len() {
-            assert!(rt; decode(rt.alloc(), &bytes[..n]).err() == Some(DecodeRefusal::Short));
+            assert!(rt; decode(&bytes[..n]).err() == Some(DecodeRefusal::Short));
         }
     }
 }
 
 // Whether the bytes are refused, or what is read of them has these bytes as its spelling.
-fn is_spelled(alloc: Global, bytes: &[u8]) -> bool {
-    match again(alloc, bytes) {
-        Ok(text) => bytes.starts_with(&text),
-        Err(refusal) => refusal != DecodeRefusal::NoMemory,
+fn is_spelled(alloc: Global, bytes: &[u8]) -> Result<bool, Fail> {
+    match decode(bytes) {
+        Ok((records, _)) => Ok(bytes.starts_with(&again(alloc, records)?)),
+        Err(_) => Ok(true),
     }
 }
 
@@ -276,7 +300,7 @@ fn reads_no_second_spelling(rt: HostRuntime) -> Result<(), Fail> {
         for at in 0..vector.len() {
             for byte in [0, 255, vector[at].wrapping_add(1)] {
                 bytes[at] = byte;
-                assert!(rt; is_spelled(alloc, &bytes));
+                assert!(rt; is_spelled(alloc, &bytes)?);
             }
             bytes[at] = vector[at];
         }
@@ -285,17 +309,16 @@ fn reads_no_second_spelling(rt: HostRuntime) -> Result<(), Fail> {
 }
 
 // Why the opening isn't read with this byte at this offset.
-fn opening_with(alloc: Global, at: usize, byte: u8) -> Option<DecodeRefusal>
+fn opening_with(at: usize, byte: u8) -> Option<DecodeRefusal>
     requires { at < 21 }
 {
     let mut bytes = OPENING;
     bytes[at] = byte;
-    decode(alloc, &bytes).err()
+    decode(&bytes).err()
 }
 
 #[test]
 fn refuses_changes(rt: HostRuntime) {
-    let alloc = rt.alloc();
     let rows = [
         (0, 0, 0),
         (0, 255, 0),
@@ -312,13 +335,13 @@ fn refuses_changes(rt: HostRuntime) {
     ];
     for (at, byte, fault) in rows {
         assert!(rt; at < OPENING.len());
-        assert!(rt; opening_with(alloc, at, byte) == Some(DecodeRefusal::BadKind { at: fault }));
+        assert!(rt; opening_with(at, byte) == Some(DecodeRefusal::BadKind { at: fault }));
     }
     // An offset of 1, where the kind of the page stood.
-    assert!(rt; opening_with(alloc, 9, 2) == Some(DecodeRefusal::OutOfPage { at: 18 }));
+    assert!(rt; opening_with(9, 2) == Some(DecodeRefusal::OutOfPage { at: 18 }));
     // Another number, and another kind of page.
-    assert!(rt; opening_with(alloc, 8, 2).is_none());
-    assert!(rt; opening_with(alloc, 19, 2).is_none());
+    assert!(rt; opening_with(8, 2).is_none());
+    assert!(rt; opening_with(19, 2).is_none());
 }
 
 // A write of so many zero bytes, and space 0 gone: 19 bytes more than those.
@@ -338,13 +361,13 @@ fn has_1024_bytes_at_most(rt: HostRuntime) -> Result<(), Fail> {
         .ok()
         .ok_or("a text")?;
     assert_eq!(rt; text.len(), 1024);
-    assert!(rt; matches!(decode(alloc, &text), Ok((_, 1024))));
+    assert!(rt; matches!(decode(&text), Ok((_, 1024))));
     let refusal = encode(alloc, &longest(alloc, &[0; 1006])?).err();
     assert!(rt; refusal == Some(EncodeRefusal::TooLong { length: 1025 }));
     let mut bytes = [0; 1025];
     bytes[..13].copy_from_slice(&[2, 0, 0, 0, 0, 0, 0, 0, 0, 0, 38, 3, 238]);
     bytes[1019] = 5;
     bytes[1024] = 6;
-    assert!(rt; decode(alloc, &bytes).err() == Some(DecodeRefusal::TooLong));
+    assert!(rt; decode(&bytes).err() == Some(DecodeRefusal::TooLong));
     Ok(())
 }

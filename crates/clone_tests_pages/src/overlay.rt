@@ -1,6 +1,6 @@
 use clone_base::REDO_SPACE;
 use clone_memdisk::MemDisk;
-use clone_mtr::{Patch, Record};
+use clone_mtr::{Patch, Record, RecordRef};
 use clone_outside::PageDisk;
 use clone_overlay::{FetchRefusal, Overlay};
 use clone_page::{Page, PageKind};
@@ -30,7 +30,7 @@ fn a_change_over_a_disk(rt: HostRuntime) -> Result<(), Fail> {
         patch: Patch::new(48, &[7, 8]),
     };
     overlay.fetch(&mut disk, 1, 0).ok().ok_or("a page")?;
-    overlay.apply(alloc, &entry, 21)?;
+    overlay.apply(alloc, &entry.by_reference(), 21)?;
     overlay.fetch(&mut disk, 1, 0).ok().ok_or("a page")?;
     let page = overlay.page(1, 0).ok_or("a page")?;
     assert_eq!(rt; (page.lsn(), page.bytes()[49]), (21, 8));
@@ -59,11 +59,11 @@ fn spaces_of_a_disk(rt: HostRuntime) -> Result<(), Fail> {
         (overlay.pages(1), overlay.pages(REDO_SPACE)),
         (Some(2), None)
     );
-    overlay.apply(alloc, &Record::Create { space: 1, pages: 1 }, 22)?;
-    overlay.apply(alloc, &Record::Extend { space: 1, pages: 4 }, 22)?;
+    overlay.apply(alloc, &RecordRef::Create { space: 1, pages: 1 }, 22)?;
+    overlay.apply(alloc, &RecordRef::Extend { space: 1, pages: 4 }, 22)?;
     overlay.fetch(&mut disk, 1, 0).ok().ok_or("a page")?;
     assert!(rt; overlay.page(1, 0).ok_or("a page")?.is_zero());
-    overlay.apply(alloc, &Record::Drop { space: 1 }, 23)?;
+    overlay.apply(alloc, &RecordRef::Drop { space: 1 }, 23)?;
     assert_eq!(rt; overlay.pages(1), None);
     Ok(())
 }

@@ -6,7 +6,7 @@ use crate::trx::written::{GROWTH, Written};
 use crate::trx::{Answer, Call, FlushStep, PageAt, answered};
 use clone_base::FIRST_LSN;
 use clone_model::Config;
-use clone_mtr::{Record, decode};
+use clone_mtr::{RecordRef, decode};
 use clone_outside::PageDisk;
 use clone_plain::Cause;
 use rand_pcg::Pcg32;
@@ -92,12 +92,12 @@ impl Beside {
     // Reads the first mini-transaction of these bytes, which begins there. Whether it makes a space
     // longer is answered, and how many bytes it has.
     fn read_one(&mut self, bytes: &[u8], start: u64) -> Result<(bool, usize), Fail> {
-        let (mtr, length) = decode(self.alloc, bytes).ok().ok_or("no mini-transaction")?;
-        self.pages.note(mtr.records(), start)?;
-        let grows = mtr
-            .records()
-            .iter()
-            .any(|entry| matches!(entry, Record::Extend { .. }));
+        let (mut records, length) = decode(bytes).ok().ok_or("no mini-transaction")?;
+        let mut grows = false;
+        while let Some(entry) = records.next() {
+            self.pages.note(&entry, start)?;
+            grows = grows || matches!(entry, RecordRef::Extend { .. });
+        }
         Ok((grows, length))
     }
 

@@ -1,6 +1,6 @@
 use crate::trx::files::Files;
 use crate::trx::{FlushStep, PageAt};
-use clone_mtr::Record;
+use clone_mtr::RecordRef;
 use clone_plain::Cause;
 use std::alloc::{AllocError, Global};
 use std::collections::BTreeMap;
@@ -43,19 +43,17 @@ impl Pages {
         self.dirty.len()
     }
 
-    /// The records of a mini-transaction that begins there change their pages. The file of a space
-    /// that is made has all its pages; that of one that gets longer has them later. A space that is
+    /// A record of a mini-transaction that begins there changes its page. The file of a space that
+    /// is made has all its pages; that of one that gets longer has them later. A space that is
     /// dropped has no dirty page any more.
-    pub fn note(&mut self, records: &[Record], start: u64) -> Result<(), AllocError> {
-        for entry in records {
-            match entry {
-                Record::Init { space, page, .. } | Record::Write { space, page, .. } => {
-                    self.change((*space, *page), start)?;
-                }
-                Record::Create { space, pages } => self.files.make(*space, *pages)?,
-                Record::Drop { space } => self.drop_space(*space),
-                Record::Extend { .. } => {}
+    pub fn note(&mut self, entry: &RecordRef, start: u64) -> Result<(), AllocError> {
+        match entry {
+            RecordRef::Init { space, page, .. } | RecordRef::Write { space, page, .. } => {
+                self.change((*space, *page), start)?;
             }
+            RecordRef::Create { space, pages } => self.files.make(*space, *pages)?,
+            RecordRef::Drop { space } => self.drop_space(*space),
+            RecordRef::Extend { .. } => {}
         }
         Ok(())
     }

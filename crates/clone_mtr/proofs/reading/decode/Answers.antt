@@ -1,59 +1,54 @@
-use Rattle.std.proofs.Common.{refl, ◌≡◌, ◌-◌, length, arith, [], ◌∷◌, Some, None, Ok, Err}
+use Rattle.std.proofs.Common.{◌≡◌, ◌-◌, length, Some, None, Ok, Err, ap, ◌∙◌, sym, subst, arith}
 use Rattle.std.proofs.lemmas.Result.{err_from_is_err_and}
-use Rattle.std.proofs.lemmas.List.{length-append}
-use Rattle.clone_mtr.specs.Reading.{found_record, item_at}
-use Rattle.clone_mtr.proofs.Decoding.{offset_is, Splits-none, next_more, ended, refuses, ends_first}
+use Rattle.clone_mtr.specs.Left.{records_of, AreRecords}
+use Rattle.clone_mtr.specs.Reading.{item_at}
+use Rattle.clone_mtr.specs.References.{record_of}
+use Rattle.clone_mtr.proofs.Decoding.{offset_is, next_more, ended, refuses, ends_first, front_is, some_read}
+use Rattle.clone_mtr.proofs.LeftLemmas.{records_back, are_records}
 use Rattle.clone_mtr.proofs.reading.decode.Goals as goal
 
-pub returns-in_err-found : goal.returns-in_err-found
-returns-in_err-found c =
+pub returns-in_err-item_of : goal.returns-in_err-item_of
+returns-in_err-item_of c =
     let p = err_from_is_err_and c.from_residual.result c.from_residual.ensures.1 in
-    let e = c.in_err-found.field-0.0 in
-    let read : item_at 0 c.args.bytes.now ≡ Err e = rw c.new-reader.ensures at c.in_err-found.ensures in
-    rw (p.1, p.2) (refuses c.args.bytes.now c.args.bytes.now [] 0 e refl (Splits-none c.args.bytes.now (λ i. omega (arith, c.type_inv.bytes i))) read)
+    let so_far = c.loop.invariant.1 in
+    let at = length c.args.bytes.now - length c.loop.reader in
+    let read : item_at at c.loop.reader ≡ Err c.in_err-item_of.field-0.0 = rw c.left.ensures at c.in_err-item_of.ensures in
+    rw (p.1, p.2) (refuses c.args.bytes.now c.loop.reader c.loop.invariant.0 at c.in_err-item_of.field-0.0 (offset_is c.args.bytes.now c.loop.reader c.loop.invariant.0 so_far) so_far read)
+
+pub loop-smaller : goal.loop-smaller
+loop-smaller c =
+    let so_far = c.loop.invariant.1 in
+    let at = length c.args.bytes.now - length c.loop.reader in
+    let read : item_at at c.loop.reader ≡ Ok (Some (record_of c.in-Some.field-0), c.item_of.new.reader) = rw (c.in-Some.is, c.left.ensures) at c.in_ok-item_of.ensures in
+    (next_more c.args.bytes.now c.loop.reader c.item_of.new.reader c.loop.invariant.0 (record_of c.in-Some.field-0) at (offset_is c.args.bytes.now c.loop.reader c.loop.invariant.0 so_far) so_far read).1
+
+pub loop-preserved : goal.loop-preserved
+loop-preserved c =
+    let so_far = c.loop.invariant.1 in
+    let at = length c.args.bytes.now - length c.loop.reader in
+    let read : item_at at c.loop.reader ≡ Ok (Some (record_of c.in-Some.field-0), c.item_of.new.reader) = rw (c.in-Some.is, c.left.ensures) at c.in_ok-item_of.ensures in
+    (_, (next_more c.args.bytes.now c.loop.reader c.item_of.new.reader c.loop.invariant.0 (record_of c.in-Some.field-0) at (offset_is c.args.bytes.now c.loop.reader c.loop.invariant.0 so_far) so_far read).0)
 
 pub returns-in-None : goal.returns-in-None
 returns-in-None c =
-    let read : item_at 0 c.args.bytes.now ≡ Ok (None, c.item_of.new.reader) = rw (c.in-None.is, c.new-reader.ensures) at c.in_ok-found.ensures in
-    ends_first c.args.bytes.now c.item_of.new.reader (λ i. omega (arith, c.type_inv.bytes i)) read
+    let so_far = c.loop.invariant.1 in
+    let at : length c.args.bytes.now - c.left.result ≡ 0 = omega arith in
+    let read : item_at 0 c.loop.reader ≡ Ok (None, c.item_of.new.reader) = rw (c.in-None.is, at) at c.in_ok-item_of.ensures in
+    ends_first c.args.bytes.now c.loop.reader c.item_of.new.reader c.loop.invariant.0 so_far (omega (arith, offset_is c.args.bytes.now c.loop.reader c.loop.invariant.0 so_far)) read
 
-pub loop-mtr-init : goal.loop-mtr-init
-loop-mtr-init c =
-    let found : item_at 0 c.args.bytes.now ≡ Ok (Some (found_record c.in-Some.found), c.item_of.new.reader) = rw (c.in-Some.is, c.new-reader.ensures) at c.in_ok-found.ensures in
-    let none = Splits-none c.args.bytes.now (λ i. omega (arith, c.type_inv.bytes i)) in
-    record {
-      so_far = rw (c.in_ok-mtr.ensures, c.in_ok-into_record.ensures) (next_more c.args.bytes.now c.args.bytes.now c.item_of.new.reader [] (found_record c.in-Some.found) 0 refl none found).0;
-      some = rw c.in_ok-mtr.ensures (omega arith);
-    }
-
-pub returns-in_err-next : goal.returns-in_err-next
-returns-in_err-next c =
-    let p = err_from_is_err_and c.from_residual-in_err-next.result c.from_residual-in_err-next.ensures.1 in
-    let e = c.in_err-next.field-0.0 in
-    let at = length c.args.bytes.now - length c.loop-mtr.reader in
-    let read : item_at at c.loop-mtr.reader ≡ Err e = rw c.left.ensures at c.in_err-next.ensures in
-    rw (p.1, p.2) (refuses c.args.bytes.now c.loop-mtr.reader c.loop-mtr.mtr at e (offset_is c.args.bytes.now c.loop-mtr.reader c.loop-mtr.mtr c.loop-mtr.invariant.so_far) c.loop-mtr.invariant.so_far read)
-
-pub loop-mtr-smaller : goal.loop-mtr-smaller
-loop-mtr-smaller c =
-    let at = length c.args.bytes.now - length c.loop-mtr.reader in
-    let found : item_at at c.loop-mtr.reader ≡ Ok (Some (found_record c.in-Some-2.next), c.item_of-in-loop-mtr.new.reader) = rw (c.in-Some-2.is, c.left.ensures) at c.in_ok-next.ensures in
-    (next_more c.args.bytes.now c.loop-mtr.reader c.item_of-in-loop-mtr.new.reader c.loop-mtr.mtr (found_record c.in-Some-2.next) at (offset_is c.args.bytes.now c.loop-mtr.reader c.loop-mtr.mtr c.loop-mtr.invariant.so_far) c.loop-mtr.invariant.so_far found).1
-
-pub loop-mtr-preserved : goal.loop-mtr-preserved
-loop-mtr-preserved c =
-    let at = length c.args.bytes.now - length c.loop-mtr.reader in
-    let found : item_at at c.loop-mtr.reader ≡ Ok (Some (found_record c.in-Some-2.next), c.item_of-in-loop-mtr.new.reader) = rw (c.in-Some-2.is, c.left.ensures) at c.in_ok-next.ensures in
-    record {
-      so_far = rw (c.in_ok-push-in-Some-2.ensures.ok, c.in_ok-into_record-in-Some-2.ensures) (next_more c.args.bytes.now c.loop-mtr.reader c.item_of-in-loop-mtr.new.reader c.loop-mtr.mtr (found_record c.in-Some-2.next) at (offset_is c.args.bytes.now c.loop-mtr.reader c.loop-mtr.mtr c.loop-mtr.invariant.so_far) c.loop-mtr.invariant.so_far found).0;
-      some = rw (c.in_ok-push-in-Some-2.ensures.ok, c.in_ok-into_record-in-Some-2.ensures) (omega (arith, length-append c.loop-mtr.mtr (found_record c.in-Some-2.next ∷ [])));
-    }
+pub new-requires : goal.new-requires
+new-requires c =
+    let so_far = c.loop.invariant.1 in
+    let text = front_is c.args.bytes.now c.loop.reader c.loop.invariant.0 _ (rw c.left.ensures (offset_is c.args.bytes.now c.loop.reader c.loop.invariant.0 so_far)) so_far in
+    subst AreRecords (sym text) (are_records c.loop.invariant.0 so_far.each so_far.below)
 
 pub returns-in-None-2 : goal.returns-in-None-2
 returns-in-None-2 c =
-    let at = length c.args.bytes.now - length c.loop-mtr.reader in
-    let found : item_at at c.loop-mtr.reader ≡ Ok (None, c.item_of-in-loop-mtr.new.reader) = rw (c.in-None-2.is, c.left.ensures) at c.in_ok-next.ensures in
-    rw c.left.ensures (ended c.args.bytes.now c.loop-mtr.reader c.item_of-in-loop-mtr.new.reader c.loop-mtr.mtr at (offset_is c.args.bytes.now c.loop-mtr.reader c.loop-mtr.mtr c.loop-mtr.invariant.so_far) c.loop-mtr.invariant.so_far found c.loop-mtr.invariant.some)
-
-pub item_of-requires-in-loop-mtr : goal.item_of-requires-in-loop-mtr
-item_of-requires-in-loop-mtr c = omega (arith, c.left.ensures, offset_is c.args.bytes.now c.loop-mtr.reader c.loop-mtr.mtr c.loop-mtr.invariant.so_far, c.loop-mtr.invariant.so_far.below)
+    let bytes = c.args.bytes.now in
+    let so_far = c.loop.invariant.1 in
+    let at = length bytes - length c.loop.reader in
+    let here = offset_is bytes c.loop.reader c.loop.invariant.0 so_far in
+    let read : item_at at c.loop.reader ≡ Ok (None, c.item_of.new.reader) = rw (c.in-None-2.is, c.left.ensures) at c.in_ok-item_of.ensures in
+    let some = some_read c.loop.invariant.0 (omega (arith, here, c.left.ensures)) in
+    let found : c.new.result ≡ c.loop.invariant.0 = c.new.ensures ∙ ap records_of (rw c.left.ensures (front_is bytes c.loop.reader c.loop.invariant.0 at here so_far)) ∙ records_back c.loop.invariant.0 so_far.each so_far.below in
+    rw (found, c.left.ensures) (ended bytes c.loop.reader c.item_of.new.reader c.loop.invariant.0 at here so_far read some)

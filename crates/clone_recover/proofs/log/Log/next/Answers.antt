@@ -1,34 +1,39 @@
-use Rattle.std.proofs.Common.{◌≡◌}
-use Rattle.std.proofs.lemmas.Result.{err_from_is_err_and}
-use Rattle.clone_outside.proofs.DiskCallLemmas.{weaker}
-use Rattle.clone_recover.specs.declared.refusal.RecoverRefusal.TheVariants.{DiskFault, Incomplete}
-use Rattle.clone_recover.proofs.Faults.{disk_known, redo_known}
-use Rattle.clone_recover.proofs.RedoPageLemmas.{read_on, not_read}
-use Rattle.clone_recover.proofs.RedoFrontLemmas.{of_redo_fault}
+use Rattle.std.proofs.Common.{◌≡◌, ◌≤◌, List, ℕ, length, take, refl, sym, subst, arith, rules, Err}
+use Rattle.std.specs.List.{AllByRecursion}
+use Rattle.clone_mtr.specs.Answers.{Decodes}
+use Rattle.clone_mtr.specs.Spelling.{Spells}
+use Rattle.clone_mtr.specs.declared.record.Record.{Record}
+use Rattle.clone_recover.specs.Reading.{IsOfTable, rest_of, total_of}
+use Rattle.clone_recover.specs.declared.log.Log.{Log}
+use Rattle.clone_recover.proofs.RedoFrontLemmas.{in_order, rest_long, no_log, no_tables, is_no_redo, not_decoded}
 use Rattle.clone_recover.proofs.log.Log.next.Goals as goal
 
-pub returns-in_err-read-clause-reads : goal.returns-in_err-read-clause-reads
-returns-in_err-read-clause-reads g c = weaker c.in_ok-make_ready.ensures.reads (λ is.
-    let p = err_from_is_err_and c.from_residual-in_err-read.result c.from_residual-in_err-read.ensures.1 in
-    let same : c.in_err-read.field-0.0 ≡ DiskFault = cc (p.1, p.2) in
-    absurd (of_redo_fault c.in_err-read.field-0.0 c.in_err-read.ensures.redo same))
+pub returns-in-Ok-clause-cause : goal.returns-in-Ok-clause-cause
+returns-in-Ok-clause-cause c = λ m done r.
+    let log : Log = c.args.self.now in
+    let long : length log.window ≡ 8192 = search rules in
+    let spelled = subst (λ (xs : List ℕ). Spells (take c.in-Ok.field-0-1 xs) c.in-Ok.mtr) c.rest.ensures.value c.in-Ok.ensures.0 in
+    is_no_redo c.foreign.result m (total_of log) c.foreign.ensures
+    (no_tables m done log c.in-Ok.field-0-1 c.in-Ok.mtr (in_order log long) c.requires.some r spelled
+    (λ all. c.names_foreign.ensures.yes c.if-names_foreign.true (subst (λ (rs : List Record). AllByRecursion IsOfTable rs) (sym c.again.ensures) all)))
 
-pub returns-clause-next : goal.returns-clause-next
-returns-clause-next g c = read_on (g.R.PageDisk.state c.args.disk.now).told c.args.self.now c.make_ready.new.self c.read.new.self c.in_ok-read.field-0 c.in_ok-make_ready.ensures.keeps c.in_ok-read.ensures.read
+pub returns-in-Ok-2-clause-next : goal.returns-in-Ok-2-clause-next
+returns-in-Ok-2-clause-next c = record {
+  spelled = subst (λ (xs : List ℕ). Spells (take c.in-Ok.field-0-1 xs) c.in-Ok.mtr) c.rest.ensures.value c.in-Ok.ensures.0;
+  within = subst (λ (xs : List ℕ). c.in-Ok.field-0-1 ≤ length xs) c.rest.ensures.value c.in-Ok.ensures.1;
+  tables = subst (λ (rs : List Record). AllByRecursion IsOfTable rs) c.again.ensures (c.names_foreign.ensures.no c.if-names_foreign.false);
+}
 
-pub returns-in_err-read-clause-cause : goal.returns-in_err-read-clause-cause
-returns-in_err-read-clause-cause g c =
-    let p = err_from_is_err_and c.from_residual-in_err-read.result c.from_residual-in_err-read.ensures.1 in
-    rw (p.1, p.2) (not_read (g.R.PageDisk.state c.args.disk.now).told c.args.self.now c.make_ready.new.self c.in_err-read.field-0.0 c.in_ok-make_ready.ensures.total c.in_ok-make_ready.ensures.keeps c.in_err-read.ensures.cause)
+pub returns-in-Ok-2-clause-most : goal.returns-in-Ok-2-clause-most
+returns-in-Ok-2-clause-most c =
+    let log : Log = c.args.self.now in
+    let long : length log.window ≡ 8192 = search rules in
+    let within = subst (λ (xs : List ℕ). c.in-Ok.field-0-1 ≤ length xs) c.rest.ensures.value c.in-Ok.ensures.1 in
+    omega (arith, within, rest_long log (in_order log long), log.begun, log.within, log.most)
 
-pub returns-in_err-make_ready-clause-known : goal.returns-in_err-make_ready-clause-known
-returns-in_err-make_ready-clause-known g c = λ is.
-    let p = err_from_is_err_and c.from_residual.result c.from_residual.ensures.1 in
-    let same : c.in_err-make_ready.field-0.0 ≡ Incomplete = cc (p.1, p.2) in
-    absurd (disk_known c.in_err-make_ready.field-0.0 c.in_err-make_ready.ensures.cause same)
-
-pub returns-in_err-read-clause-known : goal.returns-in_err-read-clause-known
-returns-in_err-read-clause-known g c = λ is.
-    let p = err_from_is_err_and c.from_residual-in_err-read.result c.from_residual-in_err-read.ensures.1 in
-    let same : c.in_err-read.field-0.0 ≡ Incomplete = cc (p.1, p.2) in
-    absurd (redo_known c.in_err-read.field-0.0 c.in_err-read.ensures.redo same)
+pub returns-in-Err-clause-cause : goal.returns-in-Err-clause-cause
+returns-in-Err-clause-cause c = λ m done r.
+    let log : Log = c.args.self.now in
+    let long : length log.window ≡ 8192 = search rules in
+    not_decoded c.in-Err.refusal c.broken.result m (total_of log) (rest_of log) (subst (λ (xs : List ℕ). Decodes xs (Err c.in-Err.refusal)) c.rest.ensures.value c.in-Err.ensures) c.broken.ensures
+    (λ none has. no_log m done log (in_order log long) c.requires.near c.requires.some r none has)

@@ -1,6 +1,0 @@
-use Rattle.std.proofs.Common.{◌∙◌, ap, sym}
-use Rattle.clone_mtr.specs.Effects.{effect}
-use Rattle.clone_mtr.proofs.effects.apply.Goals as goal
-
-pub returns-in-Init : goal.returns-in-Init
-returns-in-Init c = c.init.ensures ∙ ap (λ entry. effect c.args.lsn entry c.args.page.now) (sym c.in-Init.is)
