@@ -22,11 +22,11 @@ pub use Rattle.clone_outside.specs.Disk.{GivesQuiet, DiskImage, ForTold}
 pub use Rattle.clone_page.specs.Header.{zero_page}
 pub use Rattle.clone_pool.proofs.NameLemmas.{is_own_name, named}
 pub use Rattle.clone_pool.proofs.PoolLemmas.{within}
-pub use Rattle.clone_pool.specs.Frames.{is_fresh, next_use, freshened, frame_at, touched, is_begun, holder, no_frame, HoldsPage, noted, name_in, name_of}
+pub use Rattle.clone_pool.specs.Frames.{is_fresh, next_use, freshened, frame_at, touched, is_begun, holder, no_frame, HoldsPage, noted, name_in, name_of, claim_in, claim_of, claimant, loader, loading_of, is_free}
 pub use Rattle.clone_pool.specs.Index.{is_name_of}
-pub use Rattle.clone_pool.specs.Pool.{IsPool, with_frame, IsVictim, KeepsOthers, used, Frames}
+pub use Rattle.clone_pool.specs.Pool.{IsPool, with_frame, IsVictim, IsFrameFor, KeepsOthers, used, Frames}
 pub use Rattle.clone_pool.specs.declared.frame.Content.{Content}
-pub use Rattle.clone_pool.specs.declared.frame.Content.TheVariants.{Unused, Fresh}
+pub use Rattle.clone_pool.specs.declared.frame.Content.TheVariants.{Unused, Fresh, Loading}
 pub use Rattle.clone_pool.specs.declared.frame.Flush.{Flush}
 pub use Rattle.clone_pool.specs.declared.frame.Frame.{Frame}
 pub use Rattle.clone_pool.specs.declared.frame.PageName.{PageName}

@@ -1,6 +1,6 @@
 -- A mini-transaction that drops a space, once the frames of its pages were given up.
 use Rattle.std.proofs.Common.{◌≡◌, ◌≢◌, ◌<◌, ◌≤◌, ◌&&◌, ◌⊎◌, inl, inr, ◌++◌, ℕ, Bool, true, false, List, [], ◌∷◌, length, refl, sym, ap, subst, ◌∙◌, arith, Option, Some, None, Result, Ok, Err, nat_lt, IsSome, IfSome, IsTrue, if◌then◌else◌}
-use Rattle.clone_buffer.proofs.Common.{Writes, cases_eq, cases_lt, false≢true, true≢false, AllByRecursion, DiskImage, Record, spelling, Image, replayed, IsSpelled, no_space, redone, ends, touches, passes, free_in, LogFull, Frame, Content, Unused, Fresh, PageName, frame_at, name_in, name_of, is_begun, holder, IsPool, Buffered, IsBuffer, Shown, Shows, Beside, frame_of, IsKeptPage, IsKept, HasFrame, IsOnPage, any_names, written}
+use Rattle.clone_buffer.proofs.Common.{Writes, cases_eq, cases_lt, false≢true, true≢false, AllByRecursion, DiskImage, Record, spelling, Image, replayed, IsSpelled, no_space, redone, ends, touches, passes, free_in, LogFull, Frame, Content, Unused, Fresh, Loading, PageName, frame_at, claim_in, claim_of, is_begun, holder, IsPool, Buffered, IsBuffer, Shown, Shows, Beside, frame_of, IsKeptPage, IsKept, HasFrame, IsOnPage, any_names, written}
 use Rattle.std.proofs.lemmas.Bool.{eq-eqb, lt-ltb}
 use Rattle.clone_mtr.specs.declared.record.Record.TheVariants.{Drop}
 use Rattle.clone_image.specs.Image.{page_of}
@@ -14,6 +14,7 @@ use Rattle.clone_buffer.specs.Keeping.{Stands}
 use Rattle.clone_buffer.specs.Dropping.{is_page_below, given_up, without_pages, DropsSpace, WritesWithout}
 use Rattle.clone_buffer.proofs.MoveLemmas.{stands_by}
 use Rattle.clone_buffer.proofs.PageLemmas.{dropped_page}
+use Rattle.clone_buffer.proofs.FrameLemmas.{some_of}
 use Rattle.clone_buffer.proofs.ShownLemmas.{frame_of_absent}
 use Rattle.clone_buffer.proofs.WriteLemmas.{of_named, applied_passing, unnamed_all, passes_all, ready_there}
 use Rattle.clone_buffer.proofs.WrittenLemmas.{KeptAt, small, frame_of-passed, IsBuffer-written}
@@ -50,22 +51,25 @@ module _ (space pages : ℕ) (v : Buffered) (records : List Record) (d : DropsSp
       by (inr high) = let none = ap (λ (s : ℕ). page_of image s name.number) same ∙ past_count image space pages pages d.size name.number high in absurd (false≢true (subst IsSome (sym is ∙ none) refl))
 
   -- the frames that are left show pages of other spaces
-  shown_left : (f : Frame) → Shown image f.content f.page → (t : Bool) → is_page_below space pages (name_of f) ≡ t → Shown (removed image space) (if t then discarded f else f).content (if t then discarded f else f).page
+  shown_left : (f : Frame) → Shown image f.content f.page → (t : Bool) → is_page_below space pages (claim_of f) ≡ t → Shown (removed image space) (if t then discarded f else f).content (if t then discarded f else f).page
   shown_left f shown true is = tt
   shown_left f shown false is = by f.content refl shown
     where
-      kept : (name : PageName) → name_of f ≡ Some name → (name.space ≡ space) ⊎ (name.space ≢ space) → (o : Option (List ℕ)) → page_of image name.space name.number ≡ o → page_of (removed image space) name.space name.number ≡ o
+      kept : (name : PageName) → claim_of f ≡ Some name → (name.space ≡ space) ⊎ (name.space ≢ space) → (o : Option (List ℕ)) → page_of image name.space name.number ≡ o → page_of (removed image space) name.space name.number ≡ o
       kept name holds (inr other) o is = still_there image space name.space name.number other ∙ is
       kept name holds (inl same) None none = ap (λ (s : ℕ). page_of (removed image space) s name.number) same ∙ gone image space name.number
       kept name holds (inl same) (Some bytes) some = absurd (true≢false (sym (below name bytes some same) ∙ sym (ap (is_page_below space pages) holds) ∙ is))
 
       by : (content : Content) → f.content ≡ content → Shown image content f.page → Shown (removed image space) content f.page
       by Unused holds shown = tt
-      by (Fresh name) holds shown = (kept name (ap name_in holds) (cases_eq name.space space) None shown.0, shown.1)
-      by (Held name) holds shown = kept name (ap name_in holds) (cases_eq name.space space) (Some f.page) shown
+      by (Fresh name) holds shown = (kept name (ap claim_in holds) (cases_eq name.space space) None shown.0, shown.1)
+      by (Held name) holds shown = kept name (ap claim_in holds) (cases_eq name.space space) (Some f.page) shown
+      by (Loading name) holds on =
+          let page = some_of (page_of image name.space name.number) on in
+          subst IsSome (sym (kept name (ap claim_in holds) (cases_eq name.space space) (Some page.0) page.1)) refl
 
   shows_left : IsTrue v.right → Shows (removed image space) u.pool.frames
-  shows_left right at = subst (λ (f : Frame). Shown (removed image space) f.content f.page) (sym (freed_at space pages v.pool at)) (shown_left (frame_at v.pool.frames at) (b.shows right at) (is_page_below space pages (name_of (frame_at v.pool.frames at))) refl)
+  shows_left right at = subst (λ (f : Frame). Shown (removed image space) f.content f.page) (sym (freed_at space pages v.pool at)) (shown_left (frame_at v.pool.frames at) (b.shows right at) (is_page_below space pages (claim_of (frame_at v.pool.frames at))) refl)
 
   shows_all : IsTrue v.right → Shows (replayed (v.log ++ all ∷ [])) (written all u).pool.frames
   shows_all right =

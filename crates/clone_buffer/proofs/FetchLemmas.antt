@@ -1,12 +1,13 @@
 -- A buffer stays kept, whatever a fetch does.
 use Rattle.std.proofs.Common.{◌≡◌, ◌<◌, ◌^◌, ◌&&◌, ℕ, Bool, true, false, List, not, set, refl, sym, ap, subst, ◌∙◌, Option, Some, None, Ok, Err, Result, IsSome, IsTrue, is_some, MatchOption}
-use Rattle.clone_buffer.proofs.Common.{false≢true, get_or-set_same, DiskImage, ForTold, GivesQuiet, Image, replayed, ends, Frame, PageName, FetchRefusal, no_frame, frame_at, holder, touched, next_use, Frames, IsPool, IsVictim, used, State, Buffered, Shows, Beside, frame_in, frame_of, IsKeptPage, IsKept}
+use Rattle.clone_buffer.proofs.Common.{false≢true, get_or-set_same, DiskImage, ForTold, GivesQuiet, Image, replayed, ends, Frame, PageName, FetchRefusal, no_frame, frame_at, name_in, holder, touched, next_use, Frames, IsPool, IsFrameFor, used, State, Buffered, Shows, Beside, frame_in, frame_of, IsKeptPage, IsKept}
 use Rattle.std.proofs.lemmas.Bool.{and_from}
 use Rattle.std.proofs.lemmas.Slice.Eq.{bytes_eq-Decides}
 use Rattle.clone_image.specs.Image.{page_of}
 use Rattle.clone_pool.specs.declared.frame.Flush.TheVariants as flush
 use Rattle.clone_pool.specs.declared.pool.FetchRefusal.TheVariants.{PoolFull, DiskFault}
-use Rattle.clone_pool.specs.Frames.{may_go, filled, emptied}
+use Rattle.clone_pool.specs.Frames.{is_free, left_in, filled, emptied}
+use Rattle.clone_pool.proofs.ClaimLemmas.{left_holds_none}
 use Rattle.clone_pool.specs.Pool.{Fills, Fetches, Misses}
 use Rattle.clone_buffer.specs.ShadowState.{is_page}
 use Rattle.clone_buffer.specs.Keeping.{Stands}
@@ -20,10 +21,10 @@ clean_goes true (Some x) go = absurd (false≢true go)
 clean_goes false o go = absurd (false≢true go)
 
 -- what makes way has no change and no flush
-pub victim_clean : (v : Frames) (at : ℕ) → may_go (frame_at v.frames at) ≡ true → (frame_at v.frames at).oldest ≡ None
+pub victim_clean : (v : Frames) (at : ℕ) → is_free (frame_at v.frames at) ≡ true → (frame_at v.frames at).oldest ≡ None
 victim_clean v at go = clean_goes _ _ go
 
-pub victim_idle : (v : Frames) (at : ℕ) → IsPool v → may_go (frame_at v.frames at) ≡ true → (frame_at v.frames at).flush ≡ flush.Idle
+pub victim_idle : (v : Frames) (at : ℕ) → IsPool v → is_free (frame_at v.frames at) ≡ true → (frame_at v.frames at).flush ≡ flush.Idle
 victim_idle v at p go = (p.frame at).clean (ap is_some (victim_clean v at go))
 
 one_answer : (x y : ℕ) (r : Result ℕ FetchRefusal) → r ≡ Ok x → r ≡ Ok y → x ≡ y
@@ -47,34 +48,40 @@ module _ (v : Buffered) (beside : Beside) (m : DiskImage) (new : Frames) (target
       held_on v.pool new at p q f to (Kept s n) (Kept s n) (record { space = s; number = n }) refl (λ _ had. like_page v.log beside m s n (was at) (was at).pins (next_use v.pool.uses) had) (λ _ o had. had) (k.page s n)
 
   -- the page that makes way, if it has one
-  pub makes_way : (at : ℕ) → may_go (was at) ≡ true → (s n : ℕ) → Kept s n (counted (was at)) → Kept s n None
+  pub makes_way : (at : ℕ) → is_free (was at) ≡ true → (s n : ℕ) → Kept s n (counted (was at)) → Kept s n None
   makes_way at go s n had = lost_page v.log beside m s n (was at) (victim_clean v.pool at go) (victim_idle v.pool at p go) had
 
-  filled_page : (at : ℕ) → holder v.pool.frames target ≡ None → IsVictim v.pool.frames at → Fills target at v.pool new → ends v.log < 2 ^ 64
+  filled_page : (at : ℕ) → holder v.pool.frames target ≡ None → IsFrameFor target v.pool.frames at → Fills target at v.pool new → ends v.log < 2 ^ 64
       → page_of (replayed v.log) target.space target.number ≡ Some (frame_at new.frames at).page → GivesQuiet m target.space target.number (frame_at new.frames at).page → AllKept
-  filled_page at none victim fills small page quiet s n =
+  filled_page at none for fills small page quiet s n =
       moved v.pool new at p q f to (Kept s n) (Kept s n) (record { space = s; number = n })
       (λ had has _. absurd (none_some (holder v.pool.frames target) at none (p.once target at (had ∙ sym has))))
-      (λ _ _ had. makes_way at victim.free s n had) (λ _ has bare. here (some_name target (record { space = s; number = n }) has) bare) (λ _ o had. had) (k.page s n)
+      (λ _ _ had. makes_way at free s n had) (λ _ has bare. here (some_name target (record { space = s; number = n }) has) bare) (λ _ o had. had) (k.page s n)
     where
+      free : is_free (was at) ≡ true
+      free = for.free
+
       f : Frame
       f = filled target fills.bytes (next_use v.pool.uses) (was at)
 
       to : Becomes v.pool.frames new.frames at f
-      to = set_becomes v.pool.frames new.frames at f victim.within fills.frames
+      to = set_becomes v.pool.frames new.frames at f for.within fills.frames
 
       bytes : (frame_at new.frames at).page ≡ fills.bytes
       bytes = ap (λ (g : Frame). g.page) to.this
 
       here : target ≡ record { space = s; number = n } → Kept s n None → Kept s n (Some f)
       here same = subst (λ (w : PageName). Kept w.space w.number None → Kept w.space w.number (Some f)) same
-          (read_page v.log beside m target.space target.number f (victim_clean v.pool at victim.free) (victim_idle v.pool at p victim.free)
+          (read_page v.log beside m target.space target.number f (victim_clean v.pool at free) (victim_idle v.pool at p free)
           (stands_there v.log target.space target.number fills.bytes small (page ∙ ap Some bytes)) (subst (GivesQuiet m target.space target.number) bytes quiet))
 
-  emptied_page : (at : ℕ) (bytes : List ℕ) → IsVictim v.pool.frames at → new.frames ≡ set v.pool.frames at (emptied bytes (was at)) → AllKept
-  emptied_page at bytes victim is s n =
-      moved v.pool new at p q (emptied bytes (was at)) (set_becomes v.pool.frames new.frames at (emptied bytes (was at)) victim.within is) (Kept s n) (Kept s n) (record { space = s; number = n })
-      (λ _ has _. absurd (no_name _ has)) (λ _ _ had. makes_way at victim.free s n had) (λ _ has _. absurd (no_name _ has)) (λ _ o had. had) (k.page s n)
+  emptied_page : (at : ℕ) (bytes : List ℕ) → IsFrameFor target v.pool.frames at → new.frames ≡ set v.pool.frames at (emptied bytes (was at)) → AllKept
+  emptied_page at bytes for is s n =
+      moved v.pool new at p q (emptied bytes (was at)) (set_becomes v.pool.frames new.frames at (emptied bytes (was at)) for.within is) (Kept s n) (Kept s n) (record { space = s; number = n })
+      (λ _ has _. absurd (empty has)) (λ _ _ had. makes_way at for.free s n had) (λ _ has _. absurd (empty has)) (λ _ o had. had) (k.page s n)
+    where
+      empty : name_in (left_in (was at).content) ≡ Some (record { space = s; number = n }) → ⊥
+      empty has = no_name _ (sym (left_holds_none (was at).content) ∙ has)
 
   -- what a fetch leaves is kept
   pub kept_fetched : (result : Result ℕ FetchRefusal) → Fetches target v.pool new result → ends v.log < 2 ^ 64
@@ -82,13 +89,13 @@ module _ (v : Buffered) (beside : Beside) (m : DiskImage) (new : Frames) (target
       → ((at : ℕ) → result ≡ Ok at → holder v.pool.frames target ≡ None → GivesQuiet m target.space target.number (frame_at new.frames at).page) → AllKept
   kept_fetched result f small page read = by (holder v.pool.frames target) refl f
     where
-      missed : (r : Result ℕ FetchRefusal) → result ≡ r → holder v.pool.frames target ≡ None → Misses target v.pool new r → AllKept
-      missed (Ok at) is none f = filled_page at none f.0 f.1 small (page at is) (read at is none)
-      missed (Err (PoolFull frames)) is none f = λ s n. subst (λ (w : Frames). Kept s n (frame_of w.frames s n)) (sym f.2) (k.page s n)
-      missed (Err DiskFault) is none f = emptied_page f.0 f.1.1.bytes f.1.0 f.1.1.frames
+      misses : (r : Result ℕ FetchRefusal) → result ≡ r → holder v.pool.frames target ≡ None → Misses target v.pool new r → AllKept
+      misses (Ok at) is none f = filled_page at none f.0 f.1 small (page at is) (read at is none)
+      misses (Err (PoolFull frames)) is none f = λ s n. subst (λ (w : Frames). Kept s n (frame_of w.frames s n)) (sym f.2) (k.page s n)
+      misses (Err DiskFault) is none f = emptied_page f.0 f.1.1.bytes f.1.0 f.1.1.frames
 
       by : (found : Option ℕ) → holder v.pool.frames target ≡ found → MatchOption found (Misses target v.pool new result) (λ at. (result ≡ Ok at) × (new ≡ used at v.pool)) → AllKept
-      by None none f = missed result refl none f
+      by None none f = misses result refl none f
       by (Some at) is f = hit at is f.1
 
   -- where the disk tells what it holds, what was fetched is the page that the log makes

@@ -34,7 +34,7 @@ blank_page space number =
       flights = (λ t. t, λ t. t);
     }
 
-pub new_stands : (v : Buffered) (n : ℕ) → v.log ≡ [] → IsTrue v.right → v.pool ≡ record { frames = replicate n no_frame; uses = 0 } → IsKept v at_rest blank
+pub new_stands : (v : Buffered) (n : ℕ) → v.log ≡ [] → IsTrue v.right → v.pool ≡ record { frames = replicate n no_frame; uses = 0; missed = None } → IsKept v at_rest blank
 new_stands v n log right pool = record {
   right = right;
   page = λ space number. subst (λ (l : List (List Record)). IsKeptPage l at_rest blank space number (frame_of v.pool.frames space number)) (sym log)

@@ -5,6 +5,7 @@ pub mod ShownLemmas
 pub mod PageLemmas
 pub mod FetchLemmas
 pub mod MoveLemmas
+pub mod AsideLemmas
 pub mod WriteLemmas
 pub mod WrittenLemmas
 pub mod AroundLemmas

@@ -1,6 +1,6 @@
 -- A mini-transaction that makes a space longer, and changes its new pages.
 use Rattle.std.proofs.Common.{◌≡◌, ◌≢◌, ◌<◌, ◌≤◌, ◌+◌, ◌==◌, ◌^◌, ◌⊎◌, inl, inr, ◌++◌, ℕ, Bool, true, false, List, [], ◌∷◌, length, refl, sym, ap, subst, ◌∙◌, arith, Option, Some, None, Result, option_map, IsSome, IsTrue, if◌then◌else◌}
-use Rattle.clone_buffer.proofs.Common.{cases_eq, cases_lt, false≢true, AllByRecursion, DiskImage, zero_page, Record, spelling, Image, replayed, IsSpelled, Standing, past_end, stands, redone, HasSpace, ends, touches, resets, passes, free_in, LogFull, Content, Unused, Fresh, PageName, frame_at, Frames, IsPool, Buffered, IsBuffer, Shown, Shows, Beside, IsKept, HasFrame, any_names, written, Writes}
+use Rattle.clone_buffer.proofs.Common.{cases_eq, cases_lt, false≢true, AllByRecursion, DiskImage, zero_page, Record, spelling, Image, replayed, IsSpelled, Standing, past_end, stands, redone, HasSpace, ends, touches, resets, passes, free_in, LogFull, Content, Unused, Fresh, Loading, PageName, frame_at, Frames, IsPool, Buffered, IsBuffer, Shown, Shows, Beside, IsKept, HasFrame, any_names, written, Writes}
 use Rattle.std.proofs.lemmas.Bool.{eq-eqb, lt-ltb, le-ltb}
 use Rattle.clone_mtr.specs.declared.record.Record.TheVariants.{Extend}
 use Rattle.clone_image.specs.Image.{page_of, page_count, with_pages, with_edit, extended}
@@ -15,7 +15,7 @@ use Rattle.clone_pool.specs.declared.frame.Content.TheVariants.{Held}
 use Rattle.clone_buffer.specs.Keeping.{Stands}
 use Rattle.clone_buffer.specs.Writing.{Lengthens}
 use Rattle.clone_buffer.proofs.MoveLemmas.{stands_by}
-use Rattle.clone_buffer.proofs.WriteLemmas.{Ready, of_named, passes_all, resets_none, shows_records, ready_there}
+use Rattle.clone_buffer.proofs.WriteLemmas.{Ready, of_named, passes_all, resets_none, there-after, shows_records, ready_there}
 use Rattle.clone_buffer.proofs.WrittenLemmas.{KeptAt, small, renewed, stands_result, IsBuffer-written}
 use Rattle.clone_buffer.proofs.ImageLemmas.{longer, New, new_or_not, past_count, below_count, longer_new, longer_same, standing_of_page}
 use Rattle.clone_buffer.proofs.AroundLemmas.{past, edits_sound, other_space, named_apart, named_behind, mid_frames, mid_image, shows_around, in_touches, frame_there, other_page, elsewhere}
@@ -47,11 +47,7 @@ module _ (v : Buffered) (records : List Record) (l : Lengthens v records) (p : I
 
   -- the records before leave the pages that are there
   mid_there : (s n : ℕ) → IsSome (page_of image s n) → IsSome (page_of mid s n)
-  mid_there s n on = by (page_of image s n) on (records_pages stop image l.front s n l.edits.0)
-    where
-      by : (o : Option (List ℕ)) → IsSome o → page_of mid s n ≡ option_map (λ _. undo.after stop l.front (image_is.all_pages image) s n) o → IsSome (page_of mid s n)
-      by None on is = absurd (false≢true on)
-      by (Some page) on is = subst IsSome (sym is) refl
+  mid_there s n on = there-after l.front image stop s n l.edits.0 on
 
   -- a page that isn't new, and that a record behind names, was there
   was_there : (s n : ℕ) → (IsNew s n → ⊥) → any_names (record { space = s; number = n }) l.rest ≡ true → IsSome (page_of image s n)
@@ -67,6 +63,13 @@ module _ (v : Buffered) (records : List Record) (l : Lengthens v records) (p : I
           let none : page_of mid name.space name.number ≡ None = ap (λ (s : ℕ). page_of mid s name.number) new.0 ∙ past_count mid l.space l.count l.pages mid_size name.number new.1 in
           absurd (false≢true (subst IsSome (sym shown ∙ none) refl))
       by (inr old) = longer_same mid l.space l.count l.pages mid_size name.space name.number old ∙ shown
+  ready (Loading name) bytes on = by (new_or_not l.space l.count l.pages name.space name.number)
+    where
+      by : IsNew name.space name.number ⊎ (IsNew name.space name.number → ⊥) → Ready (longer mid l.space l.pages) l.rest (Loading name) bytes
+      by (inl new) =
+          let none : page_of mid name.space name.number ≡ None = ap (λ (s : ℕ). page_of mid s name.number) new.0 ∙ past_count mid l.space l.count l.pages mid_size name.number new.1 in
+          absurd (false≢true (subst IsSome none on))
+      by (inr old) = subst IsSome (sym (longer_same mid l.space l.count l.pages mid_size name.space name.number old)) on
   ready (Fresh name) bytes shown = by (new_or_not l.space l.count l.pages name.space name.number)
     where
       unnamed : (t : Bool) → any_names name l.rest ≡ t → (IsNew name.space name.number → ⊥) → any_names name l.rest ≡ false

@@ -1,6 +1,6 @@
 -- A buffer stands, whatever is done to a frame that leaves its page as it is.
 use Rattle.std.proofs.Common.{◌≡◌, ◌<◌, ◌&&◌, ◌==◌, ◌-◌, ℕ, Bool, true, false, List, length, refl, sym, ap, subst, ◌∙◌, Option, Some, None, Ok, Err, Result, MatchOption, if◌then◌else◌}
-use Rattle.clone_buffer.proofs.Common.{DiskImage, Window, Frame, Unused, PageName, FetchRefusal, frame_at, is_fresh, holder, touched, freshened, next_use, Frames, IsPool, IsVictim, used, with_frame, Buffered, Beside, frame_of, IsKeptPage, IsKept}
+use Rattle.clone_buffer.proofs.Common.{DiskImage, Window, Frame, Unused, PageName, FetchRefusal, frame_at, is_fresh, holder, touched, freshened, next_use, Frames, IsPool, IsFrameFor, IsVictim, used, with_frame, Buffered, Beside, frame_of, IsKeptPage, IsKept}
 use Rattle.std.proofs.lemmas.List.{length-set}
 use Rattle.clone_pool.specs.Frames.{pinned, unpinned}
 use Rattle.clone_pool.specs.Pool.{Freshens, TakesFrame, with_fresh}
@@ -70,11 +70,11 @@ module _ (v : Buffered) (new : Frames) (beside : Beside) (target : PageName) (p 
   abbrev AllKept : DiskImage → Type 0
   AllKept m = (s n : ℕ) → IsKeptPage v.log beside m s n (frame_of new.frames s n)
 
-  taken : (at : ℕ) → IsVictim v.pool.frames at → new ≡ with_fresh target at v.pool → (m : DiskImage) → IsKept v beside m → AllKept m
-  taken at victim is m k s n =
+  taken : (at : ℕ) → IsFrameFor target v.pool.frames at → new ≡ with_fresh target at v.pool → (m : DiskImage) → IsKept v beside m → AllKept m
+  taken at for is m k s n =
       let f : Frame = freshened target (next_use v.pool.uses) (was at) in
-      let to = set_becomes v.pool.frames new.frames at f victim.within (ap (λ (w : Frames). w.frames) is) in
-      let gone = makes_way v beside m new target p q k at victim.free s n in
+      let to = set_becomes v.pool.frames new.frames at f for.within (ap (λ (w : Frames). w.frames) is) in
+      let gone = makes_way v beside m new target p q k at for.free s n in
       moved v.pool new at p q f to (IsKeptPage v.log beside m s n) (IsKeptPage v.log beside m s n) (record { space = s; number = n }) (λ _ _ had. gone had) (λ _ _ had. gone had) (λ _ _ had. had) (λ _ o had. had) (k.page s n)
 
   hit : (at : ℕ) → holder v.pool.frames target ≡ Some at → new ≡ used at (with_frame at pinned v.pool) → (m : DiskImage) → IsKept v beside m → AllKept m

@@ -1,6 +1,6 @@
 -- What a frame shows of the page that it has.
 use Rattle.std.proofs.Common.{◌≡◌, ◌<◌, ◌^◌, ℕ, Bool, true, false, List, slice_get, refl, sym, ap, subst, ◌∙◌, Option, Some, None, option_and_then, IsSome}
-use Rattle.clone_buffer.proofs.Common.{Frame, frame_at, holder, frame_in, frame_of, Shows, false≢true, true≢false, Record, Image, replayed, stands, redone, replayed_is_redone, ends, Content, Unused, Fresh, PageName, name_in, is_fresh, Shown}
+use Rattle.clone_buffer.proofs.Common.{Frame, frame_at, holder, frame_in, frame_of, Shows, false≢true, true≢false, Record, Image, replayed, stands, redone, replayed_is_redone, ends, Content, Unused, Fresh, Loading, PageName, name_in, is_fresh, Shown}
 use Rattle.std.specs.FinMap as finite
 use Rattle.clone_image.specs.Image.{page_of}
 use Rattle.clone_image.specs.Redone.{standing_at, standing_in, standing_of}
@@ -17,21 +17,17 @@ stands_there log space number page small is = sym (replayed_is_redone log space 
         let found : slice_get pages number ≡ Some page = sym (ap (λ (o : Option (List (List ℕ))). option_and_then (λ ps. slice_get ps number) o) some) ∙ is in
         ap (λ (o : Option (List (List ℕ))). standing_in o number) some ∙ ap standing_at found
 
--- a frame without a page shows none
-pub shown_unused : (image : Image) (content : Content) (bytes : List ℕ) → name_in content ≡ None → Shown image content bytes
-shown_unused image Unused bytes is = tt
-shown_unused image (Fresh name) bytes is = absurd (no_name name (sym is))
-shown_unused image (Held name) bytes is = absurd (no_name name (sym is))
-
 module _ (image : Image) (bytes : List ℕ) (page : PageName) where
   -- a frame that has a page which isn't new shows it exactly where it is the image's
   pub shown_held : (content : Content) → Shown image content bytes → name_in content ≡ Some page → is_fresh content ≡ false → page_of image page.space page.number ≡ Some bytes
   shown_held Unused shown is old = absurd (no_name page is)
   shown_held (Fresh name) shown is old = absurd (true≢false old)
+  shown_held (Loading name) shown is old = absurd (no_name page is)
   shown_held (Held name) shown is old = subst (λ (n : PageName). page_of image n.space n.number ≡ Some bytes) (some_name name page is) shown
 
   pub shown_named : (content : Content) → name_in content ≡ Some page → is_fresh content ≡ false → page_of image page.space page.number ≡ Some bytes → Shown image content bytes
   shown_named Unused is old shows = tt
+  shown_named (Loading name) is old shows = absurd (no_name page is)
   shown_named (Fresh name) is old shows = absurd (true≢false old)
   shown_named (Held name) is old shows = subst (λ (n : PageName). page_of image n.space n.number ≡ Some bytes) (sym (some_name name page is)) shows
 
@@ -42,6 +38,7 @@ module _ (image : Image) (bytes : List ℕ) (page : PageName) where
       let none : page_of image page.space page.number ≡ None = subst (λ (n : PageName). page_of image n.space n.number ≡ None) (some_name name page is) shown.0 in
       absurd (false≢true (subst IsSome none there))
   not_fresh (Held name) shown is there = refl
+  not_fresh (Loading name) shown is there = refl
 
   pub shown_there : (content : Content) → Shown image content bytes → name_in content ≡ Some page → IsSome (page_of image page.space page.number) → page_of image page.space page.number ≡ Some bytes
   shown_there content shown is there = shown_held content shown is (not_fresh content shown is there)

@@ -1,6 +1,6 @@
 -- A mini-transaction that makes a space which the disk has already, with pages of zero bytes.
 use Rattle.std.proofs.Common.{◌≡◌, ◌↔◌, ◌≢◌, ◌<◌, ◌≤◌, ◌+◌, ◌^◌, ◌&&◌, ◌==◌, ◌⊎◌, inl, inr, ◌++◌, ℕ, Bool, true, false, List, [], ◌∷◌, length, replicate, slice_get, nat_lt, refl, sym, ap, subst, ◌∙◌, arith, Option, Some, None, Result, Ok, Err, option_and_then, unwrap_or, IsSome, IsTrue, if◌then◌else◌}
-use Rattle.clone_buffer.proofs.Common.{page_of-made, Image, HasFrame, Shown, Shows, AllByRecursion, cases_eq, cases_lt, false≢true, get_or-replicate, length-replicate, DiskImage, ForTold, zero_page, Record, Standing, no_space, past_end, stands, redone, ends, Suits, PageEngine, Copy, rule_kept, Frame, Flush, frame_at, is_begun, holder, noted, Beside, frame_of, flight_of, disk_standing, is_open, has_space, engine_with, IsKeptPage, IsKept, Create, spelling, replayed, IsSpelled, replayed_is_redone, page_of-past, page_of-elsewhere, passes, touches, suits_unnamed, free_in, LogFull, Content, Unused, Fresh, IsPool, Buffered, IsBuffer, any_names, written, Writes, MakesSpace, Creates}
+use Rattle.clone_buffer.proofs.Common.{page_of-made, Image, HasFrame, Shown, Shows, AllByRecursion, cases_eq, cases_lt, false≢true, get_or-replicate, length-replicate, DiskImage, ForTold, zero_page, Record, Standing, no_space, past_end, stands, redone, ends, Suits, PageEngine, Copy, rule_kept, Frame, Flush, frame_at, is_begun, holder, noted, Beside, frame_of, flight_of, disk_standing, is_open, has_space, engine_with, IsKeptPage, IsKept, Create, spelling, replayed, IsSpelled, replayed_is_redone, page_of-past, page_of-elsewhere, passes, touches, suits_unnamed, free_in, LogFull, Content, Unused, Fresh, Loading, IsPool, Buffered, IsBuffer, any_names, written, Writes, MakesSpace, Creates}
 use Rattle.std.proofs.lemmas.Bool.{lt-ltb, ltb-true, ltb-false, eq-eqb}
 use Rattle.std.proofs.lemmas.Option.{slice_get-get_or, slice_get_past}
 use Rattle.std.specs.FinMap as finite
@@ -96,6 +96,13 @@ ready_made : (v : Buffered) (space pages : ℕ) (rest : List Record) (at : ℕ) 
     → Ready (finite.insert (replayed v.log) space (replicate pages zero_page)) rest content bytes
 ready_made v space pages rest at Unused bytes makes right is shown = tt
 ready_made v space pages rest at (Held name) bytes makes right is shown = page_of-elsewhere (replayed v.log) space pages name.space name.number (makes.unheld at name is) ∙ shown
+ready_made v space pages rest at (Loading name) bytes makes right is on = by (cases_eq name.space space)
+  where
+    by : (name.space ≡ space) ⊎ (name.space ≢ space) → Ready (finite.insert (replayed v.log) space (replicate pages zero_page)) rest (Loading name) bytes
+    by (inl same) =
+        let none = ap (λ (s : ℕ). image_page (replayed v.log) s name.number) same ∙ ap (λ (o : Option (List (List ℕ))). option_and_then (λ ps. slice_get ps name.number) o) (makes.absent right) in
+        absurd (false≢true (subst IsSome none on))
+    by (inr other) = subst IsSome (sym (page_of-elsewhere (replayed v.log) space pages name.space name.number other)) on
 ready_made v space pages rest at (Fresh name) bytes makes right is shown = by (cases_eq name.space space) (cases_lt name.number pages)
   where
     made : Image

@@ -1,6 +1,6 @@
 -- What the records of a mini-transaction do to the frames, and to the pages that they show.
 use Rattle.std.proofs.Common.{◌≡◌, ◌<◌, ◌≤◌, ◌⊎◌, inl, inr, ◌&&◌, ◌==◌, ℕ, Bool, true, false, List, [], ◌∷◌, length, set, map, refl, sym, ap, subst, ◌∙◌, Option, Some, None, option_map, option_and_then, unwrap_or, IsSome, IfSome, if◌then◌else◌, get_or}
-use Rattle.clone_buffer.proofs.Common.{Standing, cases_lt, false≢true, true≢false, and_parts, eqb-true, get_or-set_same, get_or-set_other, AllByRecursion, effect, Record, Image, EditsPages, zero_page, page_of-edited_same, touches, names, resets, passes_by, edits, passes, Frame, Content, Unused, Fresh, Flush, PageName, is_name_of, no_frame, frame_at, name_in, name_of, is_fresh, holder, noted, Frames, named, is_own_name, Shown, Shows, after_records, IsOnPage, any_names}
+use Rattle.clone_buffer.proofs.Common.{Standing, cases_lt, false≢true, true≢false, and_parts, eqb-true, get_or-set_same, get_or-set_other, AllByRecursion, effect, Record, Image, EditsPages, zero_page, page_of-edited_same, touches, names, resets, passes_by, edits, passes, Frame, Content, Unused, Fresh, Loading, Flush, PageName, is_name_of, no_frame, frame_at, name_in, name_of, is_fresh, holder, noted, Frames, named, is_own_name, Shown, Shows, after_records, IsOnPage, any_names}
 use Rattle.std.proofs.lemmas.List.{map-set, set_past, set-get_or}
 use Rattle.std.proofs.Math.ListN.{get_or-map}
 use Rattle.clone_mtr.specs.declared.record.Record.TheVariants as record_is
@@ -16,8 +16,8 @@ use Rattle.clone_pool.specs.declared.frame.Flush.TheVariants as flush
 use Rattle.clone_pool.specs.Index.{frame_number_of}
 use Rattle.clone_pool.specs.Frames.{page_changed, changed, made}
 use Rattle.clone_buffer.specs.Writing.{named_frame, changed_at}
-use Rattle.clone_buffer.proofs.FrameLemmas.{holder_name, some_name}
-use Rattle.clone_buffer.proofs.ShownLemmas.{shown_unused, shown_named}
+use Rattle.clone_buffer.proofs.FrameLemmas.{holder_name, no_name, some_name}
+use Rattle.clone_buffer.proofs.ShownLemmas.{shown_named}
 
 -- no page has two frames
 abbrev pub Once : List Frame → Type 0
@@ -31,6 +31,7 @@ name_in-made : (content : Content) → name_in (made content) ≡ name_in conten
 name_in-made Unused = refl
 name_in-made (Fresh name) = refl
 name_in-made (Held name) = refl
+name_in-made (Loading name) = refl
 
 -- the names stay
 names_at : (o : Option ℕ) (r : Record) (start end : ℕ) (v : Frames) → map name_of (changed_at o r start end v).frames ≡ map name_of v.frames
@@ -97,6 +98,24 @@ pub frame-after : (rs : List Record) (start end : ℕ) (v : Frames) (page : Page
 frame-after [] start end v page b held = refl
 frame-after (r ∷ rs) start end v page b held = frame-after rs start end (step r start end v) page b (holder-step r start end v page ∙ held) ∙ ap (changed_by page rs start end) (frame-step r start end v page b held)
 
+-- a frame without a page stays
+bare-step : (r : Record) (start end : ℕ) (v : Frames) (b : ℕ) → name_of (frame_at v.frames b) ≡ None → frame_at (step r start end v).frames b ≡ frame_at v.frames b
+bare-step r start end v b none = by (page_changed r)
+  where
+    at : (name : PageName) (o : Option ℕ) → holder v.frames name ≡ o → frame_at (changed_at o r start end v).frames b ≡ frame_at v.frames b
+    at name None is = refl
+    at name (Some a) is =
+        let other : b ≡ a → ⊥ = λ same. no_name name (sym none ∙ ap (λ (k : ℕ). name_of (frame_at v.frames k)) same ∙ (holder_name v.frames name a is).1) in
+        get_or-set_other v.frames a b (changed r start end (frame_at v.frames a)) no_frame other
+
+    by : (o : Option PageName) → frame_at (changed_at (option_and_then (λ p. holder v.frames p) o) r start end v).frames b ≡ frame_at v.frames b
+    by None = refl
+    by (Some name) = at name (holder v.frames name) refl
+
+bare-after : (rs : List Record) (start end : ℕ) (v : Frames) (b : ℕ) → name_of (frame_at v.frames b) ≡ None → frame_at (after_records rs start end v).frames b ≡ frame_at v.frames b
+bare-after [] start end v b none = refl
+bare-after (r ∷ rs) start end v b none = let same = bare-step r start end v b none in bare-after rs start end (step r start end v) b (ap name_of same ∙ none) ∙ same
+
 -- a frame that a mini-transaction has changed, which begins there, and what its page is then
 abbrev pub dirtied : ℕ → List ℕ → Frame → Frame
 dirtied start bytes f = record f { content = made f.content; page = bytes; oldest = Some (unwrap_or f.oldest start); flush = noted start f.flush }
@@ -105,6 +124,7 @@ made_twice : (content : Content) → made (made content) ≡ made content
 made_twice Unused = refl
 made_twice (Fresh name) = refl
 made_twice (Held name) = refl
+made_twice (Loading name) = refl
 
 noted_twice : (start : ℕ) (f : Flush) → noted start (noted start f) ≡ noted start f
 noted_twice start flush.Idle = refl
@@ -118,6 +138,7 @@ made_held : (content : Content) → is_fresh (made content) ≡ false
 made_held Unused = refl
 made_held (Fresh name) = refl
 made_held (Held name) = refl
+made_held (Loading name) = refl
 
 -- a frame stays that no record names, and one that a record names is dirty since the mini-transaction, if it wasn't before
 pub changed_is : (page : PageName) (rs : List Record) (start end : ℕ) (f : Frame)
@@ -199,10 +220,19 @@ abbrev pub Ready : Image → List Record → Content → List ℕ → Type 0
 Ready image rs Unused bytes = Unit {0}
 Ready image rs (Fresh name) bytes = ((page_of image name.space name.number ≡ Some bytes) × (any_names name rs ≡ true)) ⊎ ((page_of image name.space name.number ≡ None) × ((any_names name rs ≡ false) × (bytes ≡ zero_page)))
 Ready image rs (Held name) bytes = page_of image name.space name.number ≡ Some bytes
+Ready image rs (Loading name) bytes = IsSome (page_of image name.space name.number)
 
 -- records that name a page that isn't there leave it so
 absent-after : (rs : List Record) (image : Image) (end : ℕ) (page : PageName) → AllByRecursion EditsPages rs → page_of image page.space page.number ≡ None → page_of (image_is.after_records end image rs) page.space page.number ≡ None
 absent-after rs image end page only none = records_pages end image rs page.space page.number only ∙ ap (option_map (λ _. undo.after end rs (image_is.all_pages image) page.space page.number)) none
+
+-- and a page that is there stays there
+pub there-after : (rs : List Record) (image : Image) (end space number : ℕ) → AllByRecursion EditsPages rs → IsSome (page_of image space number) → IsSome (page_of (image_is.after_records end image rs) space number)
+there-after rs image end space number only on = by (page_of image space number) on (records_pages end image rs space number only)
+  where
+    by : (o : Option (List ℕ)) → IsSome o → page_of (image_is.after_records end image rs) space number ≡ option_map (λ _. undo.after end rs (image_is.all_pages image) space number) o → IsSome (page_of (image_is.after_records end image rs) space number)
+    by None on is = absurd (false≢true on)
+    by (Some page) on is = subst IsSome (sym is) refl
 
 module _ (rs : List Record) (image : Image) (v : Frames) (start end : ℕ) (only : AllByRecursion EditsPages rs) (once : Once v.frames) where
   abbrev last : Image
@@ -211,12 +241,13 @@ module _ (rs : List Record) (image : Image) (v : Frames) (start end : ℕ) (only
   abbrev frame_then : ℕ → Frame
   frame_then b = frame_at (after_records rs start end v).frames b
 
-  name-then : (b : ℕ) → name_of (frame_then b) ≡ name_of (frame_at v.frames b)
-  name-then b = name_at-after rs start end v b
+  bare_then : (b : ℕ) (f : Frame) → frame_at v.frames b ≡ f → (content : Content) → f.content ≡ content → name_in content ≡ None → frame_then b ≡ f
+  bare_then b f is content holds none = bare-after rs start end v b (ap name_of is ∙ ap name_in holds ∙ none) ∙ is
 
   -- a frame with a page
   shown_then : (b : ℕ) (f : Frame) → frame_at v.frames b ≡ f → (content : Content) → f.content ≡ content → Ready image rs content f.page → Shown last (frame_then b).content (frame_then b).page
-  shown_then b f is Unused holds ready = shown_unused last (frame_then b).content (frame_then b).page (name-then b ∙ ap name_of is ∙ ap name_in holds)
+  shown_then b f is Unused holds ready = subst (λ (g : Frame). Shown last g.content g.page) (sym (bare_then b f is Unused holds refl)) (subst (λ (c : Content). Shown last c f.page) (sym holds) tt)
+  shown_then b f is (Loading name) holds ready = subst (λ (g : Frame). Shown last g.content g.page) (sym (bare_then b f is (Loading name) holds refl)) (subst (λ (c : Content). Shown last c f.page) (sym holds) (there-after rs image end name.space name.number only ready))
   shown_then b f is (Held name) holds ready =
       let named_so : name_of (frame_at v.frames b) ≡ Some name = ap name_of is ∙ ap name_in holds in
       let then_is : frame_then b ≡ changed_by name rs start end f = frame-after rs start end v name b (once name b named_so) ∙ ap (changed_by name rs start end) is in
@@ -250,6 +281,7 @@ of_named P page (r ∷ rs) hits each = by (page_changed r) (is_name_of page (pag
 pub ready_there : (image : Image) (rs : List Record) (content : Content) (bytes : List ℕ) → AllByRecursion (IsOnPage image) rs → Shown image content bytes → Ready image rs content bytes
 ready_there image rs Unused bytes on shown = tt
 ready_there image rs (Held name) bytes on shown = shown
+ready_there image rs (Loading name) bytes on shown = shown
 ready_there image rs (Fresh name) bytes on shown = inr (shown.0, (by (any_names name rs) refl, shown.1))
   where
     by : (t : Bool) → any_names name rs ≡ t → any_names name rs ≡ false

@@ -1,5 +1,5 @@
 -- What contracts see of a buffer: the redo log, and the frames that show what it makes.
-use Rattle.std.specs.Prelude.{ℕ, ◌≡◌, ◌<◌, ◌-◌, Bool, List, None, Some, drop, IsTrue}
+use Rattle.std.specs.Prelude.{ℕ, ◌≡◌, ◌<◌, ◌-◌, Bool, List, None, Some, drop, IsTrue, IsSome}
 use Rattle.std.specs.List.{AllByRecursion}
 use Rattle.clone_base.specs.declared.limits.TheConstants.{LSN_LIMIT}
 use Rattle.clone_page.specs.Header.{zero_page}
@@ -11,7 +11,7 @@ use Rattle.clone_law.specs.Since.{ends}
 use Rattle.clone_ring.specs.Window.{Window, end_of}
 use Rattle.clone_pool.specs.declared.frame.Frame.{Frame}
 use Rattle.clone_pool.specs.declared.frame.Content.{Content}
-use Rattle.clone_pool.specs.declared.frame.Content.TheVariants.{Unused, Fresh, Held}
+use Rattle.clone_pool.specs.declared.frame.Content.TheVariants.{Unused, Fresh, Held, Loading}
 use Rattle.clone_pool.specs.Frames.{frame_at}
 use Rattle.clone_pool.specs.Pool.{Frames}
 
@@ -27,11 +27,13 @@ pub record Buffered : Type 0 where
 abbrev pub image_of : Buffered → Image
 image_of v = replayed v.log
 
--- A page that is held is the one of the image. A new one isn't there yet, and has zero bytes.
+-- A page that is held is the one of the image. A new one isn't there yet, and has zero bytes. One
+-- that is to be loaded is there.
 abbrev pub Shown : Image → Content → List ℕ → Type 0
 Shown image Unused bytes = Unit {0}
 Shown image (Fresh name) bytes = (page_of image name.space name.number ≡ None) × (bytes ≡ zero_page)
 Shown image (Held name) bytes = page_of image name.space name.number ≡ Some bytes
+Shown image (Loading name) bytes = IsSome (page_of image name.space name.number)
 
 -- each frame shows its page
 abbrev pub Shows : Image → List Frame → Type 0

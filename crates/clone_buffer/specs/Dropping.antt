@@ -9,7 +9,7 @@ use Rattle.clone_image.specs.Image.{page_count, EditsPages}
 use Rattle.clone_ring.specs.declared.log_full.LogFull.{LogFull}
 use Rattle.clone_pool.specs.declared.frame.Frame.{Frame}
 use Rattle.clone_pool.specs.declared.frame.PageName.{PageName}
-use Rattle.clone_pool.specs.Frames.{frame_at, name_of, discarded}
+use Rattle.clone_pool.specs.Frames.{frame_at, name_of, claim_of, discarded}
 use Rattle.clone_pool.specs.Pool.{Frames}
 use Rattle.clone_buffer.specs.Buffered.{Buffered, image_of}
 use Rattle.clone_buffer.specs.Writing.{HasFrame, IsOnPage, Writes}
@@ -19,9 +19,9 @@ abbrev pub is_page_below : ℕ → ℕ → Option PageName → Bool
 is_page_below space pages None = false
 is_page_below space pages (Some name) = (name.space == space) && nat_lt name.number pages
 
--- a frame that has such a page holds it no more
+-- a frame that claims such a page does so no more
 abbrev pub freed : ℕ → ℕ → Frame → Frame
-freed space pages f = if is_page_below space pages (name_of f) then discarded f else f
+freed space pages f = if is_page_below space pages (claim_of f) then discarded f else f
 
 -- so it is with each frame
 abbrev pub given_up : ℕ → ℕ → Frames → Frames

@@ -16,10 +16,10 @@ ghost use Rattle.clone_mtr.specs.Spelling.{spelling, Spells, longest, log_of};
 ghost use Rattle.clone_ring.specs.Window.{empty, end_of, free_in, raised};
 ghost use Rattle.clone_image.specs.Image.{page_of, EditsPages};
 ghost use Rattle.clone_image.specs.Replay.{Replays, IsSpelled};
-ghost use Rattle.clone_pool.specs.Frames.{no_frame, frame_at, holder, HoldsPage, IsInFlight, is_waiting, page_changed, pinned, unpinned, begun, landed, failed};
+ghost use Rattle.clone_pool.specs.Frames.{no_frame, frame_at, holder, loader, HoldsPage, IsInFlight, is_waiting, page_changed, aside_for, pinned, unpinned, begun, landed, failed};
 ghost use Rattle.clone_pool.specs.declared.frame.Content.TheVariants.{Held};
 ghost use Rattle.clone_pool.specs.declared.frame.PageName.{PageName};
-ghost use Rattle.clone_pool.specs.Pool.{IsPool, Fetches, Freshens, IsHolder, KeepsOthers, KeepsInUse, AreClean, IsOldest, HasPinRoom, with_frame, AreNotWaiting, AreOpenPages, IsNextToFlush};
+ghost use Rattle.clone_pool.specs.Pool.{IsPool, Fetches, Freshens, IsHolder, KeepsOthers, KeepsInUse, AreClean, IsOldest, HasPinRoom, HasRoom, IsVictim, with_frame, discarded_at, AreNotWaiting, AreOpenPages, IsNextToFlush};
 
 use crate::shadow::{Note, Shadow};
 use clone_base::PAGE_SIZE;
@@ -81,7 +81,11 @@ impl Buffer {
         ensures right { IfOk result (λ b. IsTrue b.right) }
         ensures ring { IfOk result (λ b. b.ring ≡ empty ring) }
         ensures pool { IfOk result
-            (λ b. b.pool ≡ record { frames = replicate frames no_frame; uses = 0 }) }
+            (λ b. b.pool ≡ record {
+              frames = replicate frames no_frame;
+              uses = 0;
+              missed = None;
+            }) }
         ensures stands { IfOk result (λ b. Stands b at_rest (Some blank)) }
     {
         Ok(Buffer {
@@ -93,9 +97,9 @@ impl Buffer {
 
     /// Brings a page into a frame, and answers the frame's number. It counts as a use of the frame.
     ///
-    /// The error is `PoolFull` exactly where the page has no frame and each frame is pinned or
-    /// dirty, and nothing has changed then; or `DiskFault`, and the frame that was to make way
-    /// has no page then.
+    /// The error is `PoolFull` exactly where the page has no frame, none is set aside for it, and
+    /// each frame is pinned, dirty or set aside, and nothing has changed then; or `DiskFault`, and
+    /// the frame into which the page was to be read has no page then.
     pub fn fetch<D: PageDisk>(
         &mut self,
         disk: &mut D,
@@ -136,9 +140,9 @@ impl Buffer {
     /// number. The page is pinned, and it counts as a use of the frame. A new page that has a frame
     /// is pinned there once more.
     ///
-    /// The error is `PoolFull` exactly where the page has no frame and each frame is pinned or
-    /// dirty, and nothing has changed then. Until a mini-transaction makes the page, it goes with
-    /// its last pin.
+    /// The error is `PoolFull` exactly where the page has no frame, none is set aside for it, and
+    /// each frame is pinned, dirty or set aside, and nothing has changed then. Until a
+    /// mini-transaction makes the page, it goes with its last pin.
     pub fn fresh(&mut self, space: u32, number: u32) -> Result<u32, FetchRefusal>
         requires room { ForSome
             (holder self.old.pool.frames (record { space = space; number = number }))
@@ -156,6 +160,60 @@ impl Buffer {
         let taken = self.pool.fresh(space, number);
         self.pool.laws();
         taken
+    }
+
+    /// The page that was asked of the disk when a fetch last ended with `DiskFault`, if one did.
+    pub fn missed(&self) -> Option<PageName>
+        ensures { result ≡ self.now.pool.missed }
+    {
+        self.pool.missed()
+    }
+
+    /// Sets a frame aside for a page that is to be loaded, and answers the frame's number. It is
+    /// the one that makes way, and has no page until the page is fetched. Meanwhile it doesn't make
+    /// way.
+    pub fn set_aside(&mut self, space: u32, number: u32) -> u32
+        requires there { IsTrue self.old.right → IsSome (page_of (image_of self.old) space number) }
+        requires room { HasRoom self.old.pool.frames }
+        requires absent { holder self.old.pool.frames (record { space = space; number = number })
+            ≡ None }
+        requires unloaded { loader self.old.pool.frames (record { space = space; number = number })
+            ≡ None }
+        ensures victim { IsVictim self.old.pool.frames result }
+        ensures aside { self.new ≡ record self.old {
+          pool = with_frame result (aside_for (record { space = space; number = number }))
+              self.old.pool;
+        } }
+        ensures stands { (beside : Beside) (told : Option DiskImage)
+            → Stands self.old beside told → Stands self.new beside told }
+    {
+        self.pool.laws();
+        let at = self.pool.set_aside(PageName { space, number });
+        self.pool.laws();
+        at
+    }
+
+    /// The frame that is set aside for a page, if there is one, is so no more.
+    pub fn give_up_loading(&mut self, space: u32, number: u32)
+        ensures given_up { self.new ≡ record self.old {
+          pool = discarded_at
+              (loader self.old.pool.frames (record { space = space; number = number }))
+              self.old.pool;
+        } }
+        ensures stands { (beside : Beside) (told : Option DiskImage)
+            → Stands self.old beside told → Stands self.new beside told }
+    {
+        self.pool.laws();
+        self.pool.give_up_loading(PageName { space, number });
+        self.pool.laws();
+    }
+
+    /// The number of the frame that is set aside for a page, if one is.
+    pub fn loader(&self, space: u32, number: u32) -> Option<u32>
+        ensures { result ≡ loader self.now.pool.frames
+            (record { space = space; number = number }) }
+    {
+        self.pool.loader(PageName { space, number })
     }
 
     /// The number of the frame that holds a page, if one does.
@@ -531,7 +589,7 @@ fn give_up(pool: &mut Pool, space: u32, pages: u32)
 {
     for number in 0..pages {
         pool.laws();
-        if let Some(at) = pool.find(PageName { space, number }) {
+        if let Some(at) = pool.claimant(PageName { space, number }) {
             pool.discard(at);
         }
     }

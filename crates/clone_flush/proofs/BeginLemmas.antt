@@ -22,7 +22,7 @@ use Rattle.clone_buffer.specs.OnePage.{Copies, disk_standing, engine_of}
 use Rattle.clone_buffer.proofs.LawLemmas.{copy_kept, copy_keeps}
 use Rattle.clone_buffer.proofs.LengthenLemmas.{fault_keeps, lengthen_keeps, longer_page, IsNew}
 use Rattle.clone_flush.specs.Flights.{Flights, HasFiles, IsFlown, IsOnDisk, StandsFlown, beside_of, is_short, write_of}
-use Rattle.clone_flush.specs.Calls.{Lengthens, Waits, ends_short, has_begun, lengthened, new_write, reaching, with_file, with_write, without_write}
+use Rattle.clone_flush.specs.Calls.{Lengthens, Waits, ends_short, has_begun, lengthened, new_write, reaching, with_write, without_write}
 use Rattle.clone_flush.specs.declared.flusher.PageWrite.{PageWrite}
 use Rattle.clone_flush.specs.declared.refusal.FlushRefusal.{FlushRefusal}
 use Rattle.clone_flush.specs.declared.refusal.FlushRefusal.TheVariants.{NotDirty, InFlight, NoFlush, DiskFault, NoMemory}
@@ -108,21 +108,19 @@ module _ (b : Buffered) (f : Flights) (copies : Copies) (m : DiskImage) (k : IsF
 
 -- A FLUSH BEGINS, with its file long enough.
 module _ (b : Buffered) (f : Flights) (copies : Copies) (page : PageName) (at : ℕ) (c : Changes b page at begun) (waits : is_waiting (frame_at b.pool.frames at) ≡ true) (known : IsSome (finite.get f.files page.space)) (low : page.number < MOST_PAGES) where
-  abbrev Begun : Bool → DiskImage → Type 0
-  Begun short m = IsFlown (with_change at begun b) (with_write page (new_write at b) (lengthened short page f)) (with_noted page copies) m
+  abbrev Begun : DiskImage → Type 0
+  Begun m = IsFlown (with_change at begun b) (with_write page (new_write at b) f) (with_noted page copies) m
 
   abbrev Had : DiskImage → Type 0
   Had m = IsFlown b f copies m × HasFiles f.files m
 
-  begun_long : is_short f.files page.space page.number ≡ false → (m : DiskImage) → Had m → Begun false m
+  begun_long : is_short f.files page.space page.number ≡ false → (m : DiskImage) → Had m → Begun m
   begun_long long m had = flown_begun b f copies m page at had.0 c waits (long_enough f.files m had.1 page.space page.number known long)
 
-  begun_short : (m : DiskImage) → Had m → Begun true (reaching page m)
+  begun_short : (m : DiskImage) → Had m → Begun (reaching page m)
   begun_short m had =
-      let g : Flights = with_file page.space (page.number + 1) f in
       let k : IsFlown b f copies (reaching page m) = flown_longer b f copies m had.0 page.space (page.number + 1) in
-      let k' : IsFlown b g copies (reaching page m) = record { kept = k.kept; there = k.there; floor = k.floor } in
-      flown_begun b g copies (reaching page m) page at k' c waits (there (finite.get f.files page.space) refl known)
+      flown_begun b f copies (reaching page m) page at k c waits (there (finite.get f.files page.space) refl known)
     where
       there : (o : Option ℕ) → finite.get f.files page.space ≡ o → IsSome o → IsSome (disk.page_of (reaching page m) page.space page.number)
       there None none some = absurd (cc)
@@ -135,16 +133,16 @@ module _ (b : Buffered) (f : Flights) (copies : Copies) (page : PageName) (at : 
   both None st files = tt
   both (Some m) k files = (k, files)
 
-  pub stands_begun : (before after : Option DiskImage) → Lengthens (ends_short page f) page before after → StandsFlown b f copies before → ForTold before (HasFiles f.files) → ForTold after (Begun (ends_short page f))
+  pub stands_begun : (before after : Option DiskImage) → Lengthens (ends_short page f) page before after → StandsFlown b f copies before → ForTold before (HasFiles f.files) → ForTold after Begun
   stands_begun before after lengthens st files = by (ends_short page f) refl lengthens
     where
-      by : (t : Bool) → ends_short page f ≡ t → Lengthens t page before after → ForTold after (Begun t)
-      by false e same = subst (λ (t : Option DiskImage). ForTold t (Begun false)) (sym same) (stays before (both before st files))
+      by : (t : Bool) → ends_short page f ≡ t → Lengthens t page before after → ForTold after Begun
+      by false e same = subst (λ (t : Option DiskImage). ForTold t Begun) (sym same) (stays before (both before st files))
         where
-          stays : (t : Option DiskImage) → ForTold t Had → ForTold t (Begun false)
+          stays : (t : Option DiskImage) → ForTold t Had → ForTold t Begun
           stays None had = tt
           stays (Some m) had = begun_long (long_is page f low e) m had
-      by true e step = told_stepped Had (Begun true) before after (reaching page) step begun_short (both before st files)
+      by true e step = told_stepped Had Begun before after (reaching page) step begun_short (both before st files)
 
 -- A FLUSH FAILS to lengthen its file.
 module _ (b : Buffered) (f : Flights) (copies : Copies) (page : PageName) (at : ℕ) (c : Changes b page at begun) (d : Changes (with_change at begun b) page at failed) (waits : is_waiting (frame_at b.pool.frames at) ≡ true) where
@@ -171,3 +169,19 @@ files_failed f page before after (inr step) h = told_stepped (HasFiles f.files) 
         let long = h s pages is in
         let now = extended_count m page.space (page.number + 1) s long.0 long.1 in
         (now.now, now.is, omega (arith, now.more, long.2))
+
+-- the files of a disk on which one may have got longer
+pub files_kept : (f : Flights) (page : PageName) (short : Bool) (before after : Option DiskImage) → Lengthens short page before after → ForTold before (HasFiles f.files) → ForTold after (HasFiles f.files)
+files_kept f page false before after same h = files_failed f page before after (inl same) h
+files_kept f page true before after step h = files_failed f page before after (inr step) h
+
+-- A FILE IS KNOWN TO BE LONGER, which changes nothing of how the writes stand.
+pub stands_reached : (short : Bool) (page : PageName) (f : Flights) (b : Buffered) (copies : Copies) (told : Option DiskImage) → StandsFlown b f copies told → StandsFlown b (lengthened short page f) copies told
+stands_reached false page f b copies told st = st
+stands_reached true page f b copies None st = tt
+stands_reached true page f b copies (Some m) k = record { kept = k.kept; there = k.there; floor = k.floor }
+
+-- a write that began, with its file known to be long enough
+pub reached_write : (short : Bool) (page : PageName) (w : PageWrite) (f : Flights) → lengthened short page (with_write page w f) ≡ with_write page w (lengthened short page f)
+reached_write false page w f = refl
+reached_write true page w f = refl

@@ -1,7 +1,8 @@
 -- The files: a file that gets longer on the disk, and how long each is then.
 use Rattle.std.proofs.Common.{◌≡◌, ◌≢◌, ◌+◌, ◌-◌, ◌<◌, ◌≤◌, ◌&&◌, ◌⊎◌, inl, inr, ℕ, Bool, true, false, List, length, replicate, slice_get, nat_le, refl, sym, ap, subst, ◌∙◌, arith, Option, Some, None, IsSome, option_map, option_and_then}
 use Rattle.std.specs.FinMap as finite
-use Rattle.std.proofs.lemmas.Bool.{cases_eq, and_parts, lt-ltb, leb-true, true≢false}
+use Rattle.std.proofs.lemmas.Option.{slice_get_past}
+use Rattle.std.proofs.lemmas.Bool.{cases_eq, cases_lt, and_parts, lt-ltb, leb-true, true≢false}
 use Rattle.std.proofs.lemmas.List.{length-append, length-replicate}
 use Rattle.clone_base.proofs.Lists.{slice_get-some}
 use Rattle.clone_image.proofs.Images.{get-put_same, get-put_other}
@@ -89,6 +90,26 @@ module _ (files : Files) (m : DiskImage) (h : HasFiles files m) (space : ℕ) wh
         where
           below : nat_le pages number ≡ false → number < pages
           below e = grind (arith)
+
+  -- a file that has a page is as long as that
+  pub files_reached : (number : ℕ) → IsSome (page_of m space number) → HasFiles (finite.insert files space (number + 1)) m
+  files_reached number there s count is = by (cases_eq s space)
+    where
+      long : (o : Option (List Held)) → finite.get m.spaces space ≡ o → IsSome (option_and_then (λ ps. slice_get ps number) o) → (now : ℕ) × (page_count m space ≡ Some now) × (number + 1 ≤ now)
+      long None none there = absurd (cc)
+      long (Some ps) some there = at (cases_lt number (length ps))
+        where
+          at : (number < length ps) ⊎ (length ps ≤ number) → (now : ℕ) × (page_count m space ≡ Some now) × (number + 1 ≤ now)
+          at (inl low) = (length ps, ap (option_map length) some, omega (arith, low))
+          at (inr past) = absurd (let none = slice_get_past ps number past in cc)
+
+      by : (s ≡ space) ⊎ (s ≢ space) → (now : ℕ) × (page_count m s ≡ Some now) × (count ≤ now)
+      by (inl same) =
+          let now = long (finite.get m.spaces space) refl there in
+          let value : Some (number + 1) ≡ Some count = sym (get-put_same files space (number + 1)) ∙ ap (finite.get (finite.insert files space (number + 1))) (sym same) ∙ is in
+          let count_is : number + 1 ≡ count = cc in
+          (now.0, ap (page_count m) same ∙ now.1, omega (arith, count_is, now.2))
+      by (inr other) = h s count (sym (get-put_other files space s (number + 1) other) ∙ is)
 
 -- a file is known that is too short for a page
 pub short_known : (files : Files) (space number : ℕ) → is_short files space number ≡ true → (pages : ℕ) × (finite.get files space ≡ Some pages) × (pages ≤ number)

@@ -107,6 +107,18 @@ Begins page old new before after (Ok _) =
     × Lengthens (ends_short page old.flights) page before after
 Begins page old new before after (Err refusal) = RefusesBegin refusal page old new before after
 
+-- It STARTS, where the file isn't known to be longer yet.
+abbrev pub Starts : {X : Type 0} → PageName → State → State → Option DiskImage → Option DiskImage
+    → Result X FlushRefusal → Type 0
+Starts page old new before after (Ok _) =
+    (at : ℕ) × Waits page old.buffer at
+    × (new ≡ record {
+      buffer = with_change at begun old.buffer;
+      flights = with_write page (new_write at old.buffer) old.flights;
+    })
+    × Lengthens (ends_short page old.flights) page before after
+Starts page old new before after (Err refusal) = RefusesBegin refusal page old new before after
+
 -- the flush of a page began, also where it failed at once
 abbrev pub has_begun : {X : Type 0} → Result X FlushRefusal → Bool
 has_begun (Ok _) = true

@@ -17,9 +17,10 @@ ghost use Rattle.clone_pool.specs.Frames.{frame_at, name_of, IsInFlight};
 ghost use Rattle.clone_pool.specs.Pool.{AreNotWaiting, IsHolder, IsNextToFlush};
 ghost use Rattle.clone_pool.specs.declared.frame.PageName.{PageName};
 ghost use Rattle.clone_ring.specs.Window.{end_of};
+ghost use Rattle.clone_buffer.specs.Buffered.{Buffered};
 ghost use Rattle.clone_buffer.specs.OnePage.{Copies};
 ghost use Rattle.clone_buffer.specs.Flushing.{IsReached};
-ghost use Rattle.clone_flush.specs.Calls.{Begins, RefusesBegin, Waits, Halves, Lands, Lengthens, IsUnderWay, after_begin, after_failure, checked, ends_short, floored, has_begun, lengthened, settled, needed_from, nearest_in, reaching, with_file, with_write, without_file, without_write};
+ghost use Rattle.clone_flush.specs.Calls.{Begins, Starts, RefusesBegin, Waits, Halves, Lands, Lengthens, IsUnderWay, after_begin, after_failure, checked, ends_short, floored, has_begun, lengthened, settled, needed_from, nearest_in, reaching, with_file, with_write, without_file, without_write};
 ghost use Rattle.clone_flush.specs.Flights.{Flights, HasFiles, HasWriteOf, StandsFlown, write_of, writes_of};
 ghost use Rattle.clone_model.specs.declared.line.TheConstants.{MOST_PAGES};
 ghost use Rattle.clone_flush.specs.declared.flusher.PageWrite.{PageWrite};
@@ -166,6 +167,41 @@ impl Flusher {
             → StandsFlown buffer.old self.old copies (D.state disk.old).told
             → StandsFlown buffer.new self.new copies (D.state disk.new).told }
     {
+        self.start(buffer, space, number, disk)?;
+        self.reach(space, number);
+        Ok(())
+    }
+
+    /// The flush of a page begins as in `begin`, but that its file is known to be no longer than
+    /// before: `reach` makes it so.
+    pub fn start<D: PageDisk>(
+        &mut self,
+        buffer: &mut Buffer,
+        space: u32,
+        number: u32,
+        disk: &mut D,
+    ) -> Result<(), FlushRefusal>
+        ensures starts { Starts (record { space = space; number = number })
+            (record { buffer = buffer.old; flights = self.old })
+            (record { buffer = buffer.new; flights = self.new })
+            (D.state disk.old).told (D.state disk.new).told result }
+        ensures counts { calls.Counts (IsErrOf result FlushRefusal.DiskFault)
+            (D.state disk.old) (D.state disk.new) }
+        ensures stops { Notes (D.state disk.old).stops (D.state disk.new).stops
+            (change.Extend space (number + 1)) }
+        ensures files { ForTold (D.state disk.old).told (HasFiles self.old.files)
+            → ForTold (D.state disk.new).told (HasFiles self.new.files) }
+        ensures stands { (copies : Copies)
+            → StandsFlown buffer.old self.old copies (D.state disk.old).told
+            → ForTold (D.state disk.old).told (HasFiles self.old.files)
+            → IsSome (finite.get self.old.files space) → number < MOST_PAGES
+            → StandsFlown buffer.new self.new (after_begin
+            (record { space = space; number = number }) (has_begun result) copies)
+            (D.state disk.new).told }
+        ensures unwritten { result ≡ Err FlushRefusal.DiskFault → (copies : Copies)
+            → StandsFlown buffer.old self.old copies (D.state disk.old).told
+            → StandsFlown buffer.new self.new copies (D.state disk.new).told }
+    {
         let at = waiting(buffer, space, number)?;
         buffer.laws();
         match self.prepare(space, number, buffer.frame(at), disk) {
@@ -185,6 +221,21 @@ impl Flusher {
         }
     }
 
+    /// The file of a page is known to be long enough for it.
+    pub fn reach(&mut self, space: u32, number: u32)
+        ensures reached { self.new ≡ lengthened
+            (ends_short (record { space = space; number = number }) self.old)
+            (record { space = space; number = number }) self.old }
+        ensures files { (m : DiskImage) → HasFiles self.old.files m
+            → IsSome (page_of m space number) → HasFiles self.new.files m }
+        ensures stands { (buffer : Buffered) (copies : Copies) (told : Option DiskImage)
+            → StandsFlown buffer self.old copies told → StandsFlown buffer self.new copies told }
+    {
+        if self.ends_short(space, number) {
+            self.files.raise(space, number + 1);
+        }
+    }
+
     // The write of a page as it is in its frame is under way, and its file is long enough for it.
     // After a refusal both are as before.
     fn prepare<D: PageDisk>(
@@ -196,9 +247,7 @@ impl Flusher {
     ) -> Result<(), Refusal>
         ensures ok { OnOk result (self.new
             ≡ with_write (record { space = space; number = number })
-            (record { image = frame.now; halved = false })
-            (lengthened (ends_short (record { space = space; number = number }) self.old)
-            (record { space = space; number = number }) self.old)) }
+            (record { image = frame.now; halved = false }) self.old) }
         ensures disk { OnOk result (Lengthens
             (ends_short (record { space = space; number = number }) self.old)
             (record { space = space; number = number })
@@ -217,7 +266,7 @@ impl Flusher {
             (change.Extend space (number + 1)) }
     {
         let before = self.keep(space, number, frame)?;
-        match self.reach(space, number, disk) {
+        match self.lengthen(space, number, disk) {
             Ok(()) => Ok(()),
             Err(refusal) => {
                 self.put_back(space, number, before);
@@ -271,18 +320,14 @@ impl Flusher {
         }
     }
 
-    // The file of a page that ends before it gets as long as that.
-    fn reach<D: PageDisk>(&mut self, space: u32, number: u32, disk: &mut D) -> Result<(), Refusal>
-        ensures ok { OnOk result (self.new
-            ≡ lengthened (ends_short (record { space = space; number = number }) self.old)
-            (record { space = space; number = number }) self.old) }
+    // The file of a page that ends before it gets as long as that on the disk.
+    fn lengthen<D: PageDisk>(&self, space: u32, number: u32, disk: &mut D) -> Result<(), Refusal>
         ensures disk { OnOk result (Lengthens
-            (ends_short (record { space = space; number = number }) self.old)
+            (ends_short (record { space = space; number = number }) self.now)
             (record { space = space; number = number })
             (D.state disk.old).told (D.state disk.new).told) }
-        ensures err { OnErr result (self.new ≡ self.old) }
         ensures short { OnErr result
-            (ends_short (record { space = space; number = number }) self.old ≡ true) }
+            (ends_short (record { space = space; number = number }) self.now ≡ true) }
         ensures fault { IsErrOf result Refusal.Fault
             → IsBeforeOrAfter (D.state disk.old).told (D.state disk.new).told
             (reaching (record { space = space; number = number })) }
@@ -297,7 +342,6 @@ impl Flusher {
             return Ok(());
         }
         disk.extend(space, number + 1)?;
-        self.files.raise(space, number + 1);
         Ok(())
     }
 

@@ -3,14 +3,15 @@ use Rattle.std.proofs.Common.{◌≡◌, ◌<◌, ◌≤◌, ◌-◌, ◌⊎◌,
 use Rattle.std.proofs.lemmas.Bool.{false≢true, and_parts, and_from, and_cases, eqb-false, eq-eqb, not_from_false, cond_both}
 use Rattle.clone_pool.specs.declared.frame.Frame.{Frame}
 use Rattle.clone_pool.specs.declared.frame.Content.{Content}
-use Rattle.clone_pool.specs.declared.frame.Content.TheVariants.{Unused, Fresh, Held}
+use Rattle.clone_pool.specs.declared.frame.Content.TheVariants.{Unused, Fresh, Held, Loading}
 use Rattle.clone_pool.specs.declared.frame.Flush.{Flush}
 use Rattle.clone_pool.specs.declared.frame.Flush.TheVariants.{Idle, Begun, Failed}
 use Rattle.clone_pool.specs.declared.frame.PageName.{PageName}
 use Rattle.clone_pool.specs.declared.tournament.TheConstants.{NO_NUMBER}
 use Rattle.clone_mtr.specs.declared.record.Record.{Record}
-use Rattle.clone_pool.specs.Frames.{no_frame, name_of, name_in, HoldsPage, is_dirty, may_go, is_begun, is_waiting, IsInFlight, is_fresh, made, noted, later_in, touched, emptied, filled, freshened, pinned, unpinned, changed, begun, landed, failed, discarded}
+use Rattle.clone_pool.specs.Frames.{no_frame, name_of, name_in, claim_of, claim_in, HoldsPage, is_dirty, is_free, is_loading, left_in, may_go, aside_for, is_begun, is_waiting, IsInFlight, is_fresh, made, noted, later_in, touched, emptied, filled, freshened, pinned, unpinned, changed, begun, landed, failed, discarded}
 use Rattle.clone_pool.specs.Pool.{IsFrame}
+use Rattle.clone_pool.proofs.ClaimLemmas.{left_holds_none}
 
 no_page : (f : Frame) → HoldsPage f → name_of f ≡ None → ⊥
 no_page f holds none = false≢true (sym (ap (λ (o : Option PageName). is_some o) none) ∙ holds)
@@ -44,7 +45,7 @@ module _ (uses : ℕ) (f : Frame) (i : IsFrame uses f) where
           more fresh (inl not_fresh) = absurd (false≢true (sym not_fresh ∙ fresh))
           more fresh (inr not_one) = omega (arith, some, eqb-false f.pins 1 not_one)
 
-  pub freshened_frame : (name : PageName) (number : ℕ) → 0 < number → may_go f ≡ true → IsFrame number (freshened name number f)
+  pub freshened_frame : (name : PageName) (number : ℕ) → 0 < number → is_free f ≡ true → IsFrame number (freshened name number f)
   freshened_frame name number some free = record { unused = λ none. absurd (cc); used = λ name is. some; fresh = λ is. (omega arith, free_is_clean); clean = i.clean; use_is = omega arith; oldest_is = i.oldest_is; later_is = i.later_is }
     where
       free_is_clean : is_dirty f ≡ false
@@ -57,8 +58,17 @@ module _ (uses : ℕ) (f : Frame) (i : IsFrame uses f) where
   pub filled_frame : (name : PageName) (bytes : List ℕ) (number : ℕ) → 0 < number → IsFrame number (filled name bytes number f)
   filled_frame name bytes number some = record { unused = λ none. absurd (cc); used = λ name is. some; fresh = λ is. absurd (false≢true is); clean = i.clean; use_is = omega arith; oldest_is = i.oldest_is; later_is = i.later_is }
 
-  pub emptied_frame : (bytes : List ℕ) → may_go f ≡ true → IsFrame uses (emptied bytes f)
-  emptied_frame bytes free = record { unused = λ none. (free, refl); used = λ name is. absurd (cc); fresh = λ is. absurd (false≢true is); clean = i.clean; use_is = omega arith; oldest_is = i.oldest_is; later_is = i.later_is }
+  pub emptied_frame : (bytes : List ℕ) → is_free f ≡ true → IsFrame uses (emptied bytes f)
+  emptied_frame bytes free = record { unused = λ none. (free, refl); used = λ name is. let none = left_holds_none f.content in absurd (cc); fresh = λ is. absurd (not_fresh f.content is); clean = i.clean; use_is = omega arith; oldest_is = i.oldest_is; later_is = i.later_is }
+    where
+      not_fresh : (c : Content) → is_fresh (left_in c) ≡ true → ⊥
+      not_fresh Unused is = false≢true is
+      not_fresh (Fresh name) is = false≢true is
+      not_fresh (Held name) is = false≢true is
+      not_fresh (Loading name) is = false≢true is
+
+  pub aside_frame : (name : PageName) → is_free f ≡ true → IsFrame uses (aside_for name f)
+  aside_frame name free = record { unused = λ none. (free, refl); used = λ page is. absurd (cc); fresh = λ is. absurd (false≢true is); clean = i.clean; use_is = omega arith; oldest_is = i.oldest_is; later_is = i.later_is }
 
   pub discarded_frame : f.pins ≡ 0 → IsFrame uses (discarded f)
   discarded_frame free = record { unused = λ none. (and_from (f.pins == 0) true (eq-eqb f.pins 0 free) refl, refl); used = λ name is. absurd (cc); fresh = λ is. absurd (false≢true is); clean = λ is. refl; use_is = omega arith; oldest_is = omega arith; later_is = omega arith }
@@ -95,16 +105,19 @@ module _ (uses : ℕ) (f : Frame) (i : IsFrame uses f) where
       unmade Unused is = is
       unmade (Fresh name) is = absurd (cc)
       unmade (Held name) is = is
+      unmade (Loading name) is = refl
 
       made_name : (c : Content) (name : PageName) → name_in (made c) ≡ Some name → name_in c ≡ Some name
       made_name Unused name is = is
       made_name (Fresh n) name is = is
       made_name (Held n) name is = is
+      made_name (Loading n) name is = is
 
       not_fresh : (c : Content) → is_fresh (made c) ≡ true → ⊥
       not_fresh Unused is = false≢true is
       not_fresh (Fresh n) is = false≢true is
       not_fresh (Held n) is = false≢true is
+      not_fresh (Loading n) is = false≢true is
 
       dated : (o : Option ℕ) → unwrap_or o 0 < NO_NUMBER → unwrap_or o start < NO_NUMBER
       dated None low = small
@@ -115,18 +128,27 @@ module _ (uses : ℕ) (f : Frame) (i : IsFrame uses f) where
       later (Begun o) low = dated o low
       later Failed low = low
 
--- the frame has the page that it had, or none
+-- the frame claims the page that it claimed, or none
 abbrev pub KeepsOrLosesPage : Frame → Frame → Type 0
-KeepsOrLosesPage old new = (name_of new ≡ name_of old) ⊎ (name_of new ≡ None)
+KeepsOrLosesPage old new = (claim_of new ≡ claim_of old) ⊎ (claim_of new ≡ None)
 
 pub unpinned_page : (f : Frame) → KeepsOrLosesPage f (unpinned f)
 unpinned_page f = cond_both (is_fresh f.content && (f.pins == 1)) (record f { content = Unused; pins = 0; last_use = 0 }) (record f { pins = f.pins - 1 }) (KeepsOrLosesPage f) (λ is. inr refl) (λ is. inl refl)
 
--- a change keeps the name
-pub changed_name : (entry : Record) (start end : ℕ) (f : Frame) → name_of (changed entry start end f) ≡ name_of f
-changed_name entry start end f = by f.content
+-- a change keeps the claim
+pub changed_claim : (entry : Record) (start end : ℕ) (f : Frame) → claim_of (changed entry start end f) ≡ claim_of f
+changed_claim entry start end f = by f.content
   where
-    by : (c : Content) → name_in (made c) ≡ name_in c
+    by : (c : Content) → claim_in (made c) ≡ claim_in c
     by Unused = refl
     by (Fresh name) = refl
     by (Held name) = refl
+    by (Loading name) = refl
+
+-- a frame that may go is neither pinned nor dirty, and isn't set aside
+pub going_parts : (f : Frame) → may_go f ≡ true → (is_free f ≡ true) × (is_loading f.content ≡ false)
+going_parts f may = let parts = and_parts (is_free f) (not (is_loading f.content)) may in (parts.0, no (is_loading f.content) parts.1)
+  where
+    no : (b : Bool) → not b ≡ true → b ≡ false
+    no true is = absurd (false≢true is)
+    no false is = refl

@@ -3,6 +3,7 @@ pub mod RowLemmas
 pub mod WaitingLemmas
 pub mod TournamentLemmas
 pub mod NameLemmas
+pub mod ClaimLemmas
 pub mod FrameLemmas
 pub mod PoolLemmas
 pub mod OrderLemmas

@@ -7,7 +7,7 @@ use Rattle.clone_mtr.specs.declared.record.Record.{Record}
 use Rattle.clone_mtr.specs.declared.record.Record.TheVariants as record_is
 use Rattle.clone_pool.specs.declared.frame.Frame.{Frame}
 use Rattle.clone_pool.specs.declared.frame.Content.{Content}
-use Rattle.clone_pool.specs.declared.frame.Content.TheVariants.{Unused, Fresh, Held}
+use Rattle.clone_pool.specs.declared.frame.Content.TheVariants.{Unused, Fresh, Held, Loading}
 use Rattle.clone_pool.specs.declared.frame.Flush.{Flush}
 use Rattle.clone_pool.specs.declared.frame.Flush.TheVariants.{Idle, Begun, Failed}
 use Rattle.clone_pool.specs.declared.frame.PageName.{PageName}
@@ -31,24 +31,66 @@ abbrev pub name_in : Content → Option PageName
 name_in Unused = None
 name_in (Fresh name) = Some name
 name_in (Held name) = Some name
+name_in (Loading name) = None
 
 -- the page that a frame holds
 abbrev pub name_of : Frame → Option PageName
 name_of f = name_in f.content
 
+abbrev pub loading_in : Content → Option PageName
+loading_in Unused = None
+loading_in (Fresh name) = None
+loading_in (Held name) = None
+loading_in (Loading name) = Some name
+
+-- the page that a frame is set aside for, until it is loaded
+abbrev pub loading_of : Frame → Option PageName
+loading_of f = loading_in f.content
+
+abbrev pub claim_in : Content → Option PageName
+claim_in Unused = None
+claim_in (Fresh name) = Some name
+claim_in (Held name) = Some name
+claim_in (Loading name) = Some name
+
+-- a frame CLAIMS the page that it holds or is set aside for
+abbrev pub claim_of : Frame → Option PageName
+claim_of f = claim_in f.content
+
 abbrev pub HoldsPage : Frame → Type 0
 HoldsPage f = IsSome (name_of f)
+
+abbrev pub ClaimsPage : Frame → Type 0
+ClaimsPage f = IsSome (claim_of f)
 
 -- the number of the frame that holds the page
 abbrev pub holder : List Frame → PageName → Option ℕ
 holder frames page = frame_number_of page (map name_of frames)
 
+-- the number of the frame that is set aside for the page
+abbrev pub loader : List Frame → PageName → Option ℕ
+loader frames page = frame_number_of page (map loading_of frames)
+
+-- the number of the frame that claims the page
+abbrev pub claimant : List Frame → PageName → Option ℕ
+claimant frames page = frame_number_of page (map claim_of frames)
+
 abbrev pub is_dirty : Frame → Bool
 is_dirty f = is_some f.oldest
 
+abbrev pub is_loading : Content → Bool
+is_loading Unused = false
+is_loading (Fresh name) = false
+is_loading (Held name) = false
+is_loading (Loading name) = true
+
 -- neither pinned nor dirty. A page that is on its way to the disk, or whose write failed, is dirty.
+abbrev pub is_free : Frame → Bool
+is_free f = (f.pins == 0) && not (is_dirty f)
+
+-- nor set aside for a page
 abbrev pub may_go : Frame → Bool
-may_go f = (f.pins == 0) && not (is_dirty f)
+may_go f = is_free f && not (is_loading f.content)
 
 abbrev pub is_begun : Flush → Bool
 is_begun Idle = false
@@ -83,9 +125,19 @@ next_use uses = min (uses + 1) (2 ^ 64 - 2)
 abbrev pub touched : ℕ → Frame → Frame
 touched number f = record f { last_use = number }
 
--- the frame has no page any more, and any bytes
+abbrev pub left_in : Content → Content
+left_in Unused = Unused
+left_in (Fresh name) = Unused
+left_in (Held name) = Unused
+left_in (Loading name) = Loading name
+
+-- The frame has no page any more, and any bytes. One that is set aside stays so.
 abbrev pub emptied : List ℕ → Frame → Frame
-emptied bytes f = record f { content = Unused; page = bytes; last_use = 0 }
+emptied bytes f = record f { content = left_in f.content; page = bytes; last_use = 0 }
+
+-- the frame is set aside for a page
+abbrev pub aside_for : PageName → Frame → Frame
+aside_for name f = record f { content = Loading name; last_use = 0 }
 
 -- the frame holds this page, which was used
 abbrev pub filled : PageName → List ℕ → ℕ → Frame → Frame
@@ -107,6 +159,7 @@ abbrev pub is_fresh : Content → Bool
 is_fresh Unused = false
 is_fresh (Fresh name) = true
 is_fresh (Held name) = false
+is_fresh (Loading name) = false
 
 -- a pin less. A new page that no change made goes with its last pin.
 abbrev pub unpinned : Frame → Frame
@@ -120,6 +173,7 @@ abbrev pub made : Content → Content
 made Unused = Unused
 made (Fresh name) = Held name
 made (Held name) = Held name
+made (Loading name) = Loading name
 
 -- the first change after a flush began
 abbrev pub noted : ℕ → Flush → Flush
@@ -161,6 +215,6 @@ landed f = record f { oldest = later_in f.flush; flush = Idle }
 abbrev pub failed : Frame → Frame
 failed f = record f { flush = Failed }
 
--- the frame holds its page no more, whatever was changed
+-- the frame claims its page no more, whatever was changed
 abbrev pub discarded : Frame → Frame
 discarded f = record f { content = Unused; oldest = None; flush = Idle; last_use = 0 }

@@ -5,7 +5,7 @@ use Rattle.clone_pool.specs.declared.frame.PageName.{PageName}
 use Rattle.clone_pool.specs.declared.orders.Orders.{Orders}
 use Rattle.clone_pool.specs.declared.tournament.Rank.{Rank}
 use Rattle.clone_pool.specs.declared.tournament.TheConstants.{NO_NUMBER}
-use Rattle.clone_pool.specs.Frames.{name_of, may_go}
+use Rattle.clone_pool.specs.Frames.{name_of, claim_of, may_go}
 use Rattle.clone_pool.specs.Tournament.{no_rank}
 
 abbrev pub no_name : PageName
@@ -21,7 +21,7 @@ age_rank f = record { number = unwrap_or f.oldest NO_NUMBER; name = unwrap_or (n
 
 abbrev pub orders_of : List Frame → Orders
 orders_of frames = record {
-  names = map name_of frames;
+  names = map claim_of frames;
   going = map use_rank frames;
   dirty = map age_rank frames;
 }
@@ -29,7 +29,7 @@ orders_of frames = record {
 -- the frame of this number is now this one
 abbrev pub refreshed : ℕ → Frame → Orders → Orders
 refreshed at f orders = record {
-  names = slice_set orders.names at (name_of f);
+  names = slice_set orders.names at (claim_of f);
   going = slice_set orders.going at (use_rank f);
   dirty = slice_set orders.dirty at (age_rank f);
 }

@@ -1,6 +1,7 @@
 -- What contracts see of a pool, and what its calls do to it.
 use Rattle.std.specs.Prelude.{ℕ, ◌≡◌, ◌↔◌, ◌<◌, ◌≤◌, ◌^◌, ◌-◌, true, false, List, length, Some, None, Result, Ok, Err, MatchOption, slice_set, unwrap_or}
 use Rattle.std.specs.declared.cmp.Ordering.{Ordering}
+use Rattle.std.specs.declared.option.Option.{Option}
 use Rattle.std.specs.Ordering.{nat_cmp, ordering_then}
 use Rattle.std.specs.List.{Contains}
 use Rattle.std.specs.List.Sorted.{IsStrictlySortedBy}
@@ -11,19 +12,21 @@ use Rattle.clone_pool.specs.declared.orders.Orders.{Orders}
 use Rattle.clone_pool.specs.declared.pool.FetchRefusal.{FetchRefusal}
 use Rattle.clone_pool.specs.declared.pool.FetchRefusal.TheVariants.{PoolFull, DiskFault}
 use Rattle.clone_pool.specs.declared.tournament.TheConstants.{NO_NUMBER}
-use Rattle.clone_pool.specs.Frames.{frame_at, name_of, is_fresh, holder, may_go, is_dirty, is_waiting, open_page, later_in, next_use, touched, filled, emptied, freshened, pinned}
+use Rattle.clone_pool.specs.Frames.{frame_at, name_of, loading_of, claim_of, is_fresh, holder, loader, claimant, is_free, may_go, is_dirty, is_waiting, open_page, later_in, next_use, touched, filled, emptied, freshened, pinned, discarded}
 use Rattle.clone_pool.specs.Orders.{orders_of, age_rank}
 use Rattle.clone_pool.specs.Tournament.{is_before}
 
--- the frames by their numbers, and how many uses there were
+-- the frames by their numbers, how many uses there were, and the page that was asked of the disk
+-- when a fetch last ended with a fault
 pub record Frames : Type 0 where
   pub frames : List Frame
   pub uses : ℕ
+  pub missed : Option PageName
 
 -- what holds of each frame, after so many uses
 pub record IsFrame (uses : ℕ) (f : Frame) : Type 0 where
   -- a frame without a page is neither pinned nor dirty, and was never used
-  pub unused : name_of f ≡ None → (may_go f ≡ true) × (f.last_use ≡ 0)
+  pub unused : name_of f ≡ None → (is_free f ≡ true) × (f.last_use ≡ 0)
   -- a frame with one was
   pub used : (name : PageName) → name_of f ≡ Some name → 0 < f.last_use
   -- a new page is pinned, and no change has made it
@@ -42,6 +45,9 @@ pub record IsPool (v : Frames) : Type 0 where
   -- no page has two frames
   pub once : (page : PageName) (at : ℕ) → name_of (frame_at v.frames at) ≡ Some page
       → holder v.frames page ≡ Some at
+  -- a page that is loaded has one frame for that, and no frame holds it
+  pub loads : (page : PageName) (at : ℕ) → loading_of (frame_at v.frames at) ≡ Some page
+      → (holder v.frames page ≡ None) × (loader v.frames page ≡ Some at)
 
 -- a pool, and what it keeps beside its frames
 pub record IsKept (v : Frames) (orders : Orders) : Type 0 where
@@ -56,7 +62,7 @@ with_frame at change v = record v { frames = slice_set v.frames at (change (fram
 abbrev pub used : ℕ → Frames → Frames
 used at v = record (with_frame at (touched (next_use v.uses)) v) { uses = next_use v.uses }
 
--- each frame is pinned or dirty
+-- each frame is pinned, dirty or set aside
 abbrev pub AreKept : List Frame → Type 0
 AreKept frames = (at : ℕ) → at < length frames → may_go (frame_at frames at) ≡ false
 
@@ -66,6 +72,21 @@ pub record IsVictim (frames : List Frame) (at : ℕ) : Type 0 where
   pub free : may_go (frame_at frames at) ≡ true
   pub least : (other : ℕ) → other < length frames → may_go (frame_at frames other) ≡ true
       → (frame_at frames at).last_use ≤ (frame_at frames other).last_use
+
+-- The frame for a page that has none: its own loader, or else the one that makes way. It is neither
+-- pinned nor dirty.
+pub record IsFrameFor (page : PageName) (frames : List Frame) (at : ℕ) : Type 0 where
+  pub within : at < length frames
+  pub free : is_free (frame_at frames at) ≡ true
+  pub which : MatchOption (loader frames page) (IsVictim frames at) (λ own. at ≡ own)
+
+-- there is neither a loader of it nor a frame that may go
+abbrev pub HasNoFrameFor : PageName → List Frame → Type 0
+HasNoFrameFor page frames = (loader frames page ≡ None) × AreKept frames
+
+-- a frame may go
+abbrev pub HasRoom : List Frame → Type 0
+HasRoom frames = (at : ℕ) × (at < length frames) × (may_go (frame_at frames at) ≡ true)
 
 -- no page is dirty
 abbrev pub AreClean : List Frame → Type 0
@@ -107,20 +128,23 @@ pub record Fills (page : PageName) (at : ℕ) (old new : Frames) : Type 0 where
   pub frames : new.frames
       ≡ slice_set old.frames at (filled page bytes (next_use old.uses) (frame_at old.frames at))
   pub uses : new.uses ≡ next_use old.uses
+  pub missed : new.missed ≡ old.missed
 
--- the frame has no page
-pub record Empties (at : ℕ) (old new : Frames) : Type 0 where
+-- the page was missed, and the frame has no page
+pub record Empties (page : PageName) (at : ℕ) (old new : Frames) : Type 0 where
   pub bytes : List ℕ
   pub frames : new.frames ≡ slice_set old.frames at (emptied bytes (frame_at old.frames at))
   pub uses : new.uses ≡ old.uses
+  pub missed : new.missed ≡ Some page
 
--- a page that has no frame gets the one that makes way, if there is one; after a fault that has
--- no page
+-- a page that has no frame gets its loader or the one that makes way, if there is one; after a
+-- fault that has no page
 abbrev pub Misses : PageName → Frames → Frames → Result ℕ FetchRefusal → Type 0
-Misses page old new (Ok at) = IsVictim old.frames at × Fills page at old new
+Misses page old new (Ok at) = IsFrameFor page old.frames at × Fills page at old new
 Misses page old new (Err (PoolFull frames)) =
-    (frames ≡ length old.frames) × AreKept old.frames × (new ≡ old)
-Misses page old new (Err DiskFault) = (at : ℕ) × (IsVictim old.frames at × Empties at old new)
+    (frames ≡ length old.frames) × HasNoFrameFor page old.frames × (new ≡ old)
+Misses page old new (Err DiskFault) =
+    (at : ℕ) × (IsFrameFor page old.frames at × Empties page at old new)
 
 -- a page that has a frame is used there
 abbrev pub Fetches : PageName → Frames → Frames → Result ℕ FetchRefusal → Type 0
@@ -134,11 +158,11 @@ with_fresh page at v = record (with_frame at (freshened page (next_use v.uses)) 
   uses = next_use v.uses;
 }
 
--- a new page that has no frame gets the one that makes way, if there is one
+-- a new page that has no frame gets its loader or the one that makes way, if there is one
 abbrev pub TakesFrame : PageName → Frames → Frames → Result ℕ FetchRefusal → Type 0
-TakesFrame page old new (Ok at) = IsVictim old.frames at × (new ≡ with_fresh page at old)
+TakesFrame page old new (Ok at) = IsFrameFor page old.frames at × (new ≡ with_fresh page at old)
 TakesFrame page old new (Err refusal) =
-    (refusal ≡ PoolFull (length old.frames)) × AreKept old.frames × (new ≡ old)
+    (refusal ≡ PoolFull (length old.frames)) × HasNoFrameFor page old.frames × (new ≡ old)
 
 -- a page that has a frame is used and pinned there
 abbrev pub Freshens : PageName → Frames → Frames → Result ℕ FetchRefusal → Type 0
@@ -152,6 +176,17 @@ pub record IsHolder (page : PageName) (frames : List Frame) (at : ℕ) : Type 0 
   pub name : name_of (frame_at frames at) ≡ Some page
   pub holder : holder frames page ≡ Some at
 
+-- the frame with this number claims the page, and no other does
+pub record IsClaimant (page : PageName) (frames : List Frame) (at : ℕ) : Type 0 where
+  pub within : at < length frames
+  pub claim : claim_of (frame_at frames at) ≡ Some page
+  pub claimant : claimant frames page ≡ Some at
+
+-- the frame, if there is one, claims no page any more
+abbrev pub discarded_at : Option ℕ → Frames → Frames
+discarded_at None v = v
+discarded_at (Some at) v = with_frame at discarded v
+
 -- the frame is as before but for the number of its last use
 abbrev pub IsSamePage : Frame → Frame → Type 0
 IsSamePage old new = new ≡ touched new.last_use old
@@ -159,7 +194,7 @@ IsSamePage old new = new ≡ touched new.last_use old
 -- each pinned or dirty frame is as before but for the number of its last use
 abbrev pub KeepsInUse : List Frame → List Frame → Type 0
 KeepsInUse old new =
-    (at : ℕ) → may_go (frame_at old at) ≡ false → IsSamePage (frame_at old at) (frame_at new at)
+    (at : ℕ) → is_free (frame_at old at) ≡ false → IsSamePage (frame_at old at) (frame_at new at)
 
 -- each frame but this one is as before
 abbrev pub KeepsOthers : ℕ → List Frame → List Frame → Type 0

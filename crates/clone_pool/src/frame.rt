@@ -1,9 +1,9 @@
 //! A frame of the pool. Without a page it is neither pinned nor dirty, and was never used; with
-//! one it was. A new page is pinned, and clean until a change makes it. Only a dirty page has a
+//! one it was. A frame that is set aside for a page has none until that is loaded. A new page is pinned, and clean until a change makes it. Only a dirty page has a
 //! flush, which is under way or failed. The pool keeps this rule of each of its frames.
 ghost use Rattle.std.specs.Prelude.{◌≡◌, ◌<◌, ◌-◌, ◌^◌};
 ghost use Rattle.clone_pool.specs.Index.{is_same};
-ghost use Rattle.clone_pool.specs.Frames.{no_frame, name_of, is_dirty, may_go, is_waiting, is_begun, is_fresh, counts_as_open, open_page, made, noted, later_in, touched, pinned, unpinned, freshened, changed, begun, landed, failed, discarded};
+ghost use Rattle.clone_pool.specs.Frames.{no_frame, name_of, claim_of, is_dirty, is_loading, may_go, is_waiting, is_begun, is_fresh, counts_as_open, open_page, left_in, made, noted, later_in, touched, aside_for, pinned, unpinned, freshened, changed, begun, landed, failed, discarded};
 
 use clone_mtr::Record;
 use clone_page::Page;
@@ -24,6 +24,8 @@ pub enum Content {
     Fresh(PageName),
     /// A page.
     Held(PageName),
+    /// No page yet. The frame is set aside for this one.
+    Loading(PageName),
 }
 
 /// How far the write of a page to the disk is.
@@ -83,8 +85,28 @@ impl Frame {
         ensures { result ≡ name_of self.now }
     {
         match self.content {
-            Content::Unused => None,
+            Content::Unused | Content::Loading(_) => None,
             Content::Fresh(name) | Content::Held(name) => Some(name),
+        }
+    }
+
+    // The page that it holds or is set aside for.
+    pub(crate) fn claim(&self) -> Option<PageName>
+        ensures { result ≡ claim_of self.now }
+    {
+        match self.content {
+            Content::Unused => None,
+            Content::Fresh(name) | Content::Held(name) | Content::Loading(name) => Some(name),
+        }
+    }
+
+    // Whether it is set aside for a page that is to be loaded.
+    pub(crate) fn is_loading(&self) -> bool
+        ensures { result ≡ is_loading self.now.content }
+    {
+        match self.content {
+            Content::Loading(_) => true,
+            Content::Unused | Content::Fresh(_) | Content::Held(_) => false,
         }
     }
 
@@ -134,7 +156,7 @@ impl Frame {
     pub(crate) fn may_go(&self) -> bool
         ensures { result ≡ may_go self.now }
     {
-        self.pins == 0 && !self.is_dirty()
+        self.pins == 0 && !self.is_dirty() && !self.is_loading()
     }
 
     // Whether its page is dirty, and no flush of it is under way.
@@ -186,6 +208,13 @@ impl Frame {
         self.last_use = number;
     }
 
+    pub(crate) fn set_aside(&mut self, name: PageName)
+        ensures { self.new ≡ aside_for name self.old }
+    {
+        self.content = Content::Loading(name);
+        self.last_use = 0;
+    }
+
     pub(crate) fn discard(&mut self)
         ensures { self.new ≡ discarded self.old }
     {
@@ -229,7 +258,17 @@ fn is_fresh(content: Content) -> bool
 {
     match content {
         Content::Fresh(_) => true,
-        Content::Unused | Content::Held(_) => false,
+        Content::Unused | Content::Held(_) | Content::Loading(_) => false,
+    }
+}
+
+// What a frame has once a read into it failed.
+pub(crate) fn left_in(content: Content) -> Content
+    ensures { result ≡ left_in content }
+{
+    match content {
+        Content::Loading(name) => Content::Loading(name),
+        Content::Unused | Content::Fresh(_) | Content::Held(_) => Content::Unused,
     }
 }
 

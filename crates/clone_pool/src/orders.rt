@@ -1,6 +1,7 @@
 //! What is kept beside the frames, by their numbers: each part has something for frame i at i.
-//! `names` has its page; `going` ranks the frames that may go by their last use; `dirty` ranks the
-//! dirty ones by their oldest change, then by page. Any other frame has the last rank.
+//! `names` has the page that it holds or is set aside for; `going` ranks the frames that may go by
+//! their last use; `dirty` ranks the dirty ones by their oldest change, then by page. Any other
+//! frame has the last rank.
 ghost use Rattle.std.specs.Prelude.{◌≡◌, ◌<◌, length, replicate, IfOk};
 ghost use Rattle.clone_pool.specs.Frames.{no_frame, frame_at};
 ghost use Rattle.clone_pool.specs.Orders.{AreLong, orders_of, refreshed, used_again, no_name, use_rank, age_rank};
@@ -45,7 +46,7 @@ impl Orders {
         ensures { self.new ≡ refreshed at (frame_at frames.now at) self.old }
     {
         let frame = &frames[at];
-        self.names.set(at, frame.name());
+        self.names.set(at, frame.claim());
         self.going.set(at, use_rank(frame));
         self.dirty.set(at, age_rank(frame));
     }

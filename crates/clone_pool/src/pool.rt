@@ -1,13 +1,14 @@
-//! The frames, and the orders beside them. No page has two frames, and no frame was used later
-//! than the count of uses says. The orders are always those of the frames as they are. A frame
-//! keeps the rule of `frame`. There are fewer than 2^32 frames.
+//! The frames, and the orders beside them. No page has two frames, also counting those set aside
+//! for one, and no frame was used later than the count of uses says. The orders are always those of
+//! the frames as they are. A frame keeps the rule of `frame`. There are fewer than 2^32 frames.
 ghost use Rattle.std.specs.Prelude.{◌≡◌, ◌<◌, ◌≤◌, ◌-◌, ◌^◌, ℕ, None, true, false, IfOk, IfErr, IsErr, IsErrOf, IfNone, IfSome, OnOk, length, replicate, slice_set};
 ghost use Rattle.std.specs.Option.{ForSome};
 ghost use Rattle.std.specs.List.{filter_map};
 ghost use Rattle.clone_outside.specs.DiskCalls.{Reads};
 ghost use Rattle.clone_outside.specs.Disk.{ForTold, GivesQuiet};
-ghost use Rattle.clone_pool.specs.Frames.{no_frame, frame_at, name_of, holder, HoldsPage, IsInFlight, is_dirty, is_waiting, open_page, page_changed, emptied, filled, pinned, unpinned, changed, begun, landed, failed, discarded, next_use};
+ghost use Rattle.clone_pool.specs.Frames.{no_frame, frame_at, name_of, holder, loader, claimant, HoldsPage, ClaimsPage, IsInFlight, is_dirty, is_waiting, open_page, page_changed, aside_for, emptied, filled, pinned, unpinned, changed, begun, landed, failed, discarded, next_use};
 
+use crate::frame::left_in;
 use crate::orders::Orders;
 use crate::tournament::NO_NUMBER;
 use crate::{Content, Frame, PageName};
@@ -20,8 +21,8 @@ use std::marker::Model;
 /// Why a page didn't come into a frame.
 #[derive(Clone, Copy, Debug, PartialEq, Eq)]
 pub enum FetchRefusal {
-    /// Each of so many frames is pinned or dirty. A page on its way to the disk, or whose write
-    /// failed, is dirty.
+    /// Each of so many frames is pinned, dirty or set aside for another page. A page on its way to
+    /// the disk, or whose write failed, is dirty.
     PoolFull { frames: u32 },
     /// The disk failed, and its count of faults rose.
     DiskFault,
@@ -39,6 +40,7 @@ const LAST_USE: u64 = NO_NUMBER - 1;
 pub struct Pool {
     frames: Vec<Frame>,
     uses: u64,
+    missed: Option<PageName>,
     orders: Orders,
 }
 
@@ -47,18 +49,23 @@ impl Model for Pool {
 
     ghost Value = { Frames };
 
-    ghost view = { λ p. record { frames = p.frames.items; uses = p.uses } };
+    ghost view = { λ p. record { frames = p.frames.items; uses = p.uses; missed = p.missed } };
 
-    ghost invariant = { λ p. IsKept (record { frames = p.frames.items; uses = p.uses }) p.orders };
+    ghost invariant = { λ p. IsKept
+        (record { frames = p.frames.items; uses = p.uses; missed = p.missed }) p.orders };
 }
 
 impl Pool {
-    ghost use Rattle.clone_pool.specs.Pool.{Frames, IsPool, Fetches, Freshens, Fills, Empties, IsVictim, AreKept, AreClean, IsOldest, AreNotWaiting, AreOpenPages, IsNextToFlush, IsHolder, KeepsInUse, KeepsOthers, HasPinRoom, used, with_frame, with_fresh};
+    ghost use Rattle.clone_pool.specs.Pool.{Frames, IsPool, Fetches, Freshens, Fills, Empties, IsVictim, IsFrameFor, HasNoFrameFor, HasRoom, AreKept, AreClean, IsOldest, AreNotWaiting, AreOpenPages, IsNextToFlush, IsHolder, IsClaimant, KeepsInUse, KeepsOthers, HasPinRoom, used, with_frame, with_fresh, discarded_at};
 
     /// So many frames without pages. This makes all that the pool keeps.
     pub fn new(alloc: Global, count: u32) -> Result<Pool, AllocError>
         ensures { IfOk result
-            (λ pool. pool ≡ record { frames = replicate count no_frame; uses = 0 }) }
+            (λ pool. pool ≡ record {
+              frames = replicate count no_frame;
+              uses = 0;
+              missed = None;
+            }) }
     {
         let mut frames = Vec::with_capacity(alloc, count as usize)?;
         for _ in 0..count {
@@ -67,16 +74,18 @@ impl Pool {
         Ok(Pool {
             frames,
             uses: 0,
+            missed: None,
             orders: Orders::new(alloc, count)?,
         })
     }
 
     /// Brings a page into a frame, and answers the frame's number. It counts as a use of the frame.
     ///
-    /// A page without a frame gets one that has no page, or else the one used least recently of
-    /// those that are neither pinned nor dirty, and is read straight into it. The error is
-    /// `PoolFull` exactly where there is none, and nothing has changed then; or `DiskFault`, and
-    /// the frame that was to make way has no page then.
+    /// A page without a frame gets the one that is set aside for it. Else it gets one that has no
+    /// page, or else the one used least recently of those that are neither pinned nor dirty nor set
+    /// aside. It is read straight into that. The error is `PoolFull` exactly where there is none,
+    /// and nothing has changed then; or `DiskFault`, and then the frame has no page, and the page
+    /// is the one that was missed last.
     pub fn fetch<D: PageDisk>(
         &mut self,
         disk: &mut D,
@@ -105,7 +114,7 @@ impl Pool {
             self.laws();
             return Ok(at);
         }
-        let Some(at) = self.victim() else {
+        let Some(at) = self.frame_for(name) else {
             let frames = self.frames.len() as u32;
             return Err(FetchRefusal::PoolFull { frames });
         };
@@ -142,7 +151,7 @@ impl Pool {
             self.laws();
             return Ok(at);
         }
-        let Some(at) = self.victim() else {
+        let Some(at) = self.frame_for(name) else {
             let frames = self.frames.len() as u32;
             return Err(FetchRefusal::PoolFull { frames });
         };
@@ -151,10 +160,76 @@ impl Pool {
         Ok(at as u32)
     }
 
+    /// The page that was asked of the disk when a fetch last ended with `DiskFault`, if one did.
+    pub fn missed(&self) -> Option<PageName>
+        ensures { result ≡ self.now.missed }
+    {
+        self.missed
+    }
+
+    /// Sets a frame aside for a page that is to be loaded, and answers the frame's number. It is
+    /// the one that makes way, and has no page until the page is fetched. Meanwhile it doesn't make
+    /// way.
+    pub fn set_aside(&mut self, name: PageName) -> u32
+        requires room { HasRoom self.old.frames }
+        requires absent { holder self.old.frames name ≡ None }
+        requires unloaded { loader self.old.frames name ≡ None }
+        ensures victim { IsVictim self.old.frames result }
+        ensures aside { self.new ≡ with_frame result (aside_for name) self.old }
+    {
+        let Some(at) = self.victim() else {
+            unreachable!();
+        };
+        self.frames[at].set_aside(name);
+        self.orders.refresh(&self.frames, at);
+        at as u32
+    }
+
+    /// The frame that is set aside for a page, if there is one, is so no more.
+    pub fn give_up_loading(&mut self, name: PageName)
+        ensures { self.new ≡ discarded_at (loader self.old.frames name) self.old }
+    {
+        self.laws();
+        if let Some(at) = self.loader(name) {
+            self.discard(at);
+        }
+    }
+
     /// The number of the frame that holds a page, if one does. It counts as no use.
     pub fn find(&self, name: PageName) -> Option<u32>
         ensures holder { result ≡ holder self.now.frames name }
         ensures held { IfSome result (IsHolder name self.now.frames) }
+    {
+        self.laws();
+        let Some(at) = self.claimant(name) else {
+            return None;
+        };
+        if self.frames[self.claimed(at)].is_loading() {
+            return None;
+        }
+        Some(at)
+    }
+
+    /// The number of the frame that is set aside for a page, if one is.
+    pub fn loader(&self, name: PageName) -> Option<u32>
+        ensures loader { result ≡ loader self.now.frames name }
+        ensures claims { IfSome result (IsClaimant name self.now.frames) }
+    {
+        self.laws();
+        let Some(at) = self.claimant(name) else {
+            return None;
+        };
+        let index = self.claimed(at);
+        if self.frames[index].is_loading() {
+            return Some(at);
+        }
+        None
+    }
+
+    /// The number of the frame that holds a page or is set aside for it, if one does.
+    pub fn claimant(&self, name: PageName) -> Option<u32>
+        ensures claimant { result ≡ claimant self.now.frames name }
+        ensures claims { IfSome result (IsClaimant name self.now.frames) }
     {
         match self.orders.names.find(name) {
             Some(at) => Some(at as u32),
@@ -281,13 +356,14 @@ impl Pool {
         Ok(pages)
     }
 
-    /// Gives up the page in a frame, which isn't pinned, with all that was changed of it.
+    /// Gives up the page in a frame, which isn't pinned, with all that was changed of it. A frame
+    /// that is set aside is so no more.
     pub fn discard(&mut self, at: u32)
-        requires holds { HoldsPage (frame_at self.old.frames at) }
+        requires claims { ClaimsPage (frame_at self.old.frames at) }
         requires free { (frame_at self.old.frames at).pins ≡ 0 }
         ensures { self.new ≡ with_frame at discarded self.old }
     {
-        let at = self.frame_number(at);
+        let at = self.claimed(at);
         self.frames[at].discard();
         self.orders.refresh(&self.frames, at);
     }
@@ -307,6 +383,28 @@ impl Pool {
     {
         let _ = &self.uses;
         at as usize
+    }
+
+    // The number of a frame that claims a page.
+    fn claimed(&self, at: u32) -> usize
+        requires { ClaimsPage (frame_at self.now.frames at) }
+        ensures same { result ≡ at }
+        ensures within { result < length self.now.frames }
+    {
+        let _ = &self.uses;
+        at as usize
+    }
+
+    // The frame for a page that has none: its own loader, or else the one that makes way.
+    fn frame_for(&self, name: PageName) -> Option<usize>
+        ensures none { IfNone result (HasNoFrameFor name self.now.frames) }
+        ensures some { IfSome result (IsFrameFor name self.now.frames) }
+    {
+        self.laws();
+        match self.loader(name) {
+            Some(at) => Some(at as usize),
+            None => self.victim(),
+        }
     }
 
     // A frame that may go, and was used no later than any other of these.
@@ -333,7 +431,7 @@ impl Pool {
 
     // Takes a frame for a new page, in the place of the one that it has.
     fn take(&mut self, at: usize, name: PageName)
-        requires at { IsVictim self.old.frames at }
+        requires at { IsFrameFor name self.old.frames at }
         requires new { holder self.old.frames name ≡ None }
         ensures { self.new ≡ with_fresh name at self.old }
     {
@@ -349,11 +447,11 @@ impl Pool {
         at: usize,
         name: PageName,
     ) -> Result<(), FetchRefusal>
-        requires at { IsVictim self.old.frames at }
+        requires at { IsFrameFor name self.old.frames at }
         requires new { holder self.old.frames name ≡ None }
         ensures ok { OnOk result (Fills name at self.old self.new) }
         ensures err { IfErr result
-            (λ e. (e ≡ FetchRefusal.DiskFault) × Empties at self.old self.new) }
+            (λ e. (e ≡ FetchRefusal.DiskFault) × Empties name at self.old self.new) }
         ensures reads { Reads (IsErr result) (D.state disk.old) (D.state disk.new) }
         ensures read { OnOk result
             (ForTold (D.state disk.old).told
@@ -364,7 +462,10 @@ impl Pool {
         self.orders.refresh(&self.frames, at);
         match read {
             Ok(()) => {}
-            Err(refusal) => return Err(refusal),
+            Err(refusal) => {
+                self.missed = Some(name);
+                return Err(refusal);
+            }
         }
         self.uses = number;
         Ok(())
@@ -395,7 +496,7 @@ fn read_into<D: PageDisk>(
     ensures read { OnOk result
         (ForTold (D.state disk.old).told (λ m. GivesQuiet m name.space name.number frame.new.page)) }
 {
-    frame.content = Content::Unused;
+    frame.content = left_in(frame.content);
     frame.last_use = 0;
     match disk.read_page(name.space, name.number, frame.page.bytes_mut()) {
         Ok(()) => {}

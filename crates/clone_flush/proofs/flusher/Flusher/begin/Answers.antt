@@ -1,72 +1,35 @@
-use Rattle.std.proofs.Common.{◌≡◌, ℕ, ◌∙◌, List, false, ap, sym, subst, Err}
-use Rattle.clone_outside.specs.Disk.{ForTold, IsBeforeOrAfter}
-use Rattle.clone_outside.specs.declared.Refusal.{Refusal}
-use Rattle.clone_pool.specs.Frames.{begun, failed}
+use Rattle.std.proofs.Common.{◌≡◌, ◌∙◌, ℕ, ap, sym, subst}
+use Rattle.clone_outside.specs.Disk.{ForTold}
 use Rattle.clone_pool.specs.declared.frame.PageName.{PageName}
-use Rattle.clone_buffer.specs.Buffered.{Buffered}
-use Rattle.clone_buffer.specs.Flushing.{with_change, with_noted}
-use Rattle.clone_buffer.specs.OnePage.{Copies}
-use Rattle.clone_flush.specs.Flights.{Flights, HasFiles, StandsFlown}
-use Rattle.clone_flush.specs.Calls.{ends_short, lengthened, new_write, reaching, with_write}
-use Rattle.clone_flush.proofs.BeginLemmas.{begun_name, files_failed, is_waiting_there, stands_begun, stands_fault, stands_noted}
+use Rattle.clone_buffer.specs.Flushing.{with_noted}
+use Rattle.clone_flush.specs.Flights.{Flights, HasFiles}
+use Rattle.clone_flush.specs.Calls.{State, ends_short, lengthened, new_write, with_write}
+use Rattle.clone_flush.proofs.BeginLemmas.{reached_write}
 use Rattle.clone_flush.proofs.FileLemmas.{files_lengthened}
-use Rattle.clone_flush.proofs.FlightLemmas.{changes_at}
 use Rattle.clone_flush.proofs.flusher.Flusher.begin.Goals as goal
 
-pub returns-in-Ok-clause-files : goal.returns-in-Ok-clause-files
-returns-in-Ok-clause-files g c =
+-- the writes, with the file known to be long enough
+reached : (g : _) (c : goal.After-reach g) (at : ℕ) → c.start.new.self ≡ with_write (record { space = c.args.space; number = c.args.number }) (new_write at c.args.buffer.now) c.args.self.now
+    → c.reach.new.self ≡ with_write (record { space = c.args.space; number = c.args.number }) (new_write at c.args.buffer.now) (lengthened (ends_short (record { space = c.args.space; number = c.args.number }) c.args.self.now) (record { space = c.args.space; number = c.args.number }) c.args.self.now)
+reached g c at flights =
     let f : Flights = c.args.self.now in
     let page : PageName = record { space = c.args.space; number = c.args.number } in
-    let after = (g.D.PageDisk.state c.prepare.new.disk).told in
-    λ had. subst (λ (x : Flights). ForTold after (HasFiles x.files)) (sym c.in-Ok.ensures.ok) (files_lengthened page f (g.D.PageDisk.state c.args.disk.now).told after c.in-Ok.ensures.disk had)
+    c.reach.ensures.reached ∙ ap (λ (x : Flights). lengthened (ends_short page x) page x) flights ∙ reached_write (ends_short page f) page (new_write at c.args.buffer.now) f
 
-pub returns-in-Ok-clause-stands : goal.returns-in-Ok-clause-stands
-returns-in-Ok-clause-stands g c =
-    let b : Buffered = c.args.buffer.now in
-    let f : Flights = c.args.self.now in
+pub returns-clause-begins : goal.returns-clause-begins
+returns-clause-begins g c =
+    let s = c.in_ok-start.ensures.starts in
+    let flights = reached g c s.0 (ap (λ (x : State). x.flights) s.2) in
+    (s.0, s.1, (λ i. record { buffer = (s.2 i).buffer; flights = flights i }), s.3)
+
+pub returns-clause-files : goal.returns-clause-files
+returns-clause-files g c =
+    let s = c.in_ok-start.ensures.starts in
+    let after = (g.D.PageDisk.state c.start.new.disk).told in
+    let flights = reached g c s.0 (ap (λ (x : State). x.flights) s.2) in
+    λ had. subst (λ (x : Flights). ForTold after (HasFiles x.files)) (sym flights) (files_lengthened (record { space = c.args.space; number = c.args.number }) c.args.self.now (g.D.PageDisk.state c.args.disk.now).told after s.3 had)
+
+pub returns-clause-stands : goal.returns-clause-stands
+returns-clause-stands g c =
     let page : PageName = record { space = c.args.space; number = c.args.number } in
-    let at : ℕ = c.in_ok-at.at in
-    let before = (g.D.PageDisk.state c.args.disk.now).told in
-    let after = (g.D.PageDisk.state c.prepare.new.disk).told in
-    let waits = c.in_ok-at.ensures.ok in
-    let changes = changes_at b c.begin_flush.new.self page at begun c.laws.ensures.pool c.begin_flush.ensures c.laws-in-Ok.ensures.pool waits.dirty.holder.name in
-    let image = c.frame.ensures.bytes in
-    let flights : c.prepare.new.self ≡ with_write page (new_write at b) (lengthened (ends_short page f) page f) = c.in-Ok.ensures.ok ∙ ap (λ (bytes : List ℕ). with_write page (record { image = bytes; halved = false }) (lengthened (ends_short page f) page f)) image in
-    λ copies st files known low.
-    subst (λ (x : Buffered). StandsFlown x c.prepare.new.self (with_noted page copies) after) (sym c.begin_flush.ensures)
-    (subst (λ (x : Flights). StandsFlown (with_change at begun b) x (with_noted page copies) after) (sym flights)
-    (stands_begun b f copies page at changes (is_waiting_there page b at waits) known low before after c.in-Ok.ensures.disk st files))
-
--- the disk failed
-fault : (g : _) (c : goal.After-laws-in-Err-Fault-2 g) → IsBeforeOrAfter (g.D.PageDisk.state c.args.disk.now).told (g.D.PageDisk.state c.prepare.new.disk).told (reaching (record { space = c.args.space; number = c.args.number }))
-fault g c = c.in-Err-Fault.ensures.fault (ap (λ (r : Refusal). Err r) c.in-Err-Fault.field-0-is)
-
-stood : (g : _) (c : goal.After-laws-in-Err-Fault-2 g) (copies : Copies) → StandsFlown c.args.buffer.now c.args.self.now copies (g.D.PageDisk.state c.args.disk.now).told → StandsFlown c.fail_flush.new.self c.prepare.new.self copies (g.D.PageDisk.state c.prepare.new.disk).told
-stood g c copies st =
-    let b : Buffered = c.args.buffer.now in
-    let f : Flights = c.args.self.now in
-    let page : PageName = record { space = c.args.space; number = c.args.number } in
-    let at : ℕ = c.in_ok-at.at in
-    let before = (g.D.PageDisk.state c.args.disk.now).told in
-    let after = (g.D.PageDisk.state c.prepare.new.disk).told in
-    let waits = c.in_ok-at.ensures.ok in
-    let changes = changes_at b c.begin_flush-in-Err-Fault.new.self page at begun c.laws.ensures.pool c.begin_flush-in-Err-Fault.ensures c.laws-in-Err-Fault.ensures.pool waits.dirty.holder.name in
-    let path : c.fail_flush.new.self ≡ with_change at failed (with_change at begun b) = c.fail_flush.ensures ∙ ap (with_change at failed) c.begin_flush-in-Err-Fault.ensures in
-    let again = changes_at (with_change at begun b) c.fail_flush.new.self page at failed changes.new path c.laws-in-Err-Fault-2.ensures.pool (begun_name page b at waits) in
-    subst (λ (x : Buffered). StandsFlown x c.prepare.new.self copies after) (sym path)
-    (subst (λ (x : Flights). StandsFlown (with_change at failed (with_change at begun b)) x copies after) (sym c.in-Err-Fault.ensures.err)
-    (stands_fault b f copies page at changes again (is_waiting_there page b at waits) before after (fault g c) st))
-
-pub returns-in-Err-Fault-clause-files : goal.returns-in-Err-Fault-clause-files
-returns-in-Err-Fault-clause-files g c =
-    let f : Flights = c.args.self.now in
-    let page : PageName = record { space = c.args.space; number = c.args.number } in
-    let after = (g.D.PageDisk.state c.prepare.new.disk).told in
-    λ had. subst (λ (x : Flights). ForTold after (HasFiles x.files)) (sym c.in-Err-Fault.ensures.err) (files_failed f page (g.D.PageDisk.state c.args.disk.now).told after (fault g c) had)
-
-pub returns-in-Err-Fault-clause-stands : goal.returns-in-Err-Fault-clause-stands
-returns-in-Err-Fault-clause-stands g c =
-    λ copies st files known low. stands_noted c.fail_flush.new.self c.prepare.new.self copies (record { space = c.args.space; number = c.args.number }) (g.D.PageDisk.state c.prepare.new.disk).told (stood g c copies st)
-
-pub returns-in-Err-Fault-clause-unwritten : goal.returns-in-Err-Fault-clause-unwritten
-returns-in-Err-Fault-clause-unwritten g c = λ _ copies st. stood g c copies st
+    λ copies st files known low. c.reach.ensures.stands c.start.new.buffer (with_noted page copies) (g.D.PageDisk.state c.start.new.disk).told (c.in_ok-start.ensures.stands copies st files known low)

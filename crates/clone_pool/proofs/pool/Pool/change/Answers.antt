@@ -1,15 +1,15 @@
 use Rattle.std.proofs.Common.{◌<◌, ◌∙◌, length, ap, subst, sym, arith}
 use Rattle.std.proofs.lemmas.List.{get_or_read}
-use Rattle.clone_pool.specs.Frames.{no_frame, frame_at, name_of, HoldsPage}
+use Rattle.clone_pool.specs.Frames.{no_frame, frame_at, claim_of, HoldsPage}
 use Rattle.clone_pool.specs.Pool.{Frames, IsFrame}
-use Rattle.clone_pool.proofs.FrameLemmas.{changed_frame, changed_name}
+use Rattle.clone_pool.proofs.FrameLemmas.{changed_frame, changed_claim}
 use Rattle.clone_pool.proofs.PoolLemmas.{edited}
 use Rattle.clone_pool.proofs.pool.Pool.change.Goals as goal
 
 pub invariant_of-self : goal.invariant_of-self
 invariant_of-self c =
     let i = c.self.inside in
-    let v : Frames = record { frames = i.frames.items; uses = i.uses } in
+    let v : Frames = record { frames = i.frames.items; uses = i.uses; missed = i.missed } in
     let at = c.frame_number-at.result in
     let g = c.index_mut.result.now in
     let low = subst (λ (v : Frames). at < length v.frames) (sym c.self.view_is) c.frame_number-at.ensures.within in
@@ -17,4 +17,4 @@ invariant_of-self c =
     let here = sym (was ∙ ap (frame_at i.frames.items) c.frame_number-at.ensures.same ∙ ap (λ (v : Frames). frame_at v.frames c.args.at) c.self.view_is) in
     let fine = subst (IsFrame i.uses) (sym was) (c.self.invariant.pool.frame at) in
     let edit = subst (IsFrame i.uses) (sym c.change.ensures) (changed_frame i.uses g fine c.args.entry.now c.args.start c.args.end (omega arith) (subst HoldsPage here c.requires.holds)) in
-    edited v i.orders c.refresh.new.self c.self.invariant at i.uses c.change.new.self _ low (omega arith) c.self.invariant.pool.uses edit (ap name_of c.change.ensures ∙ changed_name c.args.entry.now c.args.start c.args.end g ∙ ap name_of was) c.deref.ensures.value c.refresh.ensures
+    edited v i.orders c.refresh.new.self c.self.invariant at i.uses c.change.new.self _ low (omega arith) c.self.invariant.pool.uses edit (ap claim_of c.change.ensures ∙ changed_claim c.args.entry.now c.args.start c.args.end g ∙ ap claim_of was) c.deref.ensures.value c.refresh.ensures

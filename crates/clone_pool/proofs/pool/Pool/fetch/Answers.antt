@@ -11,4 +11,4 @@ returns-in-Some-clause-held g c =
 pub returns-clause-held : goal.returns-clause-held
 returns-clause-held g c =
     let fills = c.in_ok-load.ensures.ok in
-    set_holder c.args.self.now.frames c.load.new.self _ _ c.in-Some-victim.at c.in-Some-victim.ensures.some.within fills.frames refl c.laws-2.ensures
+    set_holder c.args.self.now.frames c.load.new.self _ _ c.in-Some-frame_for.at c.in-Some-frame_for.ensures.some.within fills.frames refl c.laws-2.ensures

@@ -1,20 +1,19 @@
-use Rattle.std.proofs.Common.{◌∙◌, subst, sym, ap, arith}
-use Rattle.clone_pool.specs.declared.orders.Orders.{Orders}
-use Rattle.clone_pool.specs.Index.{frame_number_of}
-use Rattle.clone_pool.specs.Pool.{Frames, IsHolder}
-use Rattle.clone_pool.proofs.PoolLemmas.{holder_is}
+use Rattle.std.proofs.Common.{◌<◌, ◌∙◌, length, ap, subst, sym}
+use Rattle.std.proofs.lemmas.List.{get_or_read}
+use Rattle.clone_pool.specs.declared.frame.Frame.{Frame}
+use Rattle.clone_pool.specs.Frames.{no_frame, frame_at, is_loading}
+use Rattle.clone_pool.specs.Pool.{Frames}
+use Rattle.clone_pool.proofs.PoolLemmas.{claim_none, claim_loading}
 use Rattle.clone_pool.proofs.pool.Pool.find.Goals as goal
 
-pub overflow_cast-result : goal.overflow_cast-result
-overflow_cast-result c =
-    let i = c.self.inside in
-    let v : Frames = record { frames = i.frames.items; uses = i.uses } in
-    let is = holder_is v c.self.invariant.pool c.args.name c.in-Some.at (ap (λ (o : Orders). frame_number_of c.args.name o.names) (sym c.self.invariant.orders_is) ∙ sym c.in-Some.ensures) in
-    omega (arith, is.within, c.self.invariant.pool.count)
+pub returns-in_default-clause-holder : goal.returns-in_default-clause-holder
+returns-in_default-clause-holder c = sym (claim_none c.args.self.now c.laws.ensures c.args.name (sym c.claimant.ensures.claimant ∙ c.in_default.is)).0
 
-pub returns-in-Some-clause-held : goal.returns-in-Some-clause-held
-returns-in-Some-clause-held c =
+pub returns-then-is_loading-clause-holder : goal.returns-then-is_loading-clause-holder
+returns-then-is_loading-clause-holder c =
     let i = c.self.inside in
-    let v : Frames = record { frames = i.frames.items; uses = i.uses } in
-    subst (λ (v : Frames). IsHolder c.args.name v.frames c.in-Some.at) c.self.view_is
-    (holder_is v c.self.invariant.pool c.args.name c.in-Some.at (ap (λ (o : Orders). frame_number_of c.args.name o.names) (sym c.self.invariant.orders_is) ∙ sym c.in-Some.ensures))
+    let v : Frames = c.args.self.now in
+    let at = c.in-Some.at in
+    let was = get_or_read i.frames.items c.claimed.result c.index.result.now (subst (λ (v : Frames). c.claimed.result < length v.frames) (sym c.self.view_is) c.claimed.ensures.within) c.index.ensures no_frame in
+    let here = was ∙ ap (frame_at i.frames.items) c.claimed.ensures.same ∙ ap (λ (v : Frames). frame_at v.frames at) c.self.view_is in
+    sym (claim_loading v c.laws.ensures c.args.name at c.in-Some.ensures.claims.claimant (sym (ap (λ (f : Frame). is_loading f.content) here) ∙ sym c.is_loading.ensures ∙ c.if-is_loading.true)).0

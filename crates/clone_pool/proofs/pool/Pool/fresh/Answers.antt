@@ -16,4 +16,4 @@ returns-in-Some-clause-held c =
 
 pub returns-clause-held : goal.returns-clause-held
 returns-clause-held c =
-    set_holder c.args.self.now.frames c.take.new.self _ _ c.in-Some-victim.at c.in-Some-victim.ensures.some.within (ap (λ (v : Frames). v.frames) c.take.ensures) refl c.laws-2.ensures
+    set_holder c.args.self.now.frames c.take.new.self _ _ c.in-Some-frame_for.at c.in-Some-frame_for.ensures.some.within (ap (λ (v : Frames). v.frames) c.take.ensures) refl c.laws-2.ensures

@@ -1,6 +1,6 @@
 use Rattle.std.proofs.Common.{◌<◌, ◌∙◌, length, ap, subst, sym, arith}
 use Rattle.std.proofs.lemmas.List.{get_or_read}
-use Rattle.clone_pool.specs.Frames.{no_frame, frame_at, name_of, HoldsPage}
+use Rattle.clone_pool.specs.Frames.{no_frame, frame_at, claim_of, HoldsPage}
 use Rattle.clone_pool.specs.Orders.{age_rank}
 use Rattle.clone_pool.specs.Pool.{Frames, IsFrame}
 use Rattle.clone_pool.proofs.FrameLemmas.{touched_frame}
@@ -10,7 +10,7 @@ use Rattle.clone_pool.proofs.pool.Pool.touch.Goals as goal
 pub invariant_of-self : goal.invariant_of-self
 invariant_of-self c =
     let i = c.self.inside in
-    let v : Frames = record { frames = i.frames.items; uses = i.uses } in
+    let v : Frames = record { frames = i.frames.items; uses = i.uses; missed = i.missed } in
     let at = c.frame_number-at.result in
     let g = c.index_mut.result.now in
     let number = c.next_use-self-inside.result in
@@ -20,4 +20,4 @@ invariant_of-self c =
     let fine = subst (IsFrame i.uses) (sym was) (c.self.invariant.pool.frame at) in
     let few = c.self.invariant.pool.uses in
     let edit = subst (IsFrame number) (sym c.touch.ensures) (touched_frame i.uses g fine number (omega (arith, c.next_use-self-inside.ensures)) (subst HoldsPage here c.requires)) in
-    used_frame v i.orders c.refresh_use.new.self c.self.invariant at number c.touch.new.self _ low (omega (arith, c.next_use-self-inside.ensures, few)) (omega (arith, c.next_use-self-inside.ensures)) edit (ap name_of c.touch.ensures ∙ ap name_of was) (ap age_rank c.touch.ensures ∙ ap age_rank was) c.deref.ensures.value c.refresh_use.ensures
+    used_frame v i.orders c.refresh_use.new.self c.self.invariant at number c.touch.new.self _ low (omega (arith, c.next_use-self-inside.ensures, few)) (omega (arith, c.next_use-self-inside.ensures)) edit (ap claim_of c.touch.ensures ∙ ap claim_of was) (ap age_rank c.touch.ensures ∙ ap age_rank was) c.deref.ensures.value c.refresh_use.ensures

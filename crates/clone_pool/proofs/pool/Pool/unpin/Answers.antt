@@ -10,7 +10,7 @@ use Rattle.clone_pool.proofs.pool.Pool.unpin.Goals as goal
 pub invariant_of-self : goal.invariant_of-self
 invariant_of-self c =
     let i = c.self.inside in
-    let v : Frames = record { frames = i.frames.items; uses = i.uses } in
+    let v : Frames = record { frames = i.frames.items; uses = i.uses; missed = i.missed } in
     let at = c.frame_number-at.result in
     let g = c.index_mut.result.now in
     let low = subst (λ (v : Frames). at < length v.frames) (sym c.self.view_is) c.frame_number-at.ensures.within in
