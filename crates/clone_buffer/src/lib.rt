@@ -6,6 +6,3 @@ mod shadow;
 
 pub use buffer::{Buffer, copy_laws, flush_laws, read_laws};
 pub use shadow::{Note, Shadow, sent};
-
-#[cfg(test)]
-mod tests;

@@ -7,6 +7,3 @@ mod refusal;
 
 pub use flusher::Flusher;
 pub use refusal::FlushRefusal;
-
-#[cfg(test)]
-mod tests;

@@ -10,6 +10,3 @@ mod tournament;
 
 pub use frame::{Content, Flush, Frame, PageName};
 pub use pool::{FetchRefusal, Pool};
-
-#[cfg(test)]
-mod tests;

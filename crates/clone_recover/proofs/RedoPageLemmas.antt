@@ -8,11 +8,9 @@ use Rattle.std.proofs.lemmas.List.{length-map, length-drop, length-take-le, appe
 use Rattle.std.proofs.lemmas.Option.{slice_get-get_or}
 use Rattle.clone_outside.specs.Disk.{DiskImage, ForTold, GivesQuiet, page_count, zero_page}
 use Rattle.clone_outside.specs.declared.disk.Held.{Held}
-use Rattle.clone_mtr.specs.declared.record.Record.{Record}
 use Rattle.clone_overlay.specs.Images.{redo_space, bytes_of, IsQuiet}
-use Rattle.clone_recover.specs.Reading.{redo_pages, redo_of, IsAtHand, HasRead, ReadsOn, KeepsOn, IsNoRedo, total_of, Loads}
+use Rattle.clone_recover.specs.Reading.{redo_pages, redo_of, IsAtHand, ReadsOn, KeepsOn, Loads}
 use Rattle.clone_recover.specs.declared.log.Log.{Log}
-use Rattle.clone_recover.specs.declared.refusal.RecoverRefusal.{RecoverRefusal}
 use Rattle.clone_recover.proofs.JoinedPageLemmas.{take_front, drop_front}
 
 at_bytes : (hs : List Held) (n : ℕ) → n < length hs → get_or (bytes_of hs) n [] ≡ (get_or hs n zero_page).bytes

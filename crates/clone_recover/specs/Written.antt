@@ -1,5 +1,5 @@
 -- An overlay that is written to its disk.
-use Rattle.std.specs.Prelude.{ℕ, ◌≡◌, ◌≤◌, ◌==◌, ◌&&◌, nat_lt, is_none, false, if◌then◌else◌, List, None, fold}
+use Rattle.std.specs.Prelude.{ℕ, ◌≡◌, ◌≤◌, ◌==◌, ◌&&◌, nat_lt, is_none, if◌then◌else◌, List, None, fold}
 use Rattle.std.specs.FinMap as finite
 use Rattle.clone_outside.specs.Disk.{DiskImage, whole, with_page, with_extended, with_created, with_removed, space_numbers}
 use Rattle.clone_image.specs.Image.{Image}

@@ -1,13 +1,10 @@
-//! The tests of the donor and of its engine: causes, opening, transactions, flushes and checkpoints
-//! over a disk in memory and over one that tells nothing, and the clones that the donor gives in
-//! stages. They stand apart, since a crate with tests is proved twice.
+//! The tests of the donor and of its engine: opening, the bytes of the log, and random walks with
+//! clones in stages. They stand apart, since a crate with tests is proved twice.
 #![tactic(auto)]
 
 #[cfg(test)]
-mod plain;
+mod log;
 #[cfg(test)]
-mod staged;
+mod opening;
 #[cfg(test)]
-mod staged_walk;
-#[cfg(test)]
-mod trx;
+mod walk;

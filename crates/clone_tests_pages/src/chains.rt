@@ -1,22 +1,32 @@
-use clone_base::{FIRST_LSN, PAGE_SIZE};
+//! The chains of the tables of a clone that has no redo, which recovery tests.
+
+use crate::disks::{complete, damaged, put, recovered};
+use clone_base::FIRST_LSN;
 use clone_memdisk::MemDisk;
-use clone_outside::{CloneEnd, Mark, PageDisk};
+use clone_outside::PageDisk;
 use clone_page::{NO_PAGE, Page, PageKind};
-use clone_recover::{RecoverRefusal, Why, recover};
+use clone_recover::{RecoverRefusal, Recovered, Why};
 use std::alloc::Global;
+use std::process::Abort;
 use std::test::Fail;
 
-// Where on a page the number of the next one stands, and where the dictionary's first entry does.
+// Where on a page the number of the next one stands, and where the dictionary's first two entries
+// do.
 const NEXT_AT: u16 = 12;
 
-const ENTRY_AT: u16 = 64;
+const FIRST_ENTRY_AT: u16 = 64;
+
+const SECOND_ENTRY_AT: u16 = 80;
 
 // How many pages a table has.
 const PAGES: u32 = 5;
 
+/// For each page of a table the one that it names.
+type Next = [u32; PAGES as usize];
+
 /// How many buckets a table has, the page that each of its pages names, and the page on which one
 /// of its chains is broken, if one is.
-type Chains = (u8, [u32; PAGES as usize], Option<u32>);
+type Chains = (u8, Next, Option<u32>);
 
 const CHAINS: [Chains; 9] = [
     // a chain of three pages beside one of two
@@ -39,11 +49,11 @@ const CHAINS: [Chains; 9] = [
     (6, [NO_PAGE, NO_PAGE, NO_PAGE, NO_PAGE, NO_PAGE], Some(5)),
 ];
 
-// Puts a page on the disk.
-fn put(disk: &mut MemDisk, space: u32, number: u32, page: &Page) -> Result<(), Fail> {
-    disk.write_half(space, number, page.bytes())?;
-    disk.write_rest(space, number, page.bytes())?;
-    Ok(())
+// A page with this kind and no rows.
+fn made(space: u32, number: u32, kind: PageKind) -> Page {
+    let mut page = Page::zero();
+    page.init(space, number, kind, FIRST_LSN);
+    page
 }
 
 // The bytes of the dictionary's entry of a table.
@@ -52,55 +62,54 @@ fn entry(table: u8, buckets: u8) -> [u8; 16] {
 }
 
 // A complete clone without redo, of which the dictionary has these two entries.
-fn complete(alloc: Global, first: &[u8; 16], second: &[u8; 16]) -> Result<MemDisk, Fail> {
+fn with_tables(alloc: Global, first: &[u8; 16], second: &[u8; 16]) -> Result<MemDisk, Fail> {
     let mut disk = MemDisk::new(alloc);
     disk.create(0, 1)?;
-    let mut system = Page::zero();
-    system.init(0, 0, PageKind::System, FIRST_LSN);
-    system.write_at(ENTRY_AT, first);
-    system.write_at(ENTRY_AT + 16, second);
-    put(&mut disk, 0, 0, &system)?;
-    let end = CloneEnd {
-        session: 1,
-        checkpoint: FIRST_LSN,
-        lsn: FIRST_LSN,
-        position: 0,
-    };
-    disk.write_mark(&Mark::Complete(end).to_bytes())?;
+    let mut system = made(0, 0, PageKind::System);
+    system.write_at(FIRST_ENTRY_AT, first);
+    system.write_at(SECOND_ENTRY_AT, second);
+    put(&mut disk, 0, 0, system.bytes())?;
+    complete(&mut disk, &[])?;
     Ok(disk)
 }
 
 // Gives the disk the pages of a table, each of which names the next one so.
-fn put_table(disk: &mut MemDisk, table: u32, next: &[u32; PAGES as usize]) -> Result<(), Fail> {
+fn put_table(disk: &mut MemDisk, table: u32, next: &Next) -> Result<(), Fail> {
     disk.create(table, PAGES)?;
     for number in 0..PAGES {
-        let mut page = Page::zero();
-        page.init(table, number, PageKind::Bucket, FIRST_LSN);
+        let mut page = made(table, number, PageKind::Bucket);
         page.write_at(NEXT_AT, &next[number as usize].to_be_bytes());
-        put(disk, table, number, &page)?;
+        put(disk, table, number, page.bytes())?;
     }
     Ok(())
 }
 
-// The refusal for a chain of a table that is broken on a page.
-fn broken(table: u32, page: u32) -> Option<RecoverRefusal> {
-    Some(RecoverRefusal::Damaged {
-        space: table,
-        page,
-        why: Why::Chain,
-    })
+// A complete clone of table 7 alone, whose chains are these.
+fn with_table(alloc: Global, buckets: u8, next: &Next) -> Result<MemDisk, Fail> {
+    let mut disk = with_tables(alloc, &entry(7, buckets), &[0; 16])?;
+    put_table(&mut disk, 7, next)?;
+    Ok(disk)
+}
+
+// What recovery answers of a table that is broken on a page, or of one that isn't broken.
+fn is_due(found: Result<Recovered, RecoverRefusal>, broken: Option<u32>) -> bool {
+    match broken {
+        Some(page) => found == damaged(7, page, Why::Chain),
+        None => found.is_ok(),
+    }
+}
+
+fn expect_chains(rt: &impl Abort, alloc: Global, chains: &Chains) -> Result<(), Fail> {
+    let (buckets, next, broken) = chains;
+    let mut disk = with_table(alloc, *buckets, next)?;
+    assert!(rt; is_due(recovered(alloc, &mut disk), *broken));
+    Ok(())
 }
 
 #[test]
 fn chains_of_one_table(rt: HostRuntime) -> Result<(), Fail> {
-    for (buckets, next, page) in CHAINS {
-        let mut disk = complete(rt.alloc(), &entry(7, buckets), &[0; 16])?;
-        put_table(&mut disk, 7, &next)?;
-        let wanted = match page {
-            Some(page) => broken(7, page),
-            None => None,
-        };
-        assert_eq!(rt; recover(rt.alloc(), &mut disk).err(), wanted);
+    for chains in &CHAINS {
+        expect_chains(&rt, rt.alloc(), chains)?;
     }
     Ok(())
 }
@@ -108,36 +117,33 @@ fn chains_of_one_table(rt: HostRuntime) -> Result<(), Fail> {
 // Tables go by their numbers, wherever their entries stand.
 #[test]
 fn the_first_table_that_is_broken(rt: HostRuntime) -> Result<(), Fail> {
-    let mut disk = complete(rt.alloc(), &entry(9, 1), &entry(3, 2))?;
+    let mut disk = with_tables(rt.alloc(), &entry(9, 1), &entry(3, 2))?;
     put_table(&mut disk, 9, &[5, NO_PAGE, NO_PAGE, NO_PAGE, NO_PAGE])?;
     put_table(&mut disk, 3, &[2, 1, NO_PAGE, NO_PAGE, NO_PAGE])?;
-    assert_eq!(rt; recover(rt.alloc(), &mut disk).err(), broken(3, 1));
+    assert!(rt; recovered(rt.alloc(), &mut disk) == damaged(3, 1, Why::Chain));
     Ok(())
 }
 
-// A page of a chain is tested at its first read, and an unused one ends the chain. What is behind
-// it isn't read, and none of these pages is written.
-#[test]
-fn pages_of_a_chain(rt: HostRuntime) -> Result<(), Fail> {
-    let mut disk = complete(rt.alloc(), &entry(7, 1), &[0; 16])?;
-    put_table(&mut disk, 7, &[1, 2, NO_PAGE, NO_PAGE, NO_PAGE])?;
-    put(&mut disk, 7, 1, &Page::zero())?;
-    let mut page = Page::zero();
-    page.init(7, 3, PageKind::Bucket, FIRST_LSN);
-    put(&mut disk, 7, 2, &page)?;
-    assert!(rt; recover(rt.alloc(), &mut disk).is_ok());
-    let mut bytes = [0; PAGE_SIZE];
-    disk.read_page(7, 2, &mut bytes)?;
-    assert_eq!(rt; Page::from_bytes(&bytes).number(), 3);
+// A clone of table 7 alone, whose page 2 has the number of another one.
+fn with_misplaced_page(alloc: Global, next: &Next) -> Result<MemDisk, Fail> {
+    let mut disk = with_table(alloc, 1, next)?;
+    put(&mut disk, 7, 2, made(7, 3, PageKind::Bucket).bytes())?;
+    Ok(disk)
+}
 
-    let mut disk = complete(rt.alloc(), &entry(7, 1), &[0; 16])?;
-    put_table(&mut disk, 7, &[2, NO_PAGE, NO_PAGE, NO_PAGE, NO_PAGE])?;
-    put(&mut disk, 7, 2, &page)?;
-    let refusal = RecoverRefusal::Damaged {
-        space: 7,
-        page: 2,
-        why: Why::Header,
-    };
-    assert_eq!(rt; recover(rt.alloc(), &mut disk), Err(refusal));
+// An unused page ends its chain, and what is behind it isn't read.
+#[test]
+fn a_chain_ends_at_an_unused_page(rt: HostRuntime) -> Result<(), Fail> {
+    let mut disk = with_misplaced_page(rt.alloc(), &[1, 2, NO_PAGE, NO_PAGE, NO_PAGE])?;
+    put(&mut disk, 7, 1, Page::zero().bytes())?;
+    assert!(rt; recovered(rt.alloc(), &mut disk).is_ok());
+    Ok(())
+}
+
+// A page of a chain is tested where it is read.
+#[test]
+fn a_chain_has_a_damaged_page(rt: HostRuntime) -> Result<(), Fail> {
+    let mut disk = with_misplaced_page(rt.alloc(), &[2, NO_PAGE, NO_PAGE, NO_PAGE, NO_PAGE])?;
+    assert!(rt; recovered(rt.alloc(), &mut disk) == damaged(7, 2, Why::Header));
     Ok(())
 }

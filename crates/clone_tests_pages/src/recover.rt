@@ -1,20 +1,47 @@
-use clone_base::{FIRST_LSN, PAGE_SIZE, REDO_SPACE};
+//! Recovery of complete clones, from redo whose bytes were worked out by hand.
+
+use crate::disks::{complete, damaged, put, read, recovered};
+use clone_base::REDO_SPACE;
 use clone_memdisk::MemDisk;
-use clone_outside::{CloneEnd, Mark, PageDisk};
+use clone_model::Value;
+use clone_outside::PageDisk;
 use clone_page::{Page, PageKind};
-use clone_recover::{RecoverRefusal, Recovered, Why, open_rows, recover};
-use std::alloc::{AllocError, Global};
+use clone_recover::{RecoverRefusal, Recovered, Why, open_rows};
+use std::alloc::Global;
 use std::process::Abort;
 use std::test::Fail;
 
-// The system space of 257 pages, and its first page.
+// A transaction that gave a row its value.
+const OPEN_CHANGE: [&[u8]; 8] = [
+    &OPENING,
+    &CREATE,
+    &BEGIN,
+    &UNDO,
+    &[0; 72],
+    &ROW,
+    &[0; 62],
+    &[6],
+];
+
+// The same, and its commit.
+const COMMITTED: [&[u8]; 9] = [
+    &OPENING,
+    &CREATE,
+    &BEGIN,
+    &UNDO,
+    &[0; 72],
+    &ROW,
+    &[0; 62],
+    &[6],
+    &COMMIT,
+];
+
 const OPENING: [u8; 21] = [
     4, 0, 0, 0, 0, 0, 0, 1, 1, // 257 pages in space 0
     1, 0, 0, 0, 0, 0, 0, 0, 0, 0, 1, // page 0 of it is a system page
     6,
 ];
 
-// Table 1 of four buckets, which the dictionary's first entry names.
 const CREATE: [u8; 39] = [
     4, 0, 0, 0, 1, 0, 0, 0, 4, // 4 pages in space 1
     2, 0, 0, 0, 0, 0, 0, 0, 0, 0, 64, 0, 16, // on page 0 of space 0, from 64 on, 16 bytes
@@ -22,73 +49,85 @@ const CREATE: [u8; 39] = [
     6,
 ];
 
-// Writer 0 begins its transaction 0 in undo slot 0.
 const BEGIN: [u8; 41] = [
     1, 0, 0, 0, 0, 0, 0, 0, 1, 0, 2, // page 1 of space 0 is an undo page
     2, 0, 0, 0, 0, 0, 0, 0, 1, 0, 40, 0, 16, // on it, from 40 on, 16 bytes
-    1, 0, 0, 0, 0, 0, 0, 0, 0, 0, 0, 0, 0, 0, 0, 0, // the header
+    1, 0, 0, 0, 0, 0, 0, 0, 0, 0, 0, 0, 0, 0, 0, 0, // writer 0 begins its transaction 0
     6,
 ];
 
-// An undo record of key 7, whose slot 0 on page 3 of table 1 was absent. Behind it come 72 zero
-// bytes.
 const UNDO: [u8; 37] = [
     2, 0, 0, 0, 0, 0, 0, 0, 1, 0, 64, 0, 96, // on page 1 of space 0, from 64 on, 96 bytes
-    0, 0, 0, 1, 0, 0, 0, 3, 0, 0, 2, 0, 0, 0, 0, 0, // table, page, slot, state, length
-    0, 0, 0, 0, 0, 0, 0, 7,
+    0, 0, 0, 1, 0, 0, 0, 3, 0, 0, 2, 0, 0, 0, 0, 0, // slot 0 of page 3 of table 1 was absent
+    0, 0, 0, 0, 0, 0, 0, 7, // key 7, without a value
 ];
 
-// The count of undo records, and the row of key 7 with the value "hi". Behind it come 62 zero
-// bytes.
 const ROW: [u8; 57] = [
-    2, 0, 0, 0, 0, 0, 0, 0, 1, 0, 42, 0, 2, 0, 1, // the count is 1
+    2, 0, 0, 0, 0, 0, 0, 0, 1, 0, 42, 0, 2, 0, 1, // the count of undo records is 1
     1, 0, 0, 0, 1, 0, 0, 0, 3, 0, 3, // page 3 of space 1 is a bucket page
     2, 0, 0, 0, 1, 0, 0, 0, 3, 0, 48, 0, 80, // on it, from 48 on, 80 bytes
     1, 2, 0, 0, 0, 0, 0, 0, // present, 2 bytes
-    0, 0, 0, 0, 0, 0, 0, 7, 104, 105,
+    0, 0, 0, 0, 0, 0, 0, 7, 104, 105, // key 7, "hi"
 ];
 
-// Undo slot 0 is free, and the commit position is 1.
 const COMMIT: [u8; 51] = [
     2, 0, 0, 0, 0, 0, 0, 0, 1, 0, 40, 0, 16, // on page 1 of space 0, from 40 on, 16 bytes
-    0, 0, 0, 0, 0, 0, 0, 0, 0, 0, 0, 0, 0, 0, 0, 0, // no header
+    0, 0, 0, 0, 0, 0, 0, 0, 0, 0, 0, 0, 0, 0, 0, 0, // undo slot 0 is free
     2, 0, 0, 0, 0, 0, 0, 0, 0, 0, 40, 0, 8, // on page 0 of it, from 40 on, 8 bytes
-    0, 0, 0, 0, 0, 0, 0, 1, 6,
+    0, 0, 0, 0, 0, 0, 0, 1, // one commit
+    6,
 ];
 
-// The log of a change that isn't committed yet, by its undo record.
-fn open_log(alloc: Global, undo: &[u8]) -> Result<Vec<u8>, AllocError> {
-    let mut log = Vec::new(alloc);
-    log.extend_from_slice(&OPENING)?;
-    log.extend_from_slice(&CREATE)?;
-    log.extend_from_slice(&BEGIN)?;
-    log.extend_from_slice(undo)?;
-    log.extend_from_slice(&[0; 72])?;
-    log.extend_from_slice(&ROW)?;
-    log.extend_from_slice(&[0; 62])?;
-    log.push(6)?;
-    Ok(log)
-}
+/// What is damaged by one byte at an offset of the redo: the offset, the byte, and the space, the
+/// page and the cause that recovery names.
+type Damage = (usize, u8, u32, u32, Why);
 
-// One byte is written on page 3 of space 1.
-const BYTE: [u8; 15] = [2, 0, 0, 0, 1, 0, 0, 0, 3, 0, 48, 0, 1, 9, 6];
-
-// How many pages the redo's space has.
-const REDO_PAGES: u32 = 2;
-
-/// A damaged log: the byte that stands at an offset of it, and the space, the page and the cause
-/// that recovery names.
-type Damaged = (usize, u8, u32, u32, Why);
-
-const DAMAGED: [Damaged; 7] = [
+const DAMAGES: [Damage; 7] = [
+    // no end mark
     (329, 5, REDO_SPACE, 0, Why::Redo),
+    // no first record
     (0, 7, REDO_SPACE, 0, Why::Redo),
+    // the dictionary names table 2
     (46, 2, 0, 0, Why::Dictionary),
+    // the undo record names table 2, page 9, state 3
     (117, 2, 0, 1, Why::Undo),
-    (124, 3, 0, 1, Why::Undo),
     (121, 9, 0, 1, Why::Undo),
+    (124, 3, 0, 1, Why::Undo),
+    // 161 undo records
     (224, 161, 0, 1, Why::Undo),
 ];
+
+// The byte 9 is written on page 3 of space 1, from 48 on.
+const BYTE: [u8; 15] = [2, 0, 0, 0, 1, 0, 0, 0, 3, 0, 48, 0, 1, 9, 6];
+
+// The same with the byte 8.
+const LAST_BYTE: [u8; 15] = [2, 0, 0, 0, 1, 0, 0, 0, 3, 0, 48, 0, 1, 8, 6];
+
+// The same in the redo's space, which has the number 4,294,967,040.
+const BYTE_OF_REDO: [u8; 15] = [2, 255, 255, 255, 0, 0, 0, 0, 3, 0, 48, 0, 1, 9, 6];
+
+/// A page LSN; the offset of one of these bytes, and what stands there; and the byte and the page
+/// LSN that the page has then.
+type Change = (u64, usize, u8, u8, u64);
+
+const CHANGES: [Change; 5] = [
+    // the page is older than the end of the mini-transaction, as old, or younger
+    (8_206, 13, 9, 9, 8_207),
+    (8_207, 13, 9, 0, 8_207),
+    (9_000, 13, 9, 0, 9_000),
+    // a space that isn't there, and a page past the end
+    (8_000, 4, 7, 0, 8_000),
+    (8_000, 8, 7, 0, 8_000),
+];
+
+// The redo of these parts.
+fn joined(alloc: Global, parts: &[&[u8]]) -> Result<Vec<u8>, Fail> {
+    let mut redo = Vec::new(alloc);
+    for part in parts {
+        redo.extend_from_slice(part)?;
+    }
+    Ok(redo)
+}
 
 // Puts this byte at an offset, if there is one.
 fn set(bytes: &mut [u8], offset: usize, byte: u8) {
@@ -97,51 +136,7 @@ fn set(bytes: &mut [u8], offset: usize, byte: u8) {
     }
 }
 
-// Puts a page on the disk.
-fn put(disk: &mut MemDisk, space: u32, number: u32, bytes: &[u8; PAGE_SIZE]) -> Result<(), Fail> {
-    disk.write_half(space, number, bytes)?;
-    disk.write_rest(space, number, bytes)?;
-    Ok(())
-}
-
-// A page of the disk.
-fn read(disk: &mut MemDisk, space: u32, number: u32) -> Result<[u8; PAGE_SIZE], Fail> {
-    let mut bytes = [0; PAGE_SIZE];
-    disk.read_page(space, number, &mut bytes)?;
-    Ok(bytes)
-}
-
-// Puts the redo's pages on the disk, as far as its space has pages.
-fn put_redo(disk: &mut MemDisk, redo: &[u8]) -> Result<(), Fail> {
-    disk.create(REDO_SPACE, REDO_PAGES)?;
-    let mut rest = redo;
-    for number in 0..REDO_PAGES {
-        let mut page = [0; PAGE_SIZE];
-        let length = rest.len().min(PAGE_SIZE);
-        page[..length].copy_from_slice(&rest[..length]);
-        put(disk, REDO_SPACE, number, &page)?;
-        rest = &rest[length..];
-    }
-    Ok(())
-}
-
-// Puts the redo on the disk, and the mark of a clone that is complete.
-fn complete(disk: &mut MemDisk, redo: &[u8]) -> Result<(), Fail> {
-    if redo.len() > REDO_PAGES as usize * PAGE_SIZE {
-        return Err(Fail::from("too much redo"));
-    }
-    put_redo(disk, redo)?;
-    let end = CloneEnd {
-        session: 1,
-        checkpoint: FIRST_LSN,
-        lsn: FIRST_LSN + redo.len() as u64,
-        position: 5,
-    };
-    disk.write_mark(&Mark::Complete(end).to_bytes())?;
-    Ok(())
-}
-
-// Space 1 has four pages, of which page 3 has rows and this page LSN.
+// Space 1 has four pages, of which page 3 is for rows and has this page LSN.
 fn based(alloc: Global, lsn: u64) -> Result<MemDisk, Fail> {
     let mut disk = MemDisk::new(alloc);
     disk.create(1, 4)?;
@@ -151,102 +146,116 @@ fn based(alloc: Global, lsn: u64) -> Result<MemDisk, Fail> {
     Ok(disk)
 }
 
-// How many rows a recovered disk has.
-fn count_rows(alloc: Global, disk: &mut MemDisk) -> Result<usize, Fail> {
-    Ok(open_rows(alloc, disk).ok().ok_or("rows")?.len())
+// Whether page 3 of space 1 has this byte from 48 on, and this page LSN.
+fn has_byte_and_lsn(disk: &mut MemDisk, byte: u8, lsn: u64) -> Result<bool, Fail> {
+    let bytes = read(disk, 1, 3)?;
+    Ok(bytes[48] == byte && Page::from_bytes(&bytes).lsn() == lsn)
 }
 
-// The disk has the row of key 7 in table 1 alone.
-fn expect_row(rt: &impl Abort, alloc: Global, disk: &mut MemDisk) -> Result<(), Fail> {
-    let rows = open_rows(alloc, disk).ok().ok_or("rows")?;
-    assert_eq!(rt; rows.len(), 1);
-    for (table, key, value) in &rows {
-        assert_eq!(rt; (*table, *key), (1, 7));
-        assert_eq!(rt; value.bytes(), b"hi".as_slice());
+// Whether a space has so many pages.
+fn has_pages(disk: &mut MemDisk, space: u32, pages: Option<u32>) -> Result<bool, Fail> {
+    Ok(disk.pages(space)? == pages)
+}
+
+// The rows of a recovered disk.
+fn rows_of(alloc: Global, disk: &mut MemDisk) -> Result<Vec<(u32, u64, Value)>, RecoverRefusal> {
+    open_rows(alloc, disk)
+}
+
+// The only row is that of key 7 in table 1, with the value "hi".
+fn is_one_row(rows: &[(u32, u64, Value)]) -> bool {
+    match rows {
+        [(table, key, value)] => { (*table, *key) == (1, 7) && value.bytes() == b"hi".as_slice() }
+        _ => false,
     }
-    Ok(())
+}
+
+// A disk without spaces, but for the redo of these parts.
+fn with_redo(alloc: Global, parts: &[&[u8]]) -> Result<MemDisk, Fail> {
+    let mut disk = MemDisk::new(alloc);
+    complete(&mut disk, &joined(alloc, parts)?)?;
+    Ok(disk)
 }
 
 #[test]
 fn a_committed_row(rt: HostRuntime) -> Result<(), Fail> {
-    let alloc = rt.alloc();
-    let mut log = open_log(alloc, &UNDO)?;
-    log.extend_from_slice(&COMMIT)?;
-    let mut disk = MemDisk::new(alloc);
-    complete(&mut disk, &log)?;
-    let early = open_rows(alloc, &mut disk).err();
-    assert_eq!(rt; early, Some(RecoverRefusal::Incomplete));
+    let mut disk = with_redo(rt.alloc(), &COMMITTED)?;
+    let early = rows_of(rt.alloc(), &mut disk).err();
+    assert!(rt; early == Some(RecoverRefusal::Incomplete));
     let numbers = Recovered {
         lsn: 8573,
         position: 5,
     };
-    assert_eq!(rt; recover(alloc, &mut disk), Ok(numbers));
-    expect_row(&rt, alloc, &mut disk)?;
-    // on a recovered disk the pages stay as they are
-    put(&mut disk, 1, 3, &[0; PAGE_SIZE])?;
-    assert_eq!(rt; recover(alloc, &mut disk), Ok(numbers));
-    assert_eq!(rt; count_rows(alloc, &mut disk)?, 0);
+    assert!(rt; recovered(rt.alloc(), &mut disk) == Ok(numbers));
+    let rows = rows_of(rt.alloc(), &mut disk).ok().ok_or("rows")?;
+    assert!(rt; is_one_row(&rows));
     Ok(())
+}
+
+// A disk whose redo makes its space 1 anew.
+fn with_space(alloc: Global) -> Result<MemDisk, Fail> {
+    let mut disk = with_redo(alloc, &OPEN_CHANGE)?;
+    disk.create(1, 9)?;
+    Ok(disk)
 }
 
 #[test]
 fn an_open_change_is_taken_back(rt: HostRuntime) -> Result<(), Fail> {
-    let alloc = rt.alloc();
-    let mut disk = MemDisk::new(alloc);
-    // the redo makes the space anew
-    disk.create(1, 9)?;
-    disk.create(2, 1)?;
-    complete(&mut disk, &open_log(alloc, &UNDO)?)?;
-    assert!(rt; recover(alloc, &mut disk).is_ok());
-    assert_eq!(rt; count_rows(alloc, &mut disk)?, 0);
-    let counts = [disk.pages(0)?, disk.pages(1)?, disk.pages(2)?];
-    assert_eq!(rt; counts, [Some(257), Some(4), Some(1)]);
-    let bytes = read(&mut disk, 1, 3)?;
-    assert_eq!(rt; Page::from_bytes(&bytes).lsn(), 8522);
-    let slot = [2, 0, 0, 0, 0, 0, 0, 0, 0, 0, 0, 0, 0, 0, 0, 7];
-    assert_eq!(rt; bytes.get(48..64), Some(slot.as_slice()));
+    let mut disk = with_space(rt.alloc())?;
+    assert!(rt; recovered(rt.alloc(), &mut disk).is_ok());
+    let rows = rows_of(rt.alloc(), &mut disk).ok().ok_or("rows")?;
+    assert!(rt; rows.is_empty());
+    assert!(rt; has_pages(&mut disk, 0, Some(257))? && has_pages(&mut disk, 1, Some(4))?);
+    assert!(rt; has_byte_and_lsn(&mut disk, 2, 8_522)?);
     let header = read(&mut disk, 0, 1)?;
-    assert_eq!(rt; header.get(40..56), Some([0; 16].as_slice()));
+    assert!(rt; header.get(40..56) == Some([0; 16].as_slice()));
     Ok(())
 }
 
-// A page takes a record exactly where it is older than the record's mini-transaction.
+// A disk with the redo of a change over a page with this LSN. One byte of the redo is this one.
+fn with_change(alloc: Global, lsn: u64, offset: usize, byte: u8) -> Result<MemDisk, Fail> {
+    let mut redo = BYTE;
+    set(&mut redo, offset, byte);
+    let mut disk = based(alloc, lsn)?;
+    complete(&mut disk, &redo)?;
+    Ok(disk)
+}
+
+// A change over a page that has an LSN leaves this byte and this LSN.
+fn expect_change(rt: &impl Abort, alloc: Global, change: &Change) -> Result<(), Fail> {
+    let (lsn, offset, put, byte, after) = *change;
+    let mut disk = with_change(alloc, lsn, offset, put)?;
+    assert!(rt; recovered(alloc, &mut disk).is_ok());
+    assert!(rt; has_byte_and_lsn(&mut disk, byte, after)?);
+    assert!(rt; has_pages(&mut disk, 1, Some(4))? && has_pages(&mut disk, 7, None)?);
+    Ok(())
+}
+
+// A record changes a page exactly where the page is there and older than the end of the record's
+// mini-transaction, and makes no space.
 #[test]
-fn a_page_that_is_newer(rt: HostRuntime) -> Result<(), Fail> {
-    for (lsn, byte, after) in [(8206, 9, 8207), (8207, 0, 8207), (9000, 0, 9000)] {
-        let mut disk = based(rt.alloc(), lsn)?;
-        complete(&mut disk, &BYTE)?;
-        assert!(rt; recover(rt.alloc(), &mut disk).is_ok());
-        let bytes = read(&mut disk, 1, 3)?;
-        assert_eq!(rt; (bytes[48], Page::from_bytes(&bytes).lsn()), (byte, after));
+fn a_change_over_a_page(rt: HostRuntime) -> Result<(), Fail> {
+    for change in &CHANGES {
+        expect_change(&rt, rt.alloc(), change)?;
     }
     Ok(())
 }
 
-// A record of a space that isn't there and one of a page past the end are passed over.
-#[test]
-fn pages_that_are_not_there(rt: HostRuntime) -> Result<(), Fail> {
-    for offset in [4, 8] {
-        let mut redo = BYTE;
-        set(&mut redo, offset, 7);
-        let mut disk = based(rt.alloc(), 8000)?;
-        complete(&mut disk, &redo)?;
-        assert!(rt; recover(rt.alloc(), &mut disk).is_ok());
-        assert_eq!(rt; [disk.pages(1)?, disk.pages(7)?], [Some(4), None]);
-    }
+// One byte of the redo is another one, and recovery says so.
+fn expect_damage(rt: &impl Abort, alloc: Global, damage: &Damage) -> Result<(), Fail> {
+    let (offset, byte, space, page, why) = *damage;
+    let mut redo = joined(alloc, &OPEN_CHANGE)?;
+    set(&mut redo, offset, byte);
+    let mut disk = MemDisk::new(alloc);
+    complete(&mut disk, &redo)?;
+    assert!(rt; recovered(alloc, &mut disk) == damaged(space, page, why));
     Ok(())
 }
 
-// What is damaged by one byte at an offset of the log of an open change.
 #[test]
-fn damaged_logs(rt: HostRuntime) -> Result<(), Fail> {
-    for (offset, byte, space, page, why) in DAMAGED {
-        let mut log = open_log(rt.alloc(), &UNDO)?;
-        set(&mut log, offset, byte);
-        let mut disk = MemDisk::new(rt.alloc());
-        complete(&mut disk, &log)?;
-        let refusal = RecoverRefusal::Damaged { space, page, why };
-        assert_eq!(rt; recover(rt.alloc(), &mut disk), Err(refusal));
+fn damaged_redo(rt: HostRuntime) -> Result<(), Fail> {
+    for damage in &DAMAGES {
+        expect_damage(&rt, rt.alloc(), damage)?;
     }
     Ok(())
 }
@@ -254,50 +263,40 @@ fn damaged_logs(rt: HostRuntime) -> Result<(), Fail> {
 // A page is damaged whose trailer isn't that of its page LSN, where redo names it.
 #[test]
 fn a_damaged_page(rt: HostRuntime) -> Result<(), Fail> {
-    let mut disk = based(rt.alloc(), 8000)?;
+    let mut disk = based(rt.alloc(), 8_000)?;
     let mut bytes = read(&mut disk, 1, 3)?;
-    bytes[4095] = 1;
+    set(&mut bytes, 4_095, 1);
     put(&mut disk, 1, 3, &bytes)?;
     complete(&mut disk, &BYTE)?;
-    let refusal = RecoverRefusal::Damaged {
-        space: 1,
-        page: 3,
-        why: Why::Header,
-    };
-    assert_eq!(rt; recover(rt.alloc(), &mut disk), Err(refusal));
+    assert!(rt; recovered(rt.alloc(), &mut disk) == damaged(1, 3, Why::Header));
     Ok(())
 }
 
 // A record is damaged that names the redo's space.
 #[test]
 fn a_record_of_the_redo_itself(rt: HostRuntime) -> Result<(), Fail> {
-    let mut redo = BYTE;
-    redo[1..5].copy_from_slice(&REDO_SPACE.to_be_bytes());
-    let mut disk = based(rt.alloc(), 8000)?;
-    complete(&mut disk, &redo)?;
-    let refusal = RecoverRefusal::Damaged {
-        space: REDO_SPACE,
-        page: 0,
-        why: Why::Redo,
-    };
-    assert_eq!(rt; recover(rt.alloc(), &mut disk), Err(refusal));
+    let mut disk = based(rt.alloc(), 8_000)?;
+    complete(&mut disk, &BYTE_OF_REDO)?;
+    assert!(rt; recovered(rt.alloc(), &mut disk) == damaged(REDO_SPACE, 0, Why::Redo));
     Ok(())
+}
+
+// So many changes, of which the last is another byte.
+fn many_changes(alloc: Global, count: u32) -> Result<Vec<u8>, Fail> {
+    let mut redo = Vec::new(alloc);
+    for _ in 1..count {
+        redo.extend_from_slice(&BYTE)?;
+    }
+    redo.extend_from_slice(&LAST_BYTE)?;
+    Ok(redo)
 }
 
 // The last of 274 mini-transactions of 15 bytes lies on two pages of the redo.
 #[test]
 fn redo_on_two_pages(rt: HostRuntime) -> Result<(), Fail> {
-    let mut redo = Vec::new(rt.alloc());
-    for _ in 0..273 {
-        redo.extend_from_slice(&BYTE)?;
-    }
-    let mut last = BYTE;
-    last[13] = 8;
-    redo.extend_from_slice(&last)?;
-    let mut disk = based(rt.alloc(), 8000)?;
-    complete(&mut disk, &redo)?;
-    assert!(rt; recover(rt.alloc(), &mut disk).is_ok());
-    let bytes = read(&mut disk, 1, 3)?;
-    assert_eq!(rt; (bytes[48], Page::from_bytes(&bytes).lsn()), (8, 12302));
+    let mut disk = based(rt.alloc(), 8_000)?;
+    complete(&mut disk, &many_changes(rt.alloc(), 274)?)?;
+    assert!(rt; recovered(rt.alloc(), &mut disk).is_ok());
+    assert!(rt; has_byte_and_lsn(&mut disk, 8, 12_302)?);
     Ok(())
 }

@@ -1,7 +1,6 @@
 use Rattle.std.proofs.Common.{◌∙◌, ◌<◌, refl, sym, ap, arith}
 use Rattle.std.specs.Prelude.{option_copied}
 use Rattle.std.proofs.lemmas.Result.{IfOk-weaker}
-use Rattle.clone_outside.proofs.DiskCallLemmas.{weaker}
 use Rattle.clone_recover.specs.Walks.{held, unused, read}
 use Rattle.clone_recover.proofs.chains.behind_in.Goals as goal
 

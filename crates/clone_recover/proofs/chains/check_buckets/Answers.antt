@@ -1,4 +1,4 @@
-use Rattle.std.proofs.Common.{◌≡◌, ◌∙◌, ◌+◌, suc, refl, arith}
+use Rattle.std.proofs.Common.{◌≡◌, ◌+◌, suc, arith}
 use Rattle.std.proofs.lemmas.Result.{err_from_is_err_and}
 use Rattle.clone_outside.proofs.DiskCallLemmas.{reads_none, reads_then}
 use Rattle.clone_recover.proofs.TableLemmas.{tested_none, tested_more, tested_fails, tested_all}

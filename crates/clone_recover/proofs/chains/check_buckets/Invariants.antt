@@ -1,4 +1,3 @@
-use Rattle.std.proofs.Common.{◌≡◌, ◌≤◌}
 use Rattle.clone_outside.specs.DiskCalls.{Reads}
 use Rattle.clone_recover.proofs.TableLemmas.{TestedOn}
 use Rattle.clone_recover.proofs.chains.check_buckets.Given as goal

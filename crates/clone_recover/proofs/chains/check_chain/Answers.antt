@@ -1,4 +1,4 @@
-use Rattle.std.proofs.Common.{◌≡◌, ◌∙◌, ◌+◌, set, refl, sym, true, false, arith}
+use Rattle.std.proofs.Common.{◌≡◌, ◌∙◌, ◌+◌, set, sym, true, false, arith}
 use Rattle.std.proofs.lemmas.Result.{err_from_is_err_and}
 use Rattle.clone_outside.proofs.DiskCallLemmas.{reads_none, reads_then}
 use Rattle.clone_recover.proofs.WalkLemmas.{fewer_unstamped, target_there, walks_begin, walks_go_on, walks_astray, walks_end, walks_join, then_stamped, then_whole, breaks, breaks_nowhere, breaks_header}

@@ -1,4 +1,4 @@
-use Rattle.std.proofs.Common.{◌≡◌, ◌<◌, ◌≤◌, length}
+use Rattle.std.proofs.Common.{◌<◌, length}
 use Rattle.clone_outside.specs.DiskCalls.{Reads}
 use Rattle.clone_recover.proofs.WalkLemmas.{WalksOn, unstamped}
 use Rattle.clone_recover.proofs.chains.check_chain.Given as goal

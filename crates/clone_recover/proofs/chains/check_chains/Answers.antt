@@ -1,5 +1,4 @@
 use Rattle.std.proofs.lemmas.Result.{err_from_is_err_and, on_ok_weaker, IfErr-weaker}
-use Rattle.clone_outside.proofs.DiskCallLemmas.{weaker}
 use Rattle.clone_recover.specs.Chains.{IsFirstBrokenChain}
 use Rattle.clone_recover.proofs.DiskStepLemmas.{on_ok_known}
 use Rattle.clone_recover.proofs.TableLemmas.{header_fails, chains_unbroken, chains_fail, chains_nowhere}

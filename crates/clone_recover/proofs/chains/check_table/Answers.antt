@@ -1,6 +1,5 @@
 use Rattle.std.proofs.Common.{◌≡◌, ◌∙◌, ℕ, List, replicate}
 use Rattle.std.proofs.lemmas.Result.{err_from_is_err_and, on_ok_weaker, IfErr-weaker}
-use Rattle.clone_outside.proofs.DiskCallLemmas.{weaker}
 use Rattle.clone_recover.specs.Damage.{IsChainOr}
 use Rattle.clone_recover.specs.Walks.{AreWhole, BreaksBelow}
 use Rattle.clone_recover.specs.declared.refusal.RecoverRefusal.TheVariants.{NoMemory}

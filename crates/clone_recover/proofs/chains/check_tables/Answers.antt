@@ -1,4 +1,4 @@
-use Rattle.std.proofs.Common.{◌∙◌, ◌<◌, ◌-◌, ◌^◌, refl, arith, subst}
+use Rattle.std.proofs.Common.{◌<◌, ◌-◌, ◌^◌, arith, subst}
 use Rattle.std.proofs.lemmas.Result.{err_from_is_err_and}
 use Rattle.clone_outside.proofs.DiskCallLemmas.{reads_none, reads_then}
 use Rattle.clone_recover.specs.Walks.{IsNextTable}

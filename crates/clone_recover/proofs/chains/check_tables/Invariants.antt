@@ -1,4 +1,4 @@
-use Rattle.std.proofs.Common.{◌≡◌, ◌≤◌, ◌-◌, ◌^◌}
+use Rattle.std.proofs.Common.{◌-◌, ◌^◌}
 use Rattle.clone_outside.specs.DiskCalls.{Reads}
 use Rattle.clone_recover.specs.Damage.{ForImage}
 use Rattle.clone_recover.proofs.TableLemmas.{AreWholeUpTo}

@@ -6,7 +6,6 @@ use Rattle.clone_undo.specs.Places.{capacity}
 use Rattle.clone_undo.specs.Slots.{entries}
 use Rattle.clone_undo.specs.declared.reading.SlotHeader.{SlotHeader}
 use Rattle.clone_image.specs.Recovered.{system_pages, all_undone}
-use Rattle.clone_outside.proofs.DiskCallLemmas.{weaker}
 use Rattle.clone_recover.specs.Damage.{HeaderOn, PageOrOn, CountsTooMany, IsBroken}
 use Rattle.clone_recover.specs.Undoing.{IsHeaderOf}
 use Rattle.clone_recover.proofs.OverlayReadLemmas.{same_itself, page_or_on}

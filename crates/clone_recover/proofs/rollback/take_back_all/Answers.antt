@@ -1,4 +1,4 @@
-use Rattle.std.proofs.Common.{◌∙◌, ℕ, refl, ◌≡◌, ◌+◌, suc, arith, subst}
+use Rattle.std.proofs.Common.{ℕ, ◌≡◌, ◌+◌, suc, arith, subst}
 use Rattle.std.proofs.lemmas.Result.{err_from_is_err_and}
 use Rattle.clone_undo.specs.Places.{undo_slot_count}
 use Rattle.clone_image.specs.Recovered.{undo_slot_of, taken_back}

@@ -1,4 +1,3 @@
-use Rattle.std.proofs.Common.{◌≡◌, ◌≤◌}
 use Rattle.clone_outside.specs.DiskCalls.{Reads}
 use Rattle.clone_recover.proofs.DiskUndoLemmas.{TakingOn}
 use Rattle.clone_recover.proofs.rollback.take_back_all.Given as goal

@@ -1,7 +1,6 @@
 use Rattle.std.proofs.Common.{ℕ, refl, inl}
 use Rattle.std.proofs.lemmas.Result.{err_from_is_err_and, on_ok_weaker, IfErr-weaker}
 use Rattle.clone_image.specs.Recovered.{recovered}
-use Rattle.clone_outside.proofs.DiskCallLemmas.{weaker}
 use Rattle.clone_recover.specs.Damage.{PageOrOn, HasTooMany, HasBroken, IsFirstBroken}
 use Rattle.clone_recover.proofs.Counts.{first_broken}
 use Rattle.clone_recover.proofs.OverlayReadLemmas.{same_itself, for_same, edited_after, page_or_on}

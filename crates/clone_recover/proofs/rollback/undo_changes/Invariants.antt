@@ -1,4 +1,3 @@
-use Rattle.std.proofs.Common.{◌≡◌, ◌≤◌}
 use Rattle.clone_outside.specs.DiskCalls.{Reads}
 use Rattle.clone_recover.proofs.DiskUndoLemmas.{HalfwayOn}
 use Rattle.clone_recover.proofs.rollback.undo_changes.Given as goal

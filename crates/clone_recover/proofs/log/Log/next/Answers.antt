@@ -1,4 +1,4 @@
-use Rattle.std.proofs.Common.{◌≡◌, ◌≤◌, List, ℕ, length, take, refl, sym, subst, arith, rules, Err}
+use Rattle.std.proofs.Common.{◌≡◌, ◌≤◌, List, ℕ, length, take, sym, subst, arith, rules, Err}
 use Rattle.std.specs.List.{AllByRecursion}
 use Rattle.clone_mtr.specs.Answers.{Decodes}
 use Rattle.clone_mtr.specs.Spelling.{Spells}

@@ -1,6 +1,6 @@
-use Rattle.std.proofs.Common.{◌≡◌, length, refl, arith, rules}
+use Rattle.std.proofs.Common.{◌≡◌, length, refl, rules}
 use Rattle.clone_recover.specs.declared.log.Log.{Log}
-use Rattle.clone_recover.proofs.RedoFrontLemmas.{in_order, rest_long, reads_next}
+use Rattle.clone_recover.proofs.RedoFrontLemmas.{in_order, reads_next}
 use Rattle.clone_recover.proofs.log.Log.pass.Goals as goal
 
 pub returns-clause-read : goal.returns-clause-read
