@@ -7,11 +7,7 @@ mod connection;
 mod cut;
 mod mem_end;
 mod mem_net;
-#[cfg(test)]
-mod net_tests;
 mod piece;
-#[cfg(test)]
-mod tests;
 mod way;
 
 pub use connection::{Connection, LinkAnswer, LinkCall, LinkMachine, received_begins_sent};

@@ -3,6 +3,5 @@ pub mod Main
 pub mod Carrying
 pub mod Saying
 pub mod Stops
-pub mod Streams
 pub mod Looking
 pub mod Ended

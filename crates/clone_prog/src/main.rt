@@ -1,7 +1,6 @@
 //! The program: it reads a script, carries out its lines, and writes their answers and the binlog.
 #![tactic(auto)]
 
-mod adapters;
 mod read;
 mod reading;
 mod run;
@@ -9,8 +8,9 @@ mod status;
 #[cfg(test)]
 mod tests;
 
-use adapters::{StdSink, StdSource};
 use clone_memdisk::MemDisk;
+use clone_outside::{MemSink, Refusal, write_all};
+use clone_real::{StdSink, StdSource};
 use run::clone_main;
 use status::Status;
 use std::alloc::AllocError;
@@ -20,13 +20,21 @@ use std::io::ErrorKind;
 use std::process::ExitCode;
 
 fn main(rt: HostRuntime) -> ExitCode {
-    let alloc = rt.alloc();
-    let Ok(words) = words_of(&rt) else {
-        return ExitCode::from(Status::Memory.number());
+    let status = match run_program(rt) {
+        Ok(status) => status,
+        Err(refusal) => Status::from(refusal).number(),
     };
+    ExitCode::from(status)
+}
+
+/// Runs the script that comes in, and says with which status. The output waits in a buffer, and the
+/// binlog goes out once the whole output has.
+fn run_program(rt: HostRuntime) -> Result<u8, Refusal> {
+    let alloc = rt.alloc();
+    let words = words_of(&rt)?;
     let mut source = StdSource::new(rt.stdin());
-    let mut out = StdSink::new(rt.stdout());
-    let mut binlog = StdSink::new(rt.stderr());
+    let mut out = StdSink::new(alloc, rt.stdout())?;
+    let mut commits = MemSink::new(alloc);
     let donor = MemDisk::new(alloc);
     let recipient = MemDisk::new(alloc);
     let ended = clone_main(
@@ -34,11 +42,15 @@ fn main(rt: HostRuntime) -> ExitCode {
         &words,
         &mut source,
         &mut out,
-        &mut binlog,
+        &mut commits,
         donor,
         recipient,
     );
-    ExitCode::from(ended.status)
+    out.flush()?;
+    let mut binlog = StdSink::new(alloc, rt.stderr())?;
+    write_all(&mut binlog, commits.bytes())?;
+    binlog.flush()?;
+    Ok(ended.status)
 }
 
 /// The words of the command line behind the program's name, or none where one of them is no text.

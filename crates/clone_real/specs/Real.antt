@@ -21,6 +21,11 @@ counted faults (Ok x) = faults
 counted faults (Err Fault) = raised faults
 counted faults (Err NoMemory) = faults
 
+-- the disk after a call that was answered so: a fault raises its count by one, and nothing else
+-- changes what is seen of it
+abbrev pub after : {T : Type 0} → FileDiskModel → Result T Refusal → FileDiskModel
+after disk answer = record disk { faults = counted disk.faults answer }
+
 -- it tells nothing of what it holds, nor of what a stop may leave
 abbrev pub state_of : FileDiskModel → DiskState
 state_of d = record { told = None; stops = None; failures = d.faults; orders = d.orders }

@@ -14,8 +14,6 @@ mod socket_net;
 mod space_file;
 mod std_sink;
 mod std_source;
-#[cfg(test)]
-mod tests;
 
 pub use any_disk::AnyDisk;
 pub use any_net::{AnyEnd, AnyName, AnyNet};

@@ -1,7 +1,6 @@
-ghost use Rattle.std.specs.Prelude.{◌≡◌, ◌≤◌, true, false, OnOk, None};
-ghost use Rattle.clone_outside.specs.Bytes.{TakesSome, appended};
+ghost use Rattle.std.specs.Prelude.{◌≡◌, ◌≤◌, false, None};
 ghost use Rattle.clone_outside.specs.Link.{Receives, GivesSome, LossRose, RefusalRose};
-ghost use Rattle.clone_outside.specs.Causes.{raised};
+ghost use Rattle.clone_real.specs.Sockets.{after_send, after_receive, new_end};
 
 use clone_outside::{Link, LinkRefusal, Received, Side};
 use std::io::{ErrorKind, Read, Write};
@@ -39,9 +38,7 @@ impl Model for SocketEnd {
 impl SocketEnd {
     // The open end of the connection with this number.
     pub(crate) fn new(stream: TcpStream, number: u64, side: Side) -> SocketEnd
-        ensures number { result.number ≡ number }
-        ensures side { result.side ≡ side }
-        ensures open { result.is_open ≡ true }
+        ensures { result ≡ new_end number side }
     {
         SocketEnd {
             stream: Some(stream),
@@ -74,7 +71,12 @@ impl Link for SocketEnd {
     }
 
     /// Waits while the system has no room. Each of its errors is a loss.
-    fn send(&mut self, from: &[u8]) -> Result<(), LinkRefusal> {
+    fn send(&mut self, from: &[u8]) -> Result<(), LinkRefusal>
+        ensures count { self.old.faults ≤ self.new.faults }
+        ensures cause { RefusalRose self.old.faults self.new.faults result }
+
+        ensures after { self.new ≡ after_send self.old result }
+    {
         let sent = match &mut self.stream {
             Some(stream) => stream.write_all(from).is_ok(),
             None => false,
@@ -88,7 +90,14 @@ impl Link for SocketEnd {
 
     /// Waits a short time for bytes, if none are there. The end of the stream and each error of the
     /// system are a loss.
-    fn receive(&mut self, into: &mut [u8]) -> Result<Received, LinkRefusal> {
+    fn receive(&mut self, into: &mut [u8]) -> Result<Received, LinkRefusal>
+        ensures bytes { Receives None None result into.new }
+        ensures some { GivesSome result into.new }
+        ensures count { self.old.faults ≤ self.new.faults }
+        ensures cause { LossRose self.old.faults self.new.faults result }
+
+        ensures after { self.new ≡ after_receive self.old result }
+    {
         if into.is_empty() {
             return Ok(Received::Bytes(0));
         }
@@ -107,7 +116,9 @@ impl Link for SocketEnd {
 
     /// Closes both ways. What the other end sent by now is taken in first, so that the system
     /// delivers what this end sent.
-    fn close(&mut self) {
+    fn close(&mut self)
+        ensures closed { self.new ≡ record self.old { is_open = false } }
+    {
         if let Some(mut stream) = self.stream.take() {
             take_leave(&mut stream);
         }

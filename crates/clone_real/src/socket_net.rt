@@ -1,9 +1,8 @@
 //! Makes connections over TCP on this host. Those that are settled are no more than were made.
-ghost use Rattle.std.specs.Prelude.{◌≡◌, ◌+◌, ◌-◌, ◌<◌, ◌≤◌, ℕ, true, IfOk, OnOk, OnErr, None};
-ghost use Rattle.clone_outside.specs.Causes.{HasCause};
-ghost use Rattle.clone_outside.specs.Link.{IsUnused, ReceivedOf};
+ghost use Rattle.std.specs.Prelude.{◌≡◌, ◌+◌, ◌-◌, ◌^◌, ◌<◌, ◌≤◌, ℕ, min, IfOk, OnOk, OnErr};
+ghost use Rattle.clone_outside.specs.Causes.{HasCause, raised};
 ghost use Rattle.clone_outside.specs.declared.link.Side.TheVariants.{Donor, Requester};
-ghost use Rattle.clone_real.specs.Sockets.{fresh_net};
+ghost use Rattle.clone_real.specs.Sockets.{fresh_net, new_end};
 
 use crate::socket_end::SocketEnd;
 use clone_outside::{Link, Net, Refusal, Side};
@@ -82,7 +81,19 @@ impl<R: net::Net<Stream = TcpStream, Listener = TcpListener> + Drop> Net for Soc
     }
 
     /// Connects two sockets. Each error of the system is a fault.
-    fn pair(&mut self) -> Result<(SocketEnd, SocketEnd), Refusal> {
+    fn pair(&mut self) -> Result<(SocketEnd, SocketEnd), Refusal>
+        ensures donor { IfOk result (λ r. r.0 ≡ new_end self.old.made Donor) }
+        ensures requester { IfOk result (λ r. r.1 ≡ new_end self.old.made Requester) }
+        ensures made { OnOk result (self.new ≡ record self.old {
+          made = self.old.made + 1;
+          unsettled = self.old.unsettled + 1;
+        }) }
+        ensures failed { OnErr result
+            (self.new ≡ record self.old { faults = raised self.old.faults }) }
+        ensures keeps { (n : ℕ) → n < self.old.made → n < self.new.made }
+        ensures planned { self.new.planned ≡ self.old.planned }
+        ensures cause { HasCause self.old.faults self.new.faults result }
+    {
         let number = self.made;
         match connected(&self.rt) {
             Ok((donor, requester)) if number < u64::MAX => {
@@ -100,7 +111,14 @@ impl<R: net::Net<Stream = TcpStream, Listener = TcpListener> + Drop> Net for Soc
     }
 
     /// Takes both ends back, and closes those that are open. Their faults are then its own.
-    fn settle(&mut self, donor_end: SocketEnd, requester_end: SocketEnd) {
+    fn settle(&mut self, donor_end: SocketEnd, requester_end: SocketEnd)
+        ensures count { self.old.faults ≤ self.new.faults }
+
+        ensures settled { self.new ≡ record self.old {
+          unsettled = self.old.unsettled - 1;
+          faults = min (self.old.faults + donor_end.faults + requester_end.faults) (2 ^ 64 - 1);
+        } }
+    {
         let found = donor_end.faults().saturating_add(requester_end.faults());
         self.faults = self.faults.saturating_add(found);
         if self.settled < self.made {
@@ -109,7 +127,9 @@ impl<R: net::Net<Stream = TcpStream, Listener = TcpListener> + Drop> Net for Soc
     }
 
     /// Notes the number, and cuts none.
-    fn plan_cuts(&mut self, connections: u32) {
+    fn plan_cuts(&mut self, connections: u32)
+        ensures planned { self.new ≡ record self.old { planned = connections } }
+    {
         self.planned = connections;
     }
 }

@@ -13,8 +13,6 @@ mod machine;
 mod pass;
 mod raw;
 mod rule;
-#[cfg(test)]
-mod tests;
 mod view;
 
 pub use adder::{Added, Adder, add_by_two, add_often};

@@ -4,8 +4,6 @@
 mod command;
 mod options;
 mod reading;
-#[cfg(test)]
-mod tests;
 
 pub use command::{Command, Dump, Place, Recover, Run};
 pub use reading::{WordsRefusal, parse, places};

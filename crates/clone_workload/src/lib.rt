@@ -2,8 +2,6 @@
 #![tactic(auto)]
 
 mod generator;
-#[cfg(test)]
-mod tests;
 mod words;
 
 pub use generator::{INDEX_LIMIT, KEYS, KINDS, MOST_CHANGES, generated, stream_laws};

@@ -11,7 +11,7 @@ use Rattle.std.proofs.result.Result.TheSendSync.{the_send as result_send}
 use Rattle.std.proofs.vec.Vec.TheSendSync.{the_send as vec_send}
 use Rattle.clone_turn.proofs.TupleThreadLemmas.{two_send, three_send}
 use Rattle.clone_memlink.proofs.EndThreadLemmas.{end_send}
-use Rattle.clone_memlink.proofs.net_tests.talk_by_two.Goals as goal
+use Rattle.clone_tests_edge.proofs.links.talk_by_two.Goals as goal
 
 pub join-one-requires-send-A : goal.join-one-requires-send-A
 join-one-requires-send-A g c κs within =

@@ -3,8 +3,8 @@
 ghost use Rattle.std.specs.Prelude.{◌<◌};
 ghost use Rattle.clone_workload.specs.declared.generator.TheConstants.{INDEX_LIMIT};
 
-use crate::generated;
 use clone_model::{Binlog, Commit, binlog_text};
+use clone_workload::generated;
 use std::alloc::{AllocError, Global};
 use std::test::Fail;
 

@@ -1,7 +1,7 @@
 use Rattle.std.proofs.Common.{◌≡◌, true}
-use Rattle.clone_memlink.proofs.net_tests.talk.Given as goal
+use Rattle.clone_tests_edge.proofs.links.talk.Given as goal
 
 abbrev pub invariant-loop : goal.invariant-loop
 invariant-loop g l =
     (goal.iterator-loop g).can_next l.iterator' × (goal.iterator-loop g).is_finite l.iterator'
-    × (l.end.name ≡ l.fn.end.name) × (l.end.side ≡ l.fn.end.side) × (l.end.is_open ≡ true)
+    × (l.end.is_open ≡ true)

@@ -1,4 +1,4 @@
-use crate::{Connection, LinkAnswer, LinkCall, LinkMachine, Piece, Way};
+use clone_memlink::{Connection, LinkAnswer, LinkCall, LinkMachine, Piece, Way};
 use clone_outside::Side;
 use clone_turn::Machine;
 use std::alloc::{AllocError, Global};

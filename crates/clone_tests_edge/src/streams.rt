@@ -1,5 +1,5 @@
-use super::{StdSink, StdSource};
 use clone_outside::{Refusal, Sink, Source};
+use clone_real::{SINK_ROOM, StdSink, StdSource};
 use std::io;
 use std::io::{ErrorKind, Read, Write};
 use std::test::Fail;
@@ -53,12 +53,25 @@ fn a_failed_read_is_no_end(rt: HostRuntime) -> Result<(), Fail> {
 }
 
 #[test]
-fn a_short_write_is_short(rt: HostRuntime) -> Result<(), Fail> {
-    let mut sink = StdSink::new(Halting { calls: 0 });
-    assert_eq!(rt; sink.write(b"ab"), Ok(1));
-    assert_eq!(rt; sink.write(b"b"), Err(Refusal::Fault));
-    assert_eq!(rt; sink.write(b"b"), Err(Refusal::Fault));
-    assert_eq!(rt; sink.faults(), 2);
+fn bytes_wait_until_they_are_flushed(rt: HostRuntime) -> Result<(), Fail> {
+    let mut sink = StdSink::new(rt.alloc(), Halting { calls: 0 })?;
+    assert_eq!(rt; sink.write(b"ab"), Ok(2));
     assert_eq!(rt; sink.write(b""), Ok(0));
+    assert_eq!(rt; sink.faults(), 0);
+    assert_eq!(rt; sink.flush(), Err(Refusal::Fault));
+    assert_eq!(rt; sink.flush(), Err(Refusal::Fault));
+    assert_eq!(rt; sink.faults(), 2);
+    Ok(())
+}
+
+#[test]
+fn a_full_buffer_goes_out(rt: HostRuntime) -> Result<(), Fail> {
+    let mut sink = StdSink::new(rt.alloc(), Vec::new(rt.alloc()))?;
+    let many = [7; SINK_ROOM];
+    assert_eq!(rt; sink.write(b"ab"), Ok(2));
+    assert_eq!(rt; sink.write(&many), Ok(SINK_ROOM));
+    assert_eq!(rt; sink.write(b"c"), Ok(1));
+    assert_eq!(rt; sink.flush(), Ok(()));
+    assert_eq!(rt; sink.faults(), 0);
     Ok(())
 }

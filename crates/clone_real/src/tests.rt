@@ -1,4 +1,0 @@
-mod crew;
-mod files;
-mod sockets;
-mod streams;
