@@ -6,8 +6,7 @@ ghost use Rattle.clone_archive.specs.Archived.{kept_from, end_in};
 
 use clone_archive::{Archive, ArchiveBehind};
 use clone_ring::Ring;
-use std::alloc::{AllocError, Global};
-use std::test::Fail;
+use std::alloc::AllocError;
 
 /// The byte of the log at an LSN.
 fn byte_at(lsn: u64) -> u8 {
@@ -22,18 +21,16 @@ fn is_log(from: u64, bytes: &[u8]) -> bool {
         .all(|(i, byte)| *byte == byte_at(from.wrapping_add(i as u64)))
 }
 
-/// Appends so many pieces of 500 bytes. The answer is false where there was no room.
-fn append(ring: &mut Ring, pieces: u32) -> bool {
-    let mut all = true;
+/// Appends so many pieces of 500 bytes of the log, as far as there is room.
+fn append(ring: &mut Ring, pieces: u32) {
     for _ in 0..pieces {
         let end = ring.end();
         let mut piece = [0; 500];
         for (i, byte) in piece.iter_mut().enumerate() {
             *byte = byte_at(end.wrapping_add(i as u64));
         }
-        all &= ring.append(&piece).is_ok();
+        let _ = ring.append(&piece);
     }
-    all
 }
 
 fn raise_floor(ring: &mut Ring, lsn: u64) {
@@ -77,6 +74,21 @@ fn copy_some(archive: &mut Archive, ring: &Ring, limit: u64) -> Result<Option<u6
     Ok(None)
 }
 
+/// Copies some bytes, which the ring gives up for 5,000 new ones, and answers how far the archive
+/// reaches then.
+fn copy_and_append(
+    archive: &mut Archive,
+    ring: &mut Ring,
+    limit: u64,
+) -> Result<Option<u64>, AllocError> {
+    let reached = copy_some(archive, ring, limit)?;
+    if let Some(lsn) = reached {
+        raise_floor(ring, lsn);
+    }
+    append(ring, 10);
+    Ok(reached)
+}
+
 /// Fixes the end, where the archive isn't past it.
 fn stop(archive: &mut Archive, end: u64) -> bool {
     let Some(archived) = archive.archived() else {
@@ -98,103 +110,56 @@ fn read(archive: &Archive, from: u64, into: &mut [u8]) -> Option<Result<(), Arch
     None
 }
 
+/// Whether the archive gives eight bytes of the log from an LSN on.
+fn gives_log(archive: &Archive, from: u64) -> bool {
+    let mut bytes = [0; 8];
+    read(archive, from, &mut bytes) == Some(Ok(())) && is_log(from, &bytes)
+}
+
+// The archive's bytes lie in blocks of 16,384, of which the second begins at 24,576.
 #[test]
-fn without_an_archive(rt: HostRuntime) -> Result<(), Fail> {
-    let mut archive = Archive::new(rt.alloc());
-    assert_eq!(rt; [archive.first(), archive.archived()], [None, None]);
-    assert_eq!(rt; [archive.end(), archive.kept_from()], [None, None]);
-    archive.start(9_000);
-    assert_eq!(rt;
-        [archive.first(), archive.archived()],
-        [Some(9_000), Some(9_000)]
-    );
-    assert_eq!(rt; [archive.end(), archive.kept_from()], [None, Some(9_000)]);
-    archive.clear();
-    assert_eq!(rt; [archive.first(), archive.archived()], [None, None]);
-    assert_eq!(rt; [archive.end(), archive.kept_from()], [None, None]);
-    Ok(())
-}
-
-/// Archives the log in four pieces, with the ring's floor raised behind two of them, and answers how
-/// far the archive reaches after each.
-fn copy_in_pieces(archive: &mut Archive, ring: &mut Ring) -> Result<[Option<u64>; 4], AllocError> {
-    let first = copy_some(archive, ring, 1)?;
-    let second = copy_some(archive, ring, 16_383)?;
-    raise_floor(ring, 24_576);
-    append(ring, 40);
-    let third = copy_some(archive, ring, 16_384)?;
-    raise_floor(ring, 40_960);
-    let fourth = copy_some(archive, ring, 20_000)?;
-    Ok([first, second, third, fourth])
-}
-
-/// Whether the archive gives so many bytes of the log from an LSN on.
-fn gives_log(
-    alloc: Global,
-    archive: &Archive,
-    from: u64,
-    count: usize,
-) -> Result<bool, AllocError> {
-    let mut bytes = vec![in alloc; 0; count]?;
-    Ok(read(archive, from, &mut bytes) == Some(Ok(())) && is_log(from, &bytes))
-}
-
-#[test]
-fn copies_across_blocks(rt: HostRuntime) -> Result<(), Fail> {
+fn copies_across_blocks(rt: HostRuntime) -> Result<(), AllocError> {
     let mut ring = Ring::new(rt.alloc(), 25_000)?;
     let mut archive = Archive::new(rt.alloc());
     archive.start(8_192);
-    assert!(rt; append(&mut ring, 40));
-    let reached = copy_in_pieces(&mut archive, &mut ring)?;
-    assert_eq!(rt;
-        reached,
-        [Some(8_193), Some(24_576), Some(40_960), Some(48_192)]
-    );
-    assert_eq!(rt; archive.kept_from(), Some(48_192));
-    assert!(rt; gives_log(rt.alloc(), &archive, 8_192, 40_000)?);
-    assert!(rt; gives_log(rt.alloc(), &archive, 24_570, 12)?);
-    Ok(())
-}
-
-#[test]
-fn reads_up_to_the_archived_lsn(rt: HostRuntime) -> Result<(), Fail> {
-    let mut ring = Ring::new(rt.alloc(), 25_000)?;
-    let mut archive = Archive::new(rt.alloc());
-    archive.start(8_192);
-    assert!(rt; append(&mut ring, 40));
-    assert_eq!(rt; copy_some(&mut archive, &ring, 16_390)?, Some(24_582));
-
-    let mut bytes = [1; 8];
+    append(&mut ring, 40);
+    let copies = [
+        (1, 8_193),
+        (16_383, 24_576),
+        (16_384, 38_192),
+        (4_000, 42_192),
+    ];
+    for (limit, reached) in copies {
+        assert!(rt; copy_and_append(&mut archive, &mut ring, limit)? == Some(reached));
+    }
+    for from in [8_192, 24_568, 24_572, 24_576, 42_184] {
+        assert!(rt; gives_log(&archive, from));
+    }
     let behind = ArchiveBehind {
-        archived: 24_582,
-        until: 24_583,
+        archived: 42_192,
+        until: 42_193,
     };
-    assert_eq!(rt; read(&archive, 24_575, &mut bytes), Some(Err(behind)));
-    assert_eq!(rt; bytes, [1; 8]);
-    assert_eq!(rt; read(&archive, 24_574, &mut bytes), Some(Ok(())));
-    assert!(rt; is_log(24_574, &bytes));
-    assert_eq!(rt; read(&archive, 24_582, &mut bytes[..0]), Some(Ok(())));
+    assert!(rt; read(&archive, 42_185, &mut [0; 8]) == Some(Err(behind)));
     Ok(())
 }
 
+/// Where the archive ends, and from where on it needs the ring.
+fn ends_of(archive: &Archive) -> (Option<u64>, Option<u64>) {
+    (archive.end(), archive.kept_from())
+}
+
 #[test]
-fn ends_where_it_is_stopped(rt: HostRuntime) -> Result<(), Fail> {
+fn ends_where_it_is_stopped(rt: HostRuntime) -> Result<(), AllocError> {
     let mut ring = Ring::new(rt.alloc(), 25_000)?;
     let mut archive = Archive::new(rt.alloc());
     archive.start(8_192);
-    assert!(rt; append(&mut ring, 4));
+    append(&mut ring, 4);
     assert!(rt; stop(&mut archive, 9_192));
-    assert_eq!(rt;
-        [archive.end(), archive.kept_from()],
-        [Some(9_192), Some(8_192)]
-    );
-    assert_eq!(rt; copy_some(&mut archive, &ring, 400)?, Some(8_592));
-    assert_eq!(rt; copy_some(&mut archive, &ring, 5_000)?, Some(9_192));
-    assert_eq!(rt; [archive.end(), archive.kept_from()], [Some(9_192), None]);
-    raise_floor(&mut ring, 10_000);
-    assert_eq!(rt; copy_some(&mut archive, &ring, 5_000)?, Some(9_192));
-    let mut bytes = [0; 1_000];
-    assert_eq!(rt; read(&archive, 8_192, &mut bytes), Some(Ok(())));
-    assert!(rt; is_log(8_192, &bytes));
+    assert!(rt; ends_of(&archive) == (Some(9_192), Some(8_192)));
+    for (limit, reached) in [(400, 8_592), (5_000, 9_192), (5_000, 9_192)] {
+        assert!(rt; copy_and_append(&mut archive, &mut ring, limit)? == Some(reached));
+    }
+    assert!(rt; ends_of(&archive) == (Some(9_192), None));
+    assert!(rt; gives_log(&archive, 9_184));
     Ok(())
 }

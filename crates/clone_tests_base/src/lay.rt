@@ -6,7 +6,6 @@ use clone_lay::{REDO_BLOCK, begin_copy, complete, lay_page, lay_redo, make_room,
 use clone_memdisk::MemDisk;
 use clone_outside::{CloneEnd, DiskOrder, Mark, PageDisk, Refusal};
 use std::alloc::Global;
-use std::test::Fail;
 
 // The first and the last byte of a page.
 fn ends_of(disk: &mut MemDisk, space: u32, number: u32) -> Result<(u8, u8), Refusal> {
@@ -15,60 +14,51 @@ fn ends_of(disk: &mut MemDisk, space: u32, number: u32) -> Result<(u8, u8), Refu
     Ok((page[0], page[4095]))
 }
 
-#[test]
-fn pages_past_the_end(rt: HostRuntime) -> Result<(), Fail> {
-    let mut disk = MemDisk::new(rt.alloc());
-    let mut sizes = Counts::new(rt.alloc());
+// Pages in any order. The first is laid past the end of a space that isn't there, the second past
+// the end of one that is.
+fn lay_pages(alloc: Global, disk: &mut MemDisk) -> Result<(), Refusal>
+    requires { disk.old.image.spaces ≡ finite.empty }
+{
+    let mut sizes = Counts::new(alloc);
     size_laws();
-    lay_page(&mut disk, &mut sizes, 1, 2, &[7; 4096])?;
-    lay_page(&mut disk, &mut sizes, 1, 4, &[8; 4096])?;
-    lay_page(&mut disk, &mut sizes, 1, 0, &[5; 4096])?;
-    assert_eq!(rt; disk.pages(1), Ok(Some(5)));
-    assert_eq!(rt; (sizes.get(1), sizes.get(0)), (Some(5), None));
-    assert_eq!(rt; ends_of(&mut disk, 1, 0), Ok((5, 5)));
-    assert_eq!(rt; ends_of(&mut disk, 1, 1), Ok((0, 0)));
-    assert_eq!(rt; ends_of(&mut disk, 1, 2), Ok((7, 7)));
-    assert_eq!(rt; ends_of(&mut disk, 1, 3), Ok((0, 0)));
-    assert_eq!(rt; ends_of(&mut disk, 1, 4), Ok((8, 8)));
-    Ok(())
+    lay_page(disk, &mut sizes, 1, 2, &[7; 4096])?;
+    lay_page(disk, &mut sizes, 1, 4, &[8; 4096])?;
+    lay_page(disk, &mut sizes, 1, 0, &[5; 4096])
 }
 
-// Room that was made spares calls: each page then takes two, and the sync is the sixth.
 #[test]
-fn room_for_pages(rt: HostRuntime) -> Result<(), Fail> {
+fn pages_past_the_end(rt: HostRuntime) -> Result<(), Refusal> {
     let mut disk = MemDisk::new(rt.alloc());
-    let mut sizes = Counts::new(rt.alloc());
-    disk.order(DiskOrder::FailAt { call: 6 })?;
-    size_laws();
-    make_room(&mut disk, &mut sizes, 3, 2)?;
-    lay_page(&mut disk, &mut sizes, 3, 0, &[1; 4096])?;
-    lay_page(&mut disk, &mut sizes, 3, 1, &[1; 4096])?;
-    assert_eq!(rt; disk.sync(), Err(Refusal::Fault));
-    assert_eq!(rt; disk.pages(3), Ok(Some(2)));
+    lay_pages(rt.alloc(), &mut disk)?;
+    assert!(rt; disk.pages(1) == Ok(Some(5)));
+    for (number, byte) in (0..).zip([5, 0, 7, 0, 8]) {
+        assert!(rt; ends_of(&mut disk, 1, number) == Ok((byte, byte)));
+    }
     Ok(())
 }
 
 // Redo of five pages, the last of which has five bytes. Its blocks come in any order.
-#[test]
-fn redo_of_two_blocks(rt: HostRuntime) -> Result<(), Fail> {
-    let mut disk = MemDisk::new(rt.alloc());
-    let mut sizes = Counts::new(rt.alloc());
+fn lay_blocks(alloc: Global, disk: &mut MemDisk) -> Result<(), Refusal>
+    requires { disk.old.image.spaces ≡ finite.empty }
+{
+    let mut sizes = Counts::new(alloc);
     size_laws();
-    let block = [6; REDO_BLOCK];
-    lay_redo(&mut disk, &mut sizes, 8192, 24576, &[4; 5])?;
-    lay_redo(&mut disk, &mut sizes, 8192, 8192, &block)?;
-    lay_redo(&mut disk, &mut sizes, 8192, 24576, &[4; 5])?;
-    assert_eq!(rt; disk.pages(REDO_SPACE), Ok(Some(5)));
-    for number in 0..4 {
-        assert_eq!(rt; ends_of(&mut disk, REDO_SPACE, number), Ok((6, 6)));
+    lay_redo(disk, &mut sizes, 8192, 24576, &[4; 5])?;
+    lay_redo(disk, &mut sizes, 8192, 8192, &[6; REDO_BLOCK])
+}
+
+#[test]
+fn redo_of_two_blocks(rt: HostRuntime) -> Result<(), Refusal> {
+    let mut disk = MemDisk::new(rt.alloc());
+    lay_blocks(rt.alloc(), &mut disk)?;
+    assert!(rt; disk.pages(REDO_SPACE) == Ok(Some(5)));
+    for (number, ends) in (0..).zip([(6, 6), (6, 6), (6, 6), (6, 6), (4, 0)]) {
+        assert!(rt; ends_of(&mut disk, REDO_SPACE, number) == Ok(ends));
     }
-    let mut last = [99; 4096];
-    disk.read_page(REDO_SPACE, 4, &mut last)?;
-    assert_eq!(rt; [last[0], last[4], last[5], last[4095]], [4, 4, 0, 0]);
     Ok(())
 }
 
-// A clone of one page and two bytes of redo, on a disk of which a call fails, and then the mark.
+// A clone of two pages and two bytes of redo, on a disk of which a call fails, and then the mark.
 fn copied(alloc: Global, call: u64) -> Result<(Result<(), Refusal>, Option<Mark>), Refusal> {
     let mut disk = MemDisk::new(alloc);
     disk.order(DiskOrder::FailAt { call })?;
@@ -79,15 +69,17 @@ fn copied(alloc: Global, call: u64) -> Result<(Result<(), Refusal>, Option<Mark>
     }
 }
 
-// Eleven calls: two of them for the mark, three for the page, three for the redo, and three at the
-// end.
+// Thirteen calls: two of them for the mark, one for room, two for each page, three for the redo, and
+// three at the end.
 fn copy_to(alloc: Global, disk: &mut MemDisk) -> Result<(), Refusal>
     requires { disk.old.image.spaces ≡ finite.empty }
 {
     let mut sizes = Counts::new(alloc);
     size_laws();
     begin_copy(disk, 3)?;
+    make_room(disk, &mut sizes, 1, 2)?;
     lay_page(disk, &mut sizes, 1, 0, &[7; 4096])?;
+    lay_page(disk, &mut sizes, 1, 1, &[7; 4096])?;
     lay_redo(disk, &mut sizes, 8192, 8192, &[1, 2])?;
     complete(disk, &an_end())
 }
@@ -102,13 +94,17 @@ fn an_end() -> CloneEnd {
 }
 
 #[test]
-fn each_call_fails(rt: HostRuntime) -> Result<(), Fail> {
+fn each_call_fails(rt: HostRuntime) -> Result<(), Refusal> {
     let begun = Some(Mark::InProgress { session: 3 });
     let ended = Some(Mark::Complete(an_end()));
-    assert_eq!(rt; copied(rt.alloc(), 1)?, (Err(Refusal::Fault), None));
-    for call in 2..11 {
-        assert_eq!(rt; copied(rt.alloc(), call)?, (Err(Refusal::Fault), begun));
+    for call in 1..14 {
+        let mark = match call {
+            1 => None,
+            13 => ended,
+            _ => begun,
+        };
+        assert!(rt; copied(rt.alloc(), call)? == (Err(Refusal::Fault), mark));
     }
-    assert_eq!(rt; copied(rt.alloc(), 11)?, (Err(Refusal::Fault), ended));
+    assert!(rt; copied(rt.alloc(), 15)? == (Ok(()), ended));
     Ok(())
 }

@@ -20,8 +20,6 @@ mod outside;
 #[cfg(test)]
 mod page;
 #[cfg(test)]
-mod ring;
-#[cfg(test)]
 mod script;
 #[cfg(test)]
 mod snapshot;

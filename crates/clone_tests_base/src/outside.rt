@@ -1,43 +1,21 @@
 use clone_outside::{CloneEnd, Mark, MemSink, MemSource, Refusal, Sink, Source, write_all};
-use std::test::Fail;
+use std::alloc::AllocError;
 
 #[test]
-fn reads_two_pieces_and_the_end(rt: HostRuntime) -> Result<(), Fail> {
+fn reads_on_after_a_fault(rt: HostRuntime) -> Result<(), AllocError> {
     let mut source = MemSource::new(rt.alloc(), b"abc".to_vec(rt.alloc())?);
-    let mut piece = [0; 2];
-    assert_eq!(rt; source.read(&mut piece), Ok(2));
-    assert_eq!(rt; piece, *b"ab");
-    assert_eq!(rt; source.rest(), b"c".as_slice());
-    assert_eq!(rt; source.read(&mut piece), Ok(1));
-    assert_eq!(rt; piece, *b"cb");
-    assert_eq!(rt; source.read(&mut piece), Ok(0));
-    assert_eq!(rt; source.faults(), 0);
-    Ok(())
-}
-
-#[test]
-fn reads_on_after_a_fault(rt: HostRuntime) -> Result<(), Fail> {
-    let mut source = MemSource::new(rt.alloc(), b"abcd".to_vec(rt.alloc())?);
     source.fail_at(2)?;
     let mut piece = [0; 2];
-    assert_eq!(rt; source.read(&mut piece), Ok(2));
-    assert_eq!(rt; source.read(&mut piece), Err(Refusal::Fault));
-    assert_eq!(rt; source.faults(), 1);
-    assert_eq!(rt; source.read(&mut piece), Ok(2));
-    assert_eq!(rt; piece, *b"cd");
-    assert_eq!(rt; source.faults(), 1);
-    Ok(())
-}
-
-#[test]
-fn writes_nothing_in_a_call_that_fails(rt: HostRuntime) -> Result<(), Fail> {
-    let mut sink = MemSink::new(rt.alloc());
-    sink.fail_at(2)?;
-    assert_eq!(rt; write_all(&mut sink, b"ab"), Ok(()));
-    assert_eq!(rt; write_all(&mut sink, b"cd"), Err(Refusal::Fault));
-    assert_eq!(rt; sink.faults(), 1);
-    assert_eq!(rt; write_all(&mut sink, b"ef"), Ok(()));
-    assert_eq!(rt; sink.bytes(), b"abef".as_slice());
+    let outcomes = [
+        (Ok(2), *b"ab"),
+        (Err(Refusal::Fault), *b"ab"),
+        (Ok(1), *b"cb"),
+        (Ok(0), *b"cb"),
+    ];
+    for (outcome, bytes) in outcomes {
+        assert!(rt; source.read(&mut piece) == outcome && piece == bytes);
+    }
+    assert!(rt; source.faults() == 1);
     Ok(())
 }
 
@@ -63,58 +41,57 @@ impl Sink for ByteByByte {
     }
 }
 
+// The fifth call, and with it the second byte of the second text, fails.
 #[test]
-fn writes_on_until_all_is_taken(rt: HostRuntime) -> Result<(), Fail> {
+fn writes_on_until_all_is_taken(rt: HostRuntime) -> Result<(), AllocError> {
     let mut slow = ByteByByte {
         sink: MemSink::new(rt.alloc()),
     };
-    assert_eq!(rt; write_all(&mut slow, b"abc"), Ok(()));
-    assert_eq!(rt; slow.sink.bytes(), b"abc".as_slice());
     slow.sink.fail_at(5)?;
-    assert_eq!(rt; write_all(&mut slow, b"def"), Err(Refusal::Fault));
-    assert_eq!(rt; slow.sink.bytes(), b"abcd".as_slice());
+    assert!(rt; write_all(&mut slow, b"abc") == Ok(()));
+    assert!(rt; write_all(&mut slow, b"def") == Err(Refusal::Fault));
+    assert!(rt; slow.sink.bytes() == b"abcd".as_slice() && slow.faults() == 1);
     Ok(())
 }
+
+/// The mark of a clone of session 1 that is complete: its letters and its kind, zeros up to 16, the
+/// session, the checkpoint 8,192, the LSN 8,213 and the position 258, and zeros.
+const COMPLETE: [u8; 64] = [
+    b'C', b'L', b'O', b'N', b'M', b'A', b'R', b'K', 2, 0, 0, 0, 0, 0, 0, 0, //
+    0, 0, 0, 0, 0, 0, 0, 1, 0, 0, 0, 0, 0, 0, 0x20, 0, //
+    0, 0, 0, 0, 0, 0, 0x20, 0x15, 0, 0, 0, 0, 0, 0, 1, 2, //
+    0, 0, 0, 0, 0, 0, 0, 0, 0, 0, 0, 0, 0, 0, 0, 0,
+];
 
 #[test]
 fn a_complete_mark_has_these_bytes(rt: HostRuntime) {
     let mark = Mark::Complete(CloneEnd {
         session: 1,
-        checkpoint: 8192,
-        lsn: 8213,
+        checkpoint: 8_192,
+        lsn: 8_213,
         position: 258,
     });
-    let numbers = [1, 0x2000, 0x2015, 0x0102];
-    let mut bytes = [0; 64];
-    bytes[..9].copy_from_slice(b"CLONMARK\x02");
-    for (i, number) in numbers.iter().enumerate() {
-        let at = 22 + 8 * i;
-        bytes[at] = (number / 256) as u8;
-        bytes[at + 1] = (number % 256) as u8;
-    }
-    assert_eq!(rt; mark.to_bytes().as_slice(), bytes.as_slice());
-    assert_eq!(rt; Mark::from_bytes(&bytes), Some(mark));
+    assert!(rt; mark.to_bytes() == COMPLETE);
+    assert!(rt; Mark::from_bytes(&COMPLETE) == Some(mark));
 }
 
+// A letter, no kind, a mark in progress with numbers, another kind, a zero in front, a checkpoint
+// above the LSN, an LSN of 2^39, and the last zero.
 #[test]
 fn other_bytes_are_no_mark(rt: HostRuntime) {
-    let mark = Mark::InProgress { session: 1 };
-    let bytes = mark.to_bytes();
-    assert_eq!(rt; Mark::from_bytes(&bytes), Some(mark));
-    // a letter, no kind, another kind without numbers, a zero, an LSN, the LSN's limit, and the
-    // last zero
-    for (at, byte) in [(0, b'c'), (8, 0), (8, 4), (9, 1), (31, 1), (39, 1), (63, 1)] {
-        let mut other = bytes;
-        other[at] = byte;
-        assert_eq!(rt; Mark::from_bytes(&other), None, "at {at}");
+    let others = [
+        (0, b'c'),
+        (8, 0),
+        (8, 1),
+        (8, 4),
+        (9, 1),
+        (30, 0x21),
+        (35, 128),
+        (63, 1),
+    ];
+    for (at, byte) in others {
+        let mut bytes = COMPLETE;
+        bytes[at] = byte;
+        assert!(rt; Mark::from_bytes(&bytes).is_none(), "at {at}");
     }
-    // complete with all numbers zero, with an LSN of 2^39, and with a checkpoint above the LSN
-    let mut complete = bytes;
-    complete[8] = 2;
-    assert!(rt; Mark::from_bytes(&complete).is_some());
-    complete[35] = 128;
-    assert_eq!(rt; Mark::from_bytes(&complete), None);
-    complete[35] = 0;
-    complete[31] = 1;
-    assert_eq!(rt; Mark::from_bytes(&complete), None);
 }

@@ -1,113 +1,115 @@
 use clone_chunk::Stage;
-use clone_snapshot::*;
-use std::test::*;
+use clone_snapshot::{PageBlock, RedoBlock, Snapshot, page_chunks, redo_chunks};
+use std::alloc::{AllocError, Global};
+
+// How many pages a block has, and its first and last one.
+fn ends_of(block: Option<PageBlock>) -> Option<(usize, (u32, u32), (u32, u32))> {
+    let block = block?;
+    Some((
+        block.len(),
+        *block.as_slice().first()?,
+        *block.as_slice().last()?,
+    ))
+}
 
 // Spaces of 257, 64 and 65 pages have 5, 1 and 2 chunks.
 #[test]
-fn blocks_of_files(rt: HostRuntime) -> Result<(), Fail> {
+fn blocks_of_files(rt: HostRuntime) -> Result<(), AllocError> {
     let spaces = Vec::from_slice(rt.alloc(), &[(0, 257), (5, 64), (7, 65)])?;
     let snapshot = Snapshot::start(rt.alloc(), spaces)?;
-    assert_eq!(rt; snapshot.stage(), Stage::FileCopy);
-    assert_eq!(rt; snapshot.count(), 8);
-    assert_eq!(rt; snapshot.spaces().len(), 3);
-    let block = snapshot.page_block(1, 2).ok_or("block 2 of chunk 1")?;
-    let pages = [80, 81, 82, 83, 84, 85, 86, 87];
-    assert_eq!(rt; block.len(), pages.len());
-    for (index, number) in pages.iter().enumerate() {
-        assert_eq!(rt; block.get(index), Some((0, *number)));
+    assert!(rt; snapshot.stage() == Stage::FileCopy && snapshot.count() == 8);
+    let blocks = [
+        (1, 2, Some((8, (0, 80), (0, 87)))),
+        (4, 0, Some((1, (0, 256), (0, 256)))),
+        (4, 1, None),
+        (5, 7, Some((8, (5, 56), (5, 63)))),
+        (5, 8, None),
+        (7, 0, Some((1, (7, 64), (7, 64)))),
+        (8, 0, None),
+    ];
+    for (chunk, block, ends) in blocks {
+        assert!(rt;
+            ends_of(snapshot.page_block(chunk, block)) == ends,
+            "at {chunk}"
+        );
     }
-    assert_eq!(rt; block.get(8), None);
-    let block = snapshot
-        .page_block(4, 0)
-        .ok_or("the last chunk of space 0")?;
-    assert_eq!(rt; block.as_slice(), [(0, 256)].as_slice());
-    assert!(rt; snapshot.is_last(4, 0));
-    assert!(rt; snapshot.page_block(4, 1).is_none());
-    let block = snapshot.page_block(5, 7).ok_or("the chunk of space 5")?;
-    assert_eq!(rt; block.get(7), Some((5, 63)));
-    assert!(rt; snapshot.is_last(5, 7) && !snapshot.is_last(5, 6));
-    let block = snapshot.page_block(7, 0).ok_or("the last chunk")?;
-    assert_eq!(rt; block.as_slice(), [(7, 64)].as_slice());
-    assert!(rt; snapshot.page_block(8, 0).is_none() && !snapshot.is_last(8, 0));
-    assert_eq!(rt; snapshot.redo_block(0, 0), None);
+    assert!(rt; snapshot.is_last(4, 0) && snapshot.is_last(5, 7) && !snapshot.is_last(5, 6));
     Ok(())
 }
 
-#[test]
-fn claims(rt: HostRuntime) -> Result<(), Fail> {
-    let spaces = Vec::from_slice(rt.alloc(), &[(0, 65)])?;
-    let mut snapshot = Snapshot::start(rt.alloc(), spaces)?;
-    assert_eq!(rt; snapshot.claim(3), Some(0));
-    assert_eq!(rt; snapshot.claim(4), Some(1));
-    assert_eq!(rt; snapshot.claim(4), None);
-    assert!(rt; snapshot.is_claimed_by(3, 0) && !snapshot.is_claimed_by(4, 0));
-    assert!(rt; !snapshot.finish(4, 0) && snapshot.finish(3, 0));
-    assert_eq!(rt; snapshot.left(), 1);
-    snapshot.restart();
-    assert_eq!(rt; snapshot.left(), 2);
-    assert_eq!(rt; snapshot.claim(4), Some(0));
-    Ok(())
-}
-
-// Pages 0 to 64 of space 9: a chunk of 64 pages and one of a single page.
-#[test]
-fn blocks_of_pages(rt: HostRuntime) -> Result<(), Fail> {
-    let mut snapshot = Snapshot::start(rt.alloc(), Vec::new(rt.alloc()))?;
-    assert_eq!(rt; snapshot.count(), 0);
-    let mut pages = Vec::new(rt.alloc());
+// PAGE COPY of pages 0 to 64 of space 9, or None where they aren't cut into two chunks.
+fn page_copy(alloc: Global) -> Result<Option<Snapshot>, AllocError> {
+    let mut pages = Vec::new(alloc);
     for number in 0..65 {
         pages.push((9, number))?;
     }
-    assert_eq!(rt; pages.len(), 65);
-    assert_eq!(rt; page_chunks(65), 2);
+    if pages.len() != 65 || page_chunks(65) != 2 {
+        return Ok(None);
+    }
+    let mut snapshot = Snapshot::start(alloc, Vec::new(alloc))?;
     snapshot.reserve(2)?;
     snapshot.page_copy(pages);
-    assert_eq!(rt; snapshot.stage(), Stage::PageCopy);
-    assert_eq!(rt; snapshot.page_count(), 65);
-    assert_eq!(rt; snapshot.spaces().len(), 0);
-    assert_eq!(rt; snapshot.left(), 2);
-    let block = snapshot
-        .page_block(0, 7)
-        .ok_or("the last block of chunk 0")?;
-    assert_eq!(rt; block.get(0), Some((9, 56)));
-    assert_eq!(rt; block.get(7), Some((9, 63)));
-    assert!(rt; snapshot.page_block(0, 8).is_none());
-    let block = snapshot.page_block(1, 0).ok_or("chunk 1")?;
-    assert_eq!(rt; block.as_slice(), [(9, 64)].as_slice());
-    assert!(rt; snapshot.is_last(1, 0) && snapshot.page_block(1, 1).is_none());
+    Ok(Some(snapshot))
+}
+
+// A chunk of 64 pages and one of a single page.
+#[test]
+fn blocks_of_pages(rt: HostRuntime) -> Result<(), AllocError> {
+    let Some(snapshot) = page_copy(rt.alloc())? else {
+        assert!(rt; false);
+        return Ok(());
+    };
+    assert!(rt; snapshot.stage() == Stage::PageCopy && snapshot.count() == 2);
+    let blocks = [
+        (0, 7, Some((8, (9, 56), (9, 63)))),
+        (0, 8, None),
+        (1, 0, Some((1, (9, 64), (9, 64)))),
+        (1, 1, None),
+    ];
+    for (chunk, block, ends) in blocks {
+        assert!(rt;
+            ends_of(snapshot.page_block(chunk, block)) == ends,
+            "at {chunk}"
+        );
+    }
     Ok(())
 }
 
-// 65,537 bytes: a chunk of four blocks and one of a single byte.
-#[test]
-fn blocks_of_redo(rt: HostRuntime) -> Result<(), Fail> {
-    let mut snapshot = Snapshot::start(rt.alloc(), Vec::new(rt.alloc()))?;
-    assert_eq!(rt; redo_chunks(10_000, 75_537), 2);
+// REDO COPY of 65,537 bytes, or None where they aren't cut into two chunks.
+fn redo_copy(alloc: Global) -> Result<Option<Snapshot>, AllocError> {
+    if redo_chunks(10_000, 75_537) != 2 {
+        return Ok(None);
+    }
+    let mut snapshot = Snapshot::start(alloc, Vec::new(alloc))?;
     snapshot.reserve(2)?;
     snapshot.redo_copy(10_000, 75_537);
-    assert_eq!(rt; snapshot.stage(), Stage::RedoCopy);
-    assert_eq!(rt; snapshot.redo(), Some((10_000, 75_537)));
-    assert_eq!(rt; snapshot.count(), 2);
+    Ok(Some(snapshot))
+}
+
+// A chunk of four blocks and one of a single byte.
+#[test]
+fn blocks_of_redo(rt: HostRuntime) -> Result<(), AllocError> {
+    let Some(snapshot) = redo_copy(rt.alloc())? else {
+        assert!(rt; false);
+        return Ok(());
+    };
+    assert!(rt; snapshot.stage() == Stage::RedoCopy && snapshot.count() == 2);
     let last = RedoBlock {
         from: 59_152,
         length: 16_384,
     };
-    assert_eq!(rt; snapshot.redo_block(0, 3), Some(last));
-    assert!(rt; snapshot.is_last(0, 3) && !snapshot.is_last(0, 4));
-    assert_eq!(rt; snapshot.redo_block(0, 4), None);
     let single = RedoBlock {
         from: 75_536,
         length: 1,
     };
-    assert_eq!(rt; snapshot.redo_block(1, 0), Some(single));
-    assert_eq!(rt; snapshot.redo_block(1, 1), None);
-    assert_eq!(rt; snapshot.claim(0), Some(0));
-    snapshot.redo_copy(10_000, 10_000);
-    assert_eq!(rt; snapshot.count(), 0);
-    assert_eq!(rt; snapshot.redo_block(0, 0), None);
-    snapshot.done();
-    assert_eq!(rt; snapshot.stage(), Stage::Done);
-    assert_eq!(rt; snapshot.left(), 0);
-    assert_eq!(rt; snapshot.claim(0), None);
+    let blocks = [
+        (0, 3, Some(last)),
+        (0, 4, None),
+        (1, 0, Some(single)),
+        (1, 1, None),
+    ];
+    for (chunk, block, redo) in blocks {
+        assert!(rt; snapshot.redo_block(chunk, block) == redo, "at {chunk}");
+    }
     Ok(())
 }
