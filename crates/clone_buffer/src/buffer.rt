@@ -19,7 +19,7 @@ ghost use Rattle.clone_image.specs.Replay.{Replays, IsSpelled};
 ghost use Rattle.clone_pool.specs.Frames.{no_frame, frame_at, holder, loader, HoldsPage, IsInFlight, is_waiting, page_changed, aside_for, pinned, unpinned, begun, landed, failed};
 ghost use Rattle.clone_pool.specs.declared.frame.Content.TheVariants.{Held};
 ghost use Rattle.clone_pool.specs.declared.frame.PageName.{PageName};
-ghost use Rattle.clone_pool.specs.Pool.{IsPool, Fetches, Freshens, IsHolder, KeepsOthers, KeepsInUse, AreClean, IsOldest, HasPinRoom, HasRoom, IsVictim, with_frame, discarded_at, AreNotWaiting, AreOpenPages, IsNextToFlush};
+ghost use Rattle.clone_pool.specs.Pool.{IsPool, Fetches, Freshens, IsHolder, KeepsOthers, KeepsInUse, AreClean, IsOldest, HasPinRoom, HasVictim, IsVictim, with_frame, discarded_at, AreNotWaiting, AreOpenPages, IsNextToFlush};
 
 use crate::shadow::{Note, Shadow};
 use clone_base::PAGE_SIZE;
@@ -174,7 +174,7 @@ impl Buffer {
     /// way.
     pub fn set_aside(&mut self, space: u32, number: u32) -> u32
         requires there { IsTrue self.old.right → IsSome (page_of (image_of self.old) space number) }
-        requires room { HasRoom self.old.pool.frames }
+        requires room { HasVictim self.old.pool.frames }
         requires absent { holder self.old.pool.frames (record { space = space; number = number })
             ≡ None }
         requires unloaded { loader self.old.pool.frames (record { space = space; number = number })

@@ -85,8 +85,8 @@ abbrev pub HasNoFrameFor : PageName → List Frame → Type 0
 HasNoFrameFor page frames = (loader frames page ≡ None) × AreKept frames
 
 -- a frame may go
-abbrev pub HasRoom : List Frame → Type 0
-HasRoom frames = (at : ℕ) × (at < length frames) × (may_go (frame_at frames at) ≡ true)
+abbrev pub HasVictim : List Frame → Type 0
+HasVictim frames = (at : ℕ) × (at < length frames) × (may_go (frame_at frames at) ≡ true)
 
 -- no page is dirty
 abbrev pub AreClean : List Frame → Type 0

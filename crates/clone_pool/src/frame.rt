@@ -1,6 +1,7 @@
 //! A frame of the pool. Without a page it is neither pinned nor dirty, and was never used; with
-//! one it was. A frame that is set aside for a page has none until that is loaded. A new page is pinned, and clean until a change makes it. Only a dirty page has a
-//! flush, which is under way or failed. The pool keeps this rule of each of its frames.
+//! one it was. A frame that is set aside for a page has none until that is loaded. A new page is
+//! pinned, and clean until a change makes it. Only a dirty page has a flush, which is under way or
+//! failed. The pool keeps this rule of each of its frames.
 ghost use Rattle.std.specs.Prelude.{◌≡◌, ◌<◌, ◌-◌, ◌^◌};
 ghost use Rattle.clone_pool.specs.Index.{is_same};
 ghost use Rattle.clone_pool.specs.Frames.{no_frame, name_of, claim_of, is_dirty, is_loading, may_go, is_waiting, is_begun, is_fresh, counts_as_open, open_page, left_in, made, noted, later_in, touched, aside_for, pinned, unpinned, freshened, changed, begun, landed, failed, discarded};

@@ -56,7 +56,7 @@ impl Model for Pool {
 }
 
 impl Pool {
-    ghost use Rattle.clone_pool.specs.Pool.{Frames, IsPool, Fetches, Freshens, Fills, Empties, IsVictim, IsFrameFor, HasNoFrameFor, HasRoom, AreKept, AreClean, IsOldest, AreNotWaiting, AreOpenPages, IsNextToFlush, IsHolder, IsClaimant, KeepsInUse, KeepsOthers, HasPinRoom, used, with_frame, with_fresh, discarded_at};
+    ghost use Rattle.clone_pool.specs.Pool.{Frames, IsPool, Fetches, Freshens, Fills, Empties, IsVictim, IsFrameFor, HasNoFrameFor, HasVictim, AreKept, AreClean, IsOldest, AreNotWaiting, AreOpenPages, IsNextToFlush, IsHolder, IsClaimant, KeepsInUse, KeepsOthers, HasPinRoom, used, with_frame, with_fresh, discarded_at};
 
     /// So many frames without pages. This makes all that the pool keeps.
     pub fn new(alloc: Global, count: u32) -> Result<Pool, AllocError>
@@ -171,7 +171,7 @@ impl Pool {
     /// the one that makes way, and has no page until the page is fetched. Meanwhile it doesn't make
     /// way.
     pub fn set_aside(&mut self, name: PageName) -> u32
-        requires room { HasRoom self.old.frames }
+        requires room { HasVictim self.old.frames }
         requires absent { holder self.old.frames name ≡ None }
         requires unloaded { loader self.old.frames name ≡ None }
         ensures victim { IsVictim self.old.frames result }
