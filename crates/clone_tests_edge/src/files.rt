@@ -1,7 +1,7 @@
 use clone_base::PAGE_SIZE;
 use clone_outside::{MARK_SIZE, PageDisk, Refusal};
 use clone_real::FileDisk;
-use std::alloc::AllocError;
+use std::alloc::{AllocError, Global};
 use std::test::Fail;
 use std::{fs, process};
 
@@ -27,37 +27,81 @@ fn write_in(rt: &HostRuntime, directory: &str, name: &str) -> Result<(), Fail> {
     Ok(())
 }
 
+// Calls of a disk in functions of their own, since each of its clauses stays with whoever calls it.
+fn create(disk: &mut Disk, space: u32, pages: u32) -> Result<(), Refusal> {
+    disk.create(space, pages)
+}
+
+fn extend(disk: &mut Disk, space: u32, pages: u32) -> Result<(), Refusal> {
+    disk.extend(space, pages)
+}
+
+fn take_away(disk: &mut Disk, space: u32) -> Result<(), Refusal> {
+    disk.remove(space)
+}
+
+fn pages(disk: &mut Disk, space: u32) -> Result<Option<u32>, Refusal> {
+    disk.pages(space)
+}
+
+fn spaces(disk: &mut Disk, alloc: Global) -> Result<Vec<u32>, Refusal> {
+    disk.spaces(alloc)
+}
+
+fn mark(disk: &mut Disk) -> Result<Option<[u8; MARK_SIZE]>, Refusal> {
+    disk.read_mark()
+}
+
+fn set_mark(disk: &mut Disk, byte: u8) -> Result<(), Refusal> {
+    disk.write_mark(&[byte; MARK_SIZE])
+}
+
+fn sync(disk: &mut Disk) -> Result<(), Refusal> {
+    disk.sync()
+}
+
+fn write_half(disk: &mut Disk, space: u32, page: u32, byte: u8) -> Result<(), Refusal> {
+    disk.write_half(space, page, &[byte; PAGE_SIZE])
+}
+
+fn write_rest(disk: &mut Disk, space: u32, page: u32, byte: u8) -> Result<(), Refusal> {
+    disk.write_rest(space, page, &[byte; PAGE_SIZE])
+}
+
+// Whether a page is read whose halves have these bytes.
+fn reads(disk: &mut Disk, space: u32, page: u32, halves: [u8; 2]) -> Result<bool, Refusal> {
+    let mut bytes = [1; PAGE_SIZE];
+    disk.read_page(space, page, &mut bytes)?;
+    Ok([bytes[0], bytes[4_095]] == halves && [bytes[2_047], bytes[2_048]] == halves)
+}
+
+fn fails<T>(answer: &Result<T, Refusal>) -> bool {
+    matches!(answer, Err(Refusal::Fault))
+}
+
 #[test]
 fn a_new_disk_is_empty_and_touches_nothing(rt: HostRuntime) -> Result<(), Fail> {
     let path = place(&rt, "new")?;
     let mut disk = FileDisk::new(rt, path.as_str())?;
-    assert!(rt; disk.spaces(rt.alloc())?.is_empty());
-    assert_eq!(rt; disk.pages(1), Ok(None));
-    assert_eq!(rt; disk.read_mark(), Ok(None));
-    disk.extend(1, 2)?;
-    disk.remove(1)?;
-    disk.sync()?;
+    assert!(rt; spaces(&mut disk, rt.alloc())?.is_empty());
+    assert!(rt; pages(&mut disk, 1)?.is_none());
+    assert!(rt; mark(&mut disk)?.is_none());
+    extend(&mut disk, 1, 2)?;
+    take_away(&mut disk, 1)?;
+    sync(&mut disk)?;
     assert!(rt; fs::metadata(&rt, path.as_str()).is_err());
     Ok(())
 }
 
 fn write_pages(disk: &mut Disk) -> Result<(), Refusal> {
-    disk.create(3, 2)?;
-    disk.create(20, 0)?;
-    disk.write_half(3, 1, &[7; PAGE_SIZE])?;
-    disk.write_rest(3, 1, &[8; PAGE_SIZE])?;
-    disk.extend(3, 4)?;
-    disk.extend(3, 1)?;
-    disk.write_mark(&[5; MARK_SIZE])?;
-    disk.sync()
-}
-
-fn are_written(disk: &mut Disk) -> Result<bool, Refusal> {
-    let mut page = [1; PAGE_SIZE];
-    disk.read_page(3, 1, &mut page)?;
-    let halves = page[0] == 7 && page[2047] == 7 && page[2048] == 8 && page[4095] == 8;
-    disk.read_page(3, 3, &mut page)?;
-    Ok(halves && page == [0; PAGE_SIZE] && disk.pages(3)? == Some(4))
+    create(disk, 3, 2)?;
+    create(disk, 20, 0)?;
+    write_half(disk, 3, 1, 7)?;
+    write_rest(disk, 3, 1, 8)?;
+    extend(disk, 3, 4)?;
+    extend(disk, 3, 1)?;
+    set_mark(disk, 5)?;
+    sync(disk)
 }
 
 #[test]
@@ -66,28 +110,35 @@ fn what_was_written_is_read_by_another(rt: HostRuntime) -> Result<(), Fail> {
     let mut disk = FileDisk::new(rt, path.as_str())?;
     write_pages(&mut disk)?;
     let mut other = FileDisk::new(rt, path.as_str())?;
-    assert!(rt; are_written(&mut other)?);
-    assert_eq!(rt; other.read_mark(), Ok(Some([5; MARK_SIZE])));
+    assert!(rt; reads(&mut other, 3, 1, [7, 8])?);
+    assert!(rt; reads(&mut other, 3, 3, [0, 0])?);
+    assert_eq!(rt; pages(&mut other, 3), Ok(Some(4)));
+    assert!(rt; mark(&mut other)? == Some([5; MARK_SIZE]));
     remove(&rt, path.as_str())
 }
 
-#[test]
-fn a_foreign_file_is_no_space(rt: HostRuntime) -> Result<(), Fail> {
-    let path = place(&rt, "foreign")?;
-    let mut disk = FileDisk::new(rt, path.as_str())?;
-    disk.create(4_294_967_040, 1)?;
-    disk.create(0, 1)?;
-    disk.create(1, 1)?;
-    disk.remove(1)?;
+fn write_foreign_files(rt: &HostRuntime, directory: &str) -> Result<(), Fail> {
     for name in [
         "space_01.pages",
         "space_+2.pages",
         "space_.pages",
         "space_4294967296.pages",
     ] {
-        write_in(&rt, path.as_str(), name)?;
+        write_in(rt, directory, name)?;
     }
-    let all = disk.spaces(rt.alloc())?;
+    Ok(())
+}
+
+#[test]
+fn a_foreign_file_is_no_space(rt: HostRuntime) -> Result<(), Fail> {
+    let path = place(&rt, "foreign")?;
+    let mut disk = FileDisk::new(rt, path.as_str())?;
+    create(&mut disk, 4_294_967_040, 1)?;
+    create(&mut disk, 0, 1)?;
+    create(&mut disk, 1, 1)?;
+    take_away(&mut disk, 1)?;
+    write_foreign_files(&rt, path.as_str())?;
+    let all = spaces(&mut disk, rt.alloc())?;
     assert!(rt; all.as_slice() == [0, 4_294_967_040].as_slice());
     remove(&rt, path.as_str())
 }
@@ -96,12 +147,11 @@ fn a_foreign_file_is_no_space(rt: HostRuntime) -> Result<(), Fail> {
 fn a_page_that_is_not_there_is_a_fault(rt: HostRuntime) -> Result<(), Fail> {
     let path = place(&rt, "absent")?;
     let mut disk = FileDisk::new(rt, path.as_str())?;
-    disk.create(1, 1)?;
-    let mut page = [0; PAGE_SIZE];
-    assert_eq!(rt; disk.read_page(1, 1, &mut page), Err(Refusal::Fault));
-    assert_eq!(rt; disk.read_page(2, 0, &mut page), Err(Refusal::Fault));
-    assert_eq!(rt; disk.write_half(1, 1, &page), Err(Refusal::Fault));
-    assert_eq!(rt; disk.write_rest(2, 0, &page), Err(Refusal::Fault));
+    create(&mut disk, 1, 1)?;
+    assert!(rt; fails(&reads(&mut disk, 1, 1, [0, 0])));
+    assert!(rt; fails(&reads(&mut disk, 2, 0, [0, 0])));
+    assert!(rt; fails(&write_half(&mut disk, 1, 1, 0)));
+    assert!(rt; fails(&write_rest(&mut disk, 2, 0, 0)));
     assert_eq!(rt; disk.faults(), 4);
     remove(&rt, path.as_str())
 }
@@ -110,12 +160,12 @@ fn a_page_that_is_not_there_is_a_fault(rt: HostRuntime) -> Result<(), Fail> {
 fn files_of_wrong_lengths_are_faults(rt: HostRuntime) -> Result<(), Fail> {
     let path = place(&rt, "lengths")?;
     let mut disk = FileDisk::new(rt, path.as_str())?;
-    disk.create(1, 1)?;
+    create(&mut disk, 1, 1)?;
     write_in(&rt, path.as_str(), "space_2.pages")?;
     write_in(&rt, path.as_str(), "mark")?;
-    assert_eq!(rt; disk.pages(2), Err(Refusal::Fault));
-    assert_eq!(rt; disk.extend(2, 9), Err(Refusal::Fault));
-    assert_eq!(rt; disk.read_mark(), Err(Refusal::Fault));
+    assert!(rt; fails(&pages(&mut disk, 2)));
+    assert!(rt; fails(&extend(&mut disk, 2, 9)));
+    assert!(rt; fails(&mark(&mut disk)));
     assert_eq!(rt; disk.faults(), 3);
     remove(&rt, path.as_str())
 }
@@ -124,13 +174,13 @@ fn files_of_wrong_lengths_are_faults(rt: HostRuntime) -> Result<(), Fail> {
 fn a_path_that_is_no_directory_is_a_fault(rt: HostRuntime) -> Result<(), Fail> {
     let path = place(&rt, "file")?;
     let mut disk = FileDisk::new(rt, path.as_str())?;
-    disk.create(1, 1)?;
+    create(&mut disk, 1, 1)?;
     let file = format!(in rt.alloc(); "{path}/space_1.pages")?;
     let mut in_file = FileDisk::new(rt, file.as_str())?;
-    assert_eq!(rt; in_file.create(1, 1), Err(Refusal::Fault));
-    assert_eq!(rt; in_file.write_mark(&[0; MARK_SIZE]), Err(Refusal::Fault));
-    assert_eq!(rt; in_file.remove(1), Err(Refusal::Fault));
-    assert!(rt; in_file.spaces(rt.alloc()).is_err());
+    assert!(rt; fails(&create(&mut in_file, 1, 1)));
+    assert!(rt; fails(&set_mark(&mut in_file, 0)));
+    assert!(rt; fails(&take_away(&mut in_file, 1)));
+    assert!(rt; fails(&spaces(&mut in_file, rt.alloc())));
     assert_eq!(rt; in_file.faults(), 4);
     remove(&rt, path.as_str())
 }
@@ -138,7 +188,7 @@ fn a_path_that_is_no_directory_is_a_fault(rt: HostRuntime) -> Result<(), Fail> {
 #[test]
 fn a_directory_that_takes_no_file_is_a_fault(rt: HostRuntime) -> Result<(), Fail> {
     let mut disk = FileDisk::new(rt, "/proc/no_such_disk")?;
-    assert_eq!(rt; disk.create(1, 1), Err(Refusal::Fault));
+    assert!(rt; fails(&create(&mut disk, 1, 1)));
     assert_eq!(rt; disk.faults(), 1);
     Ok(())
 }

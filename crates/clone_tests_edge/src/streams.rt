@@ -39,15 +39,28 @@ impl Write for Halting {
     }
 }
 
+// Calls of a source and a sink in functions of their own, since each of their clauses stays with
+// whoever calls them.
+fn read(source: &mut StdSource<Halting>) -> Result<usize, Refusal> {
+    source.read(&mut [0; 2])
+}
+
+fn write(sink: &mut StdSink<Halting>, bytes: &[u8]) -> Result<usize, Refusal> {
+    sink.write(bytes)
+}
+
+fn flush(sink: &mut StdSink<Halting>) -> Result<(), Refusal> {
+    sink.flush()
+}
+
 #[test]
 fn a_failed_read_is_no_end(rt: HostRuntime) -> Result<(), Fail> {
     let mut source = StdSource::new(Halting { calls: 0 });
-    let mut piece = [0; 2];
-    assert_eq!(rt; source.read(&mut piece), Ok(1));
-    assert_eq!(rt; source.read(&mut piece), Err(Refusal::Fault));
+    assert_eq!(rt; read(&mut source), Ok(1));
+    assert_eq!(rt; read(&mut source), Err(Refusal::Fault));
     assert_eq!(rt; source.faults(), 1);
-    assert_eq!(rt; source.read(&mut piece), Ok(1));
-    assert_eq!(rt; source.read(&mut piece), Ok(0));
+    assert_eq!(rt; read(&mut source), Ok(1));
+    assert_eq!(rt; read(&mut source), Ok(0));
     assert_eq!(rt; source.faults(), 1);
     Ok(())
 }
@@ -55,23 +68,27 @@ fn a_failed_read_is_no_end(rt: HostRuntime) -> Result<(), Fail> {
 #[test]
 fn bytes_wait_until_they_are_flushed(rt: HostRuntime) -> Result<(), Fail> {
     let mut sink = StdSink::new(rt.alloc(), Halting { calls: 0 })?;
-    assert_eq!(rt; sink.write(b"ab"), Ok(2));
-    assert_eq!(rt; sink.write(b""), Ok(0));
+    assert_eq!(rt; write(&mut sink, b"ab"), Ok(2));
+    assert_eq!(rt; write(&mut sink, b""), Ok(0));
     assert_eq!(rt; sink.faults(), 0);
-    assert_eq!(rt; sink.flush(), Err(Refusal::Fault));
-    assert_eq!(rt; sink.flush(), Err(Refusal::Fault));
+    assert_eq!(rt; flush(&mut sink), Err(Refusal::Fault));
+    assert_eq!(rt; flush(&mut sink), Err(Refusal::Fault));
     assert_eq!(rt; sink.faults(), 2);
     Ok(())
+}
+
+// How many of the bytes a sink over a list takes.
+fn put(sink: &mut StdSink<Vec<u8>>, bytes: &[u8]) -> Result<usize, Refusal> {
+    sink.write(bytes)
 }
 
 #[test]
 fn a_full_buffer_goes_out(rt: HostRuntime) -> Result<(), Fail> {
     let mut sink = StdSink::new(rt.alloc(), Vec::new(rt.alloc()))?;
-    let many = [7; SINK_ROOM];
-    assert_eq!(rt; sink.write(b"ab"), Ok(2));
-    assert_eq!(rt; sink.write(&many), Ok(SINK_ROOM));
-    assert_eq!(rt; sink.write(b"c"), Ok(1));
-    assert_eq!(rt; sink.flush(), Ok(()));
+    assert_eq!(rt; put(&mut sink, b"ab"), Ok(2));
+    assert_eq!(rt; put(&mut sink, &[7; SINK_ROOM]), Ok(SINK_ROOM));
+    assert_eq!(rt; put(&mut sink, b"c"), Ok(1));
+    sink.flush()?;
     assert_eq!(rt; sink.faults(), 0);
     Ok(())
 }

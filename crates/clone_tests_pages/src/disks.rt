@@ -30,11 +30,14 @@ pub fn read(disk: &mut MemDisk, space: u32, number: u32) -> Result<[u8; PAGE_SIZ
 /// Puts redo on the disk, of at most two pages, and the mark of a clone that is complete, with five
 /// commits.
 pub fn complete(disk: &mut MemDisk, redo: &[u8]) -> Result<(), Fail> {
+    if redo.len() > 2 * PAGE_SIZE {
+        return Err(Fail::from("too much redo"));
+    }
     put_redo(disk, redo)?;
     let end = CloneEnd {
         session: 1,
         checkpoint: FIRST_LSN,
-        lsn: FIRST_LSN.saturating_add(redo.len() as u64),
+        lsn: FIRST_LSN + redo.len() as u64,
         position: 5,
     };
     disk.write_mark(&Mark::Complete(end).to_bytes())?;

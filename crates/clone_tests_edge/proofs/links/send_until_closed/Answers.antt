@@ -12,7 +12,7 @@ pub join-one-requires-send-A : goal.join-one-requires-send-A
 join-one-requires-send-A g c κs within =
     let bit : IsSend bool = search sendable in
     let refused : IsSend AllocError.the_row = search sendable in
-    param_send _ _ (arg_send _ Exit.no _ (result_send _ _ (two_send _ _ _ (end_send _ (param_send _ _ c.type_bounds.send-R)) bit) refused))
+    param_send _ _ (arg_send _ Exit.no _ (result_send _ _ bit refused))
 
 pub join-one-requires-send-F : goal.join-one-requires-send-F
 join-one-requires-send-F g c κs within =

@@ -1,24 +1,17 @@
-use denote.Builtin.{u8}
 use denote.Exit as Exit
-use denote.Param.Send.{IsSend, IsSync, sendable, param_send, param_sync, arg_send, shr_send}
+use denote.Param.Send.{IsSend, sendable, param_send, param_sync, arg_send, shr_send}
 use Rattle.std.specs.contracts.alloc.AllocError as AllocError
-use Rattle.std.specs.contracts.alloc.Global as Global
-use Rattle.std.specs.contracts.impls.GlobalAllocator.TheImpl as Heap
-use Rattle.std.specs.contracts.vec.Vec as Vec
-use Rattle.std.below.std_heap.proofs.GlobalAllocator.TheSendSync.{the_frees}
-use Rattle.std.proofs.alloc.Global.TheSendSync.{the_send as global_send, the_sync as global_sync}
+use Rattle.std.proofs.alloc.Global.TheSendSync.{the_sync as global_sync}
 use Rattle.std.proofs.result.Result.TheSendSync.{the_send as result_send}
-use Rattle.std.proofs.vec.Vec.TheSendSync.{the_send as vec_send}
-use Rattle.clone_turn.proofs.TupleThreadLemmas.{two_send, three_send}
+use Rattle.clone_turn.proofs.TupleThreadLemmas.{three_send}
 use Rattle.clone_memlink.proofs.EndThreadLemmas.{end_send}
+use Rattle.clone_tests_edge.proofs.links.Heard.TheSendSync.{the_send as heard_send}
 use Rattle.clone_tests_edge.proofs.links.talk_by_two.Goals as goal
 
 pub join-one-requires-send-A : goal.join-one-requires-send-A
 join-one-requires-send-A g c κs within =
-    let byte : IsSend u8 = search sendable in
-    let bytes : IsSend (Vec.the_row u8 Global.the_row Heap.ghosts) = vec_send u8 Global.the_row Heap.ghosts byte global_send the_frees in
     let refused : IsSend AllocError.the_row = search sendable in
-    param_send _ _ (arg_send _ Exit.no _ (result_send _ _ (two_send _ _ _ (end_send _ (param_send _ _ c.type_bounds.send-R)) bytes) refused))
+    param_send _ _ (arg_send _ Exit.no _ (result_send _ _ heard_send refused))
 
 pub join-one-requires-send-F : goal.join-one-requires-send-F
 join-one-requires-send-F g c κs within =
