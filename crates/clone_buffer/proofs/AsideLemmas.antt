@@ -40,7 +40,7 @@ buffer_refused v new target refusal b fetched = by (holder v.pool.frames target)
         let f : Frame = frame_at v.pool.frames m.0 in
         let empties = m.1.1 in
         with_pool v new b (λ right. subst (Shows (replayed v.log)) (sym empties.frames)
-            (shown_set (replayed v.log) v.pool.frames m.0 (emptied empties.bytes f) m.1.0.within (b.shows right) (left_shown (replayed v.log) f.content f.page empties.bytes (b.shows right m.0))))
+        (shown_set (replayed v.log) v.pool.frames m.0 (emptied empties.bytes f) m.1.0.within (b.shows right) (left_shown (replayed v.log) f.content f.page empties.bytes (b.shows right m.0))))
 
     by : (o : Option ℕ) (e : FetchRefusal) → MatchOption o (Misses target v.pool new (Err e)) (λ at. (◌≡◌ {A = Result ℕ FetchRefusal} (Err e) (Ok at)) × (new ≡ used at v.pool)) → IsBuffer (record v { pool = new })
     by None e m = misses e m

@@ -1,6 +1,6 @@
+use clone_chunk::CloneCause;
 use clone_page::PageAt;
 use clone_plain::EngineRefusal;
-use clone_chunk::CloneCause;
 use clone_session::CloneRefusal;
 use std::alloc::AllocError;
 

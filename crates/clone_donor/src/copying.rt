@@ -7,8 +7,8 @@ ghost use Rattle.clone_donor.specs.Acts.{Acts};
 ghost use Rattle.clone_donor.specs.Copying.{Acks, Begins, moment_of};
 
 use crate::Donor;
-use clone_outside::PageDisk;
 use clone_chunk::CloneCause;
+use clone_outside::PageDisk;
 use clone_session::{Caller, CloneRefusal, Hello, Moment, StageInfo};
 use std::alloc::{AllocError, Global};
 

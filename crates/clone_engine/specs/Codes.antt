@@ -28,26 +28,30 @@ name_code =
     code_by (ℕ × ℕ) (coded× coded_ℕ coded_ℕ) (λ n. (n.space, n.number))
     (λ p. record { space = p.0; number = p.1 }) (λ _. refl)
 
--- what a frame holds: nothing, or a page that is new or not
-abbrev pub content_parts : Content → Option (Bool × PageName)
+-- what a frame holds: nothing, or a page that is new or not, or is to be loaded
+abbrev pub content_parts : Content → Option (Option Bool × PageName)
 content_parts content.Unused = None
-content_parts (content.Fresh name) = Some (true, name)
-content_parts (content.Held name) = Some (false, name)
+content_parts (content.Fresh name) = Some (Some true, name)
+content_parts (content.Held name) = Some (Some false, name)
+content_parts (content.Loading name) = Some (None, name)
 
-abbrev pub content_of_parts : Option (Bool × PageName) → Content
+abbrev pub content_of_parts : Option (Option Bool × PageName) → Content
 content_of_parts None = content.Unused
-content_of_parts (Some (true, name)) = content.Fresh name
-content_of_parts (Some (false, name)) = content.Held name
+content_of_parts (Some (Some true, name)) = content.Fresh name
+content_of_parts (Some (Some false, name)) = content.Held name
+content_of_parts (Some (None, name)) = content.Loading name
 
 pub content_back : (c : Content) → content_of_parts (content_parts c) ≡ c
 content_back content.Unused = refl
 content_back (content.Fresh name) = refl
 content_back (content.Held name) = refl
+content_back (content.Loading name) = refl
 
 abbrev pub content_code : Coded Content
 content_code =
-    code_by (Option (Bool × PageName)) (coded_option (coded× coded_bool name_code)) content_parts
-    content_of_parts content_back
+    code_by (Option (Option Bool × PageName))
+    (coded_option (coded× (coded_option coded_bool) name_code))
+    content_parts content_of_parts content_back
 
 -- a flush: none, one that failed, or one that has begun
 abbrev pub flush_parts : Flush → Option (Option (Option ℕ))
@@ -87,8 +91,10 @@ frame_code =
 
 abbrev pub frames_code : Coded Frames
 frames_code =
-    code_by (List Frame × ℕ) (coded× (coded_list frame_code) coded_ℕ) (λ v. (v.frames, v.uses))
-    (λ p. record { frames = p.0; uses = p.1 }) (λ _. refl)
+    code_by (List Frame × (ℕ × Option PageName))
+    (coded× (coded_list frame_code) (coded× coded_ℕ (coded_option name_code)))
+    (λ v. (v.frames, (v.uses, v.missed)))
+    (λ p. record { frames = p.0; uses = p.1.0; missed = p.1.1 }) (λ _. refl)
 
 abbrev pub buffer_code : Coded Buffered
 buffer_code =

@@ -15,10 +15,10 @@ ghost use Rattle.clone_request.specs.Causes.{IsNoCause, step_of};
 
 use crate::requester::{Requester, SESSION, StepRefusal};
 use clone_base::PAGE_SIZE;
+use clone_chunk::CloneCause;
 use clone_donor::{Block, BlockRefusal, Donor};
 use clone_outside::PageDisk;
 use clone_plain::EngineRefusal;
-use clone_chunk::CloneCause;
 use clone_session::{Caller, CloneRefusal, Hello, StageInfo, VERSION};
 use std::alloc::Global;
 

@@ -152,11 +152,7 @@ fn lay<R: PageDisk>(
 }
 
 /// Lays pages, each at its place. No space has a page of a number above its limit.
-fn lay_pages<R: PageDisk>(
-    disk: &mut R,
-    sizes: &mut Counts,
-    pages: &[PageAt],
-) -> Result<(), Refusal>
+fn lay_pages<R: PageDisk>(disk: &mut R, sizes: &mut Counts, pages: &[PageAt]) -> Result<(), Refusal>
     requires sizes { ForTold (R.state disk.old).told (AreSizes sizes.old) }
     ensures ok { OnOk result (AllByRecursion (λ p. p.number < MOST_PAGES) pages.now
         → Steps (R.state disk.old).told (R.state disk.new).told (with_laid (reads_of pages.now))) }

@@ -3,7 +3,7 @@ use Rattle.std.proofs.Common.{◌≡◌, ◌<◌, ◌^◌, ◌==◌, ℕ, List, 
 use Rattle.clone_model.specs.declared.line.TheConstants.{MOST_PAGES}
 use Rattle.clone_page.specs.Slots.{row_slot_count}
 use Rattle.clone_pool.specs.declared.frame.Content.{Content}
-use Rattle.clone_pool.specs.declared.frame.Content.TheVariants.{Unused, Fresh, Held}
+use Rattle.clone_pool.specs.declared.frame.Content.TheVariants.{Unused, Fresh, Held, Loading}
 use Rattle.clone_pool.specs.declared.frame.PageName.{PageName}
 use Rattle.clone_pool.specs.Frames.{frame_at, name_in}
 use Rattle.clone_buffer.specs.Buffered.{Buffered, IsBuffer, Shown, image_of}
@@ -21,6 +21,7 @@ held_page b page at is has right there = by (frame_at b.pool.frames at).content 
   where
     by : (content : Content) → name_in content ≡ Some page → Shown (image_of b) content (page_in at b) → page_of (image_of b) page.space page.number ≡ Some (page_in at b)
     by Unused named shown = let none : None ≡ Some page = named in absurd (cc)
+    by (Loading name) named shown = let none : None ≡ Some page = named in absurd (cc)
     by (Fresh name) named shown =
         let same : name ≡ page = same_Some name page named in
         let gone : page_of (image_of b) page.space page.number ≡ None = ap (λ (n : PageName). page_of (image_of b) n.space n.number) (sym same) ∙ shown.0 in

@@ -8,7 +8,7 @@ use Rattle.clone_pool.specs.declared.frame.PageName.{PageName}
 use Rattle.clone_pool.specs.declared.pool.FetchRefusal.{FetchRefusal}
 use Rattle.clone_pool.specs.declared.pool.FetchRefusal.TheVariants as fetch
 use Rattle.clone_pool.specs.declared.frame.Content.TheVariants.{Unused}
-use Rattle.clone_pool.specs.Frames.{no_frame, frame_at, is_fresh, holder, name_of, changed, discarded, filled, emptied, touched, unpinned, next_use}
+use Rattle.clone_pool.specs.Frames.{no_frame, frame_at, is_fresh, holder, claim_of, changed, discarded, filled, emptied, touched, unpinned, next_use}
 use Rattle.clone_pool.specs.Pool.{Frames, Fetches, Misses, used}
 use Rattle.clone_buffer.proofs.FrameLemmas.{holder_name}
 use Rattle.clone_buffer.proofs.GivenLemmas.{freed_at}
@@ -90,4 +90,4 @@ pub given_pins : (space pages : ℕ) (v : Frames) → SamePins v.frames (given_u
 given_pins space pages v = record { at = λ other. ap (λ (f : Frame). f.pins) (freed_at space pages v other) ∙ by (frame_at v.frames other) }
   where
     by : (f : Frame) → (freed space pages f).pins ≡ f.pins
-    by f = cond_both (is_page_below space pages (name_of f)) (discarded f) f (λ (g : Frame). g.pins ≡ f.pins) (λ is. refl) (λ is. refl)
+    by f = cond_both (is_page_below space pages (claim_of f)) (discarded f) f (λ (g : Frame). g.pins ≡ f.pins) (λ is. refl) (λ is. refl)

@@ -6,7 +6,7 @@ use Rattle.clone_pool.specs.declared.frame.Frame.{Frame}
 use Rattle.clone_pool.specs.declared.frame.Content.TheVariants.{Unused}
 use Rattle.clone_pool.specs.declared.frame.PageName.{PageName}
 use Rattle.clone_pool.specs.declared.pool.FetchRefusal.{FetchRefusal}
-use Rattle.clone_pool.specs.Frames.{no_frame, frame_at, holder, is_dirty, is_fresh, may_go, name_of, next_use, freshened, pinned, touched, unpinned}
+use Rattle.clone_pool.specs.Frames.{no_frame, frame_at, holder, is_dirty, is_fresh, is_free, name_of, next_use, freshened, pinned, touched, unpinned}
 use Rattle.clone_pool.specs.Pool.{Frames, IsPool, TakesFrame, used, with_frame}
 use Rattle.clone_pool.proofs.PoolLemmas.{holder_is}
 use Rattle.clone_buffer.proofs.FrameLemmas.{holder_name}
@@ -64,8 +64,8 @@ module _ (page : PageName) (at : ℕ) (old new : Buffered) (h : Holds page at ol
 
 -- A frame that is taken for a new page.
 
--- a frame that may go has no pin
-loose : (f : Frame) → may_go f ≡ true → f.pins ≡ 0
+-- a frame that is neither pinned nor dirty has no pin
+loose : (f : Frame) → is_free f ≡ true → f.pins ≡ 0
 loose f free = eqb-true f.pins 0 (and_parts (f.pins == 0) (not (is_dirty f)) free).0
 
 -- a frame that has become another one, and the others

@@ -4,7 +4,7 @@ use Rattle.std.proofs.lemmas.Bool.{cases_eq}
 use Rattle.std.proofs.lemmas.List.{get_or-set_same, get_or-set_other}
 use Rattle.clone_pool.specs.declared.frame.Frame.{Frame}
 use Rattle.clone_pool.specs.declared.frame.PageName.{PageName}
-use Rattle.clone_pool.specs.Frames.{no_frame, frame_at, name_of, may_go, is_dirty, pinned}
+use Rattle.clone_pool.specs.Frames.{no_frame, frame_at, name_of, is_free, is_dirty, pinned}
 use Rattle.clone_pool.specs.Pool.{Frames, IsPool, IsHolder, KeepsInUse, with_frame}
 use Rattle.clone_pool.proofs.PoolLemmas.{holder_is}
 use Rattle.clone_buffer.proofs.WriteLemmas.{name_at-after}
@@ -25,8 +25,8 @@ keeps_has old new page at q keeps has =
     let k = keeps at has.pinned in
     record { holder = holder_is new q page at (q.once page at (k.0 ∙ has.holder.name)); pinned = k.1 }
 
--- a frame that is pinned may not go
-stays : (f : Frame) → 0 < f.pins → may_go f ≡ false
+-- a frame that is pinned isn't free
+stays : (f : Frame) → 0 < f.pins → is_free f ≡ false
 stays f some = ap (λ (b : Bool). b && not (is_dirty f)) (not_equal f.pins 0 (λ none. omega (arith, some, none)))
 
 pub fetch_keeps : (old new : List Frame) → KeepsInUse old new → KeepsPinned old new

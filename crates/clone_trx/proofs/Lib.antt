@@ -36,6 +36,7 @@ pub mod FoundSlotLemmas
 pub mod FramePinLemmas
 pub mod HeldPageLemmas
 pub mod WalkLemmas
+pub mod MissedLemmas
 pub mod WalkedLemmas
 pub mod WalkStepLemmas
 pub mod SpotLemmas

@@ -5,7 +5,7 @@ use Rattle.clone_undo.specs.Places.{header_page, record_page, capacity}
 use Rattle.clone_trx.proofs.Common.{Image, page_of, IsFormed, system_size, page_there, TRANSACTION_LIMIT}
 use Rattle.clone_pool.specs.declared.frame.Frame.{Frame}
 use Rattle.clone_pool.specs.declared.frame.Content.{Content}
-use Rattle.clone_pool.specs.declared.frame.Content.TheVariants.{Unused, Fresh, Held}
+use Rattle.clone_pool.specs.declared.frame.Content.TheVariants.{Unused, Fresh, Held, Loading}
 use Rattle.clone_pool.specs.declared.frame.PageName.{PageName}
 use Rattle.clone_pool.specs.Frames.{frame_at, name_in}
 use Rattle.clone_buffer.specs.Buffered.{Shown, Shows}
@@ -26,6 +26,7 @@ page_shown image frames page at shows has there = by (frame_at frames at).conten
   where
     by : (content : Content) → name_in content ≡ Some page → Shown image content (frame_at frames at).page → page_of image page.space page.number ≡ Some (frame_at frames at).page
     by Unused name shown = let none : None ≡ Some page = name in absurd (cc)
+    by (Loading other) name shown = let none : None ≡ Some page = name in absurd (cc)
     by (Fresh other) name shown =
         let same : other ≡ page = cc in
         let gone : page_of image page.space page.number ≡ None = subst (λ (p : PageName). page_of image p.space p.number ≡ None) same shown.0 in

@@ -6,3 +6,4 @@ pub mod Calls
 pub mod Walking
 pub mod Locked
 pub mod Opened
+pub mod Missed

@@ -14,7 +14,7 @@ use Rattle.clone_pool.specs.declared.frame.PageName.{PageName}
 use Rattle.clone_pool.specs.declared.pool.FetchRefusal.{FetchRefusal}
 use Rattle.clone_pool.specs.declared.pool.FetchRefusal.TheVariants as fetch
 use Rattle.clone_pool.specs.Frames.{frame_at, holder, pinned, unpinned}
-use Rattle.clone_pool.specs.Pool.{AreKept, Fetches, Freshens, with_frame}
+use Rattle.clone_pool.specs.Pool.{HasNoFrameFor, Fetches, Freshens, with_frame}
 use Rattle.clone_buffer.specs.Buffered.{Buffered, image_of}
 use Rattle.clone_buffer.specs.Writing.{written}
 use Rattle.clone_buffer.specs.Dropping.{without_pages}
@@ -102,10 +102,10 @@ pub record Takes (page : PageName) (at : ℕ) (old new : Buffered) : Type 0 wher
   pub taken : Freshens page old.pool new.pool (Ok at)
   pub same : new ≡ record old { pool = new.pool }
 
--- a new page has no frame, and there is none for it
+-- a new page has no frame, none is set aside for it, and none may go
 pub record HasNoFrame (page : PageName) (b : Buffered) (cause : Cause) : Type 0 where
   pub absent : holder b.pool.frames page ≡ None
-  pub kept : AreKept b.pool.frames
+  pub kept : HasNoFrameFor page b.pool.frames
   pub is : cause ≡ PoolFull (length b.pool.frames)
 
 -- A WALK goes along a chain page by page, and looks for a slot that is bound to its key. If it is

@@ -13,4 +13,4 @@ mod transactions;
 mod walk;
 
 pub use opening::{OpenRefusal, open};
-pub use transactions::{Transactions, kept_laws};
+pub use transactions::{Transactions, kept_laws, missed_laws};

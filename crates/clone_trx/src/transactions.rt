@@ -25,6 +25,7 @@ ghost use Rattle.clone_plain.specs.declared.refusal.EngineRefusal.TheVariants.{B
 ghost use Rattle.clone_trx.specs.Calls.{create_way, begin_way};
 ghost use Rattle.clone_trx.specs.Sound.{HasChain, HasSize, IsKept};
 ghost use Rattle.clone_trx.specs.Kept.{IsSafe, Keeps};
+ghost use Rattle.clone_trx.specs.Missed.{MissedLeft};
 ghost use Rattle.clone_trx.specs.Ways.{Answers, StaysStanding};
 
 mod change;
@@ -202,4 +203,10 @@ pub fn kept_laws()
     ensures chains { (d : Donor) (image : Image) (table count bucket : ℕ) → IsKept d image
         → finite.get d.tables table ≡ Some count → bucket < count
         → HasChain (contents_of image) table bucket }
+{}
+
+/// A call that asks the disk for pages alone, and ends with a fault of it, has missed a page: the
+/// buffer tells which. No frame holds it, and there is one that is set aside for it or may go.
+pub fn missed_laws()
+    ensures { MissedLeft }
 {}
