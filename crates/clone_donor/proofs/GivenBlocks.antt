@@ -1,19 +1,21 @@
 -- A block that is read of a donor, in the stage that its session has come to; and what was taken
 -- then.
-use Rattle.std.proofs.Common.{Global, Vec, ◌≡◌, ◌<◌, ◌∷◌, ◌∙◌, ℕ, Bool, true, false, List, [], refl, sym, ap, subst, arith, Option, Some, None, option_map, if◌then◌else◌}
+use Rattle.std.proofs.Common.{◌≡◌, ◌<◌, ◌≤◌, ◌∷◌, ◌∙◌, ℕ, length, Bool, true, false, List, [], refl, sym, ap, subst, arith, Option, Some, None, option_map, if◌then◌else◌}
 use Rattle.std.specs.Prelude.{not, ◌==◌}
 use Rattle.std.specs.List.{All, AllByRecursion, Contains, flat_map, range_with_len}
 use Rattle.std.specs.Option.{option_or, option_map_or}
 use Rattle.std.proofs.lemmas.Bool.{eqb-true}
+use Rattle.std.proofs.lemmas.List.{length-map}
 use Rattle.std.proofs.lemmas.List.Elements.{All-append, All-contains, All-from_recursion, All-head, All-map, All-nil, All-tail, All-weaker, recursion_from_All}
 use Rattle.std.proofs.lemmas.List.FromFn.{get_or-range_with_len, length-range_with_len}
+use Rattle.clone_base.specs.declared.limits.TheConstants.{BLOCK_BYTES, BLOCK_PAGES}
 use Rattle.clone_outside.specs.Disk.{DiskImage, ForTold}
 use Rattle.clone_flush.specs.Flights.{IsFlown}
 use Rattle.clone_chunk.specs.Stages.{stage_number}
 use Rattle.clone_snapshot.specs.StageLists as lists
-use Rattle.clone_snapshot.specs.StageLists.{Files, PagePart, Redo, Nothing, StageList, all_pages, block_of, pages_of_space, stage_of}
+use Rattle.clone_snapshot.specs.StageLists.{Files, IsBlockSized, PagePart, Redo, Nothing, StageList, all_pages, block_of, pages_of_space, stage_of}
 use Rattle.clone_snapshot.specs.declared.block.RedoBlock.{RedoBlock}
-use Rattle.clone_snapshot.proofs.EachBlock.{pages_listed}
+use Rattle.clone_snapshot.proofs.EachBlock.{block_sized, pages_listed}
 use Rattle.clone_session.specs.declared.caller.Caller.{Caller}
 use Rattle.clone_session.specs.declared.copying.BlockWork.{BlockWork}
 use Rattle.clone_session.specs.declared.copying.BlockWork.TheVariants as work
@@ -57,6 +59,20 @@ stage_is c caller stage chunk number s stands none =
     subst (λ (o : Option Session). option_map_or (λ s. option_or (stale s caller.incarnation) (option_or (other_stage s stage) (option_or (not_claimed s caller.task chunk number) (archive_behind c.archive (block_of s.snap.list chunk number))))) o (Some NoSuchSession) ≡ None) stands none in
     let here = both_none (other_stage s stage) behind (both_none (stale s caller.incarnation) (option_or (other_stage s stage) behind) at).1 in
     eqb-true stage (donor_stage s) (is_so (stage == donor_stage s) _ here.0)
+
+-- A BLOCK has something, and no more than a block may have.
+module _ (c : Cloning) (session chunk number : ℕ) (made : BlockWork) (of : IsBlockOf c session chunk number made) where
+  sized : IsBlockSized (part_of made)
+  sized = let on = of.0 in block_sized on.0.snap.list chunk number (part_of made) on.2
+
+  pub pages_sized : (pages : List (ℕ × ℕ)) (read : List PageAt) → made ≡ work.Pages pages → places_of read ≡ pages → (1 ≤ length read) × (length read ≤ BLOCK_PAGES)
+  pages_sized pages read is places =
+      let has : IsBlockSized (PagePart pages) = subst (λ (w : BlockWork). IsBlockSized (part_of w)) is sized in
+      let long : length read ≡ length pages = sym (length-map read (λ p. (p.space, p.number))) ∙ ap length places in
+      (omega (arith, has.0, long), omega (arith, has.1, long))
+
+  pub redo_sized : (redo : RedoBlock) → made ≡ work.Redo redo → (1 ≤ redo.length) × (redo.length ≤ BLOCK_BYTES)
+  redo_sized redo is = subst (λ (w : BlockWork). IsBlockSized (part_of w)) is sized
 
 -- what was read, by the stage's list
 reads_as : (l : StageList) (stage : ℕ) (e : Engine) (p : PageAt) → stage ≡ stage_number (stage_of l) → ReadsIn stage e p → ReadsPageOf l e p
@@ -177,9 +193,9 @@ module _ (caller : Caller) (stage chunk number : ℕ) (d f : Donor) (made : Bloc
       let on = may.made_of.0 in
       record { is = may.is; cloning = may.cloning; session = on.0; stands = on.1; made = made; made_of = may.made_of; block = block on.0 on.1; visits = visits; same = same }
 
-  pub has_pages : (pages : List (ℕ × ℕ)) (read : Vec PageAt Global) → made ≡ work.Pages pages → places_of read.items ≡ pages → AllByRecursion (ReadsIn stage d.engine) read.items → HasBlock caller chunk number d f (block.Pages read)
+  pub has_pages : (pages : List (ℕ × ℕ)) (read : List PageAt) → made ≡ work.Pages pages → places_of read ≡ pages → AllByRecursion (ReadsIn stage d.engine) read → HasBlock caller chunk number d f (block.Pages read)
   has_pages pages read is places reads = has_block (block.Pages read)
-      (λ s stands. subst (λ w. IsBlock s.snap.list d w (block.Pages read)) (sym is) (places, reads_of s.snap.list stage d.engine read.items (stage_is d.cloning caller stage chunk number s stands may.free) reads))
+      (λ s stands. subst (λ w. IsBlock s.snap.list d w (block.Pages read)) (sym is) (places, reads_of s.snap.list stage d.engine read (stage_is d.cloning caller stage chunk number s stands may.free) reads))
 
   pub has_redo : (redo : RedoBlock) (read : Block) → made ≡ work.Redo redo → IsRedo d redo read → HasBlock caller chunk number d f read
   has_redo redo read is has = has_block read (λ s stands. subst (λ w. IsBlock s.snap.list d w read) (sym is) has)
@@ -208,13 +224,13 @@ module _ (caller : Caller) (chunk number : ℕ) (d f : Donor) (read : Block) (ha
   taken_block (block.Redo from bytes) taken is was = was
   taken_block (block.Pages pages) taken is was = of_work has.made has.made_of.0 is
     where
-      of_work : (w : BlockWork) → OnSession d.cloning caller.session (λ s. block_of s.snap.list chunk number ≡ Some (part_of w)) → IsBlock has.session.snap.list d w (block.Pages pages) → IsTaken d (after_pages pages.items taken)
+      of_work : (w : BlockWork) → OnSession d.cloning caller.session (λ s. block_of s.snap.list chunk number ≡ Some (part_of w)) → IsBlock has.session.snap.list d w (block.Pages pages) → IsTaken d (after_pages pages taken)
       of_work (work.Redo redo) on is = absurd is
       of_work (work.Pages places) on is =
           let s = has.session in
           let one : Some on.0 ≡ Some s = sym on.1 ∙ has.stands in
           let same : on.0 ≡ s = cc in
-          taken_pages d taken pages.items has.is has.cloning was s (stands_as d.cloning.session caller.session s has.stands) is.1
+          taken_pages d taken pages has.is has.cloning was s (stands_as d.cloning.session caller.session s has.stands) is.1
           (subst (All (Contains (all_pages s.snap.list))) (sym is.0) (pages_listed s.snap.list chunk number places (subst (λ (x : Session). block_of x.snap.list chunk number ≡ Some (PagePart places)) same on.2)))
 
   pub given_taken : (taken : Taken) → IsTaken d taken → IsTaken after (taken_from read taken)

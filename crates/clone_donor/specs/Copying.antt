@@ -89,12 +89,12 @@ ReadsIn stage e p =
 abbrev pub IsRedo : Donor → RedoBlock → Block → Type 0
 IsRedo d redo (Pages read) = ⊥
 IsRedo d redo (Redo from bytes) =
-    (from ≡ redo.from) × (bytes.items ≡ redo_in d.cloning.archive redo)
+    (from ≡ redo.from) × (bytes ≡ redo_in d.cloning.archive redo)
 
 -- a block is what it is made of, in the stage that copies this list
 abbrev pub IsBlock : StageList → Donor → BlockWork → Block → Type 0
 IsBlock list d (work.Pages pages) (Pages read) =
-    (places_of read.items ≡ pages) × AllByRecursion (ReadsPageOf list d.engine) read.items
+    (places_of read ≡ pages) × AllByRecursion (ReadsPageOf list d.engine) read
 IsBlock list d (work.Pages pages) (Redo from bytes) = ⊥
 IsBlock list d (work.Redo redo) block = IsRedo d redo block
 
@@ -112,7 +112,7 @@ pub record Gives (caller : Caller) (chunk number : ℕ) (d t : Donor) (block : B
 -- a block as it was answered
 abbrev pub taken_from : Block → Taken → Taken
 taken_from (Pages read) taken = record taken {
-  copies = with_pages (map (λ p. ((p.space, p.number), p.page)) read.items) taken.copies;
+  copies = with_pages (map (λ p. ((p.space, p.number), p.page)) read) taken.copies;
 }
 taken_from (Redo from bytes) taken = taken
 

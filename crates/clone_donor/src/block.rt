@@ -1,5 +1,5 @@
-use clone_chunk::CloneCause;
-use clone_page::PageAt;
+use clone_chunk::{CloneCause, RedoBytes};
+use clone_page::Pages;
 use clone_plain::EngineRefusal;
 use clone_session::CloneRefusal;
 use std::alloc::AllocError;
@@ -7,14 +7,14 @@ use std::alloc::AllocError;
 /// A block of a chunk.
 #[derive(Drop)]
 pub enum Block {
-    /// At most eight pages.
-    Pages(Vec<PageAt>),
-    /// At most 16,384 bytes of the log.
+    /// 1 to 8 pages.
+    Pages(Pages),
+    /// 1 to 16,384 bytes of the log.
     Redo {
         /// The LSN of the first one.
         from: u64,
         /// The bytes.
-        bytes: Vec<u8>,
+        bytes: RedoBytes,
     },
 }
 

@@ -1,5 +1,6 @@
-ghost use Rattle.std.specs.Prelude.{◌≡◌, IfErr, IfOk, MatchResult, OnErr};
+ghost use Rattle.std.specs.Prelude.{◌≡◌, ◌≤◌, IfErr, IfOk, MatchResult, OnErr, OnOk, None};
 ghost use Rattle.std.specs.List.{AllByRecursion};
+ghost use Rattle.clone_base.specs.declared.limits.TheConstants.{BLOCK_BYTES};
 ghost use Rattle.clone_outside.specs.Causes.{Rose};
 ghost use Rattle.clone_session.specs.CloneCalls.{IsInArchive};
 ghost use Rattle.clone_session.specs.CloneCauses.{block_cause};
@@ -10,8 +11,9 @@ ghost use Rattle.clone_donor.specs.Acts.{Acts};
 ghost use Rattle.clone_donor.specs.Copying.{FailsReading, Gives, IsRedo, ReadsIn, RefusesBlock, places_of};
 
 use crate::{Block, BlockRefusal, Donor};
+use clone_chunk::RedoBytes;
 use clone_outside::PageDisk;
-use clone_page::{Page, PageAt};
+use clone_page::{Page, PageAt, Pages};
 use clone_plain::EngineRefusal;
 use clone_session::{BlockWork, Caller};
 use clone_snapshot::{PageBlock, RedoBlock};
@@ -22,10 +24,10 @@ const FILE_COPY: u8 = 1;
 
 // The blocks of a clone.
 impl<D: PageDisk> Donor<D> {
-    /// Puts a block of a chunk that the task has claimed in place of the one that is given: pages
-    /// as the disk has them while files are copied, pages as they are after that, or redo that is
-    /// archived. The answer is whether the block was its chunk's last, and then the chunk is
-    /// finished. After an error nothing has changed but the disk's count of faults.
+    /// A block of a chunk that the task has claimed: pages as the disk has them while files are
+    /// copied, pages as they are after that, or redo that is archived. And whether the block was its
+    /// chunk's last; then the chunk is finished. After an error nothing has changed but the disk's
+    /// count of faults.
     pub fn read_block(
         &mut self,
         alloc: Global,
@@ -33,24 +35,23 @@ impl<D: PageDisk> Donor<D> {
         stage: u8,
         chunk: u32,
         number: u8,
-        into: &mut Block,
-    ) -> Result<bool, BlockRefusal>
-        ensures gives { IfOk result (λ last. (block_cause self.old.cloning caller stage chunk number
-            ≡ None) × Gives caller chunk number self.old self.new into.new last) }
-        ensures refused { IfErr result (λ refusal. (into.new ≡ into.old)
-            × RefusesBlock caller stage chunk number self.old self.new refusal) }
+    ) -> Result<(Block, bool), BlockRefusal>
+        ensures free { OnOk result (block_cause self.old.cloning caller stage chunk number ≡ None) }
+        ensures gives { IfOk result (λ given.
+            Gives caller chunk number self.old self.new given.0 given.1) }
+        ensures refused { IfErr result (RefusesBlock caller stage chunk number self.old self.new) }
         ensures acts { MatchResult result
-            (λ last. Acts (act.Give caller chunk number into.new last) self.old self.new)
+            (λ given. Acts (act.Give caller chunk number given.0 given.1) self.old self.new)
             (λ _. Acts act.Miss self.old self.new) }
     {
         let work = self.cloning.block(caller, stage, chunk, number)?;
         self.cloning.laws();
         let block = match work {
-            BlockWork::Pages(pages) => Block::Pages(self.pages(alloc, stage, pages)?),
+            BlockWork::Pages(pages) => Block::Pages(Pages::new(self.pages(alloc, stage, pages)?)),
             BlockWork::Redo(redo) => self.redo(alloc, redo)?,
         };
-        *into = block;
-        Ok(self.cloning.answered(caller, chunk, number))
+        let last = self.cloning.answered(caller, chunk, number);
+        Ok((block, last))
     }
 
     // The pages of a block, as the stage copies them.
@@ -103,13 +104,15 @@ impl<D: PageDisk> Donor<D> {
     // Archived bytes of the log.
     fn redo(&self, alloc: Global, redo: RedoBlock) -> Result<Block, AllocError>
         requires archived { IsInArchive self.now.cloning.archive redo }
+        requires some { 1 ≤ redo.length }
+        requires few { redo.length ≤ BLOCK_BYTES }
         ensures { IfOk result (λ block. IsRedo self.now redo block) }
     {
         let mut bytes = Vec::from_elem(alloc, 0, redo.length as usize)?;
         self.cloning.read_redo(redo, &mut bytes);
         Ok(Block::Redo {
             from: redo.from,
-            bytes,
+            bytes: RedoBytes::of(bytes),
         })
     }
 }

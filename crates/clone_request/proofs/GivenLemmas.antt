@@ -1,5 +1,5 @@
 -- A block that a donor gives of a stage that is being copied, and the stage once the block is laid.
-use Rattle.std.proofs.Common.{Global, Vec, ◌≡◌, ◌<◌, ◌≤◌, ◌+◌, ◌-◌, ◌*◌, ◌↔◌, ◌∷◌, [], ◌++◌, ◌∙◌, ◌⊎◌, inl, inr, ℕ, List, Bool, true, false, Option, None, Some, Result, Ok, Err, IsTrue, cond, get_or, is_some, length, min, option_map, take, drop, refl, sym, ap, subst, arith, if◌then◌else◌}
+use Rattle.std.proofs.Common.{◌≡◌, ◌<◌, ◌≤◌, ◌+◌, ◌-◌, ◌*◌, ◌↔◌, ◌∷◌, [], ◌++◌, ◌∙◌, ◌⊎◌, inl, inr, ℕ, List, Bool, true, false, Option, None, Some, Result, Ok, Err, IsTrue, cond, get_or, is_some, length, min, option_map, take, drop, refl, sym, ap, subst, arith, if◌then◌else◌}
 use Rattle.std.specs.Prelude.{IfOk, MatchResult, count_by, slice_get, slice_set}
 use Rattle.std.specs.List.{All, AllByRecursion, Contains, flat_map}
 use Rattle.std.specs.Option.{ForSome}
@@ -333,37 +333,37 @@ module _ (d t : Donor) (told : Option DiskImage) (sizes : PageCounts) (stage che
     taken_in m there = subst (IsTakenBy d.cloning d.engine.buffer.log was.taken) list_here (of_told (λ _. IsTakenBy d.cloning d.engine.buffer.log was.taken (list_of d.cloning)) d.engine.disk.told m there was.in_stage.is.stage)
 
     -- PAGES
-    module _ (pages : List (ℕ × ℕ)) (read : Vec PageAt Global) (part_is : part ≡ PagePart pages) (places : places_of read.items ≡ pages) (engine : IsEngine d.engine) (safe : IsSafe d.engine.donor) (is_taken : IsTaken t (taken_from (block.Pages read) was.taken)) where
+    module _ (pages : List (ℕ × ℕ)) (read : List PageAt) (part_is : part ≡ PagePart pages) (places : places_of read ≡ pages) (engine : IsEngine d.engine) (safe : IsSafe d.engine.donor) (is_taken : IsTaken t (taken_from (block.Pages read) was.taken)) where
       pages_are : block_of list chunk number ≡ Some (PagePart pages)
       pages_are = block_is ∙ ap (λ (p : Part). Some p) part_is
 
-      own : (m : DiskImage) → d.engine.disk.told ≡ Some m → AllByRecursion (OfImage d.engine) (places_of read.items)
-      own m there = recursion_from_All (OfImage d.engine) (places_of read.items) (All-weaker (Contains (all_pages list)) (OfImage d.engine) (λ x has. All-contains (OfImage d.engine) (all_pages list) x (listed_own d.engine engine m there list (is.own list list_here)) has) (places_of read.items)
+      own : (m : DiskImage) → d.engine.disk.told ≡ Some m → AllByRecursion (OfImage d.engine) (places_of read)
+      own m there = recursion_from_All (OfImage d.engine) (places_of read) (All-weaker (Contains (all_pages list)) (OfImage d.engine) (λ x has. All-contains (OfImage d.engine) (all_pages list) x (listed_own d.engine engine m there list (is.own list list_here)) has) (places_of read)
           (subst (All (Contains (all_pages list))) (sym places) (pages_listed list chunk number pages pages_are)))
 
-      not_part : (s n : ℕ) → IsNotOf (reads_of read.items) s n → HasPage s n part → ⊥
-      not_part s n not has = not_there read.items s n not (subst (λ (ps : List (ℕ × ℕ)). Contains ps (s, n)) (sym places) (subst (HasPage s n) part_is has))
+      not_part : (s n : ℕ) → IsNotOf (reads_of read) s n → HasPage s n part → ⊥
+      not_part s n not has = not_there read s n not (subst (λ (ps : List (ℕ × ℕ)). Contains ps (s, n)) (sym places) (subst (HasPage s n) part_is has))
 
-      pages_laid : (m : DiskImage) → d.engine.disk.told ≡ Some m → (x : DiskImage) → HoldsStage list chunks in_work was.taken d.cloning.archive x → Now (taken_from (block.Pages read) was.taken) d.cloning.archive (with_laid (reads_of read.items) x)
+      pages_laid : (m : DiskImage) → d.engine.disk.told ≡ Some m → (x : DiskImage) → HoldsStage list chunks in_work was.taken d.cloning.archive x → Now (taken_from (block.Pages read) was.taken) d.cloning.archive (with_laid (reads_of read) x)
       pages_laid m there x held =
-          let low = low_reads d.engine safe (kept_there d.engine engine m there) read.items (own m there) in
+          let low = low_reads d.engine safe (kept_there d.engine engine m there) read (own m there) in
           let some = lists_pages list chunk number pages pages_are in
           record {
-            pages = holds_weaker (λ s n. WaitsForPage list chunks in_work s n × IsNotOf (reads_of read.items) s n) (WaitsForPage list (chunks_with last) (work_after chunk number last)) _ _
+            pages = holds_weaker (λ s n. WaitsForPage list chunks in_work s n × IsNotOf (reads_of read) s n) (WaitsForPage list (chunks_with last) (work_after chunk number last)) _ _
                 (λ s n w. waits_now (HasPage s n) (not_part s n w.1) w.0)
-                (holds_pages (reads_of read.items) (WaitsForPage list chunks in_work) was.taken.copies x low (may_count d.cloning d.engine.buffer.log was.taken was.session list some in_stage (taken_in m there)) held.pages);
-            redo = listed_stays list chunks (chunks_with last) in_work (work_after chunk number last) was.taken.stop d.cloning.archive x (with_laid (reads_of read.items) x) some (pages_beside (reads_of read.items) x low) held.redo;
+                (holds_pages (reads_of read) (WaitsForPage list chunks in_work) was.taken.copies x low (may_count d.cloning d.engine.buffer.log was.taken was.session list some in_stage (taken_in m there)) held.pages);
+            redo = listed_stays list chunks (chunks_with last) in_work (work_after chunk number last) was.taken.stop d.cloning.archive x (with_laid (reads_of read) x) some (pages_beside (reads_of read) x low) held.redo;
           }
 
       pub pages_into : ReadsInto t told stage checkpoint chunk number last stop (block.Pages read)
       pages_into = record {
         fit = tt;
-        low = subst (λ (o : Option DiskImage). ForTold o (λ _. AreLow (block.Pages read))) (sym told_now) (for_told (λ _. AreLow (block.Pages read)) d.engine.disk.told (λ m there. low_numbers d.engine safe (kept_there d.engine engine m there) read.items (own m there)));
-        laid = copying_now (taken_from (block.Pages read) was.taken) (with_laid (reads_of read.items)) is_taken refl pages_laid;
+        low = subst (λ (o : Option DiskImage). ForTold o (λ _. AreLow (block.Pages read))) (sym told_now) (for_told (λ _. AreLow (block.Pages read)) d.engine.disk.told (λ m there. low_numbers d.engine safe (kept_there d.engine engine m there) read (own m there)));
+        laid = copying_now (taken_from (block.Pages read) was.taken) (with_laid (reads_of read)) is_taken refl pages_laid;
       }
 
     -- REDO
-    module _ (redo : RedoBlock) (from : ℕ) (read : Vec ℕ Global) (part_is : part ≡ RedoPart redo.from redo.length) (from_is : from ≡ redo.from) (bytes_are : read.items ≡ redo_in d.cloning.archive redo) (kept_there : IsInArchive d.cloning.archive redo)
+    module _ (redo : RedoBlock) (from : ℕ) (read : List ℕ) (part_is : part ≡ RedoPart redo.from redo.length) (from_is : from ≡ redo.from) (bytes_are : read ≡ redo_in d.cloning.archive redo) (kept_there : IsInArchive d.cloning.archive redo)
         (log : IsInLog list) (archives : ForSome d.cloning.archive IsArchived) (is_taken : IsTaken t was.taken) where
       redo_is : block_of list chunk number ≡ Some (RedoPart redo.from redo.length)
       redo_is = block_is ∙ ap (λ (p : Part). Some p) part_is
@@ -392,7 +392,7 @@ module _ (d t : Donor) (told : Option DiskImage) (sizes : PageCounts) (stage che
       inside : (a.start ≤ redo.from) × (redo.from + redo.length ≤ archived_of a)
       inside = subst (λ (o : Option Archived). IsInArchive o redo) copies.stands kept_there
 
-      bytes_is : read.items ≡ take redo.length (drop (16384 * k) a.bytes)
+      bytes_is : read ≡ take redo.length (drop (16384 * k) a.bytes)
       bytes_is =
           let offset : redo.from - a.start ≡ 16384 * k = omega (arith, numbered.1, copies.starts) in
           bytes_are ∙ ap (λ (o : Option Archived). redo_in o redo) copies.stands ∙ ap (λ (n : ℕ). take redo.length (drop n a.bytes)) offset
@@ -400,7 +400,7 @@ module _ (d t : Donor) (told : Option DiskImage) (sizes : PageCounts) (stage che
       distance_is : from - checkpoint ≡ 16384 * k
       distance_is = omega (arith, from_is, begins, numbered.1)
 
-      few : length read.items ≤ redo.length
+      few : length read ≤ redo.length
       few = omega (arith, ap length bytes_is, length-take redo.length (drop (16384 * k) a.bytes))
 
       module _ (m : DiskImage) (there : d.engine.disk.told ≡ Some m) where
@@ -419,7 +419,7 @@ module _ (d t : Donor) (told : Option DiskImage) (sizes : PageCounts) (stage che
         whole_long : length whole ≡ range.1 - range.0
         whole_long = omega (arith, length-drop (range.0 - first_lsn) (log_of has.at.buffer.log), end_is, of_log.start, copies.starts)
 
-        bytes_of_block : read.items ≡ redo_block whole k
+        bytes_of_block : read ≡ redo_block whole k
         bytes_of_block =
             bytes_is
             ∙ block_bytes has.at.buffer.log has.rest a k redo.length of_log (omega (arith, (archives a copies.stands).before_end range.1 copies.ended, end_is)) (omega (arith, inside.1, numbered.1, copies.starts)) (omega (arith, numbered.3, end_is, copies.starts))
@@ -441,15 +441,15 @@ module _ (d t : Donor) (told : Option DiskImage) (sizes : PageCounts) (stage che
         holds_as : (x : DiskImage) → HoldsRedo (Waiting (lists.Redo range.0 range.1) (chunks_with last) (work_after chunk number last)) whole (length a.bytes) x → HoldsListed list (chunks_with last) (work_after chunk number last) was.taken.stop d.cloning.archive x
         holds_as x held = subst (λ (o : Option Archived). HoldsListed list (chunks_with last) (work_after chunk number last) was.taken.stop o x) (sym copies.stands) (subst (λ (o : Option Engine). HoldsListed list (chunks_with last) (work_after chunk number last) o (Some a) x) (sym has.stop) (subst (λ (l : StageList). HoldsListed l (chunks_with last) (work_after chunk number last) (Some has.at) (Some a) x) (sym range.2) held))
 
-        laid_is : (x : DiskImage) → laid_redo (from - checkpoint) read.items x ≡ laid_redo (16384 * k) (redo_block whole k) x
+        laid_is : (x : DiskImage) → laid_redo (from - checkpoint) read x ≡ laid_redo (16384 * k) (redo_block whole k) x
         laid_is x = λ i. laid_redo (distance_is i) (bytes_of_block i) x
 
-        redo_holds : (x : DiskImage) → HoldsStage list chunks in_work was.taken d.cloning.archive x → Now was.taken d.cloning.archive (laid_redo (from - checkpoint) read.items x)
+        redo_holds : (x : DiskImage) → HoldsStage list chunks in_work was.taken d.cloning.archive x → Now was.taken d.cloning.archive (laid_redo (from - checkpoint) read x)
         redo_holds x held = record {
-          pages = holds_weaker (WaitsForPage list chunks in_work) (WaitsForPage list (chunks_with last) (work_after chunk number last)) was.taken.copies (laid_redo (from - checkpoint) read.items x)
+          pages = holds_weaker (WaitsForPage list chunks in_work) (WaitsForPage list (chunks_with last) (work_after chunk number last)) was.taken.copies (laid_redo (from - checkpoint) read x)
               (λ s n w. waits_now (HasPage s n) (λ is. let none = subst (HasPage s n) part_is is in omega (arith, none.1)) w)
-              (holds_beside (WaitsForPage list chunks in_work) was.taken.copies x (laid_redo (from - checkpoint) read.items x) (redo_same_but x (from - checkpoint) read.items) (redo_quiet x (from - checkpoint) read.items held.pages.quiet) held.pages);
-          redo = holds_as (laid_redo (from - checkpoint) read.items x) (subst (HoldsRedo (Waiting (lists.Redo range.0 range.1) (chunks_with last) (work_after chunk number last)) whole (length a.bytes)) (sym (laid_is x))
+              (holds_beside (WaitsForPage list chunks in_work) was.taken.copies x (laid_redo (from - checkpoint) read x) (redo_same_but x (from - checkpoint) read) (redo_quiet x (from - checkpoint) read held.pages.quiet) held.pages);
+          redo = holds_as (laid_redo (from - checkpoint) read x) (subst (HoldsRedo (Waiting (lists.Redo range.0 range.1) (chunks_with last) (work_after chunk number last)) whole (length a.bytes)) (sym (laid_is x))
               (redo_weaker (λ distance. Waiting (lists.Redo range.0 range.1) chunks in_work distance × (distance ≡ 16384 * k → ⊥)) (Waiting (lists.Redo range.0 range.1) (chunks_with last) (work_after chunk number last)) whole (length a.bytes) (length a.bytes) (laid_redo (16384 * k) (redo_block whole k) x) (omega arith) weaker
               (redo_laid (Waiting (lists.Redo range.0 range.1) chunks in_work) whole (length a.bytes) x k (omega (arith, numbered.2, whole_long)) (omega (arith, long, inside.1, numbered.1, copies.starts)) (held_as x held.redo))));
         }
@@ -458,7 +458,7 @@ module _ (d t : Donor) (told : Option DiskImage) (sizes : PageCounts) (stage che
       redo_into = record {
         fit = (omega (arith, from_is, begins, numbered.1), omega (arith, distance_is), omega (arith, from_is, few, in_log list chunk number redo.from redo.length log redo_is));
         low = for_told (λ _. Unit {0}) t.engine.disk.told (λ m there. tt);
-        laid = copying_now was.taken (laid_redo (from - checkpoint) read.items) is_taken refl redo_holds;
+        laid = copying_now was.taken (laid_redo (from - checkpoint) read) is_taken refl redo_holds;
       }
 
 -- A BLOCK IS READ
@@ -488,17 +488,17 @@ abbrev pub Stays : Donor → Donor → (stage chunk number : ℕ) → Type 0
 Stays before d stage chunk number =
     (told : Option DiskImage) (sizes : PageCounts) (checkpoint : ℕ) (stop : Option plain.Donor) → IsCopying before told sizes stage checkpoint (Some (record { chunk = chunk; laid = number })) stop → IsCopying d told sizes stage checkpoint (Some (record { chunk = chunk; laid = number })) stop
 
-module _ (before d t : Donor) (stage chunk number : ℕ) (into : Block) (stays : Stays before d stage chunk number)
+module _ (before d t : Donor) (stage chunk number : ℕ) (stays : Stays before d stage chunk number)
     (is : IsDonor d) (engine : IsEngine d.engine) (safe : IsSafe d.engine.donor) (is_cloning : IsCloning d.cloning) (archives : ForSome d.cloning.archive IsArchived) (snap : ForSome d.cloning.session (λ s. IsSnap s.snap.list s.snap.chunks s.snap.room)) where
-  abbrev Reads : Bool → Type 0
-  Reads last = (told : Option DiskImage) (sizes : PageCounts) (checkpoint : ℕ) (stop : Option plain.Donor) → IsCopying before told sizes stage checkpoint (Some (record { chunk = chunk; laid = number })) stop
-      → ReadsInto t told stage checkpoint chunk number last stop into
+  abbrev Reads : Block × Bool → Type 0
+  Reads given = (told : Option DiskImage) (sizes : PageCounts) (checkpoint : ℕ) (stop : Option plain.Donor) → IsCopying before told sizes stage checkpoint (Some (record { chunk = chunk; laid = number })) stop
+      → ReadsInto t told stage checkpoint chunk number given.1 stop given.0
 
-  pub answer_reads : (answer : Result Bool BlockRefusal) → MatchResult answer (λ last. Acts (act.Give CALLER chunk number into last) d t) (λ _. Acts act.Miss d t) → IfOk answer Reads
-  answer_reads (Ok last) acts = λ told sizes checkpoint stop was. reads_into d t told sizes stage checkpoint chunk number stop last into (stays told sizes checkpoint stop was) acts is engine safe is_cloning archives snap
+  pub answer_reads : (answer : Result (Block × Bool) BlockRefusal) → MatchResult answer (λ given. Acts (act.Give CALLER chunk number given.0 given.1) d t) (λ _. Acts act.Miss d t) → IfOk answer Reads
+  answer_reads (Ok given) acts = λ told sizes checkpoint stop was. reads_into d t told sizes stage checkpoint chunk number stop given.1 given.0 (stays told sizes checkpoint stop was) acts is engine safe is_cloning archives snap
   answer_reads (Err e) acts = tt
 
   pub answer_left : (told : Option DiskImage) (sizes : PageCounts) (checkpoint : ℕ) (stop : Option plain.Donor) → IsCopying before told sizes stage checkpoint (Some (record { chunk = chunk; laid = number })) stop → free_left d ≡ free_left before
-      → (answer : Result Bool BlockRefusal) → MatchResult answer (λ last. Acts (act.Give CALLER chunk number into last) d t) (λ _. Acts act.Miss d t) → IfOk answer (λ last. free_left t ≡ free_left before)
-  answer_left told sizes checkpoint stop was same (Ok last) acts = reads_left d t told sizes stage checkpoint chunk number stop last into (stays told sizes checkpoint stop was) acts is engine safe is_cloning archives snap ∙ same
+      → (answer : Result (Block × Bool) BlockRefusal) → MatchResult answer (λ given. Acts (act.Give CALLER chunk number given.0 given.1) d t) (λ _. Acts act.Miss d t) → IfOk answer (λ given. free_left t ≡ free_left before)
+  answer_left told sizes checkpoint stop was same (Ok given) acts = reads_left d t told sizes stage checkpoint chunk number stop given.1 given.0 (stays told sizes checkpoint stop was) acts is engine safe is_cloning archives snap ∙ same
   answer_left told sizes checkpoint stop was same (Err e) acts = tt

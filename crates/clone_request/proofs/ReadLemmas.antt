@@ -30,6 +30,7 @@ use Rattle.clone_donor.specs.Acts.{Acts}
 use Rattle.clone_donor.specs.Copying.{RefusesBlock}
 use Rattle.clone_donor.specs.Donor.{Donor, IsDonor}
 use Rattle.clone_donor.specs.Taken.{Taken}
+use Rattle.clone_donor.specs.declared.block.Block.{Block}
 use Rattle.clone_donor.specs.declared.block.BlockRefusal.{BlockRefusal}
 use Rattle.clone_donor.specs.declared.block.BlockRefusal.TheVariants as block
 use Rattle.clone_donor.proofs.ArchiveRings.{next_kept}
@@ -270,49 +271,49 @@ module _ (d t : Donor) (told : Option DiskImage) (sizes : PageCounts) (stage che
       ∙ ap (λ (c : Bool). whether c (ArchiveBehind (archived_of (more d t (until - archived) reached b.a b.stands acts)) (b.from + b.count))) (le-ltb (archived_of (more d t (until - archived) reached b.a b.stands acts)) (b.from + b.count) (omega (arith, reaches, until_is)))
 
 -- a block was refused since its redo is behind
-pub behind_as : (X : Type 0) (d t : Donor) (stage chunk number archived until : ℕ) (answer : Result Bool BlockRefusal) → answer ≡ Err (block.Clone (clone.Because (ArchiveBehind archived until))) → IfErr answer (λ e. X × RefusesBlock CALLER stage chunk number d t e)
+pub behind_as : (d t : Donor) (stage chunk number archived until : ℕ) (answer : Result (Block × Bool) BlockRefusal) → answer ≡ Err (block.Clone (clone.Because (ArchiveBehind archived until))) → IfErr answer (RefusesBlock CALLER stage chunk number d t)
     → (block_cause d.cloning CALLER stage chunk number ≡ Some (ArchiveBehind archived until)) × (t ≡ d)
-behind_as X d t stage chunk number archived until answer is refused =
-    let (x, (cause, same)) = subst (λ (r : Result Bool BlockRefusal). IfErr r (λ e. X × RefusesBlock CALLER stage chunk number d t e)) is refused in
+behind_as d t stage chunk number archived until answer is refused =
+    let (cause, same) = subst (λ (r : Result (Block × Bool) BlockRefusal). IfErr r (RefusesBlock CALLER stage chunk number d t)) is refused in
     (cause, same)
 
 -- or for no such cause
-pub not_behind : (X : Type 0) (d t : Donor) (told : Option DiskImage) (sizes : PageCounts) (stage checkpoint chunk number : ℕ) (stop : Option plain.Donor) (answer : Result Bool BlockRefusal)
+pub not_behind : (d t : Donor) (told : Option DiskImage) (sizes : PageCounts) (stage checkpoint chunk number : ℕ) (stop : Option plain.Donor) (answer : Result (Block × Bool) BlockRefusal)
     → IsCopying d told sizes stage checkpoint (Some (record { chunk = chunk; laid = number })) stop → ((archived until : ℕ) → answer ≡ Err (block.Clone (clone.Because (ArchiveBehind archived until))) → ⊥)
-    → IfErr answer (λ e. X × RefusesBlock CALLER stage chunk number d t e) → IfErr answer IsNoCause
-not_behind X d t told sizes stage checkpoint chunk number stop (Ok last) was not refused = tt
-not_behind X d t told sizes stage checkpoint chunk number stop (Err (block.Clone (clone.Because cause))) was not refused =
-    let (x, (some, same)) = refused in
+    → IfErr answer (RefusesBlock CALLER stage chunk number d t) → IfErr answer IsNoCause
+not_behind d t told sizes stage checkpoint chunk number stop (Ok given) was not refused = tt
+not_behind d t told sizes stage checkpoint chunk number stop (Err (block.Clone (clone.Because cause))) was not refused =
+    let (some, same) = refused in
     let b = only_behind d told sizes stage checkpoint chunk number stop was cause some in
     not (archived_of b.a) (b.from + b.count) (ap (λ (c : CloneCause). Err (block.Clone (clone.Because c))) b.is)
-not_behind X d t told sizes stage checkpoint chunk number stop (Err (block.Clone clone.NoMemory)) was not refused = tt
-not_behind X d t told sizes stage checkpoint chunk number stop (Err (block.Engine why)) was not refused = tt
+not_behind d t told sizes stage checkpoint chunk number stop (Err (block.Clone clone.NoMemory)) was not refused = tt
+not_behind d t told sizes stage checkpoint chunk number stop (Err (block.Engine why)) was not refused = tt
 
 -- WHAT THE ANSWER IS to the clone
 
-abbrev pub IsStepOf : Result Bool BlockRefusal → Result Bool StepRefusal → Type 0
-IsStepOf answer result = MatchResult answer (λ last. result ≡ Ok last) (λ e. result ≡ Err (step_of e))
+abbrev pub IsStepOf : Result (Block × Bool) BlockRefusal → Result (Block × Bool) StepRefusal → Type 0
+IsStepOf answer result = MatchResult answer (λ given. result ≡ Ok given) (λ e. result ≡ Err (step_of e))
 
 -- where no cause is against a block there is none
-pub not_against : (X : Type 0) (c t : Donor) (stage chunk number : ℕ) (answer : Result Bool BlockRefusal) → block_cause c.cloning CALLER stage chunk number ≡ None → IfErr answer (λ e. X × RefusesBlock CALLER stage chunk number c t e) → IfErr answer IsNoCause
-not_against X c t stage chunk number (Ok last) free refused = tt
-not_against X c t stage chunk number (Err (block.Clone (clone.Because cause))) free refused = let (x, (some, same)) = refused in absurd (cc)
-not_against X c t stage chunk number (Err (block.Clone clone.NoMemory)) free refused = tt
-not_against X c t stage chunk number (Err (block.Engine why)) free refused = tt
+pub not_against : (c t : Donor) (stage chunk number : ℕ) (answer : Result (Block × Bool) BlockRefusal) → block_cause c.cloning CALLER stage chunk number ≡ None → IfErr answer (RefusesBlock CALLER stage chunk number c t) → IfErr answer IsNoCause
+not_against c t stage chunk number (Ok given) free refused = tt
+not_against c t stage chunk number (Err (block.Clone (clone.Because cause))) free refused = let (some, same) = refused in absurd (cc)
+not_against c t stage chunk number (Err (block.Clone clone.NoMemory)) free refused = tt
+not_against c t stage chunk number (Err (block.Engine why)) free refused = tt
 
-pub if_ok : (P : Bool → Type 0) (answer : Result Bool BlockRefusal) (result : Result Bool StepRefusal) → IsStepOf answer result → IfOk answer P → IfOk result P
-if_ok P (Ok last) result is had = subst (λ (r : Result Bool StepRefusal). IfOk r P) (sym is) had
-if_ok P (Err e) result is had = subst (λ (r : Result Bool StepRefusal). IfOk r P) (sym is) tt
+pub if_ok : (P : Block × Bool → Type 0) (answer : Result (Block × Bool) BlockRefusal) (result : Result (Block × Bool) StepRefusal) → IsStepOf answer result → IfOk answer P → IfOk result P
+if_ok P (Ok given) result is had = subst (λ (r : Result (Block × Bool) StepRefusal). IfOk r P) (sym is) had
+if_ok P (Err e) result is had = subst (λ (r : Result (Block × Bool) StepRefusal). IfOk r P) (sym is) tt
 
-pub on_ok : (P : Type 0) (answer : Result Bool BlockRefusal) (result : Result Bool StepRefusal) → IsStepOf answer result → IfOk answer (λ last. P) → OnOk result P
-on_ok P (Ok last) result is had = subst (λ (r : Result Bool StepRefusal). OnOk r P) (sym is) had
-on_ok P (Err e) result is had = subst (λ (r : Result Bool StepRefusal). OnOk r P) (sym is) tt
+pub on_ok : (P : Type 0) (answer : Result (Block × Bool) BlockRefusal) (result : Result (Block × Bool) StepRefusal) → IsStepOf answer result → IfOk answer (λ given. P) → OnOk result P
+on_ok P (Ok given) result is had = subst (λ (r : Result (Block × Bool) StepRefusal). OnOk r P) (sym is) had
+on_ok P (Err e) result is had = subst (λ (r : Result (Block × Bool) StepRefusal). OnOk r P) (sym is) tt
 
 -- the requester's calls, where the redo of a block was behind first
-module _ (X : Type 0) (d u t : Donor) (stage chunk number archived until : ℕ) (reached : Option ℕ) (answer : Result Bool BlockRefusal) (answer_is : answer ≡ Err (block.Clone (clone.Because (ArchiveBehind archived until))))
-    (refused : IfErr answer (λ e. X × RefusesBlock CALLER stage chunk number d u e)) (acts : Acts (act.Archive (until - archived) reached) u t) (is : IsDonor d) (cloning : IsCloning d.cloning) (snap : ForSome d.cloning.session (λ s. IsSnap s.snap.list s.snap.chunks s.snap.room)) where
+module _ (d u t : Donor) (stage chunk number archived until : ℕ) (reached : Option ℕ) (answer : Result (Block × Bool) BlockRefusal) (answer_is : answer ≡ Err (block.Clone (clone.Because (ArchiveBehind archived until))))
+    (refused : IfErr answer (RefusesBlock CALLER stage chunk number d u)) (acts : Acts (act.Archive (until - archived) reached) u t) (is : IsDonor d) (cloning : IsCloning d.cloning) (snap : ForSome d.cloning.session (λ s. IsSnap s.snap.list s.snap.chunks s.snap.room)) where
   against : (block_cause d.cloning CALLER stage chunk number ≡ Some (ArchiveBehind archived until)) × (u ≡ d)
-  against = behind_as X d u stage chunk number archived until answer answer_is refused
+  against = behind_as d u stage chunk number archived until answer answer_is refused
 
   acts_on : Acts (act.Archive (until - archived) reached) d t
   acts_on = subst (λ (x : Donor). Acts (act.Archive (until - archived) reached) x t) against.1 acts

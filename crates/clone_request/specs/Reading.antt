@@ -39,17 +39,17 @@ abbrev pub IsFit : ℕ → Block → Type 0
 IsFit checkpoint (Pages pages) = Unit {0}
 IsFit checkpoint (Redo from bytes) =
     (checkpoint ≤ from) × ((from - checkpoint) % PAGE_SIZE ≡ 0)
-    × (from + length bytes.items ≤ LSN_LIMIT)
+    × (from + length bytes ≤ LSN_LIMIT)
 
 -- the pages of a block are some that a space may have
 abbrev pub AreLow : Block → Type 0
-AreLow (Pages pages) = AllByRecursion (λ (p : PageAt). p.number < MOST_PAGES) pages.items
+AreLow (Pages pages) = AllByRecursion (λ (p : PageAt). p.number < MOST_PAGES) pages
 AreLow (Redo from bytes) = Unit {0}
 
 -- the disk once a block was laid
 abbrev pub with_block : ℕ → Block → DiskImage → DiskImage
-with_block checkpoint (Pages pages) m = with_laid (reads_of pages.items) m
-with_block checkpoint (Redo from bytes) m = laid_redo (from - checkpoint) bytes.items m
+with_block checkpoint (Pages pages) m = with_laid (reads_of pages) m
+with_block checkpoint (Redo from bytes) m = laid_redo (from - checkpoint) bytes m
 
 -- the block in work is laid, and it may be its chunk's last
 abbrev pub work_after : ℕ → ℕ → Bool → Option InWork

@@ -105,24 +105,23 @@ pub fn claim<D: PageDisk>(donor: &mut Donor<D>, stage: u8) -> Option<u32>
     }
 }
 
-/// Puts a block of a chunk in place of the one that is given, and answers whether it is the chunk's
-/// last. Redo that isn't archived yet is archived first.
+/// A block of a chunk, and whether it is the chunk's last. Redo that isn't archived yet is archived
+/// first.
 pub fn read<D: PageDisk>(
     alloc: Global,
     donor: &mut Donor<D>,
     stage: u8,
     chunk: u32,
     number: u8,
-    into: &mut Block,
-) -> Result<bool, StepRefusal>
+) -> Result<(Block, bool), StepRefusal>
     requires copying { (told : Option DiskImage) × (sizes : PageCounts) × (checkpoint : ℕ)
         × (stop : Option plain.Donor) × IsCopying donor.old told sizes stage checkpoint
         (Some (record { chunk = chunk; laid = number })) stop }
-    ensures reads { IfOk result (λ last. (told : Option DiskImage) (sizes : PageCounts)
+    ensures reads { IfOk result (λ given. (told : Option DiskImage) (sizes : PageCounts)
         (checkpoint : ℕ) (stop : Option plain.Donor)
         → IsCopying donor.old told sizes stage checkpoint
         (Some (record { chunk = chunk; laid = number })) stop
-        → ReadsInto donor.new told stage checkpoint chunk number last stop into.new) }
+        → ReadsInto donor.new told stage checkpoint chunk number given.1 stop given.0) }
     ensures fault { HasRisen result donor.old donor.new 0 0 }
     ensures refusal { result ≢ Err StepRefusal.RecipientFault }
     ensures free { OnOk result (free_left donor.new ≡ free_left donor.old) }
@@ -130,17 +129,17 @@ pub fn read<D: PageDisk>(
     ensures stop { donor.new.cloning.stop ≡ donor.old.cloning.stop }
 {
     donor.laws();
-    let answer = donor.read_block(alloc, CALLER, stage, chunk, number, into);
+    let answer = donor.read_block(alloc, CALLER, stage, chunk, number);
     let Some((archived, until)) = behind(&answer) else {
         return answered(answer);
     };
     donor.archive(until - archived)?;
     donor.laws();
-    answered(donor.read_block(alloc, CALLER, stage, chunk, number, into))
+    answered(donor.read_block(alloc, CALLER, stage, chunk, number))
 }
 
 /// Up to where redo is archived, and up to where a block needs it, if that is behind.
-fn behind(answer: &Result<bool, BlockRefusal>) -> Option<(u64, u64)>
+fn behind(answer: &Result<(Block, bool), BlockRefusal>) -> Option<(u64, u64)>
     ensures some { IfSome result (λ lsns. answer.now ≡ Err (BlockRefusal.Clone (CloneRefusal.Because
         (CloneCause.ArchiveBehind lsns.0 lsns.1)))) }
     ensures none { result ≡ None → (archived until : ℕ) → answer.now ≢ Err (BlockRefusal.Clone
@@ -157,13 +156,13 @@ fn behind(answer: &Result<bool, BlockRefusal>) -> Option<(u64, u64)>
 }
 
 /// What the answer of a block is to the clone. There is no cause against the block.
-fn answered(answer: Result<bool, BlockRefusal>) -> Result<bool, StepRefusal>
+fn answered(answer: Result<(Block, bool), BlockRefusal>) -> Result<(Block, bool), StepRefusal>
     requires { IfErr answer IsNoCause }
-    ensures answers { MatchResult answer (λ last. result ≡ Ok last)
+    ensures answers { MatchResult answer (λ given. result ≡ Ok given)
         (λ e. result ≡ Err (step_of e)) }
 {
     match answer {
-        Ok(last) => Ok(last),
+        Ok(given) => Ok(given),
         Err(BlockRefusal::Engine(EngineRefusal::Because(_))) => Err(StepRefusal::DonorFault),
         Err(BlockRefusal::Engine(EngineRefusal::NoMemory)) => Err(StepRefusal::NoMemory),
         Err(BlockRefusal::Clone(CloneRefusal::NoMemory)) => Err(StepRefusal::NoMemory),

@@ -123,8 +123,7 @@ impl Requester {
             (R.state disk.new).failures }
         ensures works { Alters ⊥ (R.state disk.old) (R.state disk.new) }
     {
-        let mut block = Block::Pages(Vec::new(alloc));
-        let last = read(alloc, donor, info.stage.number(), chunk, number, &mut block)?;
+        let (block, last) = read(alloc, donor, info.stage.number(), chunk, number)?;
         lay(disk, &mut self.sizes, info.checkpoint, &block)?;
         Ok(last)
     }
@@ -146,8 +145,10 @@ fn lay<R: PageDisk>(
     ensures works { Works (R.state disk.old) (R.state disk.new) result }
 {
     match block {
-        Block::Pages(pages) => lay_pages(disk, sizes, pages),
-        Block::Redo { from, bytes } => lay_redo(disk, sizes, checkpoint, *from, bytes),
+        Block::Pages(pages) => lay_pages(disk, sizes, pages.as_slice()),
+        Block::Redo { from, bytes } => {
+            lay_redo(disk, sizes, checkpoint, *from, bytes.as_slice())
+        }
     }
 }
 

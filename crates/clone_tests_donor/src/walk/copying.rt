@@ -86,10 +86,9 @@ fn read(
     let steps = walk.draw(12);
     walk.go(rt, donor, steps)?;
     walk.count_block();
-    let mut block = Block::Pages(Vec::new(walk.alloc));
     for _ in 0..TRIES {
-        match donor.read_block(walk.alloc, copy.caller, copy.stage, at.0, at.1, &mut block) {
-            Ok(last) => {
+        match donor.read_block(walk.alloc, copy.caller, copy.stage, at.0, at.1) {
+            Ok((block, last)) => {
                 count_torn(walk, &block);
                 return Ok((block, last));
             }
@@ -125,7 +124,7 @@ fn count_torn(walk: &mut Walk, block: &Block) {
     let Block::Pages(pages) = block else {
         return;
     };
-    for page in pages {
+    for page in pages.as_slice() {
         let bytes = page.page.bytes();
         if bytes[0] == TORN && bytes[4_095] == TORN {
             count(&mut walk.counts.torn);

@@ -59,8 +59,8 @@ impl Requester {
     /// Lays a block. Redo lies behind this checkpoint.
     pub fn lay(self, checkpoint: u64, block: &Block) -> Result<Requester, Fail> {
         match block {
-            Block::Pages(pages) => self.lay_pages(pages),
-            Block::Redo { from, bytes } => self.lay_redo(checkpoint, *from, bytes),
+            Block::Pages(pages) => self.lay_pages(pages.as_slice()),
+            Block::Redo { from, bytes } => self.lay_redo(checkpoint, *from, bytes.as_slice()),
         }
     }
 

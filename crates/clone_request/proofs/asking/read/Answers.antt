@@ -10,20 +10,20 @@ use Rattle.clone_request.proofs.GivenLemmas.{answer_left, answer_reads}
 pub answered-requires : goal.answered-requires
 answered-requires g c =
     let (told, sizes, checkpoint, stop, was) = c.requires.copying in
-    not_behind _ c.args.donor.now c.read_block-answer.new.self told sizes c.args.stage checkpoint c.args.chunk c.args.number stop c.read_block-answer.result was (c.behind.ensures.none c.in_default.is) c.read_block-answer.ensures.refused
+    not_behind c.args.donor.now c.read_block-answer.new.self told sizes c.args.stage checkpoint c.args.chunk c.args.number stop c.read_block-answer.result was (c.behind.ensures.none c.in_default.is) c.read_block-answer.ensures.refused
 
 -- src/asking.rt:132:9
 pub returns-in_default-clause-reads : goal.returns-in_default-clause-reads
 returns-in_default-clause-reads g c =
     if_ok _ c.read_block-answer.result c.answered.result c.answered.ensures.answers
-    (answer_reads c.args.donor.now c.args.donor.now c.read_block-answer.new.self c.args.stage c.args.chunk c.args.number c.read_block-answer.new.into (λ told sizes checkpoint stop was. was) c.laws.ensures.donor c.laws.ensures.engine c.laws.ensures.safe c.laws.ensures.cloning c.laws.ensures.archive c.laws.ensures.chunks c.read_block-answer.result c.read_block-answer.ensures.acts)
+    (answer_reads c.args.donor.now c.args.donor.now c.read_block-answer.new.self c.args.stage c.args.chunk c.args.number (λ told sizes checkpoint stop was. was) c.laws.ensures.donor c.laws.ensures.engine c.laws.ensures.safe c.laws.ensures.cloning c.laws.ensures.archive c.laws.ensures.chunks c.read_block-answer.result c.read_block-answer.ensures.acts)
 
 -- src/asking.rt:132:9
 pub returns-in_default-clause-free : goal.returns-in_default-clause-free
 returns-in_default-clause-free g c =
     let (told, sizes, checkpoint, stop, was) = c.requires.copying in
     on_ok _ c.read_block-answer.result c.answered.result c.answered.ensures.answers
-    (answer_left c.args.donor.now c.args.donor.now c.read_block-answer.new.self c.args.stage c.args.chunk c.args.number c.read_block-answer.new.into (λ told sizes checkpoint stop was. was) c.laws.ensures.donor c.laws.ensures.engine c.laws.ensures.safe c.laws.ensures.cloning c.laws.ensures.archive c.laws.ensures.chunks told sizes checkpoint stop was refl c.read_block-answer.result c.read_block-answer.ensures.acts)
+    (answer_left c.args.donor.now c.args.donor.now c.read_block-answer.new.self c.args.stage c.args.chunk c.args.number (λ told sizes checkpoint stop was. was) c.laws.ensures.donor c.laws.ensures.engine c.laws.ensures.safe c.laws.ensures.cloning c.laws.ensures.archive c.laws.ensures.chunks told sizes checkpoint stop was refl c.read_block-answer.result c.read_block-answer.ensures.acts)
 
 -- src/asking.rt:136:5
 pub answered-requires-2 : goal.answered-requires-2
@@ -33,8 +33,8 @@ answered-requires-2 g c =
     let until = c.in-Some.until-is in
     let behind : c.read_block-answer.result ≡ Err (block.Clone (clone.Because (ArchiveBehind c.in-Some.archived c.in-Some.until))) = cc in
     let (told, sizes, checkpoint, stop, was) = c.requires.copying in
-    not_against _ c.archive.new.self c.read_block.new.self c.args.stage c.args.chunk c.args.number c.read_block.result
-    (none_then _ c.args.donor.now c.read_block-answer.new.self c.archive.new.self c.args.stage c.args.chunk c.args.number c.in-Some.archived c.in-Some.until c.in_ok-archive.field-0 c.read_block-answer.result behind c.read_block-answer.ensures.refused c.in_ok-archive.ensures.acts c.laws.ensures.donor c.laws.ensures.cloning c.laws.ensures.chunks told sizes checkpoint stop was)
+    not_against c.archive.new.self c.read_block.new.self c.args.stage c.args.chunk c.args.number c.read_block.result
+    (none_then c.args.donor.now c.read_block-answer.new.self c.archive.new.self c.args.stage c.args.chunk c.args.number c.in-Some.archived c.in-Some.until c.in_ok-archive.field-0 c.read_block-answer.result behind c.read_block-answer.ensures.refused c.in_ok-archive.ensures.acts c.laws.ensures.donor c.laws.ensures.cloning c.laws.ensures.chunks told sizes checkpoint stop was)
     c.read_block.ensures.refused
 
 -- src/asking.rt:107:1
@@ -45,8 +45,8 @@ returns-clause-reads g c =
     let until = c.in-Some.until-is in
     let behind : c.read_block-answer.result ≡ Err (block.Clone (clone.Because (ArchiveBehind c.in-Some.archived c.in-Some.until))) = cc in
     if_ok _ c.read_block.result c.answered-2.result c.answered-2.ensures.answers
-    (answer_reads c.args.donor.now c.archive.new.self c.read_block.new.self c.args.stage c.args.chunk c.args.number c.read_block.new.into
-    (stays_then _ c.args.donor.now c.read_block-answer.new.self c.archive.new.self c.args.stage c.args.chunk c.args.number c.in-Some.archived c.in-Some.until c.in_ok-archive.field-0 c.read_block-answer.result behind c.read_block-answer.ensures.refused c.in_ok-archive.ensures.acts c.laws.ensures.donor c.laws.ensures.cloning c.laws.ensures.chunks)
+    (answer_reads c.args.donor.now c.archive.new.self c.read_block.new.self c.args.stage c.args.chunk c.args.number
+    (stays_then c.args.donor.now c.read_block-answer.new.self c.archive.new.self c.args.stage c.args.chunk c.args.number c.in-Some.archived c.in-Some.until c.in_ok-archive.field-0 c.read_block-answer.result behind c.read_block-answer.ensures.refused c.in_ok-archive.ensures.acts c.laws.ensures.donor c.laws.ensures.cloning c.laws.ensures.chunks)
     c.laws-2.ensures.donor c.laws-2.ensures.engine c.laws-2.ensures.safe c.laws-2.ensures.cloning c.laws-2.ensures.archive c.laws-2.ensures.chunks c.read_block.result c.read_block.ensures.acts)
 
 -- src/asking.rt:107:1
@@ -58,8 +58,8 @@ returns-clause-free g c =
     let behind : c.read_block-answer.result ≡ Err (block.Clone (clone.Because (ArchiveBehind c.in-Some.archived c.in-Some.until))) = cc in
     let (told, sizes, checkpoint, stop, was) = c.requires.copying in
     on_ok _ c.read_block.result c.answered-2.result c.answered-2.ensures.answers
-    (answer_left c.args.donor.now c.archive.new.self c.read_block.new.self c.args.stage c.args.chunk c.args.number c.read_block.new.into
-    (stays_then _ c.args.donor.now c.read_block-answer.new.self c.archive.new.self c.args.stage c.args.chunk c.args.number c.in-Some.archived c.in-Some.until c.in_ok-archive.field-0 c.read_block-answer.result behind c.read_block-answer.ensures.refused c.in_ok-archive.ensures.acts c.laws.ensures.donor c.laws.ensures.cloning c.laws.ensures.chunks)
+    (answer_left c.args.donor.now c.archive.new.self c.read_block.new.self c.args.stage c.args.chunk c.args.number
+    (stays_then c.args.donor.now c.read_block-answer.new.self c.archive.new.self c.args.stage c.args.chunk c.args.number c.in-Some.archived c.in-Some.until c.in_ok-archive.field-0 c.read_block-answer.result behind c.read_block-answer.ensures.refused c.in_ok-archive.ensures.acts c.laws.ensures.donor c.laws.ensures.cloning c.laws.ensures.chunks)
     c.laws-2.ensures.donor c.laws-2.ensures.engine c.laws-2.ensures.safe c.laws-2.ensures.cloning c.laws-2.ensures.archive c.laws-2.ensures.chunks told sizes checkpoint stop was
-    (left_then _ c.args.donor.now c.read_block-answer.new.self c.archive.new.self c.args.stage c.args.chunk c.args.number c.in-Some.archived c.in-Some.until c.in_ok-archive.field-0 c.read_block-answer.result behind c.read_block-answer.ensures.refused c.in_ok-archive.ensures.acts c.laws.ensures.donor c.laws.ensures.cloning c.laws.ensures.chunks told sizes checkpoint stop was)
+    (left_then c.args.donor.now c.read_block-answer.new.self c.archive.new.self c.args.stage c.args.chunk c.args.number c.in-Some.archived c.in-Some.until c.in_ok-archive.field-0 c.read_block-answer.result behind c.read_block-answer.ensures.refused c.in_ok-archive.ensures.acts c.laws.ensures.donor c.laws.ensures.cloning c.laws.ensures.chunks told sizes checkpoint stop was)
     c.read_block.result c.read_block.ensures.acts)

@@ -1,4 +1,4 @@
-use Rattle.std.proofs.Common.{refl, arith, ◌∙◌}
+use Rattle.std.proofs.Common.{refl}
 use Rattle.clone_outside.proofs.DiskCallLemmas.{works_none, works_then}
 use Rattle.clone_request.proofs.LayLemmas.{pages_end, pages_go_on, pages_skip}
 use Rattle.clone_request.proofs.StepLemmas.{mark_by, mark_changed, mark_same, mark_then, steps_none}

@@ -3,11 +3,17 @@ use Rattle.clone_request.specs.Copying.{IsCopying}
 use Rattle.clone_request.proofs.StepLemmas.{mark_same}
 use Rattle.clone_request.proofs.requester.Requester.copy_block.Goals as goal
 
-pub returns-in_err-last-clause-mark : goal.returns-in_err-last-clause-mark
-returns-in_err-last-clause-mark g c = mark_same (g.R.PageDisk.state c.args.disk.now).told (g.R.PageDisk.state c.args.disk.now).told refl
+pub read-requires : goal.read-requires
+read-requires g c =
+    let told = (g.R.PageDisk.state c.args.disk.now).told in
+    let of : ℕ → Type 0 = λ stage. IsCopying c.args.donor.now told c.args.self.now.sizes stage c.args.info.now.checkpoint (Some (record { chunk = c.args.chunk; laid = c.args.number })) c.requires.copying.0 in
+    record { copying = (told, c.args.self.now.sizes, c.args.info.now.checkpoint, c.requires.copying.0, subst of (sym c.number.ensures) c.requires.copying.1) }
+
+pub returns-in_err-block-clause-mark : goal.returns-in_err-block-clause-mark
+returns-in_err-block-clause-mark g c = mark_same (g.R.PageDisk.state c.args.disk.now).told (g.R.PageDisk.state c.args.disk.now).told refl
 
 pub lay-requires-clause-fit : goal.lay-requires-clause-fit
 lay-requires-clause-fit g c =
     let told = (g.R.PageDisk.state c.args.disk.now).told in
     let of : ℕ → Type 0 = λ stage. IsCopying c.args.donor.now told c.args.self.now.sizes stage c.args.info.now.checkpoint (Some (record { chunk = c.args.chunk; laid = c.args.number })) c.requires.copying.0 in
-    (c.in_ok-last.ensures.reads told c.args.self.now.sizes c.args.info.now.checkpoint c.requires.copying.0 (subst of (sym c.number.ensures) c.requires.copying.1)).fit
+    (c.in_ok-block.ensures.reads told c.args.self.now.sizes c.args.info.now.checkpoint c.requires.copying.0 (subst of (sym c.number.ensures) c.requires.copying.1)).fit

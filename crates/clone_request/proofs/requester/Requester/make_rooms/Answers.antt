@@ -1,4 +1,4 @@
-use Rattle.std.proofs.Common.{ℕ, List, refl, arith, ap, sym, subst, ◌∙◌}
+use Rattle.std.proofs.Common.{ℕ, List, refl, ap, sym, subst}
 use Rattle.clone_outside.proofs.DiskCallLemmas.{works_none, works_then}
 use Rattle.clone_outside.specs.Disk.{ForTold, Steps}
 use Rattle.clone_lay.specs.Sized.{AreSizes, PageCounts}
