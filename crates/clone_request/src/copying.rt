@@ -4,7 +4,6 @@ ghost use Rattle.std.specs.List.{AllByRecursion};
 ghost use Rattle.clone_outside.specs.Disk.{ForTold, Steps};
 ghost use Rattle.clone_outside.specs.DiskCalls.{Alters, Works};
 ghost use Rattle.clone_model.specs.declared.line.TheConstants.{MOST_PAGES};
-ghost use Rattle.clone_chunk.specs.Stages.{stage_number};
 ghost use Rattle.clone_lay.specs.Sized.{AreSizes};
 ghost use Rattle.clone_plain.specs.Donor as plain;
 ghost use Rattle.clone_request.specs.Advancing.{HasRisen, Lends};
@@ -20,7 +19,6 @@ use clone_lay::{lay_page, lay_redo};
 use clone_model::MOST_PAGES;
 use clone_outside::{PageDisk, Refusal};
 use clone_page::PageAt;
-use clone_session::StageInfo;
 use std::alloc::Global;
 
 // A stage is copied.
@@ -31,17 +29,15 @@ impl Requester {
         alloc: Global,
         donor: &mut Donor<D>,
         disk: &mut R,
-        info: &StageInfo,
+        stage: u8,
+        checkpoint: u64,
     ) -> Result<(), StepRefusal>
         requires copying { (stop : Option plain.Donor) × IsCopying donor.old (R.state disk.old).told
-            self.old.sizes (stage_number info.now.stage) info.now.checkpoint None stop }
+            self.old.sizes stage checkpoint None stop }
         ensures copied { OnOk result ((stop : Option plain.Donor)
-            → IsCopying donor.old (R.state disk.old).told self.old.sizes
-            (stage_number info.now.stage)
-            info.now.checkpoint None stop
-            → IsAllCopied donor.new (R.state disk.new).told self.new.sizes
-            (stage_number info.now.stage)
-            info.now.checkpoint stop) }
+            → IsCopying donor.old (R.state disk.old).told self.old.sizes stage checkpoint None stop
+            → IsAllCopied donor.new (R.state disk.new).told self.new.sizes stage checkpoint
+            stop) }
         ensures mark { KeepsMark (R.state disk.old).told (R.state disk.new).told }
         ensures stages { self.new.stages ≡ self.old.stages }
         ensures stop { donor.new.cloning.stop ≡ donor.old.cloning.stop }
@@ -50,9 +46,8 @@ impl Requester {
             (R.state disk.new).failures }
         ensures works { Alters ⊥ (R.state disk.old) (R.state disk.new) }
     {
-        let stage = info.stage.number();
         while let Some(chunk) = claim(donor, stage) {
-            self.copy_chunk(alloc, donor, disk, info, chunk)?;
+            self.copy_chunk(alloc, donor, disk, stage, checkpoint, chunk)?;
         }
         Ok(())
     }
@@ -63,19 +58,17 @@ impl Requester {
         alloc: Global,
         donor: &mut Donor<D>,
         disk: &mut R,
-        info: &StageInfo,
+        stage: u8,
+        checkpoint: u64,
         chunk: u32,
     ) -> Result<(), StepRefusal>
         requires copying { (stop : Option plain.Donor) × IsCopying donor.old (R.state disk.old).told
-            self.old.sizes (stage_number info.now.stage) info.now.checkpoint
-            (Some (record { chunk = chunk; laid = 0 })) stop }
+            self.old.sizes stage checkpoint (Some (record { chunk = chunk; laid = 0 })) stop }
         ensures copied { OnOk result ((stop : Option plain.Donor)
-            → IsCopying donor.old (R.state disk.old).told self.old.sizes
-            (stage_number info.now.stage)
-            info.now.checkpoint (Some (record { chunk = chunk; laid = 0 })) stop
-            → IsCopying donor.new (R.state disk.new).told self.new.sizes
-            (stage_number info.now.stage)
-            info.now.checkpoint None stop) }
+            → IsCopying donor.old (R.state disk.old).told self.old.sizes stage checkpoint
+            (Some (record { chunk = chunk; laid = 0 })) stop
+            → IsCopying donor.new (R.state disk.new).told self.new.sizes stage checkpoint None
+            stop) }
         ensures free { OnOk result (free_left donor.new ≡ free_left donor.old) }
         ensures mark { KeepsMark (R.state disk.old).told (R.state disk.new).told }
         ensures stages { self.new.stages ≡ self.old.stages }
@@ -87,7 +80,7 @@ impl Requester {
     {
         let mut number = 0;
         loop {
-            if self.copy_block(alloc, donor, disk, info, chunk, number)? {
+            if self.copy_block(alloc, donor, disk, stage, checkpoint, chunk, number)? {
                 return Ok(());
             }
             number += 1;
@@ -100,20 +93,18 @@ impl Requester {
         alloc: Global,
         donor: &mut Donor<D>,
         disk: &mut R,
-        info: &StageInfo,
+        stage: u8,
+        checkpoint: u64,
         chunk: u32,
         number: u8,
     ) -> Result<bool, StepRefusal>
         requires copying { (stop : Option plain.Donor) × IsCopying donor.old (R.state disk.old).told
-            self.old.sizes (stage_number info.now.stage) info.now.checkpoint
-            (Some (record { chunk = chunk; laid = number })) stop }
+            self.old.sizes stage checkpoint (Some (record { chunk = chunk; laid = number })) stop }
         ensures copied { IfOk result (λ last. (stop : Option plain.Donor)
-            → IsCopying donor.old (R.state disk.old).told self.old.sizes
-            (stage_number info.now.stage)
-            info.now.checkpoint (Some (record { chunk = chunk; laid = number })) stop
-            → IsCopying donor.new (R.state disk.new).told self.new.sizes
-            (stage_number info.now.stage)
-            info.now.checkpoint (work_after chunk number last) stop) }
+            → IsCopying donor.old (R.state disk.old).told self.old.sizes stage checkpoint
+            (Some (record { chunk = chunk; laid = number })) stop
+            → IsCopying donor.new (R.state disk.new).told self.new.sizes stage checkpoint
+            (work_after chunk number last) stop) }
         ensures free { OnOk result (free_left donor.new ≡ free_left donor.old) }
         ensures mark { KeepsMark (R.state disk.old).told (R.state disk.new).told }
         ensures stages { self.new.stages ≡ self.old.stages }
@@ -123,8 +114,8 @@ impl Requester {
             (R.state disk.new).failures }
         ensures works { Alters ⊥ (R.state disk.old) (R.state disk.new) }
     {
-        let (block, last) = read(alloc, donor, info.stage.number(), chunk, number)?;
-        lay(disk, &mut self.sizes, info.checkpoint, &block)?;
+        let (block, last) = read(alloc, donor, stage, chunk, number)?;
+        lay(disk, &mut self.sizes, checkpoint, &block)?;
         Ok(last)
     }
 }

@@ -150,7 +150,7 @@ impl Requester {
             Stage::FileCopy => self.make_rooms(disk, &info.spaces)?,
             Stage::PageCopy | Stage::RedoCopy => {}
         }
-        self.copy_stage(alloc, donor, disk, &info)?;
+        self.copy_stage(alloc, donor, disk, info.stage.number(), info.checkpoint)?;
         self.stages += 1;
         Ok(Advanced::Ready { stage: self.stages })
     }

@@ -5,7 +5,7 @@ use Rattle.clone_lay.specs.Sized.{PageCounts}
 use Rattle.clone_outside.specs.Disk.{ForTold}
 use Rattle.clone_request.specs.Advancing.{IsUnfinished, stop_at}
 use Rattle.clone_plain.specs.Donor as plain
-use Rattle.clone_request.specs.Copying.{IsCopying}
+use Rattle.clone_request.specs.Copying.{IsAllCopied, IsCopying}
 use Rattle.clone_request.specs.Reading.{stop_after_ack}
 use Rattle.clone_request.specs.Requester.{IsStopOf, IsUnderWay, Requester}
 use Rattle.clone_request.proofs.AdvanceLemmas.{asked_begins, asked_copies, asked_done, copied_low, asked_ready, asked_sizes, completes_leaves, fails_unfinished, leaves_failed, still_unfinished, stop_either, way_unfinished}
@@ -35,28 +35,20 @@ copy_stage-requires g c =
     let r = c.args.self.now in
     let asks = c.in_ok-info.ensures.asks told stop c.requires.under_way.1 in
     let at : Option plain.Donor = stop_after_ack r.stages c.args.donor.now stop in
-    elim c.match-info.branch [
+    let Begun : ℕ → Type 0 = λ stage. IsCopying c.ask.new.donor (g.R.PageDisk.state c.match-info.disk).told c.match-info.self.sizes stage info.checkpoint None at in
+    let begun : Begun (stage_number info.stage) = elim c.match-info.branch [
       | in-FileCopy+in_ok-make_rooms-in-FileCopy w ↦
           let e = w.in_ok-make_rooms-in-FileCopy.ensures in
           let now = (g.R.PageDisk.state w.make_rooms.new.disk).told in
           let is = asked_begins r c.args.donor.now c.ask.new.donor told now w.make_rooms.new.self.sizes stop info c.laws.ensures.engine c.laws.ensures.safe asks w.in-FileCopy.is e.works.tells e.mark e.ok e.sizes in
-          record {
-            copying = (
-              at,
-              subst (λ (disk : g.row.R.Denot). IsCopying c.ask.new.donor (g.R.PageDisk.state disk).told c.match-info.self.sizes (stage_number info.stage) info.checkpoint None at) (sym w.disk-is)
-                  (subst (λ (s : Requester). IsCopying c.ask.new.donor now s.sizes (stage_number info.stage) info.checkpoint None at) (sym w.self-is) is),
-            );
-          }
+          subst (λ (disk : g.row.R.Denot). IsCopying c.ask.new.donor (g.R.PageDisk.state disk).told c.match-info.self.sizes (stage_number info.stage) info.checkpoint None at) (sym w.disk-is)
+          (subst (λ (s : Requester). IsCopying c.ask.new.donor now s.sizes (stage_number info.stage) info.checkpoint None at) (sym w.self-is) is)
       | in-PageCopy w ↦
           let is = asked_copies r c.args.donor.now c.ask.new.donor told stop info asks w.in-PageCopy.is in
-          record {
-            copying = (
-              at,
-              subst (λ (disk : g.row.R.Denot). IsCopying c.ask.new.donor (g.R.PageDisk.state disk).told c.match-info.self.sizes (stage_number info.stage) info.checkpoint None at) (sym w.disk-is)
-                  (subst (λ (s : Requester). IsCopying c.ask.new.donor told s.sizes (stage_number info.stage) info.checkpoint None at) (sym w.self-is) is),
-            );
-          }
-    ]
+          subst (λ (disk : g.row.R.Denot). IsCopying c.ask.new.donor (g.R.PageDisk.state disk).told c.match-info.self.sizes (stage_number info.stage) info.checkpoint None at) (sym w.disk-is)
+          (subst (λ (s : Requester). IsCopying c.ask.new.donor told s.sizes (stage_number info.stage) info.checkpoint None at) (sym w.self-is) is)
+    ] in
+    record { copying = (at, subst Begun (sym c.number.ensures) begun) }
 
 pub returns-clause-leaves : goal.returns-clause-leaves
 returns-clause-leaves g c = λ stop way.
@@ -90,7 +82,10 @@ returns-clause-leaves g c = λ stop way.
           )
     ] in
     let e = c.in_ok-copy_stage.ensures in
-    let ready = asked_ready r d t u told end sizes stop info asks begun.1 e.stop (e.copied at begun.0) in
+    let Copies : ℕ → Type 0 = λ stage. IsCopying t (g.R.PageDisk.state c.match-info.disk).told c.match-info.self.sizes stage info.checkpoint None at in
+    let Copied : ℕ → Type 0 = λ stage. IsAllCopied u end sizes stage info.checkpoint at in
+    let copied : Copied (stage_number info.stage) = subst Copied c.number.ensures (e.copied at (subst Copies (sym c.number.ensures) begun.0)) in
+    let ready = asked_ready r d t u told end sizes stop info asks begun.1 e.stop copied in
     let counted : c.self.inside.stages ≡ r.stages = ap (λ (s : Requester). s.stages) c.self.view_is ∙ e.stages ∙ begun.2 in
     let sized : c.self.inside.sizes ≡ sizes = ap (λ (s : Requester). s.sizes) c.self.view_is in
     let Left : ℕ → PageCounts → Type 0 = λ n kept. (n + 1 ≤ 3) × IsUnderWay u (record { sizes = kept; stages = n + 1 }) end (stop_at (n + 1) d stop) in

@@ -1,13 +1,11 @@
-use Rattle.std.proofs.Common.{ℕ, Some, refl, sym, subst}
-use Rattle.clone_request.specs.Copying.{IsCopying}
+use Rattle.std.proofs.Common.{refl}
 use Rattle.clone_request.proofs.StepLemmas.{mark_same}
 use Rattle.clone_request.proofs.requester.Requester.copy_block.Goals as goal
 
 pub read-requires : goal.read-requires
 read-requires g c =
     let told = (g.R.PageDisk.state c.args.disk.now).told in
-    let of : ℕ → Type 0 = λ stage. IsCopying c.args.donor.now told c.args.self.now.sizes stage c.args.info.now.checkpoint (Some (record { chunk = c.args.chunk; laid = c.args.number })) c.requires.copying.0 in
-    record { copying = (told, c.args.self.now.sizes, c.args.info.now.checkpoint, c.requires.copying.0, subst of (sym c.number.ensures) c.requires.copying.1) }
+    record { copying = (told, c.args.self.now.sizes, c.args.checkpoint, c.requires.copying.0, c.requires.copying.1) }
 
 pub returns-in_err-block-clause-mark : goal.returns-in_err-block-clause-mark
 returns-in_err-block-clause-mark g c = mark_same (g.R.PageDisk.state c.args.disk.now).told (g.R.PageDisk.state c.args.disk.now).told refl
@@ -15,5 +13,4 @@ returns-in_err-block-clause-mark g c = mark_same (g.R.PageDisk.state c.args.disk
 pub lay-requires-clause-fit : goal.lay-requires-clause-fit
 lay-requires-clause-fit g c =
     let told = (g.R.PageDisk.state c.args.disk.now).told in
-    let of : ℕ → Type 0 = λ stage. IsCopying c.args.donor.now told c.args.self.now.sizes stage c.args.info.now.checkpoint (Some (record { chunk = c.args.chunk; laid = c.args.number })) c.requires.copying.0 in
-    (c.in_ok-block.ensures.reads told c.args.self.now.sizes c.args.info.now.checkpoint c.requires.copying.0 (subst of (sym c.number.ensures) c.requires.copying.1)).fit
+    (c.in_ok-block.ensures.reads told c.args.self.now.sizes c.args.checkpoint c.requires.copying.0 c.requires.copying.1).fit

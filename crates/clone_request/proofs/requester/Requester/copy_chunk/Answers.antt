@@ -1,7 +1,6 @@
 use Rattle.std.proofs.Common.{Bool, ◌+◌, ◌<◌, refl, arith, subst, ◌∙◌}
 use Rattle.clone_outside.proofs.DiskCallLemmas.{works_none, works_then}
 use Rattle.clone_snapshot.proofs.CountLemmas.{few_blocks}
-use Rattle.clone_chunk.specs.Stages.{stage_number}
 use Rattle.clone_request.specs.Copying.{IsCopying}
 use Rattle.clone_request.specs.Reading.{work_after}
 use Rattle.clone_request.proofs.StepLemmas.{lends_same, lends_then, mark_same, mark_then, risen_on}
@@ -40,7 +39,7 @@ returns-in_err-copy_block-clause-works g c = works_then c.loop-number.invariant.
 
 pub returns-then-branch-clause-copied : goal.returns-then-branch-clause-copied
 returns-then-branch-clause-copied g c = λ stop is.
-    subst (λ (last : Bool). IsCopying c.copy_block.new.donor (g.R.PageDisk.state c.copy_block.new.disk).told c.copy_block.new.self.sizes (stage_number c.args.info.now.stage) c.args.info.now.checkpoint (work_after c.args.chunk c.loop-number.number last) stop) c.if-branch.true
+    subst (λ (last : Bool). IsCopying c.copy_block.new.donor (g.R.PageDisk.state c.copy_block.new.disk).told c.copy_block.new.self.sizes c.args.stage c.args.checkpoint (work_after c.args.chunk c.loop-number.number last) stop) c.if-branch.true
     (c.in_ok-copy_block.ensures.copied stop (c.loop-number.invariant.copied stop is))
 
 pub returns-then-branch-clause-mark : goal.returns-then-branch-clause-mark
@@ -56,7 +55,7 @@ returns-then-branch-clause-works g c = works_then c.loop-number.invariant.works 
 pub overflow_add-number : goal.overflow_add-number
 overflow_add-number g c =
     let stop = c.requires.copying.0 in
-    let more = subst (λ (last : Bool). IsCopying c.copy_block.new.donor (g.R.PageDisk.state c.copy_block.new.disk).told c.copy_block.new.self.sizes (stage_number c.args.info.now.stage) c.args.info.now.checkpoint (work_after c.args.chunk c.loop-number.number last) stop) c.if-branch.false
+    let more = subst (λ (last : Bool). IsCopying c.copy_block.new.donor (g.R.PageDisk.state c.copy_block.new.disk).told c.copy_block.new.self.sizes c.args.stage c.args.checkpoint (work_after c.args.chunk c.loop-number.number last) stop) c.if-branch.false
     (c.in_ok-copy_block.ensures.copied stop (c.loop-number.invariant.copied stop c.requires.copying.1)) in
     omega (arith, (more.works (record { chunk = c.args.chunk; laid = c.loop-number.number + 1 }) refl).1, few_blocks more.session.snap.list c.args.chunk)
 
@@ -73,7 +72,7 @@ loop-number-preserved g c =
     let i = c.loop-number.invariant in
     let e = c.in_ok-copy_block.ensures in
     record {
-      copied = λ stop is. subst (λ (last : Bool). IsCopying c.copy_block.new.donor now c.copy_block.new.self.sizes (stage_number c.args.info.now.stage) c.args.info.now.checkpoint (work_after c.args.chunk c.loop-number.number last) stop) c.if-branch.false (e.copied stop (i.copied stop is));
+      copied = λ stop is. subst (λ (last : Bool). IsCopying c.copy_block.new.donor now c.copy_block.new.self.sizes c.args.stage c.args.checkpoint (work_after c.args.chunk c.loop-number.number last) stop) c.if-branch.false (e.copied stop (i.copied stop is));
       free = e.free ∙ i.free;
       mark = mark_then told mid now i.mark e.mark;
       stages = e.stages ∙ i.stages;

@@ -1,6 +1,6 @@
-use Rattle.std.proofs.Common.{ℕ, ◌≡◌, ◌<◌, None, Some, refl, arith, sym, subst, ◌∙◌}
+use Rattle.std.proofs.Common.{◌≡◌, ◌<◌, refl, arith, ◌∙◌}
 use Rattle.clone_outside.proofs.DiskCallLemmas.{works_none, works_then}
-use Rattle.clone_request.specs.Copying.{IsAllCopied, IsCopying, free_left}
+use Rattle.clone_request.specs.Copying.{free_left}
 use Rattle.clone_request.proofs.StepLemmas.{lends_same, lends_then, mark_same, mark_then, risen_on}
 use Rattle.clone_request.proofs.requester.Requester.copy_stage.Goals as goal
 
@@ -20,16 +20,13 @@ pub claim-requires : goal.claim-requires
 claim-requires g c =
     let told = (g.R.PageDisk.state c.loop-chunk.disk).told in
     let stop = c.requires.copying.0 in
-    let is = subst (λ (stage : ℕ). IsCopying c.loop-chunk.donor told c.loop-chunk.self.sizes stage c.args.info.now.checkpoint None stop) (sym c.number-stage.ensures) (c.loop-chunk.invariant.copied stop c.requires.copying.1) in
-    record { copying = (told, c.loop-chunk.self.sizes, c.args.info.now.checkpoint, stop, is) }
+    record { copying = (told, c.loop-chunk.self.sizes, c.args.checkpoint, stop, c.loop-chunk.invariant.copied stop c.requires.copying.1) }
 
 pub copy_chunk-requires : goal.copy_chunk-requires
 copy_chunk-requires g c =
     let told = (g.R.PageDisk.state c.loop-chunk.disk).told in
     let stop = c.requires.copying.0 in
-    let is = subst (λ (stage : ℕ). IsCopying c.loop-chunk.donor told c.loop-chunk.self.sizes stage c.args.info.now.checkpoint None stop) (sym c.number-stage.ensures) (c.loop-chunk.invariant.copied stop c.requires.copying.1) in
-    let claimed = c.in-Some.ensures.some told c.loop-chunk.self.sizes c.args.info.now.checkpoint stop is in
-    record { copying = (stop, subst (λ (stage : ℕ). IsCopying c.claim.new.donor told c.loop-chunk.self.sizes stage c.args.info.now.checkpoint (Some (record { chunk = c.in-Some.chunk; laid = 0 })) stop) c.number-stage.ensures claimed) }
+    record { copying = (stop, c.in-Some.ensures.some told c.loop-chunk.self.sizes c.args.checkpoint stop (c.loop-chunk.invariant.copied stop c.requires.copying.1)) }
 
 pub loop-chunk-smaller : goal.loop-chunk-smaller
 loop-chunk-smaller g c =
@@ -43,15 +40,10 @@ loop-chunk-preserved g c =
     let told = (g.R.PageDisk.state c.args.disk.now).told in
     let mid = (g.R.PageDisk.state c.loop-chunk.disk).told in
     let now = (g.R.PageDisk.state c.copy_chunk.new.disk).told in
-    let sizes = c.loop-chunk.self.sizes in
-    let checkpoint = c.args.info.now.checkpoint in
     let i = c.loop-chunk.invariant in
     let e = c.in_ok-copy_chunk.ensures in
     record {
-      copied = λ stop is.
-          let there = subst (λ (stage : ℕ). IsCopying c.loop-chunk.donor mid sizes stage checkpoint None stop) (sym c.number-stage.ensures) (i.copied stop is) in
-          let claimed = c.in-Some.ensures.some mid sizes checkpoint stop there in
-          e.copied stop (subst (λ (stage : ℕ). IsCopying c.claim.new.donor mid sizes stage checkpoint (Some (record { chunk = c.in-Some.chunk; laid = 0 })) stop) c.number-stage.ensures claimed);
+      copied = λ stop is. e.copied stop (c.in-Some.ensures.some mid c.loop-chunk.self.sizes c.args.checkpoint stop (i.copied stop is));
       mark = mark_then told mid now i.mark e.mark;
       stages = e.stages ∙ i.stages;
       stop = e.stop ∙ c.claim.ensures.stop ∙ i.stop;
@@ -82,10 +74,7 @@ returns-in_err-copy_chunk-clause-works g c = works_then c.loop-chunk.invariant.w
 pub returns-clause-copied : goal.returns-clause-copied
 returns-clause-copied g c = λ stop is.
     let told = (g.R.PageDisk.state c.loop-chunk.disk).told in
-    let sizes = c.loop-chunk.self.sizes in
-    let checkpoint = c.args.info.now.checkpoint in
-    let there = subst (λ (stage : ℕ). IsCopying c.loop-chunk.donor told sizes stage checkpoint None stop) (sym c.number-stage.ensures) (c.loop-chunk.invariant.copied stop is) in
-    subst (λ (stage : ℕ). IsAllCopied c.claim.new.donor told sizes stage checkpoint stop) c.number-stage.ensures (c.claim.ensures.none c.in_default.is told sizes checkpoint stop there)
+    c.claim.ensures.none c.in_default.is told c.loop-chunk.self.sizes c.args.checkpoint stop (c.loop-chunk.invariant.copied stop is)
 
 pub returns-clause-lends : goal.returns-clause-lends
 returns-clause-lends g c = lends_then c.args.donor.now c.loop-chunk.donor c.claim.new.donor c.loop-chunk.invariant.lends c.claim.ensures.lends
