@@ -196,7 +196,7 @@ impl Walk {
 
     // One of the pages whose flush is under way.
     fn drawn_flight(&mut self) -> Option<usize> {
-        let count = self.flights.len() as u32;
+        let count = self.flights.len().min(u32::MAX as usize) as u32;
         if count == 0 {
             return None;
         }

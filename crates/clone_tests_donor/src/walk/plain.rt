@@ -232,7 +232,7 @@ impl Plain {
         if let Some(commit) = self.active.get_mut(&trx) {
             let _ = commit.changes.pop();
         }
-        Answer::TakenBack(Undone::Left(left as u16))
+        Answer::TakenBack(Undone::Left(left.min(u16::MAX as usize) as u16))
     }
 
     // Commits all changes of a transaction, and answers the new number of commits.
