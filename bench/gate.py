@@ -3,7 +3,7 @@
 where its processor time went: seconds of each crate for its proof, for the proof of its tests and for its must-fail
 edits; what building, running and reading took; and all of it, in minutes, beside the minutes that passed.
 It reads the process table twice a second while `rt ci` runs, so of a process that ends between two looks up to half a
-second is missing from its crate's row, and counted as other. The table is that of docs/COST.md."""
+second is missing from its crate's row, and counted as other."""
 
 import collections
 import os

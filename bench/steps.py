@@ -9,9 +9,15 @@ the cost of a change grows with the script, and how it differs between the kinds
 It then times two scripts of 32,000 `set` lines: the one of above, and one with a pool of 64 frames and a
 `clean` and a `checkpoint` behind each 40 sets. An older program, built of a commit before there were such
 lines, may be given as `bench/steps.py PROGRAM`: it gets the same sets without them, and both are timed in
-turn. Prints the medians of five runs of each, and how many times the older program's they are."""
+turn. Prints the medians of five runs of each, and how many times the older program's they are.
+
+`bench/steps.py --instructions` counts the instructions of three scripts by valgrind instead, which are the same on
+every machine, and prints them in millions. All have a pool of 1,024 frames, a ring of 4 MiB, a table of 1,024 buckets,
+and a `clean` and a `checkpoint` behind each 40 sets: 4,000 sets of scattered keys with a clone at the end, 12,000 sets
+of ascending keys, and the same with a clone and its rows."""
 
 import os
+import re
 import resource
 import statistics
 import subprocess
@@ -28,6 +34,8 @@ POOL, SMALL_POOL = "pool 4096", "pool 64"
 RING = "ring 16777216"
 SETS_TO_CLEAN = 40
 NEWER_WORDS = {"pool", "ring", "clean", "checkpoint"}
+COUNTED_HEAD = ["pool 1024", "ring 4194304", "create 1 1024"]
+SCATTERED, ASCENDING = 4000, 12000
 
 
 def changes_of(count, size):
@@ -50,13 +58,17 @@ def script(count, size):
     return "\n".join([*lines, "clone", "rows", ""])
 
 
+def flushed_sets(keys):
+    """A `set` line for each key, with a `clean` and a `checkpoint` behind each 40."""
+    for first in range(0, len(keys), SETS_TO_CLEAN):
+        yield from (f"set 0 1 {key} 61" for key in keys[first : first + SETS_TO_CLEAN])
+        yield from ("clean", "checkpoint")
+
+
 def flushing_script(count):
     """A script with so many `set` lines over few frames, whose pages are flushed again and again."""
-    lines = [SMALL_POOL, RING, "create 1 1024"]
-    for first in range(0, count, SETS_TO_CLEAN):
-        lines += [f"set 0 1 {key % KEYS} 61" for key in range(first, min(first + SETS_TO_CLEAN, count))]
-        lines += ["clean", "checkpoint"]
-    return "\n".join([*lines, "clone", "rows", ""])
+    keys = [key % KEYS for key in range(count)]
+    return "\n".join([SMALL_POOL, RING, "create 1 1024", *flushed_sets(keys), "clone", "rows", ""])
 
 
 def older_script(text):
@@ -154,6 +166,30 @@ def compare_all(program, folder, older=None):
     compare(f"{SMALL_POOL}, clean and checkpoint", flushing_script(count), program, folder, older)
 
 
+def instructions(program, lines):
+    """The millions of instructions that a run of a script takes."""
+    words = ["valgrind", "--tool=callgrind", "--callgrind-out-file=/dev/null", program, "steps"]
+    text = "\n".join([*COUNTED_HEAD, *lines, ""]).encode()
+    ran = subprocess.run(words, input=text, capture_output=True)
+    collected = re.search(rb"Collected : (\d+)", ran.stderr)
+    if ran.returncode != 0 or b"refused" in ran.stdout or collected is None:
+        sys.exit(f"status {ran.returncode}, last lines {ran.stdout.splitlines()[-1:]} {ran.stderr.splitlines()[-1:]}")
+    return int(collected[1]) / 1e6
+
+
+def count_all(program):
+    """Prints the instructions of each script that is counted."""
+    scattered = list(flushed_sets([769 * number % 40000 for number in range(SCATTERED)]))
+    ascending = list(flushed_sets(range(ASCENDING)))
+    alone = instructions(program, ascending)
+    cloned = instructions(program, [*ascending, "clone", "rows"])
+    print("| script | million instructions |")
+    print("|---|---|")
+    print(f"| {SCATTERED:,} sets of scattered keys, and a clone | {instructions(program, [*scattered, 'clone']):.1f} |")
+    print(f"| {ASCENDING:,} sets of ascending keys | {alone:.1f} |")
+    print(f"| a clone of these with its rows, above them | {cloned - alone:.1f} |")
+
+
 def main(program, folder, *older):
     costs = measure_all(program, os.path.join(folder, "script"))
     least, middle, most = COUNTS
@@ -174,5 +210,8 @@ def build():
     return os.path.join(TOP, "crates", "clone_prog", "out", "clone_prog")
 
 
-with tempfile.TemporaryDirectory() as scripts:
-    main(build(), scripts, *sys.argv[1:])
+if sys.argv[1:] == ["--instructions"]:
+    count_all(build())
+else:
+    with tempfile.TemporaryDirectory() as scripts:
+        main(build(), scripts, *sys.argv[1:])
