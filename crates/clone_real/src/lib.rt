@@ -20,6 +20,6 @@ pub use any_net::{AnyEnd, AnyName, AnyNet};
 pub use file_disk::FileDisk;
 pub use names::{push_file_name, space_named};
 pub use socket_end::SocketEnd;
-pub use socket_net::SocketNet;
+pub use socket_net::{SocketNet, accept_from};
 pub use std_sink::{SINK_ROOM, StdSink};
 pub use std_source::StdSource;

@@ -147,8 +147,9 @@ fn connected<R: net::Net<Stream = TcpStream, Listener = TcpListener>>(
     Ok((donor, requester))
 }
 
-// Accepts the connection that comes from this address, and refuses those that come before it.
-pub(crate) fn accept_from(listener: &TcpListener, address: SocketAddr) -> io::Result<TcpStream> {
+/// Accepts the connection that comes from this address, and refuses those that come before it, as a
+/// net does for each of its pairs. The error is one of the system, or that 1,024 others came.
+pub fn accept_from(listener: &TcpListener, address: SocketAddr) -> io::Result<TcpStream> {
     for _ in 0..MOST_STRANGERS {
         let (stream, from) = listener.accept()?;
         if from == address {

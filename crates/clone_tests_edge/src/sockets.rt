@@ -1,7 +1,9 @@
 use clone_outside::{Link, LinkRefusal, Net, Received};
-use clone_real::SocketNet;
-use std::fs;
+use clone_real::{SocketNet, accept_from};
+use std::io::Read;
+use std::net::{Ipv4Addr, SocketAddr, TcpListener, TcpStream};
 use std::test::Fail;
+use std::{fs, io, net};
 
 #[test]
 fn a_close_ends_both_ways_and_loses_nothing(rt: HostRuntime) -> Result<(), Fail> {
@@ -35,6 +37,25 @@ fn what_comes_after_a_close_is_a_loss(rt: HostRuntime) -> Result<(), Fail> {
     net.settle(donor, requester);
     assert_eq!(rt; net.faults(), found);
     Ok(())
+}
+
+// Whether the connection that comes from the right address is accepted behind a stranger's, and the
+// stranger's then ends.
+fn refuses_a_stranger<R>(rt: &R) -> io::Result<bool>
+where
+    R: net::Net<Stream = TcpStream, Listener = TcpListener>,
+{
+    let listener = TcpListener::bind(rt, SocketAddr::from((Ipv4Addr::LOCALHOST, 0)))?;
+    let address = listener.local_addr()?;
+    let mut stranger = TcpStream::connect(rt, address)?;
+    let own = TcpStream::connect(rt, address)?;
+    let accepted = accept_from(&listener, own.local_addr()?)?;
+    Ok(accepted.peer_addr()? == own.local_addr()? && stranger.read(&mut [0; 1])? == 0)
+}
+
+#[test]
+fn a_stranger_is_refused(rt: HostRuntime) {
+    assert!(rt; refuses_a_stranger(&rt).is_ok_and(|refused| refused));
 }
 
 // How many descriptors this process has open.
