@@ -16,7 +16,7 @@ import sys
 import built
 
 CRATES = (
-    "clone_base clone_outside clone_memdisk clone_model clone_plain "
+    "clone_base clone_outside clone_memdisk clone_model clone_page clone_plain "
     "clone_chunk clone_session clone_engine clone_donor clone_lay clone_recover"
 )
 WAYS = ("none", "plain", "idle", "busy")
