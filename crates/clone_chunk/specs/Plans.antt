@@ -1,6 +1,6 @@
 -- What a donor says of a stage: the stage, the number of its chunks, where the redo begins and
 -- ends, the position, and the spaces. A number that a stage doesn't have is 0.
-use Rattle.std.specs.Prelude.{ℕ, List, []}
+use Rattle.std.specs.Prelude.{ℕ, List, [], map}
 use Rattle.clone_chunk.specs.declared.stage.Stage.{Stage}
 use Rattle.clone_chunk.specs.declared.stage.Stage.TheVariants as stage
 use Rattle.clone_chunk.specs.declared.spaces.SpaceSize.{SpaceSize}
@@ -43,3 +43,7 @@ spaces_of (FileCopy chunks spaces) = spaces
 spaces_of (PageCopy chunks position) = []
 spaces_of (RedoCopy chunks checkpoint lsn position) = []
 spaces_of (Done checkpoint lsn position) = []
+
+-- spaces, of each its number and how many pages it has
+abbrev pub sizes_of : List (ℕ × ℕ) → List SpaceSize
+sizes_of spaces = map (λ s. record { space = s.0; pages = s.1 }) spaces

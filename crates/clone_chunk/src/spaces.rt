@@ -1,7 +1,8 @@
 //! The spaces of a stage: at most 63 of them, those of the tables and the system space, each with
 //! its number of pages.
-ghost use Rattle.std.specs.Prelude.{◌≡◌, ◌≤◌, ◌<◌, ◌++◌, ◌∷◌, ◌↔◌, [], length, OnOk, OnErr, IsTrue};
+ghost use Rattle.std.specs.Prelude.{◌≡◌, ◌≤◌, ◌<◌, ◌++◌, ◌∷◌, ◌↔◌, [], length, IfOk, OnOk, OnErr, IsTrue};
 ghost use Rattle.clone_base.specs.declared.limits.TheConstants.{SPACE_LIMIT};
+ghost use Rattle.clone_chunk.specs.Plans.{sizes_of};
 
 use clone_base::SPACE_LIMIT;
 use std::alloc::{AllocError, Global};
@@ -42,6 +43,21 @@ impl Spaces {
         Spaces {
             list: Vec::new(alloc),
         }
+    }
+
+    /// The spaces of these pairs, each a number and how many pages the space has.
+    pub fn of_pairs(alloc: Global, pairs: &[(u32, u32)]) -> Result<Spaces, AllocError>
+        requires { length pairs.now ≤ SPACE_LIMIT }
+        ensures { IfOk result (λ spaces. spaces ≡ sizes_of pairs.now) }
+    {
+        let mut list = Vec::with_capacity(alloc, pairs.len())?;
+        for (space, pages) in pairs {
+            list.push(SpaceSize {
+                space: *space,
+                pages: *pages,
+            })?;
+        }
+        Ok(Spaces { list })
     }
 
     /// Whether there are 63 spaces.

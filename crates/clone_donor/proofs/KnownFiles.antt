@@ -82,7 +82,7 @@ are_files e is safe =
     let few_chunks : ℕ → ℕ → Type 0 = λ space pages. div_ceil pages CHUNK_PAGES ≤ 1025 in
     let each = all_entries few_chunks e.flights.files (λ space pages known. let most = is.spaces.sizes space pages known in omega (arith, most)) in
     let sum = sum_by-le (λ space. div_ceil space.1 CHUNK_PAGES) 1025 (known_files e) each in
-    omega (arith, sum, is.spaces.count, safe.tables.few, len-entries e.flights.files)
+    (omega (arith, sum, is.spaces.count, safe.tables.few, len-entries e.flights.files), omega (arith, is.spaces.count, safe.tables.few, len-entries e.flights.files))
 
 -- A SPACE WITHOUT A FILE isn't there.
 module _ (e : Engine) (is : IsEngine e) (buffer : IsBuffer e.buffer) (right : IsTrue e.buffer.right) (space number : ℕ) (none : finite.get e.flights.files space ≡ None) where

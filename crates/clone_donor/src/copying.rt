@@ -47,13 +47,7 @@ impl<D: PageDisk> Donor<D> {
     /// is archived from the last checkpoint on, and the copy of pages ends with the stop. The floor
     /// may not be above the number of commits at the stop. The end of the copy of files alone takes
     /// memory.
-    pub fn ack(
-        &mut self,
-        alloc: Global,
-        caller: Caller,
-        stage: u8,
-        floor: u64,
-    ) -> Result<StageInfo, CloneRefusal>
+    pub fn ack(&mut self, caller: Caller, stage: u8, floor: u64) -> Result<StageInfo, CloneRefusal>
         ensures acks { Decided (acknowledgement_cause self.old.cloning caller stage floor
             (moment_of self.old.engine).position) self.old.cloning self.new.cloning result
             (Acks caller stage self.old self.new) }
@@ -65,7 +59,7 @@ impl<D: PageDisk> Donor<D> {
         let now = self.moment();
         self.engine.laws();
         self.cloning.laws();
-        let info = self.cloning.acknowledge(alloc, caller, stage, floor, now)?;
+        let info = self.cloning.acknowledge(caller, stage, floor, now)?;
         self.engine.settle_floor(self.cloning.kept_from());
         Ok(info)
     }

@@ -10,6 +10,7 @@ use Rattle.clone_lay.proofs.SizeLemmas.{no_sizes}
 use Rattle.clone_chunk.specs.declared.stage.Stage.{Stage}
 use Rattle.clone_chunk.specs.declared.stage.Stage.TheVariants.{FileCopy, PageCopy, RedoCopy, Done}
 use Rattle.clone_chunk.specs.Stages.{stage_number}
+use Rattle.clone_chunk.specs.Plans.{checkpoint_of, spaces_of, stage_of}
 use Rattle.clone_session.specs.declared.info.StageInfo.{StageInfo}
 use Rattle.std.specs.FinMap as finite
 use Rattle.clone_plain.specs.Donor as plain
@@ -25,7 +26,7 @@ use Rattle.clone_trx.specs.Kept.{IsSafe}
 use Rattle.clone_engine.specs.Engine.{IsEngine}
 use Rattle.clone_request.specs.Copying.{HasAsked, IsAllCopied, IsCopying, IsDone}
 use Rattle.clone_request.proofs.BeginLemmas.{begun_copying}
-use Rattle.clone_request.specs.Laying.{KeepsMark, with_rooms}
+use Rattle.clone_request.specs.Laying.{KeepsMark, pairs_of, with_rooms}
 use Rattle.clone_request.specs.Reading.{Asks, stop_after_ack}
 use Rattle.clone_request.specs.Requester.{IsStopOf, IsUnderWay, Requester}
 use Rattle.clone_request.proofs.StepLemmas.{mark_stays}
@@ -128,44 +129,44 @@ completes_leaves d u t r s told now stop (Err refusal) lends last tells unfinish
     by (Some x) holds = told_each now tells holds
 
 -- WHAT WAS ASKED FOR, by the stage that is told
-pub asked_done : (r : Requester) (d t : Donor) (told : Option DiskImage) (stop : Option plain.Donor) (info : StageInfo) → Asks r d told stop (Ok info) t → info.stage ≡ Done → (r.stages ≡ 3) × IsDone t told info stop × IsStopOf stop t.cloning.stop
+pub asked_done : (r : Requester) (d t : Donor) (told : Option DiskImage) (stop : Option plain.Donor) (info : StageInfo) → Asks r d told stop (Ok info) t → stage_of info.plan ≡ Done → (r.stages ≡ 3) × IsDone t told info stop × IsStopOf stop t.cloning.stop
 asked_done r d t told stop info asks is =
     let four : 4 ≡ r.stages + 1 = subst (λ (s : Stage). stage_number s ≡ r.stages + 1) is asks.0 in
     let last : r.stages ≡ 3 = omega (arith, four) in
     let same : stop_after_ack r.stages d stop ≡ stop = ap (λ (n : ℕ). stop_after_ack n d stop) last in
     (last, subst (λ (o : Option plain.Donor). IsDone t told info o) same (subst (λ (s : Stage). HasAsked s info t told r.sizes (stop_after_ack r.stages d stop)) is asks.1), subst (λ (o : Option plain.Donor). IsStopOf o t.cloning.stop) same asks.2)
 
-pub asked_sizes : (r : Requester) (d t : Donor) (told : Option DiskImage) (stop : Option plain.Donor) (info : StageInfo) → Asks r d told stop (Ok info) t → info.stage ≡ FileCopy → ForTold told (AreSizes r.sizes)
+pub asked_sizes : (r : Requester) (d t : Donor) (told : Option DiskImage) (stop : Option plain.Donor) (info : StageInfo) → Asks r d told stop (Ok info) t → stage_of info.plan ≡ FileCopy → ForTold told (AreSizes r.sizes)
 asked_sizes r d t told stop info asks is =
     let asked = subst (λ (s : Stage). HasAsked s info t told r.sizes (stop_after_ack r.stages d stop)) is asks.1 in
     subst (λ (sizes : PageCounts). ForTold told (AreSizes sizes)) (sym asked.1)
     (for_told (λ m. m ≡ marked (InProgress SESSION) blank) (AreSizes finite.empty) told (λ m same. no_sizes m (ap (λ (x : DiskImage). x.spaces) same)) asked.3)
 
 -- another stage is being copied at once, and the first one once there is room for the files
-pub asked_copies : (r : Requester) (d t : Donor) (told : Option DiskImage) (stop : Option plain.Donor) (info : StageInfo) → Asks r d told stop (Ok info) t → (info.stage ≡ PageCopy) ⊎ (info.stage ≡ RedoCopy) → IsCopying t told r.sizes (stage_number info.stage) info.checkpoint None (stop_after_ack r.stages d stop)
+pub asked_copies : (r : Requester) (d t : Donor) (told : Option DiskImage) (stop : Option plain.Donor) (info : StageInfo) → Asks r d told stop (Ok info) t → (stage_of info.plan ≡ PageCopy) ⊎ (stage_of info.plan ≡ RedoCopy) → IsCopying t told r.sizes (stage_number (stage_of info.plan)) (checkpoint_of info.plan) None (stop_after_ack r.stages d stop)
 asked_copies r d t told stop info asks (inl is) =
     let at : Option plain.Donor = stop_after_ack r.stages d stop in
-    subst (λ (s : Stage). IsCopying t told r.sizes (stage_number s) info.checkpoint None at) (sym is) (subst (λ (s : Stage). HasAsked s info t told r.sizes at) is asks.1)
+    subst (λ (s : Stage). IsCopying t told r.sizes (stage_number s) (checkpoint_of info.plan) None at) (sym is) (subst (λ (s : Stage). HasAsked s info t told r.sizes at) is asks.1)
 asked_copies r d t told stop info asks (inr is) =
     let at : Option plain.Donor = stop_after_ack r.stages d stop in
-    subst (λ (s : Stage). IsCopying t told r.sizes (stage_number s) info.checkpoint None at) (sym is) (subst (λ (s : Stage). HasAsked s info t told r.sizes at) is asks.1)
+    subst (λ (s : Stage). IsCopying t told r.sizes (stage_number s) (checkpoint_of info.plan) None at) (sym is) (subst (λ (s : Stage). HasAsked s info t told r.sizes at) is asks.1)
 
-pub asked_begins : (r : Requester) (d t : Donor) (told now : Option DiskImage) (kept : PageCounts) (stop : Option plain.Donor) (info : StageInfo) → IsEngine t.engine → IsSafe t.engine.donor → Asks r d told stop (Ok info) t → info.stage ≡ FileCopy → is_some now ≡ is_some told → KeepsMark told now
-    → Steps told now (with_rooms info.spaces) → ForTold now (AreSizes kept) → IsCopying t now kept (stage_number info.stage) info.checkpoint None (stop_after_ack r.stages d stop)
+pub asked_begins : (r : Requester) (d t : Donor) (told now : Option DiskImage) (kept : PageCounts) (stop : Option plain.Donor) (info : StageInfo) → IsEngine t.engine → IsSafe t.engine.donor → Asks r d told stop (Ok info) t → stage_of info.plan ≡ FileCopy → is_some now ≡ is_some told → KeepsMark told now
+    → Steps told now (with_rooms (pairs_of (spaces_of info.plan))) → ForTold now (AreSizes kept) → IsCopying t now kept (stage_number (stage_of info.plan)) (checkpoint_of info.plan) None (stop_after_ack r.stages d stop)
 asked_begins r d t told now kept stop info engine safe asks is tells keeps steps sizes =
     let at : Option plain.Donor = stop_after_ack r.stages d stop in
     let asked = subst (λ (s : Stage). HasAsked s info t told r.sizes at) is asks.1 in
-    subst (λ (s : Stage). IsCopying t now kept (stage_number s) info.checkpoint None at) (sym is)
-    (subst (λ (o : Option plain.Donor). IsCopying t now kept 1 info.checkpoint None o) (sym asked.2) (begun_copying t info asked.0 told now kept engine safe asked.3 tells keeps steps sizes))
+    subst (λ (s : Stage). IsCopying t now kept (stage_number s) (checkpoint_of info.plan) None at) (sym is)
+    (subst (λ (o : Option plain.Donor). IsCopying t now kept 1 (checkpoint_of info.plan) None o) (sym asked.2) (begun_copying t info asked.0 told now kept engine safe asked.3 tells keeps steps sizes))
 
 -- the stage that was asked for is copied
-pub asked_ready : (r : Requester) (d t u : Donor) (told now : Option DiskImage) (kept : PageCounts) (stop : Option plain.Donor) (info : StageInfo) → Asks r d told stop (Ok info) t → stage_number info.stage ≤ 3 → u.cloning.stop ≡ t.cloning.stop
-    → IsAllCopied u now kept (stage_number info.stage) info.checkpoint (stop_after_ack r.stages d stop)
+pub asked_ready : (r : Requester) (d t u : Donor) (told now : Option DiskImage) (kept : PageCounts) (stop : Option plain.Donor) (info : StageInfo) → Asks r d told stop (Ok info) t → stage_number (stage_of info.plan) ≤ 3 → u.cloning.stop ≡ t.cloning.stop
+    → IsAllCopied u now kept (stage_number (stage_of info.plan)) (checkpoint_of info.plan) (stop_after_ack r.stages d stop)
     → (r.stages + 1 ≤ 3) × IsUnderWay u (record { sizes = kept; stages = r.stages + 1 }) now (stop_at (r.stages + 1) d stop)
 asked_ready r d t u told now kept stop info asks low same copied =
     let last : r.stages + 1 ≤ 3 = omega (arith, low, asks.0) in
     let at : Option plain.Donor = stop_after_ack r.stages d stop in
-    let ready = way_goes_on u now kept (r.stages + 1) info.checkpoint at (omega arith) last (subst (λ (n : ℕ). IsAllCopied u now kept n info.checkpoint at) asks.0 copied) (subst (IsStopOf at) (sym same) asks.2) in
+    let ready = way_goes_on u now kept (r.stages + 1) (checkpoint_of info.plan) at (omega arith) last (subst (λ (n : ℕ). IsAllCopied u now kept n (checkpoint_of info.plan) at) asks.0 copied) (subst (IsStopOf at) (sym same) asks.2) in
     (last, subst (λ (o : Option plain.Donor). IsUnderWay u (record { sizes = kept; stages = r.stages + 1 }) now o) (stop_then r.stages d stop last) ready)
 
 pub copied_low : (s : Stage) → (s ≡ PageCopy) ⊎ (s ≡ RedoCopy) → stage_number s ≤ 3

@@ -14,6 +14,7 @@ use Rattle.clone_chunk.specs.declared.chunk.Chunk.TheVariants.{Free}
 use Rattle.clone_chunk.specs.Stages.{stage_number}
 use Rattle.clone_snapshot.specs.StageLists.{Files, StageList, chunk_count, stage_of}
 use Rattle.clone_trx.specs.Kept.{IsSafe}
+use Rattle.clone_chunk.specs.Plans.{checkpoint_of, spaces_of}
 use Rattle.clone_session.specs.declared.info.StageInfo.{StageInfo}
 use Rattle.clone_engine.specs.Engine.{Engine, IsEngine, IsInFile}
 use Rattle.clone_engine.proofs.DiskLemmas.{for_told}
@@ -22,7 +23,7 @@ use Rattle.clone_donor.specs.Donor.{Donor, IsPageOf, known_files}
 use Rattle.clone_donor.proofs.ToldLemmas.{told_both}
 use Rattle.clone_request.specs.declared.requester.TheConstants.{SESSION}
 use Rattle.clone_request.specs.Copying.{HasBegun, IsCopying, StartsAt}
-use Rattle.clone_request.specs.Laying.{KeepsMark, with_rooms}
+use Rattle.clone_request.specs.Laying.{KeepsMark, pairs_of, with_rooms}
 use Rattle.clone_request.specs.Requester.{HoldsListed, HoldsStage}
 use Rattle.clone_request.specs.Waiting.{AreSettled, HoldsPages, WaitsForPage}
 use Rattle.clone_request.proofs.FileLemmas.{files_begin, files_beside_redo}
@@ -38,13 +39,13 @@ module _ (d : Donor) (info : StageInfo) (begun : HasBegun d info) where
 
   -- what stands on the disk with its rooms
   begun_holds : (m : DiskImage) → IsEngine d.engine → IsSafe d.engine.donor → IsTrue d.engine.buffer.right → IsWithin → m ≡ marked (InProgress SESSION) blank
-      → HoldsStage begun.session.snap.list begun.session.snap.chunks None begun.taken d.cloning.archive (with_rooms info.spaces m)
+      → HoldsStage begun.session.snap.list begun.session.snap.chunks None begun.taken d.cloning.archive (with_rooms (pairs_of (spaces_of info.plan)) m)
   begun_holds m engine safe right within is = record {
-    pages = subst (λ (l : StageList). HoldsPages (WaitsForPage l begun.session.snap.chunks None) begun.taken.copies (with_rooms info.spaces m)) (sym begun.list)
-        (subst (λ (cs : List Chunk). HoldsPages (WaitsForPage (Files files) cs None) begun.taken.copies (with_rooms info.spaces m)) (sym chunks_are)
-        (subst (λ (copies : Copies). HoldsPages first copies (with_rooms info.spaces m)) (sym begun.copies)
+    pages = subst (λ (l : StageList). HoldsPages (WaitsForPage l begun.session.snap.chunks None) begun.taken.copies (with_rooms (pairs_of (spaces_of info.plan)) m)) (sym begun.list)
+        (subst (λ (cs : List Chunk). HoldsPages (WaitsForPage (Files files) cs None) begun.taken.copies (with_rooms (pairs_of (spaces_of info.plan)) m)) (sym chunks_are)
+        (subst (λ (copies : Copies). HoldsPages first copies (with_rooms (pairs_of (spaces_of info.plan)) m)) (sym begun.copies)
         (subst (λ (spaces : List (ℕ × ℕ)). HoldsPages first copied (with_rooms spaces m)) (sym begun.spaces) (files_begin d.engine engine safe (engine.keeps.kept right) within d.cloning.tracking.pages m empty))));
-    redo = subst (λ (l : StageList). HoldsListed l begun.session.snap.chunks None begun.taken.stop d.cloning.archive (with_rooms info.spaces m)) (sym begun.list)
+    redo = subst (λ (l : StageList). HoldsListed l begun.session.snap.chunks None begun.taken.stop d.cloning.archive (with_rooms (pairs_of (spaces_of info.plan)) m)) (sym begun.list)
         (ap (λ (spaces : List (ℕ × ℕ)). pages_in (with_rooms spaces m) REDO_SPACE) begun.spaces ∙ files_beside_redo d.engine engine safe m empty);
   }
     where
@@ -60,13 +61,13 @@ module _ (d : Donor) (info : StageInfo) (begun : HasBegun d info) where
       chunks_are : begun.session.snap.chunks ≡ replicate (chunk_count (Files files)) Free
       chunks_are = begun.chunks ∙ ap (λ (l : StageList). replicate (chunk_count l) Free) begun.list
 
-  begun_told : (told now : Option DiskImage) → IsEngine d.engine → IsSafe d.engine.donor → IsTrue d.engine.buffer.right → IsWithin → ForTold told (λ m. m ≡ marked (InProgress SESSION) blank) → Steps told now (with_rooms info.spaces)
+  begun_told : (told now : Option DiskImage) → IsEngine d.engine → IsSafe d.engine.donor → IsTrue d.engine.buffer.right → IsWithin → ForTold told (λ m. m ≡ marked (InProgress SESSION) blank) → Steps told now (with_rooms (pairs_of (spaces_of info.plan)))
       → ForTold now (HoldsStage begun.session.snap.list begun.session.snap.chunks None begun.taken d.cloning.archive)
   begun_told None now engine safe right within is steps = subst (λ (o : Option DiskImage). ForTold o (HoldsStage begun.session.snap.list begun.session.snap.chunks None begun.taken d.cloning.archive)) (sym steps) tt
   begun_told (Some m) now engine safe right within is steps = subst (λ (o : Option DiskImage). ForTold o (HoldsStage begun.session.snap.list begun.session.snap.chunks None begun.taken d.cloning.archive)) (sym steps) (begun_holds m engine safe right within is)
 
   pub begun_copying : (told now : Option DiskImage) (kept : PageCounts) → IsEngine d.engine → IsSafe d.engine.donor → ForTold told (λ m. m ≡ marked (InProgress SESSION) blank) → is_some now ≡ is_some told → KeepsMark told now
-      → Steps told now (with_rooms info.spaces) → ForTold now (AreSizes kept) → IsCopying d now kept 1 info.checkpoint None None
+      → Steps told now (with_rooms (pairs_of (spaces_of info.plan))) → ForTold now (AreSizes kept) → IsCopying d now kept 1 (checkpoint_of info.plan) None None
   begun_copying told now kept engine safe is tells keeps steps sizes = record {
     session = begun.session;
     taken = begun.taken;
@@ -84,6 +85,6 @@ module _ (d : Donor) (info : StageInfo) (begun : HasBegun d info) where
     };
     works = λ w none. absurd (cc);
     stage_is = ap (λ (l : StageList). stage_number (stage_of l)) begun.list;
-    starts = subst (λ (l : StageList). StartsAt l info.checkpoint) (sym begun.list) tt;
+    starts = subst (λ (l : StageList). StartsAt l (checkpoint_of info.plan)) (sym begun.list) tt;
     at = ap (option_map (λ (e : Engine). e.donor)) begun.stop;
   }

@@ -19,6 +19,7 @@ use Rattle.clone_donor.proofs.BecomesLemmas.{like}
 use Rattle.clone_request.specs.declared.requester.TheConstants.{SESSION}
 use Rattle.clone_request.specs.Copying.{HasBegun}
 use Rattle.clone_request.specs.Reading.{Asks}
+use Rattle.clone_request.proofs.LayLemmas.{pairs_sizes}
 use Rattle.clone_request.specs.Requester.{IsOwn, IsStopOf, IsUnderWay, Requester}
 use Rattle.clone_request.proofs.ComesLemmas.{comes}
 
@@ -55,7 +56,7 @@ module _ (d : Donor) (c : Cloning) (h : Hello) (info : StageInfo) (r : Requester
         is = subst (λ (o : Option Session). IsTaken t (taken_at d t o is.taken)) is.session (acts.taken is.taken is.is);
         copies = refl;
         stop = refl;
-        spaces = refl;
+        spaces = pairs_sizes (known_files d.engine);
       } in
       subst Told (sym come.told_is) (refl, (begun_is, empty, none, is.disk), subst (IsStopOf stop) (sym stays) way.stopped)
 

@@ -11,6 +11,7 @@ use Rattle.clone_lay.specs.Marked.{marked}
 use Rattle.clone_model.specs.History.{fold}
 use Rattle.clone_plain.specs.Donor as plain
 use Rattle.clone_plain.specs.Donor.{history}
+use Rattle.clone_chunk.specs.Plans.{position_of}
 use Rattle.clone_session.specs.declared.info.StageInfo.{StageInfo}
 use Rattle.clone_session.specs.declared.info.Stop.{Stop}
 use Rattle.clone_session.specs.Cloning.{IsCloning}
@@ -81,7 +82,7 @@ module _ (d : Donor) (told : Option DiskImage) (info : StageInfo) (stop : Option
       Q m = ForTold told (λ b. m.mark ≡ b.mark) ⊎ ((stop ≡ Some (stop_from d stop)) × HoldsDonor (stop_from d stop) m)
 
       passed : stop ≡ Some (stop_from d stop)
-      passed = (stop_passed d stop d.cloning.stop info.position done.position stopped).0
+      passed = (stop_passed d stop d.cloning.stop (position_of info.plan) done.position stopped).0
 
       each : (n : Option DiskImage) → ForTold n (HoldsDonor (stop_from d stop)) → ForTold n Q
       each None holds = tt

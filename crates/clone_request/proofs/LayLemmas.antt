@@ -1,14 +1,16 @@
 -- Pages that are laid one after the other, and rooms that are made.
-use Rattle.std.proofs.Common.{◌≡◌, ◌∙◌, ap, ◌<◌, ◌≤◌, ◌+◌, ◌∷◌, ◌++◌, [], ℕ, List, length, take, get_or, Option, sym, subst, arith}
+use Rattle.std.proofs.Common.{◌≡◌, ◌∙◌, refl, ap, ◌<◌, ◌≤◌, ◌+◌, ◌∷◌, ◌++◌, [], ℕ, List, length, take, get_or, Option, sym, subst, arith}
 use Rattle.std.specs.List.{AllByRecursion}
-use Rattle.std.proofs.lemmas.List.{map_more, take_all, take_more}
+use Rattle.std.proofs.lemmas.List.{map_more, take_all}
 use Rattle.std.proofs.lemmas.List.Elements.{All-from_recursion}
 use Rattle.clone_model.specs.declared.line.TheConstants.{MOST_PAGES}
 use Rattle.clone_outside.specs.Disk.{DiskImage, Steps}
+use Rattle.clone_chunk.specs.Plans.{sizes_of}
+use Rattle.clone_chunk.specs.declared.spaces.SpaceSize.{SpaceSize}
 use Rattle.clone_lay.specs.Laid.{laid_page, with_room}
 use Rattle.clone_page.specs.declared.pages.PageAt.{PageAt}
 use Rattle.clone_donor.specs.Copies.{PageRead}
-use Rattle.clone_request.specs.Laying.{reads_of, with_laid, with_rooms}
+use Rattle.clone_request.specs.Laying.{pairs_of, reads_of, with_laid, with_rooms}
 use Rattle.clone_request.proofs.StepLemmas.{laid_more, rooms_more, steps_then}
 
 -- the pages of a block have numbers below the limit
@@ -40,14 +42,22 @@ pub pages_end : (pages : List PageAt) (k : ℕ) (told now : Option DiskImage) �
 pages_end pages k told now all laid low = subst (λ (ps : List PageAt). Steps told now (with_laid (reads_of ps))) (take_all k pages all) (laid low)
 
 -- so many of the rooms are made
-abbrev pub HasRooms : List (ℕ × ℕ) → ℕ → Option DiskImage → Option DiskImage → Type 0
-HasRooms spaces k told now = Steps told now (with_rooms (take k spaces))
+abbrev pub HasRooms : List SpaceSize → ℕ → Option DiskImage → Option DiskImage → Type 0
+HasRooms spaces k told now = Steps told now (with_rooms (pairs_of (take k spaces)))
 
-pub rooms_go_on : (spaces : List (ℕ × ℕ)) (k : ℕ) (told mid now : Option DiskImage) → k < length spaces → HasRooms spaces k told mid
-    → Steps mid now (with_room (get_or spaces k (0, 0)).0 (get_or spaces k (0, 0)).1) → HasRooms spaces (k + 1) told now
-rooms_go_on spaces k told mid now within made steps =
-    subst (λ (ss : List (ℕ × ℕ)). Steps told now (with_rooms ss)) (sym (take_more spaces k (0, 0) within))
-    (steps_then told mid now (with_rooms (take k spaces)) _ (with_rooms (take k spaces ++ get_or spaces k (0, 0) ∷ [])) (rooms_more (take k spaces) (get_or spaces k (0, 0))) made steps)
+-- spaces that are told are those that were listed
+pub pairs_sizes : (spaces : List (ℕ × ℕ)) → pairs_of (sizes_of spaces) ≡ spaces
+pairs_sizes [] = refl
+pairs_sizes (s ∷ ss) = ap (λ (rest : List (ℕ × ℕ)). s ∷ rest) (pairs_sizes ss)
 
-pub rooms_end : (spaces : List (ℕ × ℕ)) (k : ℕ) (told now : Option DiskImage) → length spaces ≤ k → HasRooms spaces k told now → Steps told now (with_rooms spaces)
-rooms_end spaces k told now all made = subst (λ (ss : List (ℕ × ℕ)). Steps told now (with_rooms ss)) (take_all k spaces all) made
+pub rooms_go_on : (spaces : List SpaceSize) (k : ℕ) (d : SpaceSize) (told mid now : Option DiskImage) → k < length spaces → HasRooms spaces k told mid
+    → Steps mid now (with_room (get_or spaces k d).space (get_or spaces k d).pages) → HasRooms spaces (k + 1) told now
+rooms_go_on spaces k d told mid now within made steps =
+    let before : List (ℕ × ℕ) = pairs_of (take k spaces) in
+    let next : ℕ × ℕ = ((get_or spaces k d).space, (get_or spaces k d).pages) in
+    let more : pairs_of (take (k + 1) spaces) ≡ before ++ next ∷ [] = map_more (λ (s : SpaceSize). (s.space, s.pages)) spaces k d within in
+    subst (λ (ss : List (ℕ × ℕ)). Steps told now (with_rooms ss)) (sym more)
+    (steps_then told mid now (with_rooms before) _ (with_rooms (before ++ next ∷ [])) (rooms_more before next) made steps)
+
+pub rooms_end : (spaces : List SpaceSize) (k : ℕ) (told now : Option DiskImage) → length spaces ≤ k → HasRooms spaces k told now → Steps told now (with_rooms (pairs_of spaces))
+rooms_end spaces k told now all made = subst (λ (ss : List SpaceSize). Steps told now (with_rooms (pairs_of ss))) (take_all k spaces all) made

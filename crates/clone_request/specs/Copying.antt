@@ -13,6 +13,7 @@ use Rattle.clone_chunk.specs.declared.chunk.Chunk.TheVariants.{Free, Claimed, Fi
 use Rattle.clone_chunk.specs.declared.stage.Stage.{Stage}
 use Rattle.clone_chunk.specs.declared.stage.Stage.TheVariants.{FileCopy, PageCopy, RedoCopy, Done}
 use Rattle.clone_chunk.specs.Chunks.{is_free}
+use Rattle.clone_chunk.specs.Plans.{checkpoint_of, lsn_of, position_of, spaces_of}
 use Rattle.clone_snapshot.specs.StageLists as lists
 use Rattle.clone_snapshot.specs.StageLists.{StageList, block_count, chunk_count}
 use Rattle.clone_plain.specs.Donor as plain
@@ -26,6 +27,7 @@ use Rattle.clone_donor.specs.Donor.{Donor, known_files}
 use Rattle.clone_donor.specs.Laid.{IsComplete}
 use Rattle.clone_donor.specs.Taken.{IsTaken, Taken}
 use Rattle.clone_request.specs.declared.requester.TheConstants.{SESSION}
+use Rattle.clone_request.specs.Laying.{pairs_of}
 use Rattle.clone_request.specs.Requester.{IsInStage, IsOwn}
 use Rattle.clone_request.specs.Waiting.{InWork}
 
@@ -73,13 +75,13 @@ pub record HasBegun (d : Donor) (info : StageInfo) : Type 0 where
   pub is : IsTaken d taken
   pub copies : taken.copies ≡ first_copies d.cloning.tracking.pages d.engine.flights.files
   pub stop : taken.stop ≡ None
-  pub spaces : info.spaces ≡ known_files d.engine
+  pub spaces : pairs_of (spaces_of info.plan) ≡ known_files d.engine
 
 -- the end of a clone is the one that a donor tells
 pub record IsEndOf (info : StageInfo) (end : CloneEnd) : Type 0 where
-  pub checkpoint : end.checkpoint ≡ info.checkpoint
-  pub lsn : end.lsn ≡ info.lsn
-  pub position : end.position ≡ info.position
+  pub checkpoint : end.checkpoint ≡ checkpoint_of info.plan
+  pub lsn : end.lsn ≡ lsn_of info.plan
+  pub position : end.position ≡ position_of info.plan
 
 -- all is laid, and the session is done
 pub record IsDone (d : Donor) (told : Option DiskImage) (info : StageInfo)
@@ -90,9 +92,10 @@ pub record IsDone (d : Donor) (told : Option DiskImage) (info : StageInfo)
   pub own : IsOwn session
   pub is : IsTaken d taken
   -- the position that is told is that of the last stop
-  pub position : option_map (λ (last : Stop). last.position) d.cloning.stop ≡ Some info.position
-  pub ordered : info.checkpoint ≤ info.lsn
-  pub within : info.lsn < LSN_LIMIT
+  pub position : option_map (λ (last : Stop). last.position) d.cloning.stop
+      ≡ Some (position_of info.plan)
+  pub ordered : checkpoint_of info.plan ≤ lsn_of info.plan
+  pub within : lsn_of info.plan < LSN_LIMIT
   pub complete : (end : CloneEnd) → IsEndOf info end
       → ForTold d.engine.disk.told (λ _. ForTold told (IsComplete d taken end))
   pub at : option_map (λ (e : Engine). e.donor) taken.stop ≡ stop
@@ -103,6 +106,6 @@ abbrev pub HasAsked : Stage → StageInfo → Donor → Option DiskImage → Pag
 HasAsked FileCopy info d told sizes stop =
     HasBegun d info × (sizes ≡ finite.empty) × (stop ≡ None)
     × ForTold told (λ m. m ≡ marked (InProgress SESSION) blank)
-HasAsked PageCopy info d told sizes stop = IsCopying d told sizes 2 info.checkpoint None stop
-HasAsked RedoCopy info d told sizes stop = IsCopying d told sizes 3 info.checkpoint None stop
+HasAsked PageCopy info d told sizes stop = IsCopying d told sizes 2 (checkpoint_of info.plan) None stop
+HasAsked RedoCopy info d told sizes stop = IsCopying d told sizes 3 (checkpoint_of info.plan) None stop
 HasAsked Done info d told sizes stop = IsDone d told info stop

@@ -4,8 +4,13 @@ use Rattle.std.specs.declared.option.Option.{Option}
 use Rattle.clone_outside.specs.Disk.{DiskImage}
 use Rattle.clone_lay.specs.Laid.{laid_page, with_room}
 use Rattle.clone_recover.specs.Restores.{ForStep}
+use Rattle.clone_chunk.specs.declared.spaces.SpaceSize.{SpaceSize}
 use Rattle.clone_page.specs.declared.pages.PageAt.{PageAt}
 use Rattle.clone_donor.specs.Copies.{PageRead}
+
+-- spaces as pairs, of each its number and how many pages it has
+abbrev pub pairs_of : List SpaceSize → List (ℕ × ℕ)
+pairs_of spaces = map (λ s. (s.space, s.pages)) spaces
 
 -- room is made for each of these spaces in turn
 abbrev pub with_rooms : List (ℕ × ℕ) → DiskImage → DiskImage

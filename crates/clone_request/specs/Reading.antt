@@ -7,6 +7,7 @@ use Rattle.clone_model.specs.declared.line.TheConstants.{MOST_PAGES}
 use Rattle.clone_outside.specs.Disk.{DiskImage, ForTold, Steps}
 use Rattle.clone_lay.specs.Redo.{laid_redo}
 use Rattle.clone_lay.specs.Sized.{AreSizes, PageCounts}
+use Rattle.clone_chunk.specs.Plans.{stage_of}
 use Rattle.clone_chunk.specs.Stages.{stage_number}
 use Rattle.clone_plain.specs.Donor as plain
 use Rattle.clone_session.specs.declared.info.StageInfo.{StageInfo}
@@ -29,8 +30,8 @@ stop_after_ack stages d stop = if stages == 2 then Some (stop_from d stop) else 
 abbrev pub Asks : Requester → Donor → Option DiskImage → Option plain.Donor
     → Result StageInfo StepRefusal → Donor → Type 0
 Asks r d told stop (Ok info) t =
-    (stage_number info.stage ≡ r.stages + 1)
-    × HasAsked info.stage info t told r.sizes (stop_after_ack r.stages d stop)
+    (stage_number (stage_of info.plan) ≡ r.stages + 1)
+    × HasAsked (stage_of info.plan) info t told r.sizes (stop_after_ack r.stages d stop)
     × IsStopOf (stop_after_ack r.stages d stop) t.cloning.stop
 Asks r d told stop (Err refusal) t = IsStopOf stop t.cloning.stop
 

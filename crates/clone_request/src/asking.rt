@@ -51,7 +51,7 @@ impl Requester {
         let answer = if self.stages == 0 {
             donor.init(alloc, &hello())
         } else {
-            donor.ack(alloc, CALLER, self.stages, floor)
+            donor.ack(CALLER, self.stages, floor)
         };
         match answer {
             Ok(info) => Ok(info),

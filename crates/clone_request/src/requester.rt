@@ -10,16 +10,17 @@ ghost use Rattle.clone_lay.specs.Sized.{AreSizes};
 ghost use Rattle.clone_donor.specs.Donor as staged;
 ghost use Rattle.clone_request.specs.Requester.{IsStopOf, IsUnasked, IsUnderWay};
 ghost use Rattle.clone_request.specs.Advancing.{Completes, HasRisen, Leaves, Lends};
-ghost use Rattle.clone_request.specs.Copying.{IsDone};
-ghost use Rattle.clone_request.specs.Laying.{KeepsMark, with_rooms};
+ghost use Rattle.clone_chunk.specs.Plans.{checkpoint_of, lsn_of};
+ghost use Rattle.clone_request.specs.Copying.{IsDone, IsEndOf};
+ghost use Rattle.clone_request.specs.Laying.{KeepsMark, pairs_of, with_rooms};
 
 use crate::asking::CALLER;
 use clone_base::Counts;
-use clone_chunk::Stage;
+use clone_chunk::{SpaceSize, Stage};
 use clone_donor::Donor;
 use clone_lay::{begin_copy, complete, make_room};
 use clone_outside::{CloneEnd, PageDisk, Refusal};
-use clone_session::{SpaceList, StageInfo};
+use clone_session::StageInfo;
 use std::alloc::{AllocError, Global};
 use std::marker::Model;
 
@@ -145,28 +146,29 @@ impl Requester {
     {
         let info = self.ask(alloc, donor, floor)?;
         donor.laws();
-        match info.stage {
+        let stage = info.plan.stage();
+        match stage {
             Stage::Done => return self.complete(donor, disk, &info),
-            Stage::FileCopy => self.make_rooms(disk, &info.spaces)?,
+            Stage::FileCopy => self.make_rooms(disk, info.plan.spaces())?,
             Stage::PageCopy | Stage::RedoCopy => {}
         }
-        self.copy_stage(alloc, donor, disk, info.stage.number(), info.checkpoint)?;
+        self.copy_stage(alloc, donor, disk, stage.number(), info.plan.checkpoint())?;
         self.stages += 1;
         Ok(Advanced::Ready { stage: self.stages })
     }
 
     // Makes room for the files of all spaces.
-    fn make_rooms<R: PageDisk>(&mut self, disk: &mut R, spaces: &SpaceList) -> Result<(), Refusal>
+    fn make_rooms<R: PageDisk>(&mut self, disk: &mut R, spaces: &[SpaceSize]) -> Result<(), Refusal>
         requires sizes { ForTold (R.state disk.old).told (AreSizes self.old.sizes) }
-        ensures ok { OnOk result
-            (Steps (R.state disk.old).told (R.state disk.new).told (with_rooms spaces.now)) }
+        ensures ok { OnOk result (Steps (R.state disk.old).told (R.state disk.new).told
+            (with_rooms (pairs_of spaces.now))) }
         ensures sizes { OnOk result (ForTold (R.state disk.new).told (AreSizes self.new.sizes)) }
         ensures stages { self.new.stages ≡ self.old.stages }
         ensures mark { KeepsMark (R.state disk.old).told (R.state disk.new).told }
         ensures works { Works (R.state disk.old) (R.state disk.new) result }
     {
-        for (space, pages) in spaces.as_slice() {
-            make_room(disk, &mut self.sizes, *space, *pages)?;
+        for space in spaces {
+            make_room(disk, &mut self.sizes, space.space, space.pages)?;
         }
         Ok(())
     }
@@ -192,30 +194,28 @@ impl Requester {
         ensures works { Alters ⊥ (R.state disk.old) (R.state disk.new) }
     {
         donor.laws();
-        let end = end_at(info.checkpoint, info.lsn, info.position);
+        let end = end_of(info);
         complete(disk, &end)?;
         match donor.exit(CALLER) {
             Ok(()) => Ok(Advanced::Complete {
-                position: info.position,
+                position: end.position,
             }),
             Err(_) => unreachable!(),
         }
     }
 }
 
-// The end of a clone, by the numbers that a donor tells.
-fn end_at(checkpoint: u64, lsn: u64, position: u64) -> CloneEnd
-    requires ordered { checkpoint ≤ lsn }
-    requires within { lsn < LSN_LIMIT }
-    ensures checkpoint { result.checkpoint ≡ checkpoint }
-    ensures lsn { result.lsn ≡ lsn }
-    ensures position { result.position ≡ position }
+// The end of a clone, as a donor tells it.
+fn end_of(info: &StageInfo) -> CloneEnd
+    requires ordered { checkpoint_of info.now.plan ≤ lsn_of info.now.plan }
+    requires within { lsn_of info.now.plan < LSN_LIMIT }
+    ensures end { IsEndOf info.now result }
     ensures ranges { IsEnd result }
 {
     CloneEnd {
         session: SESSION,
-        checkpoint,
-        lsn,
-        position,
+        checkpoint: info.plan.checkpoint(),
+        lsn: info.plan.lsn(),
+        position: info.plan.position(),
     }
 }

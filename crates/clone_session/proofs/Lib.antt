@@ -2,3 +2,4 @@ pub mod SessionLemmas
 pub mod StopLemmas
 pub mod ArchiveLemmas
 pub mod PartLemmas
+pub mod PlanLemmas

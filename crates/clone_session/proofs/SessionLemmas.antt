@@ -24,7 +24,7 @@ same_redo c t m n start end number redo = record {
 
 -- what a stage needs, where the session has as much room
 same_stage : (c : Cloning) (s t : Session) (list : StageList) → t.number ≡ s.number → s.snap.room ≤ t.snap.room → IsInStage c s list → IsInStage (with c t) t list
-same_stage c s t (Files spaces) number room files = record { tracked = files.tracked; unarchived = files.unarchived }
+same_stage c s t (Files spaces) number room files = record { tracked = files.tracked; unarchived = files.unarchived; few = files.few }
 same_stage c s t (Pages pages) number room copies = record {
   untracked = copies.untracked;
   archive = copies.archive;

@@ -1,7 +1,7 @@
 -- The calls of a clone, with their answers.
-use Rattle.std.specs.Prelude.{ℕ, ◌≡◌, ◌↔◌, ◌≤◌, ◌<◌, ◌+◌, ◌-◌, ◌^◌, Bool, List, [], take, drop, None, Some, Result, Ok, Err, All, IsTrue, slice_get, if◌then◌else◌}
+use Rattle.std.specs.Prelude.{ℕ, ◌≡◌, ◌↔◌, ◌≤◌, ◌<◌, ◌+◌, ◌-◌, ◌^◌, Bool, List, [], length, take, drop, None, Some, Result, Ok, Err, All, IsTrue, slice_get, if◌then◌else◌}
 use Rattle.std.specs.declared.option.Option.{Option}
-use Rattle.clone_base.specs.declared.limits.TheConstants.{LSN_LIMIT}
+use Rattle.clone_base.specs.declared.limits.TheConstants.{LSN_LIMIT, SPACE_LIMIT}
 use Rattle.std.specs.Option.{ForSome}
 use Rattle.clone_chunk.specs.Chunks.{IsLeastFree, IsTaken}
 use Rattle.clone_chunk.specs.declared.chunk.Chunk.TheVariants.{Claimed}
@@ -44,9 +44,9 @@ OnSession c number P = (s : Session) × (session_of c number ≡ Some s) × P s
 abbrev pub InFiles : Cloning → Type 0
 InFiles c = (s : Session) × (c.session ≡ Some s) × (donor_stage s ≡ 1)
 
--- the chunks of these files have numbers
+-- the chunks of these files have numbers, and there are at most 63 files
 abbrev pub AreFiles : List (ℕ × ℕ) → Type 0
-AreFiles spaces = chunk_count (Files spaces) < 2 ^ 32
+AreFiles spaces = (chunk_count (Files spaces) < 2 ^ 32) × (length spaces ≤ SPACE_LIMIT)
 
 -- A CLAIM gives the task the least chunk that is free, or none where none is.
 abbrev pub Claims : Caller → ℕ → Cloning → Cloning → Result (Option ℕ) CloneCause → Type 0

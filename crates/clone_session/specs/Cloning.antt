@@ -1,7 +1,7 @@
 -- What a donor keeps of the clone that it gives.
-use Rattle.std.specs.Prelude.{ℕ, ◌≡◌, ◌≤◌, ◌<◌, ◌+◌, ◌-◌, min, None, Some, IsSome}
+use Rattle.std.specs.Prelude.{ℕ, ◌≡◌, ◌≤◌, ◌<◌, ◌+◌, ◌-◌, List, length, min, None, Some, IsSome}
 use Rattle.std.specs.declared.option.Option.{Option}
-use Rattle.clone_base.specs.declared.limits.TheConstants.{LSN_LIMIT}
+use Rattle.clone_base.specs.declared.limits.TheConstants.{LSN_LIMIT, SPACE_LIMIT}
 use Rattle.clone_track.specs.TrackedPages.{TrackedPages}
 use Rattle.clone_archive.specs.Archived.{Archived, archived_of}
 use Rattle.clone_snapshot.specs.StageLists.{StageList, Files, Pages, Redo, Nothing, chunk_count}
@@ -33,10 +33,11 @@ pub record IsIdle (c : Cloning) : Type 0 where
   pub untracked : c.tracking.pages ≡ None
   pub unarchived : c.archive ≡ None
 
--- pages are tracked, and no archive stands yet
-pub record CopiesFiles (c : Cloning) : Type 0 where
+-- pages are tracked, there is no archive yet, and there are at most 63 spaces
+pub record CopiesFiles (c : Cloning) (spaces : List (ℕ × ℕ)) : Type 0 where
   pub tracked : IsSome c.tracking.pages
   pub unarchived : c.archive ≡ None
+  pub few : length spaces ≤ SPACE_LIMIT
 
 -- a ring's size behind what is archived, or where a log may end at most
 abbrev pub reach : ℕ → Archived → ℕ
@@ -65,7 +66,7 @@ pub record CopiesRedo (c : Cloning) (number start end : ℕ) : Type 0 where
 
 -- what a stage needs
 abbrev pub IsInStage : Cloning → Session → StageList → Type 0
-IsInStage c s (Files spaces) = CopiesFiles c
+IsInStage c s (Files spaces) = CopiesFiles c spaces
 IsInStage c s (Pages pages) = CopiesPages c s.snap.room
 IsInStage c s (Redo start end) = CopiesRedo c s.number start end
 IsInStage c s Nothing = (start end : ℕ) × CopiesRedo c s.number start end

@@ -4,8 +4,9 @@ use Rattle.std.specs.declared.option.Option.{Option}
 use Rattle.std.specs.Option.{option_map_or}
 use Rattle.std.specs.FinMap as finite
 use Rattle.clone_chunk.specs.declared.chunk.Chunk.TheVariants.{Free, Claimed, Finished}
-use Rattle.clone_chunk.specs.declared.stage.Stage.{Stage}
-use Rattle.clone_chunk.specs.declared.stage.Stage.TheVariants.{FileCopy, PageCopy, RedoCopy, Done}
+use Rattle.clone_chunk.specs.Plans.{sizes_of}
+use Rattle.clone_chunk.specs.declared.plan.StagePlan.{StagePlan}
+use Rattle.clone_chunk.specs.declared.plan.StagePlan.TheVariants.{FileCopy, PageCopy, RedoCopy, Done}
 use Rattle.clone_track.specs.TrackedPages.{all_noted, listed, noted}
 use Rattle.clone_archive.specs.Archived.{Archived}
 use Rattle.clone_snapshot.specs.StageLists.{StageList, Files, Pages, Redo, Nothing, chunk_count}
@@ -129,33 +130,22 @@ abbrev pub position_of : Option Stop → ℕ
 position_of None = 0
 position_of (Some last) = last.position
 
--- the position of a stage: how many pages are copied, or how many commits there were at the stop
-abbrev pub position_told : Cloning → StageList → ℕ
-position_told c (Files spaces) = 0
-position_told c (Pages pages) = length pages
-position_told c (Redo start end) = position_of c.stop
-position_told c Nothing = position_of c.stop
-
--- WHAT A DONOR TELLS OF A STAGE: of the copy of files the spaces, of the copy of pages how many
+-- what is copied in a stage: in the copy of files the spaces, in the copy of pages how many pages
 -- there are, and from the stop on the redo and the position
-abbrev pub told_with : Session → Stage → (checkpoint lsn position : ℕ) → List (ℕ × ℕ) → StageInfo
-told_with s stage checkpoint lsn position spaces = record {
+abbrev pub plan_of : Cloning → StageList → StagePlan
+plan_of c (Files spaces) = FileCopy (chunk_count (Files spaces)) (sizes_of spaces)
+plan_of c (Pages pages) = PageCopy (chunk_count (Pages pages)) (length pages)
+plan_of c (Redo start end) =
+    RedoCopy (chunk_count (Redo start end)) start end (position_of c.stop)
+plan_of c Nothing = Done (range_of c.archive).0 (range_of c.archive).1 (position_of c.stop)
+
+-- WHAT A DONOR TELLS OF A STAGE
+abbrev pub told_of : Cloning → Session → StageList → StageInfo
+told_of c s list = record {
   session = s.number;
   incarnation = s.incarnation;
-  stage = stage;
-  chunks = chunk_count s.snap.list;
-  checkpoint = checkpoint;
-  lsn = lsn;
-  position = position;
-  spaces = spaces;
+  plan = plan_of c list;
 }
-
-abbrev pub told_of : Cloning → Session → StageList → StageInfo
-told_of c s (Files spaces) = told_with s FileCopy 0 0 0 spaces
-told_of c s (Pages pages) = told_with s PageCopy 0 0 (length pages) []
-told_of c s (Redo start end) = told_with s RedoCopy start end (position_of c.stop) []
-told_of c s Nothing =
-    told_with s Done (range_of c.archive).0 (range_of c.archive).1 (position_of c.stop) []
 
 -- the answer tells the stage that the session has come to
 abbrev pub Tells : Cloning → StageInfo → Type 0

@@ -1,17 +1,17 @@
 ghost use Rattle.std.specs.Prelude.{◌≡◌, ℕ, List, Err, None, Some, IsSome, OnOk, OnErr, MatchResult};
 ghost use Rattle.clone_session.specs.CloneCauses.{acknowledgement_cause, exit_cause, abandon_cause};
 ghost use Rattle.clone_session.specs.CloneCalls.{Decided, Acknowledges, InFiles, IsMoment};
-ghost use Rattle.clone_session.specs.Effects.{Becomes, Tells, left, acknowledged, files_ended, pages_ended, range_of, position_told};
+ghost use Rattle.clone_session.specs.Effects.{Becomes, Tells, left, acknowledged, files_ended, pages_ended, plan_of, range_of, position_of};
 ghost use Rattle.clone_session.specs.Cloning.{Session};
 ghost use Rattle.clone_snapshot.specs.StageLists.{Files, Pages};
 ghost use Rattle.clone_session.specs.declared.refusal.CloneRefusal.TheVariants.{NoMemory};
 
-use crate::info::{SpaceList, StageInfo, Stop};
+use crate::info::{StageInfo, Stop};
 use crate::session::Session;
 use crate::{Caller, CloneRefusal, Cloning};
-use clone_chunk::{CloneCause, Stage};
+use clone_chunk::{CloneCause, Stage, StagePlan};
 use clone_snapshot::{page_chunks, redo_chunks};
-use std::alloc::{AllocError, Global};
+use std::alloc::AllocError;
 
 /// A moment of a donor.
 #[derive(Clone, Copy, Debug, PartialEq, Eq)]
@@ -34,7 +34,6 @@ impl Cloning {
     /// takes memory.
     pub fn acknowledge(
         &mut self,
-        alloc: Global,
         caller: Caller,
         stage: u8,
         floor: u64,
@@ -49,7 +48,7 @@ impl Cloning {
     {
         self.check_acknowledgement(caller, stage, floor, now.position)?;
         self.advance(stage, now)?;
-        Ok(self.later_info(alloc))
+        Ok(self.later_info())
     }
 
     // The donor's stage is over, where it is the one acknowledged.
@@ -121,8 +120,8 @@ impl Cloning {
         });
     }
 
-    // What a donor tells of a stage behind the copy of files.
-    fn later_info(&self, alloc: Global) -> StageInfo
+    // What a donor tells of a stage after the copy of files.
+    fn later_info(&self) -> StageInfo
         requires stands { IsSome self.now.session }
         requires later { InFiles self.now → ⊥ }
         ensures { Tells self.now result }
@@ -130,19 +129,40 @@ impl Cloning {
         let Some(session) = &self.session else {
             unreachable!();
         };
-        let (checkpoint, lsn) = match session.stage() {
-            Stage::RedoCopy | Stage::Done => self.archived_range(),
-            Stage::FileCopy | Stage::PageCopy => (0, 0),
-        };
         StageInfo {
             session: session.number,
             incarnation: session.incarnation,
-            stage: session.stage(),
-            chunks: session.snapshot.count(),
-            checkpoint,
-            lsn,
-            position: self.position(session),
-            spaces: SpaceList::new(alloc),
+            plan: self.later_plan(session),
+        }
+    }
+
+    // What is copied in a stage after the copy of files.
+    fn later_plan(&self, session: &Session) -> StagePlan
+        requires stands { self.now.session ≡ Some session.now }
+        requires later { InFiles self.now → ⊥ }
+        ensures { result ≡ plan_of self.now session.now.snap.list }
+    {
+        self.laws();
+        let chunks = session.snapshot.count();
+        let (checkpoint, lsn) = self.archived_range();
+        let position = self.position();
+        match session.stage() {
+            Stage::FileCopy => unreachable!(),
+            Stage::PageCopy => StagePlan::PageCopy {
+                chunks,
+                position: session.snapshot.page_count() as u64,
+            },
+            Stage::RedoCopy => StagePlan::RedoCopy {
+                chunks,
+                checkpoint,
+                lsn,
+                position,
+            },
+            Stage::Done => StagePlan::Done {
+                checkpoint,
+                lsn,
+                position,
+            },
         }
     }
 
@@ -156,15 +176,13 @@ impl Cloning {
         }
     }
 
-    // In the copy of pages how many pages are copied, and then how many commits there were at the
-    // stop.
-    fn position(&self, session: &Session) -> u64
-        ensures { result ≡ position_told self.now session.now.snap.list }
+    // How many commits there were at the last stop.
+    fn position(&self) -> u64
+        ensures { result ≡ position_of self.now.stop }
     {
-        match (session.stage(), self.stop) {
-            (Stage::PageCopy, _) => session.snapshot.page_count() as u64,
-            (Stage::RedoCopy | Stage::Done, Some(stop)) => stop.position,
-            _ => 0,
+        match self.stop {
+            Some(stop) => stop.position,
+            None => 0,
         }
     }
 

@@ -19,6 +19,6 @@ pub use caller::{Caller, Hello};
 pub use cloning::Cloning;
 pub use copying::BlockWork;
 pub use ending::Moment;
-pub use info::{SpaceList, StageInfo, Stop};
+pub use info::{StageInfo, Stop};
 pub use limits::{MOST_TASKS, VERSION};
 pub use refusal::CloneRefusal;

@@ -1,14 +1,15 @@
 ghost use Rattle.std.specs.Prelude.{◌≡◌, None, Some, IsSome, IfOk, OnErr, MatchResult};
 ghost use Rattle.clone_session.specs.CloneCauses.{hello_cause};
 ghost use Rattle.clone_session.specs.CloneCalls.{AreFiles};
-ghost use Rattle.clone_session.specs.Effects.{Becomes, Tells, opened, reopened, told_with};
+ghost use Rattle.clone_session.specs.Effects.{Becomes, Tells, opened, reopened};
 ghost use Rattle.clone_session.specs.Cloning.{Session};
-ghost use Rattle.clone_chunk.specs.declared.stage.Stage.TheVariants.{FileCopy};
+ghost use Rattle.clone_chunk.specs.declared.plan.StagePlan.TheVariants.{FileCopy};
+ghost use Rattle.clone_snapshot.specs.StageLists.{chunk_count};
 
-use crate::info::{SpaceList, StageInfo};
+use crate::info::StageInfo;
 use crate::session::Session;
 use crate::{Cloning, Hello};
-use clone_chunk::{CloneCause, Stage};
+use clone_chunk::{CloneCause, Spaces, StagePlan};
 use clone_snapshot::Snapshot;
 use std::alloc::{AllocError, Global};
 
@@ -40,9 +41,9 @@ impl Cloning {
             × Tells self.new info) }
         ensures refused { OnErr result (Becomes self.new self.old) }
     {
-        let told = SpaceList::copy_of(alloc, spaces)?;
-        let kept = SpaceList::copy_of(alloc, spaces)?;
-        let snapshot = Snapshot::start(alloc, kept.into_vec())?;
+        let told = Spaces::of_pairs(alloc, spaces)?;
+        let kept = Vec::from_slice(alloc, spaces)?;
+        let snapshot = Snapshot::start(alloc, kept)?;
         self.tracker.start(in_flight)?;
         self.archive.clear();
         let session = Session {
@@ -68,7 +69,7 @@ impl Cloning {
         let Some(session) = &mut self.session else {
             unreachable!();
         };
-        let told = SpaceList::copy_of(alloc, session.snapshot.spaces())?;
+        let told = Spaces::of_pairs(alloc, session.snapshot.spaces())?;
         session.incarnation = hello.incarnation;
         session.snapshot.restart();
         Ok(files_info(session, told))
@@ -76,17 +77,19 @@ impl Cloning {
 }
 
 // What a donor tells of the copy of files.
-fn files_info(session: &Session, spaces: SpaceList) -> StageInfo
-    ensures { result ≡ told_with session.now FileCopy 0 0 0 spaces }
+fn files_info(session: &Session, spaces: Spaces) -> StageInfo
+    ensures { result ≡ record {
+      session = session.now.number;
+      incarnation = session.now.incarnation;
+      plan = FileCopy (chunk_count session.now.snap.list) spaces;
+    } }
 {
     StageInfo {
         session: session.number,
         incarnation: session.incarnation,
-        stage: Stage::FileCopy,
-        chunks: session.snapshot.count(),
-        checkpoint: 0,
-        lsn: 0,
-        position: 0,
-        spaces,
+        plan: StagePlan::FileCopy {
+            chunks: session.snapshot.count(),
+            spaces,
+        },
     }
 }

@@ -25,8 +25,8 @@ impl Requester {
     /// The copy begins on an empty disk, with room for the spaces of the copy of files.
     pub fn begin(alloc: Global, info: &StageInfo) -> Result<Requester, Fail> {
         let mut requester = Requester::on_empty_disk(alloc).with_mark(info.session)?;
-        for (space, pages) in info.spaces.as_slice() {
-            requester = requester.with_room(*space, *pages)?;
+        for space in info.plan.spaces() {
+            requester = requester.with_room(space.space, space.pages)?;
         }
         Ok(requester)
     }
@@ -106,14 +106,15 @@ impl Requester {
     /// The copy is complete, as the donor told where it ends. The disk is answered.
     pub fn complete(self, info: &StageInfo) -> Result<MemDisk, Fail> {
         let Requester { mut disk, sizes: _ } = self;
-        if info.lsn < info.checkpoint || LSN_LIMIT <= info.lsn {
+        let (checkpoint, lsn) = (info.plan.checkpoint(), info.plan.lsn());
+        if lsn < checkpoint || LSN_LIMIT <= lsn {
             return Err(Fail::from("no end of a clone"));
         }
         let end = CloneEnd {
             session: info.session,
-            checkpoint: info.checkpoint,
-            lsn: info.lsn,
-            position: info.position,
+            checkpoint,
+            lsn,
+            position: info.plan.position(),
         };
         complete(&mut disk, &end)?;
         Ok(disk)

@@ -72,7 +72,7 @@ fn copy_files(
         incarnation: caller.incarnation,
     };
     let info = donor.init(walk.alloc, &hello).ok().ok_or("no session")?;
-    assert!(rt; info.stage == Stage::FileCopy);
+    assert!(rt; info.plan.stage() == Stage::FileCopy);
     walk.stage = 1;
     let requester = Requester::begin(walk.alloc, &info)?;
     let copy = StageCopy {
@@ -91,9 +91,9 @@ fn copy_pages(
     caller: Caller,
     requester: Requester,
 ) -> Result<Requester, Fail> {
-    let acked = donor.ack(walk.alloc, caller, 1, 0);
+    let acked = donor.ack(caller, 1, 0);
     let info = acked.ok().ok_or("no copy of pages")?;
-    assert!(rt; info.stage == Stage::PageCopy);
+    assert!(rt; info.plan.stage() == Stage::PageCopy);
     walk.stage = 2;
     walk.go(rt, donor, FAR)?;
     let copy = StageCopy {
@@ -115,10 +115,13 @@ fn stop(
     expected: &Expected,
 ) -> Result<StageInfo, Fail> {
     let end = donor.end();
-    let acked = donor.ack(walk.alloc, caller, 2, donor.look());
+    let acked = donor.ack(caller, 2, donor.look());
     let info = acked.ok().ok_or("no copy of redo")?;
-    assert!(rt; info.stage == Stage::RedoCopy);
-    assert_eq!(rt; (info.position, info.lsn), (expected.position, end));
+    assert!(rt; info.plan.stage() == Stage::RedoCopy);
+    assert_eq!(rt;
+        (info.plan.position(), info.plan.lsn()),
+        (expected.position, end)
+    );
     walk.stage = 3;
     Ok(info)
 }
@@ -136,12 +139,12 @@ fn copy_redo(
     let copy = StageCopy {
         caller,
         stage: 3,
-        checkpoint: info.checkpoint,
+        checkpoint: info.plan.checkpoint(),
     };
     let requester = copy_stage(rt, donor, walk, copy, requester)?;
-    let acked = donor.ack(walk.alloc, caller, 3, 0);
+    let acked = donor.ack(caller, 3, 0);
     let done = acked.ok().ok_or("not done")?;
-    assert!(rt; done.stage == Stage::Done);
+    assert!(rt; done.plan.stage() == Stage::Done);
     Ok(requester)
 }
 
@@ -176,7 +179,7 @@ fn expect_rows(
 ) -> Result<(), Fail> {
     let mut disk = requester.complete(info)?;
     let recovered = Recovered {
-        lsn: info.lsn,
+        lsn: info.plan.lsn(),
         position: expected.position,
     };
     assert!(rt; recover(alloc, &mut disk) == Ok(recovered));

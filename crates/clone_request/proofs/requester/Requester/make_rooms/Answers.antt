@@ -1,8 +1,7 @@
-use Rattle.std.proofs.Common.{ℕ, List, refl, ap, sym, subst}
+use Rattle.std.proofs.Common.{refl, ap, sym, subst}
 use Rattle.clone_outside.proofs.DiskCallLemmas.{works_none, works_then}
-use Rattle.clone_outside.specs.Disk.{ForTold, Steps}
+use Rattle.clone_outside.specs.Disk.{ForTold}
 use Rattle.clone_lay.specs.Sized.{AreSizes, PageCounts}
-use Rattle.clone_request.specs.Laying.{with_rooms}
 use Rattle.clone_request.specs.Requester.{Requester}
 use Rattle.clone_request.proofs.LayLemmas.{rooms_end, rooms_go_on}
 use Rattle.clone_request.proofs.StepLemmas.{mark_by, mark_either, mark_same, mark_then, steps_none}
@@ -32,7 +31,7 @@ loop-space-preserved g c =
     let i = c.loop-space.invariant in
     let e = c.in_ok-make_room.ensures in
     record {
-      made = rooms_go_on c.as_slice-space-items.result.now c.loop-space.space-index told mid now c.loop-space-test.true i.made e.ok;
+      made = rooms_go_on c.args.spaces.now c.loop-space.space-index _ told mid now c.loop-space-test.true i.made e.ok;
       sizes = e.sizes;
       stages = i.stages;
       mark = mark_then told mid now i.mark (mark_by mid now _ (λ m. refl) e.ok);
@@ -43,4 +42,4 @@ pub returns-clause-ok : goal.returns-clause-ok
 returns-clause-ok g c =
     let told = (g.R.PageDisk.state c.args.disk.now).told in
     let now = (g.R.PageDisk.state c.loop-space.disk).told in
-    subst (λ (ss : List (ℕ × ℕ)). Steps told now (with_rooms ss)) c.as_slice-space-items.ensures (rooms_end c.as_slice-space-items.result.now c.loop-space.space-index told now c.loop-space-test.false c.loop-space.invariant.made)
+    rooms_end c.args.spaces.now c.loop-space.space-index told now c.loop-space-test.false c.loop-space.invariant.made

@@ -9,7 +9,7 @@ use Rattle.clone_request.proofs.requester.Requester.make_rooms.Given as goal
 abbrev pub invariant-loop-space : goal.invariant-loop-space
 invariant-loop-space g l =
     record {
-      made : HasRooms l.space-items l.space-index (g.R.PageDisk.state l.fn.disk).told (g.R.PageDisk.state l.disk).told;
+      made : HasRooms l.spaces l.space-index (g.R.PageDisk.state l.fn.disk).told (g.R.PageDisk.state l.disk).told;
       sizes : ForTold (g.R.PageDisk.state l.disk).told (AreSizes l.self-inside.sizes);
       stages : l.self-inside.stages ≡ l.fn.self.stages;
       mark : KeepsMark (g.R.PageDisk.state l.fn.disk).told (g.R.PageDisk.state l.disk).told;
