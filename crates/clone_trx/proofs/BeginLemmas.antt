@@ -1,13 +1,5 @@
 -- The way of a transaction that begins.
-use Rattle.std.proofs.Common.{◌≡◌, ℕ, Option, Some, Result, sym, ap, subst, unwrap_or, is_none}
-use Rattle.clone_buffer.specs.Buffered.{Buffered}
-use Rattle.clone_plain.specs.Causes.{begin_cause}
-use Rattle.clone_plain.specs.Effects.{Begins}
-use Rattle.clone_plain.specs.declared.refusal.EngineRefusal.{EngineRefusal}
-use Rattle.clone_plain.specs.declared.refusal.Cause.TheVariants.{TooManyTransactions}
-use Rattle.clone_trx.proofs.Common.{header_page, records_of_begin, Cause, Donor, least_unused, whether}
-use Rattle.clone_trx.specs.Calls.{begin_way, is_new, system_page}
-use Rattle.clone_trx.specs.Ways.{Way, reads, writes, Goes, Holds, Writes, Answers, Carries, let_go, page_in}
+use Rattle.clone_trx.proofs.Common.{◌≡◌, ℕ, Option, Some, Result, sym, ap, subst, unwrap_or, is_none, Buffered, begin_cause, Begins, EngineRefusal, TooManyTransactions, header_page, records_of_begin, Cause, Donor, least_unused, whether, begin_way, is_new, system_page, Way, reads, writes, Goes, Holds, Writes, Answers, Carries, let_go, page_in}
 use Rattle.clone_trx.proofs.WayLemmas.{goes_on}
 
 abbrev of : ℕ → ℕ → ℕ → Way

@@ -1,6 +1,6 @@
 -- Which cause there is against a call, and what it means that there is none.
-use Rattle.std.proofs.Common.{◌≡◌, ◌≢◌, ◌<◌, ◌⊎◌, ℕ, Bool, true, false, cond, length, Bor, Option, Some, None, refl, sym, ap, ◌∙◌, inl, inr, arith, eq-eqb, eqb-true, ◌==◌, not, is_some, option_copied}
-use Rattle.clone_trx.proofs.Common.{option_or, Commit, Cause, NoSuchTrx, NoSuchTable, RowLocked, Donor, changes_of, whether, no_trx, no_table, too_long, undo_full, row_locked, locked_by, CHANGE_LIMIT, change_cause, IsLocked, changes_of_active}
+use Rattle.std.proofs.Common.{eq-eqb}
+use Rattle.clone_trx.proofs.Common.{◌≡◌, ◌≢◌, ◌<◌, ◌⊎◌, ℕ, Bool, true, false, cond, length, Bor, Option, Some, None, refl, sym, ap, ◌∙◌, inl, inr, arith, eqb-true, ◌==◌, not, is_some, option_copied, option_or, Commit, Cause, NoSuchTrx, NoSuchTable, RowLocked, Donor, changes_of, whether, no_trx, no_table, too_long, undo_full, row_locked, locked_by, CHANGE_LIMIT, change_cause, IsLocked, changes_of_active}
 use Rattle.std.specs.FinMap as finite
 
 -- what is borrowed of a map stands there

@@ -1,10 +1,8 @@
 -- The chains of the buckets.
-use Rattle.std.proofs.Common.{◌≡◌, ◌<◌, ℕ, List, [], ◌∷◌, sym, ap, subst, ◌∙◌, Option, Some, None}
-use Rattle.std.specs.List.{AllByRecursion, IsDistinct}
+use Rattle.std.specs.List.{AllByRecursion}
 use Rattle.std.specs.FinMap as finite
-use Rattle.clone_row.specs.Chains.{IsChain}
-use Rattle.clone_trx.proofs.Common.{Contents, HasPage, Donor, none-some, same_Some}
-use Rattle.clone_trx.specs.Sound.{HasChain, HoldsChains, OnChain, begins, goes_on}
+use Rattle.std.specs.List.{IsDistinct}
+use Rattle.clone_trx.proofs.Common.{◌≡◌, ◌<◌, ℕ, List, [], ◌∷◌, sym, ap, subst, ◌∙◌, Option, Some, None, IsChain, Contents, HasPage, Donor, none-some, same_Some, HasChain, HoldsChains, OnChain, begins, goes_on}
 
 -- a page without one behind it is a chain
 pub alone : (c : Contents) (table page : ℕ) → HasPage c table page → c.next table page ≡ None → HasChain c table page

@@ -1,10 +1,7 @@
 -- A change that was made at its target, and one that was taken away at once.
-use Rattle.std.proofs.Common.{◌≡◌, ◌≤◌, ◌-◌, ◌==◌, ℕ, Bool, true, false, List, [], ◌∷◌, ◌++◌, length, take, replicate, sym, ap, subst, ◌∙◌, arith, inl, inr, Option, Some, None, IfSome, IsTrue, MatchOption, if◌then◌else◌, nat_cmp, length-append}
-use Rattle.clone_trx.proofs.Common.{nat_cmp-IsAntisymmetric, same_map, nat_cmp_total, take-append_seam, cases_eq, length-replicate, big_bytes, length-bytes_high_first, get-set_same, get-set_other, Change, Commit, Record, UndoEntry, IsEntry, record_page, records_of_change, Image, page_of, after_records, all_pages-is, contents_of, kind_of, is_unused, Donor, Changes, with_change, Locks, Opened, value_of, IsKept, IsTargetFor, told, front_of, TakesLast, Pops}
+use Rattle.clone_trx.proofs.Common.{◌≡◌, ◌≤◌, ◌-◌, ◌==◌, ℕ, Bool, true, false, List, [], ◌∷◌, ◌++◌, length, take, replicate, sym, ap, subst, ◌∙◌, arith, inl, inr, Option, Some, None, IfSome, IsTrue, MatchOption, if◌then◌else◌, nat_cmp, length-append, nat_cmp-IsAntisymmetric, same_map, nat_cmp_total, take-append_seam, cases_eq, length-replicate, big_bytes, length-bytes_high_first, get-set_same, get-set_other, Change, Commit, Record, UndoEntry, IsEntry, record_page, records_of_change, Image, page_of, after_records, all_pages-is, contents_of, kind_of, is_unused, Donor, Changes, with_change, Locks, Opened, value_of, IsKept, IsTargetFor, told, front_of, TakesLast, Pops, Buffered, image_of, is_new}
 use Rattle.std.specs.FinMap as finite
 use Rattle.clone_row.specs.Slots as rows
-use Rattle.clone_buffer.specs.Buffered.{Buffered, image_of}
-use Rattle.clone_trx.specs.Calls.{is_new}
 use Rattle.clone_trx.proofs.CauseLemmas.{MayChange}
 use Rattle.clone_trx.proofs.SoundChangeLemmas.{Puts}
 use Rattle.clone_trx.proofs.KeptLemmas.{change_of, put_keeps}

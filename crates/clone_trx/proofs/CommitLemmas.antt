@@ -1,7 +1,6 @@
 -- A transaction commits, and the contents stay sound. At first, with no table and no transaction,
 -- they are.
-use Rattle.std.proofs.Common.{◌≡◌, ◌≢◌, ℕ, suc, List, [], ◌∷◌, refl, sym, ap, subst, ◌∙◌, inl, inr, Option, Some, None, slice_get, arith, length, is_some, nat_cmp}
-use Rattle.clone_trx.proofs.Common.{nat_cmp-IsAntisymmetric, get-empty, len-empty, nat_cmp_total, cases_eq, same_Some, none-some, length_push, row_cmp, Rows, after_change, after_changes, Change, Commit, unused, bound_key, UndoEntry, Contents, set_at, system_size, committed, opened, set_at-same, set_at-other, Donor, no_donor, Commits, Slots, TellsChanges, StandsFor, IsSound, committed_rows, changes_by, value_of, get-removed_same, after_changes_same, others-removed, committed_other, committed_value, committed_locked}
+use Rattle.clone_trx.proofs.Common.{◌≡◌, ◌≢◌, ℕ, suc, List, [], ◌∷◌, refl, sym, ap, subst, ◌∙◌, inl, inr, Option, Some, None, slice_get, arith, length, is_some, nat_cmp, nat_cmp-IsAntisymmetric, get-empty, len-empty, nat_cmp_total, cases_eq, same_Some, none-some, length_push, row_cmp, Rows, after_change, after_changes, Change, Commit, unused, bound_key, UndoEntry, Contents, set_at, system_size, committed, opened, set_at-same, set_at-other, Donor, no_donor, Commits, Slots, TellsChanges, StandsFor, IsSound, committed_rows, changes_by, value_of, get-removed_same, after_changes_same, others-removed, committed_other, committed_value, committed_locked}
 use Rattle.std.specs.FinMap as finite
 use Rattle.clone_trx.proofs.ChainLemmas.{same_chains}
 use Rattle.clone_trx.proofs.DictionaryLemmas.{names_none}

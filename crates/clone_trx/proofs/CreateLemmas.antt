@@ -1,22 +1,7 @@
 -- The mini-transaction that makes a table.
-use Rattle.std.proofs.Common.{◌≡◌, ◌≢◌, ◌<◌, ◌≤◌, ℕ, List, length, refl, sym, ap, subst, ◌∙◌, arith, Option, Some, None, Result, nat_cmp, option_map, option_and_then, slice_get, IsTrue, is_some, ◌==◌}
-use Rattle.std.proofs.lemmas.Bool.{eqb-false}
 use Rattle.std.specs.FinMap as finite
 use Rattle.clone_model.specs.History.{Drops}
-use Rattle.clone_image.proofs.Images.{page_of-elsewhere}
-use Rattle.clone_pool.specs.declared.frame.Content.{Content}
-use Rattle.clone_pool.specs.declared.frame.PageName.{PageName}
-use Rattle.clone_pool.specs.Frames.{frame_at}
-use Rattle.clone_buffer.specs.Buffered.{Buffered, IsBuffer, Shown, image_of}
-use Rattle.clone_buffer.specs.Writing.{Creates}
-use Rattle.clone_plain.specs.Causes.{create_cause}
-use Rattle.clone_plain.specs.declared.refusal.Cause.TheVariants.{TableExists, TooManyTables}
-use Rattle.clone_plain.specs.declared.refusal.EngineRefusal.{EngineRefusal}
-use Rattle.clone_space.specs.Records.{records_of_create}
-use Rattle.clone_trx.proofs.Common.{nat_cmp_total, exact_unsigned, removed_again, Image, page_of, Cause, Commit, Donor, Locks, Opened, created, donor_of, TABLE_LIMIT, whether, IsKept, IsHeld}
-use Rattle.clone_trx.specs.Calls.{create_way, number_of_free_entry, system_page}
-use Rattle.clone_trx.specs.Kept.{HasNoFresh}
-use Rattle.clone_trx.specs.Ways.{makes, Makes, Goes, Holds, Answers, Carries, let_go, page_in}
+use Rattle.clone_trx.proofs.Common.{◌≡◌, ◌≢◌, ◌<◌, ◌≤◌, ℕ, List, length, refl, sym, ap, subst, ◌∙◌, arith, Option, Some, None, Result, nat_cmp, option_map, option_and_then, slice_get, IsTrue, is_some, ◌==◌, eqb-false, page_of-elsewhere, Content, PageName, frame_at, Buffered, IsBuffer, Shown, image_of, Creates, create_cause, TableExists, TooManyTables, EngineRefusal, records_of_create, nat_cmp_total, exact_unsigned, removed_again, Image, page_of, Cause, Commit, Donor, Locks, Opened, created, donor_of, TABLE_LIMIT, whether, IsKept, IsHeld, create_way, number_of_free_entry, system_page, HasNoFresh, makes, Makes, Goes, Holds, Answers, Carries, let_go, page_in}
 use Rattle.clone_trx.proofs.CauseLemmas.{both_none, is_not, not_equal, passed}
 use Rattle.clone_trx.proofs.PlacedLemmas.{held_frame}
 use Rattle.clone_trx.proofs.SystemPageLemmas.{system_there}

@@ -1,19 +1,13 @@
 -- The dictionary as a list of entries: the first free one, and an entry that is written.
-use Rattle.std.proofs.Common.{◌≡◌, ◌≢◌, ◌<◌, ◌==◌, ℕ, List, length, set, replicate, sym, ap, subst, ◌∙◌, arith, inl, inr, Option, Some, None, IsSome, is_some, unwrap_or, Bool, false, find}
-use Rattle.std.proofs.lemmas.List.{get_or-replicate, get_or-set_other, get_or_past, length-replicate}
+use Rattle.std.proofs.lemmas.List.{length-replicate}
 use Rattle.std.proofs.lemmas.Grind.{get_or-set_at}
-use Rattle.std.proofs.lemmas.Bool.{cases_lt, eq-eqb, eqb-true, eqb-false}
-use Rattle.std.specs.List.{range_with_len}
+use Rattle.std.proofs.lemmas.Bool.{cases_lt}
 use Rattle.std.specs.FinMap as finite
-use Rattle.clone_space.specs.declared.entry.TableEntry.{TableEntry}
-use Rattle.clone_space.specs.Entries.{dictionary, entry_in, free, Finds, FindsFree}
-use Rattle.clone_space.proofs.EntryLemmas.{length-dictionary}
+use Rattle.clone_space.specs.Entries.{Finds, FindsFree}
 use Rattle.clone_space.proofs.RoomLemmas.{room}
-use Rattle.clone_trx.proofs.Common.{all_pages-is, Image, page_of, all_pages, contents_of, TABLE_LIMIT, Donor, IsKept}
+use Rattle.clone_trx.proofs.Common.{◌≡◌, ◌≢◌, ◌<◌, ◌==◌, ℕ, List, length, set, replicate, sym, ap, subst, ◌∙◌, arith, inl, inr, Option, Some, None, IsSome, is_some, unwrap_or, get_or-replicate, get_or-set_other, get_or_past, eq-eqb, TableEntry, dictionary, entry_in, free, length-dictionary, all_pages-is, Image, page_of, all_pages, contents_of, TABLE_LIMIT, Donor, IsKept, number_of_entry, pages_told, TellsPages}
 use Rattle.clone_trx.proofs.CauseLemmas.{not_equal}
-use Rattle.clone_trx.proofs.FindFirstLemmas.{IsFirst, find_first, finds_first, finds_none}
-use Rattle.clone_trx.specs.Calls.{number_of_entry}
-use Rattle.clone_trx.specs.Kept.{TellsPages}
+use Rattle.clone_trx.proofs.FindFirstLemmas.{finds_first, finds_none}
 use Rattle.clone_trx.specs.RowSlots.{named_entry}
 
 -- an entry that is written, and all others
@@ -39,23 +33,16 @@ named_is table list None none = finds_none (λ j. (entry_in list j).table == tab
 named_is table list (Some j) found =
     finds_first (λ k. (entry_in list k).table == table) 0 62 j (omega arith) found.0 (eq-eqb (entry_in list j).table table found.1) (λ k low. not_equal (entry_in list k).table table (found.2 k low))
 
-pub named_finds : (table : ℕ) (list : List TableEntry) → Finds table list (named_entry table list)
-unfolding named_entry
-named_finds table list = by (find names (range_with_len 0 62)) (find_first names 0 62)
-  where
-    names : ℕ → Bool
-    names k = (entry_in list k).table == table
-
-    other : (k : ℕ) → names k ≡ false → (entry_in list k).table ≢ table
-    other k none = eqb-false (entry_in list k).table table none
-
-    by : (found : Option ℕ) → IsFirst names 0 62 found → Finds table list found
-    by None none = λ k low. other k (none k (omega arith) (omega (arith, low)))
-    by (Some j) first = (omega (arith, first.1), eqb-true (entry_in list j).table table first.2, λ k less. other k (first.3 k (omega arith) less))
-
 -- the number of it
 pub entry_is : (table : ℕ) (page : List ℕ) (found : Option ℕ) → Finds table (dictionary page) found → unwrap_or found 0 ≡ number_of_entry table page
 entry_is table page found finds = ap (λ o. unwrap_or o 0) (sym (named_is table (dictionary page) found finds))
+
+-- what was found on a page with these bytes, and what the entry tells
+pub entry_told : (table entry_number : ℕ) (bytes page : List ℕ) (found : Option ℕ) (entry : TableEntry) → page ≡ bytes → Finds table (dictionary page) found → entry_number ≡ unwrap_or found 0 → entry ≡ entry_in (dictionary page) entry_number
+    → (number_of_entry table bytes ≡ entry_number) × (pages_told bytes (number_of_entry table bytes) ≡ entry.pages)
+entry_told table entry_number bytes page found entry same finds is told =
+    let here : number_of_entry table bytes ≡ entry_number = ap (number_of_entry table) (sym same) ∙ sym (is ∙ entry_is table page found finds) in
+    (here, (λ i. pages_told (sym same i) (here i)) ∙ ap (λ (e : TableEntry). e.pages) (sym told))
 
 pub entry_low : (table : ℕ) (list : List TableEntry) (found : Option ℕ) → Finds table list found → unwrap_or found 0 < 62
 entry_low table list None none = omega arith

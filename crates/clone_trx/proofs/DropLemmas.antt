@@ -1,21 +1,9 @@
 -- The drop of a table: what its mini-transaction asks for, and the way of the call.
-use Rattle.std.proofs.Common.{◌≡◌, ◌≢◌, ◌≤◌, ◌⊎◌, inl, inr, min, not, ℕ, List, [], ◌∷◌, ◌++◌, length, refl, sym, ap, subst, ◌∙◌, arith, Option, Some, None, option_map, is_some, unwrap_or, IsTrue, Result}
 use Rattle.std.proofs.Math.Nat.{min-eq_left}
 use Rattle.std.proofs.lemmas.Bool.{cases_eq}
 use Rattle.std.specs.FinMap as finite
-use Rattle.clone_model.specs.declared.line.TheConstants.{MOST_PAGES}
-use Rattle.clone_space.specs.Entries.{dictionary, entry_in, Finds}
-use Rattle.clone_space.specs.Records.{records_of_drop, free_record}
-use Rattle.clone_pool.specs.declared.frame.PageName.{PageName}
-use Rattle.clone_pool.specs.Frames.{frame_at, name_of}
-use Rattle.clone_buffer.specs.Buffered.{Buffered, image_of}
-use Rattle.clone_buffer.specs.Dropping.{AreUnpinned, DropsSpace}
-use Rattle.clone_buffer.proofs.ImageLemmas.{still_there}
-use Rattle.clone_plain.specs.Causes.{drop_cause, least_holder}
-use Rattle.clone_plain.specs.Effects.{dropped}
-use Rattle.clone_plain.specs.declared.refusal.Cause.TheVariants.{TableInUse}
-use Rattle.clone_plain.specs.declared.refusal.EngineRefusal.{EngineRefusal}
-use Rattle.clone_trx.proofs.Common.{get-removed_same, nat_cmp_total, nat_cmp-IsAntisymmetric, NoSuchTable, no_table, option_or, same_Some, whether, contents_of, Record, Donor, AreLoose, Has, IsHeld, IsKept, IsSafe}
+use Rattle.clone_space.specs.Entries.{Finds}
+use Rattle.clone_trx.proofs.Common.{◌≡◌, ◌≢◌, ◌≤◌, ◌⊎◌, inl, inr, min, ℕ, List, [], ◌∷◌, ◌++◌, length, refl, sym, ap, subst, ◌∙◌, arith, Option, Some, None, option_map, is_some, unwrap_or, IsTrue, Result, MOST_PAGES, dictionary, entry_in, records_of_drop, free_record, PageName, frame_at, name_of, Buffered, image_of, AreUnpinned, DropsSpace, still_there, drop_cause, least_holder, dropped, TableInUse, EngineRefusal, get-removed_same, nat_cmp_total, nat_cmp-IsAntisymmetric, no_table, same_Some, contents_of, Record, Donor, AreLoose, Has, IsHeld, IsKept, IsSafe, drop_at, drop_way, number_of_entry, pages_told, system_page, TellsPages, Way, Goes, Holds, let_go, page_in}
 use Rattle.clone_trx.proofs.CauseLemmas.{both_none, held_there, is_not}
 use Rattle.clone_trx.proofs.CreateLemmas.{no_space}
 use Rattle.clone_trx.proofs.DictionaryLemmas.{entry_is}
@@ -23,19 +11,8 @@ use Rattle.clone_trx.proofs.HeldPageLemmas.{held_pins, pin_apart}
 use Rattle.clone_trx.proofs.PlacedLemmas.{held_frame}
 use Rattle.clone_trx.proofs.SystemPageLemmas.{system_there}
 use Rattle.clone_trx.proofs.WayLemmas.{goes_on}
-use Rattle.clone_trx.specs.Calls.{drop_at, drop_way, number_of_entry, pages_told, system_page}
-use Rattle.clone_trx.specs.Kept.{TellsPages}
-use Rattle.clone_trx.specs.Ways.{Way, Goes, Holds, let_go, page_in}
 
--- The cause against it.
-
-pub no_table_cause : (d : Donor) (table : ℕ) → finite.get d.tables table ≡ None → drop_cause d table ≡ Some NoSuchTable
-no_table_cause d table none = ap (λ (o : Option ℕ). option_or (whether (not (is_some o)) NoSuchTable) (option_map TableInUse (least_holder d.locks table))) none
-
-pub holder_cause : (d : Donor) (table count : ℕ) (holder : Option ℕ) → finite.get d.tables table ≡ Some count → least_holder d.locks table ≡ holder → drop_cause d table ≡ option_map TableInUse holder
-holder_cause d table count holder there is = λ i. option_or (whether (not (is_some (there i))) NoSuchTable) (option_map TableInUse (is i))
-
--- where there is none, the table is there
+-- where there is no cause against it, the table is there
 pub is_there : (d : Donor) (table : ℕ) → drop_cause d table ≡ None → (count : ℕ) × (finite.get d.tables table ≡ Some count)
 is_there d table none =
     held_there (finite.get d.tables table) (is_not _ _ (both_none (no_table d table) (option_map TableInUse (least_holder d.locks table)) none).0)

@@ -1,15 +1,8 @@
 -- A donor drops a table against which there is no cause, and the image keeps what it is then.
-use Rattle.std.proofs.Common.{◌≡◌, ◌≢◌, ℕ, refl, sym, ap, subst, ◌∙◌, None}
 use Rattle.std.specs.FinMap as finite
 use Rattle.clone_model.proofs.DropLemmas.{fold-dropped, without_other}
-use Rattle.clone_space.specs.Records.{records_of_drop}
 use Rattle.clone_contents.proofs.DropLemmas.{dropped_is}
-use Rattle.clone_contents.specs.Contents.{named}
-use Rattle.clone_contents.specs.Spaces.{MayDrop}
-use Rattle.clone_plain.proofs.DropLemmas.{dropped_locked, dropped_free, dropped_value, dropped_value_other}
-use Rattle.clone_plain.specs.Causes.{drop_cause}
-use Rattle.clone_plain.specs.Effects.{dropped}
-use Rattle.clone_trx.proofs.Common.{Rows, Image, after_records, contents_of, Donor, IsLocked, IsSound, IsKept, committed_rows}
+use Rattle.clone_trx.proofs.Common.{◌≡◌, ◌≢◌, ℕ, refl, sym, ap, subst, ◌∙◌, None, records_of_drop, named, MayDrop, dropped_locked, dropped_free, dropped_value, dropped_value_other, drop_cause, dropped, Rows, Image, after_records, contents_of, Donor, IsLocked, IsSound, IsKept, committed_rows}
 use Rattle.clone_trx.proofs.DroppedLemmas.{IsDropped, dropped_sound}
 
 pub is_dropped : (d : Donor) (table : ℕ) → IsLocked d → drop_cause d table ≡ None → IsDropped d table (dropped table d)

@@ -1,13 +1,8 @@
 -- A table of which no row is locked is dropped, and the contents stay sound.
-use Rattle.std.proofs.Common.{◌≡◌, ◌≢◌, ◌<◌, ◌≤◌, ◌-◌, ◌%◌, ℕ, suc, List, [], ◌∷◌, length, refl, sym, ap, subst, ◌∙◌, inl, inr, Option, Some, None, arith, is_some, slice_get}
-use Rattle.std.proofs.lemmas.Bool.{cases_lt, cond_both}
-use Rattle.std.proofs.lemmas.List.{get_or_past}
+use Rattle.std.proofs.lemmas.Bool.{cases_lt}
 use Rattle.std.specs.FinMap as finite
-use Rattle.std.specs.FinMap.{len-remove}
-use Rattle.clone_space.specs.Entries.{free}
-use Rattle.clone_contents.specs.Contents.{named}
-use Rattle.clone_contents.specs.Spaces.{MayDrop, dropped}
-use Rattle.clone_trx.proofs.Common.{nat_cmp-IsAntisymmetric, nat_cmp_total, get-removed_same, get-removed_other, cases_eq, none-some, Rows, after_change, after_changes_same, Change, Commit, row_slot, bound_key, unused, UndoEntry, Contents, set_at-same, set_at-other, Donor, HoldsTables, HoldsChains, HoldsRows, OnChain, StandsFor, IsSound, TellsChanges, Slots, IsBound, IsLocked, committed_rows, value_of}
+use Rattle.clone_contents.specs.Spaces.{dropped}
+use Rattle.clone_trx.proofs.Common.{◌≡◌, ◌≢◌, ◌<◌, ◌≤◌, ◌-◌, ◌%◌, ℕ, suc, List, [], ◌∷◌, length, refl, sym, ap, subst, ◌∙◌, inl, inr, Option, Some, None, arith, is_some, slice_get, cond_both, get_or_past, len-remove, free, named, MayDrop, nat_cmp-IsAntisymmetric, nat_cmp_total, get-removed_same, get-removed_other, cases_eq, none-some, Rows, after_change, after_changes_same, Change, Commit, row_slot, bound_key, unused, UndoEntry, Contents, set_at-same, set_at-other, Donor, HoldsTables, HoldsChains, HoldsRows, OnChain, StandsFor, IsSound, TellsChanges, Slots, IsBound, IsLocked, committed_rows, value_of}
 use Rattle.clone_trx.proofs.ChainLemmas.{same_chain}
 use Rattle.clone_trx.proofs.DictionaryLemmas.{entry-written, entry-other}
 

@@ -1,32 +1,13 @@
 -- The target of a change, as it was found on a page of the row's chain, and the way behind it.
-use Rattle.std.proofs.Common.{◌≡◌, ◌<◌, ◌^◌, ◌==◌, ℕ, List, [], length, sym, ap, subst, ◌∙◌, arith, Option, Some, None, IsSome, is_some, IsTrue, Result, unwrap_or}
-use Rattle.clone_model.specs.declared.line.TheConstants.{MOST_PAGES}
-use Rattle.clone_page.specs.Slots.{row_slot_count}
-use Rattle.clone_pool.specs.declared.frame.Content.{Content}
-use Rattle.clone_pool.specs.declared.frame.Content.TheVariants.{Unused, Fresh, Held, Loading}
-use Rattle.clone_pool.specs.declared.frame.PageName.{PageName}
-use Rattle.clone_pool.specs.Frames.{frame_at, name_in}
-use Rattle.clone_buffer.specs.Buffered.{Buffered, IsBuffer, Shown, image_of}
-use Rattle.clone_plain.specs.declared.refusal.EngineRefusal.{EngineRefusal}
-use Rattle.clone_trx.proofs.Common.{same_Some, kind_of, Change, UndoEntry, IsEntry, IsBefore, Image, page_of, all_pages, all_pages-is, Donor, changes_of, contents_of, told, state_of_row, held_value, AreTables, IsSafe, IsKept, IsRowSlot, IsTargetFor, Has}
+use Rattle.clone_trx.proofs.Common.{◌≡◌, ◌<◌, ◌^◌, ◌==◌, ℕ, List, [], length, sym, ap, subst, ◌∙◌, arith, Option, Some, IsSome, IsTrue, unwrap_or, MOST_PAGES, row_slot_count, PageName, Buffered, IsBuffer, image_of, kind_of, Change, UndoEntry, IsEntry, IsBefore, Image, page_of, all_pages, all_pages-is, Donor, changes_of, contents_of, told, state_of_row, held_value, AreTables, IsSafe, IsKept, IsRowSlot, IsTargetFor, Has, change_at, is_new, row_page, told_way, page_in}
 use Rattle.clone_trx.proofs.CauseLemmas.{MayChange, may_change}
 use Rattle.clone_trx.specs.Kept as kept
 use Rattle.clone_trx.proofs.KeySlotLemmas.{held_is}
-use Rattle.clone_trx.specs.Calls.{change_at, is_new, row_page, told_way}
-use Rattle.clone_trx.specs.Ways.{Way, Goes, page_in}
+use Rattle.clone_trx.proofs.SystemPageLemmas.{page_shown}
 
 -- a page that is held is the one of the image, if it is there
 pub held_page : (b : Buffered) (page : PageName) (at : ℕ) → IsBuffer b → Has page at b.pool.frames → IsTrue b.right → IsSome (page_of (image_of b) page.space page.number) → page_of (image_of b) page.space page.number ≡ Some (page_in at b)
-held_page b page at is has right there = by (frame_at b.pool.frames at).content has.holder.name (is.shows right at)
-  where
-    by : (content : Content) → name_in content ≡ Some page → Shown (image_of b) content (page_in at b) → page_of (image_of b) page.space page.number ≡ Some (page_in at b)
-    by Unused named shown = let none : None ≡ Some page = named in absurd (cc)
-    by (Loading name) named shown = let none : None ≡ Some page = named in absurd (cc)
-    by (Fresh name) named shown =
-        let same : name ≡ page = same_Some name page named in
-        let gone : page_of (image_of b) page.space page.number ≡ None = ap (λ (n : PageName). page_of (image_of b) n.space n.number) (sym same) ∙ shown.0 in
-        absurd (let e = sym (ap is_some gone) ∙ there in cc)
-    by (Held name) named shown = ap (λ (n : PageName). page_of (image_of b) n.space n.number) (sym (same_Some name page named)) ∙ shown
+held_page b page at is has right there = page_shown (image_of b) b.pool.frames page at (is.shows right) has there
 
 -- a change against which there is no cause, and the slot that was found for it
 pub record IsFound (d : Donor) (trx : ℕ) (change : Change) (row : List ℕ) (page at kind count : ℕ) (entry : UndoEntry) : Type 0 where
@@ -91,8 +72,8 @@ module _ (d : Donor) (trx : ℕ) (change : Change) (row : List ℕ) (page at kin
       same image there = (λ i. all_pages image (in_table i) (on_page i)) ∙ all_pages-is image change.table page row there
 
   -- the way behind the row's page, by what was found
-  pub behind_row : {X : Type 0} (old new : Buffered) (result : Result X EngineRefusal) (slot : Option ℕ) → Goes (told_way trx change count (kind == 0) entry) old new result → slot ≡ Some at → Goes (change_at d trx change page slot row) old new result
-  behind_row old new result slot goes found =
+  pub way_is : (slot : Option ℕ) → slot ≡ Some at → told_way trx change count (kind == 0) entry ≡ change_at d trx change page slot row
+  way_is slot found =
       let new_is : (kind == 0) ≡ is_new row = ap (λ (n : ℕ). n == 0) f.kind_is in
       let way : told_way trx change count (kind == 0) entry ≡ change_at d trx change page (Some at) row = λ i. told_way trx change (f.counted i) (new_is i) (f.entry_is i) in
-      subst (λ (w : Way). Goes w old new result) (way ∙ ap (λ (o : Option ℕ). change_at d trx change page o row) (sym found)) goes
+      way ∙ ap (λ (o : Option ℕ). change_at d trx change page o row) (sym found)

@@ -1,19 +1,12 @@
 -- The pins of frames: what a fetch and a record leave, and what a pin more or less is.
-use Rattle.std.proofs.Common.{◌≡◌, ◌≢◌, ◌<◌, ◌≤◌, ◌+◌, ◌-◌, ◌&&◌, ◌==◌, ◌⊎◌, inl, inr, ℕ, List, [], ◌∷◌, length, set, refl, sym, ap, subst, ◌∙◌, arith, Option, Some, None, Ok, Err, Result, MatchOption}
-use Rattle.std.proofs.lemmas.Bool.{cases_eq, cases_lt, eqb-true, and_parts, cond_both}
-use Rattle.std.proofs.lemmas.List.{get_or-set_same, get_or-set_other, get_or_past, length-set, set_past}
+use Rattle.std.proofs.lemmas.Bool.{cases_eq, cases_lt, eqb-true}
 use Rattle.clone_mtr.specs.declared.record.Record.{Record}
-use Rattle.clone_pool.specs.declared.frame.Frame.{Frame}
-use Rattle.clone_pool.specs.declared.frame.PageName.{PageName}
-use Rattle.clone_pool.specs.declared.pool.FetchRefusal.{FetchRefusal}
 use Rattle.clone_pool.specs.declared.pool.FetchRefusal.TheVariants as fetch
-use Rattle.clone_pool.specs.declared.frame.Content.TheVariants.{Unused}
-use Rattle.clone_pool.specs.Frames.{no_frame, frame_at, is_fresh, holder, claim_of, changed, discarded, filled, emptied, touched, unpinned, next_use}
-use Rattle.clone_pool.specs.Pool.{Frames, Fetches, Misses, used}
-use Rattle.clone_buffer.proofs.FrameLemmas.{holder_name}
+use Rattle.clone_pool.specs.Frames.{changed}
+use Rattle.clone_pool.specs.Pool.{Misses}
 use Rattle.clone_buffer.proofs.GivenLemmas.{freed_at}
-use Rattle.clone_buffer.specs.Dropping.{freed, given_up, is_page_below}
-use Rattle.clone_buffer.specs.Writing.{after_records, changed_at, named_frame}
+use Rattle.clone_buffer.specs.Writing.{after_records}
+use Rattle.clone_trx.proofs.Common.{◌≡◌, ◌≢◌, ◌<◌, ◌≤◌, ◌+◌, ◌-◌, ◌&&◌, ◌==◌, ◌⊎◌, inl, inr, ℕ, List, [], ◌∷◌, length, set, refl, sym, ap, subst, ◌∙◌, arith, Option, Some, None, Ok, Err, Result, MatchOption, and_parts, cond_both, get_or-set_same, get_or-set_other, get_or_past, length-set, set_past, Frame, PageName, FetchRefusal, Unused, no_frame, frame_at, is_fresh, holder, claim_of, discarded, filled, emptied, touched, unpinned, next_use, Frames, Fetches, used, holder_name, freed, given_up, is_page_below, changed_at, named_frame}
 
 abbrev pub pins : List Frame → ℕ → ℕ
 pins frames at = (frame_at frames at).pins

@@ -1,31 +1,16 @@
 -- The mini-transaction that makes the space of a table longer keeps what the donor is, and may be
 -- written where its pages are held.
-use Rattle.std.proofs.Common.{◌≡◌, ◌<◌, ◌≤◌, ◌+◌, ◌%◌, ◌==◌, ℕ, true, false, List, [], ◌∷◌, refl, sym, ap, subst, ◌∙◌, arith, Some, is_some, mod-lt}
-use Rattle.std.proofs.lemmas.Bool.{cond-true}
-use Rattle.clone_model.specs.declared.line.TheConstants.{MOST_PAGES}
 use Rattle.clone_page.proofs.Parts.{kind_of-initialised}
-use Rattle.clone_page.specs.declared.kind.PageKind.TheVariants.{Overflow}
-use Rattle.clone_mtr.specs.declared.record.Record.TheVariants.{Init, Extend}
 use Rattle.clone_mtr.specs.Effects.{effect}
-use Rattle.clone_space.specs.Records.{size_record, link_record, records_of_growth}
 use Rattle.clone_undo.proofs.Edits.{edit-same, edit-other}
-use Rattle.clone_undo.specs.Changes.{after}
 use Rattle.clone_contents.proofs.ExtendLemmas.{page_comes, page_stays}
 use Rattle.clone_contents.proofs.GrowthLemmas.{grown_is}
 use Rattle.clone_contents.proofs.ImagePages.{there, page_before}
-use Rattle.clone_contents.specs.Spaces.{MayGrow, grown}
-use Rattle.clone_pool.proofs.NameLemmas.{is_own_name}
-use Rattle.clone_pool.specs.declared.frame.PageName.{PageName}
-use Rattle.clone_pool.specs.Index.{is_name_of}
-use Rattle.clone_buffer.specs.Buffered.{Buffered, image_of}
-use Rattle.clone_buffer.specs.Writing.{Lengthens, any_names}
-use Rattle.clone_trx.proofs.Common.{page_there, IsHeld, all_pages-is, kind_of, is_unused, Record, Image, page_of, all_pages, after_records, Contents, contents_of, HasContents, set_at-same, Donor, IsRowSlot, IsSound, IsKept}
+use Rattle.clone_trx.proofs.Common.{◌≡◌, ◌<◌, ◌≤◌, ◌+◌, ◌%◌, ◌==◌, ℕ, true, false, List, [], ◌∷◌, refl, sym, ap, subst, ◌∙◌, arith, Some, is_some, mod-lt, cond-true, MOST_PAGES, Overflow, Init, Extend, size_record, link_record, records_of_growth, after, MayGrow, grown, is_own_name, PageName, is_name_of, Buffered, image_of, Lengthens, any_names, page_there, IsHeld, all_pages-is, kind_of, is_unused, Record, Image, page_of, all_pages, after_records, Contents, contents_of, HasContents, set_at-same, Donor, IsRowSlot, IsSound, IsKept, system_page, IsFullAt, TellsPages}
 use Rattle.clone_trx.proofs.ChainLemmas.{on_there}
 use Rattle.clone_trx.proofs.GrowthLemmas.{IsLastOf, new_apart, grown_sound, new_slot}
 use Rattle.clone_trx.proofs.PlacedLemmas.{held_frame}
 use Rattle.clone_trx.proofs.SystemPageLemmas.{system_there}
-use Rattle.clone_trx.specs.Calls.{system_page}
-use Rattle.clone_trx.specs.Kept.{IsFullAt, TellsPages}
 
 module _ (d : Donor) (image : Image) (entry_number table pages last key lsn : ℕ) (kept : IsKept d image) (tells : TellsPages (contents_of image) table entry_number pages) (room : pages < MOST_PAGES) (full : IsFullAt d image table last key) where
   abbrev c : Contents

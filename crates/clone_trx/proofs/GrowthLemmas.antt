@@ -1,20 +1,13 @@
 -- The space of a table gets one page more, behind the last page of a chain, and the contents stay
 -- sound.
-use Rattle.std.proofs.Common.{◌≡◌, ◌≢◌, ◌<◌, ◌+◌, ◌%◌, ◌==◌, ◌++◌, ◌⊎◌, ℕ, false, List, [], ◌∷◌, length, refl, sym, ap, subst, ◌∙◌, inl, inr, Option, Some, None, arith, is_some, mod-lt}
 use Rattle.std.proofs.lemmas.Bool.{cases_lt}
-use Rattle.std.proofs.lemmas.List.{get_or_past}
-use Rattle.std.specs.List.{AllByRecursion, IsDistinct}
+use Rattle.std.specs.List.{AllByRecursion}
 use Rattle.std.specs.FinMap as finite
-use Rattle.clone_space.specs.declared.entry.TableEntry.{TableEntry}
-use Rattle.clone_space.specs.Entries.{entry_in, free}
-use Rattle.clone_row.specs.Chains.{IsChain}
-use Rattle.clone_contents.specs.Contents.{named}
-use Rattle.clone_contents.specs.Spaces.{MayGrow, grown}
-use Rattle.clone_trx.proofs.Common.{cases_eq, same_Some, none-some, bound_key, unused, Contents, HasPage, set_at, set_at-same, set_at-other, Donor, HoldsTables, HoldsChains, HoldsRows, HasChain, OnChain, IsNowhere, IsRowSlot, IsSound}
+use Rattle.std.specs.List.{IsDistinct}
+use Rattle.clone_trx.proofs.Common.{◌≡◌, ◌≢◌, ◌<◌, ◌+◌, ◌%◌, ◌==◌, ◌++◌, ◌⊎◌, ℕ, false, List, [], ◌∷◌, length, refl, sym, ap, subst, ◌∙◌, inl, inr, Option, Some, None, arith, is_some, mod-lt, get_or_past, TableEntry, entry_in, free, IsChain, named, MayGrow, grown, cases_eq, same_Some, none-some, bound_key, unused, Contents, HasPage, set_at, set_at-same, set_at-other, Donor, HoldsTables, HoldsChains, HoldsRows, HasChain, OnChain, IsNowhere, IsRowSlot, IsSound, HasSize, begins, goes_on}
 use Rattle.clone_trx.proofs.CauseLemmas.{not_equal}
 use Rattle.clone_trx.proofs.ChainLemmas.{same_chain, on_there}
 use Rattle.clone_trx.proofs.DictionaryLemmas.{entry-written, entry-other}
-use Rattle.clone_trx.specs.Sound.{HasSize, begins, goes_on}
 
 -- what holds of each of some pages, and of one more, holds of all of them
 all_push : (P : ℕ → Type 0) (pages : List ℕ) (page : ℕ) → AllByRecursion P pages → P page → AllByRecursion P (pages ++ page ∷ [])

@@ -1,24 +1,12 @@
 -- A change goes on behind the mini-transaction that makes its space longer.
-use Rattle.std.proofs.Common.{◌≡◌, ◌<◌, ◌+◌, ◌^◌, ℕ, false, List, length, sym, ap, subst, ◌∙◌, arith, inr, None, IsTrue, Result, nat_le}
-use Rattle.std.proofs.lemmas.Bool.{cond-false, lt-leb}
-use Rattle.clone_model.specs.declared.line.TheConstants.{MOST_PAGES}
-use Rattle.clone_space.specs.Records.{records_of_growth}
-use Rattle.clone_image.specs.Replay.{end_of}
+use Rattle.std.proofs.lemmas.Bool.{cases_lt}
 use Rattle.clone_law.specs.Since.{ends}
-use Rattle.clone_ring.specs.Window as ring
-use Rattle.clone_buffer.specs.Buffered.{Buffered, image_of}
-use Rattle.clone_buffer.specs.Writing.{written}
-use Rattle.clone_plain.specs.declared.refusal.EngineRefusal.{EngineRefusal}
-use Rattle.clone_trx.proofs.Common.{SpaceFull, Change, Record, UndoEntry, Image, after_records, contents_of, is_unused, spelling, Donor, changes_of, told, IsSafe, IsKept, IsRowSlot, IsTargetFor}
+use Rattle.clone_trx.proofs.Common.{◌≡◌, ◌<◌, ◌≤◌, ◌^◌, ◌⊎◌, ◌↔◌, ℕ, Bool, true, false, List, length, sym, ap, subst, ◌∙◌, arith, inl, inr, None, IsTrue, nat_le, cond-true, cond-false, false≢true, le-leb, lt-leb, MOST_PAGES, records_of_growth, end_of, Buffered, image_of, written, SpaceFull, Change, Record, UndoEntry, Image, after_records, contents_of, is_unused, Donor, changes_of, told, IsSafe, IsKept, IsRowSlot, IsTargetFor, grown_way, slot_way, told_way, IsFullAt, TellsPages, Way, stops, lengthens}
 use Rattle.clone_trx.proofs.CauseLemmas.{may_change}
-use Rattle.clone_trx.proofs.FramePinLemmas.{SamePins, pins, records_pins}
 use Rattle.clone_trx.proofs.GrowthKeptLemmas.{growth_keeps, growth_slot, growth_used}
 use Rattle.clone_trx.proofs.KeySlotLemmas.{no_value}
 use Rattle.clone_trx.proofs.WriteLemmas.{written_image, written_kept}
-use Rattle.clone_trx.specs.Calls.{grown_way, slot_way, told_way}
 use Rattle.clone_trx.specs.Kept as kept
-use Rattle.clone_trx.specs.Kept.{IsFullAt, TellsPages}
-use Rattle.clone_trx.specs.Ways.{Way, Goes, HasRoom, stops, lengthens}
 
 module _ (d : Donor) (trx : ℕ) (change : Change) (old mid : Buffered) (entry_number pages last : ℕ) (held : IsTrue old.right → IsKept d (image_of old)) (tells : IsTrue old.right → TellsPages (contents_of (image_of old)) change.table entry_number pages)
     (full : IsTrue old.right → IsFullAt d (image_of old) change.table last change.key) (room : pages < MOST_PAGES) (is : mid ≡ written (records_of_growth entry_number change.table pages last) old) where
@@ -36,9 +24,6 @@ module _ (d : Donor) (trx : ℕ) (change : Change) (old mid : Buffered) (entry_n
 
   pub grown_kept : IsTrue mid.right → IsKept d (image_of mid)
   grown_kept = written_kept d old mid records is (λ right lsn. growth_keeps d (image_of old) entry_number change.table pages last change.key lsn (held right) (tells right) room (full right))
-
-  pub grown_pins : (at : ℕ) → pins mid.pool.frames at ≡ pins old.pool.frames at
-  grown_pins = (subst (λ (b : Buffered). SamePins old.pool.frames b.pool.frames) (sym is) (records_pins records (ring.end_of old.ring) (ring.end_of old.ring + length (spelling records)) old.pool)).at
 
   -- the row goes to the first slot of the new page
   module _ (entry : UndoEntry) (count : ℕ) (entry_is : entry ≡ told change.table pages change.key 0 None) (counted : count ≡ length (changes_of d trx)) where
@@ -66,7 +51,24 @@ module _ (d : Donor) (trx : ℕ) (change : Change) (old mid : Buffered) (entry_n
               ∙ (λ i. is_unused (sym image_is i) (sym table i) (sym page i));
         }
 
-    pub grown_goes : {X : Type 0} (final : Buffered) (result : Result X EngineRefusal) → HasRoom records old → Goes (told_way trx change count false entry) mid final result → Goes (grown_way d trx change last entry_number pages) old final result
-    grown_goes final result has goes =
-        subst (λ (w : Way). Goes w old final result) (sym (cond-false (nat_le MOST_PAGES pages) (stops SpaceFull) (lengthens records (slot_way d trx change pages 0 false None)) (lt-leb MOST_PAGES pages room)))
-        (inr (has, subst (λ (p : Way × Buffered). Goes p.0 p.1 final result) (λ i. (told_way trx change (counted i) false (entry_is i), is i)) goes))
+    -- what is left of the way
+    pub grown_is : slot_way d trx change pages 0 false None ≡ told_way trx change count false entry
+    grown_is = λ i. told_way trx change (sym counted i) false (sym entry_is i)
+
+-- a space that has all its pages gets none more, and one that hasn't does
+module _ (d : Donor) (trx : ℕ) (change : Change) (last entry_number pages : ℕ) (full : Bool) (is_full : IsTrue full ↔ (MOST_PAGES ≤ pages)) where
+  abbrev longer : Way
+  longer = lengthens (records_of_growth entry_number change.table pages last) (slot_way d trx change pages 0 false None)
+
+  pub full_is : full ≡ true → grown_way d trx change last entry_number pages ≡ stops SpaceFull
+  full_is is = cond-true (nat_le MOST_PAGES pages) (stops SpaceFull) longer (le-leb MOST_PAGES pages (is_full.0 is))
+
+  pub has_room : full ≡ false → pages < MOST_PAGES
+  has_room not = by (cases_lt pages MOST_PAGES)
+    where
+      by : (pages < MOST_PAGES) ⊎ (MOST_PAGES ≤ pages) → pages < MOST_PAGES
+      by (inl low) = low
+      by (inr high) = absurd (false≢true (sym not ∙ is_full.1 high))
+
+  pub room_is : full ≡ false → grown_way d trx change last entry_number pages ≡ longer
+  room_is not = cond-false (nat_le MOST_PAGES pages) (stops SpaceFull) longer (lt-leb MOST_PAGES pages (has_room not))

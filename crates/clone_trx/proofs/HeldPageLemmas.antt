@@ -1,25 +1,9 @@
 -- What is known of a page that is held, and what becomes of the pins.
-use Rattle.std.proofs.Common.{◌≡◌, ◌≢◌, ◌<◌, ◌+◌, ◌-◌, ◌&&◌, ◌==◌, ◌⊎◌, inl, inr, ℕ, true, List, length, set, refl, sym, ap, subst, ◌∙◌, arith, Option, Some, None, IsTrue, MatchOption, Result, Ok, not, if◌then◌else◌}
-use Rattle.std.proofs.lemmas.Bool.{cases_eq, and_parts, cond_both, cond-true, cond-false, eq-eqb, eqb-true}
-use Rattle.std.proofs.lemmas.List.{get_or-set_same, get_or-set_other}
-use Rattle.clone_pool.specs.declared.frame.Frame.{Frame}
-use Rattle.clone_pool.specs.declared.frame.Content.TheVariants.{Unused}
-use Rattle.clone_pool.specs.declared.frame.PageName.{PageName}
-use Rattle.clone_pool.specs.declared.pool.FetchRefusal.{FetchRefusal}
-use Rattle.clone_pool.specs.Frames.{no_frame, frame_at, holder, is_dirty, is_fresh, is_free, name_of, next_use, freshened, pinned, touched, unpinned}
-use Rattle.clone_pool.specs.Pool.{Frames, IsPool, TakesFrame, used, with_frame}
-use Rattle.clone_pool.proofs.PoolLemmas.{holder_is}
-use Rattle.clone_buffer.proofs.FrameLemmas.{holder_name}
-use Rattle.clone_buffer.specs.Buffered.{Buffered, image_of}
-use Rattle.clone_trx.proofs.Common.{page_of}
+use Rattle.std.proofs.lemmas.Bool.{cases_eq, eqb-true}
+use Rattle.clone_trx.proofs.Common.{◌≡◌, ◌≢◌, ◌<◌, ◌+◌, ◌-◌, ◌&&◌, ◌==◌, ◌⊎◌, inl, inr, ℕ, true, List, length, set, refl, sym, ap, subst, ◌∙◌, arith, Option, Some, None, IsTrue, MatchOption, Result, Ok, not, and_parts, cond_both, cond-true, cond-false, eq-eqb, get_or-set_same, get_or-set_other, Frame, Unused, PageName, FetchRefusal, no_frame, frame_at, holder, is_dirty, is_fresh, is_free, name_of, next_use, freshened, pinned, touched, unpinned, Frames, IsPool, TakesFrame, used, with_frame, holder_is, holder_name, Buffered, image_of, page_of, Has, Holds, Takes, held, let_go, page_in}
 use Rattle.clone_trx.proofs.CauseLemmas.{not_equal}
 use Rattle.clone_trx.proofs.FramePinLemmas.{pins, set_pins, fetch_pins, fetch_within, let_go_pins, pinned_within}
-use Rattle.clone_trx.specs.Kept.{Has}
-use Rattle.clone_trx.specs.Ways.{Holds, Takes, held, let_go, page_in}
-
--- a pin that one frame has, by the number of another
-abbrev pub pin_at : ℕ → ℕ → ℕ
-pin_at at other = if at == other then 1 else 0
+pub use Rattle.clone_trx.specs.Holding.{pin_at}
 
 pub pin_here : (at : ℕ) → pin_at at at ≡ 1
 pin_here at = cond-true (at == at) 1 0 (eq-eqb at at refl)

@@ -1,20 +1,11 @@
 -- A page that is held stays held, while other pages are brought into frames and pinned.
-use Rattle.std.proofs.Common.{◌≡◌, ◌≢◌, ◌<◌, ◌&&◌, not, ◌⊎◌, inl, inr, ℕ, Bool, false, List, length, sym, ap, subst, ◌∙◌, arith}
 use Rattle.std.proofs.lemmas.Bool.{cases_eq}
-use Rattle.std.proofs.lemmas.List.{get_or-set_same, get_or-set_other}
-use Rattle.clone_pool.specs.declared.frame.Frame.{Frame}
-use Rattle.clone_pool.specs.declared.frame.PageName.{PageName}
-use Rattle.clone_pool.specs.Frames.{no_frame, frame_at, name_of, is_free, is_dirty, pinned}
-use Rattle.clone_pool.specs.Pool.{Frames, IsPool, IsHolder, KeepsInUse, with_frame}
-use Rattle.clone_pool.proofs.PoolLemmas.{holder_is}
 use Rattle.clone_buffer.proofs.WriteLemmas.{name_at-after}
 use Rattle.clone_buffer.specs.Writing.{after_records}
 use Rattle.clone_mtr.specs.declared.record.Record.{Record}
-use Rattle.clone_buffer.specs.Buffered.{Buffered}
-use Rattle.clone_trx.specs.Ways.{held}
+use Rattle.clone_trx.proofs.Common.{◌≡◌, ◌≢◌, ◌<◌, ◌&&◌, not, ◌⊎◌, inl, inr, ℕ, Bool, false, List, length, sym, ap, subst, ◌∙◌, arith, get_or-set_same, get_or-set_other, Frame, PageName, no_frame, frame_at, name_of, is_free, is_dirty, pinned, Frames, IsPool, IsHolder, KeepsInUse, with_frame, holder_is, Buffered, held, Has}
 use Rattle.clone_trx.proofs.CauseLemmas.{not_equal}
 use Rattle.clone_trx.proofs.FramePinLemmas.{pins, records_pins}
-use Rattle.clone_trx.specs.Kept.{Has}
 
 -- each pinned frame keeps its page, and stays pinned
 abbrev pub KeepsPinned : List Frame → List Frame → Type 0

@@ -1,11 +1,10 @@
 -- Whether a transaction holds the lock of a row of a table, as its list of rows tells it.
-use Rattle.std.proofs.Common.{◌≡◌, ◌<◌, ◌==◌, ◌∙◌, Some, ℕ, Bool, true, false, refl, sym, ap, arith, eq-eqb, eqb-true, find, get_or, Vec, Global}
-use Rattle.std.proofs.lemmas.Bool.{true≢false}
+use Rattle.std.proofs.Common.{eq-eqb}
 use Rattle.std.proofs.lemmas.List.Folds.{Any-from_list_any, list_any-from_Any}
 use Rattle.std.specs.FinMap as finite
 use Rattle.clone_plain.proofs.HolderLemmas.{held_holds, holds_held}
-use Rattle.clone_plain.specs.Causes.{holds_in, least_holder}
-use Rattle.clone_trx.proofs.Common.{list_any, range_with_len, Locks, Lists, list_at, AreListed, TRANSACTION_LIMIT}
+use Rattle.clone_plain.specs.Causes.{least_holder}
+use Rattle.clone_trx.proofs.Common.{◌≡◌, ◌<◌, ◌==◌, ◌∙◌, Some, ℕ, Bool, true, false, refl, sym, ap, arith, eqb-true, find, get_or, Vec, Global, true≢false, holds_in, list_any, range_with_len, Locks, Lists, list_at, AreListed, TRANSACTION_LIMIT}
 use Rattle.clone_trx.proofs.LockListLemmas.{RowName, list_at_item}
 
 pub list_holds : (h : Locks) (lists : Lists) (table trx : ℕ) → AreListed h lists → list_any (λ (row : RowName). row.0 == table) (list_at lists trx) ≡ holds_in h table trx

@@ -1,10 +1,6 @@
 -- Each mini-transaction of the engine keeps its image formed, and what the plain donor is.
-use Rattle.std.proofs.Common.{◌≡◌, ◌≢◌, ℕ, ◌<◌, ◌≤◌, ◌+◌, ◌++◌, ◌^◌, List, [], ◌∷◌, length, refl, sym, ap, subst, ◌∙◌, arith, Option, Some, None, is_some}
-use Rattle.clone_trx.proofs.Common.{AllByRecursion, same_Some, Change, Commit, Record, UndoEntry, IsEntry, UndoSlot, header_page, record_page, capacity, records_of_begin, records_of_change, records_of_taking_back, records_of_end, Image, after_records, all_pages, undo_slot_of, Contents, contents_of, HasContents, opening_records, commit_records, is_unused, change_is, undo_is, Donor, no_donor, changes_of, least_unused, TABLE_LIMIT, TRANSACTION_LIMIT, created, begun, TakesBack, Leaves, Commits, value_of, committed_rows, told, IsSound, IsKept, IsUndoSlot, StandsFor}
+use Rattle.clone_trx.proofs.Common.{◌≡◌, ◌≢◌, ℕ, ◌<◌, ◌≤◌, ◌+◌, ◌++◌, ◌^◌, List, [], ◌∷◌, length, refl, sym, ap, subst, ◌∙◌, arith, Option, Some, None, is_some, AllByRecursion, same_Some, Change, Commit, Record, UndoEntry, IsEntry, UndoSlot, header_page, record_page, capacity, records_of_begin, records_of_change, records_of_taking_back, records_of_end, Image, after_records, all_pages, undo_slot_of, Contents, contents_of, HasContents, opening_records, commit_records, is_unused, change_is, undo_is, Donor, no_donor, changes_of, least_unused, TABLE_LIMIT, TRANSACTION_LIMIT, created, begun, TakesBack, Leaves, Commits, value_of, committed_rows, told, IsSound, IsKept, IsUndoSlot, StandsFor, entry_in, records_of_create, length-dictionary}
 use Rattle.std.specs.FinMap as finite
-use Rattle.clone_space.specs.Entries.{entry_in}
-use Rattle.clone_space.specs.Records.{records_of_create}
-use Rattle.clone_space.proofs.EntryLemmas.{length-dictionary}
 use Rattle.clone_row.specs.Slots as rows
 use Rattle.clone_contents.proofs.OpeningLemmas.{opening_is}
 use Rattle.clone_contents.proofs.CreateLemmas.{create_is}

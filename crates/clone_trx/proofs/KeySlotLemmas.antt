@@ -1,9 +1,7 @@
 -- What the slot of a row tells of the row: where its page is, and the value that the slot shows.
-use Rattle.std.proofs.Common.{◌≡◌, ◌≢◌, ◌<◌, ◌≤◌, ◌%◌, ℕ, List, refl, sym, ap, ◌∙◌, inl, inr, Option, Some, None, IsSome, arith, is_some, option_map, unwrap_or, mod-lt}
-use Rattle.clone_trx.proofs.Common.{slots, slot_in, row_in, row_slot, Image, page_of, Contents, contents_of, page_there, Donor, value_of, held_value, page_number, AreTables, IsNowhere, IsRowSlot, HasPage, IsKept}
+use Rattle.clone_trx.proofs.Common.{◌≡◌, ◌≢◌, ◌<◌, ◌≤◌, ◌%◌, ℕ, List, refl, sym, ap, ◌∙◌, inl, inr, Option, Some, None, IsSome, arith, is_some, option_map, unwrap_or, mod-lt, slots, slot_in, row_in, row_slot, Image, page_of, Contents, contents_of, page_there, Donor, value_of, held_value, page_number, AreTables, IsNowhere, IsRowSlot, HasPage, IsKept, slot_on}
 use Rattle.std.specs.FinMap as finite
 use Rattle.clone_row.specs.Slots.{Slot}
-use Rattle.clone_contents.proofs.FindLemmas.{slot_on}
 use Rattle.clone_trx.proofs.ChainLemmas.{on_there}
 
 -- a bucket's page is in the ranges of its table

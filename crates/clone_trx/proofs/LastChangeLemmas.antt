@@ -1,6 +1,5 @@
 -- What a change of one open transaction makes of them all.
-use Rattle.std.proofs.Common.{◌≡◌, ℕ, ◌++◌, List, sym, ap, subst, ◌∙◌, Some, None, IsSome, MatchOption, IfSome, option_to_list, is_some, Option, nat_cmp, BTreeMap}
-use Rattle.clone_trx.proofs.Common.{nat_cmp_total, exact_unsigned, Change, Commit, with_change, Opened, opened_of, front_of, TakesLast, Pops, get_listed, inserted, inserted_same}
+use Rattle.clone_trx.proofs.Common.{◌≡◌, ℕ, ◌++◌, List, sym, ap, subst, ◌∙◌, Some, None, IsSome, MatchOption, IfSome, option_to_list, is_some, Option, nat_cmp, BTreeMap, nat_cmp_total, exact_unsigned, Change, Commit, with_change, Opened, opened_of, front_of, TakesLast, Pops, get_listed, inserted, inserted_same}
 use Rattle.std.specs.FinMap as finite
 use Rattle.std.specs.BTreeMap.{get, Updates}
 

@@ -1,12 +1,7 @@
 -- What an undo record tells of a row counts where it is one of the row. Else it counts as one of an
 -- absent row.
-use Rattle.std.proofs.Common.{◌≡◌, ◌≤◌, ◌<◌, ◌^◌, ◌==◌, ◌&&◌, inl, inr, ℕ, Bool, true, false, List, length, refl, sym, ap, ◌∙◌, arith, None, nat_lt, nat_le, eq-eqb, eqb-true}
-use Rattle.std.proofs.lemmas.Bool.{and_parts, and_from, ltb-true, leb-true, lt-ltb, le-leb, cond_both, cond-true, cond-false, false_from_ne_true}
-use Rattle.std.proofs.lemmas.List.{nil_from_length}
-use Rattle.clone_model.specs.declared.line.TheConstants.{MOST_PAGES}
-use Rattle.clone_page.specs.Slots.{row_slot_count}
-use Rattle.clone_trx.proofs.Common.{UndoEntry, IsEntry, IsBefore, VALUE_LIMIT, Donor, page_number, told}
-use Rattle.clone_trx.specs.Calls.{tells_before, tells_of, before_change}
+use Rattle.std.proofs.Common.{eq-eqb}
+use Rattle.clone_trx.proofs.Common.{◌≡◌, ◌≤◌, ◌<◌, ◌^◌, ◌==◌, ◌&&◌, inl, inr, ℕ, Bool, true, false, List, length, refl, sym, ap, ◌∙◌, arith, None, nat_lt, nat_le, eqb-true, and_parts, and_from, ltb-true, leb-true, lt-ltb, le-leb, cond_both, cond-true, cond-false, false_from_ne_true, nil_from_length, MOST_PAGES, row_slot_count, UndoEntry, IsEntry, IsBefore, VALUE_LIMIT, Donor, page_number, told, tells_before, tells_of, before_change}
 
 before_is : (e : UndoEntry) → tells_before e ≡ true → IsBefore e.state e.value
 before_is e is = by (e.state == 1) refl

@@ -1,10 +1,7 @@
 -- The last change of a transaction, and its undo record.
-use Rattle.std.proofs.Common.{◌≡◌, ◌≤◌, ◌<◌, ◌+◌, ◌-◌, ◌++◌, ℕ, List, [], ◌∷◌, length, take, refl, sym, ap, subst, ◌∙◌, arith, Option, Some, None, IsSome, is_some, MatchOption, slice_get, take_at, unwrap_or}
-use Rattle.clone_trx.proofs.Common.{length_push, slice_get-pushed_last, same_Some, after_changes, Change, Commit, UndoEntry, UndoSlot, entry_on, record_page, records_of_taking_back, capacity, Image, page_of, page_there, after_records, system_pages, undo_slot_of, contents_of, undo_there, undo_is, Donor, TakesBack, Opened, IsLocked, committed_rows, changes_of, changes_of_active, TRANSACTION_LIMIT, Pops, TakesLast, front_of, IsKept, IsSafe, IsLast, IsLastRecord, Slots, TellsChange}
+use Rattle.clone_trx.proofs.Common.{◌≡◌, ◌≤◌, ◌<◌, ◌+◌, ◌-◌, ◌++◌, ℕ, List, [], ◌∷◌, length, take, refl, sym, ap, subst, ◌∙◌, arith, Option, Some, None, IsSome, is_some, MatchOption, slice_get, take_at, unwrap_or, length_push, slice_get-pushed_last, same_Some, after_changes, Change, Commit, UndoEntry, UndoSlot, entry_on, record_page, records_of_taking_back, capacity, Image, page_of, page_there, after_records, system_pages, undo_slot_of, contents_of, undo_there, undo_is, Donor, TakesBack, Opened, IsLocked, committed_rows, changes_of, changes_of_active, TRANSACTION_LIMIT, Pops, TakesLast, front_of, IsKept, IsSafe, IsLast, IsLastRecord, Slots, TellsChange, before_change, row_page, last_change, system_page, undo_last, reads, writes}
 use Rattle.std.specs.FinMap as finite
 use Rattle.clone_undo.proofs.Effects as undo
-use Rattle.clone_trx.specs.Calls.{before_change, row_page, last_change, system_page, undo_last}
-use Rattle.clone_trx.specs.Ways.{reads, writes}
 use Rattle.clone_trx.proofs.LastRecordLemmas.{IsOf, before_same}
 use Rattle.clone_trx.proofs.KeptLemmas.{InUse, in_use, take_back_keeps}
 use Rattle.clone_trx.proofs.TakingBackLemmas.{bound_there, may_take}

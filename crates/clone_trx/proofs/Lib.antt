@@ -49,3 +49,4 @@ pub mod DroppedLemmas
 pub mod DroppedDonorLemmas
 pub mod DropLemmas
 pub mod HolderListLemmas
+pub mod HoldingLemmas

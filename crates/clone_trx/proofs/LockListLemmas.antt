@@ -1,7 +1,7 @@
 -- The rows that transactions have locked, by row and by transaction, when one is locked and when
 -- those of a transaction are released.
-use Rattle.std.proofs.Common.{true, ◌≡◌, ◌≢◌, ℕ, ◌+◌, ◌<◌, ◌≤◌, ◌⊎◌, inl, inr, List, [], ◌∷◌, ◌++◌, length, refl, sym, ap, subst, ◌∙◌, Some, None, arith, set, get_or, drop, drop-cons, add-one, is_some, IfSome, Vec, slice_get, slice_set, Option, Global, Contains, length-set, get_or-set_same, get_or-set_other}
-use Rattle.clone_trx.proofs.Common.{option_map_or, get-empty, cases_lt, cases_eq, slice_get-get_or, slice_get_past, none-some, same_Some, row_cmp, row_cmp_total, row_cmp_exact, Locks, TRANSACTION_LIMIT, Releases, Lists, list_at, AreListed, without, get-set_same, get-set_other, get-removed_same, get-removed_other, cases_row, get-remove_some}
+use Rattle.std.proofs.Common.{length-set, get_or-set_same, get_or-set_other}
+use Rattle.clone_trx.proofs.Common.{true, ◌≡◌, ◌≢◌, ℕ, ◌+◌, ◌<◌, ◌≤◌, ◌⊎◌, inl, inr, List, [], ◌∷◌, ◌++◌, length, refl, sym, ap, subst, ◌∙◌, Some, None, arith, set, get_or, drop, drop-cons, add-one, is_some, IfSome, Vec, slice_get, slice_set, Option, Global, Contains, option_map_or, get-empty, cases_lt, cases_eq, slice_get-get_or, slice_get_past, none-some, same_Some, row_cmp, row_cmp_total, row_cmp_exact, Locks, TRANSACTION_LIMIT, Releases, Lists, list_at, AreListed, without, get-set_same, get-set_other, get-removed_same, get-removed_other, cases_row, get-remove_some}
 use Rattle.std.specs.FinMap as finite
 use Rattle.std.proofs.lemmas.List.Elements.{Contains-append_left, Contains-append_right, Contains-push, Contains-push_cases, Contains-append_cases}
 

@@ -1,12 +1,6 @@
--- A row is read: the walk along its chain, and the value that is found.
-use Rattle.std.proofs.Common.{◌≡◌, ◌%◌, ℕ, false, List, Option, Some, None, IsSome, IsTrue, Result, Ok, inr, refl, sym, ap, subst, ◌∙◌, option_map, option_and_then, unwrap_or}
+-- A row is read: what there is against it, and the value that is found.
 use Rattle.std.specs.FinMap as finite
-use Rattle.clone_buffer.specs.Buffered.{Buffered}
-use Rattle.clone_plain.specs.declared.refusal.EngineRefusal.{EngineRefusal}
-use Rattle.clone_trx.specs.declared.walk.Spot.{Spot}
-use Rattle.clone_trx.proofs.Common.{same_Some, Commit, Image, page_of, Cause, Donor, row_locked, get_cause, Gets, own_value, value_of, held_value, page_number, IsKept}
-use Rattle.clone_trx.specs.Calls.{get_way}
-use Rattle.clone_trx.specs.Ways.{Goes, Carries, Answers, WalksAll, let_go}
+use Rattle.clone_trx.proofs.Common.{◌≡◌, ◌%◌, ℕ, List, Option, Some, None, IsSome, refl, sym, ap, ◌∙◌, option_map, option_and_then, unwrap_or, same_Some, Commit, Image, page_of, Donor, row_locked, get_cause, Gets, own_value, value_of, held_value, page_number, IsKept}
 use Rattle.clone_trx.proofs.CauseLemmas.{passed, trx_there, table_there, own_or_free}
 use Rattle.clone_trx.proofs.KeySlotLemmas.{no_value, held_is, slot_there}
 use Rattle.clone_trx.proofs.WalkedLemmas.{IsFoundSlot}
@@ -28,7 +22,7 @@ pub number_is : (d : Donor) (table key number : ℕ) → Bucket d table key numb
 number_is d table key number b = b.is ∙ sym (ap (λ (o : Option ℕ). key % unwrap_or o 0) b.there)
 
 module _ (d : Donor) (trx table key number : ℕ) (commit : Commit) (active : finite.get d.active trx ≡ Some commit) (b : Bucket d table key number) (free : row_locked d trx table key ≡ None) where
-  no_cause : get_cause d trx table key ≡ None
+  pub no_cause : get_cause d trx table key ≡ None
   no_cause = passed (trx_there d trx commit active) ∙ passed (table_there d table b.count b.there) ∙ free
 
   -- the value that is found is the row's
@@ -40,12 +34,3 @@ module _ (d : Donor) (trx table key number : ℕ) (commit : Commit) (active : fi
       shown : (o : Option ℕ) → IsFoundSlot d image table key b.count kept b.there page o → option_and_then (held_value row) o ≡ value_of d table key
       shown None nowhere = sym (no_value d image table key kept nowhere)
       shown (Some slot_number) found = held_is d image table key kept page slot_number found row (shows (slot_there d image table key kept page slot_number found))
-
-  -- the chain is walked, and nothing is done behind it
-  pub get_goes : (old mid new : Buffered) (spot : Spot) (value : Option (List ℕ)) → WalksAll (record { table = table; first = number; key = key; for_room = false }) old mid (Ok spot) → new ≡ let_go spot.at mid → Goes {X = Option (List ℕ)} (get_way d table key) old new (Ok value)
-  get_goes old mid new spot value walked is =
-      inr (spot, mid, mid, subst (λ (n : ℕ). WalksAll (record { table = table; first = n; key = key; for_room = false }) old mid (Ok spot)) (number_is d table key number b) walked, (refl, refl), is)
-
-  pub get_answers : (old new : Buffered) (result : Result (Option (List ℕ)) EngineRefusal) → Goes {X = Option (List ℕ)} (get_way d table key) old new result → Carries d d result (λ value. IsTrue new.right → Gets d trx table key value)
-      → Answers {X = Option (List ℕ)} (get_cause d trx table key) (get_way d table key) d d old new result (λ value. IsTrue new.right → Gets d trx table key value)
-  get_answers old new result goes carries = subst (λ (o : Option Cause). Answers {X = Option (List ℕ)} o (get_way d table key) d d old new result (λ value. IsTrue new.right → Gets d trx table key value)) (sym no_cause) (goes, carries)

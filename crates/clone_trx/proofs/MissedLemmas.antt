@@ -1,30 +1,12 @@
 -- A call that ends with a fault of the disk has missed a page, which can have a frame.
-use Rattle.std.proofs.Common.{◌≡◌, ◌≢◌, ◌<◌, ◌≤◌, ◌-◌, ◌==◌, ◌&&◌, ◌⊎◌, inl, inr, ℕ, zero, suc, Bool, true, false, not, List, [], ◌∷◌, length, set, map, refl, sym, ap, subst, ◌∙◌, arith, Option, Some, None, option_map, cond, IsSome, IsOk, Result, Ok, Err, MatchOption}
-use Rattle.std.proofs.lemmas.Bool.{and_parts, cases_eq, cases_lt, cond_both, eqb-true, eq-eqb, true≢false, false≢true}
-use Rattle.std.proofs.lemmas.List.{get_or-set_same, get_or-set_other, length-set, set_past}
+use Rattle.std.proofs.lemmas.Bool.{cases_eq, cases_lt, eqb-true}
 use Rattle.std.proofs.Math.ListN.{get_or-map}
-use Rattle.clone_pool.specs.declared.frame.Content.{Content}
-use Rattle.clone_pool.specs.declared.frame.Content.TheVariants.{Unused, Fresh, Held, Loading}
-use Rattle.clone_pool.specs.declared.frame.Frame.{Frame}
-use Rattle.clone_pool.specs.declared.frame.PageName.{PageName}
-use Rattle.clone_pool.specs.declared.pool.FetchRefusal.{FetchRefusal}
 use Rattle.clone_pool.specs.declared.pool.FetchRefusal.TheVariants as fetch
-use Rattle.clone_pool.specs.Index.{Names, is_name_of, frame_number_of}
-use Rattle.clone_pool.specs.Frames.{no_frame, frame_at, name_in, name_of, loading_in, loading_of, holder, loader, is_dirty, is_fresh, is_free, is_loading, may_go, left_in, emptied, unpinned}
 use Rattle.clone_pool.specs.Pool as pool
-use Rattle.clone_pool.specs.Pool.{Frames, Fetches, IsVictim, HasVictim, used, with_frame}
-use Rattle.clone_pool.proofs.NameLemmas.{name_at, is_own_name}
 use Rattle.clone_pool.proofs.ClaimLemmas.{none_found, holder_name, loader_name, left_holds_none, left_loading}
 use Rattle.clone_pool.proofs.FrameLemmas.{going_parts}
-use Rattle.clone_buffer.specs.Buffered.{Buffered}
 use Rattle.clone_mtr.specs.declared.record.Record.{Record}
-use Rattle.clone_plain.specs.declared.refusal.Cause.{Cause}
-use Rattle.clone_plain.specs.declared.refusal.Cause.TheVariants.{DiskFault}
-use Rattle.clone_plain.specs.declared.refusal.EngineRefusal.{EngineRefusal}
-use Rattle.clone_plain.specs.declared.refusal.EngineRefusal.TheVariants.{Because, NoMemory}
-use Rattle.clone_trx.specs.declared.walk.Course.{Course}
-use Rattle.clone_trx.specs.declared.walk.Spot.{Spot}
-use Rattle.clone_trx.specs.Ways.{Way, reads, walks, stops, writes, freshens, lengthens, makes, drops, ends, Goes, Writes, Misses, MissesBy, Walks, misses, finds, keeps, passes, returns, arrives, cause_of, chain_page, let_go, let_go_kept, page_in, held}
+use Rattle.clone_trx.proofs.Common.{◌≡◌, ◌≢◌, ◌<◌, ◌≤◌, ◌-◌, ◌==◌, ◌&&◌, ◌⊎◌, inl, inr, ℕ, zero, suc, Bool, true, false, not, List, [], ◌∷◌, length, map, refl, sym, ap, subst, ◌∙◌, arith, Option, Some, None, option_map, cond, IsSome, IsOk, Result, Ok, Err, MatchOption, and_parts, cond_both, false≢true, get_or-set_same, get_or-set_other, length-set, set_past, Content, Unused, Fresh, Held, Loading, Frame, PageName, FetchRefusal, Names, is_name_of, frame_number_of, no_frame, frame_at, name_of, loading_in, loading_of, holder, loader, is_dirty, is_fresh, is_free, is_loading, may_go, left_in, emptied, unpinned, Frames, Fetches, IsVictim, HasVictim, used, with_frame, name_at, is_own_name, Buffered, Cause, DiskFault, EngineRefusal, Because, NoMemory, Course, Spot, Way, reads, walks, stops, writes, freshens, lengthens, makes, drops, ends, Goes, Writes, Misses, Walks, misses, finds, keeps, passes, returns, arrives, cause_of, chain_page, let_go, let_go_kept, page_in, held}
 use Rattle.clone_trx.specs.Missed.{IsMissed, HasMissed, AsksForPages}
 
 -- WHERE NO FRAME IS FOUND none has the page.

@@ -1,30 +1,20 @@
 -- A disk gets a space, or loses it, that the log doesn't have: a buffer that stood over the disk
 -- stands.
-use Rattle.std.proofs.Common.{◌≡◌, ◌≢◌, ◌&&◌, ◌⊎◌, inl, inr, ℕ, Bool, true, false, List, ◌∷◌, replicate, slice_get, refl, sym, ap, subst, ◌∙◌, arith, Option, Some, None, option_map, option_and_then, IsSome, IsTrue}
 use Rattle.std.proofs.Math.Bool.{and-false}
-use Rattle.std.proofs.lemmas.Bool.{cases_eq, false≢true}
+use Rattle.std.proofs.lemmas.Bool.{cases_eq}
 use Rattle.std.specs.FinMap as finite
-use Rattle.clone_outside.specs.Disk.{DiskImage, ForTold, Steps, IsBeforeOrAfter, with_created, with_removed, page_of, zero_page}
+use Rattle.clone_outside.specs.Disk.{page_of, zero_page}
 use Rattle.clone_outside.specs.declared.Refusal.{Refusal}
 use Rattle.clone_outside.specs.declared.Refusal.TheVariants.{Fault, NoMemory}
 use Rattle.clone_outside.specs.declared.disk.Held.{Held}
 use Rattle.clone_mtr.specs.declared.record.Record.{Record}
-use Rattle.clone_mtr.specs.declared.record.Record.TheVariants.{Create}
-use Rattle.clone_image.proofs.Images.{get-put_same, get-put_other}
 use Rattle.clone_image.proofs.RedoLemmas.{replayed_is_redone}
 use Rattle.clone_image.specs.Redone as image
-use Rattle.clone_image.specs.Redone.{Standing, no_space, redone}
 use Rattle.clone_law.specs.Machine.{PageEngine, HasSpace}
 use Rattle.clone_law.specs.Rule.{Rule, Bare}
-use Rattle.clone_pool.specs.declared.frame.Frame.{Frame}
-use Rattle.clone_pool.specs.Frames.{counts_as_open}
-use Rattle.clone_buffer.specs.Buffered.{Buffered, IsBuffer, image_of}
-use Rattle.clone_buffer.specs.OnePage.{Beside, engine_with, frame_of, bytes_in, oldest_in, flush_in, flight_of, standing_in, is_open, has_space}
-use Rattle.clone_buffer.specs.Keeping.{IsKept, IsKeptPage, Stands}
-use Rattle.clone_buffer.specs.Writing.{HasMade}
+use Rattle.clone_buffer.specs.Keeping.{IsKept}
 use Rattle.clone_buffer.proofs.PageLemmas.{world, copy_stays}
-use Rattle.clone_trx.proofs.Common.{nat_cmp_total, nat_cmp-IsAntisymmetric, get-removed_other}
-use Rattle.clone_trx.specs.Ways.{StaysStanding}
+use Rattle.clone_trx.proofs.Common.{◌≡◌, ◌≢◌, ◌&&◌, ◌⊎◌, inl, inr, ℕ, Bool, true, false, List, ◌∷◌, replicate, slice_get, refl, sym, ap, subst, ◌∙◌, arith, Option, Some, None, option_map, option_and_then, IsSome, IsTrue, false≢true, DiskImage, ForTold, Steps, IsBeforeOrAfter, with_created, with_removed, Create, get-put_same, get-put_other, Standing, no_space, redone, Frame, counts_as_open, Buffered, IsBuffer, image_of, Beside, engine_with, frame_of, bytes_in, oldest_in, flush_in, flight_of, standing_in, is_open, has_space, IsKeptPage, Stands, HasMade, nat_cmp_total, nat_cmp-IsAntisymmetric, get-removed_other, StaysStanding}
 
 module _ (log : List (List Record)) (beside : Beside) (m n : DiskImage) (space number : ℕ) (frame : Option Frame) where
   -- a page of a space that the log doesn't have may stand on the disk in any way

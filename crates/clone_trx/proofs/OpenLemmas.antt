@@ -1,28 +1,9 @@
 -- A buffer without pages, whose first frame is taken for the system page.
-use Rattle.std.proofs.Common.{◌≡◌, ◌≢◌, ◌<◌, ◌≤◌, ◌⊎◌, inl, inr, ℕ, true, List, [], ◌∷◌, length, set, replicate, refl, sym, ap, subst, ◌∙◌, arith, Option, Some, None, Ok, Result, MatchOption, IsTrue, is_some, nat_cmp}
 use Rattle.std.proofs.lemmas.Bool.{cases_eq, cases_lt}
-use Rattle.std.proofs.lemmas.List.{get_or-set_same, get_or-set_other, get_or_past, get_or-replicate, length-replicate}
+use Rattle.std.proofs.lemmas.List.{length-replicate}
 use Rattle.std.specs.FinMap as finite
-use Rattle.clone_outside.specs.Disk.{DiskImage, blank}
-use Rattle.clone_page.specs.declared.kind.PageKind.TheVariants.{System}
-use Rattle.clone_mtr.specs.declared.record.Record.TheVariants.{Init}
-use Rattle.clone_image.proofs.Images.{page_of-made}
-use Rattle.clone_image.specs.Replay.{replayed}
-use Rattle.clone_image.specs.Redone.{redone}
-use Rattle.clone_pool.specs.declared.frame.Content.{Content}
-use Rattle.clone_pool.specs.declared.frame.Content.TheVariants.{Fresh}
-use Rattle.clone_pool.specs.declared.frame.Frame.{Frame}
-use Rattle.clone_pool.specs.declared.frame.PageName.{PageName}
-use Rattle.clone_pool.specs.declared.pool.FetchRefusal.{FetchRefusal}
-use Rattle.clone_pool.specs.Frames.{no_frame, frame_at, holder, name_of, freshened, next_use, pinned, unpinned}
-use Rattle.clone_pool.specs.Pool.{Frames, Freshens, TakesFrame, IsHolder, used, with_frame}
-use Rattle.clone_buffer.proofs.FrameLemmas.{holder_name, no_name}
-use Rattle.clone_buffer.specs.Buffered.{Buffered, IsBuffer, Shown, image_of}
-use Rattle.clone_buffer.specs.Keeping.{IsKept, Stands}
-use Rattle.clone_buffer.specs.OnePage.{at_rest, frame_of}
-use Rattle.clone_buffer.specs.Writing.{Creates, any_names}
-use Rattle.clone_trx.proofs.Common.{get-empty, Record, Image, opening_records, system_size, AreLoose}
-use Rattle.clone_trx.specs.Calls.{system_page}
+use Rattle.clone_buffer.specs.Keeping.{IsKept}
+use Rattle.clone_trx.proofs.Common.{◌≡◌, ◌≢◌, ◌<◌, ◌≤◌, ◌⊎◌, inl, inr, ℕ, true, List, [], ◌∷◌, length, set, replicate, refl, sym, ap, subst, ◌∙◌, arith, Option, Some, None, Ok, Result, MatchOption, IsTrue, is_some, nat_cmp, get_or-set_same, get_or-set_other, get_or_past, get_or-replicate, DiskImage, blank, System, Init, page_of-made, replayed, redone, Content, Fresh, Frame, PageName, FetchRefusal, no_frame, frame_at, holder, name_of, freshened, next_use, pinned, unpinned, Frames, Freshens, TakesFrame, IsHolder, used, with_frame, holder_name, no_name, Buffered, IsBuffer, Shown, image_of, Stands, at_rest, frame_of, Creates, any_names, get-empty, Record, Image, opening_records, system_size, AreLoose, system_page}
 use Rattle.clone_trx.proofs.CreateLemmas.{unheld}
 use Rattle.clone_trx.proofs.NewSpaceLemmas.{off_log}
 use Rattle.clone_trx.proofs.FramePinLemmas.{SamePins, pinned_within, let_go_pins}

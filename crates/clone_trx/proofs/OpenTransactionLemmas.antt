@@ -1,6 +1,5 @@
 -- A transaction begins, or ends without a change, and the contents stay sound.
-use Rattle.std.proofs.Common.{◌≡◌, ◌<◌, ℕ, [], length, refl, sym, ap, subst, ◌∙◌, inl, inr, Option, Some, None}
-use Rattle.clone_trx.proofs.Common.{nat_cmp-IsAntisymmetric, nat_cmp_total, cases_eq, Commit, row_slot, UndoSlot, Contents, with_undo, set_at-same, set_at-other, Donor, begun, Leaves, Slots, Nexts, HoldsRows, HoldsUndo, StandsFor, IsSound, committed_rows, value_of, get-removed_same, SameOthers, own-set, others-set, others-removed, begun_value, left_value, begun_locked, left_locked}
+use Rattle.clone_trx.proofs.Common.{◌≡◌, ◌<◌, ℕ, [], length, refl, sym, ap, subst, ◌∙◌, inl, inr, Option, Some, None, nat_cmp-IsAntisymmetric, nat_cmp_total, cases_eq, Commit, row_slot, UndoSlot, Contents, with_undo, set_at-same, set_at-other, Donor, begun, Leaves, Slots, Nexts, HoldsRows, HoldsUndo, StandsFor, IsSound, committed_rows, value_of, get-removed_same, SameOthers, own-set, others-set, others-removed, begun_value, left_value, begun_locked, left_locked}
 use Rattle.std.specs.FinMap as finite
 use Rattle.clone_trx.proofs.ChainLemmas.{same_chains}
 use Rattle.clone_trx.proofs.UndoRecordLemmas.{stands_still}

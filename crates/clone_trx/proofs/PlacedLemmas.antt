@@ -1,14 +1,7 @@
 -- The pages that the records of each call name: they have frames, are there, and are edited alone.
-use Rattle.std.proofs.Common.{ℕ, Bool, true, false, List, ap, IsSome, is_some}
 use Rattle.std.specs.List.{AllByRecursion}
-use Rattle.clone_pool.specs.declared.frame.Frame.{Frame}
-use Rattle.clone_pool.specs.declared.frame.PageName.{PageName}
-use Rattle.clone_pool.specs.Frames.{holder}
-use Rattle.clone_buffer.specs.Writing.{HasFrame, IsOnPage}
-use Rattle.clone_image.specs.Image.{EditsPages}
 use Rattle.clone_undo.specs.Places.{header_page, record_page}
-use Rattle.clone_trx.proofs.Common.{Image, page_of, UndoEntry, records_of_begin, records_of_change, records_of_taking_back, commit_records}
-use Rattle.clone_trx.specs.Kept.{IsHeld}
+use Rattle.clone_trx.proofs.Common.{ℕ, Bool, true, false, List, ap, IsSome, is_some, Frame, PageName, holder, HasFrame, IsOnPage, EditsPages, Image, page_of, UndoEntry, records_of_begin, records_of_change, records_of_taking_back, commit_records, IsHeld}
 
 -- a page that is held has a frame
 pub held_frame : (frames : List Frame) (page : PageName) → IsHeld page frames → IsSome (holder frames page)

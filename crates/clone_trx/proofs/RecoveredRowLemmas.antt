@@ -1,7 +1,7 @@
 -- Recovery gives the rows of the history: it takes changes back, as a transaction does itself.
-use Rattle.std.proofs.Common.{◌≡◌, ◌<◌, ◌≤◌, ◌++◌, ℕ, zero, suc, List, [], ◌∷◌, length, refl, sym, ap, subst, ◌∙◌, arith, inl, inr, Option, Some, None, is_some, append-nil, append_assoc}
-use Rattle.clone_trx.proofs.Common.{option_map_or, cases_eq, AllByRecursion, header_page, page_there, Rows, after_change, after_changes, Change, Commit, present, row_slot, bound_key, UndoEntry, UndoSlot, Image, page_of, undo_slot_of, HasRows, Contents, contents_of, undone, with_undo, IsFormed, set_at-other, undo_is, Donor, changes_of, TakesBack, HoldsTables, HoldsChains, HoldsRows, IsUndoSlot, StandsFor, IsSound, TellsChange, TellsChanges, committed_rows, IsLocked, value_of, changes_by, SameOthers, after_changes-append, changes_of_active, own-set, others-set, value_is, taken_locked}
-use Rattle.clone_image.specs.Recovered.{taken_back_below, recovered}
+use Rattle.clone_image.specs.Recovered.{recovered}
+use Rattle.clone_trx.proofs.Common.{◌≡◌, ◌<◌, ◌≤◌, ◌++◌, ℕ, zero, suc, List, [], ◌∷◌, length, refl, sym, ap, subst, ◌∙◌, arith, inl, inr, Option, Some, None, is_some, append-nil, append_assoc, option_map_or, cases_eq, AllByRecursion, header_page, page_there, Rows, after_change, after_changes, Change, Commit, present, row_slot, bound_key, UndoEntry, UndoSlot, Image, page_of, undo_slot_of, HasRows, Contents, contents_of, undone, with_undo, IsFormed, set_at-other, undo_is, Donor, changes_of, TakesBack, HoldsTables, HoldsChains, HoldsRows, IsUndoSlot, StandsFor, IsSound, TellsChange, TellsChanges, committed_rows, IsLocked, value_of, changes_by, SameOthers, after_changes-append, changes_of_active, own-set, others-set, value_is, taken_locked}
+use Rattle.clone_image.specs.Recovered.{taken_back_below}
 use Rattle.clone_law.specs.Alike.{IsThere, AreThere, CanTakeBack}
 use Rattle.std.specs.FinMap as finite
 use Rattle.clone_image.specs.Recovered as images

@@ -1,6 +1,5 @@
 -- The rows of the contents when one slot is set.
-use Rattle.std.proofs.Common.{◌≡◌, ◌%◌, ◌⊎◌, ℕ, List, refl, sym, ap, subst, ◌∙◌, inl, inr, Option, Some, None}
-use Rattle.clone_trx.proofs.Common.{same_Some, row_slot, bound_key, unused, Contents, with_slot, cases_slot, slot-same, slot-other, Donor, Slots, IsBound, IsNowhere, IsRowSlot, OnChain, HoldsRows, value_of, cases_row}
+use Rattle.clone_trx.proofs.Common.{◌≡◌, ◌%◌, ◌⊎◌, ℕ, List, refl, sym, ap, subst, ◌∙◌, inl, inr, Option, Some, None, same_Some, row_slot, bound_key, unused, Contents, with_slot, cases_slot, slot-same, slot-other, Donor, Slots, IsBound, IsNowhere, IsRowSlot, OnChain, HoldsRows, value_of, cases_row}
 use Rattle.std.specs.FinMap as finite
 
 pub bound-row_slot : (key : ℕ) (value : Option (List ℕ)) → bound_key (row_slot key value) ≡ Some key

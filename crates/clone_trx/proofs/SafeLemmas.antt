@@ -1,14 +1,6 @@
 -- What each call keeps of transactions, whatever the pages are.
-use Rattle.std.proofs.Common.{◌≡◌, ◌≢◌, ◌<◌, ◌≤◌, ◌+◌, ◌-◌, ◌⊎◌, inl, inr, ℕ, length, refl, sym, ap, subst, ◌∙◌, arith, Option, Some, None, IsSome, is_some, cond, nat_cmp}
-use Rattle.clone_base.specs.declared.limits.TheConstants.{TABLE_LIMIT}
-use Rattle.clone_model.specs.declared.line.TheConstants.{HIGHEST_TABLE, MOST_BUCKETS}
-use Rattle.clone_trx.proofs.Common.{nat_cmp-IsAntisymmetric, nat_cmp_total, len-insert, len-empty, get-empty, none-some, same_Some, cases_eq, get-set_same, get-set_other, get-removed_same, get-removed_other, Change, Donor, no_donor, Changes, TakesBack, Leaves, Commits, Releases, Locks, row_cmp, row_cmp_total, row_cmp_exact, cases_row, begun, created, TRANSACTION_LIMIT, CHANGE_LIMIT, changes_of, changed_locked, taken_locked, left_locked, begun_locked, committed_locked, IsSafe, AreTables}
-use Rattle.std.proofs.lemmas.Bool.{cond_both}
+use Rattle.clone_trx.proofs.Common.{◌≡◌, ◌≢◌, ◌<◌, ◌≤◌, ◌+◌, ◌-◌, ◌⊎◌, inl, inr, ℕ, length, refl, sym, ap, subst, ◌∙◌, arith, Option, Some, None, IsSome, is_some, cond, nat_cmp, TABLE_LIMIT, HIGHEST_TABLE, MOST_BUCKETS, nat_cmp-IsAntisymmetric, nat_cmp_total, len-insert, len-empty, get-empty, none-some, same_Some, cases_eq, get-set_same, get-set_other, get-removed_same, get-removed_other, Change, Donor, no_donor, Changes, TakesBack, Leaves, Commits, Releases, Locks, row_cmp, row_cmp_total, row_cmp_exact, cases_row, begun, created, TRANSACTION_LIMIT, CHANGE_LIMIT, changes_of, changed_locked, taken_locked, left_locked, begun_locked, committed_locked, IsSafe, AreTables, cond_both, len-remove, dropped_free, dropped_locked, drop_cause, dropped}
 use Rattle.std.specs.FinMap as finite
-use Rattle.std.specs.FinMap.{len-remove}
-use Rattle.clone_plain.proofs.DropLemmas.{dropped_free, dropped_locked}
-use Rattle.clone_plain.specs.Causes.{drop_cause}
-use Rattle.clone_plain.specs.Effects.{dropped}
 use Rattle.clone_trx.proofs.CommitLemmas.{opened_sound}
 
 pub no_safe : IsSafe no_donor

@@ -1,7 +1,6 @@
 -- A scan of numbers in ascending order, for the first that passes.
-use Rattle.std.proofs.Common.{◌≡◌, ℕ, zero, suc, ◌+◌, ◌-◌, ◌<◌, ◌≤◌, Bool, true, false, not, cond, refl, sym, ap, ◌∙◌, Option, Some, None, is_some, arith, find}
-use Rattle.clone_trx.proofs.Common.{range_with_len, same_Some, none-some, Donor, TRANSACTION_LIMIT, Opened}
 use Rattle.clone_plain.specs.Causes.{least_unused}
+use Rattle.clone_trx.proofs.Common.{◌≡◌, ℕ, zero, suc, ◌+◌, ◌-◌, ◌<◌, ◌≤◌, Bool, true, false, not, cond, refl, sym, ap, ◌∙◌, Option, Some, None, is_some, arith, find, range_with_len, same_Some, none-some, Donor, TRANSACTION_LIMIT, Opened}
 use Rattle.std.specs.FinMap as finite
 
 pub least_unused-found : (active : Opened) → least_unused active ≡ find (λ trx. not (finite.contains_key active trx)) (range_with_len 0 TRANSACTION_LIMIT)

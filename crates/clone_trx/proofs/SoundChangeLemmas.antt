@@ -1,9 +1,6 @@
 -- A change keeps the contents sound.
-use Rattle.std.proofs.Common.{◌≡◌, ◌<◌, ◌≤◌, ◌%◌, ◌⊎◌, ◌++◌, ℕ, List, [], ◌∷◌, length, refl, sym, ap, subst, ◌∙◌, arith, inl, inr, Option, Some, None, is_some, IfSome, mod-lt}
-use Rattle.clone_trx.proofs.Common.{cases_eq, after_changes, Change, Commit, row_slot, bound_key, UndoEntry, IsEntry, UndoSlot, Contents, told_value, MayChange, changed, telling, set_at-same, set_at-other, slot-same, CHANGE_LIMIT, TABLE_LIMIT, Donor, changes_of, with_change, Changes, HoldsTables, HoldsRows, IsUndoSlot, StandsFor, IsSound, TellsChange, TellsChanges, committed_rows, value_of, told, IsRowSlot, changes_of_active, own-set, others-set, own_value, changed_value, changed_value_other, changed_locked}
+use Rattle.clone_trx.proofs.Common.{◌≡◌, ◌<◌, ◌≤◌, ◌%◌, ◌⊎◌, ◌++◌, ℕ, List, [], ◌∷◌, length, refl, sym, ap, subst, ◌∙◌, arith, inl, inr, Option, Some, None, is_some, IfSome, mod-lt, cases_eq, after_changes, Change, Commit, row_slot, bound_key, UndoEntry, IsEntry, UndoSlot, Contents, told_value, MayChange, changed, telling, set_at-same, set_at-other, slot-same, CHANGE_LIMIT, TABLE_LIMIT, Donor, changes_of, with_change, Changes, HoldsTables, HoldsRows, IsUndoSlot, StandsFor, IsSound, TellsChange, TellsChanges, committed_rows, value_of, told, IsRowSlot, changes_of_active, own-set, others-set, own_value, changed_value, changed_value_other, changed_locked, entry_in, named}
 use Rattle.std.specs.FinMap as finite
-use Rattle.clone_space.specs.Entries.{entry_in}
-use Rattle.clone_contents.specs.Contents.{named}
 use Rattle.clone_trx.proofs.ChainLemmas.{same_chains, on_there}
 use Rattle.clone_trx.proofs.RowSlotLemmas.{KeepsBound, SetsSlot, bound-row_slot, rows_set, kept}
 use Rattle.clone_trx.proofs.UndoRecordLemmas.{counted, in_range, tells_on, tells_push, own_slot, stands_open, stands_still}

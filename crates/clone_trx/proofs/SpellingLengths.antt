@@ -1,8 +1,6 @@
 -- The records of a begin and of a change: how long their spelling is, and those from the second on.
-use Rattle.std.proofs.Common.{◌≡◌, ◌≤◌, ◌+◌, ◌==◌, ℕ, zero, suc, Bool, true, false, List, [], ◌∷◌, ◌++◌, length, drop, replicate, ◌-◌, refl, ap, ◌∙◌, arith, if◌then◌else◌, length-append}
-use Rattle.clone_trx.proofs.Common.{length-replicate, big_bytes, Undo, Bucket, slot_at, record_spelling, spelling, longest, Record, Write, UndoEntry, entry_bytes, header_page, record_page, record_offset, count_offset, made_first, entry_record, count_record, row_record, records_of_begin, records_of_change}
+use Rattle.clone_trx.proofs.Common.{◌≡◌, ◌≤◌, ◌+◌, ◌==◌, ℕ, zero, suc, Bool, true, false, List, [], ◌∷◌, ◌++◌, length, drop, replicate, ◌-◌, refl, ap, ◌∙◌, arith, if◌then◌else◌, length-append, length-replicate, big_bytes, Undo, Bucket, slot_at, record_spelling, spelling, longest, Record, Write, UndoEntry, entry_bytes, header_page, record_page, record_offset, count_offset, made_first, entry_record, count_record, row_record, records_of_begin, records_of_change, is_new}
 use Rattle.clone_page.specs.declared.kind.PageKind.{PageKind}
-use Rattle.clone_trx.specs.Calls.{is_new}
 
 -- A transaction begins.
 

@@ -1,49 +1,19 @@
 -- The spot that a walk along a row's chain comes to, and what is kept meanwhile.
-use Rattle.std.proofs.Common.{◌≡◌, ◌≢◌, ◌-◌, ℕ, Bool, true, List, refl, sym, subst, arith, Option, Some, None, IsSome, IsTrue, IfSome, Result, Ok, Err}
 use Rattle.std.specs.FinMap as finite
-use Rattle.clone_model.specs.declared.line.TheConstants.{MOST_PAGES}
-use Rattle.clone_image.specs.Replay.{replayed}
-use Rattle.clone_buffer.specs.Buffered.{Buffered, IsBuffer, image_of}
-use Rattle.clone_plain.specs.declared.refusal.EngineRefusal.{EngineRefusal}
-use Rattle.clone_plain.specs.declared.refusal.EngineRefusal.TheVariants.{Because, NoMemory}
-use Rattle.clone_trx.specs.declared.walk.Course.{Course}
-use Rattle.clone_trx.specs.declared.walk.Spot.{Spot}
-use Rattle.clone_trx.proofs.Common.{Record, Image, page_of, contents_of, Donor, page_number, AreLoose, Has, HasChain, IsRowSlot, IsSafe, IsSpot, IsKept}
+use Rattle.clone_trx.proofs.Common.{◌≡◌, ◌-◌, ℕ, Bool, true, List, refl, sym, subst, Option, Some, None, IsSome, IsTrue, IfSome, Result, Ok, MOST_PAGES, replayed, Buffered, IsBuffer, image_of, EngineRefusal, Course, Spot, Record, Image, page_of, contents_of, Donor, page_number, Has, HasChain, IsRowSlot, IsSafe, IsSpot, IsKept, row_walk, IsFullAt, WalksAll, page_in}
 use Rattle.clone_trx.proofs.FoundSlotLemmas.{held_page}
 use Rattle.clone_trx.proofs.KeySlotLemmas.{in_ranges}
-use Rattle.clone_trx.proofs.WalkLemmas.{Stays, walk_stays, walk_pins, walk_missed, walk_range}
-use Rattle.clone_trx.proofs.WalkStepLemmas.{pin_low}
+use Rattle.clone_trx.proofs.WalkLemmas.{Stays, walk_stays, walk_range}
 use Rattle.clone_trx.proofs.WalkedLemmas.{IsFoundSlot, chain, walk_slot, walk_full}
-use Rattle.clone_trx.proofs.WayLemmas.{still_kept}
-use Rattle.clone_trx.specs.Calls.{row_walk}
-use Rattle.clone_trx.specs.Kept.{IsFullAt}
-use Rattle.clone_trx.specs.Ways.{PinsAtMost, WalksAll, page_in}
 
 -- what a walk leaves
 pub all_stays : (course : Course) (old new : Buffered) (result : Result Spot EngineRefusal) → WalksAll course old new result → Stays old new
 all_stays course old new result walked = walk_stays course (MOST_PAGES - 1) course.first None old new result walked
 
-pub walk_kept : (d : Donor) (course : Course) (old new : Buffered) (result : Result Spot EngineRefusal) → WalksAll course old new result → (IsTrue old.right → IsKept d (image_of old)) → IsTrue new.right → IsKept d (image_of new)
-walk_kept d course old new result walked = let s = all_stays course old new result walked in still_kept d old new s.log s.before
-
--- a page was not brought
-pub walk_because : {Y : Type 0} (course : Course) (old new : Buffered) (refusal : EngineRefusal) → WalksAll course old new (Err refusal) → ◌≢◌ {A = Result Y EngineRefusal} (Err refusal) (Err NoMemory)
-walk_because course old new refusal walked is =
-    let m = walk_missed course (MOST_PAGES - 1) course.first None old new (Err refusal) walked in
-    let because : refusal ≡ Because m.3.0 = m.3.1 in
-    let memory = is in
-    cc
-
 -- the page that it came to is the one of the image, if it is there
 pub walked_page : (t : ℕ) (old new : Buffered) (spot : Spot) → Stays old new → IsBuffer new → Has (record { space = t; number = spot.page }) spot.at new.pool.frames → IsTrue new.right → IsSome (page_of (image_of old) t spot.page) → page_of (image_of old) t spot.page ≡ Some (page_in spot.at new)
 walked_page t old new spot s is has right =
     subst (λ (log : List (List Record)). IsSome (page_of (replayed log) t spot.page) → page_of (replayed log) t spot.page ≡ Some (page_in spot.at new)) s.log (held_page new (record { space = t; number = spot.page }) spot.at is has right)
-
--- only the page that it came to is pinned
-pub one_pin : (course : Course) (old new : Buffered) (spot : Spot) → WalksAll course old new (Ok spot) → AreLoose old.pool.frames → PinsAtMost 1 new.pool.frames
-one_pin course old new spot walked loose at =
-    let pins = walk_pins course (MOST_PAGES - 1) course.first None old new (Ok spot) walked (λ n. 0) (λ n. omega (arith, loose n)) at in
-    omega (arith, pins, pin_low spot.at at)
 
 module _ (d : Donor) (t key count first : ℕ) (there : finite.get d.tables t ≡ Some count) (is_first : first ≡ page_number d t key) where
   -- the chain that is walked

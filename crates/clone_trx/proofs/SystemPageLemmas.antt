@@ -1,15 +1,6 @@
 -- The pages that calls read are there, where the image keeps what the donor is.
-use Rattle.std.proofs.Common.{◌≡◌, ◌<◌, ℕ, sym, ap, subst, ◌∙◌, arith, Some, None, IsSome, is_some, List}
-use Rattle.std.proofs.lemmas.Bool.{false≢true}
-use Rattle.clone_undo.specs.Places.{header_page, record_page, capacity}
-use Rattle.clone_trx.proofs.Common.{Image, page_of, IsFormed, system_size, page_there, TRANSACTION_LIMIT}
-use Rattle.clone_pool.specs.declared.frame.Frame.{Frame}
-use Rattle.clone_pool.specs.declared.frame.Content.{Content}
-use Rattle.clone_pool.specs.declared.frame.Content.TheVariants.{Unused, Fresh, Held, Loading}
-use Rattle.clone_pool.specs.declared.frame.PageName.{PageName}
-use Rattle.clone_pool.specs.Frames.{frame_at, name_in}
-use Rattle.clone_buffer.specs.Buffered.{Shown, Shows}
-use Rattle.clone_trx.specs.Kept.{Has}
+use Rattle.clone_undo.specs.Places.{header_page, record_page}
+use Rattle.clone_trx.proofs.Common.{◌≡◌, ◌<◌, ℕ, sym, ap, subst, ◌∙◌, arith, Some, None, IsSome, is_some, List, false≢true, capacity, Image, page_of, IsFormed, system_size, page_there, TRANSACTION_LIMIT, Frame, Content, Unused, Fresh, Held, Loading, PageName, frame_at, name_in, Shown, Shows, Has}
 
 pub system_there : (image : Image) (number : ℕ) → IsFormed image → number < system_size → IsSome (page_of image 0 number)
 system_there image number formed low = ap is_some (page_there image 0 number (system_size, formed.size, low)).1

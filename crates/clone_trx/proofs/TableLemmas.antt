@@ -1,10 +1,6 @@
 -- A table is made, and the contents stay sound.
-use Rattle.std.proofs.Common.{◌≡◌, ◌≢◌, ◌<◌, ◌≤◌, ◌+◌, ◌⊎◌, ℕ, length, cond, refl, sym, ap, subst, ◌∙◌, inl, inr, Option, Some, None, IsSome, arith, is_some}
-use Rattle.clone_trx.proofs.Common.{nat_cmp-IsAntisymmetric, len-insert, nat_cmp_total, cases_eq, same_Some, none-some, Contents, set_at-same, set_at-other, TABLE_LIMIT, Donor, HoldsTables, HoldsChains, IsSound, get-set_same, get-set_other}
+use Rattle.clone_trx.proofs.Common.{◌≡◌, ◌≢◌, ◌<◌, ◌≤◌, ◌+◌, ◌⊎◌, ℕ, length, cond, refl, sym, ap, subst, ◌∙◌, inl, inr, Option, Some, None, IsSome, arith, is_some, nat_cmp-IsAntisymmetric, len-insert, nat_cmp_total, cases_eq, same_Some, none-some, Contents, set_at-same, set_at-other, TABLE_LIMIT, Donor, HoldsTables, HoldsChains, IsSound, get-set_same, get-set_other, TableEntry, entry_in, named}
 use Rattle.std.specs.FinMap as finite
-use Rattle.clone_space.specs.declared.entry.TableEntry.{TableEntry}
-use Rattle.clone_space.specs.Entries.{entry_in}
-use Rattle.clone_contents.specs.Contents.{named}
 use Rattle.clone_contents.specs.Steps as contents
 use Rattle.clone_plain.specs.Effects as plain
 use Rattle.clone_trx.proofs.ChainLemmas.{alone, same_chain}

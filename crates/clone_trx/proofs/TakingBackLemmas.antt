@@ -1,6 +1,5 @@
 -- The last change of a transaction is taken back, and the contents stay sound.
-use Rattle.std.proofs.Common.{◌≡◌, ◌<◌, ◌≤◌, ◌+◌, ◌%◌, ◌++◌, ℕ, List, [], ◌∷◌, length, refl, sym, ap, subst, ◌∙◌, arith, inl, inr, Option, Some, is_some, mod-lt}
-use Rattle.clone_trx.proofs.Common.{cases_eq, length_push, same_Some, after_changes, Commit, row_slot, UndoEntry, capacity, UndoSlot, Contents, HasPage, told_value, undone, with_slot, MayTakeBack, taken_back, telling, set_at-same, set_at-other, Donor, TakesBack, IsBound, HoldsTables, HoldsChains, HoldsRows, IsUndoSlot, StandsFor, IsSound, TellsChange, TellsChanges, committed_rows, IsLocked, value_of, own-set, others-set, taken_value, taken_value_other, taken_locked}
+use Rattle.clone_trx.proofs.Common.{◌≡◌, ◌<◌, ◌≤◌, ◌+◌, ◌%◌, ◌++◌, ℕ, List, [], ◌∷◌, length, refl, sym, ap, subst, ◌∙◌, arith, inl, inr, Option, Some, is_some, mod-lt, cases_eq, length_push, same_Some, after_changes, Commit, row_slot, UndoEntry, capacity, UndoSlot, Contents, HasPage, told_value, undone, with_slot, MayTakeBack, taken_back, telling, set_at-same, set_at-other, Donor, TakesBack, IsBound, HoldsTables, HoldsChains, HoldsRows, IsUndoSlot, StandsFor, IsSound, TellsChange, TellsChanges, committed_rows, IsLocked, value_of, own-set, others-set, taken_value, taken_value_other, taken_locked}
 use Rattle.std.specs.FinMap as finite
 use Rattle.clone_trx.proofs.ChainLemmas.{same_chains, on_there}
 use Rattle.clone_trx.proofs.RowSlotLemmas.{KeepsBound, SetsSlot, rows_set, kept}

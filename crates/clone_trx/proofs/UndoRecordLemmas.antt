@@ -1,6 +1,5 @@
 -- Undo records tell of changes, and go on doing so.
-use Rattle.std.proofs.Common.{◌≡◌, ◌++◌, List, [], ◌∷◌, length, refl, sym, subst, ◌∙◌, arith, Option, Some, None}
-use Rattle.clone_trx.proofs.Common.{AllByRecursion, Rows, after_change, after_changes, Change, Commit, UndoEntry, IsEntry, UndoSlot, committed_rows, Donor, Slots, TellsChange, TellsChanges, IsUndoSlot, StandsFor}
+use Rattle.clone_trx.proofs.Common.{◌≡◌, ◌++◌, List, [], ◌∷◌, length, refl, sym, subst, ◌∙◌, arith, Option, Some, None, AllByRecursion, Rows, after_change, after_changes, Change, Commit, UndoEntry, IsEntry, UndoSlot, committed_rows, Donor, Slots, TellsChange, TellsChanges, IsUndoSlot, StandsFor}
 use Rattle.clone_trx.proofs.RowSlotLemmas.{KeepsBound}
 
 -- as many records as changes, each in its ranges

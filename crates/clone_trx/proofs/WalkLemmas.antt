@@ -1,19 +1,7 @@
 -- What a walk leaves: the log, and the pins but for that of the page that it came to.
-use Rattle.std.proofs.Common.{◌≡◌, ◌<◌, ◌≤◌, ◌+◌, ◌-◌, ◌&&◌, ℕ, Bool, true, false, List, refl, sym, ap, subst, ◌∙◌, arith, Option, Some, None, IsTrue, IfSome, IfOk, Result, Ok, Err, is_some, not, if◌then◌else◌, nat_lt, option_and_then}
-use Rattle.std.proofs.lemmas.Bool.{and_parts, and_from, ltb-true, lt-ltb, cond-true}
-use Rattle.clone_model.specs.declared.line.TheConstants.{MOST_PAGES}
-use Rattle.clone_page.specs.Slots.{row_slot_count}
-use Rattle.clone_row.specs.Chains.{behind}
-use Rattle.clone_pool.specs.declared.frame.PageName.{PageName}
-use Rattle.clone_buffer.specs.Buffered.{Buffered}
-use Rattle.clone_plain.specs.declared.refusal.EngineRefusal.{EngineRefusal}
-use Rattle.clone_trx.specs.declared.walk.Course.{Course}
-use Rattle.clone_trx.specs.declared.walk.Spot.{Spot}
-use Rattle.clone_trx.proofs.Common.{same_Some, none-some, slots, FindsFree}
+use Rattle.clone_trx.proofs.Common.{◌≡◌, ◌<◌, ◌≤◌, ◌+◌, ◌-◌, ◌&&◌, ℕ, Bool, true, false, List, refl, sym, ap, subst, ◌∙◌, arith, Option, Some, None, IsTrue, IfSome, IfOk, Result, Ok, Err, is_some, not, if◌then◌else◌, nat_lt, option_and_then, and_parts, and_from, ltb-true, lt-ltb, cond-true, MOST_PAGES, row_slot_count, behind, PageName, Buffered, EngineRefusal, Course, Spot, same_Some, none-some, slots, FindsFree, IsInRange, FindsRoom, FindsWanted, Holds, MissesBy, Walks, misses, finds, keeps, passes, returns, arrives, chain_page, let_go, let_go_kept, onward, page_in}
 use Rattle.clone_trx.proofs.HeldPageLemmas.{pin_at, pin_here, held_log, held_pins, released_pins}
 use Rattle.clone_trx.proofs.FramePinLemmas.{pins, fetch_pins}
-use Rattle.clone_trx.specs.Kept.{IsInRange}
-use Rattle.clone_trx.specs.Ways.{FindsRoom, FindsWanted, Holds, MissesBy, Walks, misses, finds, keeps, passes, returns, arrives, chain_page, let_go, let_go_kept, onward, page_in}
 
 -- A page that a walk goes on to.
 
@@ -74,7 +62,7 @@ pub kept_stays : (kept : Option Spot) (old new : Buffered) → new ≡ let_go_ke
 kept_stays None old new is = record { log = ap (λ (b : Buffered). b.log) is; ring = ap (λ (b : Buffered). b.ring) is; before = subst (λ (b : Buffered). IsTrue b.right) is }
 kept_stays (Some spot) old new is = released_stays spot.at old new is
 
-missed_stays : (page : PageName) (refusal : EngineRefusal) (old new : Buffered) → MissesBy page refusal old new → Stays old new
+pub missed_stays : (page : PageName) (refusal : EngineRefusal) (old new : Buffered) → MissesBy page refusal old new → Stays old new
 missed_stays page refusal old new m = record { log = ap (λ (b : Buffered). b.log) m.2.same; ring = ap (λ (b : Buffered). b.ring) m.2.same; before = subst (λ (b : Buffered). IsTrue b.right) m.2.same }
 
 pub walk_stays : (course : Course) (left page : ℕ) (kept : Option Spot) (old new : Buffered) (result : Result Spot EngineRefusal) → Walks course left page kept old new result → Stays old new
@@ -99,7 +87,7 @@ spot_in (Ok spot) = Some spot
 spot_in (Err refusal) = None
 
 -- a page that isn't brought
-missed_pins : (page : PageName) (refusal : EngineRefusal) (old new : Buffered) → MissesBy page refusal old new → (other : ℕ) → pins new.pool.frames other ≡ pins old.pool.frames other
+pub missed_pins : (page : PageName) (refusal : EngineRefusal) (old new : Buffered) → MissesBy page refusal old new → (other : ℕ) → pins new.pool.frames other ≡ pins old.pool.frames other
 missed_pins page refusal old new m = (fetch_pins page old.pool new.pool (Err m.2.refusal) m.2.fetched).at
 
 -- what was kept is let go

@@ -1,24 +1,12 @@
 -- One page of a walk: what was found on it, and how the walk goes on.
-use Rattle.std.proofs.Common.{◌≡◌, ◌≢◌, ◌<◌, ◌≤◌, ◌+◌, ◌&&◌, ◌==◌, ◌⊎◌, inl, inr, ℕ, Bool, true, false, List, [], ◌∷◌, sym, ap, subst, ◌∙◌, arith, Option, Some, None, IsTrue, IfSome, IsErrAnd, Result, Ok, Err, is_some}
-use Rattle.std.proofs.lemmas.Bool.{cases_eq, false≢true}
-use Rattle.std.specs.List.{AllByRecursion, IsDistinct}
-use Rattle.clone_row.specs.Chains.{IsChain}
-use Rattle.clone_image.specs.Replay.{replayed}
-use Rattle.clone_contents.proofs.FindLemmas.{next_on}
-use Rattle.clone_pool.specs.declared.frame.Frame.{Frame}
-use Rattle.clone_pool.specs.declared.frame.PageName.{PageName}
-use Rattle.clone_pool.specs.Frames.{frame_at}
-use Rattle.clone_buffer.specs.Buffered.{Buffered, image_of}
-use Rattle.clone_plain.specs.declared.refusal.EngineRefusal.{EngineRefusal}
-use Rattle.clone_trx.specs.declared.walk.Course.{Course}
-use Rattle.clone_trx.specs.declared.walk.Spot.{Spot}
+use Rattle.std.proofs.lemmas.Bool.{cases_eq}
+use Rattle.std.specs.List.{AllByRecursion}
 use Rattle.clone_trx.specs.declared.walk.Step.TheVariants.{Ends, GoesOn}
-use Rattle.clone_trx.proofs.Common.{same_Some, none-some, slots, Finds, Record, Contents, contents_of, HasPage, Has, HasChain}
+use Rattle.std.specs.List.{IsDistinct}
+use Rattle.clone_trx.proofs.Common.{◌≡◌, ◌≢◌, ◌<◌, ◌≤◌, ◌+◌, ◌&&◌, ◌==◌, ◌⊎◌, inl, inr, ℕ, Bool, true, false, List, [], ◌∷◌, sym, ap, subst, ◌∙◌, arith, Option, Some, None, IsTrue, IfSome, IsErrAnd, Result, Ok, Err, is_some, false≢true, IsChain, replayed, next_on, Frame, PageName, frame_at, Buffered, image_of, EngineRefusal, Course, Spot, same_Some, none-some, slots, Finds, Record, Contents, contents_of, HasPage, Has, HasChain, Follows, IsKeptHeld, MayGoOn, FindsRoom, FindsWanted, Holds, Lacks, finds, keeps, passes, returns, arrives, chain_page, let_go, let_go_kept, onward, page_in}
 use Rattle.clone_trx.proofs.FramePinLemmas.{pins}
 use Rattle.clone_trx.proofs.HeldPageLemmas.{pin_at, pin_here, pin_apart, held_log, held_right, held_pins, released_pins}
 use Rattle.clone_trx.proofs.WalkLemmas.{onward_is, kept_pins, pin_of}
-use Rattle.clone_trx.specs.Walking.{Follows, IsKeptHeld, MayGoOn}
-use Rattle.clone_trx.specs.Ways.{FindsRoom, FindsWanted, Holds, Lacks, finds, keeps, passes, returns, arrives, chain_page, let_go, let_go_kept, onward, page_in}
 
 -- each page that is held stays so while its frame is pinned
 abbrev pub StayHeld : Buffered → Buffered → Type 0

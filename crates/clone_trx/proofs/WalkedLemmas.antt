@@ -1,30 +1,16 @@
 -- Where a walk comes to, where all that was read is right: to THE slot of the key.
-use Rattle.std.proofs.Common.{◌≡◌, ◌≢◌, ◌<◌, ◌≤◌, ◌-◌, ◌%◌, ◌==◌, ◌&&◌, ◌⊎◌, inl, inr, ℕ, Bool, true, false, List, [], ◌∷◌, length, refl, sym, ap, subst, ◌∙◌, arith, Option, Some, None, IsTrue, IfSome, MatchOption, Result, Ok, Err, ◌||◌, unwrap_or, eqb-true, mod-lt}
-use Rattle.std.proofs.lemmas.Bool.{false≢true}
 use Rattle.std.proofs.lemmas.Map.Steps.{length-le_from_distinct_below}
-use Rattle.std.specs.List.{AllByRecursion, list_any}
+use Rattle.std.specs.List.{AllByRecursion}
 use Rattle.std.specs.FinMap as finite
-use Rattle.clone_model.specs.declared.line.TheConstants.{MOST_PAGES}
-use Rattle.clone_row.specs.Chains.{behind, IsChain}
-use Rattle.clone_image.specs.Replay.{replayed}
 use Rattle.clone_page.specs.Header.{zero_page}
 use Rattle.clone_row.proofs.Rows.{slots-zero}
-use Rattle.clone_contents.proofs.FindLemmas.{key_found, free_found, next_on, slot_on}
 use Rattle.clone_contents.specs.Finding.{FindsFreeIn}
 use Rattle.clone_contents.specs.Formed.{IsRowsOrUnused}
-use Rattle.clone_buffer.specs.Buffered.{Buffered, image_of}
-use Rattle.clone_plain.specs.declared.refusal.EngineRefusal.{EngineRefusal}
-use Rattle.clone_trx.specs.declared.walk.Course.{Course}
-use Rattle.clone_trx.specs.declared.walk.Spot.{Spot}
-use Rattle.clone_trx.proofs.Common.{all_pages-is, same_Some, none-some, unused, Finds, FindsFree, slots, slot_in, kind_of, is_unused, Image, page_of, page_there, Contents, contents_of, HasPage, Donor, page_number, IsBound, IsNowhere, IsRowSlot, OnChain, HasChain, IsKept}
+use Rattle.clone_trx.proofs.Common.{◌≡◌, ◌≢◌, ◌<◌, ◌≤◌, ◌-◌, ◌%◌, ◌==◌, ◌&&◌, ◌⊎◌, inl, inr, ℕ, Bool, true, false, List, [], ◌∷◌, length, refl, sym, ap, subst, ◌∙◌, arith, Option, Some, None, IsTrue, IfSome, MatchOption, Result, Ok, Err, ◌||◌, unwrap_or, eqb-true, mod-lt, false≢true, list_any, MOST_PAGES, behind, IsChain, replayed, key_found, free_found, next_on, slot_on, Buffered, image_of, EngineRefusal, Course, Spot, all_pages-is, same_Some, none-some, unused, Finds, FindsFree, slots, slot_in, kind_of, is_unused, Image, page_of, page_there, Contents, contents_of, HasPage, Donor, page_number, IsBound, IsNowhere, IsRowSlot, OnChain, HasChain, IsKept, row_walk, IsFullAt, HasSize, goes_on, begins, FindsRoom, FindsWanted, Holds, Walks, WalksAll, misses, finds, keeps, passes, returns, arrives, chain_page, onward, page_in}
 use Rattle.clone_trx.proofs.CauseLemmas.{not_equal}
 use Rattle.clone_trx.proofs.ChainLemmas.{all_on, on_there}
 use Rattle.clone_trx.proofs.HeldPageLemmas.{held_right}
 use Rattle.clone_trx.proofs.WalkLemmas.{Stays, walk_stays, held_stays, released_stays, kept_stays, room_free, onward_is, onward_none}
-use Rattle.clone_trx.specs.Calls.{row_walk}
-use Rattle.clone_trx.specs.Kept.{IsFullAt}
-use Rattle.clone_trx.specs.Sound.{HasSize, goes_on, begins}
-use Rattle.clone_trx.specs.Ways.{FindsRoom, FindsWanted, Holds, Walks, WalksAll, misses, finds, keeps, passes, returns, arrives, chain_page, onward, page_in}
 
 -- Over the pages of one image. `On` holds of the pages that a walk may come to.
 module _ (course : Course) (image : Image) (used : course.table ≢ 0) (On : ℕ → Type 0) (closed : (p q : ℕ) → On p → (contents_of image).next course.table p ≡ Some q → On q) where

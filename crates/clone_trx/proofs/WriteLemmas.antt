@@ -1,9 +1,6 @@
 -- What a call has written, and what it leaves that was refused.
-use Rattle.std.proofs.Common.{◌≡◌, ◌++◌, ◌∷◌, [], ℕ, true, false, List, sym, ap, subst, ◌∙◌, Option, None, Some, refl, IsTrue, OnOk, OnErr, is_some, Result, Ok, Err, is_err}
-use Rattle.clone_trx.proofs.Common.{Record, records_of_end, after_records, commit_records, position_record, Donor, IsKept}
-use Rattle.clone_image.specs.Replay.{end_of}
+use Rattle.clone_trx.proofs.Common.{◌≡◌, ◌++◌, ◌∷◌, [], ℕ, true, false, List, sym, ap, subst, ◌∙◌, Option, None, Some, refl, IsTrue, OnOk, OnErr, is_some, Result, Ok, Err, is_err, Record, records_of_end, after_records, commit_records, position_record, Donor, IsKept, end_of, Buffered, image_of}
 use Rattle.clone_law.specs.Since.{ends}
-use Rattle.clone_buffer.specs.Buffered.{Buffered, image_of}
 use Rattle.clone_buffer.specs.Writing as buffer
 use Rattle.clone_buffer.proofs.WrittenLemmas.{replayed-push}
 

@@ -7,3 +7,5 @@ pub mod Walking
 pub mod Locked
 pub mod Opened
 pub mod Missed
+pub mod Holding
+pub mod Placing

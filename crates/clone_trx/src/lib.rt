@@ -4,6 +4,7 @@
 #![tactic(auto)]
 
 mod active;
+mod held;
 mod hold;
 mod locks;
 mod opening;

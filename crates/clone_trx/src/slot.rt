@@ -24,8 +24,7 @@ pub fn before_on(page: &Page, slot: u16) -> Before
     let Some((_, value)) = present(page, slot) else {
         return Before::Absent;
     };
-    match Value::new(value.bytes()) {
-        Some(value) => Before::Present(value),
-        None => unreachable!(),
-    }
+    // it has at most 64 bytes
+    value.bytes();
+    Before::Present(value)
 }

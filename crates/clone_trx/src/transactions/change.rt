@@ -1,32 +1,29 @@
-ghost use Rattle.std.specs.Prelude.{IsErrOf, IsSome, IsTrue, MatchResult, None, Some, length, true, ◌==◌, ◌≡◌, ◌≤◌};
+ghost use Rattle.std.specs.Prelude.{IfErr, IfOk, IsErrOf, IsSome, IsTrue, MatchResult, None, OnErr, OnOk, Some, [], length, true, ◌==◌, ◌≡◌};
 ghost use Rattle.std.specs.declared.option.Option.{Option};
 ghost use Rattle.std.specs.FinMap as finite;
-ghost use Rattle.std.specs.List.{AllByRecursion};
 ghost use Rattle.clone_outside.specs.Disk.{DiskImage};
 ghost use Rattle.clone_outside.specs.DiskCalls.{Reads};
-ghost use Rattle.clone_mtr.specs.Spelling.{longest, spelling};
-ghost use Rattle.clone_undo.specs.Places.{header_page, record_page};
 ghost use Rattle.clone_undo.specs.Changes.{records_of_change};
-ghost use Rattle.clone_image.specs.Image.{EditsPages};
-ghost use Rattle.clone_contents.specs.Steps.{is_unused};
 ghost use Rattle.clone_buffer.specs.Buffered.{image_of};
-ghost use Rattle.clone_buffer.specs.Writing.{HasFrame, IsOnPage};
 ghost use Rattle.clone_plain.specs.Causes.{change_cause};
 ghost use Rattle.clone_plain.specs.Donor.{changes_of};
 ghost use Rattle.clone_plain.specs.Effects.{Changes, delete_of, put_of};
 ghost use Rattle.clone_plain.specs.declared.refusal.Cause.TheVariants.{DiskFault};
 ghost use Rattle.clone_plain.specs.declared.refusal.EngineRefusal.TheVariants.{Because};
-ghost use Rattle.clone_trx.specs.Calls.{change_at, change_way, is_new, row_page, system_page, told_way};
-ghost use Rattle.clone_trx.specs.Ways.{Answers, Carries, Goes, PinsAtMost, StaysStanding, Writes, page_in, reads, writes};
-ghost use Rattle.clone_trx.specs.Kept.{IsHeld, IsSpot, IsTargetFor, Keeps, KeptBetween, MayChange};
+ghost use Rattle.clone_trx.specs.Calls.{change_at, change_way, row_page, told_way};
+ghost use Rattle.clone_trx.specs.Holding.{IsRefused};
+ghost use Rattle.clone_trx.specs.Placing.{IsPlaced, IsReady, change_call};
+ghost use Rattle.clone_trx.specs.Ways.{Answers, Carries, Goes, StaysStanding, Writes, page_in};
+ghost use Rattle.clone_trx.specs.Kept.{IsSpot, IsTargetFor, Keeps, KeptBetween, MayChange};
 ghost use Rattle.clone_trx.specs.Sound.{IsKept};
 ghost use Rattle.clone_trx.specs.RowSlots.{page_number};
 ghost use Rattle.clone_row.specs.Slots as rows;
 
 use crate::Transactions;
-use crate::hold::{check_room, first_record, hold, records_from, release, write_held};
+use crate::held::Held;
+use crate::hold::{check_room, first_record, records_from, write_held};
 use crate::slot::before_on;
-use crate::walk::{Course, Spot, walk};
+use crate::walk::{Course, Spot};
 use clone_buffer::Buffer;
 use clone_model::{Change, Value};
 use clone_mtr::Record;
@@ -34,6 +31,7 @@ use clone_outside::PageDisk;
 use clone_plain::{CHANGE_LIMIT, Cause, EngineRefusal, VALUE_LIMIT};
 use clone_row::slot_image;
 use clone_undo::{UndoRecord, change_records, first_change_records, header_page, record_page};
+use std::alloc::AllocError;
 
 // Where a change of a row goes.
 #[derive(Drop)]
@@ -164,56 +162,84 @@ impl Transactions {
             (D.state disk.old).told (D.state disk.new).told }
     {
         self.laws();
-        let course = Course {
-            table: change.table,
-            first: bucket,
-            key: change.key,
-            for_room: true,
-        };
-        let spot = walk(buffer, disk, course)?;
-        let changed = self.change_on(buffer, trx, change, spot, disk);
-        release(buffer, spot.at);
+        let mut held = Held::new();
+        let target = self.find_target(buffer, trx, &change, bucket, &mut held, disk)?;
+        held.hold(buffer, disk, 0, header_page(trx))?;
+        let at = held.hold(buffer, disk, 0, record_page(trx, target.count as usize))?;
+        let first = first_record(buffer.frame(at));
+        let changed = self.write_change(buffer, trx, change, &target, first);
+        held.release(buffer);
         changed
     }
 
-    // Makes a change, with the page that a walk came to held: in the slot there, or on a new page
-    // behind that one.
-    fn change_on<D: PageDisk>(
-        &mut self,
+    // Finds the place of a change, and holds its page: in a slot of the row's chain, or on a new
+    // page behind the last one of the chain.
+    fn find_target<D: PageDisk>(
+        &self,
         buffer: &mut Buffer,
         trx: u32,
-        change: Change,
-        spot: Spot,
+        change: &Change,
+        bucket: u32,
+        held: &mut Held,
         disk: &mut D,
-    ) -> Result<(), EngineRefusal>
-        requires cause { MayChange self.old trx change }
-        requires spot { IsSpot self.old change.table change.key buffer.old spot }
-        requires kept { IsTrue buffer.old.right → IsKept self.old (image_of buffer.old) }
-        requires pins { PinsAtMost 1 buffer.old.pool.frames }
-        ensures way { Goes (change_at self.old trx change spot.page spot.slot
-            (page_in spot.at buffer.old)) buffer.old buffer.new result }
-        ensures donor { Carries self.old self.new result
-            (λ _. Changes self.old trx change self.new) }
-        ensures kept { IsTrue buffer.new.right → IsKept self.new (image_of buffer.new) }
+    ) -> Result<ChangeTarget, EngineRefusal>
+        requires cause { MayChange self.now trx change.now }
+        requires bucket { bucket ≡ page_number self.now change.now.table change.now.key }
+        requires kept { Keeps self.now buffer.old }
+        requires none { held.old ≡ [] }
+        ensures placed { IfOk result (λ target. IsPlaced self.now trx change.now buffer.old held.new
+            buffer.new target.entry target.is_new target.count) }
+        ensures refused { IfErr result (λ refusal. IsRefused
+            (change_call self.now trx change.now buffer.old) buffer.new refusal) }
         ensures reads { Reads (IsErrOf result (Because DiskFault))
             (D.state disk.old) (D.state disk.new) }
         ensures stands { StaysStanding buffer.old buffer.new
             (D.state disk.old).told (D.state disk.new).told }
     {
         self.laws();
-        buffer.laws();
-        let Some(slot) = spot.slot else {
-            return self.change_longer(buffer, trx, change, spot, disk);
+        let course = Course {
+            table: change.table,
+            first: bucket,
+            key: change.key,
+            for_room: true,
         };
+        let spot = held.walk(buffer, disk, course)?;
+        match spot.slot {
+            Some(slot) => Ok(self.target_at(buffer, trx, change, spot, slot)),
+            None => self.grow(buffer, trx, change, spot, held, disk),
+        }
+    }
+
+    // The place of a change in a slot that a walk came to.
+    fn target_at(
+        &self,
+        buffer: &Buffer,
+        trx: u32,
+        change: &Change,
+        spot: Spot,
+        slot: u16,
+    ) -> ChangeTarget
+        requires cause { MayChange self.now trx change.now }
+        requires spot { IsSpot self.now change.now.table change.now.key buffer.now spot }
+        requires slot { spot.slot ≡ Some slot }
+        requires kept { IsTrue buffer.now.right → IsKept self.now (image_of buffer.now) }
+        ensures target { IsTargetFor self.now trx change.now buffer.now result.entry result.is_new
+            result.count }
+        ensures row { row_page result.entry
+            ≡ record { space = change.now.table; number = spot.page } }
+        ensures way { told_way trx change.now result.count result.is_new result.entry
+            ≡ change_at self.now trx change.now spot.page spot.slot (page_in spot.at buffer.now) }
+    {
+        self.laws();
+        buffer.laws();
         let count = self.count_of(trx);
         let page = buffer.frame(spot.at);
         let before = before_on(page, slot);
-        let target = ChangeTarget {
+        ChangeTarget {
             entry: UndoRecord::new(change.table, spot.page, slot, change.key, before),
             is_new: page.kind() == 0,
             count,
-        };
-        self.change_at_target(buffer, trx, change, &target, disk)
+        }
     }
 
     // How many changes an open transaction has made.
@@ -228,76 +254,9 @@ impl Transactions {
         commit.changes.len() as u16
     }
 
-    // Makes a change at its target, with the row's page held.
-    pub(crate) fn change_at_target<D: PageDisk>(
-        &mut self,
-        buffer: &mut Buffer,
-        trx: u32,
-        change: Change,
-        target: &ChangeTarget,
-        disk: &mut D,
-    ) -> Result<(), EngineRefusal>
-        requires cause { MayChange self.old trx change }
-        requires target { IsTargetFor self.old trx change buffer.old target.now.entry
-            target.now.is_new target.now.count }
-        requires kept { IsTrue buffer.old.right → IsKept self.old (image_of buffer.old) }
-        requires row { IsHeld (row_page target.now.entry) buffer.old.pool.frames }
-        requires pins { PinsAtMost 3 buffer.old.pool.frames }
-        ensures way { Goes (told_way trx change target.now.count target.now.is_new target.now.entry)
-            buffer.old buffer.new result }
-        ensures donor { Carries self.old self.new result
-            (λ _. Changes self.old trx change self.new) }
-        ensures kept { IsTrue buffer.new.right → IsKept self.new (image_of buffer.new) }
-        ensures reads { Reads (IsErrOf result (Because DiskFault))
-            (D.state disk.old) (D.state disk.new) }
-        ensures stands { StaysStanding buffer.old buffer.new
-            (D.state disk.old).told (D.state disk.new).told }
-    {
-        self.laws();
-        let header = hold(buffer, disk, 0, header_page(trx))?;
-        let changed = self.change_in(buffer, trx, change, target, disk);
-        release(buffer, header);
-        changed
-    }
-
-    // Makes a change at its target, with the row's page and the first page of the undo slot held.
-    fn change_in<D: PageDisk>(
-        &mut self,
-        buffer: &mut Buffer,
-        trx: u32,
-        change: Change,
-        target: &ChangeTarget,
-        disk: &mut D,
-    ) -> Result<(), EngineRefusal>
-        requires cause { MayChange self.old trx change }
-        requires target { IsTargetFor self.old trx change buffer.old target.now.entry
-            target.now.is_new target.now.count }
-        requires kept { IsTrue buffer.old.right → IsKept self.old (image_of buffer.old) }
-        requires row { IsHeld (row_page target.now.entry) buffer.old.pool.frames }
-        requires header { IsHeld (system_page (header_page trx)) buffer.old.pool.frames }
-        requires pins { PinsAtMost 4 buffer.old.pool.frames }
-        ensures way { Goes (reads (system_page (record_page trx target.now.count))
-            (λ page. writes (records_of_change (is_new page) target.now.is_new trx target.now.count
-            target.now.entry (rows.image change.key change.value)))) buffer.old buffer.new result }
-        ensures donor { Carries self.old self.new result
-            (λ _. Changes self.old trx change self.new) }
-        ensures kept { IsTrue buffer.new.right → IsKept self.new (image_of buffer.new) }
-        ensures reads { Reads (IsErrOf result (Because DiskFault))
-            (D.state disk.old) (D.state disk.new) }
-        ensures stands { StaysStanding buffer.old buffer.new
-            (D.state disk.old).told (D.state disk.new).told }
-    {
-        self.laws();
-        let at = hold(buffer, disk, 0, record_page(trx, target.count as usize))?;
-        let first = first_record(buffer.frame(at));
-        let changed = self.change_held(buffer, trx, change, target, first);
-        release(buffer, at);
-        changed
-    }
-
-    // Makes a change, with all its pages held. The first record makes the page of the undo record,
-    // and is left out where that page is in use.
-    fn change_held(
+    // Writes a change to its place, with all its pages held. The first record makes the page of the
+    // undo record, and is left out where that page is in use.
+    fn write_change(
         &mut self,
         buffer: &mut Buffer,
         trx: u32,
@@ -306,16 +265,9 @@ impl Transactions {
         first: usize,
     ) -> Result<(), EngineRefusal>
         requires cause { MayChange self.old trx change }
-        requires target { IsTargetFor self.old trx change buffer.old target.now.entry
-            target.now.is_new target.now.count }
-        requires first { first ≤ 1 }
-        requires new { IsTrue buffer.old.right → (first == 0)
-            ≡ is_unused (image_of buffer.old) 0 (record_page trx target.now.count) }
+        requires ready { IsReady self.old trx change buffer.old target.now.entry target.now.is_new
+            target.now.count first }
         requires kept { IsTrue buffer.old.right → IsKept self.old (image_of buffer.old) }
-        requires row { IsHeld (row_page target.now.entry) buffer.old.pool.frames }
-        requires header { IsHeld (system_page (header_page trx)) buffer.old.pool.frames }
-        requires undo { IsHeld (system_page (record_page trx target.now.count))
-            buffer.old.pool.frames }
         ensures written { Writes (records_of_change (first == 0) target.now.is_new trx
             target.now.count target.now.entry (rows.image change.key change.value)) buffer.old
             buffer.new result }
@@ -328,16 +280,16 @@ impl Transactions {
         let image = slot_image(change.key, change.value.as_ref());
         if target.is_new {
             let records = first_change_records(trx, target.count, &target.entry, &image);
-            self.change_by(buffer, trx, change, target, &records, first)
+            self.write_from(buffer, trx, change, target, &records, first)
         } else {
             let records = change_records(trx, target.count, &target.entry, &image);
-            self.change_by(buffer, trx, change, target, &records, first)
+            self.write_from(buffer, trx, change, target, &records, first)
         }
     }
 
-    // Makes a change by the records that make the page of the undo record, too, from the first or
+    // Writes a change by the records that make the page of the undo record, too, from the first or
     // the second on.
-    fn change_by(
+    fn write_from(
         &mut self,
         buffer: &mut Buffer,
         trx: u32,
@@ -347,19 +299,12 @@ impl Transactions {
         first: usize,
     ) -> Result<(), EngineRefusal>
         requires cause { MayChange self.old trx change }
-        requires target { IsTargetFor self.old trx change buffer.old target.now.entry
-            target.now.is_new target.now.count }
+        requires ready { IsReady self.old trx change buffer.old target.now.entry target.now.is_new
+            target.now.count first }
         requires records { records.now ≡ records_of_change true target.now.is_new trx
             target.now.count target.now.entry (rows.image change.key change.value) }
         requires image { length (rows.image change.key change.value) ≡ 80 }
-        requires first { first ≤ 1 }
-        requires new { IsTrue buffer.old.right → (first == 0)
-            ≡ is_unused (image_of buffer.old) 0 (record_page trx target.now.count) }
         requires kept { IsTrue buffer.old.right → IsKept self.old (image_of buffer.old) }
-        requires row { IsHeld (row_page target.now.entry) buffer.old.pool.frames }
-        requires header { IsHeld (system_page (header_page trx)) buffer.old.pool.frames }
-        requires undo { IsHeld (system_page (record_page trx target.now.count))
-            buffer.old.pool.frames }
         ensures written { Writes (records_of_change (first == 0) target.now.is_new trx
             target.now.count target.now.entry (rows.image change.key change.value)) buffer.old
             buffer.new result }
@@ -370,37 +315,25 @@ impl Transactions {
     {
         // an old value has at most 64 bytes, so the records fit one mini-transaction
         target.entry.value();
-        self.write_change(buffer, trx, change, records_from(records, first))
+        let records = records_from(records, first);
+        check_room(buffer, records)?;
+        self.note_change(trx, change)?;
+        write_held(buffer, records);
+        Ok(())
     }
 
-    // Writes the records of a change, if the log has room for them.
-    fn write_change(
-        &mut self,
-        buffer: &mut Buffer,
-        trx: u32,
-        change: Change,
-        records: &[Record],
-    ) -> Result<(), EngineRefusal>
+    // Adds a change to its transaction, and locks its row. After a refusal all is as before.
+    fn note_change(&mut self, trx: u32, change: Change) -> Result<(), AllocError>
         requires cause { MayChange self.old trx change }
-        requires some { 1 ≤ length records.now }
-        requires short { length (spelling records.now) ≤ longest }
-        requires edits { AllByRecursion EditsPages records.now }
-        requires framed { AllByRecursion (HasFrame buffer.old.pool.frames) records.now }
-        requires there { IsTrue buffer.old.right
-            → AllByRecursion (IsOnPage (image_of buffer.old)) records.now }
-        ensures written { Writes records.now buffer.old buffer.new result }
-        ensures donor { Carries self.old self.new result
-            (λ _. Changes self.old trx change self.new) }
-        ensures stands { (told : Option DiskImage) → StaysStanding buffer.old buffer.new told told }
+        ensures ok { OnOk result (Changes self.old trx change self.new) }
+        ensures err { OnErr result (self.new ≡ self.old) }
     {
-        check_room(buffer, records)?;
         let (table, key) = (change.table, change.key);
         self.active.push(trx, change)?;
         if self.locks.lock(trx, table, key).is_err() {
             let _ = self.active.pop(trx);
-            return Err(EngineRefusal::NoMemory);
+            return Err(AllocError);
         }
-        write_held(buffer, records);
         Ok(())
     }
 }

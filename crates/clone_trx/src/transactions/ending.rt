@@ -10,12 +10,13 @@ ghost use Rattle.clone_plain.specs.Effects.{Commits};
 ghost use Rattle.clone_plain.specs.declared.refusal.Cause.TheVariants.{DiskFault};
 ghost use Rattle.clone_plain.specs.declared.refusal.EngineRefusal.TheVariants.{Because, NoMemory};
 ghost use Rattle.clone_trx.specs.Calls.{commit_way, system_page};
-ghost use Rattle.clone_trx.specs.Ways.{Answers, Carries, Goes, PinsAtMost, StaysStanding, Writes, reads, writes};
+ghost use Rattle.clone_trx.specs.Ways.{Answers, Carries, StaysStanding, Writes};
 ghost use Rattle.clone_trx.specs.Kept.{IsHeld, Keeps};
 ghost use Rattle.clone_trx.specs.Sound.{IsKept};
 
 use crate::Transactions;
-use crate::hold::{check_room, hold, release, write_held};
+use crate::held::Held;
+use crate::hold::{check_room, write_held};
 use crate::records::position;
 use clone_buffer::Buffer;
 use clone_outside::PageDisk;
@@ -46,43 +47,16 @@ impl Transactions {
         if self.active.get(trx).is_none() {
             return Err(Cause::NoSuchTrx.into());
         }
-        let header = hold(buffer, disk, 0, header_page(trx))?;
-        let committed = self.commit_in(buffer, trx, disk);
-        release(buffer, header);
-        committed
-    }
-
-    // Commits, with the first page of the undo slot held.
-    fn commit_in<D: PageDisk>(
-        &mut self,
-        buffer: &mut Buffer,
-        trx: u32,
-        disk: &mut D,
-    ) -> Result<u64, EngineRefusal>
-        requires cause { no_trx self.old trx ≡ None }
-        requires kept { IsTrue buffer.old.right → IsKept self.old (image_of buffer.old) }
-        requires held { IsHeld (system_page (header_page trx)) buffer.old.pool.frames }
-        requires pins { PinsAtMost 1 buffer.old.pool.frames }
-        ensures way { Goes (reads (system_page 0)
-            (λ page. writes (commit_records trx (length self.old.binlog + 1)))) buffer.old
-            buffer.new result }
-        ensures donor { Carries self.old self.new result
-            (λ position. Commits self.old trx position self.new) }
-        ensures memory { result ≢ Err NoMemory }
-        ensures kept { IsTrue buffer.new.right → IsKept self.new (image_of buffer.new) }
-        ensures reads { Reads (IsErrOf result (Because DiskFault))
-            (D.state disk.old) (D.state disk.new) }
-        ensures stands { StaysStanding buffer.old buffer.new
-            (D.state disk.old).told (D.state disk.new).told }
-    {
-        let system = hold(buffer, disk, 0, 0)?;
-        let committed = self.commit_held(buffer, trx);
-        release(buffer, system);
+        let mut held = Held::new();
+        held.hold(buffer, disk, 0, header_page(trx))?;
+        held.hold(buffer, disk, 0, 0)?;
+        let committed = self.write_commit(buffer, trx);
+        held.release(buffer);
         committed
     }
 
     // Commits, with the pages held that it writes to.
-    fn commit_held(&mut self, buffer: &mut Buffer, trx: u32) -> Result<u64, EngineRefusal>
+    fn write_commit(&mut self, buffer: &mut Buffer, trx: u32) -> Result<u64, EngineRefusal>
         requires cause { no_trx self.old trx ≡ None }
         requires kept { IsTrue buffer.old.right → IsKept self.old (image_of buffer.old) }
         requires header { IsHeld (system_page (header_page trx)) buffer.old.pool.frames }

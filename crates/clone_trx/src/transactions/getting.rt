@@ -9,9 +9,9 @@ ghost use Rattle.clone_trx.specs.Ways.{Answers, StaysStanding};
 ghost use Rattle.clone_trx.specs.Kept.{Keeps};
 
 use crate::Transactions;
-use crate::hold::release;
+use crate::held::Held;
 use crate::slot::value_on;
-use crate::walk::{Course, walk};
+use crate::walk::Course;
 use clone_buffer::Buffer;
 use clone_model::Value;
 use clone_outside::PageDisk;
@@ -54,10 +54,11 @@ impl Transactions {
             key,
             for_room: false,
         };
-        let spot = walk(buffer, disk, course)?;
+        let mut held = Held::new();
+        let spot = held.walk(buffer, disk, course)?;
         buffer.laws();
         let value = value_on(buffer.frame(spot.at), spot.slot);
-        release(buffer, spot.at);
+        held.release(buffer);
         Ok(value)
     }
 }

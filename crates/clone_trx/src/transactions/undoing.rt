@@ -1,8 +1,8 @@
-ghost use Rattle.std.specs.Prelude.{Err, IsErrOf, IsSome, IsTrue, None, ◌-◌, ◌<◌, ◌≡◌, ◌≢◌, ◌≤◌};
+ghost use Rattle.std.specs.Prelude.{Err, IfNone, IfSome, IsErrOf, IsSome, IsTrue, None, ◌-◌, ◌<◌, ◌≡◌, ◌≢◌, ◌≤◌};
 ghost use Rattle.std.specs.declared.option.Option.{Option};
 ghost use Rattle.clone_outside.specs.Disk.{DiskImage};
 ghost use Rattle.clone_outside.specs.DiskCalls.{Reads};
-ghost use Rattle.clone_undo.specs.Places.{capacity, header_page, record_page};
+ghost use Rattle.clone_undo.specs.Places.{capacity, header_page};
 ghost use Rattle.clone_undo.specs.Slots.{entry_on};
 ghost use Rattle.clone_undo.specs.Changes.{records_of_end, records_of_taking_back};
 ghost use Rattle.clone_buffer.specs.Buffered.{image_of};
@@ -10,16 +10,16 @@ ghost use Rattle.clone_plain.specs.Causes.{no_trx};
 ghost use Rattle.clone_plain.specs.Effects.{Undoes};
 ghost use Rattle.clone_plain.specs.declared.refusal.Cause.TheVariants.{DiskFault};
 ghost use Rattle.clone_plain.specs.declared.refusal.EngineRefusal.TheVariants.{Because, NoMemory};
-ghost use Rattle.clone_trx.specs.Calls.{before_change, last_change, row_page, system_page, undo_last, undo_way};
-ghost use Rattle.clone_trx.specs.Ways.{Answers, Carries, Goes, PinsAtMost, StaysStanding, Writes, reads, writes};
+ghost use Rattle.clone_trx.specs.Calls.{before_change, last_change, row_page, system_page, undo_way};
+ghost use Rattle.clone_trx.specs.Ways.{Answers, Carries, StaysStanding, Writes};
 ghost use Rattle.clone_trx.specs.Kept.{IsHeld, IsLast, IsLastRecord, Keeps};
 ghost use Rattle.clone_trx.specs.Sound.{IsKept};
 ghost use Rattle.std.specs.FinMap as finite;
 
 use crate::Transactions;
-use crate::hold::{check_room, hold, release, write_held};
+use crate::held::Held;
+use crate::hold::{check_room, write_held};
 use clone_buffer::Buffer;
-use clone_model::Change;
 use clone_outside::PageDisk;
 use clone_page::Page;
 use clone_plain::{Cause, EngineRefusal, Undone};
@@ -53,47 +53,36 @@ impl Transactions {
             return Err(Cause::NoSuchTrx.into());
         }
         self.laws();
-        let header = hold(buffer, disk, 0, header_page(trx))?;
-        let undone = self.undo_last(buffer, trx, disk);
-        release(buffer, header);
+        let mut held = Held::new();
+        held.hold(buffer, disk, 0, header_page(trx))?;
+        let Some((count, table, key)) = self.last_of(trx) else {
+            let ended = self.end(buffer, trx);
+            held.release(buffer);
+            return ended;
+        };
+        let at = held.hold(buffer, disk, 0, record_page(trx, count as usize - 1))?;
+        let entry = self.entry_of(buffer.frame(at), count, table, key);
+        held.hold(buffer, disk, entry.table(), entry.page())?;
+        let undone = self.take_back(buffer, trx, count, &entry);
+        held.release(buffer);
         undone
     }
 
-    // Takes the last change back or ends a transaction without changes, with the first page of its
-    // undo slot held.
-    fn undo_last<D: PageDisk>(
-        &mut self,
-        buffer: &mut Buffer,
-        trx: u32,
-        disk: &mut D,
-    ) -> Result<Undone, EngineRefusal>
-        requires cause { no_trx self.old trx ≡ None }
-        requires kept { IsTrue buffer.old.right → IsKept self.old (image_of buffer.old) }
-        requires header { IsHeld (system_page (header_page trx)) buffer.old.pool.frames }
-        requires pins { PinsAtMost 1 buffer.old.pool.frames }
-        ensures way { Goes (undo_last self.old trx (last_change self.old trx)) buffer.old buffer.new
-            result }
-        ensures donor { Carries self.old self.new result
-            (λ undone. Undoes self.old trx undone self.new) }
-        ensures memory { result ≢ Err NoMemory }
-        ensures kept { IsTrue buffer.new.right → IsKept self.new (image_of buffer.new) }
-        ensures reads { Reads (IsErrOf result (Because DiskFault))
-            (D.state disk.old) (D.state disk.new) }
-        ensures stands { StaysStanding buffer.old buffer.new
-            (D.state disk.old).told (D.state disk.new).told }
+    // How many changes an open transaction has made, and the row of the last, if it made any.
+    fn last_of(&self, trx: u32) -> Option<(u16, u32, u64)>
+        requires active { IsSome (finite.get self.now.active trx) }
+        ensures some { IfSome result (λ last. IsLast self.now trx last.0 last.1 last.2) }
+        ensures none { IfNone result (last_change self.now trx ≡ None) }
     {
         let Some(commit) = self.active.get(trx) else {
             unreachable!();
         };
-        let count = commit.changes.len() as u16;
-        match commit.changes.as_slice().last().map(row_of) {
-            Some((table, key)) => self.undo_in(buffer, trx, count, table, key, disk),
-            None => self.end_held(buffer, trx),
-        }
+        let last = commit.changes.as_slice().last()?;
+        Some((commit.changes.len() as u16, last.table, last.key))
     }
 
     // Ends a transaction without changes, with the first page of its undo slot held.
-    fn end_held(&mut self, buffer: &mut Buffer, trx: u32) -> Result<Undone, EngineRefusal>
+    fn end(&mut self, buffer: &mut Buffer, trx: u32) -> Result<Undone, EngineRefusal>
         requires active { IsSome (finite.get self.old.active trx) }
         requires nothing { last_change self.old trx ≡ None }
         requires kept { IsTrue buffer.old.right → IsKept self.old (image_of buffer.old) }
@@ -114,40 +103,6 @@ impl Transactions {
         Ok(Undone::Ended)
     }
 
-    // Takes the last of so many changes back, which was of this row, with the first page of the
-    // undo slot held.
-    fn undo_in<D: PageDisk>(
-        &mut self,
-        buffer: &mut Buffer,
-        trx: u32,
-        count: u16,
-        table: u32,
-        key: u64,
-        disk: &mut D,
-    ) -> Result<Undone, EngineRefusal>
-        requires last { IsLast self.old trx count table key }
-        requires kept { IsTrue buffer.old.right → IsKept self.old (image_of buffer.old) }
-        requires header { IsHeld (system_page (header_page trx)) buffer.old.pool.frames }
-        requires pins { PinsAtMost 1 buffer.old.pool.frames }
-        ensures way { Goes (undo_last self.old trx (last_change self.old trx)) buffer.old buffer.new
-            result }
-        ensures donor { Carries self.old self.new result
-            (λ undone. Undoes self.old trx undone self.new) }
-        ensures memory { result ≢ Err NoMemory }
-        ensures kept { IsTrue buffer.new.right → IsKept self.new (image_of buffer.new) }
-        ensures reads { Reads (IsErrOf result (Because DiskFault))
-            (D.state disk.old) (D.state disk.new) }
-        ensures stands { StaysStanding buffer.old buffer.new
-            (D.state disk.old).told (D.state disk.new).told }
-    {
-        self.laws();
-        let at = hold(buffer, disk, 0, record_page(trx, count as usize - 1))?;
-        let entry = self.entry_of(buffer.frame(at), count, table, key);
-        let undone = self.undo_on(buffer, trx, count, &entry, disk);
-        release(buffer, at);
-        undone
-    }
-
     // What the undo record of the last of so many changes tells of the row. One that isn't of this
     // row counts as if it told of an absent row in the first slot of the row's bucket: no page that
     // was read as it was written has one.
@@ -166,41 +121,8 @@ impl Transactions {
         }
     }
 
-    // Takes the last of so many changes back by its undo record, with the undo pages held.
-    fn undo_on<D: PageDisk>(
-        &mut self,
-        buffer: &mut Buffer,
-        trx: u32,
-        count: u16,
-        entry: &UndoRecord,
-        disk: &mut D,
-    ) -> Result<Undone, EngineRefusal>
-        requires last { IsLast self.old trx count entry.now.table entry.now.key }
-        requires told { IsTrue buffer.old.right → IsLastRecord (image_of buffer.old) trx entry.now }
-        requires kept { IsTrue buffer.old.right → IsKept self.old (image_of buffer.old) }
-        requires header { IsHeld (system_page (header_page trx)) buffer.old.pool.frames }
-        requires pins { PinsAtMost 2 buffer.old.pool.frames }
-        ensures way { Goes (reads (row_page entry.now)
-            (λ row. writes (records_of_taking_back trx count entry.now))) buffer.old buffer.new
-            result }
-        ensures donor { Carries self.old self.new result
-            (λ undone. Undoes self.old trx undone self.new) }
-        ensures memory { result ≢ Err NoMemory }
-        ensures kept { IsTrue buffer.new.right → IsKept self.new (image_of buffer.new) }
-        ensures reads { Reads (IsErrOf result (Because DiskFault))
-            (D.state disk.old) (D.state disk.new) }
-        ensures stands { StaysStanding buffer.old buffer.new
-            (D.state disk.old).told (D.state disk.new).told }
-    {
-        self.laws();
-        let at = hold(buffer, disk, entry.table(), entry.page())?;
-        let undone = self.undo_held(buffer, trx, count, entry);
-        release(buffer, at);
-        undone
-    }
-
     // Takes the last of so many changes back, with all its pages held.
-    fn undo_held(
+    fn take_back(
         &mut self,
         buffer: &mut Buffer,
         trx: u32,
@@ -227,11 +149,4 @@ impl Transactions {
         write_held(buffer, &records);
         Ok(Undone::Left(count - 1))
     }
-}
-
-// The row of a change.
-fn row_of(change: &Change) -> (u32, u64)
-    ensures { result ≡ (change.now.table, change.now.key) }
-{
-    (change.table, change.key)
 }

@@ -1,8 +1,4 @@
-use Rattle.std.proofs.Common.{sym, subst}
-use Rattle.clone_pool.specs.declared.frame.PageName.{PageName}
-use Rattle.clone_pool.specs.Pool.{IsPool}
-use Rattle.clone_buffer.specs.Buffered.{Buffered}
-use Rattle.clone_trx.specs.Kept.{Has}
+use Rattle.clone_trx.proofs.Common.{sym, subst, PageName, IsPool, Buffered, Has}
 use Rattle.clone_trx.proofs.HoldLemmas.{pinned_has, still_has}
 use Rattle.clone_trx.proofs.hold.hold.Goals as goal
 

@@ -1,7 +1,5 @@
-use Rattle.std.proofs.Common.{◌+◌, length, ap}
 use Rattle.clone_ring.specs.Window.{end_of}
-use Rattle.clone_buffer.specs.Buffered.{Buffered}
-use Rattle.clone_trx.proofs.Common.{spelling}
+use Rattle.clone_trx.proofs.Common.{◌+◌, length, ap, Buffered, spelling}
 use Rattle.clone_trx.proofs.HoldLemmas.{records_has}
 use Rattle.clone_trx.proofs.hold.write_longer_held.Goals as goal
 

@@ -1,5 +1,4 @@
-use Rattle.std.proofs.Common.{◌∙◌, get_or}
-use Rattle.clone_trx.proofs.Common.{row_cmp_total, row_cmp_exact, holders_of, removed}
+use Rattle.clone_trx.proofs.Common.{◌∙◌, get_or, row_cmp_total, row_cmp_exact, holders_of, removed}
 use Rattle.clone_trx.proofs.LockListLemmas.{RowName, without_goes_on}
 use Rattle.clone_trx.proofs.locks.remove_all.Goals as goal
 

@@ -1,5 +1,4 @@
-use Rattle.std.proofs.Common.{◌≡◌, drop}
-use Rattle.clone_trx.proofs.Common.{holders_of, without}
+use Rattle.clone_trx.proofs.Common.{◌≡◌, drop, holders_of, without}
 use Rattle.clone_trx.proofs.locks.remove_all.Given as goal
 
 -- what is left to be taken out

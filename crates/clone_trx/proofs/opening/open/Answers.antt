@@ -1,14 +1,5 @@
-use Rattle.std.proofs.Common.{◌≡◌, ◌+◌, ℕ, List, [], ◌∷◌, Option, slice_get, option_and_then, sym, ap, subst, ◌∙◌, length, nat_cmp, IsTrue}
-use Rattle.clone_outside.specs.Disk.{ForTold, Steps, with_created}
-use Rattle.clone_page.specs.declared.kind.PageKind.TheVariants.{System}
-use Rattle.clone_mtr.specs.declared.record.Record.TheVariants.{Init}
-use Rattle.clone_image.specs.Replay.{replayed}
 use Rattle.clone_ring.specs.Window.{end_of}
-use Rattle.clone_buffer.specs.Buffered.{Buffered, image_of}
-use Rattle.clone_buffer.specs.OnePage.{at_rest, no_copies}
-use Rattle.clone_buffer.specs.Writing.{Creates, HasMade, NoFilesOfMade}
-use Rattle.clone_trx.specs.Calls.{system_page}
-use Rattle.clone_trx.proofs.Common.{get-empty, Record, page_of, spelling, opening_records, system_size, Donor, no_donor, IsKept, AreLoose}
+use Rattle.clone_trx.proofs.Common.{◌≡◌, ◌+◌, ℕ, List, [], ◌∷◌, Option, slice_get, option_and_then, sym, ap, subst, ◌∙◌, length, nat_cmp, IsTrue, ForTold, Steps, with_created, System, Init, replayed, Buffered, image_of, at_rest, no_copies, Creates, HasMade, NoFilesOfMade, system_page, get-empty, Record, page_of, spelling, opening_records, system_size, Donor, no_donor, IsKept, AreLoose}
 use Rattle.clone_trx.proofs.Common as common
 use Rattle.clone_trx.proofs.KeptLemmas.{opening_keeps}
 use Rattle.clone_trx.proofs.NewSpaceLemmas.{has_made}

@@ -1,4 +1,4 @@
-use Rattle.std.proofs.Common.{refl}
+use Rattle.clone_trx.proofs.Common.{refl}
 use Rattle.clone_trx.proofs.MissedLemmas.{missed_goes}
 use Rattle.clone_trx.proofs.transactions.missed_laws.Goals as goal
 

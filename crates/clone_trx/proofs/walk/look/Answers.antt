@@ -1,8 +1,6 @@
-use Rattle.std.proofs.Common.{◌≡◌, ℕ, List, Option, Some, None, sym, subst, ◌∙◌}
-use Rattle.clone_trx.proofs.Common.{slots, Finds}
+use Rattle.clone_trx.proofs.Common.{◌≡◌, ℕ, List, Option, Some, None, sym, subst, ◌∙◌, slots, Finds, FindsRoom, onward}
 use Rattle.clone_trx.proofs.WalkStepLemmas.{kept_pinned, found_here, passes_here, keeps_here, returns_here, ends_here}
 use Rattle.clone_trx.proofs.WriteLemmas.{is_none}
-use Rattle.clone_trx.specs.Ways.{FindsRoom, onward}
 use Rattle.clone_trx.proofs.walk.look.Goals as goal
 
 pub release_kept-requires : goal.release_kept-requires

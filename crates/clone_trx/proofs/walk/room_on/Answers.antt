@@ -1,6 +1,4 @@
-use Rattle.std.proofs.Common.{◌≡◌, ◌&&◌, Bool, false, None, refl, ap, sym, subst, is_some, not}
-use Rattle.std.proofs.lemmas.Bool.{and_from}
-use Rattle.clone_trx.specs.Ways.{FindsWanted}
+use Rattle.clone_trx.proofs.Common.{◌≡◌, ◌&&◌, Bool, false, None, refl, ap, sym, subst, is_some, not, and_from, FindsWanted}
 use Rattle.clone_trx.proofs.walk.room_on.Goals as goal
 use Rattle.clone_trx.proofs.walk.room_on.Goals.{else-course-via-then-course+else-is_none, else-course-via-else-course}
 

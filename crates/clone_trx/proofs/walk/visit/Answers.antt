@@ -1,4 +1,4 @@
-use Rattle.clone_trx.specs.Ways.{misses}
+use Rattle.clone_trx.proofs.Common.{misses}
 use Rattle.clone_trx.proofs.walk.visit.Goals as goal
 
 pub returns-in-Err-clause-missed : goal.returns-in-Err-clause-missed

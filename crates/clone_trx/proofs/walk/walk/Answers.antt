@@ -1,13 +1,5 @@
-use Rattle.std.proofs.Common.{◌≡◌, Result, Ok, Err, IsErrOf, refl, subst, ◌∙◌, arith}
-use Rattle.clone_outside.specs.DiskCalls.{Reads}
-use Rattle.clone_outside.proofs.DiskCallLemmas.{reads_last, reads_none, reads_then}
-use Rattle.clone_plain.specs.declared.refusal.EngineRefusal.{EngineRefusal}
-use Rattle.clone_plain.specs.declared.refusal.EngineRefusal.TheVariants.{Because}
-use Rattle.clone_plain.specs.declared.refusal.Cause.TheVariants.{DiskFault}
-use Rattle.clone_trx.specs.declared.walk.Spot.{Spot}
+use Rattle.clone_trx.proofs.Common.{Result, Ok, Err, IsErrOf, subst, arith, Reads, reads_last, reads_none, reads_then, EngineRefusal, Because, DiskFault, Spot, Follows, WalksAll}
 use Rattle.clone_trx.specs.declared.walk.Step.{Step}
-use Rattle.clone_trx.specs.Walking.{Follows}
-use Rattle.clone_trx.specs.Ways.{WalksAll}
 use Rattle.clone_trx.proofs.WalkStepLemmas.{on_err, same_err}
 use Rattle.clone_trx.proofs.walk.walk.Goals as goal
 

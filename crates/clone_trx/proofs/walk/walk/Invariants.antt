@@ -1,10 +1,4 @@
-use Rattle.std.proofs.Common.{Result}
-use Rattle.clone_outside.specs.DiskCalls.{Reads}
-use Rattle.clone_buffer.specs.Buffered.{Buffered}
-use Rattle.clone_plain.specs.declared.refusal.EngineRefusal.{EngineRefusal}
-use Rattle.clone_trx.specs.declared.walk.Spot.{Spot}
-use Rattle.clone_trx.specs.Walking.{MayGoOn}
-use Rattle.clone_trx.specs.Ways.{StaysStanding, Walks, WalksAll}
+use Rattle.clone_trx.proofs.Common.{Result, Reads, Buffered, EngineRefusal, Spot, MayGoOn, StaysStanding, Walks, WalksAll}
 use Rattle.clone_trx.proofs.walk.walk.Given as goal
 
 abbrev pub invariant-loop-spot : goal.invariant-loop-spot

@@ -1,5 +1,4 @@
-use Rattle.std.proofs.Common.{◌∙◌, ap, List}
-use Rattle.clone_trx.proofs.Common.{nat_cmp_total, exact_unsigned, Change, Opened, inserted}
+use Rattle.clone_trx.proofs.Common.{◌∙◌, ap, List, nat_cmp_total, exact_unsigned, Change, Opened, inserted}
 use Rattle.std.specs.FinMap as finite
 use Rattle.clone_trx.proofs.active.Active.begin.Goals as goal
 

@@ -1,4 +1,4 @@
-use Rattle.std.proofs.Common.{◌∙◌, sym}
+use Rattle.clone_trx.proofs.Common.{◌∙◌, sym}
 use Rattle.clone_trx.proofs.LastChangeLemmas.{get_opened}
 use Rattle.clone_trx.proofs.active.Active.get.Goals as goal
 

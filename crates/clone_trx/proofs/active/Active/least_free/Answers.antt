@@ -1,5 +1,4 @@
-use Rattle.std.proofs.Common.{◌≡◌, ◌∙◌, ◌<◌, ◌≤◌, ap, sym, not, true, false, arith, is_some, Option}
-use Rattle.clone_trx.proofs.Common.{Commit, TRANSACTION_LIMIT}
+use Rattle.clone_trx.proofs.Common.{◌≡◌, ◌∙◌, ◌<◌, ◌≤◌, ap, sym, not, true, false, arith, is_some, Option, Commit, TRANSACTION_LIMIT}
 use Rattle.std.specs.FinMap as finite
 use Rattle.clone_trx.proofs.LastChangeLemmas.{get_opened}
 use Rattle.clone_trx.proofs.ScanLemmas.{least_unused-found, find_skips, find_takes, find_ends}

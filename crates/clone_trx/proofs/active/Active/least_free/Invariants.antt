@@ -1,5 +1,4 @@
-use Rattle.std.proofs.Common.{◌≡◌, ◌-◌, not, find}
-use Rattle.clone_trx.proofs.Common.{range_with_len, TRANSACTION_LIMIT}
+use Rattle.clone_trx.proofs.Common.{◌≡◌, ◌-◌, not, find, range_with_len, TRANSACTION_LIMIT}
 use Rattle.std.specs.FinMap as finite
 use Rattle.clone_trx.proofs.active.Active.least_free.Given as goal
 

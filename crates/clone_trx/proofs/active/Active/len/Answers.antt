@@ -1,5 +1,4 @@
-use Rattle.std.proofs.Common.{◌∙◌, sym, ap}
-use Rattle.clone_trx.proofs.Common.{nat_cmp_total, Opened, len_listed}
+use Rattle.clone_trx.proofs.Common.{◌∙◌, sym, ap, nat_cmp_total, Opened, len_listed}
 use Rattle.std.specs.FinMap as finite
 use Rattle.clone_trx.proofs.active.Active.len.Goals as goal
 

@@ -1,5 +1,4 @@
-use Rattle.std.proofs.Common.{◌∙◌, ap}
-use Rattle.clone_trx.proofs.Common.{Commit, opened_of}
+use Rattle.clone_trx.proofs.Common.{◌∙◌, ap, Commit, opened_of}
 use Rattle.clone_trx.proofs.LastChangeLemmas.{popped, popped_none}
 use Rattle.clone_trx.proofs.active.Active.pop.Goals as goal
 

@@ -1,5 +1,4 @@
-use Rattle.std.proofs.Common.{◌∙◌, sym, subst, IsSome, Option}
-use Rattle.clone_trx.proofs.Common.{Commit}
+use Rattle.clone_trx.proofs.Common.{◌∙◌, sym, subst, IsSome, Option, Commit}
 use Rattle.std.proofs.lemmas.Result.{on_ok_weaker, on_err_weaker}
 use Rattle.clone_trx.proofs.LastChangeLemmas.{get_opened, pushed, rewritten}
 use Rattle.clone_trx.proofs.active.Active.push.Goals as goal

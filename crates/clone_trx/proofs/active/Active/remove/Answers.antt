@@ -1,5 +1,4 @@
-use Rattle.std.proofs.Common.{◌∙◌, sym, ap}
-use Rattle.clone_trx.proofs.Common.{nat_cmp_total, exact_unsigned, Opened, removed}
+use Rattle.clone_trx.proofs.Common.{◌∙◌, sym, ap, nat_cmp_total, exact_unsigned, Opened, removed}
 use Rattle.std.specs.FinMap as finite
 use Rattle.clone_trx.proofs.LastChangeLemmas.{get_opened}
 use Rattle.clone_trx.proofs.active.Active.remove.Goals as goal

@@ -1,5 +1,4 @@
-use Rattle.std.proofs.Common.{◌∙◌, sym, ap}
-use Rattle.clone_trx.proofs.Common.{row_cmp_total, Locks, get_listed}
+use Rattle.clone_trx.proofs.Common.{◌∙◌, sym, ap, row_cmp_total, Locks, get_listed}
 use Rattle.std.specs.FinMap as finite
 use Rattle.clone_trx.proofs.locks.Locks.holder.Goals as goal
 

@@ -1,6 +1,4 @@
-use Rattle.std.proofs.Common.{◌∙◌, ◌<◌, ◌≤◌, ◌==◌, ap, sym}
-use Rattle.clone_plain.specs.Causes.{holds_in}
-use Rattle.clone_trx.proofs.Common.{list_any, TRANSACTION_LIMIT, holders_of}
+use Rattle.clone_trx.proofs.Common.{◌∙◌, ◌<◌, ◌≤◌, ◌==◌, ap, sym, holds_in, list_any, TRANSACTION_LIMIT, holders_of}
 use Rattle.clone_trx.proofs.HolderListLemmas.{least_holder-found, list_tells}
 use Rattle.clone_trx.proofs.LockListLemmas.{RowName}
 use Rattle.clone_trx.proofs.ScanLemmas.{find_skips, find_takes, find_ends}

@@ -1,6 +1,4 @@
-use Rattle.std.proofs.Common.{◌≡◌, ◌-◌, find}
-use Rattle.clone_plain.specs.Causes.{holds_in}
-use Rattle.clone_trx.proofs.Common.{range_with_len, TRANSACTION_LIMIT}
+use Rattle.clone_trx.proofs.Common.{◌≡◌, ◌-◌, find, holds_in, range_with_len, TRANSACTION_LIMIT}
 use Rattle.clone_trx.proofs.locks.Locks.least_holder.Given as goal
 
 -- no transaction before this one holds the lock of a row of the table

@@ -1,5 +1,5 @@
-use Rattle.std.proofs.Common.{◌≡◌, ◌∙◌, ◌<◌, ◌++◌, ◌∷◌, [], sym, ap, subst, refl, arith, length, None, List, is_some, slice_set, length-set}
-use Rattle.clone_trx.proofs.Common.{row_cmp_total, row_cmp_exact, Locks, Lists, AreListed, holders_of, get_listed, inserted, inserted_same, none-some}
+use Rattle.std.proofs.Common.{length-set}
+use Rattle.clone_trx.proofs.Common.{◌≡◌, ◌∙◌, ◌<◌, ◌++◌, ◌∷◌, [], sym, ap, subst, refl, arith, length, None, List, is_some, slice_set, row_cmp_total, row_cmp_exact, Locks, Lists, AreListed, holders_of, get_listed, inserted, inserted_same, none-some}
 use Rattle.std.specs.FinMap as finite
 use Rattle.clone_trx.proofs.LockListLemmas.{RowName, same_listed, more_listed, list_at_item, own_row}
 use Rattle.clone_trx.proofs.WriteLemmas.{is_none}

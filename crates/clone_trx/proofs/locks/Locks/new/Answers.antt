@@ -1,5 +1,4 @@
-use Rattle.std.proofs.Common.{◌≡◌, ap, arith, length}
-use Rattle.clone_trx.proofs.Common.{TRANSACTION_LIMIT, holders_of}
+use Rattle.clone_trx.proofs.Common.{◌≡◌, ap, arith, length, TRANSACTION_LIMIT, holders_of}
 use Rattle.clone_trx.proofs.LockListLemmas.{none_listed}
 use Rattle.clone_trx.proofs.locks.Locks.new.Goals as goal
 

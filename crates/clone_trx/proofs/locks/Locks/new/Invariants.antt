@@ -1,5 +1,4 @@
-use Rattle.std.proofs.Common.{◌≡◌, [], ℕ, length}
-use Rattle.clone_trx.proofs.Common.{list_at}
+use Rattle.clone_trx.proofs.Common.{◌≡◌, [], ℕ, length, list_at}
 use Rattle.clone_trx.proofs.locks.Locks.new.Given as goal
 
 abbrev pub invariant-loop : goal.invariant-loop

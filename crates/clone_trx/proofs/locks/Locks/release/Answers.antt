@@ -1,5 +1,4 @@
-use Rattle.std.proofs.Common.{◌∙◌, ◌<◌, ap, subst, arith, length, List}
-use Rattle.clone_trx.proofs.Common.{Locks, Releases, holders_of, without}
+use Rattle.clone_trx.proofs.Common.{◌∙◌, ◌<◌, ap, subst, arith, length, List, Locks, Releases, holders_of, without}
 use Rattle.clone_trx.proofs.LockListLemmas.{RowName, released_listed, releases, list_at_item}
 use Rattle.clone_trx.proofs.locks.Locks.release.Goals as goal
 

@@ -1,12 +1,8 @@
-use Rattle.std.proofs.Common.{◌≡◌, ℕ, Some, sym, ap, subst, ◌∙◌, is_some, IsTrue}
-use Rattle.clone_buffer.specs.Buffered.{Buffered, image_of}
-use Rattle.clone_trx.specs.Calls.{begin_way, system_page}
-use Rattle.clone_trx.specs.Ways.{Goes, Holds}
-use Rattle.clone_trx.proofs.Common.{header_page, page_of, Donor, least_unused, IsKept}
+use Rattle.clone_trx.proofs.Common.{◌≡◌, ℕ, Some, sym, ap, subst, ◌∙◌, is_some, IsTrue, Buffered, image_of, begin_way, system_page, Goes, Holds, header_page, page_of, Donor, least_unused, IsKept}
 use Rattle.clone_trx.proofs.ScanLemmas.{least_free_is}
 use Rattle.clone_trx.proofs.SystemPageLemmas.{header_there}
 use Rattle.clone_trx.proofs.BeginLemmas.{begin_goes, begin_answers}
-use Rattle.clone_trx.proofs.PinLemmas.{still_loose}
+use Rattle.clone_trx.proofs.PinLemmas.{loose_again, writes_pins}
 use Rattle.clone_trx.proofs.transactions.Transactions.begin.Goals as goal
 
 pub header_page-requires : goal.header_page-requires
@@ -34,6 +30,6 @@ returns-clause-answer g c =
 
 pub returns-clause-kept : goal.returns-clause-kept
 returns-clause-kept g c = record {
-  loose = still_loose (begin_way c.args.self.now c.args.writer c.args.index) c.args.buffer.now c.release.new.buffer c.begin_held-begun.result (goes g c) c.requires.kept.loose;
+  loose = loose_again _ c.in_ok-at.at c.args.buffer.now c.hold.new.buffer c.begin_held-begun.new.buffer c.release.new.buffer c.in_ok-at.ensures.held (writes_pins _ c.hold.new.buffer c.begin_held-begun.new.buffer c.begin_held-begun.result c.begin_held-begun.ensures.written) c.release.ensures.is c.requires.kept.loose;
   kept = λ after. subst (λ (v : Buffered). IsKept c.begin_held-begun.new.self (image_of v)) (sym c.release.ensures.is) (c.begin_held-begun.ensures.kept (subst (λ (v : Buffered). IsTrue v.right) c.release.ensures.is after));
 }

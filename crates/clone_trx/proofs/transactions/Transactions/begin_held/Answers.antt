@@ -1,10 +1,5 @@
-use Rattle.std.proofs.Common.{◌≡◌, ◌≤◌, ℕ, List, Some, sym, ap, subst, ◌∙◌, arith, IsTrue}
 use Rattle.std.specs.FinMap as finite
-use Rattle.clone_buffer.specs.Buffered.{Buffered, image_of}
-use Rattle.clone_buffer.specs.Writing.{IsOnPage, written}
-use Rattle.clone_trx.specs.Calls.{is_new, system_page}
-use Rattle.clone_trx.specs.Ways.{HasRoom, page_in}
-use Rattle.clone_trx.proofs.Common.{AllByRecursion, Record, header_page, records_of_begin, after_records, page_of, all_pages-is, is_unused, len-below, Donor, begun, donor_of, IsKept, IsSafe}
+use Rattle.clone_trx.proofs.Common.{◌≡◌, ◌≤◌, ℕ, List, Some, sym, ap, subst, ◌∙◌, arith, IsTrue, Buffered, image_of, IsOnPage, written, is_new, system_page, HasRoom, page_in, AllByRecursion, Record, header_page, records_of_begin, after_records, page_of, all_pages-is, is_unused, len-below, Donor, begun, donor_of, IsKept, IsSafe}
 use Rattle.clone_trx.proofs.ScanLemmas.{least_free_is}
 use Rattle.clone_trx.proofs.SpellingLengths.{begin_written}
 use Rattle.clone_trx.proofs.PlacedLemmas.{begin_there}

@@ -1,12 +1,7 @@
-use Rattle.std.proofs.Common.{◌≡◌, ◌≢◌, ℕ, None, sym, ap, subst, ◌∙◌, IsTrue}
 use Rattle.std.specs.FinMap as finite
-use Rattle.clone_buffer.specs.Buffered.{Buffered, image_of}
-use Rattle.clone_space.specs.Records.{records_of_create}
-use Rattle.clone_trx.specs.Calls.{create_way, number_of_free_entry}
-use Rattle.clone_trx.specs.Ways.{Goes, Makes, Carries, page_in}
-use Rattle.clone_trx.proofs.Common.{Donor, created, IsKept, TABLE_LIMIT}
+use Rattle.clone_trx.proofs.Common.{◌≡◌, ◌≢◌, ℕ, None, sym, ap, subst, ◌∙◌, IsTrue, Buffered, image_of, records_of_create, create_way, number_of_free_entry, Goes, Makes, Carries, page_in, Donor, created, IsKept, TABLE_LIMIT}
 use Rattle.clone_trx.proofs.CreateLemmas.{no_cause, create_goes, create_answers}
-use Rattle.clone_trx.proofs.PinLemmas.{still_loose}
+use Rattle.clone_trx.proofs.PinLemmas.{loose_again, makes_pins}
 use Rattle.clone_trx.proofs.WriteLemmas.{is_none}
 use Rattle.clone_trx.proofs.transactions.Transactions.create.Goals as goal
 
@@ -31,6 +26,6 @@ returns-clause-answer g c =
 
 pub returns-clause-kept : goal.returns-clause-kept
 returns-clause-kept g c = record {
-  loose = still_loose (create_way c.args.table c.args.buckets) c.args.buffer.now c.release.new.buffer c.create_held-created.result (goes g c) c.requires.kept.loose;
+  loose = loose_again _ c.in_ok-at.at c.args.buffer.now c.hold.new.buffer c.create_held-created.new.buffer c.release.new.buffer c.in_ok-at.ensures.held (makes_pins (records_of_create (number_of_free_entry (page_in c.in_ok-at.at c.hold.new.buffer)) c.get-table.result c.get-buckets.result) c.hold.new.buffer c.create_held-created.new.buffer c.create_held-created.result c.create_held-created.ensures.written) c.release.ensures.is c.requires.kept.loose;
   kept = λ after. subst (λ (v : Buffered). IsKept c.create_held-created.new.self (image_of v)) (sym c.release.ensures.is) (c.create_held-created.ensures.kept (subst (λ (v : Buffered). IsTrue v.right) c.release.ensures.is after));
 }

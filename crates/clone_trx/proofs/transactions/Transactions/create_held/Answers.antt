@@ -1,12 +1,6 @@
-use Rattle.std.proofs.Common.{◌≡◌, ◌<◌, ℕ, List, [], ◌∷◌, Some, Err, inl, unwrap_or, sym, ap, subst, ◌∙◌, arith}
-use Rattle.clone_outside.specs.Disk.{ForTold, Steps, with_created}
-use Rattle.clone_space.specs.Entries.{dictionary, FindsFree}
-use Rattle.clone_space.specs.Records.{records_of_create, entry_record}
-use Rattle.clone_buffer.specs.Buffered.{Buffered, image_of}
-use Rattle.clone_buffer.specs.Writing.{Creates, HasMade, NoFilesOfMade, written}
-use Rattle.clone_trx.specs.Calls.{number_of_free_entry, system_page}
-use Rattle.clone_trx.specs.Ways.{HasRoom, page_in}
-use Rattle.clone_trx.proofs.Common.{Record, page_of, after_records, Donor, created, donor_of, IsKept, IsSafe}
+use Rattle.clone_space.specs.Entries.{FindsFree}
+use Rattle.clone_space.specs.Records.{entry_record}
+use Rattle.clone_trx.proofs.Common.{◌≡◌, ◌<◌, ℕ, List, [], ◌∷◌, Some, Err, inl, unwrap_or, sym, ap, subst, ◌∙◌, arith, ForTold, Steps, with_created, dictionary, records_of_create, Buffered, image_of, Creates, HasMade, NoFilesOfMade, written, number_of_free_entry, system_page, HasRoom, page_in, Record, page_of, after_records, Donor, created, donor_of, IsKept, IsSafe}
 use Rattle.clone_trx.proofs.SafeLemmas.{created_safe}
 use Rattle.clone_trx.proofs.KeptLemmas.{create_keeps}
 use Rattle.clone_trx.proofs.CreateLemmas.{may_create, no_space, creates, donor_again}

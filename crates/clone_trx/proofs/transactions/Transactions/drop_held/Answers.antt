@@ -1,8 +1,4 @@
-use Rattle.std.proofs.Common.{◌≡◌, ◌≤◌, ◌++◌, ◌∷◌, [], ◌∙◌, ℕ, List, IsTrue, sym, ap, subst, arith}
-use Rattle.clone_buffer.specs.Buffered.{Buffered, image_of}
-use Rattle.clone_buffer.specs.Dropping.{DropsSpace, without_pages}
-use Rattle.clone_plain.specs.Effects.{dropped}
-use Rattle.clone_trx.proofs.Common.{Record, after_records, Donor, donor_of, IsKept, IsSafe}
+use Rattle.clone_trx.proofs.Common.{◌≡◌, ◌≤◌, ◌++◌, ◌∷◌, [], ◌∙◌, ℕ, List, IsTrue, sym, ap, subst, arith, Buffered, image_of, DropsSpace, without_pages, dropped, Record, after_records, Donor, donor_of, IsKept, IsSafe}
 use Rattle.clone_trx.proofs.DropLemmas.{drops_space, is_above, is_there, space_gone}
 use Rattle.clone_trx.proofs.DroppedDonorLemmas.{drop_keeps}
 use Rattle.clone_trx.proofs.NewSpaceLemmas.{disk_removed}

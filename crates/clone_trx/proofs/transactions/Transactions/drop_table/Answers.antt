@@ -1,14 +1,10 @@
-use Rattle.std.proofs.Common.{◌≡◌, ◌∙◌, ℕ, List, sym, ap, subst, Some, IsTrue}
-use Rattle.clone_space.specs.declared.entry.TableEntry.{TableEntry}
-use Rattle.clone_buffer.specs.Buffered.{Buffered, image_of}
-use Rattle.clone_trx.proofs.Common.{Image, page_of, contents_of, IsKept}
+use Rattle.clone_trx.proofs.Common.{◌≡◌, ◌∙◌, ℕ, List, sym, ap, subst, Some, IsTrue, arith, min, MOST_PAGES, records_of_drop, TableEntry, Buffered, image_of, Image, page_of, contents_of, IsKept, drop_way, TellsPages, Goes}
 use Rattle.clone_trx.proofs.DropLemmas.{drop_goes, is_above, is_there, unpinned}
 use Rattle.clone_trx.proofs.LongerWayLemmas.{found_tells, same_image}
-use Rattle.clone_trx.proofs.PinLemmas.{still_loose, still_pinned}
-use Rattle.clone_trx.specs.Calls.{drop_at, drop_way}
-use Rattle.clone_trx.specs.Kept.{TellsPages}
-use Rattle.clone_trx.specs.Ways.{Goes}
+use Rattle.clone_trx.proofs.FramePinLemmas.{SamePins}
+use Rattle.clone_trx.proofs.PinLemmas.{drops_pins, loose_again}
 use Rattle.clone_trx.proofs.transactions.Transactions.drop_table.Goals as goal
+use Rattle.clone_trx.proofs.transactions.Transactions.drop_table.Goals.{After-drop_held-dropped}
 
 pub drop_held-dropped-requires-clause-tells : goal.drop_held-dropped-requires-clause-tells
 drop_held-dropped-requires-clause-tells g c = λ right.
@@ -25,9 +21,12 @@ pub drop_held-dropped-requires-clause-unpinned : goal.drop_held-dropped-requires
 drop_held-dropped-requires-clause-unpinned g c =
     unpinned c.args.table c.in_ok-at.at c.args.buffer.now c.hold.new.buffer (is_above c.args.self.now c.args.table c.laws.ensures.safe c.requires.cause) c.requires.kept.loose c.in_ok-at.ensures.held c.in_ok-at.ensures.has
 
+pins : (g : _) (c : After-drop_held-dropped g) → SamePins c.hold.new.buffer.pool.frames c.drop_held-dropped.new.buffer.pool.frames
+pins g c = drops_pins c.args.table (min c.entry_at-pages.result.pages MOST_PAGES) (records_of_drop c.unwrap_or-entry_number.result c.args.table) c.hold.new.buffer c.drop_held-dropped.new.buffer c.drop_held-dropped.result c.drop_held-dropped.ensures.way
+
 pub release-requires : goal.release-requires
 release-requires g c =
-    still_pinned (drop_at c.args.table c.unwrap_or-entry_number.result c.entry_at-pages.result.pages) c.hold.new.buffer c.drop_held-dropped.new.buffer c.drop_held-dropped.result c.in_ok-at.at c.drop_held-dropped.ensures.way c.in_ok-at.ensures.has.pinned
+    omega (arith, c.in_ok-at.ensures.has.pinned, (pins g (goal.at.release-requires g c).After-drop_held-dropped).at c.in_ok-at.at)
 
 goes : (g : _) (c : goal.After-release g) → Goes (drop_way c.args.table) c.args.buffer.now c.release.new.buffer c.drop_held-dropped.result
 goes g c =
@@ -39,6 +38,6 @@ returns-clause-way g c = goes g c
 
 pub returns-clause-kept : goal.returns-clause-kept
 returns-clause-kept g c = record {
-  loose = still_loose (drop_way c.args.table) c.args.buffer.now c.release.new.buffer c.drop_held-dropped.result (goes g c) c.requires.kept.loose;
+  loose = loose_again _ c.in_ok-at.at c.args.buffer.now c.hold.new.buffer c.drop_held-dropped.new.buffer c.release.new.buffer c.in_ok-at.ensures.held (pins g (goal.at.returns-clause-kept g c).After-drop_held-dropped) c.release.ensures.is c.requires.kept.loose;
   kept = λ after. subst (λ (v : Buffered). IsKept c.drop_held-dropped.new.self (image_of v)) (sym c.release.ensures.is) (c.drop_held-dropped.ensures.kept (subst (λ (v : Buffered). IsTrue v.right) c.release.ensures.is after));
 }

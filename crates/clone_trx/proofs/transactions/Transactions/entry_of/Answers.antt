@@ -1,6 +1,5 @@
-use Rattle.std.proofs.Common.{◌≡◌, ◌-◌, ◌%◌, [], ℕ, ap, sym, ◌∙◌, arith, Option, Some, unwrap_or, option_map}
 use Rattle.std.specs.FinMap as finite
-use Rattle.clone_trx.proofs.Common.{entry_on, IsEntry, UndoEntry, page_number, same_Some}
+use Rattle.clone_trx.proofs.Common.{◌≡◌, ◌-◌, ◌%◌, [], ℕ, ap, sym, ◌∙◌, arith, Option, Some, unwrap_or, option_map, entry_on, IsEntry, UndoEntry, page_number, same_Some}
 use Rattle.clone_trx.proofs.KeySlotLemmas.{in_ranges}
 use Rattle.clone_trx.proofs.LastRecordLemmas.{IsOf, before_other}
 use Rattle.clone_trx.proofs.LastUndoLemmas.{there}

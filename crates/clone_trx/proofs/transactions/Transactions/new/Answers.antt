@@ -1,5 +1,4 @@
-use Rattle.std.proofs.Common.{◌≡◌, sym, ap, subst, arith, nat_cmp}
-use Rattle.clone_trx.proofs.Common.{len-empty, Commit, no_donor, donor_of, IsSafe}
+use Rattle.clone_trx.proofs.Common.{◌≡◌, sym, ap, subst, arith, nat_cmp, len-empty, Commit, no_donor, donor_of, IsSafe}
 use Rattle.std.specs.FinMap as finite
 use Rattle.clone_trx.proofs.SafeLemmas.{no_safe}
 use Rattle.clone_trx.proofs.transactions.Transactions.new.Goals as goal

@@ -1,16 +1,13 @@
-use Rattle.std.proofs.Common.{◌≡◌, ◌<◌, ◌+◌, ◌∷◌, [], List, length, sym, ap, subst, ◌∙◌, arith, is_some}
-use Rattle.clone_trx.proofs.Common.{nat_cmp_total, exact_unsigned, len-without, Record, commit_records, TRANSACTION_LIMIT, Donor, Commits, donor_of, IsKept}
+use Rattle.clone_trx.proofs.Common.{◌≡◌, ◌<◌, ◌+◌, ◌∷◌, [], List, length, sym, ap, subst, ◌∙◌, arith, is_some, nat_cmp_total, exact_unsigned, len-without, Record, commit_records, TRANSACTION_LIMIT, Donor, Commits, donor_of, IsKept, image_of, HasRoom}
 use Rattle.std.specs.FinMap as finite
 use Rattle.std.specs.List.{AllByRecursion}
-use Rattle.clone_buffer.specs.Buffered.{image_of}
 use Rattle.clone_buffer.specs.Writing as buffer
-use Rattle.clone_trx.specs.Ways.{HasRoom}
 use Rattle.clone_trx.proofs.KeptLemmas.{commit_keeps}
 use Rattle.clone_trx.proofs.PlacedLemmas.{commit_there}
 use Rattle.clone_trx.proofs.SafeLemmas.{committed_safe}
 use Rattle.clone_trx.proofs.SystemPageLemmas.{header_there, system_there}
 use Rattle.clone_trx.proofs.WriteLemmas.{commit_written, written_kept}
-use Rattle.clone_trx.proofs.transactions.Transactions.commit_held.Goals as goal
+use Rattle.clone_trx.proofs.transactions.Transactions.write_commit.Goals as goal
 
 pub push_within-requires : goal.push_within-requires
 push_within-requires c =

@@ -1,16 +1,12 @@
-use Rattle.std.proofs.Common.{◌≡◌, List, sym, ap, subst, ◌∙◌, arith, None, IsSome}
-use Rattle.clone_trx.proofs.Common.{AllByRecursion, nat_cmp_total, exact_unsigned, len-without, Record, records_of_end, changes_of_active, Donor, Leaves, donor_of, IsKept}
+use Rattle.clone_trx.proofs.Common.{◌≡◌, List, sym, ap, subst, ◌∙◌, arith, None, IsSome, AllByRecursion, nat_cmp_total, exact_unsigned, len-without, Record, records_of_end, changes_of_active, Donor, Leaves, donor_of, IsKept, image_of, IsOnPage, last_change}
 use Rattle.std.specs.FinMap as finite
-use Rattle.clone_buffer.specs.Buffered.{image_of}
 use Rattle.clone_buffer.specs.Writing as buffer
-use Rattle.clone_buffer.specs.Writing.{IsOnPage}
-use Rattle.clone_trx.specs.Calls.{last_change}
 use Rattle.clone_trx.proofs.KeptLemmas.{leave_keeps}
 use Rattle.clone_trx.proofs.LastUndoLemmas.{none_last, there}
 use Rattle.clone_trx.proofs.SafeLemmas.{left_safe}
 use Rattle.clone_trx.proofs.SystemPageLemmas.{header_there}
 use Rattle.clone_trx.proofs.WriteLemmas.{written_kept}
-use Rattle.clone_trx.proofs.transactions.Transactions.end_held.Goals as goal
+use Rattle.clone_trx.proofs.transactions.Transactions.end.Goals as goal
 
 pub end_record-requires : goal.end_record-requires
 end_record-requires c = c.laws.ensures.safe.locked.few.numbers c.args.trx c.requires.active

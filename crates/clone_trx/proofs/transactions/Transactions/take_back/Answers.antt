@@ -1,16 +1,13 @@
-use Rattle.std.proofs.Common.{◌≡◌, ◌+◌, ◌-◌, List, sym, ap, subst, ◌∙◌, arith}
 use Rattle.std.specs.List.{AllByRecursion}
 use Rattle.std.specs.FinMap as finite
-use Rattle.clone_trx.proofs.Common.{nat_cmp_total, exact_unsigned, len-again, Record, records_of_taking_back, Donor, TakesBack, donor_of, IsKept, IsLast}
-use Rattle.clone_buffer.specs.Buffered.{image_of}
+use Rattle.clone_trx.proofs.Common.{◌≡◌, ◌+◌, ◌-◌, List, sym, ap, subst, ◌∙◌, arith, nat_cmp_total, exact_unsigned, len-again, Record, records_of_taking_back, Donor, TakesBack, donor_of, IsKept, IsLast, image_of, HasRoom}
 use Rattle.clone_buffer.specs.Writing as buffer
-use Rattle.clone_trx.specs.Ways.{HasRoom}
 use Rattle.clone_trx.proofs.LastUndoLemmas.{last_small, taken_back, taken_kept, row_there}
 use Rattle.clone_trx.proofs.PlacedLemmas.{taking_back_there}
 use Rattle.clone_trx.proofs.SafeLemmas.{taken_safe}
 use Rattle.clone_trx.proofs.SystemPageLemmas.{header_there}
 use Rattle.clone_trx.proofs.WriteLemmas.{written_kept}
-use Rattle.clone_trx.proofs.transactions.Transactions.undo_held.Goals as goal
+use Rattle.clone_trx.proofs.transactions.Transactions.take_back.Goals as goal
 
 pub take_back_records-records-requires-clause-slot : goal.take_back_records-records-requires-clause-slot
 take_back_records-records-requires-clause-slot c = (last_small c.args.self.now c.args.trx c.args.count c.args.entry.now.table c.args.entry.now.key c.requires.last c.laws.ensures.safe.locked).2

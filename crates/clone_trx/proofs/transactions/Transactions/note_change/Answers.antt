@@ -1,11 +1,10 @@
-use Rattle.std.proofs.Common.{◌≡◌, ◌≤◌, sym, ap, subst, ◌∙◌, arith, None}
-use Rattle.clone_trx.proofs.Common.{nat_cmp_total, exact_unsigned, len-again, change_cause, Donor, Changes, donor_of, IsSafe}
+use Rattle.clone_trx.proofs.Common.{◌≡◌, ◌≤◌, sym, ap, subst, ◌∙◌, arith, None, nat_cmp_total, exact_unsigned, len-again, change_cause, Donor, Changes, donor_of, IsSafe}
 use Rattle.std.specs.FinMap as finite
 use Rattle.clone_trx.proofs.CauseLemmas.{may_change}
 use Rattle.clone_trx.proofs.ChangeLemmas.{left_again, made_change}
 use Rattle.clone_trx.proofs.SafeLemmas.{changed_safe}
 use Rattle.clone_trx.proofs.WriteLemmas.{refused, done}
-use Rattle.clone_trx.proofs.transactions.Transactions.write_change.Goals as goal
+use Rattle.clone_trx.proofs.transactions.Transactions.note_change.Goals as goal
 
 -- The lock wanted memory, and the change was taken away again.
 
@@ -24,8 +23,8 @@ invariant_of-self-then-is_err c =
     let same = c.self.view_is ∙ sym (state_kept c) in
     (subst IsSafe same c.self.invariant.0, subst (λ (d : Donor). finite.len d.active ≤ c.self.inside.binlog.room) same c.self.invariant.1)
 
-pub returns-then-is_err-clause-donor : goal.returns-then-is_err-clause-donor
-returns-then-is_err-clause-donor c = state_kept c
+pub returns-then-is_err-clause-err : goal.returns-then-is_err-clause-err
+returns-then-is_err-clause-err c = state_kept c
 
 -- The change was made.
 
@@ -38,8 +37,8 @@ invariant_of-self-else-is_err c =
     let as_many : finite.len c.push.new.self ≡ finite.len c.self.inside.active = ap (λ (d : Donor). finite.len d.active) made.is ∙ len-again nat_cmp_total exact_unsigned c.self.inside.active c.args.trx may.commit _ may.was_active in
     (changed_safe c.self.invariant.0 made may.lock may.few, omega (arith, as_many, c.self.invariant.1))
 
-pub returns-clause-donor : goal.returns-clause-donor
-returns-clause-donor c =
+pub returns-clause-ok : goal.returns-clause-ok
+returns-clause-ok c =
     let old = c.self.inside in
     let before : Donor = donor_of old.tables old.active old.locks old.binlog.commits old.drops.list in
     let may = may_change before c.args.trx c.args.change.table c.args.change.key c.requires.cause.0 c.self.invariant.0.locked
