@@ -8,12 +8,12 @@ use Rattle.clone_model.specs.History.{Entry, fold}
 use Rattle.clone_plain.specs.Donor as plain
 use Rattle.clone_plain.specs.Donor.{history}
 use Rattle.clone_staged.specs.Holds.{HoldsCopy}
-use Rattle.clone_engine.proofs.DiskLemmas.{for_told}
+use Rattle.clone_engine.proofs.ToldLemmas.{for_told}
 use Rattle.clone_engine.specs.Disks.{Visits}
 use Rattle.clone_outside.specs.DiskCalls.{DiskState}
 use Rattle.clone_events.specs.World.{IsUnderWay as Goes, HasEnded, Stop, Progress, copying, complete, broken, spent, Clone, IsSure, before_stop, completed_at, ended_by, reached, stop_by, stop_now}
 use Rattle.clone_events.specs.Events.{Breaks, readied, not_started, completed, completed_before, broke, broke_before, lost, lost_before, Happens}
-use Rattle.clone_donor.specs.Donor as staged
+use Rattle.clone_engine.specs.Donor as staged
 use Rattle.clone_request.specs.Advancing.{Fails, ForBoth, HasRisen, HoldsDonor, IsUnfinished, Leaves, Lends, stop_at, stop_from}
 use Rattle.clone_request.specs.declared.requester.Advanced.{Advanced}
 use Rattle.clone_request.specs.declared.requester.Advanced.TheVariants.{Ready, Complete}

@@ -20,10 +20,10 @@ use Rattle.clone_session.specs.Effects.{Becomes, with_noted}
 use Rattle.clone_session.specs.declared.info.Stop as session
 use Rattle.clone_engine.specs.Engine.{Engine, IsEngine}
 use Rattle.clone_engine.specs.Steps.{answer_of, has_begun}
-use Rattle.clone_donor.specs.Acts as act
-use Rattle.clone_donor.specs.Acts.{Act, Acts, Does}
-use Rattle.clone_donor.specs.Donor as staged
-use Rattle.clone_donor.specs.Serving.{AnswersCall, noted_by}
+use Rattle.clone_engine.specs.Acts as act
+use Rattle.clone_engine.specs.Acts.{Act, Acts, Does}
+use Rattle.clone_engine.specs.Donor as staged
+use Rattle.clone_engine.specs.Serving.{AnswersCall, noted_by}
 use Rattle.clone_request.specs.Advancing.{IsOutside}
 use Rattle.clone_request.specs.Requester.{IsUnderWay, Requester}
 use Rattle.clone_request.proofs.KeepLemmas.{keeps}

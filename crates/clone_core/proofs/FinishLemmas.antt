@@ -11,7 +11,7 @@ use Rattle.clone_plain.specs.Donor.{Donor}
 use Rattle.clone_events.specs.World.{Stop, Progress, copying, absent, complete, broken, spent, Clone, IsUnderWay, HasEnded, completed_at, ended_by, reached, stop_by, stop_now}
 use Rattle.clone_events.specs.Events.{Event, Breaks, Sees, counted, event_text, started, started_before, readied, not_started, completed, completed_before, broke, broke_before, lost, lost_before, Clones, Happens}
 use Rattle.clone_events.specs.Runs.{Advances, Finishes, Starts}
-use Rattle.clone_donor.specs.Donor as staged
+use Rattle.clone_engine.specs.Donor as staged
 use Rattle.clone_request.specs.Advancing.{Lends}
 use Rattle.clone_core.specs.System.{System, CopiesOn, SystemStep, donor_of}
 use Rattle.clone_core.specs.CloneEvents.{MakesHappen, event_of}

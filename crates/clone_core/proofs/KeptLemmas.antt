@@ -3,7 +3,7 @@ use Rattle.std.proofs.Common.{◌≡◌, ℕ, Bool, Option}
 use Rattle.clone_outside.specs.Disk.{DiskImage, ForTold, blank}
 use Rattle.clone_events.specs.World.{absent, copying, complete, broken, spent, HasEnded, IsSure}
 use Rattle.clone_session.specs.declared.info.Stop.{Stop}
-use Rattle.clone_donor.specs.Donor.{Donor}
+use Rattle.clone_engine.specs.Donor.{Donor}
 use Rattle.clone_core.specs.Copied.{HoldsClone, HoldsEnded, KeepsClone, StandsAt, clone_of, progress_of}
 use Rattle.clone_core.specs.declared.world.Course.{Course}
 use Rattle.clone_core.specs.declared.world.Course.TheVariants as course

@@ -11,7 +11,7 @@ use Rattle.clone_events.specs.Runs.{Makes, MakesOne, MakesSet, not_begun, not_ch
 use Rattle.clone_engine.specs.Disks.{Visits}
 use Rattle.clone_outside.specs.DiskCalls.{DiskState}
 use Rattle.clone_engine.specs.Engine.{Engine}
-use Rattle.clone_donor.specs.Donor as staged
+use Rattle.clone_engine.specs.Donor as staged
 use Rattle.clone_core.specs.System.{System, SystemStep, VisitsRecipient, CopiesOn, ArchivesTo, donor_of}
 use Rattle.clone_core.specs.Lines.{State, Runs}
 use Rattle.clone_core.proofs.StepLemmas.{made_visits, same_visits}

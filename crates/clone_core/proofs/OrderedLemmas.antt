@@ -9,9 +9,9 @@ use Rattle.clone_events.specs.World.{Clone}
 use Rattle.clone_events.specs.Events.{to_donor, to_recipient, ordered}
 use Rattle.clone_engine.specs.Disks.{with_order}
 use Rattle.clone_outside.specs.DiskCalls.{DiskState}
-use Rattle.clone_donor.specs.Donor as staged
-use Rattle.clone_donor.specs.Acts as act
-use Rattle.clone_donor.specs.Acts.{Acts}
+use Rattle.clone_engine.specs.Donor as staged
+use Rattle.clone_engine.specs.Acts as act
+use Rattle.clone_engine.specs.Acts.{Acts}
 use Rattle.clone_core.specs.declared.world.Course.{Course}
 use Rattle.clone_core.specs.Lines.{State}
 use Rattle.clone_core.specs.Called.{Notes}

@@ -21,7 +21,7 @@ use Rattle.clone_staged.specs.Holds.{HoldsCopy}
 use Rattle.clone_staged.proofs.EndMarks.{not_under_way, recovered_not_under_way}
 use Rattle.clone_engine.specs.Disks.{Visits}
 use Rattle.clone_outside.specs.DiskCalls.{DiskState}
-use Rattle.clone_donor.specs.Donor as staged
+use Rattle.clone_engine.specs.Donor as staged
 use Rattle.clone_request.specs.declared.requester.TheConstants.{SESSION}
 use Rattle.clone_core.specs.declared.world.Course.{Course}
 use Rattle.clone_core.specs.declared.world.Course.TheVariants as course

@@ -7,9 +7,9 @@ use Rattle.clone_events.specs.World.{Stop, absent, copying, complete}
 use Rattle.clone_events.specs.Events.{looked, archived, incomplete, event_text, Happens}
 use Rattle.clone_session.specs.declared.info.Stop as session
 use Rattle.clone_engine.specs.Engine.{Engine}
-use Rattle.clone_donor.specs.Acts as act
-use Rattle.clone_donor.specs.Acts.{Does}
-use Rattle.clone_donor.specs.Donor as staged
+use Rattle.clone_engine.specs.Acts as act
+use Rattle.clone_engine.specs.Acts.{Does}
+use Rattle.clone_engine.specs.Donor as staged
 use Rattle.clone_request.specs.Requester.{Requester}
 use Rattle.clone_core.specs.System.{SystemStep, donor_of}
 use Rattle.clone_core.specs.Lines.{State}

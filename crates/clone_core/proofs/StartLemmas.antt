@@ -11,7 +11,7 @@ use Rattle.clone_engine.specs.Disks.{Visits}
 use Rattle.clone_outside.specs.DiskCalls.{DiskState}
 use Rattle.clone_events.specs.World.{absent, copying, HasEnded}
 use Rattle.clone_events.specs.Events.{started, started_before, broke, Happens}
-use Rattle.clone_donor.specs.Donor as staged
+use Rattle.clone_engine.specs.Donor as staged
 use Rattle.clone_request.specs.Advancing.{Lends}
 use Rattle.clone_request.specs.declared.requester.TheConstants.{SESSION}
 use Rattle.clone_request.specs.Requester.{IsUnasked, IsUnderWay, Requester}

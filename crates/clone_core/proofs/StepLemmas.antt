@@ -32,8 +32,8 @@ use Rattle.clone_engine.specs.Engine.{Engine}
 use Rattle.clone_engine.specs.Steps as steps
 use Rattle.clone_engine.specs.Steps.{AnswersDrop, Looks, Ends, Flushes, Transacts, Did, way_of, refusal_of}
 use Rattle.clone_session.specs.Cloning.{Session}
-use Rattle.clone_donor.specs.Donor as staged
-use Rattle.clone_donor.specs.Serving.{AnswersCall, Creates, Drops, Serves, ServesAs}
+use Rattle.clone_engine.specs.Donor as staged
+use Rattle.clone_engine.specs.Serving.{AnswersCall, Creates, Drops, Serves, ServesAs}
 use Rattle.clone_core.specs.System.{System, SystemStep, CallStep, donor_of}
 
 -- whatever is read, the way stops for a cause below alone

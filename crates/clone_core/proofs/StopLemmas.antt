@@ -9,8 +9,8 @@ use Rattle.clone_plain.specs.Donor as plain
 use Rattle.clone_plain.specs.Donor.{history}
 use Rattle.clone_session.specs.declared.info.Stop as session
 use Rattle.clone_events.specs.World.{Stop, Clone, stop_now, before_stop}
-use Rattle.clone_donor.proofs.ToldLemmas.{for_one}
-use Rattle.clone_donor.specs.Donor as staged
+use Rattle.clone_engine.proofs.ToldLemmas.{for_one}
+use Rattle.clone_engine.specs.Donor as staged
 use Rattle.clone_request.specs.Requester.{IsStopOf}
 use Rattle.clone_core.specs.Copied.{HoldsClone, WasAt, stop_of}
 use Rattle.clone_core.specs.declared.world.Course.{Course}

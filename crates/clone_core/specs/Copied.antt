@@ -9,7 +9,7 @@ use Rattle.clone_staged.specs.Holds.{HoldsCopy}
 use Rattle.clone_plain.specs.Donor.{Donor, history}
 use Rattle.clone_events.specs.World.{Stop, Progress, absent, copying, complete, broken, spent, Clone, HasEnded, IsSure, before_stop}
 use Rattle.clone_session.specs.declared.info.Stop as session
-use Rattle.clone_donor.specs.Donor as staged
+use Rattle.clone_engine.specs.Donor as staged
 use Rattle.clone_request.specs.Advancing.{IsUnfinished}
 use Rattle.clone_request.specs.Requester.{IsUnasked, IsUnderWay, Requester}
 use Rattle.clone_core.specs.declared.world.Course.{Course}

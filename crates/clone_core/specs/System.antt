@@ -14,10 +14,10 @@ use Rattle.clone_engine.specs.Disks.{Visits, with_order}
 use Rattle.clone_outside.specs.DiskCalls.{DiskState}
 use Rattle.clone_plain.specs.Calls.{Made, done, refused, call_of}
 use Rattle.clone_plain.specs.declared.refusal.EngineRefusal.TheVariants.{Because}
-use Rattle.clone_donor.specs.Acts as act
-use Rattle.clone_donor.specs.Acts.{Does}
-use Rattle.clone_donor.specs.Donor as staged
-use Rattle.clone_donor.specs.Serving.{AnswersCall}
+use Rattle.clone_engine.specs.Acts as act
+use Rattle.clone_engine.specs.Acts.{Does}
+use Rattle.clone_engine.specs.Donor as staged
+use Rattle.clone_engine.specs.Serving.{AnswersCall}
 use Rattle.clone_request.specs.Advancing.{Lends}
 
 pub record System : Type 0 where

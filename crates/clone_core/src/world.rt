@@ -8,7 +8,7 @@ ghost use Rattle.clone_outside.specs.Disk.{ForTold, blank};
 ghost use Rattle.clone_outside.specs.declared.disk.DiskOrder.TheVariants as order;
 ghost use Rattle.clone_events.specs.World.{IsWithin};
 ghost use Rattle.clone_engine.specs.Opened.{IsOpened};
-ghost use Rattle.clone_donor.specs.Taken.{IsTaken, nothing};
+ghost use Rattle.clone_engine.specs.Taken.{IsTaken, nothing};
 ghost use Rattle.clone_core.specs.System.{donor_of};
 ghost use Rattle.clone_core.specs.Lines.{Answers, BreaksOff, IsNew};
 ghost use Rattle.clone_core.specs.Copied.{KeepsClone, stop_of};

@@ -1,18 +1,19 @@
-ghost use Rattle.std.specs.Prelude.{◌≡◌, Err, MatchResult};
-ghost use Rattle.clone_session.specs.CloneCauses.{abandon_cause, acknowledgement_cause, exit_cause, hello_cause};
-ghost use Rattle.clone_session.specs.CloneCalls.{Decided, InFiles, IsMoment};
+ghost use Rattle.std.specs.Prelude.{◌≡◌, Err, IfErr, IfOk, MatchResult, None, OnOk, Some};
+ghost use Rattle.clone_session.specs.CloneCauses.{abandon_cause, acknowledgement_cause, block_cause, exit_cause, hello_cause};
+ghost use Rattle.clone_session.specs.CloneCalls.{Decided, InFiles};
 ghost use Rattle.clone_session.specs.declared.refusal.CloneRefusal.TheVariants.{NoMemory};
-ghost use Rattle.clone_donor.specs.Acts as act;
-ghost use Rattle.clone_donor.specs.Acts.{Acts};
-ghost use Rattle.clone_donor.specs.Copying.{Acks, Begins, moment_of};
+ghost use Rattle.clone_engine.specs.Acts as act;
+ghost use Rattle.clone_engine.specs.Acts.{Acts};
+ghost use Rattle.clone_engine.specs.Copying.{Acks, Begins, Gives, RefusesBlock, moment_of};
 
 use crate::Donor;
 use clone_chunk::CloneCause;
+use clone_engine::{Block, BlockRefusal};
 use clone_outside::PageDisk;
-use clone_session::{Caller, CloneRefusal, Hello, Moment, StageInfo};
+use clone_session::{Caller, CloneRefusal, Hello, StageInfo};
 use std::alloc::{AllocError, Global};
 
-// The calls of a clone, but for its blocks.
+// The calls of a clone.
 impl<D: PageDisk> Donor<D> {
     /// A session begins with the copy of files: of the system space and of the tables, each with
     /// the number of pages that its file has. The pages whose write is open are tracked from the
@@ -24,15 +25,7 @@ impl<D: PageDisk> Donor<D> {
             (λ info. Acts (act.Begin hello.now info) self.old self.new)
             (λ _. Acts act.Refuse self.old self.new) }
     {
-        self.cloning.hello(hello)?;
-        self.engine.laws();
-        self.cloning.laws();
-        if self.cloning.session().is_some() {
-            return Ok(self.cloning.reopen(alloc, hello)?);
-        }
-        let files = self.engine.spaces(alloc)?;
-        let open = self.engine.open_pages(alloc)?;
-        Ok(self.cloning.open(alloc, hello, &files, &open)?)
+        self.engine.init(alloc, hello)
     }
 
     /// The least chunk that is neither claimed nor finished, which is the task's from then on, or
@@ -40,7 +33,7 @@ impl<D: PageDisk> Donor<D> {
     pub fn claim(&mut self, caller: Caller, stage: u8) -> Result<Option<u32>, CloneCause>
         ensures acts { Acts (act.Claim caller stage result) self.old self.new }
     {
-        self.cloning.claim(caller, stage)
+        self.engine.claim(caller, stage)
     }
 
     /// A stage is acknowledged. That of the donor's stage ends it: behind the copy of files the log
@@ -56,27 +49,7 @@ impl<D: PageDisk> Donor<D> {
             (λ info. Acts (act.Ack caller stage info) self.old self.new)
             (λ _. Acts act.Refuse self.old self.new) }
     {
-        let now = self.moment();
-        self.engine.laws();
-        self.cloning.laws();
-        let info = self.cloning.acknowledge(caller, stage, floor, now)?;
-        self.engine.settle_floor(self.cloning.kept_from());
-        Ok(info)
-    }
-
-    // This moment of the engine.
-    fn moment(&self) -> Moment
-        ensures now { result ≡ moment_of self.now.engine }
-        ensures is { IsMoment self.now.cloning result }
-    {
-        self.engine.laws();
-        let _ = self.engine.ring().free();
-        Moment {
-            checkpoint: self.engine.checkpoint_within(),
-            end: self.engine.ring().end(),
-            position: self.engine.binlog().len() as u64,
-            drops: self.engine.drops().len() as u64,
-        }
+        self.engine.ack(caller, stage, floor)
     }
 
     /// The requester has left, and the session is gone. No memory is taken.
@@ -87,9 +60,7 @@ impl<D: PageDisk> Donor<D> {
         ensures acts { MatchResult result (λ _. Acts act.Leave self.old self.new)
             (λ _. Acts act.Refuse self.old self.new) }
     {
-        self.cloning.exit(caller)?;
-        self.engine.settle_floor(self.cloning.kept_from());
-        Ok(())
+        self.engine.exit(caller)
     }
 
     /// The session of this number is given up. No memory is taken.
@@ -100,9 +71,7 @@ impl<D: PageDisk> Donor<D> {
         ensures acts { MatchResult result (λ _. Acts act.Leave self.old self.new)
             (λ _. Acts act.Refuse self.old self.new) }
     {
-        self.cloning.abandon(session)?;
-        self.engine.settle_floor(self.cloning.kept_from());
-        Ok(())
+        self.engine.abandon(session)
     }
 
     /// Archives so many bytes of the log, or as many as are left up to its end, or to the stop. The
@@ -113,9 +82,30 @@ impl<D: PageDisk> Donor<D> {
             (λ reached. Acts (act.Archive limit reached) self.old self.new)
             (λ _. Acts act.Refuse self.old self.new) }
     {
-        self.engine.laws();
-        let archived = self.cloning.archive(self.engine.ring(), limit)?;
-        self.engine.settle_floor(self.cloning.kept_from());
-        Ok(archived)
+        self.engine.archive(limit)
+    }
+
+    /// A block of a chunk that the task has claimed: pages as the disk has them while files are
+    /// copied, pages as they are after that, or redo that is archived. And whether the block was its
+    /// chunk's last; then the chunk is finished. After an error nothing has changed but the disk's
+    /// count of faults.
+    pub fn read_block(
+        &mut self,
+        alloc: Global,
+        caller: Caller,
+        stage: u8,
+        chunk: u32,
+        number: u8,
+    ) -> Result<(Block, bool), BlockRefusal>
+        ensures free { OnOk result (block_cause self.old.cloning caller stage chunk number ≡ None) }
+        ensures gives { IfOk result (λ given.
+            Gives caller chunk number self.old self.new given.0 given.1) }
+        ensures refused { IfErr result (RefusesBlock caller stage chunk number self.old self.new) }
+        ensures acts { MatchResult result
+            (λ given. Acts (act.Give caller chunk number given.0 given.1) self.old self.new)
+            (λ _. Acts act.Miss self.old self.new) }
+    {
+        self.engine
+            .read_block(alloc, caller, stage, chunk, number, &mut self.disk)
     }
 }

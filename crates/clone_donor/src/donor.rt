@@ -1,5 +1,4 @@
-//! The state of a donor. The ring has what comes next for the archive, the archived bytes are the
-//! log's, and what a session copies is the donor's.
+//! The state of a donor: an engine over the disk that it holds, with what holds of every donor.
 ghost use Rattle.std.specs.Prelude.{◌≡◌, ◌≤◌, ◌<◌, ◌^◌, IfErr, IfOk, None, is_some, length, option_copied, option_map};
 ghost use Rattle.std.specs.FinMap as finite;
 ghost use Rattle.std.specs.Option.{ForSome};
@@ -17,37 +16,39 @@ ghost use Rattle.clone_outside.specs.DiskCalls.{Alters, Orders};
 ghost use Rattle.clone_engine.specs.Engine.{IsEngine};
 ghost use Rattle.clone_engine.specs.Opened.{IsNotEmpty, IsOpened};
 ghost use Rattle.clone_engine.specs.declared.opening.OpenCause.TheVariants as causes;
-ghost use Rattle.clone_donor.specs.Acts as act;
-ghost use Rattle.clone_donor.specs.Acts.{Acts};
-ghost use Rattle.clone_donor.specs.Donor.{IsDonor};
-ghost use Rattle.clone_donor.specs.Taken.{IsTaken, nothing};
+ghost use Rattle.clone_engine.specs.Acts as act;
+ghost use Rattle.clone_engine.specs.Acts.{Acts};
+ghost use Rattle.clone_engine.specs.Donor.{IsDonor};
+ghost use Rattle.clone_engine.specs.Over.{over};
+ghost use Rattle.clone_engine.specs.Taken.{IsTaken, nothing};
 
 use clone_engine::{Engine, OpenRefusal};
 use clone_model::{Binlog, Commit, Config, Drops};
 use clone_outside::{DiskOrder, PageDisk};
-use clone_session::{Cloning, Stop};
+use clone_session::Stop;
 use std::alloc::{AllocError, Global};
 use std::marker::Model;
 
-/// A donor over a disk: its engine, and the clone that it gives.
+/// A donor over a disk, and the clone that it gives.
 pub struct Donor<D: PageDisk> {
-    pub(crate) engine: Engine<D>,
-    pub(crate) cloning: Cloning,
+    pub(crate) engine: Engine,
+    pub(crate) disk: D,
 }
 
 impl<D: PageDisk> Model for Donor<D> {
     ghost use Rattle.std.specs.Coded.{codes};
     ghost use Rattle.clone_track.specs.TrackedPages.{tracked_pages_code};
     ghost use Rattle.clone_engine.specs.Codes.{engine_code};
-    ghost use Rattle.clone_donor.specs.Donor.{Donor, IsDonor};
+    ghost use Rattle.clone_engine.specs.Donor.{Donor, IsDonor};
+    ghost use Rattle.clone_engine.specs.Over.{over};
 
     ghost Value = { Donor };
 
     ghost coded = { Prim.hlevel (codes, engine_code, tracked_pages_code) };
 
-    ghost view = { λ d. record { engine = d.engine; cloning = d.cloning } };
+    ghost view = { λ d. over d.engine (D.state d.disk) };
 
-    ghost invariant = { λ d. IsDonor (record { engine = d.engine; cloning = d.cloning }) };
+    ghost invariant = { λ d. IsDonor (over d.engine (D.state d.disk)) };
 }
 
 impl<D: PageDisk> Donor<D> {
@@ -68,16 +69,10 @@ impl<D: PageDisk> Donor<D> {
         ensures refused { IfErr result (λ r. Alters (r.cause ≡ causes.DiskFault)
             (D.state disk) (D.state r.disk)) }
     {
-        let ring = config.ring;
-        match Engine::open(alloc, disk, config) {
-            Ok(engine) => {
-                engine.laws();
-                Ok(Donor {
-                    engine,
-                    cloning: Cloning::new(alloc, ring),
-                })
-            }
-            Err(refusal) => Err(refusal),
+        let mut disk = disk;
+        match Engine::open(alloc, config, &mut disk) {
+            Ok(engine) => Ok(Donor { engine, disk }),
+            Err(cause) => Err(OpenRefusal { cause, disk }),
         }
     }
 
@@ -115,28 +110,28 @@ impl<D: PageDisk> Donor<D> {
     pub fn look(&self) -> u64
         ensures { result ≡ length self.now.engine.donor.binlog }
     {
-        self.engine.binlog().len() as u64
+        self.engine.look()
     }
 
     /// The LSN behind the log's last byte.
     pub fn end(&self) -> u64
         ensures { result ≡ end_of self.now.engine.buffer.ring }
     {
-        self.engine.ring().end()
+        self.engine.end()
     }
 
     /// The number of the session that stands, or none where none does.
     pub fn session(&self) -> Option<u64>
         ensures { result ≡ option_map (λ (s : Session). s.number) self.now.cloning.session }
     {
-        self.cloning.session()
+        self.engine.session()
     }
 
     /// The last stop, which outlives its session.
     pub fn stop(&self) -> Option<Stop>
         ensures { result ≡ self.now.cloning.stop }
     {
-        self.cloning.last_stop()
+        self.engine.stop()
     }
 
     /// Hands an order to the disk. The error is want of memory.
@@ -144,7 +139,15 @@ impl<D: PageDisk> Donor<D> {
         ensures disk { Orders order self.old.engine.disk self.new.engine.disk result }
         ensures acts { Acts act.Orders self.old self.new }
     {
-        self.engine.order(order)
+        self.engine.order(order, &mut self.disk)
+    }
+
+    /// Gives the engine and its disk.
+    pub fn into_parts(self) -> (Engine, D)
+        ensures { over result.0 (D.state result.1) ≡ self }
+    {
+        let Donor { engine, disk } = self;
+        (engine, disk)
     }
 
     /// Gives the disk back, and the drops.
@@ -152,8 +155,8 @@ impl<D: PageDisk> Donor<D> {
         ensures disk { D.state result.0 ≡ self.engine.disk }
         ensures drops { result.1.list ≡ self.engine.donor.drops }
     {
-        let Donor { engine, cloning: _ } = self;
-        engine.into_disk()
+        let Donor { engine, disk } = self;
+        (disk, engine.into_drops())
     }
 
     /// What holds of every donor.
@@ -168,7 +171,5 @@ impl<D: PageDisk> Donor<D> {
             (λ s. IsSnap s.snap.list s.snap.chunks s.snap.room) }
     {
         self.engine.laws();
-        self.cloning.laws();
-        self.cloning.part_laws();
     }
 }

@@ -2,13 +2,13 @@ ghost use Rattle.std.specs.Prelude.{◌≡◌, Ok};
 ghost use Rattle.clone_archive.specs.Archived.{kept_from};
 ghost use Rattle.clone_plain.specs.Calls as call;
 ghost use Rattle.clone_plain.specs.Calls.{did_flush_begin, did_flush_half, did_flush_land, did_oldest_dirty, did_checkpoint};
-ghost use Rattle.clone_engine.specs.Steps.{Checks, Steps, answer_of, has_begun};
-ghost use Rattle.clone_donor.specs.Acts as act;
-ghost use Rattle.clone_donor.specs.Acts.{Acts};
+ghost use Rattle.clone_engine.specs.Steps.{Checks, Steps, answer_of};
+ghost use Rattle.clone_engine.specs.Acts as act;
+ghost use Rattle.clone_engine.specs.Acts.{Acts};
 
 use crate::Donor;
 use clone_outside::PageDisk;
-use clone_plain::{Cause, EngineRefusal};
+use clone_plain::EngineRefusal;
 
 // The flushes and the checkpoint.
 impl<D: PageDisk> Donor<D> {
@@ -18,18 +18,7 @@ impl<D: PageDisk> Donor<D> {
         ensures acts { Acts (act.Calls (call.flush_begin space page)
             (answer_of (λ _. did_flush_begin space page) result)) self.old self.new }
     {
-        self.cloning.laws();
-        if self.cloning.reserve_note().is_err() {
-            return Err(EngineRefusal::NoMemory);
-        }
-        self.engine.laws();
-        let begun = self.engine.flush_begin(space, page);
-        self.engine.laws();
-        if !has_begun(begun) {
-            return begun;
-        }
-        self.cloning.note(space, page);
-        begun
+        self.engine.flush_begin(space, page, &mut self.disk)
     }
 
     /// Writes the first half of a page whose flush has begun.
@@ -37,9 +26,7 @@ impl<D: PageDisk> Donor<D> {
         ensures acts { Acts (act.Calls (call.flush_half space page)
             (answer_of (λ _. did_flush_half space page) result)) self.old self.new }
     {
-        let written = self.engine.flush_half(space, page);
-        self.engine.laws();
-        written
+        self.engine.flush_half(space, page, &mut self.disk)
     }
 
     /// Writes the second half of a page whose first half is written. The page is clean then, or
@@ -48,9 +35,7 @@ impl<D: PageDisk> Donor<D> {
         ensures acts { Acts (act.Calls (call.flush_land space page)
             (answer_of (λ _. did_flush_land space page) result)) self.old self.new }
     {
-        let written = self.engine.flush_land(space, page);
-        self.engine.laws();
-        written
+        self.engine.flush_land(space, page, &mut self.disk)
     }
 
     /// The dirty page to be flushed next, by its space and its number, or none where no dirty page
@@ -70,19 +55,6 @@ impl<D: PageDisk> Donor<D> {
         ensures acts { Acts (act.Calls call.checkpoint (Ok (did_checkpoint result))) self.old
             self.new }
     {
-        self.engine.laws();
-        let lsn = self.engine.checkpoint(self.cloning.kept_from());
-        self.engine.laws();
-        lsn
-    }
-}
-
-// Whether the flush of a page began by this answer, also where it failed at once.
-fn has_begun(begun: Result<(), EngineRefusal>) -> bool
-    ensures { result ≡ has_begun begun }
-{
-    match begun {
-        Ok(()) | Err(EngineRefusal::Because(Cause::DiskFault)) => true,
-        Err(_) => false,
+        self.engine.checkpoint()
     }
 }

@@ -1,17 +1,15 @@
-ghost use Rattle.std.specs.Prelude.{◌≡◌, ◌≢◌, Err, unwrap_or};
+ghost use Rattle.std.specs.Prelude.{◌≡◌, ◌≢◌, Err};
 ghost use Rattle.clone_plain.specs.Calls as call;
-ghost use Rattle.clone_plain.specs.Causes.{no_table};
 ghost use Rattle.clone_plain.specs.Calls.{did_create, did_drop, did_begin, did_put, did_delete, did_get, did_undo_one, did_commit};
-ghost use Rattle.clone_plain.specs.declared.refusal.Cause.TheVariants.{CloneRunning};
 ghost use Rattle.clone_plain.specs.declared.refusal.EngineRefusal.TheVariants.{NoMemory};
 ghost use Rattle.clone_engine.specs.Steps.{answer_of};
-ghost use Rattle.clone_donor.specs.Acts as act;
-ghost use Rattle.clone_donor.specs.Acts.{Acts};
+ghost use Rattle.clone_engine.specs.Acts as act;
+ghost use Rattle.clone_engine.specs.Acts.{Acts};
 
 use crate::Donor;
 use clone_model::{BucketCount, TableNumber, Value};
 use clone_outside::PageDisk;
-use clone_plain::{Cause, EngineRefusal, Undone};
+use clone_plain::{EngineRefusal, Undone};
 use std::alloc::Global;
 
 // The calls of transactions.
@@ -21,13 +19,7 @@ impl<D: PageDisk> Donor<D> {
         ensures acts { Acts (act.Calls (call.create table buckets)
             (answer_of (λ _. did_create table buckets) result)) self.old self.new }
     {
-        if let Some(session) = self.cloning.session() {
-            return Err(Cause::CloneRunning { session }.into());
-        }
-        self.cloning.laws();
-        let created = self.engine.create(table, buckets);
-        self.engine.laws();
-        created
+        self.engine.create(table, buckets, &mut self.disk)
     }
 
     /// Drops a table with its pages and its file, unless a session stands. Where the disk fails to
@@ -36,25 +28,7 @@ impl<D: PageDisk> Donor<D> {
         ensures acts { Acts (act.Calls (call.drop table)
             (answer_of (λ _. did_drop table) result)) self.old self.new }
     {
-        if let Some(session) = self.cloning.session() {
-            return Err(self.kept_by(table, session).into());
-        }
-        self.cloning.laws();
-        let dropped = self.engine.drop_table(table);
-        self.engine.laws();
-        dropped
-    }
-
-    // Why a table isn't dropped while this session stands: there is none, or the session keeps it.
-    fn kept_by(&self, table: u32, session: u64) -> Cause
-        ensures { result
-            ≡ unwrap_or (no_table self.now.engine.donor table) (CloneRunning session) }
-    {
-        if self.engine.has_table(table) {
-            Cause::CloneRunning { session }
-        } else {
-            Cause::NoSuchTable
-        }
+        self.engine.drop_table(table, &mut self.disk)
     }
 
     /// Begins a transaction of a writer, which is its transaction of this index, and answers the
@@ -63,10 +37,7 @@ impl<D: PageDisk> Donor<D> {
         ensures acts { Acts (act.Calls (call.begin writer index)
             (answer_of (λ trx. did_begin writer index trx) result)) self.old self.new }
     {
-        self.engine.laws();
-        let begun = self.engine.begin(alloc, writer, index);
-        self.engine.laws();
-        begun
+        self.engine.begin(alloc, writer, index, &mut self.disk)
     }
 
     /// Gives a row its value, and locks it.
@@ -74,10 +45,7 @@ impl<D: PageDisk> Donor<D> {
         ensures acts { Acts (act.Calls (call.put trx table key value.now)
             (answer_of (λ _. did_put trx table key value.now) result)) self.old self.new }
     {
-        self.engine.laws();
-        let changed = self.engine.put(trx, table, key, value);
-        self.engine.laws();
-        changed
+        self.engine.put(trx, table, key, value, &mut self.disk)
     }
 
     /// Removes a row, and locks it.
@@ -85,10 +53,7 @@ impl<D: PageDisk> Donor<D> {
         ensures acts { Acts (act.Calls (call.delete trx table key)
             (answer_of (λ _. did_delete trx table key) result)) self.old self.new }
     {
-        self.engine.laws();
-        let changed = self.engine.delete(trx, table, key);
-        self.engine.laws();
-        changed
+        self.engine.delete(trx, table, key, &mut self.disk)
     }
 
     /// The value of a row. This takes no memory, and writes nothing.
@@ -97,10 +62,7 @@ impl<D: PageDisk> Donor<D> {
             (answer_of (λ value. did_get trx table key value) result)) self.old self.new }
         ensures memory { result ≢ Err NoMemory }
     {
-        self.engine.laws();
-        let value = self.engine.get(trx, table, key);
-        self.engine.laws();
-        value
+        self.engine.get(trx, table, key, &mut self.disk)
     }
 
     /// Takes the last change of a transaction back, or ends a transaction without changes. This
@@ -110,10 +72,7 @@ impl<D: PageDisk> Donor<D> {
             (answer_of (λ undone. did_undo_one trx undone) result)) self.old self.new }
         ensures memory { result ≢ Err NoMemory }
     {
-        self.engine.laws();
-        let undone = self.engine.undo_one(trx);
-        self.engine.laws();
-        undone
+        self.engine.undo_one(trx, &mut self.disk)
     }
 
     /// Commits a transaction, and answers the new number of commits. This takes no memory.
@@ -122,9 +81,6 @@ impl<D: PageDisk> Donor<D> {
             (answer_of (λ position. did_commit trx position) result)) self.old self.new }
         ensures memory { result ≢ Err NoMemory }
     {
-        self.engine.laws();
-        let committed = self.engine.commit(trx);
-        self.engine.laws();
-        committed
+        self.engine.commit(trx, &mut self.disk)
     }
 }

@@ -38,10 +38,18 @@ pub record AreOfDonor (d : Donor) (files : Files) : Type 0 where
   pub sizes : (space pages : ℕ) → finite.get files space ≡ Some pages → pages ≤ MOST_PAGES
 
 -- the page lies within its file, as far as that is known
-pub record IsInFile (e : Engine) (space number : ℕ) : Type 0 where
+pub record LiesIn (files : Files) (space number : ℕ) : Type 0 where
   pub pages : ℕ
-  pub file : finite.get e.flights.files space ≡ Some pages
+  pub file : finite.get files space ≡ Some pages
   pub within : number < pages
+
+abbrev pub IsInFile : Engine → ℕ → ℕ → Type 0
+IsInFile e space number = LiesIn e.flights.files space number
+
+-- the log makes each page within its file
+abbrev pub MakesPages : Files → Buffered → Type 0
+MakesPages files b =
+    (space number : ℕ) → LiesIn files space number → IsSome (page_of (image_of b) space number)
 
 -- What holds of every engine.
 pub record IsEngine (e : Engine) : Type 0 where
@@ -52,9 +60,7 @@ pub record IsEngine (e : Engine) : Type 0 where
   -- each file that is known is there, so long at least
   pub files : ForTold e.disk.told (HasFiles e.flights.files)
   pub spaces : AreOfDonor e.donor e.flights.files
-  -- the log makes each page within its file
-  pub within : ForTold e.disk.told (λ _. (space number : ℕ) → IsInFile e space number
-      → IsSome (page_of (image_of e.buffer) space number))
+  pub within : ForTold e.disk.told (λ _. MakesPages e.flights.files e.buffer)
   -- a clone may have of each page past the end of its file that it isn't there
   pub short : StandsBeside e (beyond e.flights.files)
   -- no record of the log names a space that is no table's

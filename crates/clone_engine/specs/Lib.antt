@@ -6,3 +6,12 @@ pub mod Reading
 pub mod Opened
 pub mod Opening
 pub mod Codes
+pub mod Copies
+pub mod Archives
+pub mod Donor
+pub mod Taken
+pub mod Serving
+pub mod Copying
+pub mod Acts
+pub mod Laid
+pub mod Over

@@ -4,6 +4,7 @@ use Rattle.std.specs.declared.option.Option.{Option}
 use Rattle.std.specs.FinMap as finite
 use Rattle.clone_outside.specs.Causes.{Rose}
 use Rattle.clone_outside.specs.Disk as outside
+use Rattle.clone_outside.specs.Disk.{DiskImage}
 use Rattle.clone_ring.specs.Window.{end_of}
 use Rattle.clone_pool.specs.Frames.{frame_at, name_of}
 use Rattle.clone_pool.specs.Pool.{AreNotWaiting, IsNextToFlush}
@@ -52,6 +53,14 @@ pub record Serves (old new : DiskState) (answer : Result Done EngineRefusal) : T
   pub visits : Visits old new
   pub fault : answer ≡ Err (Because cause.DiskFault) → Rose old.failures new.failures
 
+-- WHAT THE DISK HOLDS stays over a call of transactions, but for the file of a table that is made or
+-- dropped.
+abbrev pub Holds : Call → Option DiskImage → Option DiskImage → Type 0
+Holds (create table buckets) old new =
+    outside.IsBeforeOrAfter old new (λ m. outside.with_created m table buckets)
+Holds (drop table) old new = outside.IsBeforeOrAfter old new (λ m. outside.with_removed m table)
+Holds call old new = new ≡ old
+
 -- where what was read was right, a row's value is the plain donor's
 abbrev pub Sees : Donor → Buffered → Done → Type 0
 Sees d after (did_get trx table key value) = IsTrue after.right → Gets d trx table key value
@@ -85,11 +94,17 @@ pub record Transacts (call : Call) (s t : Engine) (answer : Result Done EngineRe
   pub goes : Goes call s t answer
   pub flights : t.flights ≡ flown answer s.flights
   pub disk : Serves s.disk t.disk answer
+  pub holds : Holds call s.disk.told t.disk.told
 
 -- The files, where a table may have been dropped: that of a table which is gone isn't known any
 -- more.
 abbrev pub left_by : Donor → ℕ → Flights → Flights
 left_by d table f = if finite.contains_key d.tables table then f else without_file table f
+
+-- so it is where a table may not have been made
+abbrev pub left_unmade : Result (Unit {0}) EngineRefusal → ℕ → Flights → Flights
+left_unmade (Ok x) table f = f
+left_unmade (Err refusal) table f = without_file table f
 
 -- A drop goes its way, with no page of the table on its way to the disk.
 pub record GoesDrop (table : ℕ) (s t : Engine) (answer : Result Done EngineRefusal) : Type 0 where
@@ -112,6 +127,7 @@ pub record Drops (table : ℕ) (s t : Engine) (answer : Result Done EngineRefusa
   pub file : IfOk answer
       (λ _. outside.Steps s.disk.told t.disk.told (λ m. outside.with_removed m table))
   pub disk : Serves s.disk t.disk answer
+  pub holds : Holds (drop table) s.disk.told t.disk.told
 
 -- why a flush is refused, as the donor answers it
 abbrev pub refusal_of : FlushRefusal → EngineRefusal
@@ -120,6 +136,11 @@ refusal_of flush.InFlight = Because cause.InFlight
 refusal_of flush.NoFlush = Because cause.NoFlush
 refusal_of flush.DiskFault = Because cause.DiskFault
 refusal_of flush.NoMemory = NoMemory
+
+-- what a flush answers
+abbrev pub flush_answer : Result (Unit {0}) FlushRefusal → Result (Unit {0}) EngineRefusal
+flush_answer (Ok x) = Ok x
+flush_answer (Err refusal) = Err (refusal_of refusal)
 
 -- a flush answered so
 abbrev pub AnswersFlush : Done → (Result (Unit {0}) FlushRefusal → Type 0)

@@ -1,4 +1,4 @@
-ghost use Rattle.std.specs.Prelude.{◌≡◌, ◌≤◌, ◌∷◌, [], Err, IfOk, IfErr, IsTrue, OnOk, false, is_some};
+ghost use Rattle.std.specs.Prelude.{◌≡◌, ◌≤◌, ◌∷◌, [], Err, IfOk, IsTrue, None, OnOk, false};
 ghost use Rattle.std.specs.FinMap as finite;
 ghost use Rattle.clone_outside.specs.Disk.{ForTold, Steps, blank, with_created};
 ghost use Rattle.clone_outside.specs.DiskCalls.{Alters, Asks};
@@ -9,8 +9,10 @@ ghost use Rattle.clone_buffer.specs.Keeping.{Stands};
 ghost use Rattle.clone_buffer.specs.OnePage.{at_rest};
 ghost use Rattle.clone_plain.specs.Donor.{no_donor};
 ghost use Rattle.clone_trx.specs.Kept.{Keeps};
-ghost use Rattle.clone_engine.specs.Disks.{Visits};
+ghost use Rattle.clone_engine.specs.Donor.{IsDonor};
 ghost use Rattle.clone_engine.specs.Opened.{IsNotEmpty, IsOpened};
+ghost use Rattle.clone_engine.specs.Over.{over};
+ghost use Rattle.clone_engine.specs.Taken.{IsTaken, nothing};
 ghost use Rattle.clone_engine.specs.declared.opening.OpenCause.TheVariants as causes;
 
 use crate::Engine;
@@ -19,6 +21,7 @@ use clone_contents::SYSTEM_PAGES;
 use clone_flush::Flusher;
 use clone_model::Config;
 use clone_outside::{PageDisk, Refusal};
+use clone_session::Cloning;
 use clone_trx::{OpenRefusal as OpenRefused, Transactions, open};
 use std::alloc::{AllocError, Global};
 
@@ -41,38 +44,37 @@ pub struct OpenRefusal<D> {
     pub disk: D,
 }
 
-impl<D: PageDisk> Engine<D> {
-    /// An engine over an empty disk. Opening makes the system space, and leaves the log's end at
-    /// 8,213 and the checkpoint at 8,192. Refused where the disk holds a space or a mark, and where
-    /// it fails.
-    pub fn open(alloc: Global, disk: D, config: Config) -> Result<Engine<D>, OpenRefusal<D>>
+impl Engine {
+    /// An engine over an empty disk, which gives no clone yet. Opening makes the system space, and
+    /// leaves the log's end at 8,213 and the checkpoint at 8,192. Refused where the disk holds a
+    /// space or a mark, and where it fails.
+    pub fn open<D: PageDisk>(
+        alloc: Global,
+        config: Config,
+        disk: &mut D,
+    ) -> Result<Engine, OpenCause>
         requires config { IsConfig config }
-        ensures opened { IfOk result IsOpened }
-        ensures floor { IfOk result (λ e. e.buffer.ring.floor ≡ first_lsn) }
-        ensures size { IfOk result (λ e. e.buffer.ring.size ≡ config.ring) }
-        ensures checkpoint { IfOk result (λ e. e.flights.checkpoint ≡ first_lsn) }
-        ensures files { IfOk result (λ e. e.flights.files
-            ≡ finite.insert finite.empty 0 system_size) }
-        ensures empty { IfOk result (λ _. ForTold (D.state disk).told (λ m. m ≡ blank)) }
-        ensures visits { IfOk result (λ d. Visits (D.state disk) d.disk) }
-        ensures not_empty { IfErr result (λ r. r.cause ≡ causes.NotEmpty
-            → ForTold (D.state disk).told IsNotEmpty) }
-        ensures refused { IfErr result (λ r. Alters (r.cause ≡ causes.DiskFault)
-            (D.state disk) (D.state r.disk)) }
+        ensures donor { IfOk result (λ e. IsDonor (over e (D.state disk.new))) }
+        ensures opened { IfOk result (λ e. IsOpened (over e (D.state disk.new)).engine) }
+        ensures checkpoint { IfOk result (λ e. e.flusher.checkpoint ≡ first_lsn) }
+        ensures idle { IfOk result (λ e. e.cloning.session ≡ None) }
+        ensures stop { IfOk result (λ e. e.cloning.stop ≡ None) }
+        ensures taken { IfOk result (λ e. IsTaken (over e (D.state disk.new)) nothing) }
+        ensures empty { OnOk result (ForTold (D.state disk.old).told (λ m. m ≡ blank)) }
+        ensures not_empty { result ≡ Err causes.NotEmpty
+            → ForTold (D.state disk.old).told IsNotEmpty }
+        ensures works { Alters (result ≡ Err causes.DiskFault)
+            (D.state disk.old) (D.state disk.new) }
     {
-        let mut disk = disk;
-        match parts(alloc, &mut disk, config) {
-            Ok((transactions, buffer, flusher)) => {
-                buffer.laws();
-                Ok(Engine {
-                    transactions,
-                    buffer,
-                    flusher,
-                    disk,
-                })
-            }
-            Err(cause) => Err(OpenRefusal { cause, disk }),
-        }
+        let ring = config.ring;
+        let (transactions, buffer, flusher) = parts(alloc, disk, config)?;
+        buffer.laws();
+        Ok(Engine {
+            transactions,
+            buffer,
+            flusher,
+            cloning: Cloning::new(alloc, ring),
+        })
     }
 }
 

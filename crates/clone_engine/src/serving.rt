@@ -1,10 +1,15 @@
-ghost use Rattle.std.specs.Prelude.{◌≡◌, ◌≢◌, Err};
+ghost use Rattle.std.specs.Prelude.{◌≡◌, ◌≢◌, Err, None, unwrap_or};
 ghost use Rattle.clone_plain.specs.Calls as call;
+ghost use Rattle.clone_plain.specs.Causes.{no_table};
 ghost use Rattle.clone_plain.specs.Calls.{did_create, did_drop, did_begin, did_put, did_delete, did_get, did_undo_one, did_commit};
+ghost use Rattle.clone_plain.specs.declared.refusal.Cause.TheVariants.{CloneRunning};
 ghost use Rattle.clone_plain.specs.declared.refusal.EngineRefusal.TheVariants.{NoMemory};
-ghost use Rattle.clone_trx.specs.Kept.{KeptBetween};
-ghost use Rattle.clone_engine.specs.Growth.{GrowsBy, KeepsRing, PagesStay};
-ghost use Rattle.clone_engine.specs.Steps.{KeepsCopies, Steps, answer_of, left_by};
+ghost use Rattle.clone_engine.specs.Acts as act;
+ghost use Rattle.clone_engine.specs.Acts.{Acts};
+ghost use Rattle.clone_engine.specs.Donor.{IsDonor};
+ghost use Rattle.clone_engine.specs.Growth.{Makes};
+ghost use Rattle.clone_engine.specs.Over.{over};
+ghost use Rattle.clone_engine.specs.Steps.{answer_of, left_by, left_unmade};
 
 use crate::Engine;
 use clone_flush::Flusher;
@@ -15,16 +20,38 @@ use clone_trx::Transactions;
 use std::alloc::Global;
 
 // The calls of transactions.
-impl<D: PageDisk> Engine<D> {
-    /// Makes an empty table, with a file of its own.
-    pub fn create(&mut self, table: TableNumber, buckets: BucketCount) -> Result<(), EngineRefusal>
-        ensures step { Steps (call.create table buckets) self.old self.new
+impl Engine {
+    /// Makes an empty table with a file of its own, unless a session stands.
+    pub fn create<D: PageDisk>(
+        &mut self,
+        table: TableNumber,
+        buckets: BucketCount,
+        disk: &mut D,
+    ) -> Result<(), EngineRefusal>
+        requires donor { IsDonor (over self.old (D.state disk.old)) }
+        ensures acts { Acts (act.Calls (call.create table buckets)
+            (answer_of (λ _. did_create table buckets) result))
+            (over self.old (D.state disk.old)) (over self.new (D.state disk.new)) }
+    {
+        if let Some(session) = self.cloning.session() {
+            return Err(Cause::CloneRunning { session }.into());
+        }
+        self.cloning.laws();
+        self.make_table(table, buckets, disk)
+    }
+
+    // Makes an empty table, with a file of its own.
+    fn make_table<D: PageDisk>(
+        &mut self,
+        table: TableNumber,
+        buckets: BucketCount,
+        disk: &mut D,
+    ) -> Result<(), EngineRefusal>
+        requires donor { IsDonor (over self.old (D.state disk.old)) }
+        ensures makes { Makes (call.create table buckets)
+            (over self.old (D.state disk.old)).engine (over self.new (D.state disk.new)).engine
             (answer_of (λ _. did_create table buckets) result) }
-        ensures copies { KeepsCopies (call.create table buckets) self.old self.new
-            (answer_of (λ _. did_create table buckets) result) }
-        ensures log { GrowsBy 1 self.old.buffer.log self.new.buffer.log }
-        ensures pages { PagesStay self.old.buffer self.new.buffer }
-        ensures ring { KeepsRing self.old.buffer.ring self.new.buffer.ring }
+        ensures same { self.new.cloning ≡ self.old.cloning }
     {
         self.transactions.laws();
         self.buffer.laws();
@@ -34,141 +61,182 @@ impl<D: PageDisk> Engine<D> {
             return Err(Cause::TableExists.into());
         }
         self.flusher.file_made(space, buckets.get())?;
-        match self
+        let made = self
             .transactions
-            .create(&mut self.buffer, table, buckets, &mut self.disk)
-        {
-            Ok(()) => {
-                self.buffer.laws();
-                Ok(())
-            }
-            Err(refusal) => {
-                self.flusher.file_gone(space);
-                Err(refusal)
-            }
+            .create(&mut self.buffer, table, buckets, disk);
+        self.buffer.laws();
+        forget_unmade(&mut self.flusher, made, space);
+        made
+    }
+
+    /// Drops a table with its pages and its file, unless a session stands. Refused where there is
+    /// none, where an open transaction holds the lock of a row of it, and where a page of it is on
+    /// its way to the disk. Where the disk fails to remove the file, the table is gone all the same.
+    pub fn drop_table<D: PageDisk>(&mut self, table: u32, disk: &mut D) -> Result<(), EngineRefusal>
+        requires donor { IsDonor (over self.old (D.state disk.old)) }
+        ensures acts { Acts (act.Calls (call.drop table)
+            (answer_of (λ _. did_drop table) result))
+            (over self.old (D.state disk.old)) (over self.new (D.state disk.new)) }
+    {
+        if let Some(session) = self.cloning.session() {
+            return Err(self.kept_by(table, session).into());
+        }
+        self.cloning.laws();
+        self.give_up_table(table, disk)
+    }
+
+    // Why a table isn't dropped while this session stands: there is none, or the session keeps it.
+    fn kept_by(&self, table: u32, session: u64) -> Cause
+        ensures { result
+            ≡ unwrap_or (no_table self.now.transactions table) (CloneRunning session) }
+    {
+        if self.transactions.has_table(table) {
+            Cause::CloneRunning { session }
+        } else {
+            Cause::NoSuchTable
         }
     }
 
-    /// Drops a table with its pages and its file. Refused where there is none, where an open
-    /// transaction holds the lock of a row of it, and where a page of it is on its way to the disk.
-    /// Where the disk fails to remove the file, the table is gone all the same.
-    pub fn drop_table(&mut self, table: u32) -> Result<(), EngineRefusal>
-        ensures step { Steps (call.drop table) self.old self.new
+    // Drops a table with its pages and its file.
+    fn give_up_table<D: PageDisk>(&mut self, table: u32, disk: &mut D) -> Result<(), EngineRefusal>
+        requires donor { IsDonor (over self.old (D.state disk.old)) }
+        ensures makes { Makes (call.drop table)
+            (over self.old (D.state disk.old)).engine (over self.new (D.state disk.new)).engine
             (answer_of (λ _. did_drop table) result) }
-        ensures copies { KeepsCopies (call.drop table) self.old self.new
-            (answer_of (λ _. did_drop table) result) }
-        ensures log { GrowsBy 1 self.old.buffer.log self.new.buffer.log }
-        ensures ring { KeepsRing self.old.buffer.ring self.new.buffer.ring }
+        ensures same { self.new.cloning ≡ self.old.cloning }
     {
         self.transactions.laws();
+        self.buffer.laws();
         self.transactions.check_drop(table)?;
         if self.flusher.write_under_way(table) {
             return Err(Cause::InFlight.into());
         }
-        let dropped = self
-            .transactions
-            .drop_table(&mut self.buffer, table, &mut self.disk);
+        let dropped = self.transactions.drop_table(&mut self.buffer, table, disk);
+        self.buffer.laws();
         forget_dropped(&mut self.flusher, &self.transactions, table);
         dropped
     }
 
     /// Begins a transaction of a writer, which is its transaction of this index, and answers the
     /// transaction's number.
-    pub fn begin(&mut self, alloc: Global, writer: u32, index: u64) -> Result<u32, EngineRefusal>
-        ensures step { Steps (call.begin writer index) self.old self.new
-            (answer_of (λ trx. did_begin writer index trx) result) }
-        ensures copies { KeepsCopies (call.begin writer index) self.old self.new
-            (answer_of (λ trx. did_begin writer index trx) result) }
-        ensures log { GrowsBy 1 self.old.buffer.log self.new.buffer.log }
-        ensures pages { PagesStay self.old.buffer self.new.buffer }
-        ensures ring { KeepsRing self.old.buffer.ring self.new.buffer.ring }
+    pub fn begin<D: PageDisk>(
+        &mut self,
+        alloc: Global,
+        writer: u32,
+        index: u64,
+        disk: &mut D,
+    ) -> Result<u32, EngineRefusal>
+        requires donor { IsDonor (over self.old (D.state disk.old)) }
+        ensures acts { Acts (act.Calls (call.begin writer index)
+            (answer_of (λ trx. did_begin writer index trx) result))
+            (over self.old (D.state disk.old)) (over self.new (D.state disk.new)) }
     {
+        self.transactions.laws();
         self.buffer.laws();
-        self.transactions
-            .begin(alloc, &mut self.buffer, writer, index, &mut self.disk)
+        let begun = self
+            .transactions
+            .begin(alloc, &mut self.buffer, writer, index, disk);
+        self.buffer.laws();
+        begun
     }
 
     /// Gives a row its value, and locks it.
-    pub fn put(&mut self, trx: u32, table: u32, key: u64, value: &[u8]) -> Result<(), EngineRefusal>
-        ensures step { Steps (call.put trx table key value.now) self.old self.new
-            (answer_of (λ _. did_put trx table key value.now) result) }
-        ensures copies { KeepsCopies (call.put trx table key value.now) self.old self.new
-            (answer_of (λ _. did_put trx table key value.now) result) }
-        ensures log { GrowsBy 2 self.old.buffer.log self.new.buffer.log }
-        ensures between { KeptBetween self.old.donor self.old.buffer self.new.buffer }
-        ensures pages { PagesStay self.old.buffer self.new.buffer }
-        ensures ring { KeepsRing self.old.buffer.ring self.new.buffer.ring }
+    pub fn put<D: PageDisk>(
+        &mut self,
+        trx: u32,
+        table: u32,
+        key: u64,
+        value: &[u8],
+        disk: &mut D,
+    ) -> Result<(), EngineRefusal>
+        requires donor { IsDonor (over self.old (D.state disk.old)) }
+        ensures acts { Acts (act.Calls (call.put trx table key value.now)
+            (answer_of (λ _. did_put trx table key value.now) result))
+            (over self.old (D.state disk.old)) (over self.new (D.state disk.new)) }
     {
         self.transactions.laws();
         self.buffer.laws();
-        self.transactions
-            .put(&mut self.buffer, trx, table, key, value, &mut self.disk)
+        let changed = self
+            .transactions
+            .put(&mut self.buffer, trx, table, key, value, disk);
+        self.buffer.laws();
+        changed
     }
 
     /// Removes a row, and locks it.
-    pub fn delete(&mut self, trx: u32, table: u32, key: u64) -> Result<(), EngineRefusal>
-        ensures step { Steps (call.delete trx table key) self.old self.new
-            (answer_of (λ _. did_delete trx table key) result) }
-        ensures copies { KeepsCopies (call.delete trx table key) self.old self.new
-            (answer_of (λ _. did_delete trx table key) result) }
-        ensures log { GrowsBy 2 self.old.buffer.log self.new.buffer.log }
-        ensures between { KeptBetween self.old.donor self.old.buffer self.new.buffer }
-        ensures pages { PagesStay self.old.buffer self.new.buffer }
-        ensures ring { KeepsRing self.old.buffer.ring self.new.buffer.ring }
+    pub fn delete<D: PageDisk>(
+        &mut self,
+        trx: u32,
+        table: u32,
+        key: u64,
+        disk: &mut D,
+    ) -> Result<(), EngineRefusal>
+        requires donor { IsDonor (over self.old (D.state disk.old)) }
+        ensures acts { Acts (act.Calls (call.delete trx table key)
+            (answer_of (λ _. did_delete trx table key) result))
+            (over self.old (D.state disk.old)) (over self.new (D.state disk.new)) }
     {
         self.transactions.laws();
         self.buffer.laws();
-        self.transactions
-            .delete(&mut self.buffer, trx, table, key, &mut self.disk)
+        let changed = self
+            .transactions
+            .delete(&mut self.buffer, trx, table, key, disk);
+        self.buffer.laws();
+        changed
     }
 
     /// The value of a row. This takes no memory, and writes nothing.
-    pub fn get(&mut self, trx: u32, table: u32, key: u64) -> Result<Option<Value>, EngineRefusal>
-        ensures step { Steps (call.get trx table key) self.old self.new
-            (answer_of (λ value. did_get trx table key value) result) }
-        ensures copies { KeepsCopies (call.get trx table key) self.old self.new
-            (answer_of (λ value. did_get trx table key value) result) }
-        ensures log { self.new.buffer.log ≡ self.old.buffer.log }
-        ensures pages { PagesStay self.old.buffer self.new.buffer }
-        ensures ring { KeepsRing self.old.buffer.ring self.new.buffer.ring }
+    pub fn get<D: PageDisk>(
+        &mut self,
+        trx: u32,
+        table: u32,
+        key: u64,
+        disk: &mut D,
+    ) -> Result<Option<Value>, EngineRefusal>
+        requires donor { IsDonor (over self.old (D.state disk.old)) }
+        ensures acts { Acts (act.Calls (call.get trx table key)
+            (answer_of (λ value. did_get trx table key value) result))
+            (over self.old (D.state disk.old)) (over self.new (D.state disk.new)) }
         ensures memory { result ≢ Err NoMemory }
     {
-        self.transactions
-            .get(&mut self.buffer, trx, table, key, &mut self.disk)
+        self.transactions.laws();
+        self.buffer.laws();
+        let value = self
+            .transactions
+            .get(&mut self.buffer, trx, table, key, disk);
+        self.buffer.laws();
+        value
     }
 
     /// Takes the last change of a transaction back, or ends a transaction without changes. This
     /// takes no memory.
-    pub fn undo_one(&mut self, trx: u32) -> Result<Undone, EngineRefusal>
-        ensures step { Steps (call.undo_one trx) self.old self.new
-            (answer_of (λ undone. did_undo_one trx undone) result) }
-        ensures copies { KeepsCopies (call.undo_one trx) self.old self.new
-            (answer_of (λ undone. did_undo_one trx undone) result) }
-        ensures log { GrowsBy 1 self.old.buffer.log self.new.buffer.log }
-        ensures pages { PagesStay self.old.buffer self.new.buffer }
-        ensures ring { KeepsRing self.old.buffer.ring self.new.buffer.ring }
+    pub fn undo_one<D: PageDisk>(&mut self, trx: u32, disk: &mut D) -> Result<Undone, EngineRefusal>
+        requires donor { IsDonor (over self.old (D.state disk.old)) }
+        ensures acts { Acts (act.Calls (call.undo_one trx)
+            (answer_of (λ undone. did_undo_one trx undone) result))
+            (over self.old (D.state disk.old)) (over self.new (D.state disk.new)) }
         ensures memory { result ≢ Err NoMemory }
     {
         self.transactions.laws();
         self.buffer.laws();
-        self.transactions
-            .undo_one(&mut self.buffer, trx, &mut self.disk)
+        let undone = self.transactions.undo_one(&mut self.buffer, trx, disk);
+        self.buffer.laws();
+        undone
     }
 
     /// Commits a transaction, and answers the new number of commits. This takes no memory.
-    pub fn commit(&mut self, trx: u32) -> Result<u64, EngineRefusal>
-        ensures step { Steps (call.commit trx) self.old self.new
-            (answer_of (λ position. did_commit trx position) result) }
-        ensures copies { KeepsCopies (call.commit trx) self.old self.new
-            (answer_of (λ position. did_commit trx position) result) }
-        ensures log { GrowsBy 1 self.old.buffer.log self.new.buffer.log }
-        ensures pages { PagesStay self.old.buffer self.new.buffer }
-        ensures ring { KeepsRing self.old.buffer.ring self.new.buffer.ring }
+    pub fn commit<D: PageDisk>(&mut self, trx: u32, disk: &mut D) -> Result<u64, EngineRefusal>
+        requires donor { IsDonor (over self.old (D.state disk.old)) }
+        ensures acts { Acts (act.Calls (call.commit trx)
+            (answer_of (λ position. did_commit trx position) result))
+            (over self.old (D.state disk.old)) (over self.new (D.state disk.new)) }
         ensures memory { result ≢ Err NoMemory }
     {
+        self.transactions.laws();
         self.buffer.laws();
-        self.transactions
-            .commit(&mut self.buffer, trx, &mut self.disk)
+        let committed = self.transactions.commit(&mut self.buffer, trx, disk);
+        self.buffer.laws();
+        committed
     }
 }
 
@@ -177,6 +245,15 @@ fn forget_dropped(flusher: &mut Flusher, transactions: &Transactions, table: u32
     ensures { flusher.new ≡ left_by transactions.now table flusher.old }
 {
     if !transactions.has_table(table) {
+        flusher.file_gone(table);
+    }
+}
+
+// The file of a table that wasn't made isn't known any more.
+fn forget_unmade(flusher: &mut Flusher, made: Result<(), EngineRefusal>, table: u32)
+    ensures { flusher.new ≡ left_unmade made table flusher.old }
+{
+    if made.is_err() {
         flusher.file_gone(table);
     }
 }

@@ -38,16 +38,15 @@ use Rattle.clone_session.specs.CloneCauses.{donor_stage}
 use Rattle.clone_session.specs.Effects.{Becomes, acknowledged, advanced, begun, position_of, range_of, range_to, stopped_at, told_of}
 use Rattle.clone_session.proofs.PartLemmas.{stands_as}
 use Rattle.clone_engine.specs.Engine.{Engine}
-use Rattle.clone_engine.proofs.DiskLemmas.{for_told}
-use Rattle.clone_donor.proofs.ToldLemmas.{told_both}
-use Rattle.clone_donor.specs.Acts as act
-use Rattle.clone_donor.specs.Acts.{Acts}
-use Rattle.clone_donor.specs.Archives.{IsOfLog}
-use Rattle.clone_donor.specs.Copying.{moment_of, taken_after, taken_over}
-use Rattle.clone_donor.specs.Donor.{Donor, IsDonor, list_of}
-use Rattle.clone_donor.specs.Laid.{IsComplete, IsLaid}
-use Rattle.clone_donor.specs.Taken.{HasStopped, IsTaken, IsTakenBy, Taken}
-use Rattle.clone_donor.proofs.BecomesLemmas.{Like, like}
+use Rattle.clone_engine.proofs.ToldLemmas.{for_told, told_both}
+use Rattle.clone_engine.specs.Acts as act
+use Rattle.clone_engine.specs.Acts.{Acts}
+use Rattle.clone_engine.specs.Archives.{IsOfLog}
+use Rattle.clone_engine.specs.Copying.{moment_of, taken_after, taken_over}
+use Rattle.clone_engine.specs.Donor.{Donor, IsDonor, list_of}
+use Rattle.clone_engine.specs.Laid.{IsComplete, IsLaid}
+use Rattle.clone_engine.specs.Taken.{HasStopped, IsTaken, IsTakenBy, Taken}
+use Rattle.clone_engine.proofs.GoingLemmas.{Like, like}
 use Rattle.clone_request.specs.declared.asking.TheConstants.{CALLER}
 use Rattle.clone_request.specs.Copying.{IsCopying, IsDone, IsEndOf, StartsAt}
 use Rattle.clone_request.specs.Reading.{Asks, stop_after_ack}

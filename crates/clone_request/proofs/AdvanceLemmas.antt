@@ -14,8 +14,8 @@ use Rattle.clone_chunk.specs.Plans.{checkpoint_of, spaces_of, stage_of}
 use Rattle.clone_session.specs.declared.info.StageInfo.{StageInfo}
 use Rattle.std.specs.FinMap as finite
 use Rattle.clone_plain.specs.Donor as plain
-use Rattle.clone_engine.proofs.DiskLemmas.{for_told}
-use Rattle.clone_donor.specs.Donor.{Donor}
+use Rattle.clone_engine.proofs.ToldLemmas.{for_told}
+use Rattle.clone_engine.specs.Donor.{Donor}
 use Rattle.clone_request.specs.declared.requester.TheConstants.{SESSION}
 use Rattle.clone_request.specs.declared.requester.Advanced.{Advanced}
 use Rattle.clone_request.specs.declared.requester.Advanced.TheVariants.{Ready, Complete}

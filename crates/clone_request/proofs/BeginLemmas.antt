@@ -17,10 +17,9 @@ use Rattle.clone_trx.specs.Kept.{IsSafe}
 use Rattle.clone_chunk.specs.Plans.{checkpoint_of, spaces_of}
 use Rattle.clone_session.specs.declared.info.StageInfo.{StageInfo}
 use Rattle.clone_engine.specs.Engine.{Engine, IsEngine, IsInFile}
-use Rattle.clone_engine.proofs.DiskLemmas.{for_told}
-use Rattle.clone_donor.specs.Copies.{first_copies}
-use Rattle.clone_donor.specs.Donor.{Donor, IsPageOf, known_files}
-use Rattle.clone_donor.proofs.ToldLemmas.{told_both}
+use Rattle.clone_engine.proofs.ToldLemmas.{for_told, told_both}
+use Rattle.clone_engine.specs.Copies.{first_copies}
+use Rattle.clone_engine.specs.Donor.{Donor, IsPageOf, known_files}
 use Rattle.clone_request.specs.declared.requester.TheConstants.{SESSION}
 use Rattle.clone_request.specs.Copying.{HasBegun, IsCopying, StartsAt}
 use Rattle.clone_request.specs.Laying.{KeepsMark, pairs_of, with_rooms}

@@ -10,12 +10,12 @@ use Rattle.clone_session.specs.declared.info.StageInfo.{StageInfo}
 use Rattle.clone_session.specs.declared.refusal.CloneRefusal.{CloneRefusal}
 use Rattle.clone_session.specs.Cloning.{Cloning, Session}
 use Rattle.clone_session.specs.Effects.{begun, opened, told_of}
-use Rattle.clone_donor.specs.Acts as act
-use Rattle.clone_donor.specs.Acts.{Acts}
-use Rattle.clone_donor.specs.Copying.{BeginsAs, taken_at}
-use Rattle.clone_donor.specs.Donor.{Donor, known_files}
-use Rattle.clone_donor.specs.Taken.{IsTaken}
-use Rattle.clone_donor.proofs.BecomesLemmas.{like}
+use Rattle.clone_engine.specs.Acts as act
+use Rattle.clone_engine.specs.Acts.{Acts}
+use Rattle.clone_engine.specs.Copying.{BeginsAs, taken_at}
+use Rattle.clone_engine.specs.Donor.{Donor, known_files}
+use Rattle.clone_engine.specs.Taken.{IsTaken}
+use Rattle.clone_engine.proofs.GoingLemmas.{like}
 use Rattle.clone_request.specs.declared.requester.TheConstants.{SESSION}
 use Rattle.clone_request.specs.Copying.{HasBegun}
 use Rattle.clone_request.specs.Reading.{Asks}

@@ -22,11 +22,11 @@ use Rattle.clone_session.specs.CloneCauses.{donor_stage}
 use Rattle.clone_session.specs.Effects.{claimed}
 use Rattle.clone_session.proofs.PartLemmas.{stands_as}
 use Rattle.clone_engine.specs.Engine.{Engine}
-use Rattle.clone_engine.proofs.DiskLemmas.{for_told}
-use Rattle.clone_donor.specs.Acts as act
-use Rattle.clone_donor.specs.Acts.{Acts}
-use Rattle.clone_donor.specs.Donor.{Donor}
-use Rattle.clone_donor.specs.Taken.{IsTaken, Taken}
+use Rattle.clone_engine.proofs.ToldLemmas.{for_told}
+use Rattle.clone_engine.specs.Acts as act
+use Rattle.clone_engine.specs.Acts.{Acts}
+use Rattle.clone_engine.specs.Donor.{Donor}
+use Rattle.clone_engine.specs.Taken.{IsTaken, Taken}
 use Rattle.clone_request.specs.declared.asking.TheConstants.{CALLER}
 use Rattle.clone_request.specs.Copying.{IsAllCopied, IsCopying, IsWork, StartsAt, free_left}
 use Rattle.clone_request.specs.Requester.{HoldsListed, HoldsStage, IsInStage, redo_from}

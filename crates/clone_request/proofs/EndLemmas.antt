@@ -16,9 +16,9 @@ use Rattle.clone_session.specs.declared.info.StageInfo.{StageInfo}
 use Rattle.clone_session.specs.declared.info.Stop.{Stop}
 use Rattle.clone_session.specs.Cloning.{IsCloning}
 use Rattle.clone_engine.specs.Engine.{Engine}
-use Rattle.clone_donor.specs.Donor.{Donor, IsDonor}
-use Rattle.clone_donor.specs.Laid.{IsComplete}
-use Rattle.clone_donor.proofs.MomentLemmas.{one_moment}
+use Rattle.clone_engine.specs.Donor.{Donor, IsDonor}
+use Rattle.clone_engine.specs.Laid.{IsComplete}
+use Rattle.clone_engine.proofs.MomentLemmas.{one_moment}
 use Rattle.clone_request.specs.declared.requester.Advanced.{Advanced}
 use Rattle.clone_request.specs.declared.requester.Advanced.TheVariants as advanced
 use Rattle.clone_request.specs.declared.requester.StepRefusal.{StepRefusal}

@@ -23,9 +23,9 @@ use Rattle.clone_flush.specs.Flights.{ends_before}
 use Rattle.clone_trx.specs.Kept.{IsSafe}
 use Rattle.clone_trx.specs.Sound.{IsKept}
 use Rattle.clone_engine.specs.Engine.{Engine, IsEngine, IsInFile}
-use Rattle.clone_donor.specs.Copies.{first_copies, first_copy, first_starts, is_noted}
-use Rattle.clone_donor.specs.Donor.{IsPageOf, known_files}
-use Rattle.clone_donor.proofs.KnownFiles.{all_entries, has_entry}
+use Rattle.clone_engine.specs.Copies.{first_copies, first_copy, first_starts, is_noted}
+use Rattle.clone_engine.specs.Donor.{IsPageOf, known_files}
+use Rattle.clone_engine.proofs.TakenPages.{all_entries, has_entry}
 use Rattle.clone_request.specs.Laying.{with_rooms}
 use Rattle.clone_request.specs.Waiting.{Counts, HoldsPages, WaitsForPage}
 use Rattle.clone_request.proofs.RoomLemmas.{rooms_beside_redo, rooms_past, rooms_quiet, rooms_short, rooms_standing}

@@ -43,19 +43,19 @@ use Rattle.clone_session.specs.declared.copying.BlockWork.TheVariants as work
 use Rattle.clone_session.proofs.PartLemmas.{in_log}
 use Rattle.clone_engine.specs.Engine.{Engine, IsEngine, IsInFile}
 use Rattle.clone_engine.specs.Reading.{OnlyVisits}
-use Rattle.clone_donor.specs.Acts as act
-use Rattle.clone_donor.specs.Acts.{Acts}
-use Rattle.clone_donor.specs.Archives.{IsOfLog}
-use Rattle.clone_donor.specs.Copies.{PageRead}
-use Rattle.clone_donor.specs.Copying.{IsBlock, places_of, taken_from}
-use Rattle.clone_donor.specs.Donor.{ArePages, CopiesOwn, Donor, IsDonor, IsPageOf, list_of}
-use Rattle.clone_donor.specs.Taken.{HasStopped, IsTaken, IsTakenBy, IsTakenIn, Taken}
-use Rattle.clone_donor.specs.declared.block.Block.{Block}
-use Rattle.clone_donor.specs.declared.block.Block.TheVariants as block
+use Rattle.clone_engine.specs.Acts as act
+use Rattle.clone_engine.specs.Acts.{Acts}
+use Rattle.clone_engine.specs.Archives.{IsOfLog}
+use Rattle.clone_engine.specs.Copies.{PageRead}
+use Rattle.clone_engine.specs.Copying.{IsBlock, places_of, taken_from}
+use Rattle.clone_engine.specs.Donor.{ArePages, CopiesOwn, Donor, IsDonor, IsPageOf, list_of}
+use Rattle.clone_engine.specs.Taken.{HasStopped, IsTaken, IsTakenBy, IsTakenIn, Taken}
+use Rattle.clone_engine.specs.declared.block.Block.{Block}
+use Rattle.clone_engine.specs.declared.block.Block.TheVariants as block
 use Rattle.clone_page.specs.declared.pages.PageAt.{PageAt}
-use Rattle.clone_donor.specs.declared.block.BlockRefusal.{BlockRefusal}
-use Rattle.clone_donor.proofs.GivenBlocks.{InFile, OfImage, files_own}
-use Rattle.clone_donor.proofs.ToldLemmas.{of_told}
+use Rattle.clone_engine.specs.declared.block.BlockRefusal.{BlockRefusal}
+use Rattle.clone_engine.proofs.BlockLemmas.{InFile, OfImage, files_own}
+use Rattle.clone_engine.proofs.ToldLemmas.{of_told}
 use Rattle.clone_request.specs.Copying.{IsCopying, IsWork, StartsAt, free_left}
 use Rattle.clone_request.specs.Laying.{KeepsMark, reads_of, with_laid}
 use Rattle.clone_request.specs.Reading.{AreLow, ReadsInto, work_after}

@@ -11,7 +11,7 @@ use Rattle.clone_law.specs.Machine.{Copy}
 use Rattle.clone_buffer.specs.OnePage.{Copies}
 use Rattle.clone_overlay.specs.Images.{redo_space, image_of, IsQuiet}
 use Rattle.clone_lay.specs.Laid.{laid_page}
-use Rattle.clone_donor.specs.Copies.{PageRead, answered, with_page, with_pages}
+use Rattle.clone_engine.specs.Copies.{PageRead, answered, with_page, with_pages}
 use Rattle.clone_request.specs.Laying.{with_laid}
 use Rattle.clone_request.specs.Waiting.{Counts, HoldsPages}
 use Rattle.clone_request.proofs.StandingLemmas.{counts_lax, laid_there, laid_others, laid_short, laid_quiet, redo_standing, redo_short}

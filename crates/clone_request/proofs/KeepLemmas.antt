@@ -18,13 +18,12 @@ use Rattle.clone_session.specs.Effects.{Becomes, with_noted}
 use Rattle.clone_outside.specs.DiskCalls.{DiskState}
 use Rattle.clone_engine.specs.Engine.{Engine}
 use Rattle.clone_engine.specs.Steps.{Ends, Looks, has_begun}
-use Rattle.clone_engine.proofs.DiskLemmas.{for_told}
-use Rattle.clone_donor.specs.Acts as act
-use Rattle.clone_donor.specs.Acts.{Act, Acts, Does, after_act}
-use Rattle.clone_donor.specs.Donor.{Donor}
-use Rattle.clone_donor.specs.Serving.{AnswersCall, Creates, Drops, Serves, ServesAs, noted_by, taken_by}
-use Rattle.clone_donor.specs.Taken.{IsTaken, Taken}
-use Rattle.clone_donor.proofs.ToldLemmas.{told_stays}
+use Rattle.clone_engine.proofs.ToldLemmas.{for_told, told_stays}
+use Rattle.clone_engine.specs.Acts as act
+use Rattle.clone_engine.specs.Acts.{Act, Acts, Does, after_act}
+use Rattle.clone_engine.specs.Donor.{Donor}
+use Rattle.clone_engine.specs.Serving.{AnswersCall, Creates, Drops, Serves, ServesAs, noted_by, taken_by}
+use Rattle.clone_engine.specs.Taken.{IsTaken, Taken}
 use Rattle.clone_request.specs.Advancing.{IsOutside}
 use Rattle.clone_request.specs.Requester.{HoldsListed, HoldsStage, IsBegun, IsCopied, IsInStage, IsStopOf, IsUnderWay, Requester, redo_from}
 use Rattle.clone_request.specs.Waiting.{AreSettled, HoldsPages, InWork, WaitsForPage, WaitsForRedo}

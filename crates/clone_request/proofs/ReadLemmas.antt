@@ -25,16 +25,16 @@ use Rattle.clone_chunk.specs.declared.cause.CloneCause.TheVariants.{ArchiveBehin
 use Rattle.clone_session.specs.declared.refusal.CloneRefusal.TheVariants as clone
 use Rattle.clone_session.proofs.PartLemmas.{stands_as}
 use Rattle.clone_engine.specs.Engine.{Engine}
-use Rattle.clone_donor.specs.Acts as act
-use Rattle.clone_donor.specs.Acts.{Acts}
-use Rattle.clone_donor.specs.Copying.{RefusesBlock}
-use Rattle.clone_donor.specs.Donor.{Donor, IsDonor}
-use Rattle.clone_donor.specs.Taken.{Taken}
-use Rattle.clone_donor.specs.declared.block.Block.{Block}
-use Rattle.clone_donor.specs.declared.block.BlockRefusal.{BlockRefusal}
-use Rattle.clone_donor.specs.declared.block.BlockRefusal.TheVariants as block
-use Rattle.clone_donor.proofs.ArchiveRings.{next_kept}
-use Rattle.clone_donor.proofs.ToldLemmas.{told_stays}
+use Rattle.clone_engine.specs.Acts as act
+use Rattle.clone_engine.specs.Acts.{Acts}
+use Rattle.clone_engine.specs.Copying.{RefusesBlock}
+use Rattle.clone_engine.specs.Donor.{Donor, IsDonor}
+use Rattle.clone_engine.specs.Taken.{Taken}
+use Rattle.clone_engine.specs.declared.block.Block.{Block}
+use Rattle.clone_engine.specs.declared.block.BlockRefusal.{BlockRefusal}
+use Rattle.clone_engine.specs.declared.block.BlockRefusal.TheVariants as block
+use Rattle.clone_engine.proofs.MomentLemmas.{next_kept}
+use Rattle.clone_engine.proofs.ToldLemmas.{told_stays}
 use Rattle.clone_request.specs.Causes.{IsNoCause, step_of}
 use Rattle.clone_request.specs.Copying.{IsCopying, StartsAt, free_left}
 use Rattle.clone_request.specs.Requester.{HoldsListed, HoldsStage, IsOwn}

@@ -24,13 +24,13 @@ use Rattle.clone_track.specs.TrackedPages.{Pages, listed}
 use Rattle.clone_chunk.specs.declared.chunk.Chunk.TheVariants.{Free}
 use Rattle.clone_snapshot.specs.StageLists as lists
 use Rattle.clone_snapshot.specs.StageLists.{chunk_count}
-use Rattle.clone_donor.specs.Copies.{AreInFiles, AreInPages, IsInFiles, files_over, is_noted, pages_over}
+use Rattle.clone_engine.specs.Copies.{AreInFiles, AreInPages, IsInFiles, files_over, is_noted, pages_over}
 use Rattle.clone_plain.specs.Calls.{Call, flush_begin, Done}
 use Rattle.clone_plain.specs.declared.refusal.EngineRefusal.{EngineRefusal}
 use Rattle.clone_flush.specs.Calls.{after_begin}
 use Rattle.clone_engine.specs.Steps.{has_begun}
-use Rattle.clone_donor.specs.Serving.{taken_by}
-use Rattle.clone_donor.specs.Taken.{Taken}
+use Rattle.clone_engine.specs.Serving.{taken_by}
+use Rattle.clone_engine.specs.Taken.{Taken}
 use Rattle.clone_request.specs.Waiting.{Counts, HoldsPages, WaitsForPage}
 use Rattle.clone_request.proofs.WaitLemmas.{first_pages}
 use Rattle.clone_request.proofs.HeldLemmas.{MayCount}

@@ -6,8 +6,8 @@ use Rattle.clone_outside.specs.Disk.{DiskImage, ForTold, IsBeforeOrAfter, Steps,
 use Rattle.clone_outside.specs.declared.Refusal.{Refusal}
 use Rattle.clone_outside.specs.declared.Refusal.TheVariants as outside
 use Rattle.clone_lay.specs.Laid.{laid_page, with_room}
-use Rattle.clone_donor.specs.Copies.{PageRead}
-use Rattle.clone_donor.specs.Donor.{Donor}
+use Rattle.clone_engine.specs.Copies.{PageRead}
+use Rattle.clone_engine.specs.Donor.{Donor}
 use Rattle.clone_request.specs.declared.requester.StepRefusal.{StepRefusal}
 use Rattle.clone_request.specs.declared.requester.StepRefusal.TheVariants.{RecipientFault, DonorFault, NoMemory}
 use Rattle.clone_request.specs.Advancing.{HasRisen, Lends}

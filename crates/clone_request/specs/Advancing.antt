@@ -10,9 +10,9 @@ use Rattle.clone_plain.specs.Donor.{history}
 use Rattle.clone_lay.specs.Marked.{marked}
 use Rattle.clone_staged.specs.Holds.{HoldsCopy}
 use Rattle.clone_engine.specs.Disks.{Visits}
-use Rattle.clone_donor.specs.Acts as act
-use Rattle.clone_donor.specs.Acts.{Act}
-use Rattle.clone_donor.specs.Donor.{Donor}
+use Rattle.clone_engine.specs.Acts as act
+use Rattle.clone_engine.specs.Acts.{Act}
+use Rattle.clone_engine.specs.Donor.{Donor}
 use Rattle.clone_request.specs.declared.requester.TheConstants.{SESSION}
 use Rattle.clone_request.specs.declared.requester.Advanced.{Advanced}
 use Rattle.clone_request.specs.declared.requester.Advanced.TheVariants.{Ready, Complete}

@@ -22,10 +22,10 @@ use Rattle.clone_session.specs.declared.info.Stop.{Stop}
 use Rattle.clone_session.specs.Cloning.{Session}
 use Rattle.clone_session.specs.CloneCauses.{donor_stage}
 use Rattle.clone_engine.specs.Engine.{Engine}
-use Rattle.clone_donor.specs.Copies.{first_copies}
-use Rattle.clone_donor.specs.Donor.{Donor, known_files}
-use Rattle.clone_donor.specs.Laid.{IsComplete}
-use Rattle.clone_donor.specs.Taken.{IsTaken, Taken}
+use Rattle.clone_engine.specs.Copies.{first_copies}
+use Rattle.clone_engine.specs.Donor.{Donor, known_files}
+use Rattle.clone_engine.specs.Laid.{IsComplete}
+use Rattle.clone_engine.specs.Taken.{IsTaken, Taken}
 use Rattle.clone_request.specs.declared.requester.TheConstants.{SESSION}
 use Rattle.clone_request.specs.Laying.{pairs_of}
 use Rattle.clone_request.specs.Requester.{IsInStage, IsOwn}

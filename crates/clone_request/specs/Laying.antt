@@ -6,7 +6,7 @@ use Rattle.clone_lay.specs.Laid.{laid_page, with_room}
 use Rattle.clone_recover.specs.Restores.{ForStep}
 use Rattle.clone_chunk.specs.declared.spaces.SpaceSize.{SpaceSize}
 use Rattle.clone_page.specs.declared.pages.PageAt.{PageAt}
-use Rattle.clone_donor.specs.Copies.{PageRead}
+use Rattle.clone_engine.specs.Copies.{PageRead}
 
 -- spaces as pairs, of each its number and how many pages it has
 abbrev pub pairs_of : List SpaceSize → List (ℕ × ℕ)

@@ -20,8 +20,8 @@ use Rattle.clone_session.specs.declared.info.Stop.{Stop}
 use Rattle.clone_session.specs.Cloning.{Session}
 use Rattle.clone_session.specs.CloneCauses.{donor_stage}
 use Rattle.clone_engine.specs.Engine.{Engine}
-use Rattle.clone_donor.specs.Donor.{Donor}
-use Rattle.clone_donor.specs.Taken.{IsTaken, Taken}
+use Rattle.clone_engine.specs.Donor.{Donor}
+use Rattle.clone_engine.specs.Taken.{IsTaken, Taken}
 use Rattle.clone_request.specs.declared.requester.TheConstants.{SESSION}
 use Rattle.clone_request.specs.Waiting.{AreSettled, HoldsPages, HoldsRedo, InWork, WaitsForPage, WaitsForRedo}
 

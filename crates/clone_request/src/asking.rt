@@ -6,7 +6,7 @@ ghost use Rattle.clone_outside.specs.Disk.{DiskImage, ForTold};
 ghost use Rattle.clone_lay.specs.Sized.{PageCounts};
 ghost use Rattle.clone_plain.specs.Donor as plain;
 ghost use Rattle.clone_session.specs.declared.limits.TheConstants.{VERSION};
-ghost use Rattle.clone_donor.specs.Donor.{Donor};
+ghost use Rattle.clone_engine.specs.Donor.{Donor};
 ghost use Rattle.clone_request.specs.Advancing.{Lends, stop_from, HasRisen};
 ghost use Rattle.clone_request.specs.Copying.{IsAllCopied, IsCopying, free_left};
 ghost use Rattle.clone_request.specs.Requester.{IsStopOf, IsUnderWay};

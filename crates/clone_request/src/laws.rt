@@ -2,9 +2,9 @@ ghost use Rattle.std.specs.Prelude.{◌≡◌, None};
 ghost use Rattle.std.specs.declared.option.Option.{Option};
 ghost use Rattle.clone_outside.specs.Disk.{DiskImage};
 ghost use Rattle.clone_plain.specs.Donor as plain;
-ghost use Rattle.clone_donor.specs.Acts.{Act, Acts};
-ghost use Rattle.clone_donor.specs.Donor.{Donor};
-ghost use Rattle.clone_donor.specs.Taken.{IsTaken, nothing};
+ghost use Rattle.clone_engine.specs.Acts.{Act, Acts};
+ghost use Rattle.clone_engine.specs.Donor.{Donor};
+ghost use Rattle.clone_engine.specs.Taken.{IsTaken, nothing};
 ghost use Rattle.clone_request.specs.Advancing.{IsOutside};
 ghost use Rattle.clone_request.specs.Requester.{IsUnasked, IsUnderWay, Requester};
 

@@ -7,7 +7,7 @@ ghost use Rattle.clone_outside.specs.declared.mark.Mark.TheVariants.{InProgress}
 ghost use Rattle.clone_plain.specs.Donor as plain;
 ghost use Rattle.clone_lay.specs.Marked.{marked};
 ghost use Rattle.clone_lay.specs.Sized.{AreSizes};
-ghost use Rattle.clone_donor.specs.Donor as staged;
+ghost use Rattle.clone_engine.specs.Donor as staged;
 ghost use Rattle.clone_request.specs.Requester.{IsStopOf, IsUnasked, IsUnderWay};
 ghost use Rattle.clone_request.specs.Advancing.{Completes, HasRisen, Leaves, Lends};
 ghost use Rattle.clone_chunk.specs.Plans.{checkpoint_of, lsn_of};

@@ -4,6 +4,7 @@ mod vectors;
 
 use crate::log::vectors::{NEXT_OF_CHAIN, NEXT_PAGE, ONE_ROW, TAKING_BACK};
 use clone_base::FIRST_LSN;
+use clone_donor::Donor;
 use clone_engine::{Engine, OpenRefusal};
 use clone_memdisk::MemDisk;
 use clone_model::{BucketCount, Config, TableNumber};
@@ -84,9 +85,9 @@ const ROW_BEHIND_A_FULL_PAGE: [Step; 6] = [
     Step::Put(101, b"hi"),
 ];
 
-fn opened(alloc: Global) -> Result<Engine<MemDisk>, Fail> {
-    match Engine::open(alloc, MemDisk::new(alloc), CONFIG) {
-        Ok(engine) => Ok(engine),
+fn opened(alloc: Global) -> Result<Donor<MemDisk>, Fail> {
+    match Donor::open(alloc, MemDisk::new(alloc), CONFIG) {
+        Ok(donor) => Ok(donor),
         Err(refusal) => {
             let OpenRefusal { cause: _, disk: _ } = refusal;
             Err(Fail::from("not opened"))
@@ -94,35 +95,35 @@ fn opened(alloc: Global) -> Result<Engine<MemDisk>, Fail> {
     }
 }
 
-fn create(engine: &mut Engine<MemDisk>, buckets: u32) -> Result<(), Fail> {
+fn create(donor: &mut Donor<MemDisk>, buckets: u32) -> Result<(), Fail> {
     let table = TableNumber::new(1).ok_or("no number of a table")?;
     let buckets = BucketCount::new(buckets).ok_or("no number of buckets")?;
-    Ok(engine.create(table, buckets).ok().ok_or("not created")?)
+    Ok(donor.create(table, buckets).ok().ok_or("not created")?)
 }
 
-fn put_again(engine: &mut Engine<MemDisk>, count: u32) -> Result<(), EngineRefusal> {
+fn put_again(donor: &mut Donor<MemDisk>, count: u32) -> Result<(), EngineRefusal> {
     for _ in 0..count {
-        engine.put(0, 1, 7, b"hi")?;
+        donor.put(0, 1, 7, b"hi")?;
     }
     Ok(())
 }
 
-fn put_odd(engine: &mut Engine<MemDisk>, count: u64) -> Result<(), EngineRefusal> {
+fn put_odd(donor: &mut Donor<MemDisk>, count: u64) -> Result<(), EngineRefusal> {
     for n in 0..count {
-        engine.put(0, 1, n.saturating_mul(2).saturating_add(1), b"hi")?;
+        donor.put(0, 1, n.saturating_mul(2).saturating_add(1), b"hi")?;
     }
     Ok(())
 }
 
-fn make(alloc: Global, engine: &mut Engine<MemDisk>, step: Step) -> Result<(), Fail> {
+fn make(alloc: Global, donor: &mut Donor<MemDisk>, step: Step) -> Result<(), Fail> {
     let is_made = match step {
-        Step::Create(buckets) => return create(engine, buckets),
-        Step::Begin(writer, index) => engine.begin(alloc, writer, index).is_ok(),
-        Step::Put(key, value) => engine.put(0, 1, key, value).is_ok(),
-        Step::PutAgain(count) => put_again(engine, count).is_ok(),
-        Step::PutOdd(count) => put_odd(engine, count).is_ok(),
-        Step::Undo => engine.undo_one(0).is_ok(),
-        Step::Commit => engine.commit(0).is_ok(),
+        Step::Create(buckets) => return create(donor, buckets),
+        Step::Begin(writer, index) => donor.begin(alloc, writer, index).is_ok(),
+        Step::Put(key, value) => donor.put(0, 1, key, value).is_ok(),
+        Step::PutAgain(count) => put_again(donor, count).is_ok(),
+        Step::PutOdd(count) => put_odd(donor, count).is_ok(),
+        Step::Undo => donor.undo_one(0).is_ok(),
+        Step::Commit => donor.commit(0).is_ok(),
     };
     if !is_made {
         return Err(Fail::from("a call is refused"));
@@ -131,8 +132,8 @@ fn make(alloc: Global, engine: &mut Engine<MemDisk>, step: Step) -> Result<(), F
 }
 
 // The bytes of the log from an LSN on, all of which are kept.
-fn log_from(alloc: Global, engine: &Engine<MemDisk>, from: u64) -> Result<Vec<u8>, Fail> {
-    let ring = engine.ring();
+fn log_from(alloc: Global, engine: &Engine, from: u64) -> Result<Vec<u8>, Fail> {
+    let ring = engine.buffer.ring();
     if from < ring.floor() || ring.end() < from {
         return Err(Fail::from("no such LSN in the log"));
     }
@@ -157,24 +158,30 @@ fn are(bytes: &[u8], parts: &[&[u8]]) -> bool {
 fn expect_log(
     rt: &impl Abort,
     alloc: Global,
-    engine: &mut Engine<MemDisk>,
-    case: &Case,
+    engine: &Engine,
+    length: u64,
+    parts: &[&[u8]],
 ) -> Result<(), Fail> {
-    let (steps, length, parts) = *case;
-    for step in steps {
-        make(alloc, engine, *step)?;
-    }
     let log = log_from(alloc, engine, FIRST_LSN.saturating_add(length))?;
     assert!(rt; are(&log, parts));
     Ok(())
 }
 
+fn make_all(alloc: Global, donor: &mut Donor<MemDisk>, steps: &[Step]) -> Result<(), Fail> {
+    for step in steps {
+        make(alloc, donor, *step)?;
+    }
+    Ok(())
+}
+
 // A case begins with a new engine.
 fn try_case(rt: &impl Abort, alloc: Global, case: &Case) -> Result<(), Fail> {
-    let mut engine = opened(alloc)?;
-    let done = expect_log(rt, alloc, &mut engine, case);
-    let _disk = engine.into_disk();
-    done
+    let (steps, length, parts) = *case;
+    let mut donor = opened(alloc)?;
+    let made = make_all(alloc, &mut donor, steps);
+    let (engine, _disk) = donor.into_parts();
+    made?;
+    expect_log(rt, alloc, &engine, length, parts)
 }
 
 #[test]

@@ -1,6 +1,6 @@
 use Rattle.std.proofs.Common.{◌≡◌, ◌==◌, not, sym, ap, subst, ◌∙◌, Option}
 use Rattle.clone_outside.specs.Disk.{DiskImage, ForTold}
-use Rattle.clone_engine.proofs.OpenLemmas.{some_space, is_blank}
+use Rattle.clone_engine.proofs.TableLemmas.{some_space, is_blank}
 use Rattle.clone_engine.proofs.opening.is_empty.Goals as goal
 
 pub returns-then-not-is_empty-clause-not_empty : goal.returns-then-not-is_empty-clause-not_empty

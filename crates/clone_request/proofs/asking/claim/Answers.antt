@@ -1,6 +1,6 @@
 use Rattle.std.proofs.Common.{◌∙◌, ap, subst, Ok}
-use Rattle.clone_donor.specs.Acts as act
-use Rattle.clone_donor.specs.Acts.{Acts}
+use Rattle.clone_engine.specs.Acts as act
+use Rattle.clone_engine.specs.Acts.{Acts}
 use Rattle.clone_request.specs.declared.asking.TheConstants.{CALLER}
 use Rattle.clone_request.proofs.ClaimLemmas.{claims_less, claims_none, claims_some}
 use Rattle.clone_request.proofs.asking.claim.Goals as goal

@@ -2,7 +2,7 @@ use Rattle.std.proofs.Common.{refl, ◌≡◌, Err}
 use Rattle.clone_request.proofs.asking.read.Goals as goal
 use Rattle.clone_chunk.specs.declared.cause.CloneCause.TheVariants.{ArchiveBehind}
 use Rattle.clone_session.specs.declared.refusal.CloneRefusal.TheVariants as clone
-use Rattle.clone_donor.specs.declared.block.BlockRefusal.TheVariants as block
+use Rattle.clone_engine.specs.declared.block.BlockRefusal.TheVariants as block
 use Rattle.clone_request.proofs.ReadLemmas.{if_ok, left_then, none_then, not_against, not_behind, on_ok, stays_then}
 use Rattle.clone_request.proofs.GivenLemmas.{answer_left, answer_reads}
 

@@ -1,4 +1,4 @@
-use Rattle.clone_donor.proofs.OrderLemmas.{order_told}
+use Rattle.clone_engine.proofs.SessionActs.{order_told}
 use Rattle.clone_core.proofs.OrderedLemmas.{on_err, recipient_noted, recipient_kept, recipient_holds}
 use Rattle.clone_core.proofs.world.World.recipient_order_line.Goals as goal
 

@@ -1,12 +1,13 @@
 use Rattle.clone_flush.specs.Calls.{State}
-use Rattle.clone_engine.proofs.FlushLemmas.{half_written_is, written_engine}
+use Rattle.clone_engine.specs.Over.{over}
+use Rattle.clone_engine.proofs.FlushLemmas.{half_acts}
 use Rattle.clone_engine.proofs.engine.Engine.flush_half.Goals as goal
 
-pub invariant_of-self : goal.invariant_of-self
-invariant_of-self g c =
-    let old = c.self.inside in
-    let new = c.half.new in
-    let s : State = record { buffer = old.buffer; flights = old.flusher } in
-    let t : State = record { buffer = new.buffer; flights = new.self } in
-    let w = half_written_is old.transactions (record { space = c.args.space; number = c.args.page }) s t (g.D.PageDisk.state old.disk).told (g.D.PageDisk.state new.disk).told c.half.result c.half.ensures.halves in
-    written_engine old.transactions s t _ _ c.self.invariant w c.half.ensures.stands
+pub returns : goal.returns
+returns g c =
+    let a = c.args in
+    let b = c.half in
+    let t : State = record { buffer = b.new.buffer; flights = b.new.self } in
+    record {
+      acts = half_acts (over a.self.now (g.D.PageDisk.state a.disk.now)) t (g.D.PageDisk.state b.new.disk) a.space a.page b.result c.requires.donor c.laws.ensures.buffer c.answered-written.result c.answered-written.ensures b.ensures.counts b.ensures.stands b.ensures.halves;
+    }

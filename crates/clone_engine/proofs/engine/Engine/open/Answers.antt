@@ -1,7 +1,18 @@
-use Rattle.clone_engine.proofs.OpenLemmas.{opened_engine}
+use Rattle.std.proofs.Common.{◌∙◌, sym}
+use Rattle.clone_engine.proofs.TableLemmas.{opened_engine, fresh_donor, fresh_taken}
 use Rattle.clone_engine.proofs.engine.Engine.open.Goals as goal
 
-pub invariant_of-result : goal.invariant_of-result
-invariant_of-result g c =
-    let is = c.in-Ok.ensures in
-    opened_engine c.in-Ok.transactions c.in-Ok.buffer c.in-Ok.flusher (g.D.PageDisk.state c.args.disk).told _ is.donor is.log is.kept c.laws.ensures.buffer is.floor is.stands is.writes is.checkpoint is.files is.made
+pub returns-clause-donor : goal.returns-clause-donor
+returns-clause-donor g c =
+    let is = c.in_ok-transactions.ensures in
+    let fresh = c.new.ensures in
+    let buffer = c.laws.ensures.buffer in
+    let k = g.D.PageDisk.state c.parts.new.disk in
+    let engine = opened_engine _ _ _ (g.D.PageDisk.state c.args.disk.now).told k is.donor is.log is.kept buffer is.floor is.stands is.writes is.checkpoint is.files is.made in
+    fresh_donor _ c.new.result engine fresh.session buffer (record { donor = is.donor; log = is.log }) fresh.tracking fresh.archive (fresh.ring ∙ sym is.size) is.floor is.checkpoint
+
+pub returns-clause-taken : goal.returns-clause-taken
+returns-clause-taken g c =
+    let is = c.in_ok-transactions.ensures in
+    let engine = opened_engine _ _ _ (g.D.PageDisk.state c.args.disk.now).told (g.D.PageDisk.state c.parts.new.disk) is.donor is.log is.kept c.laws.ensures.buffer is.floor is.stands is.writes is.checkpoint is.files is.made in
+    fresh_taken _ c.new.result engine c.new.ensures.session

@@ -1,70 +1,19 @@
-use Rattle.std.proofs.Common.{refl, sym, ap, subst, is_some}
+use Rattle.std.proofs.Common.{refl, arith}
 use Rattle.clone_plain.specs.Calls as call
-use Rattle.clone_plain.specs.Donor.{Donor}
-use Rattle.clone_plain.specs.Calls.{did_undo_one}
 use Rattle.clone_plain.specs.Effects.{Undoes}
 use Rattle.clone_plain.specs.declared.refusal.Undone.{Undone}
-use Rattle.clone_engine.specs.Growth.{GrowsBy, KeepsRing, PagesStay}
-use Rattle.clone_engine.specs.Engine.{Engine, StandsBeside}
-use Rattle.clone_engine.specs.Steps.{Transacts, answer_of}
-use Rattle.clone_engine.proofs.AnswerLemmas.{still_flown, transacts}
-use Rattle.clone_engine.proofs.CallLemmas.{undo_leaves}
-use Rattle.clone_flush.specs.Flights.{beside_of}
-use Rattle.clone_engine.proofs.DiskLemmas.{stays_flown}
-use Rattle.clone_engine.proofs.EngineLemmas.{engine, still_engine}
+use Rattle.clone_engine.specs.Over.{over}
+use Rattle.clone_engine.proofs.WayLemmas.{undo_leaves}
+use Rattle.clone_engine.proofs.GoingLemmas.{of_few, acts, after}
 use Rattle.clone_engine.proofs.engine.Engine.undo_one.Goals as goal
 
-pub invariant_of-self : goal.invariant_of-self
-invariant_of-self g c =
-    let old = c.self.inside in
-    let new = c.undo_one.new in
-    let is = c.undo_one.ensures in
-    let l = undo_leaves old.transactions new.self old.buffer new.buffer c.args.trx c.undo_one.result c.laws.ensures.safe is.answer in
-    still_engine 1 old.transactions new.self old.buffer new.buffer old.flusher _ _ c.self.invariant is.kept l.grows l.pages is.stands is.reads.told l.tables
-
-pub returns-clause-step : goal.returns-clause-step
-returns-clause-step g c =
-    let old = c.self.inside in
-    let new = c.undo_one.new in
-    let is = c.undo_one.ensures in
-    let d : Donor = old.transactions in
-    let e : Donor = new.self in
-    let call = call.undo_one c.args.trx in
-    let did = λ (undone : Undone). did_undo_one c.args.trx undone in
-    let s : Engine = engine d old.buffer old.flusher (g.D.PageDisk.state old.disk) in
-    let t : Engine = engine e new.buffer old.flusher (g.D.PageDisk.state new.disk) in
-    subst (λ (s : Engine). Transacts call s t (answer_of did c.undo_one.result)) c.self.view_is
-    (transacts did call s t c.undo_one.result (λ (undone : Undone). Undoes d c.args.trx undone e) (λ x does. record { is = refl; does = does; sees = tt }) (still_flown did c.undo_one.result old.flusher (λ _. refl)) is.answer
-    (record { later = is.reads.later; orders = is.reads.orders; tells = ap is_some is.reads.told }) is.reads.fault)
-
-pub returns-clause-copies : goal.returns-clause-copies
-returns-clause-copies g c =
-    let old = c.self.inside in
-    let new = c.undo_one.new in
-    let is = c.undo_one.ensures in
-    let l = undo_leaves old.transactions new.self old.buffer new.buffer c.args.trx c.undo_one.result c.laws.ensures.safe is.answer in
-    λ copies st. stays_flown old.flusher copies old.buffer new.buffer _ _ is.reads.told (is.stands (beside_of old.flusher copies)) l.grows.floor (subst (λ (s : Engine). StandsBeside s copies) (sym c.self.view_is) st)
-
-pub returns-clause-ring : goal.returns-clause-ring
-returns-clause-ring g c =
-    let old = c.self.inside in
-    let new = c.undo_one.new in
-    let is = c.undo_one.ensures in
-    let l = undo_leaves old.transactions new.self old.buffer new.buffer c.args.trx c.undo_one.result c.laws.ensures.safe is.answer in
-    subst (λ (s : Engine). KeepsRing s.buffer.ring new.buffer.ring) c.self.view_is l.grows.ring
-
-pub returns-clause-log : goal.returns-clause-log
-returns-clause-log g c =
-    let old = c.self.inside in
-    let new = c.undo_one.new in
-    let is = c.undo_one.ensures in
-    let l = undo_leaves old.transactions new.self old.buffer new.buffer c.args.trx c.undo_one.result c.laws.ensures.safe is.answer in
-    subst (λ (s : Engine). GrowsBy 1 s.buffer.log new.buffer.log) c.self.view_is l.grows.log
-
-pub returns-clause-pages : goal.returns-clause-pages
-returns-clause-pages g c =
-    let old = c.self.inside in
-    let new = c.undo_one.new in
-    let is = c.undo_one.ensures in
-    let l = undo_leaves old.transactions new.self old.buffer new.buffer c.args.trx c.undo_one.result c.laws.ensures.safe is.answer in
-    subst (λ (s : Engine). PagesStay s.buffer new.buffer) c.self.view_is l.pages
+pub returns-clause-acts : goal.returns-clause-acts
+returns-clause-acts g c =
+    let a = c.args in
+    let b = c.undo_one-undone in
+    let is = b.ensures in
+    let d = over a.self.now (g.D.PageDisk.state a.disk.now) in
+    let l = g.D.PageDisk.state b.new.disk in
+    let leaves = undo_leaves d.engine.donor b.new.self d.engine.buffer b.new.buffer a.trx b.result c.laws.ensures.safe is.answer in
+    acts d b.new.self b.new.buffer l (λ (x : Undone). call.did_undo_one a.trx x) (call.undo_one a.trx) b.result (λ (x : Undone). Undoes d.engine.donor a.trx x b.new.self) 1 (λ answer steps. record { steps = steps; cloning = refl }) (λ answer taken. refl) (λ x does. record { is = refl; does = does; sees = tt }) (λ _. refl) c.requires.donor c.laws-3.ensures.buffer leaves
+    (of_few 1 d.engine (after d b.new.self b.new.buffer l) (omega arith) leaves.grows.log) is.kept is.answer is.reads is.reads.told is.stands

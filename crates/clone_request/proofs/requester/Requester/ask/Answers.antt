@@ -1,10 +1,10 @@
 use Rattle.std.proofs.Common.{◌≡◌, ◌∙◌, ℕ, arith, sym, ap, subst, Err, Ok}
 use Rattle.clone_session.specs.declared.refusal.CloneRefusal.{CloneRefusal}
 use Rattle.clone_session.specs.CloneCauses.{acknowledgement_cause, hello_cause}
-use Rattle.clone_donor.specs.Acts as act
-use Rattle.clone_donor.specs.Acts.{Acts}
-use Rattle.clone_donor.specs.Copying.{Acks, Begins, moment_of}
-use Rattle.clone_donor.specs.Donor.{Donor}
+use Rattle.clone_engine.specs.Acts as act
+use Rattle.clone_engine.specs.Acts.{Acts}
+use Rattle.clone_engine.specs.Copying.{Acks, Begins, moment_of}
+use Rattle.clone_engine.specs.Donor.{Donor}
 use Rattle.clone_request.specs.declared.asking.TheConstants.{CALLER}
 use Rattle.clone_request.proofs.AskLemmas.{may_acknowledge, may_begin, not_refused, some_stage}
 use Rattle.clone_request.specs.Reading.{Asks}

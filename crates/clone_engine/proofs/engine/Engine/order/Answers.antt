@@ -1,0 +1,9 @@
+use Rattle.clone_engine.specs.Over.{over}
+use Rattle.clone_engine.proofs.SessionActs.{order_told, orders}
+use Rattle.clone_engine.proofs.engine.Engine.order.Goals as goal
+
+pub returns-clause-acts : goal.returns-clause-acts
+returns-clause-acts g c =
+    let k = g.D.PageDisk.state c.args.disk.now in
+    let l = g.D.PageDisk.state c.order.new.self in
+    orders (over c.args.self.now k) l (order_told c.args.order k l c.order.result c.order.ensures.given) c.requires.donor

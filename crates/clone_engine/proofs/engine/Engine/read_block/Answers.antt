@@ -1,0 +1,46 @@
+use Rattle.std.proofs.Common.{List, sym, ap, ◌∙◌, subst}
+use Rattle.std.proofs.lemmas.Result.{MatchResult-from_err}
+use Rattle.clone_outside.specs.DiskCalls.{DiskState}
+use Rattle.clone_page.specs.declared.pages.PageAt.{PageAt}
+use Rattle.clone_engine.specs.declared.block.Block.TheVariants as block
+use Rattle.clone_engine.specs.Over.{over}
+use Rattle.clone_engine.proofs.BlockLemmas.{HasBlock, MayGive, given, gives, has_pages, has_redo, misses, pages_sized, redo_sized, visits_none}
+use Rattle.clone_engine.proofs.engine.Engine.read_block.Goals as goal
+
+has_read : (g : _) (c : goal.After-answered-last g) → HasBlock c.args.caller c.args.chunk c.args.number (over c.args.self.now (g.D.PageDisk.state c.args.disk.now)) (g.D.PageDisk.state c.match-work.disk) c.match-work.block
+has_read g c =
+    let a = c.args in
+    let d = over a.self.now (g.D.PageDisk.state a.disk.now) in
+    let may : MayGive a.caller a.stage a.chunk a.number d c.in_ok-work.work = record { is = c.requires.donor; cloning = c.laws.ensures; free = c.in_ok-work.ensures.0; made_of = c.in_ok-work.ensures.1 } in
+    elim c.match-work.branch [
+      | goal.in-Pages+in_ok-pages-in-Pages w ↦
+          let read = w.in_ok-pages-in-Pages.ensures in
+          let l = g.D.PageDisk.state w.pages.new.disk in
+          let has = has_pages a.caller a.stage a.chunk a.number d l c.in_ok-work.work may read.visits w.in-Pages.pages w.in_ok-pages-in-Pages.field-0.items w.in-Pages.is read.places read.read in
+          subst (λ (k : DiskState). HasBlock a.caller a.chunk a.number d k c.match-work.block) (ap (g.D.PageDisk.state) (sym w.disk-is)) (subst (HasBlock a.caller a.chunk a.number d l) (sym (w.block-is ∙ ap (λ (pages : List PageAt). block.Pages pages) w.new.ensures)) has)
+      | goal.in-Redo+in_ok-block-in-Redo w ↦
+          let has = has_redo a.caller a.stage a.chunk a.number d d.engine.disk c.in_ok-work.work may (visits_none d.engine) w.in-Redo.redo w.in_ok-block-in-Redo.block w.in-Redo.is (w.in_ok-block-in-Redo.ensures d.engine.disk) in
+          subst (λ (k : DiskState). HasBlock a.caller a.chunk a.number d k c.match-work.block) (ap (g.D.PageDisk.state) (sym w.disk-is)) (subst (HasBlock a.caller a.chunk a.number d d.engine.disk) (sym w.block-is) has)
+    ]
+
+pub new-requires-clause-some : goal.new-requires-clause-some
+new-requires-clause-some g c =
+    (pages_sized c.args.self.now.cloning c.args.caller.session c.args.chunk c.args.number c.in_ok-work.work c.in_ok-work.ensures.1 c.in-Pages.pages c.in_ok-pages-in-Pages.field-0.items c.in-Pages.is c.in_ok-pages-in-Pages.ensures.places).0
+
+pub redo-requires-clause-some : goal.redo-requires-clause-some
+redo-requires-clause-some g c =
+    (redo_sized c.args.self.now.cloning c.args.caller.session c.args.chunk c.args.number c.in_ok-work.work c.in_ok-work.ensures.1 c.in-Redo.redo c.in-Redo.is).0
+
+pub redo-requires-clause-few : goal.redo-requires-clause-few
+redo-requires-clause-few g c =
+    (redo_sized c.args.self.now.cloning c.args.caller.session c.args.chunk c.args.number c.in_ok-work.work c.in_ok-work.ensures.1 c.in-Redo.redo c.in-Redo.is).1
+
+pub returns-in_err-pages-in-Pages-clause-acts : goal.returns-in_err-pages-in-Pages-clause-acts
+returns-in_err-pages-in-Pages-clause-acts g c =
+    MatchResult-from_err c.from_residual-in_err-pages-in-Pages.result _ _ c.from_residual-in_err-pages-in-Pages.ensures.0 (λ _. misses (over c.args.self.now (g.D.PageDisk.state c.args.disk.now)) (g.D.PageDisk.state c.pages.new.disk) c.pages.ensures.visits c.requires.donor)
+
+pub returns-clause-gives : goal.returns-clause-gives
+returns-clause-gives g c = given c.args.caller c.args.chunk c.args.number _ _ c.match-work.block (has_read g c) c.answered-last.new.self c.answered-last.result c.answered-last.ensures
+
+pub returns-clause-acts : goal.returns-clause-acts
+returns-clause-acts g c = gives c.args.caller c.args.chunk c.args.number _ _ c.match-work.block (has_read g c) c.answered-last.new.self c.answered-last.result c.answered-last.ensures
