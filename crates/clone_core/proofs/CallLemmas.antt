@@ -59,9 +59,8 @@ right_of e is there = let at = told_is e.disk.told _ there is.stands in at.2.kep
 
 -- ---- an act that no requester makes
 
--- It leaves the last stop and whether the disk tells what it holds, and adds to the history.
+-- It leaves whether the disk tells what it holds, and adds to the history.
 pub record Spares (d t : staged.Donor) : Type 0 where
-  pub stop : t.cloning.stop ≡ d.cloning.stop
   pub tells : is_some t.engine.disk.told ≡ is_some d.engine.disk.told
   pub answered : List ℕ
   pub adds : Adds d.engine.donor t.engine.donor answered
@@ -70,26 +69,12 @@ same_adds : (d e : Donor) → e ≡ d → Adds d e []
 same_adds d e is = adds_none d e (ap (λ (x : Donor). x.binlog) is) (ap (λ (x : Donor). x.drops) is)
 
 -- the plain donor stays
-spares_donor : (d t : staged.Donor) → t.cloning.stop ≡ d.cloning.stop → is_some t.engine.disk.told ≡ is_some d.engine.disk.told → t.engine.donor ≡ d.engine.donor → Spares d t
-spares_donor d t stop tells donor = record { stop = stop; tells = tells; answered = []; adds = same_adds d.engine.donor t.engine.donor donor }
+spares_donor : (d t : staged.Donor) → is_some t.engine.disk.told ≡ is_some d.engine.disk.told → t.engine.donor ≡ d.engine.donor → Spares d t
+spares_donor d t tells donor = record { tells = tells; answered = []; adds = same_adds d.engine.donor t.engine.donor donor }
 
 -- so does all of the engine
-spares_engine : (d t : staged.Donor) → t.cloning.stop ≡ d.cloning.stop → t.engine ≡ d.engine → Spares d t
-spares_engine d t stop engine = spares_donor d t stop (ap (λ (e : Engine). is_some e.disk.told) engine) (ap (λ (e : Engine). e.donor) engine)
-
-noted_stop : (call : Call) (answer : Result Done EngineRefusal) (old new : Cloning) → Becomes new (noted_by call answer old) → new.stop ≡ old.stop
-noted_stop (flush_begin space page) answer old new is = by (has_begun answer) is
-  where
-    by : (begun : Bool) → Becomes new (if begun then with_noted (space, page) old else old) → new.stop ≡ old.stop
-    by true is = ap (λ (c : Cloning). c.stop) is
-    by false is = ap (λ (c : Cloning). c.stop) is
-noted_stop call answer old new is = ap (λ (c : Cloning). c.stop) is
-
-answered_stop : (call : Call) (d t : staged.Donor) (answer : Result Done EngineRefusal) → AnswersCall call d t answer → t.cloning.stop ≡ d.cloning.stop
-answered_stop call d t answer is = elim (served call d t answer is) [
-  | inl serves ↦ noted_stop call answer d.cloning t.cloning serves.cloning
-  | inr running ↦ ap (λ (x : staged.Donor). x.cloning.stop) running.same
-]
+spares_engine : (d t : staged.Donor) → t.engine ≡ d.engine → Spares d t
+spares_engine d t engine = spares_donor d t (ap (λ (e : Engine). is_some e.disk.told) engine) (ap (λ (e : Engine). e.donor) engine)
 
 answered_adds : (call : Call) (d t : staged.Donor) (answer : Result Done EngineRefusal) → AnswersCall call d t answer → (answered : List ℕ) × Adds d.engine.donor t.engine.donor answered
 answered_adds call d t (Ok did) is = (_, made_adds d.engine.donor (done did) t.engine.donor (made_refines d t (done did) (done_step call d t did is)))
@@ -99,21 +84,14 @@ answered_adds call d t (Err NoMemory) is = (_, same_adds d.engine.donor t.engine
 spares_call : (call : Call) (answer : Result Done EngineRefusal) (d t : staged.Donor) → AnswersCall call d t answer → Spares d t
 spares_call call answer d t is =
     let added = answered_adds call d t answer is in
-    record { stop = answered_stop call d t answer is; tells = (answered_visits call d t answer is).tells; answered = added.0; adds = added.1 }
-
-archives_stop : (limit : ℕ) (reached : Option ℕ) (d t : staged.Donor) → Archives {E = Unit {0}} limit d.engine.buffer.ring d.cloning t.cloning (Ok reached) → t.cloning.stop ≡ d.cloning.stop
-archives_stop limit None d t is = ap (λ (c : Cloning). c.stop) is.1
-archives_stop limit (Some lsn) d t is = ap (λ (c : Cloning). c.stop) is.2
+    record { tells = (answered_visits call d t answer is).tells; answered = added.0; adds = added.1 }
 
 pub spares : (a : Act) (d t : staged.Donor) → IsOutside a → Does a d t → Spares d t
 spares (act.Calls call answer) d t outside does = spares_call call answer d t does
-spares act.Orders d t outside does =
-    spares_donor d t (ap (λ (x : staged.Donor). x.cloning.stop) does.same) (ap (λ (x : staged.Donor). is_some x.engine.disk.told) does.same ∙ ap is_some does.told) (ap (λ (x : staged.Donor). x.engine.donor) does.same)
-spares (act.Archive limit reached) d t outside does =
-    spares_donor d t (archives_stop limit reached d t does.0) (ap (λ (e : Engine). is_some e.disk.told) does.1) (ap (λ (e : Engine). e.donor) does.1)
-spares act.Refuse d t outside does = spares_engine d t (ap (λ (c : Cloning). c.stop) does.0) does.1
-spares act.Miss d t outside does =
-    spares_donor d t (ap (λ (c : Cloning). c.stop) does.0) (ap (λ (e : Engine). is_some e.disk.told) does.1.same) (ap (λ (e : Engine). e.donor) does.1.same)
+spares act.Orders d t outside does = spares_donor d t (ap (λ (x : staged.Donor). is_some x.engine.disk.told) does.same ∙ ap is_some does.told) (ap (λ (x : staged.Donor). x.engine.donor) does.same)
+spares (act.Archive limit reached) d t outside does = spares_donor d t (ap (λ (e : Engine). is_some e.disk.told) does.1) (ap (λ (e : Engine). e.donor) does.1)
+spares act.Refuse d t outside does = spares_engine d t does.1
+spares act.Miss d t outside does = spares_donor d t (ap (λ (e : Engine). is_some e.disk.told) does.1.same) (ap (λ (e : Engine). e.donor) does.1.same)
 spares a d t outside does = absurd outside
 
 -- ---- the clone, while the history grows
@@ -162,6 +140,7 @@ module _ (d t : staged.Donor) (answered : List ℕ) (added : Adds d.engine.donor
   on_longer r within is = record {
     at = is.at;
     way = keep r told is.at is.way;
+    is = is.is;
     was = was_longer d.engine.donor t.engine.donor answered added is.at clone.stop within is.was;
   }
 
@@ -188,37 +167,31 @@ module _ (d t : staged.Donor) (answered : List ℕ) (added : Adds d.engine.donor
   }
 
 -- AND SO OVER AN ACT that no requester makes.
-pub act_kept : (a : Act) (d t : staged.Donor) (way : Course) (floor : ℕ) (doubted shown : Bool) (told : Option DiskImage) → IsOutside a → Acts a d t
-    → HoldsClone d (is_some d.engine.disk.told && is_some told) (clone_of way d.cloning.stop floor doubted shown) told way
-    → HoldsClone t (is_some t.engine.disk.told && is_some told) (clone_of way t.cloning.stop floor doubted shown) told way
-act_kept a d t way floor doubted shown told outside acts holds =
+pub act_kept : (a : Act) (d t : staged.Donor) (way : Course) (stop : Option session.Stop) (floor : ℕ) (doubted shown : Bool) (told : Option DiskImage) → IsOutside a → Acts a d t
+    → HoldsClone d (is_some d.engine.disk.told && is_some told) (clone_of way stop floor doubted shown) told way
+    → HoldsClone t (is_some t.engine.disk.told && is_some told) (clone_of way stop floor doubted shown) told way
+act_kept a d t way stop floor doubted shown told outside acts holds =
     let spared = spares a d t outside acts.does in
     let keep : KeepsWay d t = λ r told at. keeps a d t r told at outside acts in
-    let clone = clone_of way d.cloning.stop floor doubted shown in
-    let longer = holds_longer d t spared.answered spared.adds keep (is_some d.engine.disk.told && is_some told) (is_some t.engine.disk.told && is_some told) (ap (λ b. b && is_some told) spared.tells) clone told way holds in
-    subst (λ (o : Option session.Stop). HoldsClone t (is_some t.engine.disk.told && is_some told) (clone_of way o floor doubted shown) told way) (sym spared.stop) longer
+    holds_longer d t spared.answered spared.adds keep (is_some d.engine.disk.told && is_some told) (is_some t.engine.disk.told && is_some told) (ap (λ b. b && is_some told) spared.tells) (clone_of way stop floor doubted shown) told way holds
 
 -- ---- a call in a world: r is the world before it, as its fields are
-
--- the fields tell of the donor what it is
-pub record IsShown (r : State) : Type 0 where
-  pub tells : r.tells ≡ tell r.donor
-  pub stop : r.clone.stop ≡ option_map stop_of r.donor.donor.cloning.stop
 
 -- the donor has become this one, and the writers' counts these
 abbrev pub with_donor : State → staged.Donor → finite.FinMap nat_cmp ℕ → State
 with_donor s d counts = record {
   donor = record { donor = d; recipient = s.donor.recipient };
   begun = counts;
-  clone = record s.clone { stop = option_map stop_of d.cloning.stop };
+  clone = s.clone;
   tells = is_some d.engine.disk.told && is_some s.donor.recipient.told;
 }
 
-pub same_tells : (r : State) (t : staged.Donor) → IsShown r → is_some t.engine.disk.told ≡ is_some r.donor.donor.engine.disk.told → (is_some t.engine.disk.told && is_some r.donor.recipient.told) ≡ r.tells
-same_tells r t is same = ap (λ b. b && is_some r.donor.recipient.told) same ∙ sym is.tells
+-- the fields tell of the donor what it is
+abbrev pub IsShown : State → Type 0
+IsShown r = r.tells ≡ tell r.donor
 
-pub same_clone : (r : State) (t : staged.Donor) → IsShown r → t.cloning.stop ≡ r.donor.donor.cloning.stop → ◌≡◌ {A = Clone} (record r.clone { stop = option_map stop_of t.cloning.stop }) r.clone
-same_clone r t is same = ap (λ (o : Option Stop). record r.clone { stop = o }) (ap (option_map stop_of) same ∙ sym is.stop)
+pub same_tells : (r : State) (t : staged.Donor) → IsShown r → is_some t.engine.disk.told ≡ is_some r.donor.donor.engine.disk.told → (is_some t.engine.disk.told && is_some r.donor.recipient.told) ≡ r.tells
+same_tells r t is same = ap (λ b. b && is_some r.donor.recipient.told) same ∙ sym is
 
 happens : {X : Type 0} (r : State) (t : staged.Donor) (counts : finite.FinMap nat_cmp ℕ) (call : Call) (did : X → Done) (result : Result X EngineRefusal) → IsShown r → ((x : X) → result ≡ Ok x → counts ≡ counted (made (done (did x))) r.begun)
     → ((refusal : EngineRefusal) → result ≡ Err refusal → counts ≡ r.begun) → ((x : X) → result ≡ Ok x → r.tells ≡ true → Sees (donor_of r.donor) (made (done (did x)))) → AnswersCall call r.donor.donor t (answer_of did result)
@@ -226,18 +199,18 @@ happens : {X : Type 0} (r : State) (t : staged.Donor) (counts : finite.FinMap na
 happens r t counts call did (Ok x) shown grown kept sees is = record {
   step = (done_step call r.donor.donor t (did x) is, refl);
   begun = grown x refl;
-  clone = same_clone r t shown (answered_stop call r.donor.donor t _ is);
+  clone = record { now = tt; shows = tt; is = refl };
   tells = same_tells r t shown (answered_visits call r.donor.donor t _ is).tells;
   sees = sees x refl;
 }
 happens r t counts call did (Err (Because cause)) shown grown kept sees is = record {
   step = (is, refl);
   begun = kept (Because cause) refl;
-  clone = same_clone r t shown (answered_stop call r.donor.donor t _ is);
+  clone = record { now = tt; shows = tt; is = refl };
   tells = same_tells r t shown (answered_visits call r.donor.donor t _ is).tells;
   sees = λ told. tt;
 }
-happens r t counts call did (Err NoMemory) shown grown kept sees is = record { donor = answered_wants call r.donor.donor t is; begun = kept NoMemory refl }
+happens r t counts call did (Err NoMemory) shown grown kept sees is = record { donor = answered_wants call r.donor.donor t is; begun = kept NoMemory refl; tells = same_tells r t shown (answered_visits call r.donor.donor t _ is).tells; clone = refl }
 
 -- no writer is counted
 pub called : {X : Type 0} (r s : State) (t : staged.Donor) (call : Call) (did : X → Done) (result : Result X EngineRefusal) → r ≡ s → IsShown r → ((x : X) → counted (made (done (did x))) r.begun ≡ r.begun)
@@ -276,5 +249,7 @@ begun_called r s t counts writer index result is shown at grown kept answers =
     subst P is (subst Q at (happens r t counts (begin writer index) (λ trx. did_begin writer index trx) result shown grown kept (λ _ _ _. tt) answers))
 
 -- memory ran out before the donor was asked
-pub not_counted : (r s t : State) → r ≡ s → donor_of t.donor ≡ donor_of r.donor → t.begun ≡ r.begun → Stays s t
-not_counted r s t is donor begun = record { donor = donor ∙ ap (λ (w : State). donor_of w.donor) is; begun = begun ∙ ap (λ (w : State). w.begun) is }
+pub not_counted : (r s t : State) → r ≡ s → t ≡ r → Stays s t
+not_counted r s t is same =
+    let whole = same ∙ is in
+    record { donor = ap (λ (w : State). donor_of w.donor) whole; begun = ap (λ (w : State). w.begun) whole; tells = ap (λ (w : State). w.tells) whole; clone = ap (λ (w : State). w.clone) whole }

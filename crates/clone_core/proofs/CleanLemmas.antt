@@ -1,5 +1,5 @@
 -- What a `clean` does, page by page.
-use Rattle.std.proofs.Common.{◌≡◌, ◌<◌, ◌+◌, ◌^◌, ℕ, List, [], ◌∷◌, ◌++◌, length, refl, sym, ap, ◌∙◌, subst, arith, append_assoc, length-append, Option, Some, None, Result, Ok, Err, IfOk, OnErr, IsErrAnd, codes, decimal, flat_map}
+use Rattle.std.proofs.Common.{◌≡◌, ◌<◌, ◌+◌, ◌^◌, ℕ, List, [], ◌∷◌, ◌++◌, length, refl, sym, ap, ◌∙◌, subst, arith, append_assoc, length-append, Option, Some, None, Result, Ok, Err, IfOk, OnErr, IsErrAnd, codes, decimal, flat_map, inl}
 use Rattle.std.proofs.lemmas.Grind.{flat_map-append}
 use Rattle.std.specs.declared.alloc.AllocError.{AllocError}
 use Rattle.std.specs.List.{AllByRecursion}
@@ -122,6 +122,8 @@ stops s u v t landed page front rest next did NoMemory is split before call = re
   happened = Events-append donor_of SystemStep s (flat_map flushed is.pages) front u v is.happened before;
   donor = call.donor;
   begun = call.begun;
+  tells = call.tells;
+  clone = inl call.clone;
 }
 
 -- a refusal that is passed on
@@ -154,7 +156,7 @@ all_answers : (s t : State) (landed : ℕ) (text : Text) → CleansAll s landed 
 all_answers s t landed text is says =
     let front = flat_map flushed is.pages ++ made (done (did_oldest_dirty None)) ∷ [] in
     let last = cleaned (length is.pages) in
-    let ends : Happens donor_of SystemStep t last t = record { step = refl; begun = refl; clone = refl; tells = refl; sees = λ _. tt } in
+    let ends : Happens donor_of SystemStep t last t = record { step = refl; begun = refl; clone = record { now = tt; shows = tt; is = refl }; tells = refl; sees = λ _. tt } in
     record {
       events = front ++ last ∷ [];
       step = (whole_makes is.pages, Events-append donor_of SystemStep s front (last ∷ []) t t is.happened (t, ends, refl));
@@ -177,6 +179,8 @@ clean_breaks s t landed (Err e) is = record {
   happened = is.happened;
   donor = refl;
   begun = refl;
+  tells = refl;
+  clone = inl refl;
 }
 
 refusal_answers : (s t : State) (refusal : EngineRefusal) (text : Text) → Cleans s (Err refusal) t → SaysCause refusal text → Answers s lines.Clean text t
@@ -224,6 +228,8 @@ stopped_breaks s t (Because cause) is =
       happened = at.1;
       donor = stays.donor;
       begun = stays.begun;
+      tells = stays.tells;
+      clone = inl stays.clone;
     }
 stopped_breaks s t NoMemory is = is
 

@@ -1,8 +1,8 @@
 -- A fault of a disk by which a clone ended, or which came in the way of its rows, is in its count.
 use Rattle.std.proofs.Common.{◌≡◌, ◌⊎◌, inl, inr, ◌≤◌, ℕ, List, [], ◌∷◌, Bool, true, false, refl, sym, ap, subst, arith}
 use Rattle.clone_outside.specs.Causes.{Rose}
-use Rattle.clone_events.specs.World.{Stop, Progress, absent, copying, complete, broken, spent, Clone, no_clone, stop_now}
-use Rattle.clone_events.specs.Events.{Side, to_donor, to_recipient, Event, made, cleaned, looked, archived, started, started_before, readied, not_started, completed, completed_before, broke, broke_before, lost, lost_before, showed, incomplete, hidden, damaged, ordered, Breaks, Happens, Events}
+use Rattle.clone_events.specs.World.{Progress, absent, copying, complete, broken, spent, Clone, no_clone}
+use Rattle.clone_events.specs.Events.{Side, to_donor, to_recipient, Event, started, readied, completed, broke, lost, hidden, Happens, Events}
 use Rattle.clone_core.specs.declared.world.Ending.TheVariants.{RecipientFault, RestartsSpent}
 use Rattle.clone_core.specs.Ending.{ending_by, ending_of}
 use Rattle.clone_core.specs.System.{SystemStep, donor_of}
@@ -66,45 +66,29 @@ complete_met : (side : Side) (old : Progress) (doubted : Bool) → Met side comp
 complete_met side old doubted met = goes_on side old complete doubted (λ is. let e = is in cc) (λ is. let e = is in cc) met
 
 -- a fault ended it
-breaks_met : (side : Side) (now : Stop) (progress : Progress) (old new : Clone) → Breaks now progress old new → MetFault side new → Met side progress old.doubted
-breaks_met side now progress old new (inl is) met = subst (MetFault side) is met
-breaks_met side now progress old new (inr is) met = subst (MetFault side) is met
-
 broke_met : (side : Side) (s t : State) → Happens donor_of SystemStep s broke t → MetFault side t.clone → HasMet side s t
-broke_met to_donor s t is met = absurd (let e : broken ≡ spent = breaks_met to_donor (stop_now (donor_of s.donor)) broken s.clone t.clone is.clone.1 met in cc)
+broke_met to_donor s t is met = absurd (let e : broken ≡ spent = subst (MetFault to_donor) is.clone.is met in cc)
 broke_met to_recipient s t is met = inr is.step.1
 
 lost_met : (side : Side) (s t : State) → Happens donor_of SystemStep s lost t → MetFault side t.clone → HasMet side s t
 lost_met to_donor s t is met = inr is.step.1
-lost_met to_recipient s t is met = elim (breaks_met to_recipient (stop_now (donor_of s.donor)) spent s.clone t.clone is.clone.1 met) [
+lost_met to_recipient s t is met = elim (subst (MetFault to_recipient) is.clone.is met) [
   | inl ended ↦ absurd (let e : spent ≡ broken = ended in cc)
   | inr doubted ↦ inl (inr doubted)
 ]
 
 hidden_met : (side : Side) (s t : State) → Happens donor_of SystemStep s hidden t → MetFault side t.clone → HasMet side s t
-hidden_met to_donor s t is met = met_before to_donor s t _ is.clone.1 (λ m. m) met
+hidden_met to_donor s t is met = met_before to_donor s t _ is.clone.is (λ m. m) met
 hidden_met to_recipient s t is met = inr is.step.rose
 
 event_met : (side : Side) (s : State) (e : Event) (t : State) → Happens donor_of SystemStep s e t → MetFault side t.clone → HasMet side s t
-event_met side s (made m) t is met = met_before side s t _ is.clone (λ m. m) met
-event_met side s (cleaned landed) t is met = met_before side s t _ is.clone (λ m. m) met
-event_met side s (looked position) t is met = met_before side s t _ is.clone.1 (λ m. m) met
-event_met side s (archived limit reached) t is met = met_before side s t _ is.clone (λ m. m) met
-event_met side s started t is met = met_before side s t _ is.clone.1 (copying_met side s.clone.progress 0 s.clone.doubted) met
-event_met side s started_before t is met = met_before side s t _ is.clone.1 (λ m. m) met
-event_met side s (readied stages) t is met = met_before side s t _ is.clone.5 (copying_met side s.clone.progress stages s.clone.doubted) met
-event_met side s not_started t is met = met_before side s t _ is.clone.1 (λ m. m) met
-event_met side s (completed position) t is met = met_before side s t _ is.clone.3 (complete_met side s.clone.progress s.clone.doubted) met
-event_met side s (completed_before position) t is met = met_before side s t _ is.clone.2 (λ m. m) met
+event_met side s started t is met = met_before side s t _ is.clone.is (copying_met side s.clone.progress 0 s.clone.doubted) met
+event_met side s (readied stages) t is met = met_before side s t _ is.clone.is (copying_met side s.clone.progress stages s.clone.doubted) met
+event_met side s (completed position) t is met = met_before side s t _ is.clone.is (complete_met side s.clone.progress s.clone.doubted) met
 event_met side s broke t is met = broke_met side s t is met
-event_met side s broke_before t is met = met_before side s t _ is.clone.1 (λ m. m) met
 event_met side s lost t is met = lost_met side s t is met
-event_met side s lost_before t is met = met_before side s t _ is.clone.1 (λ m. m) met
-event_met side s (showed rows) t is met = met_before side s t _ is.clone.2 (λ m. m) met
-event_met side s incomplete t is met = met_before side s t _ is.clone.1 (λ m. m) met
 event_met side s hidden t is met = hidden_met side s t is met
-event_met side s (damaged space page why) t is met = met_before side s t _ is.clone.2 (λ m. m) met
-event_met side s (ordered to order) t is met = met_before side s t _ is.clone (λ m. m) met
+event_met side s e t is met = met_before side s t _ is.clone.is (λ m. m) met
 
 events_later : (side : Side) (s : State) (es : List Event) (t : State) → Events donor_of SystemStep s es t → faults side s ≤ faults side t
 events_later side s [] t is = omega (arith, ap (faults side) is)

@@ -1,5 +1,5 @@
 -- What lines do, by what their calls answered.
-use Rattle.std.proofs.Common.{◌≡◌, ◌≢◌, ℕ, List, [], ◌∷◌, refl, sym, ap, ◌∙◌, subst, Option, None, Result, Ok, Err, IfOk, OnErr, MatchResult, IsErr}
+use Rattle.std.proofs.Common.{◌≡◌, ◌≢◌, ℕ, List, [], ◌∷◌, refl, sym, ap, ◌∙◌, subst, Option, None, Result, Ok, Err, IfOk, OnErr, MatchResult, IsErr, inl, inr}
 use Rattle.std.specs.declared.alloc.AllocError.{AllocError}
 use Rattle.clone_script.specs.declared.lines.Line.{Line}
 use Rattle.clone_script.specs.declared.lines.Line.TheVariants as lines
@@ -13,13 +13,14 @@ use Rattle.clone_plain.specs.declared.refusal.Undone.{Undone}
 use Rattle.clone_plain.specs.Donor.{Donor}
 use Rattle.clone_plain.specs.Effects.{Undoes}
 use Rattle.clone_events.specs.World.{index_in}
-use Rattle.clone_events.specs.Events.{to_donor, to_recipient, Event, made, looked, archived, started, not_started, incomplete, ordered, event_text, Happens}
+use Rattle.clone_events.specs.Events.{to_donor, to_recipient, Event, made, looked, archived, started, broke, incomplete, ordered, event_text, Happens}
 use Rattle.clone_outside.specs.declared.disk.DiskOrder.{DiskOrder}
 use Rattle.clone_outside.specs.declared.disk.DiskOrder.TheVariants as orders
-use Rattle.clone_events.specs.Runs.{Makes, MakesOne, not_begun, all_clean, not_there}
+use Rattle.clone_events.specs.Runs.{Makes, MakesOne, not_begun, all_clean}
+use Rattle.clone_events.specs.Runs as goes
 use Rattle.clone_core.specs.System.{SystemStep, donor_of}
 use Rattle.clone_core.specs.Lines.{State, Answers, BreaksOff}
-use Rattle.clone_core.specs.Called.{Stays, Called, SaysCause, Notes}
+use Rattle.clone_core.specs.Called.{Stays, StaysUntold, Called, SaysCause, Notes}
 use Rattle.clone_core.proofs.StepLemmas.{refines}
 
 -- ---- one event
@@ -29,7 +30,7 @@ pub made_step : (s t : State) (m : Made) → Happens donor_of SystemStep s (made
 made_step s t m is = refines s.donor t.donor (made m) is.step
 
 pub same_stays : (s : State) → Stays s s
-same_stays s = record { donor = refl; begun = refl }
+same_stays s = record { donor = refl; begun = refl; tells = refl; clone = refl }
 
 -- a refusal that changes nothing: any but that of a drop in which the disk failed
 abbrev pub ChangesNothing : Call → Cause → Type 0
@@ -42,7 +43,7 @@ stays_after d call cause after nothing is = is
 
 -- it leaves the donor and the writers' counts
 pub refused_stays : (s t : State) (call : Call) (cause : Cause) → ChangesNothing call cause → Happens donor_of SystemStep s (made (refused call cause)) t → Stays s t
-refused_stays s t call cause nothing is = record { donor = stays_after (donor_of s.donor) call cause (donor_of t.donor) nothing (made_step s t (refused call cause) is).1; begun = is.begun }
+refused_stays s t call cause nothing is = record { donor = stays_after (donor_of s.donor) call cause (donor_of t.donor) nothing (made_step s t (refused call cause) is).1; begun = is.begun; tells = is.tells; clone = is.clone.is }
 
 -- a line of one event
 pub event_answers : {A : Type 0} (bytes : A → Text) (s t : State) (line : Line) (e : Event) (result : Result A AllocError) → Makes (index_in s.begun) line (e ∷ []) → Happens donor_of SystemStep s e t → IfOk result (λ a. bytes a ≡ event_text e)
@@ -53,7 +54,11 @@ event_answers bytes s t line e (Ok a) makes is says = record { events = e ∷ []
 -- ---- memory ran out
 
 at_once : (s t : State) (line : Line) (next : Event) (rest : List Event) → Makes (index_in s.begun) line (next ∷ rest) → Stays s t → BreaksOff s line t
-at_once s t line next rest makes stays = record { front = []; next = next; rest = rest; makes = makes; carried = tt; then = s; happened = refl; donor = stays.donor; begun = stays.begun }
+at_once s t line next rest makes stays = record { front = []; next = next; rest = rest; makes = makes; carried = tt; then = s; happened = refl; donor = stays.donor; begun = stays.begun; tells = stays.tells; clone = inl stays.clone }
+
+-- in events of the clone, which happened untold
+pub untold_breaks : (s t : State) (line : Line) (next : Event) (rest : List Event) → Makes (index_in s.begun) line (next ∷ rest) → StaysUntold s (next ∷ rest) t → BreaksOff s line t
+untold_breaks s t line next rest makes stays = record { front = []; next = next; rest = rest; makes = makes; carried = tt; then = s; happened = refl; donor = stays.donor; begun = stays.begun; tells = stays.tells; clone = inr (next ∷ rest, makes, stays.clone) }
 
 call_at_once : (s t : State) (line : Line) (call : Call) → ((es : List Event) → MakesOne call es → Makes (index_in s.begun) line es) → Stays s t → BreaksOff s line t
 call_at_once s t line call makes stays = at_once s t line (made (refused call NoSuchTrx)) [] (makes _ (refused call NoSuchTrx, refl, refl)) stays
@@ -79,12 +84,17 @@ breaks_at_once s t (lines.Tear byte) stays = at_once s t (lines.Tear byte) (orde
 breaks_at_once s t (lines.FailDonor call) stays = at_once s t (lines.FailDonor call) (ordered to_donor (orders.FailAt call)) [] refl stays
 breaks_at_once s t (lines.FailRecipient call) stays = at_once s t (lines.FailRecipient call) (ordered to_recipient (orders.FailAt call)) [] refl stays
 breaks_at_once s t lines.Start stays = at_once s t lines.Start started [] (started, tt, refl) stays
-breaks_at_once s t lines.Advance stays = at_once s t lines.Advance not_started [] (not_started, tt, refl) stays
-breaks_at_once s t lines.Finish stays = at_once s t lines.Finish not_started [] (not_started, tt, refl) stays
+breaks_at_once s t lines.Advance stays = at_once s t lines.Advance broke [] (goes.at_once broke tt refl) stays
+breaks_at_once s t lines.Finish stays = at_once s t lines.Finish broke [] (goes.at_once broke tt refl) stays
 breaks_at_once s t lines.Look stays = at_once s t lines.Look (looked 0) [] (looked 0, tt, refl) stays
 breaks_at_once s t (lines.Archive bytes) stays = at_once s t (lines.Archive bytes) (archived bytes None) [] (archived bytes None, refl, refl) stays
-breaks_at_once s t lines.Clone stays = at_once s t lines.Clone started (not_started ∷ []) (started, not_started, tt, tt, refl) stays
-breaks_at_once s t lines.Rows stays = at_once s t lines.Rows incomplete [] (not_there refl) stays
+breaks_at_once s t lines.Clone stays = at_once s t lines.Clone started (broke ∷ []) (started, broke ∷ [], tt, goes.at_once broke tt refl, refl) stays
+breaks_at_once s t lines.Rows stays = at_once s t lines.Rows incomplete [] (incomplete, tt, refl) stays
+
+-- whatever the result, an event of the clone happened untold
+pub event_breaks : {A : Type 0} (s t : State) (line : Line) (e : Event) (result : Result A AllocError) → Makes (index_in s.begun) line (e ∷ []) → StaysUntold s (e ∷ []) t → OnErr result (BreaksOff s line t)
+event_breaks s t line e (Ok a) makes stays = tt
+event_breaks s t line e (Err refusal) makes stays = untold_breaks s t line e [] makes stays
 
 -- whatever the result, nothing of the plain donor has changed
 pub stays_breaks : {A : Type 0} (s t : State) (line : Line) (result : Result A AllocError) → Stays s t → OnErr result (BreaksOff s line t)
@@ -144,7 +154,7 @@ drop_breaks s t line table did NoMemory (Err e) is other = breaks_at_once s t li
 
 -- a value that was got leaves the plain donor
 pub got_stays : (s t : State) (trx table key : ℕ) (value : Option (List ℕ)) → Happens donor_of SystemStep s (made (done (did_get trx table key value))) t → Stays s t
-got_stays s t trx table key value is = record { donor = (made_step s t _ is).1; begun = is.begun }
+got_stays s t trx table key value is = record { donor = (made_step s t _ is).1; begun = is.begun; tells = is.tells; clone = is.clone.is }
 
 -- what is said is said in other words
 pub said_is : {A : Type 0} (bytes : A → Text) (result : Result A AllocError) (text other : Text) → text ≡ other → IfOk result (λ a. bytes a ≡ text) → IfOk result (λ a. bytes a ≡ other)

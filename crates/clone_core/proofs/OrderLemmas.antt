@@ -5,9 +5,9 @@ use Rattle.clone_outside.specs.declared.disk.DiskOrder.{DiskOrder}
 use Rattle.clone_script.specs.declared.lines.Line.{Line}
 use Rattle.clone_script.specs.declared.lines.Line.TheVariants as lines
 use Rattle.clone_plain.specs.Calls.{Call, call_of, refused}
-use Rattle.clone_events.specs.Events.{Side, to_donor, to_recipient, Event, made, cleaned, looked, archived, started, started_before, readied, not_started, completed, completed_before, broke, broke_before, lost, lost_before, showed, incomplete, hidden, damaged, ordered, Events}
+use Rattle.clone_events.specs.Events.{Side, to_donor, to_recipient, Event, made, cleaned, looked, archived, started, stopped, readied, completed, broke, lost, again, showed, incomplete, hidden, damaged, ordered, Events}
 use Rattle.clone_events.specs.Headline.{donor_order, recipient_order}
-use Rattle.clone_events.specs.Runs.{Makes, MakesOne, MakesSet, not_begun, not_changed, set, MakesClean, all_clean, not_flushed, flushed, MakesEvent, MakesClone, Starts, Advances, Finishes, Archives, Looks, MakesRows, are_shown, not_there, not_read, not_sound}
+use Rattle.clone_events.specs.Runs.{Makes, MakesOne, MakesSet, not_begun, not_changed, set, MakesClean, all_clean, not_flushed, flushed, MakesEvent, GoesOn, at_once, by_stop, MakesClone, Starts, Advances, Finishes, Archives, Looks, ShowsOrNot}
 use Rattle.clone_engine.specs.Disks.{Visits}
 use Rattle.clone_outside.specs.DiskCalls.{DiskState}
 use Rattle.clone_engine.specs.Engine.{Engine}
@@ -77,17 +77,14 @@ event_gets side s (cleaned landed) t is = same_gets side s t is
 event_gets side s (looked position) t is = same_gets side s t is
 event_gets side s (archived limit reached) t is = archives_get side limit reached s t is
 event_gets side s started t is = recipient_gets side s t is
-event_gets side s started_before t is = same_gets side s t is
+event_gets side s (stopped at) t is = same_gets side s t is
 event_gets side s (readied stages) t is = copies_get side s t is
-event_gets side s not_started t is = same_gets side s t is
 event_gets side s (completed position) t is = copies_get side s t is
-event_gets side s (completed_before position) t is = same_gets side s t is
 event_gets side s broke t is = copies_get side s t is.0
-event_gets side s broke_before t is = same_gets side s t is
 event_gets side s lost t is = copies_get side s t is.0
-event_gets side s lost_before t is = same_gets side s t is
+event_gets side s (again wish answer) t is = same_gets side s t is
 event_gets side s (showed rows) t is = recipient_gets side s t is
-event_gets side s incomplete t is = recipient_gets side s t is
+event_gets side s incomplete t is = recipient_gets side s t is.0
 event_gets side s hidden t is = recipient_gets side s t is.visits
 event_gets side s (damaged space page why) t is = recipient_gets side s t is.0
 event_gets side s (ordered to_donor order) t is = donor_gets side s t order is
@@ -169,15 +166,17 @@ looks_none side e is = refl
 one_none : (side : Side) (Kind : Event → Type 0) (es : List Event) → ((e : Event) → Kind e → order_in side e ≡ None) → MakesEvent Kind es → filter_map (order_in side) es ≡ []
 one_none side Kind es none is = ap (filter_map (order_in side)) is.2 ∙ ap (λ o. cons_option o []) (none is.0 is.1)
 
+goes_none : (side : Side) (Kind : Event → Type 0) (es : List Event) → ((e : Event) → Kind e → order_in side e ≡ None) → GoesOn Kind es → filter_map (order_in side) es ≡ []
+goes_none side Kind es none (at_once e kind is) = ap (filter_map (order_in side)) is ∙ ap (λ o. cons_option o []) (none e kind)
+goes_none side Kind es none (by_stop at e kind is) = ap (filter_map (order_in side)) is ∙ ap (λ o. cons_option o []) (none e kind)
+
 clone_none : (side : Side) (es : List Event) → MakesClone es → filter_map (order_in side) es ≡ []
 clone_none side es is =
-    ap (filter_map (order_in side)) is.4 ∙ ap (λ o. cons_option o (cons_option (order_in side is.1) [])) (starts_none side is.0 is.2) ∙ ap (λ o. cons_option o []) (finishes_none side is.1 is.3)
+    ap (filter_map (order_in side)) is.4 ∙ ap (λ o. cons_option o (filter_map (order_in side) is.1)) (starts_none side is.0 is.2) ∙ goes_none side Finishes is.1 (finishes_none side) is.3
 
-rows_none : (side : Side) (es : List Event) → MakesRows es → filter_map (order_in side) es ≡ []
-rows_none side es (are_shown rows is) = ap (filter_map (order_in side)) is
-rows_none side es (not_there is) = ap (filter_map (order_in side)) is
-rows_none side es (not_read is) = ap (filter_map (order_in side)) is
-rows_none side es (not_sound space page why is) = ap (filter_map (order_in side)) is
+rows_none : (side : Side) (e : Event) → ShowsOrNot e → order_in side e ≡ None
+rows_none side (ordered to order) is = absurd is
+rows_none side e is = refl
 
 -- the orders of a line's events are the line's
 abbrev OfLine : Side → Line → List Event → Type 0
@@ -215,12 +214,12 @@ line_orders side next (lines.Tear byte) es is = to_donor_line side _ _ es refl r
 line_orders side next (lines.FailDonor call) es is = to_donor_line side _ _ es refl refl is
 line_orders side next (lines.FailRecipient call) es is = to_recipient_line side _ _ es refl refl is
 line_orders side next lines.Start es is = no_order side _ es refl refl (one_none side Starts es (starts_none side) is)
-line_orders side next lines.Advance es is = no_order side _ es refl refl (one_none side Advances es (advances_none side) is)
-line_orders side next lines.Finish es is = no_order side _ es refl refl (one_none side Finishes es (finishes_none side) is)
+line_orders side next lines.Advance es is = no_order side _ es refl refl (goes_none side Advances es (advances_none side) is)
+line_orders side next lines.Finish es is = no_order side _ es refl refl (goes_none side Finishes es (finishes_none side) is)
 line_orders side next lines.Look es is = no_order side _ es refl refl (one_none side Looks es (looks_none side) is)
 line_orders side next (lines.Archive bytes) es is = no_order side _ es refl refl (one_none side (Archives bytes) es (archives_none side bytes) is)
 line_orders side next lines.Clone es is = no_order side _ es refl refl (clone_none side es is)
-line_orders side next lines.Rows es is = no_order side _ es refl refl (rows_none side es is)
+line_orders side next lines.Rows es is = no_order side _ es refl refl (one_none side ShowsOrNot es (rows_none side) is)
 
 -- THE ORDERS OF A RUN
 pub run_orders : (side : Side) (s : State) (ls : List Line) (events : List (List Event)) (t : State) → Runs s ls events t → (disk_of side t.donor).orders ≡ (disk_of side s.donor).orders ++ filter_map (order_of side) ls

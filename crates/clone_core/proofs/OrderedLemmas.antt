@@ -9,6 +9,7 @@ use Rattle.clone_events.specs.World.{Clone}
 use Rattle.clone_events.specs.Events.{to_donor, to_recipient, ordered}
 use Rattle.clone_engine.specs.Disks.{with_order}
 use Rattle.clone_outside.specs.DiskCalls.{DiskState}
+use Rattle.clone_session.specs.declared.info.Stop as session
 use Rattle.clone_engine.specs.Donor as staged
 use Rattle.clone_engine.specs.Acts as act
 use Rattle.clone_engine.specs.Acts.{Acts}
@@ -27,13 +28,13 @@ same_donor d t disk is acts = acts.does.same ∙ ap (over d) (sym (ap (λ (x : s
 
 -- ---- a world as its fields are
 
-module _ (begun : finite.FinMap nat_cmp ℕ) (way : Course) (floor : ℕ) (doubted shown : Bool) where
+module _ (begun : finite.FinMap nat_cmp ℕ) (way : Course) (stop : Option session.Stop) (floor : ℕ) (doubted shown : Bool) where
   -- it, over this donor and this disk of a recipient
   abbrev pub world_of : staged.Donor → DiskState → State
   world_of d recipient = record {
     donor = record { donor = d; recipient = recipient };
     begun = begun;
-    clone = clone_of way d.cloning.stop floor doubted shown;
+    clone = clone_of way stop floor doubted shown;
     tells = is_some d.engine.disk.told && is_some recipient.told;
   }
 
@@ -45,7 +46,7 @@ module _ (begun : finite.FinMap nat_cmp ℕ) (way : Course) (floor : ℕ) (doubt
         happened = record {
           step = ap (λ (x : staged.Donor). record { donor = x; recipient = recipient }) same;
           begun = refl;
-          clone = ap (λ (x : staged.Donor). clone_of way x.cloning.stop floor doubted shown) same;
+          clone = record { now = tt; shows = tt; is = refl };
           tells = ap (λ (x : DiskState). is_some x.told && is_some recipient.told) disk;
           sees = λ _. tt;
         };
@@ -63,7 +64,7 @@ module _ (begun : finite.FinMap nat_cmp ℕ) (way : Course) (floor : ℕ) (doubt
         happened = record {
           step = ap (λ (x : DiskState). record { donor = d; recipient = x }) disk;
           begun = refl;
-          clone = refl;
+          clone = record { now = tt; shows = tt; is = refl };
           tells = ap (λ (x : DiskState). is_some d.engine.disk.told && is_some x.told) disk;
           sees = λ _. tt;
         };

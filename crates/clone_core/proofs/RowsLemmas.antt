@@ -27,10 +27,8 @@ use Rattle.clone_core.specs.declared.world.Course.{Course}
 use Rattle.clone_core.specs.declared.world.Course.TheVariants as course
 use Rattle.clone_core.specs.System.{donor_of, tell}
 use Rattle.clone_core.specs.Lines.{State}
-use Rattle.clone_core.specs.Called.{Stays}
-use Rattle.clone_core.specs.Showing.{ShowsRecovered, ShowsRows, Reads}
+use Rattle.clone_core.specs.Showing.{ShowsRecovered, ShowsList, Reads}
 use Rattle.clone_core.specs.Copied.{HoldsStop, IsIncomplete, HoldsEnded, HoldsClone, StandsAt, progress_of}
-use Rattle.clone_core.proofs.StepLemmas.{refines}
 use Rattle.clone_core.proofs.CallLemmas.{told_is, both_right}
 
 -- a disk that is recovered holds the same clone as before, and what is listed of it are its rows
@@ -170,7 +168,7 @@ sure_or_not tells clone = by tells clone.doubted refl refl
 
 -- the rows are the clone's, where that is sure
 rows_shown : ListedRows → (r : State) (new : DiskState) (list : List Row) → r.tells ≡ tell r.donor → HasEnded r.clone.progress → KnownIn r → Visits r.donor.recipient new → ForStep r.donor.recipient.told new.told (λ m n. ShowsRecovered m n list)
-    → ((rows : Rows) × (list ≡ rows_in rows)) → IsSure r.tells r.clone ⊎ (IsSure r.tells r.clone → ⊥) → ShowsRows r list (with_recipient r new (record r.clone { shown = true }))
+    → ((rows : Rows) × (list ≡ rows_in rows)) → IsSure r.tells r.clone ⊎ (IsSure r.tells r.clone → ⊥) → ShowsList r list (with_recipient r new (record r.clone { shown = true }))
 rows_shown listed r new list tells ended known visits step ascending (inl sure) =
     let at = held (donor_of r.donor) (is_some r.donor.donor.engine.disk.told) r.clone r.donor.recipient.told known (sure_of r r.clone tells sure) in
     let shows = step_at r.donor.recipient.told new.told _ at.0 at.1 step in
@@ -179,12 +177,12 @@ rows_shown listed r new list tells ended known visits step ascending (inl sure) 
     record {
       rows = rows.0;
       is = rows.1;
-      happened = record { step = record { donor = refl; recipient = visits }; begun = refl; clone = (ended, (λ _. rows.2), refl); tells = told_same r new tells visits; sees = λ _. tt };
+      happened = record { step = record { donor = refl; recipient = visits }; begun = refl; clone = record { now = tt; shows = record { ended = ended; are = λ _. rows.2 }; is = refl }; tells = told_same r new tells visits; sees = λ _. tt };
     }
 rows_shown listed r new list tells ended known visits step ascending (inr unsure) = record {
   rows = ascending.0;
   is = ascending.1;
-  happened = record { step = record { donor = refl; recipient = visits }; begun = refl; clone = (ended, (λ sure. absurd (unsure sure)), refl); tells = told_same r new tells visits; sees = λ _. tt };
+  happened = record { step = record { donor = refl; recipient = visits }; begun = refl; clone = record { now = tt; shows = record { ended = ended; are = λ sure. absurd (unsure sure) }; is = refl }; tells = told_same r new tells visits; sees = λ _. tt };
 }
 
 -- a complete clone that is sure isn't found incomplete
@@ -203,27 +201,27 @@ never_damaged r space page why known cause sure =
 reads_at : ListedRows → (r : State) (new : DiskState) (result : RowsRead) → r.tells ≡ tell r.donor → HasEnded r.clone.progress → KnownIn r → Read r.donor.recipient new result → Reads r result (with_recipient r new (noted result r.clone))
 reads_at listed r new (Ok list) tells ended known read = rows_shown listed r new list.items tells ended known read.visits read.rows read.ascending (sure_or_not r.tells r.clone)
 reads_at listed r new (Err Incomplete) tells ended known read = record {
-  step = record { donor = refl; recipient = read.visits };
+  step = (record { donor = refl; recipient = read.visits }, read.cause);
   begun = refl;
-  clone = (λ sure whole. never_incomplete r known read.cause (sure_of r r.clone tells sure) whole, refl);
+  clone = record { now = tt; shows = λ sure whole. never_incomplete r known read.cause (sure_of r r.clone tells sure) whole; is = refl };
   tells = told_same r new tells read.visits;
   sees = λ _. tt;
 }
 reads_at listed r new (Err (Damaged space page why)) tells ended known read = record {
   step = (record { donor = refl; recipient = read.visits }, record { why = why; word = refl; damage = read.cause });
   begun = refl;
-  clone = (ended, (λ sure. never_damaged r space page why known read.cause (sure_of r r.clone tells sure)), refl);
+  clone = record { now = tt; shows = (ended, λ sure. never_damaged r space page why known read.cause (sure_of r r.clone tells sure)); is = refl };
   tells = told_same r new tells read.visits;
   sees = λ _. tt;
 }
 reads_at listed r new (Err DiskFault) tells ended known read = record {
   step = record { visits = record { donor = refl; recipient = read.visits }; rose = read.fault refl };
   begun = refl;
-  clone = (ended, refl);
+  clone = record { now = tt; shows = ended; is = refl };
   tells = told_same r new tells read.visits;
   sees = λ _. tt;
 }
-reads_at listed r new (Err NoMemory) tells ended known read = record { donor = refl; begun = refl }
+reads_at listed r new (Err NoMemory) tells ended known read = record { donor = refl; begun = refl; tells = told_same r new tells read.visits; clone = (record { now = tt; shows = ended; is = refl }, refl) }
 
 -- WHAT HAPPENS: s is the world before it, and r the same by its fields
 pub reads : ListedRows → (way : Course) (r s : State) (new : DiskState) (result came : RowsRead) → r ≡ s → r.tells ≡ tell r.donor → r.clone.progress ≡ progress_of way → result ≡ came → HasEnded s.clone.progress
@@ -279,14 +277,6 @@ read_holds again_holds way r s new result came is at read_as ended holds read =
     })
 
 -- ---- what came of it
-
--- the plain donor stays, whatever comes of reading rows
-pub read_stays : (s t : State) (result : RowsRead) → Reads s result t → Stays s t
-read_stays s t (Ok list) is = record { donor = refines s.donor t.donor (showed is.rows) is.happened.step; begun = is.happened.begun }
-read_stays s t (Err Incomplete) is = record { donor = refines s.donor t.donor incomplete is.step; begun = is.begun }
-read_stays s t (Err (Damaged space page why)) is = record { donor = refines s.donor t.donor (damaged space page _) is.step; begun = is.begun }
-read_stays s t (Err DiskFault) is = record { donor = refines s.donor t.donor hidden is.step; begun = is.begun }
-read_stays s t (Err NoMemory) is = is
 
 -- it is told by the refusal
 pub read_as : (s t : State) (result : RowsRead) (refusal : RecoverRefusal) → result ≡ Err refusal → Reads s result t → Reads s (Err refusal) t

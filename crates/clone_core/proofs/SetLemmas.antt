@@ -1,5 +1,5 @@
 -- What a `set` does, by what its calls answered.
-use Rattle.std.proofs.Common.{◌≡◌, ℕ, ◌+◌, List, [], ◌∷◌, ◌++◌, length, refl, sym, ap, ◌∙◌, subst, Result, Ok, Err, IfOk, OnErr, MatchResult, IsErr, IsErrAnd, codes, decimal}
+use Rattle.std.proofs.Common.{◌≡◌, ℕ, ◌+◌, List, [], ◌∷◌, ◌++◌, length, refl, sym, ap, ◌∙◌, subst, Result, Ok, Err, IfOk, OnErr, MatchResult, IsErr, IsErrAnd, codes, decimal, inl}
 use Rattle.std.specs.declared.alloc.AllocError.{AllocError}
 use Rattle.clone_script.specs.declared.lines.Line.TheVariants as lines
 use Rattle.clone_plain.specs.declared.refusal.Cause.{Cause}
@@ -57,6 +57,8 @@ put_refused s u t writer table key trx value NoMemory begins is = record {
   happened = (u, begins, refl);
   donor = is.donor;
   begun = is.begun;
+  tells = is.tells;
+  clone = inl is.clone;
 }
 
 -- its commits are those of before
@@ -90,6 +92,8 @@ set_commits s u v t writer table key trx value (Err NoMemory) begins puts is = r
   happened = (u, begins, (v, puts, refl));
   donor = is.donor;
   begun = is.begun;
+  tells = is.tells;
+  clone = inl is.clone;
 }
 
 -- a refusal that is passed on
@@ -150,7 +154,7 @@ refused_breaks s t writer table key value (Err (Because cause)) is failed =
     let at = Events-split s is.front (last ∷ []) t is.happened in
     let P : State → Type 0 = λ w. Happens donor_of SystemStep at.0 last w in
     let stays = refused_stays at.0 t is.call cause (set_nothing writer _ table key value is.front is.call cause is.makes) (subst P at.2.2 at.2.1) in
-    record { front = is.front; next = last; rest = []; makes = is.makes; carried = is.carried; then = at.0; happened = at.1; donor = stays.donor; begun = stays.begun }
+    record { front = is.front; next = last; rest = []; makes = is.makes; carried = is.carried; then = at.0; happened = at.1; donor = stays.donor; begun = stays.begun; tells = stays.tells; clone = inl stays.clone }
 refused_breaks s t writer table key value (Err NoMemory) is failed = is
 
 pub set_breaks : {A : Type 0} (s t : State) (writer table key : ℕ) (value : List ℕ) (called : Result ℕ EngineRefusal) (result : Result A AllocError) → Sets s writer table key value called t → OnErr result (IsErr called) → OnErr result (BreaksOff s (lines.Set writer table key value) t)

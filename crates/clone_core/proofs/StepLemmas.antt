@@ -14,7 +14,7 @@ use Rattle.clone_plain.specs.Causes.{drop_cause, least_holder, no_table, whether
 use Rattle.clone_plain.specs.Donor.{Donor}
 use Rattle.clone_plain.specs.Effects.{dropped, put_of, delete_of}
 use Rattle.clone_plain.specs.Calls.{Call, create, drop, begin, put, delete, get, undo_one, commit, flush_begin, flush_half, flush_land, oldest_dirty, checkpoint, end, Done, did_create, did_drop, did_begin, did_put, did_delete, did_get, did_undo_one, did_commit, did_flush_begin, did_flush_half, did_flush_land, did_oldest_dirty, did_checkpoint, did_end, Made, done, refused, call_of, cause_of, is_below, AfterRefusal, IsRefused, PlainStep}
-use Rattle.clone_events.specs.Events.{to_donor, to_recipient, Event, made, cleaned, looked, archived, started, started_before, readied, not_started, completed, completed_before, broke, broke_before, lost, lost_before, showed, incomplete, hidden, damaged, ordered, PlainEvent}
+use Rattle.clone_events.specs.Events.{to_donor, to_recipient, Event, made, cleaned, looked, archived, started, stopped, readied, completed, broke, lost, again, showed, incomplete, hidden, damaged, ordered, PlainEvent}
 use Rattle.clone_trx.proofs.CauseLemmas.{both_none}
 use Rattle.clone_trx.proofs.WalkLemmas.{walk_missed}
 use Rattle.clone_trx.specs.Ways.{Way, reads, walks, stops, writes, freshens, lengthens, makes, drops, ends, CarriesDrop, Goes, Writes, Misses, Answers, held, page_in}
@@ -310,17 +310,14 @@ refines s t (cleaned landed) is = same_donor s t is
 refines s t (looked position) is = same_donor s t is
 refines s t (archived limit reached) is = ap (λ (e : Engine). e.donor) is.archives.1
 refines s t started is = of_donor s t is.donor
-refines s t started_before is = same_donor s t is
+refines s t (stopped at) is = same_donor s t is
 refines s t (readied stages) is = is.donor.donor
-refines s t not_started is = same_donor s t is
 refines s t (completed position) is = is.donor.donor
-refines s t (completed_before position) is = same_donor s t is
 refines s t broke is = is.0.donor.donor
-refines s t broke_before is = same_donor s t is
 refines s t lost is = is.0.donor.donor
-refines s t lost_before is = same_donor s t is
+refines s t (again wish answer) is = same_donor s t is
 refines s t (showed rows) is = of_donor s t is.donor
-refines s t incomplete is = of_donor s t is.donor
+refines s t incomplete is = of_donor s t is.0.donor
 refines s t hidden is = of_donor s t is.visits.donor
 refines s t (damaged space page why) is = of_donor s t is.0.donor
 refines s t (ordered to_donor order) is = ap donor_of is

@@ -26,15 +26,6 @@ stop_is (Some at) stop is =
     let moment : stop_of is.0 ≡ stop_now at = λ i. record { position = is.2 i; drops = is.3 i } in
     ap (λ (s : Option session.Stop). option_map stop_of s) is.1 ∙ ap (λ (s : Stop). Some s) moment
 
--- it may be passed now
-pub moment_from : (at : Option plain.Donor) (d : plain.Donor) → unwrap_or (moment_of at) (stop_now d) ≡ stop_now (unwrap_or at d)
-moment_from None d = refl
-moment_from (Some at) d = refl
-
-pub moment_if : (now : Bool) (at : Option plain.Donor) (d : plain.Donor) → moment_of (cond now (Some (unwrap_or at d)) at) ≡ cond now (Some (unwrap_or (moment_of at) (stop_now d))) (moment_of at)
-moment_if true at d = ap (λ (s : Stop). Some s) (sym (moment_from at d))
-moment_if false at d = refl
-
 -- all of the history stands before the moment that stands
 whole_history : (d : plain.Donor) → history d ≡ before_stop (stop_now d) d
 whole_history d =
@@ -68,11 +59,6 @@ passed_if false d floor at is = is
 pub passed_either : (d : plain.Donor) (floor : ℕ) (at now : Option plain.Donor) → (now ≡ at) ⊎ (now ≡ Some (unwrap_or at d)) → Stopped d floor at → Stopped d floor now
 passed_either d floor at now (inl same) is = subst (Stopped d floor) (sym same) is
 passed_either d floor at now (inr passes) is = subst (Stopped d floor) (sym passes) (passed d floor at is)
-
--- what was looked up isn't behind it
-pub not_behind : (d : plain.Donor) (floor : ℕ) (at : Option plain.Donor) → Stopped d floor at → floor ≤ (unwrap_or (moment_of at) (stop_now d)).position
-not_behind d floor None is = is.low
-not_behind d floor (Some at) is = is.reached (stop_now at) refl
 
 -- a clone that holds has such a stop
 pub holds_stopped : (d : staged.Donor) (tells : Bool) (clone : Clone) (told : Option DiskImage) (way : Course) (at : Option plain.Donor) → HoldsClone d tells clone told way → clone.stop ≡ moment_of at → WasAt d.engine.donor at clone.stop → Stopped d.engine.donor clone.floor at

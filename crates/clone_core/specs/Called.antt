@@ -13,14 +13,23 @@ use Rattle.clone_plain.specs.Calls.{Call, Done, did_oldest_dirty, done, refused,
 use Rattle.clone_events.specs.World.{index_in}
 use Rattle.clone_events.specs.Events.{Event, event_text, made, said, Happens}
 use Rattle.clone_events.specs.Runs.{MakesSet, flushed}
-use Rattle.clone_events.specs.BreaksOff.{IsDone}
+use Rattle.clone_events.specs.BreaksOff.{IsDone, Becomes}
 use Rattle.clone_core.specs.System.{SystemStep, donor_of}
 use Rattle.clone_core.specs.Lines.{State, Events, BreaksOff}
 
--- what the plain donor is stays, and so do the writers' indexes
+-- what the plain donor is stays, and so do the writers' indexes and the clone
 pub record Stays (s t : State) : Type 0 where
   pub donor : donor_of t.donor ≡ donor_of s.donor
   pub begun : t.begun ≡ s.begun
+  pub tells : t.tells ≡ s.tells
+  pub clone : t.clone ≡ s.clone
+
+-- the same, but that the clone became another by these events, which weren't told
+pub record StaysUntold (s : State) (events : List Event) (t : State) : Type 0 where
+  pub donor : donor_of t.donor ≡ donor_of s.donor
+  pub begun : t.begun ≡ s.begun
+  pub tells : t.tells ≡ s.tells
+  pub clone : Becomes (donor_of s.donor) s.tells s.clone events t.clone
 
 -- a call of the donor: it was carried out, or refused for a cause, or there was no memory for it
 abbrev pub Called : {X : Type 0} → State → Call → (X → Done) → Result X EngineRefusal → State

@@ -7,7 +7,7 @@ use Rattle.clone_model.specs.History.{fold}
 use Rattle.clone_recover.specs.Restores.{IsRecoveredDisk}
 use Rattle.clone_staged.specs.Holds.{HoldsCopy}
 use Rattle.clone_plain.specs.Donor.{Donor, history}
-use Rattle.clone_events.specs.World.{Stop, Progress, absent, copying, complete, broken, spent, Clone, HasEnded, IsSure, before_stop}
+use Rattle.clone_events.specs.World.{Stop, Progress, absent, copying, complete, broken, spent, Clone, HasEnded, IsSure, before_stop, stop_now}
 use Rattle.clone_session.specs.declared.info.Stop as session
 use Rattle.clone_engine.specs.Donor as staged
 use Rattle.clone_request.specs.Advancing.{IsUnfinished}
@@ -23,7 +23,7 @@ progress_of (course.Complete position) = complete
 progress_of course.Broken = broken
 progress_of course.Spent = spent
 
--- the last stop of a donor
+-- the stop that a donor came to, as the world keeps it
 abbrev pub stop_of : session.Stop → Stop
 stop_of s = record { position = s.position; drops = s.drops }
 
@@ -58,11 +58,13 @@ abbrev pub WasAt : Donor → Option Donor → Option Stop → Type 0
 WasAt d at stop =
     ForSome at (λ was. ForSome stop (λ s. history was ≡ before_stop s d))
 
--- a clone is under way, and at its stop the donor had the history before that
+-- a clone is under way; its stop is that of its session, and then the donor had the history before
+-- it
 pub record IsOnItsWay (d : staged.Donor) (r : Requester) (told : Option DiskImage)
     (stop : Option Stop) : Type 0 where
   pub at : Option Donor
   pub way : IsUnderWay d r told at
+  pub is : stop ≡ option_map stop_now at
   pub was : WasAt d.engine.donor at stop
 
 -- how a clone stands that has come so far

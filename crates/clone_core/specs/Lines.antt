@@ -1,8 +1,10 @@
 -- A world as contracts see it, and what a line of a script does to it.
-use Rattle.std.specs.Prelude.{◌≡◌, List}
+use Rattle.std.specs.Prelude.{◌≡◌, List, None}
 use Rattle.std.specs.FinMap as finite
+use Rattle.clone_model.specs.declared.config.Config.{Config}
 use Rattle.clone_script.specs.declared.lines.Line.{Line}
 use Rattle.clone_plain.specs.Answers.{Text}
+use Rattle.clone_plain.specs.Donor.{Donor}
 use Rattle.clone_events.specs.World.{World, no_clone}
 use Rattle.clone_events.specs.Events.{Event, said}
 use Rattle.clone_events.specs.Events as plain_events
@@ -15,9 +17,15 @@ use Rattle.clone_core.specs.System.{System, SystemStep, donor_of, tell}
 abbrev pub State : Type 0
 State = World System
 
--- a world in which nothing has happened
-pub record IsNew (s : State) : Type 0 where
+-- the plain donor of a world, with the indexes and the clone
+abbrev pub plain_of : State → World Donor
+plain_of s =
+    record { donor = donor_of s.donor; begun = s.begun; clone = s.clone; tells = s.tells }
+
+-- a world in which nothing has happened, over an engine of these sizes
+pub record IsNew (config : Config) (s : State) : Type 0 where
   pub donor : IsOpened s.donor.donor.engine
+  pub session : s.donor.donor.cloning.session ≡ None
   pub begun : s.begun ≡ finite.empty
   pub clone : s.clone ≡ no_clone
   pub tells : s.tells ≡ tell s.donor

@@ -1,5 +1,5 @@
 -- What comes of reading the rows of a recipient's disk.
-use Rattle.std.specs.Prelude.{◌≡◌, ◌<◌, ◌^◌, List, Vec, Result, Ok, Err}
+use Rattle.std.specs.Prelude.{◌≡◌, ◌<◌, ◌^◌, [], ◌∷◌, List, Vec, Result, Ok, Err}
 use Rattle.std.specs.declared.alloc.Global.{Global}
 use Rattle.clone_outside.specs.Disk.{DiskImage}
 use Rattle.clone_model.specs.History.{Row, Rows, rows_in}
@@ -11,7 +11,7 @@ use Rattle.clone_recover.specs.declared.refusal.RecoverRefusal.TheVariants.{Inco
 use Rattle.clone_events.specs.Events.{Happens, showed, incomplete, hidden, damaged}
 use Rattle.clone_core.specs.System.{SystemStep, donor_of, why_text}
 use Rattle.clone_core.specs.Lines.{State}
-use Rattle.clone_core.specs.Called.{Stays}
+use Rattle.clone_core.specs.Called.{StaysUntold}
 
 -- a disk is recovered, and these are its rows
 pub record ShowsRecovered (old new : DiskImage) (list : List Row) : Type 0 where
@@ -21,16 +21,16 @@ pub record ShowsRecovered (old new : DiskImage) (list : List Row) : Type 0 where
   pub lists : ListsRows new list
 
 -- these rows are shown
-pub record ShowsRows (s : State) (list : List Row) (t : State) : Type 0 where
+pub record ShowsList (s : State) (list : List Row) (t : State) : Type 0 where
   pub rows : Rows
   pub is : list ≡ rows_in rows
   pub happened : Happens donor_of SystemStep s (showed rows) t
 
 -- rows, by what came of reading them
 abbrev pub Reads : State → Result (Vec Row Global) RecoverRefusal → State → Type 0
-Reads s (Ok list) t = ShowsRows s list.items t
+Reads s (Ok list) t = ShowsList s list.items t
 Reads s (Err Incomplete) t = Happens donor_of SystemStep s incomplete t
 Reads s (Err (Damaged space page why)) t =
     Happens donor_of SystemStep s (damaged space page (why_text why)) t
 Reads s (Err DiskFault) t = Happens donor_of SystemStep s hidden t
-Reads s (Err NoMemory) t = Stays s t
+Reads s (Err NoMemory) t = StaysUntold s (hidden ∷ []) t

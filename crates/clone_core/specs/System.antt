@@ -3,13 +3,13 @@ use Rattle.std.specs.Prelude.{ℕ, ◌≡◌, ◌&&◌, is_some, Bool, Ok, Err, 
 use Rattle.std.specs.declared.option.Option.{Option}
 use Rattle.clone_outside.specs.Causes.{Rose}
 use Rattle.clone_outside.specs.Disk.{ForTold}
-use Rattle.clone_recover.specs.Restores.{IsCause}
+use Rattle.clone_recover.specs.Restores.{IsCause, IsIncomplete}
 use Rattle.clone_recover.specs.declared.refusal.Why.{Why}
 use Rattle.clone_recover.specs.declared.refusal.Why.TheVariants.{Header, Redo, Dictionary, Undo, Chain}
 use Rattle.clone_recover.specs.declared.refusal.RecoverRefusal.TheVariants.{Damaged}
 use Rattle.clone_plain.specs.Donor.{Donor}
 use Rattle.clone_plain.specs.Answers.{Text}
-use Rattle.clone_events.specs.Events.{to_donor, to_recipient, Event, made, cleaned, looked, archived, started, started_before, readied, not_started, completed, completed_before, broke, broke_before, lost, lost_before, showed, incomplete, hidden, damaged, ordered}
+use Rattle.clone_events.specs.Events.{to_donor, to_recipient, Event, made, cleaned, looked, archived, started, stopped, readied, completed, broke, lost, again, showed, incomplete, hidden, damaged, ordered}
 use Rattle.clone_engine.specs.Disks.{Visits, with_order}
 use Rattle.clone_outside.specs.DiskCalls.{DiskState}
 use Rattle.clone_plain.specs.Calls.{Made, done, refused, call_of}
@@ -71,26 +71,24 @@ pub record ArchivesTo (limit : ℕ) (reached : Option ℕ) (s t : System) : Type
   pub archives : Does (act.Archive limit reached) s.donor t.donor
   pub recipient : t.recipient ≡ s.recipient
 
--- AN EVENT, in a donor and the disk of a recipient. A clone goes on by calls of both; what is
--- answered of it later asks nothing; and rows recover the recipient's disk.
+-- AN EVENT, in a donor and the disk of a recipient. A clone goes on by calls of both, and its stop
+-- is a moment of the step in which it lies; what is told of it again asks nothing; and rows recover
+-- the recipient's disk.
 abbrev pub SystemStep : System → Event → System → Type 0
 SystemStep s (made m) t = CallStep s.donor m t.donor × (t.recipient ≡ s.recipient)
 SystemStep s (cleaned landed) t = t ≡ s
 SystemStep s (looked position) t = t ≡ s
 SystemStep s (archived limit reached) t = ArchivesTo limit reached s t
 SystemStep s started t = VisitsRecipient s t
-SystemStep s started_before t = t ≡ s
+SystemStep s (stopped at) t = t ≡ s
 SystemStep s (readied stages) t = CopiesOn s t
-SystemStep s not_started t = t ≡ s
 SystemStep s (completed position) t = CopiesOn s t
-SystemStep s (completed_before position) t = t ≡ s
 SystemStep s broke t = CopiesOn s t × Rose s.recipient.failures t.recipient.failures
-SystemStep s broke_before t = t ≡ s
 SystemStep s lost t =
     CopiesOn s t × Rose s.donor.engine.disk.failures t.donor.engine.disk.failures
-SystemStep s lost_before t = t ≡ s
+SystemStep s (again wish answer) t = t ≡ s
 SystemStep s (showed rows) t = VisitsRecipient s t
-SystemStep s incomplete t = VisitsRecipient s t
+SystemStep s incomplete t = VisitsRecipient s t × ForTold s.recipient.told IsIncomplete
 SystemStep s hidden t = FailsRecipient s t
 SystemStep s (damaged space page why) t =
     VisitsRecipient s t × FindsDamage s.recipient space page why

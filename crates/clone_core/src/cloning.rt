@@ -1,8 +1,8 @@
 ghost use Rattle.std.specs.Prelude.{◌≡◌, IfOk, Ok, OnErr};
 ghost use Rattle.std.specs.String.{string_bytes};
-ghost use Rattle.clone_events.specs.Runs.{Advances, Finishes, Starts};
+ghost use Rattle.clone_events.specs.Runs.{Advances, Finishes};
 ghost use Rattle.clone_script.specs.declared.lines.Line.TheVariants as lines;
-ghost use Rattle.clone_core.specs.CloneEvents.{MakesHappen, event_of};
+ghost use Rattle.clone_core.specs.CloneEvents.{Begins, MakesHappen};
 ghost use Rattle.clone_core.specs.Lines.{Answers, BreaksOff};
 
 use crate::World;
@@ -57,7 +57,7 @@ impl<D: PageDisk, R: PageDisk> World<D, R> {
 
     // A clone begins, unless one began before.
     fn start(&mut self, alloc: Global) -> Result<Happened, AllocError>
-        ensures { MakesHappen Starts self.old result self.new }
+        ensures { Begins self.old result self.new }
     {
         let Course::Absent = self.course else {
             return Ok(Happened::StartedBefore);
@@ -78,7 +78,8 @@ impl<D: PageDisk, R: PageDisk> World<D, R> {
         }
     }
 
-    // The next stage of the clone is copied, or the clone is completed.
+    // The next stage of the clone is copied, or the clone is completed. As long as its session
+    // stands the donor's stop is the clone's.
     fn advance(&mut self, alloc: Global) -> Result<Happened, AllocError>
         ensures { MakesHappen Advances self.old result self.new }
     {
@@ -94,7 +95,9 @@ impl<D: PageDisk, R: PageDisk> World<D, R> {
             Course::Spent => return Ok(Happened::LostBefore),
             Course::Copying(requester) => requester,
         };
-        match requester.advance(alloc, &mut self.donor, &mut self.recipient, self.floor) {
+        let advanced = requester.advance(alloc, &mut self.donor, &mut self.recipient, self.floor);
+        self.stop = self.donor.stop();
+        match advanced {
             Ok(Advanced::Ready { stage }) => Ok(Happened::Ready { stages: stage }),
             Ok(Advanced::Complete { position }) => {
                 self.course = Course::Complete { position };

@@ -1,36 +1,31 @@
 ghost use Rattle.std.specs.Prelude.{◌≡◌, ◌≤◌, ◌++◌, ℕ, List, length};
 ghost use Rattle.std.specs.List.{filter_map};
 ghost use Rattle.clone_outside.specs.Causes.{Rose};
+ghost use Rattle.clone_model.specs.declared.config.Config.{Config};
 ghost use Rattle.clone_script.specs.declared.lines.Line.{Line};
-ghost use Rattle.clone_events.specs.Events.{Event};
-ghost use Rattle.clone_events.specs.Headline.{AreCommits, AreDrops, AreSets, ShowsStop, all_events, donor_order, recipient_order};
-ghost use Rattle.clone_events.specs.World.{IsWithin, no_clone};
+ghost use Rattle.clone_events.specs.Events.{Event, PlainEvent};
+ghost use Rattle.clone_events.specs.BreaksOff as plain;
+ghost use Rattle.clone_events.specs.Headline.{donor_order, recipient_order};
+ghost use Rattle.clone_events.specs.Runs as plain_runs;
+ghost use Rattle.clone_events.specs.World.{IsWithin};
 ghost use Rattle.clone_core.specs.System.{donor_of};
 ghost use Rattle.clone_core.specs.Ending.{ending_of};
-ghost use Rattle.clone_core.specs.Lines.{State, IsNew, Runs};
+ghost use Rattle.clone_core.specs.Lines.{State, BreaksOff, IsNew, Runs, plain_of};
 ghost use Rattle.clone_core.specs.declared.world.Ending.TheVariants.{RecipientFault, RestartsSpent};
 
-/// Each run of a world from the beginning: its binlog has a commit for each position that was
-/// answered, that of a `set` with its one change; its drops are those that were answered, and maybe
-/// those in which the disk failed; the rows shown are those of the stop, where they are known; each
-/// line adds at most one commit, and one transaction of each writer; each disk got the orders of
-/// the lines that are for it, and no others; and a fault of a disk by which a clone ended is in its
-/// count.
+/// A run of a world is one of its plain donor, and so is what a line has done where memory ran out
+/// in it. In each run from the beginning each line adds at most one commit, and one transaction of
+/// each writer; each disk got the orders of the lines that are for it, and no others; and a fault
+/// of a disk by which a clone ended is in its count.
 pub fn run_laws()
-    ensures commits { (s : State) (lines : List Line) (events : List (List Event)) (t : State)
-        → IsNew s → Runs s lines events t
-        → AreCommits (all_events events) (donor_of t.donor).binlog }
-    ensures drops { (s : State) (lines : List Line) (events : List (List Event)) (t : State)
-        → IsNew s → Runs s lines events t
-        → AreDrops 0 (all_events events) (donor_of t.donor).drops }
-    ensures sets { (s : State) (lines : List Line) (events : List (List Event)) (t : State)
-        → IsNew s → Runs s lines events t → AreSets lines events (donor_of t.donor).binlog }
-    ensures stop { (s : State) (lines : List Line) (events : List (List Event)) (t : State)
-        → IsNew s → Runs s lines events t → ShowsStop (donor_of t.donor).binlog
-        (donor_of t.donor).drops t.tells no_clone (all_events events) }
-    ensures within { (s : State) (lines : List Line) (events : List (List Event)) (t : State)
-        → (n : ℕ)
-        → IsNew s → Runs s lines events t → length lines ≤ n → IsWithin donor_of n t }
+    ensures plain { (s : State) (lines : List Line) (events : List (List Event)) (t : State)
+        → Runs s lines events t
+        → plain_runs.Runs (λ d. d) PlainEvent (plain_of s) lines events (plain_of t) }
+    ensures breaks { (s : State) (line : Line) (t : State) → BreaksOff s line t
+        → plain.BreaksOff (λ d. d) PlainEvent (plain_of s) line (plain_of t) }
+    ensures within { (config : Config) (s : State) (lines : List Line)
+        → (events : List (List Event)) (t : State) (n : ℕ)
+        → IsNew config s → Runs s lines events t → length lines ≤ n → IsWithin donor_of n t }
     ensures donor_orders { (s : State) (lines : List Line) (events : List (List Event)) (t : State)
         → Runs s lines events t → t.donor.donor.engine.disk.orders
         ≡ s.donor.donor.engine.disk.orders ++ filter_map donor_order lines }
@@ -39,10 +34,12 @@ pub fn run_laws()
         ≡ s.donor.recipient.orders ++ filter_map recipient_order lines }
     ensures tells { (s : State) (lines : List Line) (events : List (List Event)) (t : State)
         → Runs s lines events t → t.tells ≡ s.tells }
-    ensures recipient_fault { (s : State) (lines : List Line) (events : List (List Event))
-        → (t : State) → IsNew s → Runs s lines events t → ending_of t.clone ≡ RecipientFault
+    ensures recipient_fault { (config : Config) (s : State) (lines : List Line)
+        → (events : List (List Event)) (t : State) → IsNew config s → Runs s lines events t
+        → ending_of t.clone ≡ RecipientFault
         → Rose s.donor.recipient.failures t.donor.recipient.failures }
-    ensures donor_fault { (s : State) (lines : List Line) (events : List (List Event)) (t : State)
-        → IsNew s → Runs s lines events t → ending_of t.clone ≡ RestartsSpent
+    ensures donor_fault { (config : Config) (s : State) (lines : List Line)
+        → (events : List (List Event)) (t : State) → IsNew config s → Runs s lines events t
+        → ending_of t.clone ≡ RestartsSpent
         → Rose s.donor.donor.engine.disk.failures t.donor.donor.engine.disk.failures }
 {}

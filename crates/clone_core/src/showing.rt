@@ -24,7 +24,7 @@ impl<D: PageDisk, R: PageDisk> World<D, R> {
         ensures err { OnErr result (BreaksOff self.old lines.Look self.new) }
     {
         let position = self.donor.look();
-        if self.donor.stop().is_none() {
+        if self.stop.is_none() {
             self.floor = position;
         }
         format!(in alloc; "position {position}")

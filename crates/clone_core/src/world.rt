@@ -1,11 +1,12 @@
-//! The world between two lines of a script. The stop of a clone is within the donor's history, and
-//! so is the floor, which is not past the stop. Until a clone is begun the recipient's disk is
-//! blank; a complete clone is complete at its stop. What the recipient's disk holds, where that is
-//! told, is what the course of the clone says.
+//! The world between two lines of a script. The stop of a clone is that of its session, within the
+//! donor's history, and so is the floor, which is not past the stop. Until a clone is begun the
+//! recipient's disk is blank; a complete clone is complete at its stop. What the recipient's disk
+//! holds, where that is told, is what the course of the clone says.
 ghost use Rattle.std.specs.Prelude.{◌≡◌, ◌^◌, ◌-◌, IfOk, None, OnErr, option_map};
 ghost use Rattle.std.specs.String.{string_bytes};
 ghost use Rattle.clone_outside.specs.Disk.{ForTold, blank};
 ghost use Rattle.clone_outside.specs.declared.disk.DiskOrder.TheVariants as order;
+ghost use Rattle.clone_model.specs.declared.config.Config.{Config};
 ghost use Rattle.clone_events.specs.World.{IsWithin};
 ghost use Rattle.clone_engine.specs.Opened.{IsOpened};
 ghost use Rattle.clone_engine.specs.Taken.{IsTaken, nothing};
@@ -54,12 +55,13 @@ pub enum Ending {
 }
 
 /// A donor, the disk of a recipient, how many transactions each writer has begun, and the clone
-/// that is taken of the donor.
+/// that is taken of the donor, with its stop once it has come to that.
 pub struct World<D: PageDisk, R: PageDisk> {
     pub(crate) donor: Donor<D>,
     pub(crate) recipient: R,
     pub(crate) begun: Begun,
     pub(crate) course: Course,
+    pub(crate) stop: Option<Stop>,
     pub(crate) floor: u64,
     pub(crate) doubted: bool,
     pub(crate) shown: bool,
@@ -84,25 +86,24 @@ impl<D: PageDisk, R: PageDisk> Model for World<D, R> {
         recipient = R.state w.recipient;
       };
       begun = w.begun;
-      clone = clone_of w.course w.donor.cloning.stop w.floor w.doubted w.shown;
+      clone = clone_of w.course w.stop w.floor w.doubted w.shown;
       tells = is_some w.donor.engine.disk.told && is_some (R.state w.recipient).told;
     } };
 
     ghost invariant = { λ w. HoldsClone w.donor
         (is_some w.donor.engine.disk.told && is_some (R.state w.recipient).told)
-        (clone_of w.course w.donor.cloning.stop w.floor w.doubted w.shown)
+        (clone_of w.course w.stop w.floor w.doubted w.shown)
         (R.state w.recipient).told w.course };
 }
 
 impl<D: PageDisk, R: PageDisk> World<D, R> {
     /// A donor of which nothing was asked, and the empty disk of a recipient.
     pub fn new(alloc: Global, donor: Donor<D>, recipient: R) -> World<D, R>
-        requires opened { IsOpened donor.engine }
         requires taken { IsTaken donor nothing }
         requires idle { donor.cloning.session ≡ None }
         requires stop { donor.cloning.stop ≡ None }
         requires blank { ForTold (R.state recipient).told (λ m. m ≡ blank) }
-        ensures new { IsNew result }
+        ensures new { (config : Config) → IsOpened donor.engine → IsNew config result }
         ensures donor { result.donor.donor ≡ donor }
         ensures recipient { result.donor.recipient ≡ R.state recipient }
     {
@@ -112,6 +113,7 @@ impl<D: PageDisk, R: PageDisk> World<D, R> {
             recipient,
             begun: Begun::new(alloc),
             course: Course::Absent,
+            stop: None,
             floor: 0,
             doubted: false,
             shown: false,
@@ -147,7 +149,7 @@ impl<D: PageDisk, R: PageDisk> World<D, R> {
     pub fn stop(&self) -> Option<Stop>
         ensures { option_map stop_of result ≡ self.now.clone.stop }
     {
-        self.donor.stop()
+        self.stop
     }
 
     /// Gives the donor's disk and the recipient's back, and the drops.
@@ -161,6 +163,7 @@ impl<D: PageDisk, R: PageDisk> World<D, R> {
             recipient,
             begun: _,
             course: _,
+            stop: _,
             floor: _,
             doubted: _,
             shown: _,

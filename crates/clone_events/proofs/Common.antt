@@ -13,8 +13,8 @@ pub use Rattle.clone_script.specs.declared.lines.Line.{Line}
 pub use Rattle.clone_plain.specs.Calls.{Made, PlainStep, did_begin, did_put, did_commit, done, did_create, did_drop, did_delete, did_get, did_undo_one, did_flush_begin, did_flush_half, did_flush_land, did_oldest_dirty, did_checkpoint, did_end, refused, AfterRefusal, Done, Call, drop, Does, call_of, commit, made_call, begin, put}
 pub use Rattle.clone_plain.specs.Donor.{Donor, no_donor}
 pub use Rattle.clone_plain.specs.Effects.{begun, with_change, Changes, Undoes, put_of}
-pub use Rattle.clone_events.specs.Events.{Event, made, looked, started, started_before, readied, not_started, completed, completed_before, broke, broke_before, lost, lost_before, showed, incomplete, hidden, damaged, ordered, Breaks, Events, PlainEvent, Happens, counted, said}
-pub use Rattle.clone_events.specs.Headline.{committed_at, AreCommits, MakesDrops, AreDrops, IsSet, AreSets, EndsAt, ShowsStop, all_events}
-pub use Rattle.clone_events.specs.Runs.{MakesSet, Runs, not_begun, not_changed, set, MakesClean, all_clean, not_flushed, flushed, Starts, Finishes, MakesClone, MakesRows, are_shown, not_there, not_read, not_sound, LineStep, Makes, MakesOne, output}
-pub use Rattle.clone_events.specs.World.{World, Stop, Progress, broken, spent, Clone, opened, index_in, IsWithin, stop_now, before_stop, stop_by, reached, ended_by}
+pub use Rattle.clone_events.specs.Events.{Event, made, looked, stopped, showed, ordered, Events, PlainEvent, Happens, Shows, clone_after, counted, said}
+pub use Rattle.clone_events.specs.Headline.{committed_at, AreCommits, MakesDrops, AreDrops, IsSet, AreSets, ShowsStop, all_events}
+pub use Rattle.clone_events.specs.Runs.{MakesSet, Runs, not_begun, not_changed, set, MakesClean, all_clean, not_flushed, flushed, Starts, Finishes, Advances, GoesOn, at_once, by_stop, MakesClone, LineStep, Makes, MakesOne, output}
+pub use Rattle.clone_events.specs.World.{World, Stop, Clone, opened, index_in, IsWithin, before_stop}
 pub use Rattle.clone_plain.specs.declared.refusal.Cause.{Cause}

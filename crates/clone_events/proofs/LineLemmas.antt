@@ -1,7 +1,7 @@
 -- A line makes one event, or it is a `set`, or none of its events commits or begins, as those of
 -- `clean` and of `clone`.
 use Rattle.std.proofs.Common.{◌≡◌, ℕ, List, [], ◌∷◌, ◌++◌, refl, sym, ap, subst, ◌∙◌, append_assoc, None, flat_map, nat_cmp}
-use Rattle.clone_events.proofs.Common.{AllByRecursion, FinMap, Line, Cause, Call, commit, call_of, did_create, did_drop, did_begin, did_put, did_delete, did_get, did_undo_one, did_commit, did_flush_begin, did_flush_half, did_flush_land, did_oldest_dirty, did_checkpoint, did_end, Made, done, refused, made_call, Event, made, showed, incomplete, hidden, damaged, ordered, counted, committed_at, Makes, MakesOne, MakesSet, MakesClean, all_clean, not_flushed, flushed, Starts, Finishes, MakesClone, MakesRows, are_shown, not_there, not_read, not_sound}
+use Rattle.clone_events.proofs.Common.{AllByRecursion, FinMap, Line, Cause, Call, commit, call_of, did_create, did_drop, did_begin, did_put, did_delete, did_get, did_undo_one, did_commit, did_flush_begin, did_flush_half, did_flush_land, did_oldest_dirty, did_checkpoint, did_end, Made, done, refused, made_call, Event, made, stopped, ordered, counted, committed_at, Makes, MakesOne, MakesSet, MakesClean, all_clean, not_flushed, flushed, Starts, Finishes, Advances, GoesOn, at_once, by_stop, MakesClone}
 use Rattle.clone_script.specs.declared.lines.Line.TheVariants as lines
 
 -- by an event nothing commits, and no transaction begins
@@ -50,14 +50,16 @@ finishes_quiet : (e : Event) → Finishes e → IsQuiet e
 finishes_quiet (made m) is = absurd is
 finishes_quiet e is = is_quiet e refl (λ begun. refl)
 
-clone_quiet : (events : List Event) → MakesClone events → AllByRecursion IsQuiet events
-clone_quiet events is = subst (AllByRecursion IsQuiet) (sym is.4) (starts_quiet is.0 is.2, (finishes_quiet is.1 is.3, tt))
+advances_quiet : (e : Event) → Advances e → IsQuiet e
+advances_quiet (made m) is = absurd is
+advances_quiet e is = is_quiet e refl (λ begun. refl)
 
-rows_shape : (events : List Event) → MakesRows events → Shape events
-rows_shape events (are_shown rows is) = one (showed rows) is
-rows_shape events (not_there is) = one incomplete is
-rows_shape events (not_read is) = one hidden is
-rows_shape events (not_sound space page why is) = one (damaged space page why) is
+goes_quiet : (Kind : Event → Type 0) (events : List Event) → ((e : Event) → Kind e → IsQuiet e) → GoesOn Kind events → AllByRecursion IsQuiet events
+goes_quiet Kind events are (at_once e kind is) = subst (AllByRecursion IsQuiet) (sym is) (are e kind, tt)
+goes_quiet Kind events are (by_stop at e kind is) = subst (AllByRecursion IsQuiet) (sym is) (is_quiet (stopped at) refl (λ begun. refl), (are e kind, tt))
+
+clone_quiet : (events : List Event) → MakesClone events → AllByRecursion IsQuiet events
+clone_quiet events is = subst (AllByRecursion IsQuiet) (sym is.4) (starts_quiet is.0 is.2, goes_quiet Finishes is.1 finishes_quiet is.3)
 
 pub shape : (next : ℕ → ℕ) (line : Line) (events : List Event) → Makes next line events → Shape events
 shape next (lines.Create table buckets) events is = call_shape _ events is
@@ -79,12 +81,12 @@ shape next (lines.Tear byte) events is = one (ordered _ _) is
 shape next (lines.FailDonor call) events is = one (ordered _ _) is
 shape next (lines.FailRecipient call) events is = one (ordered _ _) is
 shape next lines.Start events is = one is.0 is.2
-shape next lines.Advance events is = one is.0 is.2
-shape next lines.Finish events is = one is.0 is.2
+shape next lines.Advance events is = quiet (goes_quiet Advances events advances_quiet is)
+shape next lines.Finish events is = quiet (goes_quiet Finishes events finishes_quiet is)
 shape next lines.Look events is = one is.0 is.2
 shape next (lines.Archive bytes) events is = one is.0 is.2
 shape next lines.Clone events is = quiet (clone_quiet events is)
-shape next lines.Rows events is = rows_shape events is
+shape next lines.Rows events is = one is.0 is.2
 
 -- a commit that was made: it was refused, or carried out
 pub data CommitMade (trx : ℕ) (m : Made) : Type 0 where

@@ -1,16 +1,27 @@
 -- What a line has done where memory ran out in it.
-use Rattle.std.specs.Prelude.{◌≡◌, List, ◌∷◌, ◌++◌}
+use Rattle.std.specs.Prelude.{ℕ, ◌≡◌, ◌⊎◌, Bool, List, [], ◌∷◌, ◌++◌}
 use Rattle.std.specs.List.{AllByRecursion}
 use Rattle.clone_script.specs.declared.lines.Line.{Line}
 use Rattle.clone_plain.specs.Donor.{Donor}
 use Rattle.clone_plain.specs.Calls.{Done, done}
-use Rattle.clone_events.specs.World.{World, index_in}
-use Rattle.clone_events.specs.Events.{Event, made, Events}
+use Rattle.clone_events.specs.World.{World, Clone, index_in}
+use Rattle.clone_events.specs.Events.{Event, made, Clones, Events, clone_after}
 use Rattle.clone_events.specs.Runs.{Makes}
 
 -- a call was carried out, against which there was no cause
 abbrev pub IsDone : Event → Type 0
 IsDone event = (d : Done) × (event ≡ made (done d))
+
+-- a clone of this donor became another by these events
+abbrev pub Becomes : Donor → Bool → Clone → List Event → Clone → Type 0
+Becomes d tells old [] new = new ≡ old
+Becomes d tells old (e ∷ es) new =
+    Clones d tells old e (clone_after e old) × Becomes d tells (clone_after e old) es new
+
+-- the clone is as it was, or became another by events of the line that weren't told
+abbrev pub BecomesUntold : (ℕ → ℕ) → Line → Donor → Bool → Clone → Clone → Type 0
+BecomesUntold next line d tells old new =
+    (new ≡ old) ⊎ ((es : List Event) × Makes next line es × Becomes d tells old es new)
 
 module _ {D : Type 0} (plain : D → Donor) (Step : D → Event → D → Type 0) where
   -- A front of the line's calls was carried out, and against none of these was there a cause. What
@@ -25,3 +36,6 @@ module _ {D : Type 0} (plain : D → Donor) (Step : D → Event → D → Type 0
     pub happened : Events plain Step s front then
     pub donor : plain t.donor ≡ plain then.donor
     pub begun : t.begun ≡ then.begun
+    pub tells : t.tells ≡ then.tells
+    pub clone : BecomesUntold (index_in s.begun) line (plain then.donor) then.tells then.clone
+        t.clone

@@ -1,7 +1,8 @@
 -- What happens while a script is carried out, one event after the other: calls of the donor, what
 -- becomes of its clone, rows that are shown, and orders to disks. The donor, with the disks behind
--- it, is of a type D; `plain` tells the plain donor that it is, and `Step` what an event does to it.
-use Rattle.std.specs.Prelude.{ℕ, ◌≡◌, ◌≢◌, ◌≤◌, ◌+◌, ◌⊎◌, Bool, true, List, [], ◌∷◌, ◌++◌, None, Some, MatchOption, codes}
+-- it, is of a type D; `plain` tells the plain donor that it is, and `Step` what an event does to
+-- it.
+use Rattle.std.specs.Prelude.{ℕ, ◌≡◌, ◌≢◌, ◌≤◌, ◌+◌, ◌==◌, Bool, true, is_some, List, [], ◌∷◌, ◌++◌, length, None, Some, MatchOption, codes}
 use Rattle.std.specs.Fmt.{decimal}
 use Rattle.std.specs.declared.option.Option.{Option}
 use Rattle.std.specs.FinMap as finite
@@ -12,12 +13,17 @@ use Rattle.clone_plain.specs.Donor.{Donor}
 use Rattle.clone_plain.specs.Effects.{Gets}
 use Rattle.clone_plain.specs.Calls.{did_begin, did_get, Made, done, PlainStep}
 use Rattle.clone_plain.specs.Answers.{Text, made_text, rows_answer}
-use Rattle.clone_events.specs.World.{World, Stop, Progress, absent, copying, complete, broken, spent, Clone, IsUnderWay, HasEnded, IsSure, index_in, stop_now, before_stop, stop_by, with_floor, reached, completed_at, ended_by}
+use Rattle.clone_events.specs.World.{World, Stop, Progress, absent, copying, complete, broken, spent, Clone, IsUnderWay, HasEnded, IsSure, index_in, stop_now, before_stop, with_floor}
 
 -- the two sides of a clone
 pub data Side : Type 0 where
   to_donor : Side
   to_recipient : Side
+
+-- what a line asks of a clone: that one begins, or that it goes on
+pub data Wish : Type 0 where
+  to_begin : Wish
+  to_go_on : Wish
 
 pub data Event : Type 0 where
   -- a call of the donor
@@ -28,21 +34,19 @@ pub data Event : Type 0 where
   looked : (position : ℕ) → Event
   -- so many bytes of the log at most are archived, up to there, or there is no archive
   archived : (limit : ℕ) (reached : Option ℕ) → Event
-  -- a clone begins, or one began before
+  -- a clone begins
   started : Event
-  started_before : Event
-  -- so many stages of the clone are copied, or none was begun
+  -- the clone comes to its stop
+  stopped : (at : Stop) → Event
+  -- so many stages of the clone are copied
   readied : (stages : ℕ) → Event
-  not_started : Event
-  -- the clone is complete at this position, and what is answered later
+  -- the clone is complete at this position
   completed : (position : ℕ) → Event
-  completed_before : (position : ℕ) → Event
-  -- the clone ends by a fault of the recipient's disk, and what is answered later
+  -- the clone ends by a fault of the recipient's disk, or by one of the donor's
   broke : Event
-  broke_before : Event
-  -- the clone ends by a fault of the donor's disk, and what is answered later
   lost : Event
-  lost_before : Event
+  -- nothing happens to the clone: how it stands is told again
+  again : Wish → (answer : Text) → Event
   -- the clone's rows are shown
   showed : (rows : Rows) → Event
   -- there is no complete clone whose rows could be shown
@@ -54,6 +58,9 @@ pub data Event : Type 0 where
   -- a disk got an order
   ordered : Side → DiskOrder → Event
 
+abbrev pub idle : Text
+idle = codes "idle"
+
 abbrev pub recipient_fault : Text
 recipient_fault = codes "recipient disk fault"
 
@@ -64,22 +71,20 @@ complete_text position = codes "complete position " ++ decimal position
 abbrev pub spent_text : Text
 spent_text = codes "restarts spent 1"
 
+-- the answer that an event gives a line, whose last it is; a stop is never the last
 abbrev pub event_text : Event → Text
 event_text (made m) = made_text m
 event_text (cleaned landed) = codes "cleaned " ++ decimal landed
 event_text (looked position) = codes "position " ++ decimal position
 event_text (archived limit (Some lsn)) = codes "archived " ++ decimal lsn
-event_text (archived limit None) = codes "idle"
+event_text (archived limit None) = idle
 event_text started = codes "started"
-event_text started_before = codes "idle"
+event_text (stopped at) = []
 event_text (readied stages) = codes "ready " ++ decimal stages
-event_text not_started = codes "idle"
 event_text (completed position) = complete_text position
-event_text (completed_before position) = complete_text position
 event_text broke = recipient_fault
-event_text broke_before = recipient_fault
 event_text lost = spent_text
-event_text lost_before = spent_text
+event_text (again wish answer) = answer
 event_text (showed rows) = rows_answer (rows_in rows)
 event_text incomplete = codes "incomplete"
 event_text hidden = recipient_fault
@@ -99,52 +104,91 @@ counted (made (done (did_begin writer index trx))) begun =
     finite.insert begun writer (index_in begun writer + 1)
 counted event begun = begun
 
--- a fault ends a clone, before its stop or at a moment that is its stop
-abbrev pub Breaks : Stop → Progress → Clone → Clone → Type 0
-Breaks now progress old new =
-    (new ≡ ended_by progress old.stop old)
-    ⊎ (new ≡ ended_by progress (Some (stop_by now old)) old)
+-- WHAT A CLONE BECOMES by an event
+abbrev pub clone_after : Event → Clone → Clone
+clone_after (looked position) clone = with_floor position clone
+clone_after started clone = record clone { progress = copying 0 }
+clone_after (stopped at) clone = record clone { stop = Some at }
+clone_after (readied stages) clone = record clone { progress = copying stages }
+clone_after (completed position) clone = record clone { progress = complete }
+clone_after broke clone = record clone { progress = broken }
+clone_after lost clone = record clone { progress = spent }
+clone_after (showed rows) clone = record clone { shown = true }
+clone_after hidden clone = record clone { doubted = true }
+clone_after event clone = clone
 
--- What an event does to the clone of a donor. The copy of pages ends with the stop, the moment that
--- stands then, which isn't before what was looked up. The rows shown are those of the history
--- before the stop, where that is known; then no damage is found on the recipient's disk, and a
--- complete clone isn't found incomplete.
-abbrev pub Clones : Donor → Bool → Clone → Event → Clone → Type 0
-Clones d tells old (made m) new = new ≡ old
-Clones d tells old (cleaned landed) new = new ≡ old
-Clones d tells old (looked position) new =
-    (position ≡ (stop_now d).position) × (new ≡ with_floor position old)
-Clones d tells old (archived limit reached) new = new ≡ old
-Clones d tells old started new =
-    (old.progress ≡ absent) × (new ≡ record old { progress = copying 0 })
-Clones d tells old started_before new = (old.progress ≢ absent) × (new ≡ old)
-Clones d tells old (readied stages) new =
-    (n : ℕ) × (old.progress ≡ copying n) × (stages ≡ n + 1) × (stages ≤ 3)
-    × (old.floor ≤ (stop_by (stop_now d) old).position) × (new ≡ reached stages (stop_now d) old)
-Clones d tells old not_started new = (old.progress ≡ absent) × (new ≡ old)
-Clones d tells old (completed n) new =
-    IsUnderWay old.progress × (n ≡ (stop_by (stop_now d) old).position) × (old.floor ≤ n)
-    × (new ≡ completed_at (stop_now d) old)
-Clones d tells old (completed_before n) new =
-    (old.progress ≡ complete) × MatchOption old.stop ⊥ (λ (stop : Stop). n ≡ stop.position)
-    × (new ≡ old)
-Clones d tells old broke new =
-    (HasEnded old.progress → ⊥) × Breaks (stop_now d) broken old new
-Clones d tells old broke_before new = (old.progress ≡ broken) × (new ≡ old)
-Clones d tells old lost new = IsUnderWay old.progress × Breaks (stop_now d) spent old new
-Clones d tells old lost_before new = (old.progress ≡ spent) × (new ≡ old)
-Clones d tells old (showed rows) new =
-    HasEnded old.progress
-    × (IsSure tells old
-    → MatchOption old.stop ⊥ (λ (stop : Stop). rows ≡ fold (before_stop stop d)))
-    × (new ≡ record old { shown = true })
-Clones d tells old incomplete new =
-    (IsSure tells old → old.progress ≢ complete) × (new ≡ old)
-Clones d tells old hidden new =
-    HasEnded old.progress × (new ≡ record old { doubted = true })
-Clones d tells old (damaged space page why) new =
-    HasEnded old.progress × (IsSure tells old → ⊥) × (new ≡ old)
-Clones d tells old (ordered side order) new = new ≡ old
+-- how a clone stands where it doesn't go on
+abbrev pub StandsStill : Progress → Option Stop → Text → Type 0
+StandsStill absent stop answer = answer ≡ idle
+StandsStill (copying stages) stop answer = ⊥
+StandsStill complete stop answer =
+    MatchOption stop ⊥ (λ (at : Stop). answer ≡ complete_text at.position)
+StandsStill broken stop answer = answer ≡ recipient_fault
+StandsStill spent stop answer = answer ≡ spent_text
+
+abbrev pub IsToldAgain : Wish → Clone → Text → Type 0
+IsToldAgain to_begin clone answer = (clone.progress ≢ absent) × (answer ≡ idle)
+IsToldAgain to_go_on clone answer = StandsStill clone.progress clone.stop answer
+
+-- a clone that is under way comes to its only stop, which isn't before what was looked up
+pub record ComesToStop (d : Donor) (clone : Clone) (at : Stop) : Type 0 where
+  pub under_way : IsUnderWay clone.progress
+  pub first : clone.stop ≡ None
+  pub commits : at.position ≤ length d.binlog
+  pub drops : at.drops ≤ length d.drops
+  pub floor : clone.floor ≤ at.position
+
+-- one stage more is copied; with the third, and not before, the clone has its stop
+pub record CopiesStage (clone : Clone) (stages : ℕ) : Type 0 where
+  pub before : ℕ
+  pub copied : clone.progress ≡ copying before
+  pub next : stages ≡ before + 1
+  pub most : stages ≤ 3
+  pub stop : is_some clone.stop ≡ (stages == 3)
+
+-- the clone is complete at its stop, which isn't before what was looked up
+pub record Completes (clone : Clone) (position : ℕ) : Type 0 where
+  pub under_way : IsUnderWay clone.progress
+  pub stop : MatchOption clone.stop ⊥ (λ (at : Stop). position ≡ at.position)
+  pub floor : clone.floor ≤ position
+
+-- the rows of a clone that has ended are those of the history before its stop, where that is known
+pub record ShowsRows (d : Donor) (tells : Bool) (clone : Clone) (rows : Rows) : Type 0 where
+  pub ended : HasEnded clone.progress
+  pub are : IsSure tells clone
+      → MatchOption clone.stop ⊥ (λ (at : Stop). rows ≡ fold (before_stop at d))
+
+-- WHAT AN EVENT SHOWS of a clone, by the history of a donor: that of the moment of the event, and
+-- each longer one. Where it is known what the clone's rows are, no damage is found on the
+-- recipient's disk, and a complete clone isn't found incomplete.
+abbrev pub Shows : Donor → Bool → Clone → Event → Type 0
+Shows d tells clone (looked position) = position ≤ length d.binlog
+Shows d tells clone started = clone.progress ≡ absent
+Shows d tells clone (stopped at) = ComesToStop d clone at
+Shows d tells clone (readied stages) = CopiesStage clone stages
+Shows d tells clone (completed position) = Completes clone position
+Shows d tells clone broke = HasEnded clone.progress → ⊥
+Shows d tells clone lost = IsUnderWay clone.progress
+Shows d tells clone (again wish answer) = IsToldAgain wish clone answer
+Shows d tells clone (showed rows) = ShowsRows d tells clone rows
+Shows d tells clone incomplete = IsSure tells clone → clone.progress ≢ complete
+Shows d tells clone hidden = HasEnded clone.progress
+Shows d tells clone (damaged space page why) =
+    HasEnded clone.progress × (IsSure tells clone → ⊥)
+Shows d tells clone event = Unit {0}
+
+-- what is looked up is how many commits there are, and a stop is the moment that stands
+abbrev pub IsNow : Donor → Event → Type 0
+IsNow d (looked position) = position ≡ length d.binlog
+IsNow d (stopped at) = at ≡ stop_now d
+IsNow d event = Unit {0}
+
+-- what an event does to the clone of a donor
+pub record Clones (d : Donor) (tells : Bool) (old : Clone) (e : Event) (new : Clone)
+    : Type 0 where
+  pub now : IsNow d e
+  pub shows : Shows d tells old e
+  pub is : new ≡ clone_after e old
 
 -- the value that a `get` answers is the row's
 abbrev pub Sees : Donor → Event → Type 0

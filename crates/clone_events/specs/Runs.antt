@@ -2,7 +2,6 @@
 use Rattle.std.specs.Prelude.{ℕ, ◌≡◌, List, [], ◌∷◌, ◌++◌, length, None, Some}
 use Rattle.std.specs.List.{flat_map}
 use Rattle.clone_outside.specs.declared.disk.DiskOrder.TheVariants as order
-use Rattle.clone_model.specs.History.{Rows}
 use Rattle.clone_model.specs.Texts.{ended}
 use Rattle.clone_script.specs.declared.lines.Line.{Line}
 use Rattle.clone_script.specs.declared.lines.Line.TheVariants.{Create, Drop, Begin, Put, Delete, Get, Undo, Commit, Set, Flush, Half, Land, Clean, Checkpoint, Lsn, Tear, FailDonor, FailRecipient, Start, Advance, Finish, Look, Archive, Clone, Rows as ShowRows}
@@ -10,8 +9,8 @@ use Rattle.clone_plain.specs.declared.refusal.Cause.{Cause}
 use Rattle.clone_plain.specs.Donor.{Donor}
 use Rattle.clone_plain.specs.Calls.{Call, create, drop, begin, put, delete, get, undo_one, commit, flush_begin, flush_half, flush_land, checkpoint, end, Done, did_begin, did_put, did_flush_begin, did_flush_half, did_flush_land, did_oldest_dirty, Made, done, refused, made_call, call_of}
 use Rattle.clone_plain.specs.Answers.{Text}
-use Rattle.clone_events.specs.World.{World, index_in}
-use Rattle.clone_events.specs.Events.{to_donor, to_recipient, Event, made, cleaned, looked, archived, started, started_before, readied, not_started, completed, completed_before, broke, broke_before, lost, lost_before, showed, incomplete, hidden, damaged, ordered, said, Events}
+use Rattle.clone_events.specs.World.{World, Stop, index_in}
+use Rattle.clone_events.specs.Events.{to_donor, to_recipient, to_begin, to_go_on, Event, made, cleaned, looked, archived, started, stopped, readied, completed, broke, lost, again, showed, incomplete, hidden, damaged, ordered, said, Events}
 
 -- one call is made
 abbrev pub MakesOne : Call → List Event → Type 0
@@ -49,19 +48,16 @@ pub data MakesClean (events : List Event) : Type 0 where
 -- what `start` may make happen
 abbrev pub Starts : Event → Type 0
 Starts started = Unit {0}
-Starts started_before = Unit {0}
 Starts broke = Unit {0}
+Starts (again to_begin answer) = Unit {0}
 Starts event = ⊥
 
 -- what `finish` may
 abbrev pub Finishes : Event → Type 0
-Finishes not_started = Unit {0}
-Finishes (completed n) = Unit {0}
-Finishes (completed_before n) = Unit {0}
+Finishes (completed position) = Unit {0}
 Finishes broke = Unit {0}
-Finishes broke_before = Unit {0}
 Finishes lost = Unit {0}
-Finishes lost_before = Unit {0}
+Finishes (again to_go_on answer) = Unit {0}
 Finishes event = ⊥
 
 -- and what `advance` may
@@ -73,9 +69,15 @@ Advances event = Finishes event
 abbrev pub MakesEvent : (Event → Type 0) → List Event → Type 0
 MakesEvent Kind events = (e : Event) × Kind e × (events ≡ e ∷ [])
 
+-- a clone goes on, to an event of a kind; it may come to its stop before that
+pub data GoesOn (Kind : Event → Type 0) (events : List Event) : Type 0 where
+  at_once : (e : Event) → Kind e → events ≡ e ∷ [] → GoesOn Kind events
+  by_stop : (at : Stop) (e : Event) → Kind e → events ≡ stopped at ∷ e ∷ [] → GoesOn Kind events
+
 -- a clone begins, unless one began before, and is brought to its end
 abbrev pub MakesClone : List Event → Type 0
-MakesClone events = (s e : Event) × Starts s × Finishes e × (events ≡ s ∷ e ∷ [])
+MakesClone events =
+    (e : Event) × (rest : List Event) × Starts e × GoesOn Finishes rest × (events ≡ e ∷ rest)
 
 -- at most so many bytes of the log are archived, or there is no archive
 abbrev pub Archives : ℕ → Event → Type 0
@@ -87,12 +89,12 @@ Looks (looked position) = Unit {0}
 Looks event = ⊥
 
 -- rows are shown, or why they aren't
-pub data MakesRows (events : List Event) : Type 0 where
-  are_shown : (rows : Rows) → events ≡ showed rows ∷ [] → MakesRows events
-  not_there : events ≡ incomplete ∷ [] → MakesRows events
-  not_read : events ≡ hidden ∷ [] → MakesRows events
-  not_sound : (space page : ℕ) (why : Text) → events ≡ damaged space page why ∷ []
-      → MakesRows events
+abbrev pub ShowsOrNot : Event → Type 0
+ShowsOrNot (showed rows) = Unit {0}
+ShowsOrNot incomplete = Unit {0}
+ShowsOrNot hidden = Unit {0}
+ShowsOrNot (damaged space page why) = Unit {0}
+ShowsOrNot event = ⊥
 
 -- the events of a line, where each writer's next transaction has this index
 abbrev pub Makes : (ℕ → ℕ) → Line → List Event → Type 0
@@ -116,12 +118,12 @@ Makes next (Tear byte) events = events ≡ ordered to_donor (order.Tear byte) �
 Makes next (FailDonor call) events = events ≡ ordered to_donor (order.FailAt call) ∷ []
 Makes next (FailRecipient call) events = events ≡ ordered to_recipient (order.FailAt call) ∷ []
 Makes next Start events = MakesEvent Starts events
-Makes next Advance events = MakesEvent Advances events
-Makes next Finish events = MakesEvent Finishes events
+Makes next Advance events = GoesOn Advances events
+Makes next Finish events = GoesOn Finishes events
 Makes next Look events = MakesEvent Looks events
 Makes next (Archive bytes) events = MakesEvent (Archives bytes) events
 Makes next Clone events = MakesClone events
-Makes next ShowRows events = MakesRows events
+Makes next ShowRows events = MakesEvent ShowsOrNot events
 
 -- each answer is ended by a line feed
 abbrev pub output : List (List Event) → List ℕ

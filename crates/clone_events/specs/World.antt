@@ -1,5 +1,5 @@
 -- What a script acts on: a donor, the indexes of its writers, and its clone.
-use Rattle.std.specs.Prelude.{ℕ, ◌≡◌, ◌≤◌, ◌==◌, Bool, true, false, List, length, take, None, Some, unwrap_or, if◌then◌else◌}
+use Rattle.std.specs.Prelude.{ℕ, ◌≡◌, ◌≤◌, Bool, true, false, List, length, take, None, Some, unwrap_or}
 use Rattle.std.specs.Option.{option_map_or}
 use Rattle.std.specs.declared.option.Option.{Option}
 use Rattle.std.specs.FinMap as finite
@@ -86,25 +86,7 @@ pub record IsWithin {D : Type 0} (plain : D → Donor) (n : ℕ) (s : World D) :
   pub commits : length (plain s.donor).binlog ≤ n
   pub transactions : (writer : ℕ) → index_in s.begun writer ≤ n
 
--- the stop of a clone, which may be this moment
-abbrev pub stop_by : Stop → Clone → Stop
-stop_by now clone = unwrap_or clone.stop now
-
 -- what is looked up before the stop is the floor of a clone
 abbrev pub with_floor : ℕ → Clone → Clone
 with_floor position clone =
     record clone { floor = option_map_or (λ (s : Stop). clone.floor) clone.stop position }
-
--- so many stages are copied; the copy of pages ends with the stop
-abbrev pub reached : ℕ → Stop → Clone → Clone
-reached stages now clone = record clone {
-  progress = copying stages;
-  stop = if stages == 3 then Some (stop_by now clone) else clone.stop;
-}
-
-abbrev pub completed_at : Stop → Clone → Clone
-completed_at now clone = record clone { progress = complete; stop = Some (stop_by now clone) }
-
--- a fault ends it, before its stop or behind it
-abbrev pub ended_by : Progress → Option Stop → Clone → Clone
-ended_by progress stop clone = record clone { progress = progress; stop = stop }

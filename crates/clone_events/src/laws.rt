@@ -27,7 +27,7 @@ pub fn run_laws()
     ensures stop { (lines : List Line) (events : List (List Event)) (t : World Donor)
         → (tells : Bool)
         → Runs (λ d. d) PlainEvent (opened no_donor tells) lines events t
-        → ShowsStop t.donor.binlog t.donor.drops tells no_clone (all_events events) }
+        → ShowsStop t.donor tells no_clone (all_events events) }
     ensures within { (lines : List Line) (events : List (List Event)) (t : World Donor) (n : ℕ)
         → (tells : Bool)
         → Runs (λ d. d) PlainEvent (opened no_donor tells) lines events t

@@ -1,18 +1,10 @@
 //! The program: it reads a script, carries out its lines, and writes their answers and the binlog.
 #![tactic(auto)]
 
-mod read;
-mod reading;
-mod run;
-mod status;
-#[cfg(test)]
-mod tests;
-
 use clone_memdisk::MemDisk;
 use clone_outside::{MemSink, Refusal, write_all};
 use clone_real::{StdSink, StdSource};
-use run::clone_main;
-use status::Status;
+use clone_top::{Status, clone_main};
 use std::alloc::AllocError;
 use std::env;
 use std::env::Env;

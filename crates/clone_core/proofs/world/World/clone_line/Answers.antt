@@ -1,17 +1,18 @@
 use Rattle.std.proofs.Common.{string_bytes}
 use Rattle.clone_script.specs.declared.lines.Line.TheVariants as lines
+use Rattle.clone_events.specs.Runs.{Finishes}
 use Rattle.clone_core.specs.CloneEvents.{event_of}
-use Rattle.clone_core.proofs.LineLemmas.{stays_breaks}
-use Rattle.clone_core.proofs.FinishLemmas.{clone_answers, finish_stays, start_stays, stays_then}
+use Rattle.clone_core.proofs.FinishLemmas.{clone_answers, clone_breaks, clone_not_begun, comes_untold, finishes_advances}
+use Rattle.clone_core.proofs.OrderedLemmas.{on_err}
 use Rattle.clone_core.proofs.world.World.clone_line.Goals as goal
 
 pub returns-in_err-start-clause-err : goal.returns-in_err-start-clause-err
-returns-in_err-start-clause-err g c = stays_breaks _ _ lines.Clone c.from_residual.result c.in_err-start.ensures
+returns-in_err-start-clause-err g c = on_err c.from_residual.result _ (clone_not_begun _ _ c.in_err-start.ensures)
 
 pub returns-in_err-happened-clause-err : goal.returns-in_err-happened-clause-err
 returns-in_err-happened-clause-err g c =
     let began = c.in_ok-start.ensures in
-    stays_breaks _ _ lines.Clone c.from_residual-in_err-happened.result (stays_then _ c.start.new.self _ (start_stays _ _ (event_of c.in_ok-start.field-0) began.0 began.1) c.in_err-happened.ensures)
+    on_err c.from_residual-in_err-happened.result _ (clone_breaks _ c.start.new.self _ (event_of c.in_ok-start.field-0) began.0 began.1 c.in_err-happened.ensures)
 
 pub returns-clause-ok : goal.returns-clause-ok
 returns-clause-ok g c =
@@ -23,6 +24,5 @@ pub returns-clause-err : goal.returns-clause-err
 returns-clause-err g c =
     let began = c.in_ok-start.ensures in
     let ended = c.in_ok-happened.ensures in
-    let first = start_stays c.args.self.now c.start.new.self (event_of c.in_ok-start.field-0) began.0 began.1 in
-    let second = finish_stays c.start.new.self c.finish.new.self (event_of c.in_ok-happened.happened) ended.0 ended.1 in
-    stays_breaks _ _ lines.Clone c.happened_text.result (stays_then _ _ _ first second)
+    let h = event_of c.in_ok-happened.happened in
+    on_err c.happened_text.result _ (clone_breaks _ c.start.new.self _ (event_of c.in_ok-start.field-0) began.0 began.1 (comes_untold Finishes _ _ h ended.0 (finishes_advances h ended.0) ended.1))

@@ -9,4 +9,4 @@ pub returns-clause-ok : goal.returns-clause-ok
 returns-clause-ok g c = event_answers string_bytes c.args.self.now _ lines.Lsn (made (done (did_end c.end-lsn.result))) c.format.result (done (did_end c.end-lsn.result), refl, refl) c.end-lsn.ensures c.format.ensures.ok
 
 pub returns-clause-err : goal.returns-clause-err
-returns-clause-err g c = stays_breaks c.args.self.now _ lines.Lsn c.format.result (record { donor = (made_step _ _ _ c.end-lsn.ensures).1; begun = c.end-lsn.ensures.begun })
+returns-clause-err g c = stays_breaks c.args.self.now _ lines.Lsn c.format.result (record { donor = (made_step _ _ _ c.end-lsn.ensures).1; begun = c.end-lsn.ensures.begun; tells = c.end-lsn.ensures.tells; clone = c.end-lsn.ensures.clone.is })

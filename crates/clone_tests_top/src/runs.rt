@@ -1,0 +1,192 @@
+use clone_memdisk::MemDisk;
+use clone_outside::{MemSink, MemSource, Refusal, Sink};
+use clone_top::clone_main;
+use std::alloc::{AllocError, Global};
+use std::process::Abort;
+use std::test::Fail;
+
+const PLAINEST: &str = "create 1 4\nset 0 1 7 6869\nclone\nrows\n";
+
+const PLAINEST_OUT: &str = "created\ncommitted 1\ncomplete position 1\n1 7 6869\nrows 1\n";
+
+const PLAINEST_BINLOG: &str = "commit 0 0 1\n1 7 6869\n";
+
+// How a run ended, what its sinks took, and its disks.
+#[derive(Drop)]
+struct Ran {
+    status: u8,
+    out: MemSink,
+    binlog: MemSink,
+    donor: MemDisk,
+    recipient: MemDisk,
+}
+
+impl Ran {
+    fn expect(&self, rt: &impl Abort, status: u8, out: &str, binlog: &str) {
+        assert_eq!(rt; self.out.bytes(), out.as_bytes());
+        assert_eq!(rt; self.binlog.bytes(), binlog.as_bytes());
+        assert_eq!(rt; self.status, status);
+    }
+}
+
+// A run of the words over these disks.
+fn run_over(
+    alloc: Global,
+    words: &[&str],
+    source: &mut MemSource,
+    (mut out, mut binlog): (MemSink, MemSink),
+    (donor, recipient): (MemDisk, MemDisk),
+) -> Result<Ran, AllocError> {
+    let words = words_of(alloc, words)?;
+    let ended = clone_main(
+        alloc,
+        &words,
+        source,
+        &mut out,
+        &mut binlog,
+        donor,
+        recipient,
+    );
+    Ok(Ran {
+        status: ended.status,
+        out,
+        binlog,
+        donor: ended.donor,
+        recipient: ended.recipient,
+    })
+}
+
+fn source_of(alloc: Global, script: &[u8]) -> Result<MemSource, AllocError> {
+    Ok(MemSource::new(alloc, Vec::from_slice(alloc, script)?))
+}
+
+fn words_of(alloc: Global, words: &[&str]) -> Result<Vec<String>, AllocError> {
+    let mut all = Vec::new(alloc);
+    for word in words {
+        all.push(String::from_str(alloc, word)?)?;
+    }
+    Ok(all)
+}
+
+/// What fails in a run.
+#[derive(Clone, Copy)]
+enum Failing {
+    Source,
+    Out,
+    Binlog,
+}
+
+// The run of a word over a script ends with this status and this output once that call fails.
+fn ends_by_a_fault(
+    rt: &impl Abort,
+    alloc: Global,
+    (word, script): (&str, &[u8]),
+    (failing, call): (Failing, u64),
+    (status, taken): (u8, &str),
+) -> Result<(), Fail> {
+    let mut source = source_of(alloc, script)?;
+    let mut out = MemSink::new(alloc);
+    let mut binlog = MemSink::new(alloc);
+    match failing {
+        Failing::Source => source.fail_at(call)?,
+        Failing::Out => out.fail_at(call)?,
+        Failing::Binlog => binlog.fail_at(call)?,
+    }
+    let disks = (MemDisk::new(alloc), MemDisk::new(alloc));
+    run_over(alloc, &[word], &mut source, (out, binlog), disks)?.expect(rt, status, taken, "");
+    Ok(())
+}
+
+// A script of 5,000 bytes takes two reads, and a third finds the end.
+#[test]
+fn ends_where_the_source_fails(rt: HostRuntime) -> Result<(), Fail> {
+    let script = vec![in rt.alloc(); b'#'; 5_000]?;
+    for call in 1..=3 {
+        let fault = (Failing::Source, call);
+        ends_by_a_fault(
+            &rt,
+            rt.alloc(),
+            ("steps", &script),
+            fault,
+            (4, "source fault\n"),
+        )?;
+    }
+    Ok(())
+}
+
+const SINK_FAULTS: [(&str, (Failing, u64), &str); 6] = [
+    ("steps", (Failing::Out, 1), ""),
+    ("steps", (Failing::Out, 2), "created\n"),
+    ("steps", (Failing::Out, 3), "created\ncommitted 1\n"),
+    (
+        "steps",
+        (Failing::Out, 4),
+        "created\ncommitted 1\ncomplete position 1\n",
+    ),
+    ("stop", (Failing::Out, 1), ""),
+    ("steps", (Failing::Binlog, 1), PLAINEST_OUT),
+];
+
+#[test]
+fn ends_where_a_sink_fails(rt: HostRuntime) -> Result<(), Fail> {
+    for (word, fault, taken) in SINK_FAULTS {
+        let script = PLAINEST.as_bytes();
+        ends_by_a_fault(&rt, rt.alloc(), (word, script), fault, (5, taken))?;
+    }
+    Ok(())
+}
+
+// Takes one byte a call.
+#[derive(Drop)]
+struct ByteByByte {
+    sink: MemSink,
+}
+
+impl Sink for ByteByByte {
+    ghost use Rattle.std.specs.Prelude.{Some};
+
+    ghost taken = { λ s. Some s.sink.bytes };
+
+    ghost failures = { λ s. s.sink.calls.faults };
+
+    fn faults(&self) -> u64 {
+        self.sink.faults()
+    }
+
+    fn write(&mut self, from: &[u8]) -> Result<usize, Refusal> {
+        self.sink.write(&from[..from.len().min(1)])
+    }
+}
+
+#[test]
+fn writes_the_same_byte_by_byte(rt: HostRuntime) -> Result<(), Fail> {
+    let alloc = rt.alloc();
+    let words = words_of(alloc, &["steps"])?;
+    let mut source = source_of(alloc, PLAINEST.as_bytes())?;
+    let mut out = ByteByByte {
+        sink: MemSink::new(alloc),
+    };
+    let mut binlog = ByteByByte {
+        sink: MemSink::new(alloc),
+    };
+    let ended = clone_main(
+        alloc,
+        &words,
+        &mut source,
+        &mut out,
+        &mut binlog,
+        MemDisk::new(alloc),
+        MemDisk::new(alloc),
+    );
+    let ran = Ran {
+        status: ended.status,
+        out: out.sink,
+        binlog: binlog.sink,
+        donor: ended.donor,
+        recipient: ended.recipient,
+    };
+    ran.expect(&rt, 0, PLAINEST_OUT, PLAINEST_BINLOG);
+    Ok(())
+}
+
+mod disks;

@@ -1,0 +1,246 @@
+-- What comes of a run of a script, by how far it came.
+use Rattle.std.proofs.Common.{◌≡◌, ◌≤◌, ℕ, List, [], ◌++◌, ◌&&◌, Bool, is_some, length, take, refl, sym, ap, ◌∙◌, subst, inl, inr, Option, None, Some, MatchOption, codes, arith, filter_map}
+use Rattle.std.proofs.lemmas.List.{take_all}
+use Rattle.std.specs.Fmt.{decimal}
+use Rattle.clone_outside.specs.Causes.{Rose}
+use Rattle.clone_outside.specs.Disk.{DiskImage, ForTold}
+use Rattle.clone_outside.specs.DiskCalls.{DiskState}
+use Rattle.clone_model.specs.History.{Drops, fold}
+use Rattle.clone_model.specs.Texts.{ended}
+use Rattle.clone_model.specs.declared.config.Config.{Config}
+use Rattle.clone_script.specs.declared.lines.Line.{Line}
+use Rattle.clone_plain.specs.Answers.{Text}
+use Rattle.clone_plain.specs.Donor.{Donor, no_donor}
+use Rattle.clone_events.specs.BreaksOff as plain_off
+use Rattle.clone_events.specs.Events.{Event, PlainEvent, recipient_fault}
+use Rattle.clone_events.specs.Headline.{AreCommits, AreDrops, AreSets, ShowsStop, all_events, donor_order, recipient_order}
+use Rattle.clone_events.specs.Runs as plain_runs
+use Rattle.clone_events.specs.World.{World, Stop, Progress, absent, copying, complete, broken, spent, Clone, HasEnded, IsSure, before_stop, no_clone, opened}
+use Rattle.clone_events.proofs.RunLemmas.{Events-tells}
+use Rattle.clone_staged.specs.Holds.{HoldsCopy}
+use Rattle.clone_engine.proofs.ToldLemmas.{for_told}
+use Rattle.clone_engine.specs.Disks.{Visits}
+use Rattle.clone_core.specs.System.{SystemStep, donor_of}
+use Rattle.clone_core.specs.Lines.{State, BreaksOff, IsNew, Runs, plain_of}
+use Rattle.clone_core.specs.Copied.{HoldsEnded, HoldsStop, KeepsClone}
+use Rattle.clone_core.specs.Ending.{ending_of}
+use Rattle.clone_core.specs.declared.world.Ending.TheVariants as ending
+use Rattle.clone_top.specs.declared.reading.Unread.{Unread}
+use Rattle.clone_top.specs.declared.reading.Unread.TheVariants as unread
+use Rattle.clone_top.specs.declared.run.Unready.{Unready}
+use Rattle.clone_top.specs.declared.run.Unready.TheVariants as unready
+use Rattle.clone_top.specs.declared.status.Status.{Status}
+use Rattle.clone_top.specs.declared.status.Status.TheVariants.{Done, Memory, Usage, BadLine, SourceFault, SinkFault, DonorFault, RecipientFault, RestartsSpent, NotEmpty, TooLong}
+use Rattle.clone_top.specs.Carrying.{AnsweredAll, AnsweredSome, Finished, Leaves, behind, within, Stopped, in_lines, in_binlog}
+use Rattle.clone_top.specs.Causes.{EndsBy, HasNotBegun, Hinders, IsAlone, RunsOver, said, silent}
+use Rattle.clone_top.specs.Ended.{EndsLines}
+use Rattle.clone_top.specs.Ends.{AreEmpty, Disks, End, Ends, IsCommand, IsRead, Streams, disks, ends, steps, streams, tell}
+use Rattle.clone_top.specs.Headline.{HasClone, HasCompleted, Headline, IsWhole, LeavesPlain, Run, Writes, WritesAll, WritesSome}
+use Rattle.clone_top.specs.Headline as headline
+use Rattle.clone_top.specs.Looking.{IsUnread, IsUnready}
+use Rattle.clone_top.specs.Main.{Outcome, StepsOutcome, no_command, commanded}
+use Rattle.clone_top.specs.Saying.{Says, SaysUnread, SaysUnready}
+use Rattle.clone_top.specs.Status.{number_of}
+
+-- ---- no line was begun
+
+-- why is said
+hindered : (due status : Status) (text : Text) (old new : Streams) (given : Disks) (back : Ends) → Hinders due old new given back.disks text → IsAlone old new back → Says due status old.out new.out (ended text) → StepsOutcome status old new given back
+hindered due status text old new given back why alone says = record { run = None; headline = tt; causes = (said due text why says, alone) }
+
+unsaid : (status : Status) (old new : Streams) (given : Disks) (back : Ends) → IsAlone old new back → status ≡ Memory → new.out.told ≡ old.out.told → StepsOutcome status old new given back
+unsaid status old new given back alone is same = record { run = None; headline = tt; causes = (silent is same, alone) }
+
+-- no script was read
+pub not_read : (words : List (List ℕ)) (old new : Streams) (given : Disks) (back : Ends) (why : Unread) (status : Status) → back.status ≡ number_of status → IsUnread words old.source new.source why → back.disks ≡ given → IsAlone old new back
+    → SaysUnread why status old.out new.out → Outcome words old new given back
+not_read words old new given back unread.Usage status number is same alone says = no_command is.0 status number (record { source = is.1; disks = same; alone = alone; says = says })
+not_read words old new given back unread.SourceFault status number is same alone says =
+    commanded steps is.0 status number (hindered SourceFault status (codes "source fault") old new given back (is.1, same, refl) alone says)
+not_read words old new given back unread.TooLong status number is same alone says =
+    commanded steps is.0 status number (hindered TooLong status (codes "script too long") old new given back (is.1, is.2, same, refl) alone says)
+not_read words old new given back (unread.BadLine line) status number is same alone says =
+    commanded steps is.0 status number (hindered BadLine status (codes "bad line " ++ decimal line) old new given back (is.1, line, is.2, is.3, same, refl) alone says)
+not_read words old new given back unread.Memory status number is same alone says = commanded steps is status number (unsaid status old new given back alone says.0 says.1)
+
+-- its lines weren't begun
+pub not_begun : (config : Config) (lines : List Line) (old new : Streams) (given : Disks) (back : Ends) (why : Unready) (status : Status) → IsRead old.source new.source config lines → IsUnready given back.disks why → IsAlone old new back → SaysUnready why status old.out new.out → StepsOutcome status old new given back
+not_begun config lines old new given back unready.DonorFault status read is alone says = hindered DonorFault status (codes "donor disk fault") old new given back ((config, lines, read), is, refl) alone says
+not_begun config lines old new given back unready.RecipientFault status read is alone says = hindered RecipientFault status recipient_fault old new given back ((config, lines, read), is.0, is.1, refl) alone says
+not_begun config lines old new given back unready.NotEmpty status read is alone says = hindered NotEmpty status (codes "not empty") old new given back ((config, lines, read), is.0, is.1, refl) alone says
+not_begun config lines old new given back unready.Memory status read is alone says = unsaid status old new given back alone says.0 says.1
+
+-- ---- the recipient's disk
+
+held_clone : (d : Donor) (stop : Option Stop) (m : DiskImage) → MatchOption stop ⊥ (λ (s : Stop). HoldsStop d s m) → MatchOption stop ⊥ (λ (s : Stop). HasClone m (fold (before_stop s d)) s.position)
+held_clone d None m holds = holds
+held_clone d (Some s) m holds = record { marked = holds.marked; recovers = holds.recovers }
+
+completed : (d : Donor) (clone : Clone) (m : DiskImage) → HoldsEnded d clone m → HasCompleted d clone m
+completed d clone m is = record { whole = λ complete. held_clone d clone.stop m (is.whole complete); shown = λ _ shown. is.shown shown }
+
+told_any : (told : Option DiskImage) (P : DiskImage → Type 0) → ((m : DiskImage) → P m) → ForTold told P
+told_any None P to = tt
+told_any (Some m) P to = to m
+
+uncompleted : (d : Donor) (clone : Clone) (m : DiskImage) → (clone.progress ≡ complete → ⊥) → HasCompleted d clone m
+uncompleted d clone m not = record { whole = λ is. absurd (not is); shown = λ is _. absurd (not is) }
+
+keeps_completed : (d : Donor) (tells : Bool) (clone : Clone) (told : Option DiskImage) → KeepsClone d tells clone told → IsSure tells clone → ForTold told (HasCompleted d clone)
+keeps_completed d tells clone told keeps sure = by clone.progress refl
+  where
+    by : (p : Progress) → clone.progress ≡ p → ForTold told (HasCompleted d clone)
+    by complete is = for_told (HoldsEnded d clone) (HasCompleted d clone) told (λ m. completed d clone m) (keeps.holds (subst HasEnded (sym is) tt) sure)
+    by absent is = told_any told (HasCompleted d clone) (λ m. uncompleted d clone m (λ other. let e : absent ≡ complete = sym is ∙ other in cc))
+    by (copying stages) is = told_any told (HasCompleted d clone) (λ m. uncompleted d clone m (λ other. let e : copying stages ≡ complete = sym is ∙ other in cc))
+    by broken is = told_any told (HasCompleted d clone) (λ m. uncompleted d clone m (λ other. let e : broken ≡ complete = sym is ∙ other in cc))
+    by spent is = told_any told (HasCompleted d clone) (λ m. uncompleted d clone m (λ other. let e : spent ≡ complete = sym is ∙ other in cc))
+
+-- ---- the lines
+
+-- a world was begun over the disks
+pub record Began (config : Config) (given : Disks) (first : State) : Type 0 where
+  pub new : IsNew config first
+  pub empty : AreEmpty given
+  pub donor : Visits given.donor first.donor.donor.engine.disk
+  pub recipient : Visits given.recipient first.donor.recipient
+
+-- the disks were given back by a world
+pub record GivesBack (back : Ends) (left : State) : Type 0 where
+  pub donor : back.disks.donor ≡ left.donor.donor.engine.disk
+  pub recipient : back.disks.recipient ≡ left.donor.recipient
+  pub drops : back.drops ≡ (donor_of left.donor).drops
+  pub stop : back.stop ≡ left.clone.stop
+  pub clone : KeepsClone (donor_of left.donor) left.tells left.clone left.donor.recipient.told
+
+abbrev PlainRuns : World Donor → List Line → List (List Event) → World Donor → Type 0
+PlainRuns s lines events t = plain_runs.Runs (λ d. d) PlainEvent s lines events t
+
+-- what holds of each run from a world
+pub record LawsFrom (first : State) : Type 0 where
+  pub plain : (lines : List Line) (events : List (List Event)) (t : State) → Runs first lines events t → PlainRuns (plain_of first) lines events (plain_of t)
+  pub breaks : (s : State) (line : Line) (t : State) → BreaksOff s line t → plain_off.BreaksOff (λ d. d) PlainEvent (plain_of s) line (plain_of t)
+  pub donor_orders : (lines : List Line) (events : List (List Event)) (t : State) → Runs first lines events t → t.donor.donor.engine.disk.orders ≡ first.donor.donor.engine.disk.orders ++ filter_map donor_order lines
+  pub recipient_orders : (lines : List Line) (events : List (List Event)) (t : State) → Runs first lines events t → t.donor.recipient.orders ≡ first.donor.recipient.orders ++ filter_map recipient_order lines
+  pub tells : (lines : List Line) (events : List (List Event)) (t : State) → Runs first lines events t → t.tells ≡ first.tells
+  pub recipient_fault : (lines : List Line) (events : List (List Event)) (t : State) → Runs first lines events t → ending_of t.clone ≡ ending.RecipientFault → Rose first.donor.recipient.failures t.donor.recipient.failures
+  pub donor_fault : (lines : List Line) (events : List (List Event)) (t : State) → Runs first lines events t → ending_of t.clone ≡ ending.RestartsSpent → Rose first.donor.donor.engine.disk.failures t.donor.donor.engine.disk.failures
+
+-- and of each run of the plain donor
+pub record PlainLaws : Type 0 where
+  pub commits : (lines : List Line) (events : List (List Event)) (t : World Donor) (tells : Bool) → PlainRuns (opened no_donor tells) lines events t → AreCommits (all_events events) t.donor.binlog
+  pub drops : (lines : List Line) (events : List (List Event)) (t : World Donor) (tells : Bool) → PlainRuns (opened no_donor tells) lines events t → AreDrops 0 (all_events events) t.donor.drops
+  pub sets : (lines : List Line) (events : List (List Event)) (t : World Donor) (tells : Bool) → PlainRuns (opened no_donor tells) lines events t → AreSets lines events t.donor.binlog
+  pub stop : (lines : List Line) (events : List (List Event)) (t : World Donor) (tells : Bool) → PlainRuns (opened no_donor tells) lines events t → ShowsStop t.donor tells no_clone (all_events events)
+
+-- a count that rose since a disk was asked rose since before
+rose_before : (old asked final : ℕ) → old ≤ asked → Rose asked final → Rose old final
+rose_before old asked final later rose = omega (arith, later, rose)
+
+module _ (old new : Streams) (given : Disks) (back : Ends) (config : Config) (lines : List Line) (first left : State)
+    (read : IsRead old.source new.source config lines) (began : Began config given first) (laws : LawsFrom first) (plains : PlainLaws) (gives : GivesBack back left) where
+  -- both disks tell what they hold, or not, as before
+  tells_first : first.tells ≡ tell given
+  tells_first = began.new.tells ∙ ap (λ x. x && is_some first.donor.recipient.told) began.donor.tells ∙ ap (λ x. is_some given.donor.told && x) began.recipient.tells
+
+  begins : plain_of first ≡ opened no_donor (tell given)
+  begins = λ i. record { donor = began.new.donor.donor i; begun = began.new.begun i; clone = began.new.clone i; tells = tells_first i }
+
+  -- how far the lines came
+  abbrev run_of : ℕ → List (List Event) → State → Run
+  run_of count events final = record { config = config; lines = lines; count = count; events = events; final = plain_of final; left = plain_of left }
+
+  module _ (count : ℕ) (events : List (List Event)) (final : State) (run : Runs first (take count lines) events final) (leaves : Leaves lines count final left) where
+    happened : PlainRuns (opened no_donor (tell given)) (take count lines) events (plain_of final)
+    happened = subst (λ (w : World Donor). PlainRuns w (take count lines) events (plain_of final)) begins (laws.plain (take count lines) events final run)
+
+    tells_left : Leaves lines count final left → left.tells ≡ final.tells
+    tells_left (behind is) = ap (λ (w : State). w.tells) is
+    tells_left (within line at off) = off.tells ∙ Events-tells donor_of SystemStep final off.front off.then off.happened
+
+    keeps : KeepsClone (donor_of left.donor) (tell given) left.clone back.disks.recipient.told
+    keeps =
+        let P : Bool → Type 0 = λ b. KeepsClone (donor_of left.donor) b left.clone left.donor.recipient.told in
+        let Q : Option DiskImage → Type 0 = KeepsClone (donor_of left.donor) (tell given) left.clone in
+        subst Q (sym (ap (λ (d : DiskState). d.told) gives.recipient)) (subst P (tells_left leaves ∙ laws.tells (take count lines) events final run ∙ tells_first) gives.clone)
+
+    came : (status : Status) → Writes status (run_of count events final) old new → EndsBy status (run_of count events final) old new → StepsOutcome status old new given back
+    came status writes ended = record {
+      run = Some (run_of count events final);
+      headline = record {
+        read = read;
+        empty = began.empty;
+        happened = happened;
+        writes = writes;
+        commits = plains.commits (take count lines) events (plain_of final) (tell given) happened;
+        sets = plains.sets (take count lines) events (plain_of final) (tell given) happened;
+        dropped = plains.drops (take count lines) events (plain_of final) (tell given) happened;
+        shows = plains.stop (take count lines) events (plain_of final) (tell given) happened;
+        drops = gives.drops;
+        stop = gives.stop;
+        disk = keeps_completed (donor_of left.donor) (tell given) left.clone back.disks.recipient.told keeps;
+      };
+      causes = record {
+        first = first;
+        final = final;
+        left = left;
+        opened = began.new;
+        donor = began.donor;
+        recipient = began.recipient;
+        happened = run;
+        leaves = leaves;
+        plain = refl;
+        plain_left = refl;
+        keeps = keeps;
+        donor_back = gives.donor;
+        recipient_back = gives.recipient;
+        donor_orders = laws.donor_orders (take count lines) events final run ∙ ap (λ orders. orders ++ filter_map donor_order (take count lines)) began.donor.orders;
+        recipient_orders = laws.recipient_orders (take count lines) events final run ∙ ap (λ orders. orders ++ filter_map recipient_order (take count lines)) began.recipient.orders;
+        recipient_fault = λ is. rose_before given.recipient.failures first.donor.recipient.failures final.donor.recipient.failures began.recipient.later (laws.recipient_fault (take count lines) events final run is);
+        donor_fault = λ is. rose_before given.donor.failures first.donor.donor.engine.disk.failures final.donor.donor.engine.disk.failures began.donor.later (laws.donor_fault (take count lines) events final run is);
+        ended = ended;
+      };
+    }
+
+    leaves_plain : Leaves lines count final left → LeavesPlain (run_of count events final)
+    leaves_plain (behind is) = headline.behind (ap plain_of is)
+    leaves_plain (within line at off) = headline.within line at (laws.breaks final line left off)
+
+  all_lines : take (length lines) lines ≡ lines
+  all_lines = take_all (length lines) lines (omega arith)
+
+  whole : (events : List (List Event)) → IsWhole (run_of (length lines) events left)
+  whole events = record { all = all_lines; left = refl }
+
+  whole_run : (is : AnsweredAll lines first left old.out.told new.out.told) → Runs first (take (length lines) lines) is.events left
+  whole_run is = let P : List Line → Type 0 = λ ls. Runs first ls is.events left in subst P (sym all_lines) is.run
+
+  -- the lines were carried out, to the end
+  finished : (status : Status) → (is : Finished lines first left old.out.told new.out.told old.binlog.told new.binlog.told) → (WritesAll (run_of (length lines) is.answered.events left) old new → Writes status (run_of (length lines) is.answered.events left) old new)
+      → EndsBy status (run_of (length lines) is.answered.events left) old new → StepsOutcome status old new given back
+  finished status is so ended = came (length lines) is.answered.events left (whole_run is.answered) (behind refl) status (so (record { whole = whole is.answered.events; out = is.answered.out; binlog = is.binlog })) ended
+
+  -- or up to a stop
+  stopped : (status : Status) → Stopped lines first left old.out.told new.out.told old.binlog.told new.binlog.told → ((run : Run) → WritesSome run old new → Writes status run old new) → ((run : Run) → EndsBy status run old new) → StepsOutcome status old new given back
+  stopped status (in_lines is same) so ended =
+      came is.count is.events is.final is.run is.leaves status (so _ (headline.in_lines (leaves_plain is.count is.events is.final is.run is.leaves is.leaves) is.out same)) (ended _)
+  stopped status (in_binlog is some) so ended =
+      came (length lines) is.events left (whole_run is) (behind refl) status (so _ (headline.in_binlog (whole is.events) is.out some)) (ended _)
+
+  pub ran : (status : Status) → EndsLines lines first left old.out new.out old.binlog new.binlog status → StepsOutcome status old new given back
+  ran Done is = finished Done is.0 (λ w. w) is.1
+  ran RecipientFault is = finished RecipientFault is.0 (λ w. w) is.1
+  ran RestartsSpent is = finished RestartsSpent is.0 (λ w. w) is.1
+  ran Memory is = stopped Memory is (λ run w. w) (λ run. tt)
+  ran SinkFault is = stopped SinkFault is.1 (λ run w. w) (λ run. is.0)
+  ran Usage is = absurd is
+  ran BadLine is = absurd is
+  ran SourceFault is = absurd is
+  ran DonorFault is = absurd is
+  ran NotEmpty is = absurd is
+  ran TooLong is = absurd is
+
+-- the lines were carried out as they were lent
+pub lent : (lines passed : List Line) (first left : State) (out out_new binlog binlog_new : End) (status : Status) → passed ≡ lines → EndsLines passed first left out out_new binlog binlog_new status → EndsLines lines first left out out_new binlog binlog_new status
+lent lines passed first left out out_new binlog binlog_new status same is =
+    let P : List Line → Type 0 = λ ls. EndsLines ls first left out out_new binlog binlog_new status in subst P same is

@@ -1,0 +1,10 @@
+pub mod Status
+pub mod Ends
+pub mod Headline
+pub mod Saying
+pub mod Causes
+pub mod Main
+pub mod Carrying
+pub mod Stops
+pub mod Looking
+pub mod Ended

@@ -1,0 +1,40 @@
+-- Why a script isn't read, and why its lines aren't begun.
+use Rattle.std.specs.Prelude.{ℕ, ◌≡◌, List, ⊤}
+use Rattle.clone_outside.specs.Causes.{Rose}
+use Rattle.clone_script.specs.Script.{IsFirstBad}
+use Rattle.clone_top.specs.Causes.{FailsDonor, LooksAtBoth, WereNotEmpty}
+use Rattle.clone_top.specs.Ends.{Command, steps, Disks, End, GaveAll, GaveTooMuch, IsCommand}
+use Rattle.clone_engine.specs.declared.opening.OpenCause.{OpenCause}
+use Rattle.clone_engine.specs.declared.opening.OpenCause.TheVariants as opening
+use Rattle.clone_top.specs.declared.reading.Unread.{Unread}
+use Rattle.clone_top.specs.declared.reading.Unread.TheVariants as unread
+use Rattle.clone_top.specs.declared.run.Unready.{Unready}
+use Rattle.clone_top.specs.declared.run.Unready.TheVariants as unready
+
+-- Why no script was read, by the words and the source, which stays where no command is asked for.
+-- Want of memory is free.
+abbrev pub IsUnread : List (List ℕ) → End → End → Unread → Type 0
+IsUnread words before after unread.Usage =
+    ((command : Command) → IsCommand words command → ⊥) × (after ≡ before)
+IsUnread words before after unread.SourceFault =
+    IsCommand words steps × Rose before.faults after.faults
+IsUnread words before after unread.TooLong =
+    IsCommand words steps × (script : List ℕ) × GaveTooMuch before after script
+IsUnread words before after (unread.BadLine number) =
+    IsCommand words steps × (script : List ℕ) × GaveAll before after script
+    × IsFirstBad script number
+IsUnread words before after unread.Memory = IsCommand words steps
+
+-- why the lines aren't begun over disks that were such, and are such now
+abbrev pub IsUnready : Disks → Disks → Unready → Type 0
+IsUnready given back unready.DonorFault = FailsDonor given back
+IsUnready given back unready.RecipientFault =
+    LooksAtBoth given back × Rose given.recipient.failures back.recipient.failures
+IsUnready given back unready.NotEmpty = LooksAtBoth given back × WereNotEmpty given
+IsUnready given back unready.Memory = ⊤
+
+-- why a donor isn't opened
+abbrev pub unready_of : OpenCause → Unready
+unready_of opening.NotEmpty = unready.NotEmpty
+unready_of opening.DiskFault = unready.DonorFault
+unready_of opening.NoMemory = unready.Memory

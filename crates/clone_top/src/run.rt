@@ -1,0 +1,408 @@
+ghost use Rattle.std.specs.Prelude.{◌≡◌, ◌++◌, ◌⊎◌, ◌^◌, ◌-◌, ℕ, Err, List, IfErr, IfOk, OnOk, OnErr, IsErrOf, codes, map, option_map};
+ghost use Rattle.std.specs.Fmt.{decimal};
+ghost use Rattle.std.specs.String.{string_bytes};
+ghost use Rattle.clone_outside.specs.Causes.{HasCause, Rose};
+ghost use Rattle.clone_outside.specs.DiskCalls.{Reads};
+ghost use Rattle.clone_engine.specs.Disks.{Visits};
+ghost use Rattle.clone_model.specs.Config.{IsConfig};
+ghost use Rattle.clone_model.specs.Texts.{ended};
+ghost use Rattle.clone_events.specs.World.{IsWithin};
+ghost use Rattle.clone_core.specs.Copied.{stop_of};
+ghost use Rattle.clone_core.specs.System.{donor_of};
+ghost use Rattle.clone_core.specs.Lines.{IsNew};
+ghost use Rattle.clone_top.specs.Carrying.{Answered, AnsweredAll, AnsweredSome, Finished, Stopped, StoppedAtLine};
+ghost use Rattle.clone_top.specs.Causes.{WereNotEmpty};
+ghost use Rattle.clone_top.specs.Ended.{EndsLines};
+ghost use Rattle.clone_top.specs.Ends.{AreEmpty, End, IsRead, disks, end_of, ends, streams};
+ghost use Rattle.clone_top.specs.Looking.{IsUnready};
+ghost use Rattle.clone_top.specs.Main.{Outcome, StepsOutcome};
+ghost use Rattle.clone_top.specs.Saying.{Says, SaysUnread, SaysUnready};
+ghost use Rattle.clone_top.specs.Stops.{StopsAtFailure};
+
+use crate::reading::{Unread, read_words};
+use crate::status::Status;
+use clone_core::{World, run_laws};
+use clone_donor::Donor;
+use clone_engine::{OpenCause, OpenRefusal, is_empty};
+use clone_events::run_laws as plain_laws;
+use clone_model::{Config, Drops, binlog_text};
+use clone_outside::{PageDisk, Refusal, Sink, Source, write_all};
+use clone_script::{Line, Script};
+use clone_session::Stop;
+use std::alloc::Global;
+use std::marker::Model;
+
+/// How a run ended, the disks that it was given, and what its donor told of drops and of a stop.
+#[derive(Drop)]
+pub struct Ended<D: PageDisk, R: PageDisk> {
+    /// The status.
+    pub status: u8,
+    /// The donor's disk.
+    pub donor: D,
+    /// The recipient's disk.
+    pub recipient: R,
+    /// The drops of tables: none where no donor was opened.
+    pub drops: Drops,
+    /// The stop of the clone, if it came to that.
+    pub stop: Option<Stop>,
+}
+
+impl<D: PageDisk, R: PageDisk> Model for Ended<D, R> {
+    ghost use Rattle.std.specs.Coded.{codes};
+    ghost use Rattle.std.specs.Prelude.{option_map};
+    ghost use Rattle.clone_engine.specs.Codes.{disk_code};
+    ghost use Rattle.clone_core.specs.Copied.{stop_of};
+    ghost use Rattle.clone_top.specs.Ends.{Ends, disks, ends};
+
+    ghost Value = { Ends };
+
+    ghost coded = { Prim.hlevel (codes, disk_code) };
+
+    ghost view = { λ e. ends e.status (disks (D.state e.donor) (R.state e.recipient)) e.drops.list
+        (option_map stop_of e.stop) };
+}
+
+/// Runs the program: reads the script that the words ask for from the source, carries out its lines
+/// over a donor on the one disk and a clone on the other, writes their answers to `out` and at the
+/// end the commits to `binlog`.
+pub fn clone_main<S: Source, K: Sink, B: Sink, D: PageDisk, R: PageDisk>(
+    alloc: Global,
+    words: &[String],
+    source: &mut S,
+    out: &mut K,
+    binlog: &mut B,
+    donor: D,
+    recipient: R,
+) -> Ended<D, R>
+    ensures outcome { Outcome (map (λ w. string_bytes w) words.now)
+        (streams (end_of (S.left source.old) (S.failures source.old))
+        (end_of (K.taken out.old) (K.failures out.old))
+        (end_of (B.taken binlog.old) (B.failures binlog.old)))
+        (streams (end_of (S.left source.new) (S.failures source.new))
+        (end_of (K.taken out.new) (K.failures out.new))
+        (end_of (B.taken binlog.new) (B.failures binlog.new)))
+        (disks (D.state donor) (R.state recipient)) result }
+    ensures source { StopsAtFailure S.left S.failures source.old source.new }
+{
+    let Left {
+        status,
+        donor,
+        recipient,
+        drops,
+        stop,
+    } = match read_words(alloc, words, source) {
+        Ok(script) => run_script(alloc, &script, out, binlog, donor, recipient),
+        Err(unread) => Left {
+            status: say_unread(alloc, out, unread),
+            donor,
+            recipient,
+            drops: Drops::new(alloc),
+            stop: None,
+        },
+    };
+    Ended {
+        status: status.number(),
+        donor,
+        recipient,
+        drops,
+        stop,
+    }
+}
+
+/// What a run leaves, with its status as it is.
+struct Left<D, R> {
+    status: Status,
+    donor: D,
+    recipient: R,
+    drops: Drops,
+    stop: Option<Stop>,
+}
+
+/// Why the lines of a script aren't begun.
+#[derive(Clone, Copy, Debug, PartialEq, Eq)]
+pub enum Unready {
+    /// The donor's disk failed.
+    DonorFault,
+    /// The recipient's disk failed.
+    RecipientFault,
+    /// A disk holds a space or a mark.
+    NotEmpty,
+    /// There was no memory.
+    Memory,
+}
+
+/// The lines of a script aren't begun, and the disks are given back.
+struct Unbegun<D, R> {
+    why: Unready,
+    donor: D,
+    recipient: R,
+}
+
+/// Carries out a script over two disks, and says how the run ended.
+fn run_script<K: Sink, B: Sink, D: PageDisk, R: PageDisk>(
+    alloc: Global,
+    script: &Script,
+    out: &mut K,
+    binlog: &mut B,
+    donor: D,
+    recipient: R,
+) -> Left<D, R>
+    requires config { IsConfig script.now.config }
+    ensures { (number : ℕ) (before after : End)
+        → IsRead before after script.now.config script.now.lines.items
+        → StepsOutcome result.status
+        (streams before (end_of (K.taken out.old) (K.failures out.old))
+        (end_of (B.taken binlog.old) (B.failures binlog.old)))
+        (streams after (end_of (K.taken out.new) (K.failures out.new))
+        (end_of (B.taken binlog.new) (B.failures binlog.new)))
+        (disks (D.state donor) (R.state recipient))
+        (ends number (disks (D.state result.donor) (R.state result.recipient)) result.drops.list
+        (option_map stop_of result.stop)) }
+{
+    let mut world = match begin(alloc, script.config, donor, recipient) {
+        Ok(world) => world,
+        Err(
+            Unbegun {
+                why,
+                donor,
+                recipient,
+            },
+        ) => {
+            return Left {
+                status: say_unready(out, why),
+                donor,
+                recipient,
+                drops: Drops::new(alloc),
+                stop: None,
+            };
+        }
+    };
+    let status = run_lines(alloc, &script.lines, out, binlog, &mut world);
+    run_laws();
+    plain_laws();
+    world.laws();
+    let stop = world.stop();
+    let (donor, recipient, drops) = world.into_disks();
+    Left {
+        status,
+        donor,
+        recipient,
+        drops,
+        stop,
+    }
+}
+
+/// Looks whether both disks are empty, and opens a donor over the one.
+fn begin<D: PageDisk, R: PageDisk>(
+    alloc: Global,
+    config: Config,
+    donor: D,
+    recipient: R,
+) -> Result<World<D, R>, Unbegun<D, R>>
+    requires { IsConfig config }
+    ensures new { IfOk result (IsNew config) }
+    ensures empty { OnOk result (AreEmpty (disks (D.state donor) (R.state recipient))) }
+    ensures donor { IfOk result
+        (λ world. Visits (D.state donor) world.donor.donor.engine.disk) }
+    ensures recipient { IfOk result
+        (λ world. Visits (R.state recipient) world.donor.recipient) }
+    ensures why { IfErr result (λ unbegun. IsUnready (disks (D.state donor) (R.state recipient))
+        (disks (D.state unbegun.donor) (R.state unbegun.recipient)) unbegun.why) }
+{
+    let mut donor = donor;
+    let mut recipient = recipient;
+    if let Err(why) = look(alloc, &mut donor, &mut recipient) {
+        return Err(Unbegun {
+            why,
+            donor,
+            recipient,
+        });
+    }
+    match Donor::open(alloc, donor, config) {
+        Ok(donor) => Ok(World::new(alloc, donor, recipient)),
+        Err(OpenRefusal { cause, disk }) => Err(Unbegun {
+            why: Unready::from(cause),
+            donor: disk,
+            recipient,
+        }),
+    }
+}
+
+/// Looks whether both disks are empty, the donor's first.
+fn look<D: PageDisk, R: PageDisk>(
+    alloc: Global,
+    donor: &mut D,
+    recipient: &mut R,
+) -> Result<(), Unready>
+    ensures empty { OnOk result (AreEmpty (disks (D.state donor.old) (R.state recipient.old))) }
+    ensures donor { Reads (result ≡ Err Unready.DonorFault)
+        (D.state donor.old) (D.state donor.new) }
+    ensures recipient { Reads (result ≡ Err Unready.RecipientFault)
+        (R.state recipient.old) (R.state recipient.new) }
+    ensures ahead { result ≡ Err Unready.DonorFault
+        → R.state recipient.new ≡ R.state recipient.old }
+    ensures not_empty { result ≡ Err Unready.NotEmpty
+        → WereNotEmpty (disks (D.state donor.old) (R.state recipient.old)) }
+{
+    let donor_empty = match is_empty(alloc, donor) {
+        Ok(empty) => empty,
+        Err(Refusal::Fault) => return Err(Unready::DonorFault),
+        Err(Refusal::NoMemory) => return Err(Unready::Memory),
+    };
+    let recipient_empty = match is_empty(alloc, recipient) {
+        Ok(empty) => empty,
+        Err(Refusal::Fault) => return Err(Unready::RecipientFault),
+        Err(Refusal::NoMemory) => return Err(Unready::Memory),
+    };
+    if !donor_empty || !recipient_empty {
+        return Err(Unready::NotEmpty);
+    }
+    Ok(())
+}
+
+/// Carries out the lines of a script, and then writes the binlog.
+fn run_lines<K: Sink, B: Sink, D: PageDisk, R: PageDisk>(
+    alloc: Global,
+    lines: &[Line],
+    out: &mut K,
+    binlog: &mut B,
+    world: &mut World<D, R>,
+) -> Status
+    requires new { (config : Config) × IsNew config world.old }
+    ensures { EndsLines lines.now world.old world.new
+        (end_of (K.taken out.old) (K.failures out.old))
+        (end_of (K.taken out.new) (K.failures out.new))
+        (end_of (B.taken binlog.old) (B.failures binlog.old))
+        (end_of (B.taken binlog.new) (B.failures binlog.new)) result }
+{
+    match write_lines(alloc, lines, out, binlog, world) {
+        Ok(()) => Status::from(world.ending()),
+        Err(refusal) => Status::from(refusal),
+    }
+}
+
+/// Carries out the lines of a script and writes their answers, and then the binlog.
+fn write_lines<K: Sink, B: Sink, D: PageDisk, R: PageDisk>(
+    alloc: Global,
+    lines: &[Line],
+    out: &mut K,
+    binlog: &mut B,
+    world: &mut World<D, R>,
+) -> Result<(), Refusal>
+    requires new { (config : Config) × IsNew config world.old }
+    ensures ok { OnOk result (Finished lines.now world.old world.new
+        (K.taken out.old) (K.taken out.new) (B.taken binlog.old) (B.taken binlog.new)) }
+    ensures err { OnErr result (Stopped lines.now world.old world.new
+        (K.taken out.old) (K.taken out.new) (B.taken binlog.old) (B.taken binlog.new)) }
+    ensures fault { IsErrOf result Refusal.Fault → Rose (K.failures out.old) (K.failures out.new)
+        ⊎ Rose (B.failures binlog.old) (B.failures binlog.new) }
+{
+    carry_out(alloc, lines, out, world)?;
+    let text = binlog_text(alloc, world.binlog())?;
+    write_all(binlog, text.as_bytes())
+}
+
+/// Carries out the lines of a script in turn, and writes the answer of each.
+fn carry_out<K: Sink, D: PageDisk, R: PageDisk>(
+    alloc: Global,
+    lines: &[Line],
+    out: &mut K,
+    world: &mut World<D, R>,
+) -> Result<(), Refusal>
+    requires { (config : Config) × IsNew config world.old }
+    ensures ok { OnOk result
+        (AnsweredAll lines.now world.old world.new (K.taken out.old) (K.taken out.new)) }
+    ensures err { OnErr result
+        (AnsweredSome lines.now world.old world.new (K.taken out.old) (K.taken out.new)) }
+    ensures cause { HasCause (K.failures out.old) (K.failures out.new) result }
+{
+    run_laws();
+    for line in lines {
+        carry_one(alloc, line, out, world)?;
+    }
+    Ok(())
+}
+
+/// Carries out one line, and writes its answer.
+fn carry_one<K: Sink, D: PageDisk, R: PageDisk>(
+    alloc: Global,
+    line: &Line,
+    out: &mut K,
+    world: &mut World<D, R>,
+) -> Result<(), Refusal>
+    requires { IsWithin donor_of (2 ^ 63 - 1) world.old }
+    ensures ok { OnOk result (Answered line.now world.old world.new (K.taken out.old)
+        (K.taken out.new)) }
+    ensures err { OnErr result
+        (StoppedAtLine line.now world.old world.new (K.taken out.old) (K.taken out.new)) }
+    ensures cause { HasCause (K.failures out.old) (K.failures out.new) result }
+{
+    let mut answer = world.event(alloc, line)?;
+    answer.push('\n')?;
+    write_all(out, answer.as_bytes())
+}
+
+/// Writes a text, and says that the run ended so, or why it was not written.
+fn say<K: Sink>(out: &mut K, text: &str, status: Status) -> Status
+    ensures { Says status result (end_of (K.taken out.old) (K.failures out.old))
+        (end_of (K.taken out.new) (K.failures out.new)) text.now }
+{
+    match write_all(out, text.as_bytes()) {
+        Ok(()) => status,
+        Err(refusal) => Status::from(refusal),
+    }
+}
+
+/// Says why no script was read.
+fn say_unread<K: Sink>(alloc: Global, out: &mut K, unread: Unread) -> Status
+    ensures { SaysUnread unread result (end_of (K.taken out.old) (K.failures out.old))
+        (end_of (K.taken out.new) (K.failures out.new)) }
+{
+    match unread {
+        Unread::Usage => say(out, "usage\n", Status::Usage),
+        Unread::SourceFault => say(out, "source fault\n", Status::SourceFault),
+        Unread::TooLong => say(out, "script too long\n", Status::TooLong),
+        Unread::BadLine { line } => say_bad_line(alloc, out, line),
+        Unread::Memory => Status::Memory,
+    }
+}
+
+/// Says why the lines aren't begun.
+fn say_unready<K: Sink>(out: &mut K, unready: Unready) -> Status
+    ensures { SaysUnready unready result (end_of (K.taken out.old) (K.failures out.old))
+        (end_of (K.taken out.new) (K.failures out.new)) }
+{
+    match unready {
+        Unready::DonorFault => say(out, "donor disk fault\n", Status::DonorFault),
+        Unready::RecipientFault => say(out, "recipient disk fault\n", Status::RecipientFault),
+        Unready::NotEmpty => say(out, "not empty\n", Status::NotEmpty),
+        Unready::Memory => Status::Memory,
+    }
+}
+
+/// Says which line is the first bad one.
+fn say_bad_line<K: Sink>(alloc: Global, out: &mut K, line: u64) -> Status
+    ensures { Says Status.BadLine result (end_of (K.taken out.old) (K.failures out.old))
+        (end_of (K.taken out.new) (K.failures out.new))
+        (ended (codes "bad line " ++ decimal line)) }
+{
+    let Ok(text) = format!(in alloc; "bad line {line}\n") else {
+        return Status::Memory;
+    };
+    say(out, text.as_str(), Status::BadLine)
+}
+
+/// Why a donor that isn't opened keeps the lines from being begun.
+impl From<OpenCause> for Unready {
+    ghost use Rattle.clone_top.specs.Looking.{unready_of};
+
+    ghost from_gives = { λ cause unready. unready ≡ unready_of cause };
+
+    fn from(cause: OpenCause) -> Unready {
+        match cause {
+            OpenCause::NotEmpty => Unready::NotEmpty,
+            OpenCause::DiskFault => Unready::DonorFault,
+            OpenCause::NoMemory => Unready::Memory,
+        }
+    }
+}
