@@ -12,7 +12,11 @@ trap 'rm -rf "$copy"' EXIT
 
 [ $# -gt 0 ] || set -- $(ls "$top/tests/edits")
 cp "$top/crates.txt" "$top/HANDLES" "$copy" || exit 1
-(cd "$top" && tar cf - --exclude=out --exclude=must-fail crates) | (cd "$copy" && tar xf -) || exit 1
+# What was proved so far comes along, so that of each crate only what an edit changes is proved again.
+cp -al "$top/crates" "$copy/crates" 2>/dev/null || cp -a "$top/crates" "$copy" || exit 1
+for name in "$copy"/crates/*; do
+    rm -rf "$name/must-fail"
+done
 for name in "$@"; do
     cp -r "$top/tests/edits/$name" "$copy/crates/$name/must-fail" || exit 1
 done

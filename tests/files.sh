@@ -62,6 +62,22 @@ expect 'reading makes no directory' 1 test -e "$work/above"
 expect 'pages are written' 0 "$program" write "$disk"
 expect 'another process reads them' 0 "$program" read "$disk"
 expect 'files have their exact lengths' 0 sizes "$disk" '64 ./mark 8388608 ./space_1.pages 8388672 total '
+# Which files and directories a write of a disk in a new directory syncs, by what the system is asked.
+if command -v strace >/dev/null; then
+    traced=$work/traced/disk
+    strace -f -y -e trace=fsync,fdatasync -o "$work/syncs" "$program" write "$traced"
+    synced() {
+        grep -q "sync([0-9]*<$1>) = 0" "$work/syncs"
+    }
+    expect 'the pages are synced' 0 synced "$traced/space_1.pages"
+    expect 'the mark is synced before it takes its name' 0 synced "$traced/mark.new"
+    expect 'the directory is synced' 0 synced "$traced"
+    expect 'so is the one that got an entry for it' 0 synced "$work/traced"
+    expect 'and the one above that' 0 synced "$work"
+else
+    echo 'there is no strace: what is synced is left out'
+fi
+
 : >"$disk/space_01.pages"
 : >"$disk/notes"
 expect 'foreign files are left alone' 0 "$program" read "$disk"

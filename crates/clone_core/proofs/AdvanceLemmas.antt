@@ -1,5 +1,5 @@
 -- A step of a clone: what happens, and what the recipient's disk holds then.
-use Rattle.std.proofs.Common.{◌≡◌, ◌≤◌, ◌<◌, ◌+◌, ◌==◌, ◌&&◌, ◌⊎◌, inl, inr, ℕ, zero, suc, List, [], ◌∷◌, length, Bool, true, false, cond, refl, sym, ap, ◌∙◌, subst, arith, Option, Some, None, option_map, unwrap_or, is_some, MatchOption, Result, Ok, Err}
+use Rattle.std.proofs.Common.{◌≡◌, ◌≤◌, ◌<◌, ◌==◌, ◌&&◌, ◌⊎◌, inl, inr, ℕ, zero, suc, List, [], ◌∷◌, length, Bool, true, false, cond, refl, sym, ap, ◌∙◌, subst, arith, Option, Some, None, option_map, unwrap_or, is_some, MatchOption, Result, Ok, Err}
 use Rattle.std.specs.FinMap as finite
 use Rattle.std.specs.Option.{ForSome}
 use Rattle.std.specs.Ordering.{nat_cmp}
@@ -12,8 +12,7 @@ use Rattle.clone_engine.proofs.ToldLemmas.{for_told}
 use Rattle.clone_engine.specs.Disks.{Visits}
 use Rattle.clone_outside.specs.DiskCalls.{DiskState}
 use Rattle.clone_events.specs.World.{IsUnderWay as Goes, HasEnded, Stop, Progress, absent, copying, complete, broken, spent, Clone, IsSure, before_stop, stop_now}
-use Rattle.clone_events.specs.BreaksOff.{Becomes}
-use Rattle.clone_events.specs.Events.{Event, to_go_on, stopped, readied, completed, broke, lost, again, idle, complete_text, recipient_fault, spent_text, StandsStill, ComesToStop, CopiesStage, Completes, Clones, Happens, clone_after}
+use Rattle.clone_events.specs.Events.{Event, to_go_on, stopped, readied, completed, broke, lost, again, idle, complete_text, recipient_fault, spent_text, StandsStill, Clones, Happens, clone_after}
 use Rattle.clone_events.specs.Runs.{Finishes, GoesOn}
 use Rattle.clone_events.specs.Runs as goes
 use Rattle.clone_engine.specs.Donor as staged
@@ -28,7 +27,6 @@ use Rattle.clone_engine.specs.Engine.{Engine}
 use Rattle.clone_request.specs.Requester.{IsStopOf, IsUnderWay, Requester}
 use Rattle.clone_core.specs.System.{CopiesOn, SystemStep, donor_of}
 use Rattle.clone_core.specs.Lines.{State}
-use Rattle.clone_core.specs.Called.{StaysUntold}
 use Rattle.clone_core.specs.CloneEvents.{Comes, at_once, by_stop, EndsUntold}
 use Rattle.clone_core.specs.Copied.{HoldsEnded, HoldsStop, WasAt, clone_of, progress_of, stop_of}
 use Rattle.clone_core.specs.declared.world.Course.{Course}

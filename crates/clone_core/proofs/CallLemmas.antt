@@ -1,5 +1,5 @@
 -- A call of the donor by its step, and what an act that no requester makes leaves of a clone.
-use Rattle.std.proofs.Common.{◌≡◌, ◌≤◌, ℕ, ◌+◌, ◌&&◌, List, [], Bool, true, false, refl, sym, ap, ◌∙◌, subst, arith, length-append, length, Option, Some, None, is_some, option_map, MatchOption, IsTrue, Result, Ok, Err, inl, inr, nat_cmp, if◌then◌else◌}
+use Rattle.std.proofs.Common.{◌≡◌, ◌≤◌, ℕ, ◌+◌, ◌&&◌, List, [], Bool, true, false, refl, sym, ap, ◌∙◌, subst, arith, length-append, length, Option, Some, None, is_some, MatchOption, IsTrue, Result, Ok, Err, inl, inr, nat_cmp}
 use Rattle.std.specs.FinMap as finite
 use Rattle.std.specs.Option.{ForSome}
 use Rattle.clone_outside.specs.Disk.{DiskImage, ForTold}
@@ -8,32 +8,29 @@ use Rattle.clone_plain.specs.declared.refusal.EngineRefusal.{EngineRefusal}
 use Rattle.clone_plain.specs.declared.refusal.EngineRefusal.TheVariants.{Because, NoMemory}
 use Rattle.clone_plain.specs.Donor.{Donor}
 use Rattle.clone_plain.specs.Effects.{Gets}
-use Rattle.clone_plain.specs.Calls.{Call, begin, get, flush_begin, Done, did_begin, did_get, done, refused}
+use Rattle.clone_plain.specs.Calls.{Call, begin, get, Done, did_begin, did_get, done, refused}
 use Rattle.clone_events.specs.World.{Stop, Clone, IsSure, index_in}
 use Rattle.clone_events.specs.Events.{made, counted, Sees}
 use Rattle.clone_events.proofs.BinlogLemmas.{Adds, adds_none, made_adds}
 use Rattle.clone_events.proofs.StopLemmas.{before_stop-longer}
 use Rattle.clone_staged.specs.Holds.{HoldsCopy}
-use Rattle.clone_session.specs.Cloning.{Cloning}
-use Rattle.clone_session.specs.CloneCalls.{Archives}
-use Rattle.clone_session.specs.Effects.{Becomes, with_noted}
 use Rattle.clone_session.specs.declared.info.Stop as session
 use Rattle.clone_engine.specs.Engine.{Engine, IsEngine}
-use Rattle.clone_engine.specs.Steps.{answer_of, has_begun}
+use Rattle.clone_engine.specs.Steps.{answer_of}
 use Rattle.clone_engine.specs.Acts as act
 use Rattle.clone_engine.specs.Acts.{Act, Acts, Does}
 use Rattle.clone_engine.specs.Donor as staged
-use Rattle.clone_engine.specs.Serving.{AnswersCall, noted_by}
+use Rattle.clone_engine.specs.Serving.{AnswersCall}
 use Rattle.clone_request.specs.Advancing.{IsOutside}
 use Rattle.clone_request.specs.Requester.{IsUnderWay, Requester}
 use Rattle.clone_request.proofs.KeepLemmas.{keeps}
 use Rattle.clone_core.specs.System.{donor_of, tell}
 use Rattle.clone_core.specs.Lines.{State}
 use Rattle.clone_core.specs.Called.{Stays, Called}
-use Rattle.clone_core.specs.Copied.{HoldsStop, HoldsEnded, HoldsClone, IsOnItsWay, StandsAt, WasAt, stop_of, clone_of}
+use Rattle.clone_core.specs.Copied.{HoldsStop, HoldsEnded, HoldsClone, IsOnItsWay, StandsAt, WasAt, clone_of}
 use Rattle.clone_core.specs.declared.world.Course.{Course}
 use Rattle.clone_core.specs.declared.world.Course.TheVariants as course
-use Rattle.clone_core.proofs.StepLemmas.{transacted, served, made_refines, answered_visits, answered_wants, done_step}
+use Rattle.clone_core.proofs.StepLemmas.{transacted, made_refines, answered_visits, answered_wants, done_step}
 
 -- ---- facts that stand where something is told
 

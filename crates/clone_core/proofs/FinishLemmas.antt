@@ -1,6 +1,6 @@
 -- A clone is brought to its end: what happens behind the stages that are copied meanwhile happens
 -- from the beginning, but that the clone comes to its stop first, if it comes to it.
-use Rattle.std.proofs.Common.{◌≡◌, ◌≤◌, ◌<◌, ◌-◌, ℕ, Bool, refl, sym, ap, ◌∙◌, subst, arith, List, [], ◌∷◌, Option, Some, None, MatchOption, Result, Ok, Err, IfOk, OnErr, IsErr}
+use Rattle.std.proofs.Common.{◌≡◌, ◌≤◌, ◌<◌, ◌-◌, ℕ, Bool, refl, sym, ap, ◌∙◌, subst, arith, List, [], ◌∷◌, Some, None, MatchOption, Result, Ok, Err, IfOk, OnErr, IsErr}
 use Rattle.std.specs.declared.alloc.AllocError.{AllocError}
 use Rattle.std.specs.FinMap.{FinMap}
 use Rattle.std.specs.Ordering.{nat_cmp}

@@ -1,5 +1,5 @@
 -- An order that a line gives to a disk.
-use Rattle.std.proofs.Common.{◌≡◌, ◌&&◌, ◌++◌, ◌∷◌, [], ℕ, Bool, refl, sym, ap, ◌∙◌, subst, Option, is_some, Result, Ok, Err, OnErr, codes}
+use Rattle.std.proofs.Common.{◌≡◌, ◌&&◌, ℕ, Bool, refl, sym, ap, ◌∙◌, subst, Option, is_some, Result, Ok, Err, OnErr, codes}
 use Rattle.std.specs.FinMap as finite
 use Rattle.std.specs.Ordering.{nat_cmp}
 use Rattle.clone_outside.specs.Disk.{DiskImage}

@@ -10,7 +10,6 @@ use Rattle.clone_outside.specs.declared.mark.Mark.TheVariants as mark
 use Rattle.clone_model.specs.History.{Row, Rows, fold, rows_in}
 use Rattle.clone_plain.specs.Donor.{Donor}
 use Rattle.clone_events.specs.World.{Stop, complete, Clone, HasEnded, IsSure, before_stop}
-use Rattle.clone_events.specs.Events.{showed, incomplete, hidden, damaged}
 use Rattle.clone_recover.specs.Listing.{ListsRows}
 use Rattle.clone_recover.specs.Restores.{Answers, again, anew, ForStep, HasMark, IsCause}
 use Rattle.clone_recover.specs.declared.recovery.Recovered.{Recovered}

@@ -1,5 +1,5 @@
 -- What a run of a world says, by the laws of plain runs.
-use Rattle.std.proofs.Common.{◌≡◌, ◌≤◌, ℕ, List, [], ◌∷◌, length, refl, ap, subst, inl, inr}
+use Rattle.std.proofs.Common.{◌≡◌, ◌≤◌, ℕ, List, [], ◌∷◌, length, ap, subst}
 use Rattle.clone_outside.specs.Causes.{Rose}
 use Rattle.clone_model.specs.declared.config.Config.{Config}
 use Rattle.clone_script.specs.declared.lines.Line.{Line}
@@ -9,7 +9,7 @@ use Rattle.clone_events.specs.Events.{Side, Event, PlainEvent, Happens}
 use Rattle.clone_events.specs.Events as plain_events
 use Rattle.clone_events.specs.Headline.{all_events}
 use Rattle.clone_events.specs.Runs as plain_runs
-use Rattle.clone_events.specs.World.{World, IsWithin, opened}
+use Rattle.clone_events.specs.World.{IsWithin, opened}
 use Rattle.clone_events.proofs.ReachedLemmas.{Runs-IsWithin}
 use Rattle.clone_events.proofs.RunLemmas.{Runs-Events, Runs-tells}
 use Rattle.clone_core.specs.System.{SystemStep, donor_of}

@@ -24,7 +24,7 @@ plain_of s =
 
 -- a world in which nothing has happened, over an engine of these sizes
 pub record IsNew (config : Config) (s : State) : Type 0 where
-  pub donor : IsOpened s.donor.donor.engine
+  pub donor : IsOpened config s.donor.donor.engine
   pub session : s.donor.donor.cloning.session ≡ None
   pub begun : s.begun ≡ finite.empty
   pub clone : s.clone ≡ no_clone

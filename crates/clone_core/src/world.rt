@@ -103,7 +103,7 @@ impl<D: PageDisk, R: PageDisk> World<D, R> {
         requires idle { donor.cloning.session ≡ None }
         requires stop { donor.cloning.stop ≡ None }
         requires blank { ForTold (R.state recipient).told (λ m. m ≡ blank) }
-        ensures new { (config : Config) → IsOpened donor.engine → IsNew config result }
+        ensures new { (config : Config) → IsOpened config donor.engine → IsNew config result }
         ensures donor { result.donor.donor ≡ donor }
         ensures recipient { result.donor.recipient ≡ R.state recipient }
     {

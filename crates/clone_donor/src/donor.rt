@@ -57,7 +57,7 @@ impl<D: PageDisk> Donor<D> {
     /// space or a mark, and where it fails.
     pub fn open(alloc: Global, disk: D, config: Config) -> Result<Donor<D>, OpenRefusal<D>>
         requires config { IsConfig config }
-        ensures opened { IfOk result (λ d. IsOpened d.engine) }
+        ensures opened { IfOk result (λ d. IsOpened config d.engine) }
         ensures checkpoint { IfOk result (λ d. d.engine.flights.checkpoint ≡ first_lsn) }
         ensures idle { IfOk result (λ d. d.cloning.session ≡ None) }
         ensures stop { IfOk result (λ d. d.cloning.stop ≡ None) }

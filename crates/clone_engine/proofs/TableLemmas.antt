@@ -27,7 +27,7 @@ use Rattle.clone_trx.specs.Kept.{Keeps, IsSafe}
 use Rattle.clone_trx.proofs.Common.{get-empty, same_Some, get-removed_other, get-removed_same, nat_cmp-IsAntisymmetric, nat_cmp_total, len-without}
 use Rattle.clone_outside.specs.DiskCalls.{DiskState, Counts}
 use Rattle.clone_engine.specs.Engine.{AreOfDonor, IsEngine, MakesPages, Engine, LiesIn, StandsBeside}
-use Rattle.clone_engine.specs.Opened.{IsNotEmpty, IsOpened}
+use Rattle.clone_engine.specs.Opened.{IsNotEmpty}
 use Rattle.clone_engine.proofs.EngineLemmas.{past_rule, stands_with, is_there, spaced_page, engine, first_files, first_made, past_made, stays_flown, made_flown, right_told, still_engine, made_files, no_table, space_left, space_made}
 use Rattle.clone_engine.proofs.ToldLemmas.{for_told, either_tells, told_both, told_either, told_if}
 use Rattle.clone_archive.specs.Archived.{Archived, kept_from}
@@ -205,8 +205,8 @@ module _ (e : Engine) (c : Cloning) (engine : IsEngine e) (no_write : c.session 
   no_list : list_of c ≡ None
   no_list = ap (option_map (λ (s : Session). s.snap.list)) no_write
 
-  pub fresh_donor : IsBuffer e.buffer → IsOpened e → c.tracking.pages ≡ None → c.archive ≡ None → c.ring ≡ e.buffer.ring.size → e.buffer.ring.floor ≡ first_lsn → e.flights.checkpoint ≡ first_lsn → IsDonor fresh
-  fresh_donor buffer opened pages archive ring floor checkpoint = record {
+  pub fresh_donor : IsBuffer e.buffer → e.buffer.log ≡ opening_records ∷ [] → c.tracking.pages ≡ None → c.archive ≡ None → c.ring ≡ e.buffer.ring.size → e.buffer.ring.floor ≡ first_lsn → e.flights.checkpoint ≡ first_lsn → IsDonor fresh
+  fresh_donor buffer log pages archive ring floor checkpoint = record {
     engine = engine;
     ring = ring;
     archives = can_unarchived c e.buffer.ring archive;
@@ -214,7 +214,7 @@ module _ (e : Engine) (c : Cloning) (engine : IsEngine e) (no_write : c.session 
     floor = subst (λ (o : Option Archived). ForTold e.disk.told (λ m. e.buffer.ring.floor ≡ needed_from e.flights.checkpoint (kept_from o))) (sym archive)
         (told (λ m. e.buffer.ring.floor ≡ e.flights.checkpoint) (λ m first_stands. floor ∙ sym checkpoint));
     placed = told (λ m. (space number : ℕ) → WasPlaced space number e.buffer.log)
-        (λ m first_stands. grown (record e { buffer = record e.buffer { log = [] } }) e engine buffer opening_records first_stands.kept.right opened.log (λ space number. placed_first space number));
+        (λ m first_stands. grown (record e { buffer = record e.buffer { log = [] } }) e engine buffer opening_records first_stands.kept.right log (λ space number. placed_first space number));
     own = λ l some. absurd (none_is (list_of c) l no_list some);
     notes = no_notes e.disk.told e c.tracking.pages pages;
   }

@@ -1,4 +1,4 @@
-ghost use Rattle.std.specs.Prelude.{◌≡◌, ◌≤◌, ◌∷◌, [], Err, IfOk, IsTrue, None, OnOk, false};
+ghost use Rattle.std.specs.Prelude.{◌≡◌, ◌≤◌, ◌∷◌, [], Err, IfOk, IsTrue, None, OnOk, false, length};
 ghost use Rattle.std.specs.FinMap as finite;
 ghost use Rattle.clone_outside.specs.Disk.{ForTold, Steps, blank, with_created};
 ghost use Rattle.clone_outside.specs.DiskCalls.{Alters, Asks};
@@ -55,7 +55,7 @@ impl Engine {
     ) -> Result<Engine, OpenCause>
         requires config { IsConfig config }
         ensures donor { IfOk result (λ e. IsDonor (over e (D.state disk.new))) }
-        ensures opened { IfOk result (λ e. IsOpened (over e (D.state disk.new)).engine) }
+        ensures opened { IfOk result (λ e. IsOpened config (over e (D.state disk.new)).engine) }
         ensures checkpoint { IfOk result (λ e. e.flusher.checkpoint ≡ first_lsn) }
         ensures idle { IfOk result (λ e. e.cloning.session ≡ None) }
         ensures stop { IfOk result (λ e. e.cloning.stop ≡ None) }
@@ -87,6 +87,7 @@ fn parts<D: PageDisk>(
     requires config { IsConfig config }
     ensures donor { IfOk result (λ parts. parts.0 ≡ no_donor) }
     ensures log { IfOk result (λ parts. parts.1.log ≡ opening_records ∷ []) }
+    ensures frames { IfOk result (λ parts. length parts.1.pool.frames ≡ config.pool) }
     ensures kept { IfOk result (λ parts. Keeps parts.0 parts.1) }
     ensures writes { IfOk result (λ parts. parts.2.writes ≡ finite.empty) }
     ensures checkpoint { IfOk result (λ parts. parts.2.checkpoint ≡ first_lsn) }

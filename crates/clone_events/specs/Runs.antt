@@ -8,7 +8,6 @@ use Rattle.clone_script.specs.declared.lines.Line.TheVariants.{Create, Drop, Beg
 use Rattle.clone_plain.specs.declared.refusal.Cause.{Cause}
 use Rattle.clone_plain.specs.Donor.{Donor}
 use Rattle.clone_plain.specs.Calls.{Call, create, drop, begin, put, delete, get, undo_one, commit, flush_begin, flush_half, flush_land, checkpoint, end, Done, did_begin, did_put, did_flush_begin, did_flush_half, did_flush_land, did_oldest_dirty, Made, done, refused, made_call, call_of}
-use Rattle.clone_plain.specs.Answers.{Text}
 use Rattle.clone_events.specs.World.{World, Stop, index_in}
 use Rattle.clone_events.specs.Events.{to_donor, to_recipient, to_begin, to_go_on, Event, made, cleaned, looked, archived, started, stopped, readied, completed, broke, lost, again, showed, incomplete, hidden, damaged, ordered, said, Events}
 

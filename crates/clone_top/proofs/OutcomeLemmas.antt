@@ -1,11 +1,11 @@
 -- What comes of a run of a script, by how far it came.
-use Rattle.std.proofs.Common.{◌≡◌, ◌≤◌, ℕ, List, [], ◌++◌, ◌&&◌, Bool, is_some, length, take, refl, sym, ap, ◌∙◌, subst, inl, inr, Option, None, Some, MatchOption, codes, arith, filter_map}
+use Rattle.std.proofs.Common.{◌≡◌, ◌≤◌, ℕ, List, ◌++◌, ◌&&◌, Bool, is_some, length, take, refl, sym, ap, ◌∙◌, subst, Option, None, Some, MatchOption, codes, arith, filter_map}
 use Rattle.std.proofs.lemmas.List.{take_all}
 use Rattle.std.specs.Fmt.{decimal}
 use Rattle.clone_outside.specs.Causes.{Rose}
 use Rattle.clone_outside.specs.Disk.{DiskImage, ForTold}
 use Rattle.clone_outside.specs.DiskCalls.{DiskState}
-use Rattle.clone_model.specs.History.{Drops, fold}
+use Rattle.clone_model.specs.History.{fold}
 use Rattle.clone_model.specs.Texts.{ended}
 use Rattle.clone_model.specs.declared.config.Config.{Config}
 use Rattle.clone_script.specs.declared.lines.Line.{Line}
@@ -17,7 +17,6 @@ use Rattle.clone_events.specs.Headline.{AreCommits, AreDrops, AreSets, ShowsStop
 use Rattle.clone_events.specs.Runs as plain_runs
 use Rattle.clone_events.specs.World.{World, Stop, Progress, absent, copying, complete, broken, spent, Clone, HasEnded, IsSure, before_stop, no_clone, opened}
 use Rattle.clone_events.proofs.RunLemmas.{Events-tells}
-use Rattle.clone_staged.specs.Holds.{HoldsCopy}
 use Rattle.clone_engine.proofs.ToldLemmas.{for_told}
 use Rattle.clone_engine.specs.Disks.{Visits}
 use Rattle.clone_core.specs.System.{SystemStep, donor_of}
@@ -31,10 +30,10 @@ use Rattle.clone_top.specs.declared.run.Unready.{Unready}
 use Rattle.clone_top.specs.declared.run.Unready.TheVariants as unready
 use Rattle.clone_top.specs.declared.status.Status.{Status}
 use Rattle.clone_top.specs.declared.status.Status.TheVariants.{Done, Memory, Usage, BadLine, SourceFault, SinkFault, DonorFault, RecipientFault, RestartsSpent, NotEmpty, TooLong}
-use Rattle.clone_top.specs.Carrying.{AnsweredAll, AnsweredSome, Finished, Leaves, behind, within, Stopped, in_lines, in_binlog}
-use Rattle.clone_top.specs.Causes.{EndsBy, HasNotBegun, Hinders, IsAlone, RunsOver, said, silent}
+use Rattle.clone_top.specs.Carrying.{AnsweredAll, Finished, Leaves, behind, within, Stopped, in_lines, in_binlog}
+use Rattle.clone_top.specs.Causes.{EndsBy, Hinders, IsAlone, said, silent}
 use Rattle.clone_top.specs.Ended.{EndsLines}
-use Rattle.clone_top.specs.Ends.{AreEmpty, Disks, End, Ends, IsCommand, IsRead, Streams, disks, ends, steps, streams, tell}
+use Rattle.clone_top.specs.Ends.{AreEmpty, Disks, End, Ends, IsRead, Streams, steps, tell}
 use Rattle.clone_top.specs.Headline.{HasClone, HasCompleted, Headline, IsWhole, LeavesPlain, Run, Writes, WritesAll, WritesSome}
 use Rattle.clone_top.specs.Headline as headline
 use Rattle.clone_top.specs.Looking.{IsUnread, IsUnready}

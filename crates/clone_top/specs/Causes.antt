@@ -18,7 +18,7 @@ use Rattle.clone_core.specs.Lines.{State, IsNew, Runs, plain_of}
 use Rattle.clone_core.specs.Copied.{KeepsClone}
 use Rattle.clone_core.specs.Ending.{ending_of}
 use Rattle.clone_core.specs.declared.world.Ending.TheVariants as ending
-use Rattle.clone_top.specs.Ends.{End, Streams, Disks, Ends, GaveAll, GaveTooMuch, IsRead, AreEmpty, tell}
+use Rattle.clone_top.specs.Ends.{Streams, Disks, Ends, GaveAll, GaveTooMuch, IsRead, AreEmpty, tell}
 use Rattle.clone_top.specs.Headline.{Run, carried}
 use Rattle.clone_top.specs.Carrying.{Leaves}
 use Rattle.clone_top.specs.Saying.{Says}

@@ -1,8 +1,10 @@
 -- A buffer without pages, whose first frame is taken for the system page.
 use Rattle.std.proofs.lemmas.Bool.{cases_eq, cases_lt}
-use Rattle.std.proofs.lemmas.List.{length-replicate}
+use Rattle.std.proofs.lemmas.List.{length-replicate, length-set}
 use Rattle.std.specs.FinMap as finite
+use Rattle.clone_pool.specs.Frames.{changed, touched}
 use Rattle.clone_buffer.specs.Keeping.{IsKept}
+use Rattle.clone_buffer.specs.Writing.{after_records, changed_at, named_frame}
 use Rattle.clone_trx.proofs.Common.{◌≡◌, ◌≢◌, ◌<◌, ◌≤◌, ◌⊎◌, inl, inr, ℕ, true, List, [], ◌∷◌, length, set, replicate, refl, sym, ap, subst, ◌∙◌, arith, Option, Some, None, Ok, Result, MatchOption, IsTrue, is_some, nat_cmp, get_or-set_same, get_or-set_other, get_or_past, get_or-replicate, DiskImage, blank, System, Init, page_of-made, replayed, redone, Content, Fresh, Frame, PageName, FetchRefusal, no_frame, frame_at, holder, name_of, freshened, next_use, pinned, unpinned, Frames, Freshens, TakesFrame, IsHolder, used, with_frame, holder_name, no_name, Buffered, IsBuffer, Shown, image_of, Stands, at_rest, frame_of, Creates, any_names, get-empty, Record, Image, opening_records, system_size, AreLoose, system_page}
 use Rattle.clone_trx.proofs.CreateLemmas.{unheld}
 use Rattle.clone_trx.proofs.NewSpaceLemmas.{off_log}
@@ -90,3 +92,27 @@ stands_first v (Some m) none k = record {
   right = k.right;
   page = λ space number. off_log v.log at_rest blank m space number (frame_of v.pool.frames space number) (ap (redone space number) none) (k.page space number);
 }
+
+-- ---- how many frames there are
+
+records_frames : (rs : List Record) (start end : ℕ) (v : Frames) → length (after_records rs start end v).frames ≡ length v.frames
+records_frames [] start end v = refl
+records_frames (r ∷ rs) start end v = records_frames rs start end (changed_at (named_frame v.frames r) r start end v) ∙ one (named_frame v.frames r)
+  where
+    one : (o : Option ℕ) → length (changed_at o r start end v).frames ≡ length v.frames
+    one None = refl
+    one (Some b) = length-set v.frames b (changed r start end (frame_at v.frames b))
+
+fresh_frames : (page : PageName) (old new : Frames) (at : ℕ) → Freshens page old new (Ok at) → length new.frames ≡ length old.frames
+fresh_frames page old new at fresh = by (holder old.frames page) fresh
+  where
+    by : (o : Option ℕ) → MatchOption o (TakesFrame page old new (Ok at)) (λ b. (◌≡◌ {A = Result ℕ FetchRefusal} (Ok at) (Ok b)) × (new ≡ used b (with_frame b pinned old))) → length new.frames ≡ length old.frames
+    by None t = ap (λ (v : Frames). length v.frames) t.1 ∙ length-set old.frames at (freshened page (next_use old.uses) (frame_at old.frames at))
+    by (Some b) t =
+        let v : Frames = with_frame b pinned old in
+        ap (λ (w : Frames). length w.frames) t.1 ∙ length-set v.frames b (touched (next_use v.uses) (frame_at v.frames b)) ∙ length-set old.frames b (pinned (frame_at old.frames b))
+
+-- as many as a pool was made with
+pub opened_frames : (count at start end : ℕ) (page : PageName) (rs : List Record) (first old new : Frames) → first.frames ≡ replicate count no_frame → Freshens page first old (Ok at) → new ≡ after_records rs start end old → length (with_frame at unpinned new).frames ≡ count
+opened_frames count at start end page rs first old new begun fresh written =
+    length-set new.frames at (unpinned (frame_at new.frames at)) ∙ ap (λ (v : Frames). length v.frames) written ∙ records_frames rs start end old ∙ fresh_frames page first old at fresh ∙ ap length begun ∙ length-replicate count no_frame

@@ -59,6 +59,7 @@ pub fn open<D: PageDisk>(
         (λ m. with_created m 0 system_size)) }
     ensures ring { IfOk result (λ opened. opened.1.ring.floor ≡ first_lsn) }
     ensures size { IfOk result (λ opened. opened.1.ring.size ≡ ring) }
+    ensures pool { IfOk result (λ opened. length opened.1.pool.frames ≡ frames) }
     ensures stands { ForTold (D.state disk.old).told (λ m. m.spaces ≡ finite.empty)
         → IfOk result (λ opened. Stands opened.1 at_rest (D.state disk.new).told) }
 {

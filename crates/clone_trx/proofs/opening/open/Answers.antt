@@ -3,7 +3,7 @@ use Rattle.clone_trx.proofs.Common.{◌≡◌, ◌+◌, ℕ, List, [], ◌∷◌
 use Rattle.clone_trx.proofs.Common as common
 use Rattle.clone_trx.proofs.KeptLemmas.{opening_keeps}
 use Rattle.clone_trx.proofs.NewSpaceLemmas.{has_made}
-use Rattle.clone_trx.proofs.OpenLemmas.{is_taken, left_loose, opens, stands_first}
+use Rattle.clone_trx.proofs.OpenLemmas.{is_taken, left_loose, opened_frames, opens, stands_first}
 use Rattle.clone_trx.proofs.FramePinLemmas.{SamePins, records_pins}
 use Rattle.clone_trx.proofs.WriteLemmas.{written_kept}
 use Rattle.clone_trx.proofs.opening.open.Goals as goal
@@ -46,3 +46,10 @@ returns-clause-stands g c = λ _.
     let step : Steps before after (λ m. with_created m 0 system_size) = c.in-Ok.ensures.takes.done in
     let made = subst (λ (rs : List Record). ForTold after (HasMade rs)) (sym c.opening.ensures) (has_made before after 0 system_size (Init 0 0 System ∷ []) step) in
     c.unpin.ensures.stands at_rest after (c.write_space_held.ensures.stands at_rest after made (subst (λ (rs : List Record). NoFilesOfMade rs no_copies) (sym c.opening.ensures) (λ number. tt)) (c.in-Ok-fresh.ensures.stands at_rest after (stands_first c.in_ok-buffer.buffer after c.in_ok-buffer.ensures.log c.in_ok-buffer.ensures.stands)))
+
+pub returns-clause-pool : goal.returns-clause-pool
+returns-clause-pool g c =
+    let v : Buffered = c.fresh.new.self in
+    let w : Buffered = c.write_space_held.new.buffer in
+    ap (λ (b : Buffered). length b.pool.frames) c.unpin.ensures.unpinned
+    ∙ opened_frames c.args.frames c.in-Ok-fresh.at (end_of v.ring) (end_of v.ring + length (spelling c.opening.result)) (system_page 0) c.opening.result c.in_ok-buffer.buffer.pool v.pool w.pool (ap (λ p. p.frames) c.in_ok-buffer.ensures.pool) c.in-Ok-fresh.ensures.answer (ap (λ (b : Buffered). b.pool) c.write_space_held.ensures.written)

@@ -1,5 +1,4 @@
 use Rattle.std.proofs.Common.{string_bytes}
-use Rattle.clone_script.specs.declared.lines.Line.TheVariants as lines
 use Rattle.clone_events.specs.Runs.{Finishes}
 use Rattle.clone_core.specs.CloneEvents.{event_of}
 use Rattle.clone_core.proofs.FinishLemmas.{clone_answers, clone_breaks, clone_not_begun, comes_untold, finishes_advances}

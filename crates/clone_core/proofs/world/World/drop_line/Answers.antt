@@ -2,7 +2,7 @@ use Rattle.std.proofs.Common.{[], ◌∷◌, refl, string_bytes}
 use Rattle.clone_script.specs.declared.lines.Line.TheVariants as lines
 use Rattle.clone_plain.specs.Calls.{drop, did_drop, done}
 use Rattle.clone_events.specs.Events.{made}
-use Rattle.clone_core.proofs.LineLemmas.{same_breaks, event_answers, refusal_answers, drop_breaks}
+use Rattle.clone_core.proofs.LineLemmas.{same_breaks, refusal_answers, drop_breaks}
 use Rattle.clone_core.proofs.world.World.drop_line.Goals as goal
 
 pub returns-in_err-text-clause-err : goal.returns-in_err-text-clause-err

@@ -9,7 +9,7 @@ returns-clause-donor g c =
     let buffer = c.laws.ensures.buffer in
     let k = g.D.PageDisk.state c.parts.new.disk in
     let engine = opened_engine _ _ _ (g.D.PageDisk.state c.args.disk.now).told k is.donor is.log is.kept buffer is.floor is.stands is.writes is.checkpoint is.files is.made in
-    fresh_donor _ c.new.result engine fresh.session buffer (record { donor = is.donor; log = is.log }) fresh.tracking fresh.archive (fresh.ring ∙ sym is.size) is.floor is.checkpoint
+    fresh_donor _ c.new.result engine fresh.session buffer is.log fresh.tracking fresh.archive (fresh.ring ∙ sym is.size) is.floor is.checkpoint
 
 pub returns-clause-taken : goal.returns-clause-taken
 returns-clause-taken g c =
