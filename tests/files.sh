@@ -67,7 +67,7 @@ if command -v strace >/dev/null; then
     traced=$work/traced/disk
     strace -f -y -e trace=fsync,fdatasync -o "$work/syncs" "$program" write "$traced"
     synced() {
-        grep -q "sync([0-9]*<$1>) = 0" "$work/syncs"
+        grep -q "sync([0-9]*<$1>) *= 0" "$work/syncs"
     }
     expect 'the pages are synced' 0 synced "$traced/space_1.pages"
     expect 'the mark is synced before it takes its name' 0 synced "$traced/mark.new"
