@@ -31,7 +31,7 @@ use Rattle.clone_top.specs.declared.run.Unready.TheVariants as unready
 use Rattle.clone_top.specs.declared.status.Status.{Status}
 use Rattle.clone_top.specs.declared.status.Status.TheVariants.{Done, Memory, Usage, BadLine, SourceFault, SinkFault, DonorFault, RecipientFault, RestartsSpent, NotEmpty, TooLong}
 use Rattle.clone_top.specs.Carrying.{AnsweredAll, Finished, Leaves, behind, within, Stopped, in_lines, in_binlog}
-use Rattle.clone_top.specs.Causes.{EndsBy, Hinders, IsAlone, said, silent}
+use Rattle.clone_top.specs.Causes.{EndsBy, Hinders, IsAlone, OpensAtMost, said, silent}
 use Rattle.clone_top.specs.Ended.{EndsLines}
 use Rattle.clone_top.specs.Ends.{AreEmpty, Disks, End, Ends, IsRead, Streams, steps, tell}
 use Rattle.clone_top.specs.Headline.{HasClone, HasCompleted, Headline, IsWhole, LeavesPlain, Run, Writes, WritesAll, WritesSome}
@@ -47,8 +47,15 @@ use Rattle.clone_top.specs.Status.{number_of}
 hindered : (due status : Status) (text : Text) (old new : Streams) (given : Disks) (back : Ends) → Hinders due old new given back.disks text → IsAlone old new back → Says due status old.out new.out (ended text) → StepsOutcome status old new given back
 hindered due status text old new given back why alone says = record { run = None; headline = tt; causes = (said due text why says, alone) }
 
-unsaid : (status : Status) (old new : Streams) (given : Disks) (back : Ends) → IsAlone old new back → status ≡ Memory → new.out.told ≡ old.out.told → StepsOutcome status old new given back
-unsaid status old new given back alone is same = record { run = None; headline = tt; causes = (silent is same, alone) }
+unsaid : (status : Status) (old new : Streams) (given : Disks) (back : Ends) → OpensAtMost given back.disks → IsAlone old new back → status ≡ Memory → new.out.told ≡ old.out.told → StepsOutcome status old new given back
+unsaid status old new given back disks alone is same = record { run = None; headline = tt; causes = (silent is same disks, alone) }
+
+-- disks of which nothing was asked
+untouched : (given back : Disks) → back ≡ given → OpensAtMost given back
+untouched given back same = subst (OpensAtMost given) (sym same) (record {
+  donor = record { later = omega arith; orders = refl; tells = refl };
+  recipient = record { told = refl; later = omega arith; orders = refl };
+})
 
 -- no script was read
 pub not_read : (words : List (List ℕ)) (old new : Streams) (given : Disks) (back : Ends) (why : Unread) (status : Status) → back.status ≡ number_of status → IsUnread words old.source new.source why → back.disks ≡ given → IsAlone old new back
@@ -60,14 +67,14 @@ not_read words old new given back unread.TooLong status number is same alone say
     commanded steps is.0 status number (hindered TooLong status (codes "script too long") old new given back (is.1, is.2, same, refl) alone says)
 not_read words old new given back (unread.BadLine line) status number is same alone says =
     commanded steps is.0 status number (hindered BadLine status (codes "bad line " ++ decimal line) old new given back (is.1, line, is.2, is.3, same, refl) alone says)
-not_read words old new given back unread.Memory status number is same alone says = commanded steps is status number (unsaid status old new given back alone says.0 says.1)
+not_read words old new given back unread.Memory status number is same alone says = commanded steps is status number (unsaid status old new given back (untouched given back.disks same) alone says.0 says.1)
 
 -- its lines weren't begun
 pub not_begun : (config : Config) (lines : List Line) (old new : Streams) (given : Disks) (back : Ends) (why : Unready) (status : Status) → IsRead old.source new.source config lines → IsUnready given back.disks why → IsAlone old new back → SaysUnready why status old.out new.out → StepsOutcome status old new given back
 not_begun config lines old new given back unready.DonorFault status read is alone says = hindered DonorFault status (codes "donor disk fault") old new given back ((config, lines, read), is, refl) alone says
 not_begun config lines old new given back unready.RecipientFault status read is alone says = hindered RecipientFault status recipient_fault old new given back ((config, lines, read), is.0, is.1, refl) alone says
 not_begun config lines old new given back unready.NotEmpty status read is alone says = hindered NotEmpty status (codes "not empty") old new given back ((config, lines, read), is.0, is.1, refl) alone says
-not_begun config lines old new given back unready.Memory status read is alone says = unsaid status old new given back alone says.0 says.1
+not_begun config lines old new given back unready.Memory status read is alone says = unsaid status old new given back is alone says.0 says.1
 
 -- ---- the recipient's disk
 

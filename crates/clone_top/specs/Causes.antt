@@ -50,6 +50,11 @@ pub record LooksAtBoth (given back : Disks) : Type 0 where
   pub donor : Looks given.donor back.donor
   pub recipient : Looks given.recipient back.recipient
 
+-- the recipient's disk was looked at, at most, and the donor's may have been opened
+pub record OpensAtMost (given back : Disks) : Type 0 where
+  pub donor : Visits given.donor back.donor
+  pub recipient : Looks given.recipient back.recipient
+
 -- one of the disks held a space or a mark
 abbrev pub WereNotEmpty : Disks → Type 0
 WereNotEmpty given =
@@ -74,13 +79,14 @@ Hinders NotEmpty old new given back text =
     HasScript old new × LooksAtBoth given back × WereNotEmpty given × (text ≡ codes "not empty")
 Hinders status old new given back text = ⊥
 
--- No line was begun: why is said, alone, or as far as memory and the sink allowed; or there was no
--- memory to begin or to say it. No donor tells of drops or of a stop then.
+-- No line was begun: why is said, alone, or as far as memory and the sink allowed; or memory ran out
+-- before anything was said. No donor tells of drops or of a stop then.
 pub data HasNotBegun (status : Status) (old new : Streams) (given : Disks) (ends : Ends)
     : Type 0 where
   said : (due : Status) (text : Text) → Hinders due old new given ends.disks text
       → Says due status old.out new.out (ended text) → HasNotBegun status old new given ends
-  silent : status ≡ Memory → new.out.told ≡ old.out.told → HasNotBegun status old new given ends
+  silent : status ≡ Memory → new.out.told ≡ old.out.told → OpensAtMost given ends.disks
+      → HasNotBegun status old new given ends
 
 -- no donor was opened
 pub record IsAlone (old new : Streams) (ends : Ends) : Type 0 where

@@ -1,8 +1,8 @@
 -- Why a script isn't read, and why its lines aren't begun.
-use Rattle.std.specs.Prelude.{ℕ, ◌≡◌, List, ⊤}
+use Rattle.std.specs.Prelude.{ℕ, ◌≡◌, List}
 use Rattle.clone_outside.specs.Causes.{Rose}
 use Rattle.clone_script.specs.Script.{IsFirstBad}
-use Rattle.clone_top.specs.Causes.{FailsDonor, LooksAtBoth, WereNotEmpty}
+use Rattle.clone_top.specs.Causes.{FailsDonor, LooksAtBoth, OpensAtMost, WereNotEmpty}
 use Rattle.clone_top.specs.Ends.{Command, steps, Disks, End, GaveAll, GaveTooMuch, IsCommand}
 use Rattle.clone_engine.specs.declared.opening.OpenCause.{OpenCause}
 use Rattle.clone_engine.specs.declared.opening.OpenCause.TheVariants as opening
@@ -31,7 +31,7 @@ IsUnready given back unready.DonorFault = FailsDonor given back
 IsUnready given back unready.RecipientFault =
     LooksAtBoth given back × Rose given.recipient.failures back.recipient.failures
 IsUnready given back unready.NotEmpty = LooksAtBoth given back × WereNotEmpty given
-IsUnready given back unready.Memory = ⊤
+IsUnready given back unready.Memory = OpensAtMost given back
 
 -- why a donor isn't opened
 abbrev pub unready_of : OpenCause → Unready
