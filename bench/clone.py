@@ -17,7 +17,7 @@ import built
 
 CRATES = (
     "clone_base clone_outside clone_memdisk clone_model clone_page clone_plain "
-    "clone_chunk clone_session clone_engine clone_donor clone_lay clone_recover"
+    "clone_chunk clone_session clone_calls clone_engine clone_donor clone_lay clone_recover"
 )
 WAYS = ("none", "plain", "idle", "busy")
 TABLES = (31, 62)

@@ -107,11 +107,16 @@ after_claim states searched left n task map least =
       left_is = omega (arith, map.left_is, count);
     }
 
--- the map after a claimed chunk was finished
-pub after_finish : (states : List Chunk) (searched left n task : ℕ) → IsMap states searched left → slice_get states n ≡ Some (Claimed task) → (1 ≤ left) × IsMap (set states n Finished) searched (left - 1)
-after_finish states searched left n task map claimed =
-    let within = slice_get_within states n (Claimed task) claimed in
-    let count = left_after states n (Claimed task) Finished claimed in (
+pub unfinished_is : (chunk : Chunk) → chunk ≢ Finished → is_unfinished chunk ≡ true
+unfinished_is Free other = refl
+unfinished_is (Claimed task) other = refl
+unfinished_is Finished other = absurd (other refl)
+
+-- the map after a chunk was finished that wasn't
+pub after_settle : (states : List Chunk) (searched left n : ℕ) (old : Chunk) → IsMap states searched left → slice_get states n ≡ Some old → is_unfinished old ≡ true → (1 ≤ left) × IsMap (set states n Finished) searched (left - 1)
+after_settle states searched left n old map there unfinished =
+    let within = slice_get_within states n old there in
+    let count = rw unfinished at (left_after states n old Finished there) in (
       omega (arith, map.left_is, count),
       record {
         small = rw length-set map.small;

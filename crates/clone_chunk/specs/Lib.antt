@@ -5,3 +5,4 @@ pub mod Bitmaps
 pub mod Causes
 pub mod CauseTexts
 pub mod Plans
+pub mod Partials

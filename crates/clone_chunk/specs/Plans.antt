@@ -10,37 +10,37 @@ use Rattle.clone_chunk.specs.declared.plan.StagePlan.TheVariants.{Done}
 
 abbrev pub stage_of : StagePlan → Stage
 stage_of (FileCopy chunks spaces) = stage.FileCopy
-stage_of (PageCopy chunks position) = stage.PageCopy
+stage_of (PageCopy chunks position spaces) = stage.PageCopy
 stage_of (RedoCopy chunks checkpoint lsn position) = stage.RedoCopy
 stage_of (Done checkpoint lsn position) = stage.Done
 
 abbrev pub chunks_of : StagePlan → ℕ
 chunks_of (FileCopy chunks spaces) = chunks
-chunks_of (PageCopy chunks position) = chunks
+chunks_of (PageCopy chunks position spaces) = chunks
 chunks_of (RedoCopy chunks checkpoint lsn position) = chunks
 chunks_of (Done checkpoint lsn position) = 0
 
 abbrev pub checkpoint_of : StagePlan → ℕ
 checkpoint_of (FileCopy chunks spaces) = 0
-checkpoint_of (PageCopy chunks position) = 0
+checkpoint_of (PageCopy chunks position spaces) = 0
 checkpoint_of (RedoCopy chunks checkpoint lsn position) = checkpoint
 checkpoint_of (Done checkpoint lsn position) = checkpoint
 
 abbrev pub lsn_of : StagePlan → ℕ
 lsn_of (FileCopy chunks spaces) = 0
-lsn_of (PageCopy chunks position) = 0
+lsn_of (PageCopy chunks position spaces) = 0
 lsn_of (RedoCopy chunks checkpoint lsn position) = lsn
 lsn_of (Done checkpoint lsn position) = lsn
 
 abbrev pub position_of : StagePlan → ℕ
 position_of (FileCopy chunks spaces) = 0
-position_of (PageCopy chunks position) = position
+position_of (PageCopy chunks position spaces) = position
 position_of (RedoCopy chunks checkpoint lsn position) = position
 position_of (Done checkpoint lsn position) = position
 
 abbrev pub spaces_of : StagePlan → List SpaceSize
 spaces_of (FileCopy chunks spaces) = spaces
-spaces_of (PageCopy chunks position) = []
+spaces_of (PageCopy chunks position spaces) = spaces
 spaces_of (RedoCopy chunks checkpoint lsn position) = []
 spaces_of (Done checkpoint lsn position) = []
 

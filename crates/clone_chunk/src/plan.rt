@@ -22,6 +22,8 @@ pub enum StagePlan {
         chunks: u32,
         /// How many pages are copied.
         position: u64,
+        /// The spaces that were created since the session opened.
+        spaces: Spaces,
     },
     /// The redo is copied.
     RedoCopy {
@@ -104,14 +106,17 @@ impl StagePlan {
         }
     }
 
-    /// The spaces, which are listed in the copy of files alone.
+    /// The spaces: in the copy of files all, in the copy of pages those that were created since the
+    /// session opened, and none later.
     pub fn spaces(&self) -> &[SpaceSize]
         ensures value { result.now ≡ spaces_of self.now }
         ensures few { length result.now ≤ SPACE_LIMIT }
     {
         match self {
-            StagePlan::FileCopy { spaces, .. } => spaces.as_slice(),
-            StagePlan::PageCopy { .. } | StagePlan::RedoCopy { .. } | StagePlan::Done { .. } => &[],
+            StagePlan::FileCopy { spaces, .. } | StagePlan::PageCopy { spaces, .. } => {
+                spaces.as_slice()
+            }
+            StagePlan::RedoCopy { .. } | StagePlan::Done { .. } => &[],
         }
     }
 }

@@ -4,17 +4,31 @@ use Rattle.std.specs.FinMap as finite
 use Rattle.std.specs.Option.{ForSome}
 use Rattle.clone_outside.specs.Disk.{DiskImage, ForTold}
 use Rattle.clone_model.specs.History.{Entry, fold}
+use Rattle.clone_calls.specs.declared.answer.DonorAnswer.TheVariants as gives
+use Rattle.clone_calls.specs.declared.block.BlockRefusal.{BlockRefusal}
+use Rattle.clone_calls.specs.declared.block.BlockRefusal.TheVariants as block
+use Rattle.clone_calls.specs.declared.call.DonorCall.TheVariants as ask
+use Rattle.clone_chunk.specs.declared.cause.CloneCause.{CloneCause}
 use Rattle.clone_plain.specs.declared.refusal.EngineRefusal.{EngineRefusal}
 use Rattle.clone_plain.specs.declared.refusal.EngineRefusal.TheVariants.{Because, NoMemory}
 use Rattle.clone_plain.specs.Donor.{Donor}
 use Rattle.clone_plain.specs.Effects.{Gets}
-use Rattle.clone_plain.specs.Calls.{Call, begin, get, Done, did_begin, did_get, done, refused}
+use Rattle.clone_plain.specs.declared.call.EngineAnswer.{EngineAnswer}
+use Rattle.clone_plain.specs.declared.call.EngineAnswer.TheVariants as answers
+use Rattle.clone_plain.specs.declared.call.EngineCall.{EngineCall}
+use Rattle.clone_plain.specs.declared.call.EngineCall.TheVariants as call
 use Rattle.clone_events.specs.World.{Stop, Clone, IsSure, index_in}
 use Rattle.clone_events.specs.Events.{made, counted, Sees}
 use Rattle.clone_events.proofs.BinlogLemmas.{Adds, adds_none, made_adds}
 use Rattle.clone_events.proofs.StopLemmas.{before_stop-longer}
 use Rattle.clone_staged.specs.Holds.{HoldsCopy}
+use Rattle.clone_session.specs.declared.caller.Caller.{Caller}
 use Rattle.clone_session.specs.declared.info.Stop as session
+use Rattle.clone_session.specs.declared.refusal.CloneRefusal.{CloneRefusal}
+use Rattle.clone_session.specs.declared.refusal.CloneRefusal.TheVariants as refused
+use Rattle.clone_engine.specs.Answering.{CarriesOut}
+use Rattle.clone_engine.specs.Copying.{RefusesBlock}
+use Rattle.clone_engine.specs.Reading.{OnlyVisits}
 use Rattle.clone_engine.specs.Engine.{Engine, IsEngine}
 use Rattle.clone_engine.specs.Steps.{answer_of}
 use Rattle.clone_engine.specs.Acts as act
@@ -30,7 +44,7 @@ use Rattle.clone_core.specs.Called.{Stays, Called}
 use Rattle.clone_core.specs.Copied.{HoldsStop, HoldsEnded, HoldsClone, IsOnItsWay, StandsAt, WasAt, clone_of}
 use Rattle.clone_core.specs.declared.world.Course.{Course}
 use Rattle.clone_core.specs.declared.world.Course.TheVariants as course
-use Rattle.clone_core.proofs.StepLemmas.{transacted, made_refines, answered_visits, answered_wants, done_step}
+use Rattle.clone_core.proofs.StepLemmas.{transacted, made_refines, answered_visits, answered_wants, refused_counts, refused_sees}
 
 -- ---- facts that stand where something is told
 
@@ -73,23 +87,54 @@ spares_donor d t tells donor = record { tells = tells; answered = []; adds = sam
 spares_engine : (d t : staged.Donor) → t.engine ≡ d.engine → Spares d t
 spares_engine d t engine = spares_donor d t (ap (λ (e : Engine). is_some e.disk.told) engine) (ap (λ (e : Engine). e.donor) engine)
 
-answered_adds : (call : Call) (d t : staged.Donor) (answer : Result Done EngineRefusal) → AnswersCall call d t answer → (answered : List ℕ) × Adds d.engine.donor t.engine.donor answered
-answered_adds call d t (Ok did) is = (_, made_adds d.engine.donor (done did) t.engine.donor (made_refines d t (done did) (done_step call d t did is)))
-answered_adds call d t (Err (Because cause)) is = (_, made_adds d.engine.donor (refused call cause) t.engine.donor (made_refines d t (refused call cause) is))
-answered_adds call d t (Err NoMemory) is = (_, same_adds d.engine.donor t.engine.donor (answered_wants call d t is))
+-- and all of the donor
+spares_same : (d t : staged.Donor) → t ≡ d → Spares d t
+spares_same d t same = spares_engine d t (ap (λ (x : staged.Donor). x.engine) same)
 
-spares_call : (call : Call) (answer : Result Done EngineRefusal) (d t : staged.Donor) → AnswersCall call d t answer → Spares d t
-spares_call call answer d t is =
-    let added = answered_adds call d t answer is in
-    record { tells = (answered_visits call d t answer is).tells; answered = added.0; adds = added.1 }
+answered_adds : (asked : EngineCall) (d t : staged.Donor) (answer : Result EngineAnswer EngineRefusal) → AnswersCall asked d t answer → (answered : List ℕ) × Adds d.engine.donor t.engine.donor answered
+answered_adds asked d t (Ok did) is = (_, made_adds d.engine.donor asked (Ok did) t.engine.donor (made_refines d t asked (Ok did) is))
+answered_adds asked d t (Err (Because cause)) is = (_, made_adds d.engine.donor asked (Err cause) t.engine.donor (made_refines d t asked (Err cause) is))
+answered_adds asked d t (Err NoMemory) is = (_, same_adds d.engine.donor t.engine.donor (answered_wants asked d t is))
+
+spares_call : (asked : EngineCall) (answer : Result EngineAnswer EngineRefusal) (d t : staged.Donor) → AnswersCall asked d t answer → Spares d t
+spares_call asked answer d t is =
+    let added = answered_adds asked d t answer is in
+    record { tells = (answered_visits asked d t answer is).tells; answered = added.0; adds = added.1 }
+
+-- a call that was refused
+spares_refused : {X : Type 0} (d t : staged.Donor) (cause : Option CloneCause) (why : CloneRefusal) (Does : X → Type 0) → CarriesOut {X = X} cause (Err why) d t Does → Spares d t
+spares_refused d t cause (refused.Because why) Does is = spares_same d t is.1
+spares_refused d t cause refused.NoMemory Does is = spares_engine d t is.1.1
+
+-- a block that wasn't answered
+spares_visits : (d t : staged.Donor) → OnlyVisits d.engine t.engine → Spares d t
+spares_visits d t only = spares_donor d t (ap (λ (e : Engine). is_some e.disk.told) only.same) (ap (λ (e : Engine). e.donor) only.same)
+
+spares_unread : (caller : Caller) (stage chunk number : ℕ) (d t : staged.Donor) (why : BlockRefusal) → RefusesBlock caller stage chunk number d t why → Spares d t
+spares_unread caller stage chunk number d t (block.Clone (refused.Because cause)) is = spares_same d t is.1
+spares_unread caller stage chunk number d t (block.Clone refused.NoMemory) is = spares_visits d t is.0
+spares_unread caller stage chunk number d t (block.Engine (Because cause)) is = spares_visits d t is.2
+spares_unread caller stage chunk number d t (block.Engine NoMemory) is = absurd is
 
 pub spares : (a : Act) (d t : staged.Donor) → IsOutside a → Does a d t → Spares d t
-spares (act.Calls call answer) d t outside does = spares_call call answer d t does
+spares (act.Calls (ask.Engine asked) (gives.Engine given)) d t outside does = spares_call asked given d t does
+spares (act.Calls (ask.Archive limit) (gives.Archive (Ok reached))) d t outside does = spares_donor d t (ap (λ (e : Engine). is_some e.disk.told) does.1) (ap (λ (e : Engine). e.donor) does.1)
+spares (act.Calls (ask.Archive limit) (gives.Archive (Err why))) d t outside does = spares_engine d t does.1
+spares (act.Calls (ask.Init hello) (gives.Init (Err why))) d t outside does = spares_refused d t _ why _ does
+spares (act.Calls (ask.Attach caller) (gives.Attach (Err why))) d t outside does = spares_same d t does.1
+spares (act.Calls (ask.Reinit caller stage finished) (gives.Reinit (Err why))) d t outside does = spares_refused d t _ why _ does
+spares (act.Calls (ask.ReinitBlocks caller stage taken) (gives.ReinitBlocks (Err why))) d t outside does = spares_refused d t _ why _ does
+spares (act.Calls (ask.Kept caller stage chunk) (gives.Kept (Err why))) d t outside does = spares_same d t does.1
+spares (act.Calls (ask.Execute caller stage) (gives.Execute (Err why))) d t outside does = spares_same d t does.1
+spares (act.Calls (ask.Claim caller stage) (gives.Claim (Err why))) d t outside does = spares_engine d t does.1
+spares (act.Calls (ask.ReadBlock caller stage chunk number) (gives.ReadBlock (Err why))) d t outside does = spares_unread caller stage chunk number d t why does
+spares (act.Calls (ask.Ack caller stage floor) (gives.Ack (Err why))) d t outside does = spares_refused d t _ why _ does
+spares (act.Calls (ask.Exit caller) (gives.Exit (Err why))) d t outside does = spares_same d t does.1
+spares (act.Calls (ask.Abandon session) (gives.Abandon (Err why))) d t outside does = spares_same d t does.1
+spares (act.Calls (ask.Engine asked) given) d t outside does = absurd does
+spares (act.Calls (ask.Archive limit) given) d t outside does = absurd does
+spares (act.Calls asked given) d t outside does = absurd outside
 spares act.Orders d t outside does = spares_donor d t (ap (λ (x : staged.Donor). is_some x.engine.disk.told) does.same ∙ ap is_some does.told) (ap (λ (x : staged.Donor). x.engine.donor) does.same)
-spares (act.Archive limit reached) d t outside does = spares_donor d t (ap (λ (e : Engine). is_some e.disk.told) does.1) (ap (λ (e : Engine). e.donor) does.1)
-spares act.Refuse d t outside does = spares_engine d t does.1
-spares act.Miss d t outside does = spares_donor d t (ap (λ (e : Engine). is_some e.disk.told) does.1.same) (ap (λ (e : Engine). e.donor) does.1.same)
-spares a d t outside does = absurd outside
 
 -- ---- the clone, while the history grows
 
@@ -190,60 +235,60 @@ IsShown r = r.tells ≡ tell r.donor
 pub same_tells : (r : State) (t : staged.Donor) → IsShown r → is_some t.engine.disk.told ≡ is_some r.donor.donor.engine.disk.told → (is_some t.engine.disk.told && is_some r.donor.recipient.told) ≡ r.tells
 same_tells r t is same = ap (λ b. b && is_some r.donor.recipient.told) same ∙ sym is
 
-happens : {X : Type 0} (r : State) (t : staged.Donor) (counts : finite.FinMap nat_cmp ℕ) (call : Call) (did : X → Done) (result : Result X EngineRefusal) → IsShown r → ((x : X) → result ≡ Ok x → counts ≡ counted (made (done (did x))) r.begun)
-    → ((refusal : EngineRefusal) → result ≡ Err refusal → counts ≡ r.begun) → ((x : X) → result ≡ Ok x → r.tells ≡ true → Sees (donor_of r.donor) (made (done (did x)))) → AnswersCall call r.donor.donor t (answer_of did result)
-    → Called r call did result (with_donor r t counts)
-happens r t counts call did (Ok x) shown grown kept sees is = record {
-  step = (done_step call r.donor.donor t (did x) is, refl);
+happens : {X : Type 0} (r : State) (t : staged.Donor) (counts : finite.FinMap nat_cmp ℕ) (asked : EngineCall) (did : X → EngineAnswer) (result : Result X EngineRefusal) → IsShown r → ((x : X) → result ≡ Ok x → counts ≡ counted (made asked (Ok (did x))) r.begun)
+    → ((refusal : EngineRefusal) → result ≡ Err refusal → counts ≡ r.begun) → ((x : X) → result ≡ Ok x → r.tells ≡ true → Sees (donor_of r.donor) (made asked (Ok (did x)))) → AnswersCall asked r.donor.donor t (answer_of did result)
+    → Called r asked did result (with_donor r t counts)
+happens r t counts asked did (Ok x) shown grown kept sees is = record {
+  step = (is, refl);
   begun = grown x refl;
   clone = record { now = tt; shows = tt; is = refl };
-  tells = same_tells r t shown (answered_visits call r.donor.donor t _ is).tells;
+  tells = same_tells r t shown (answered_visits asked r.donor.donor t _ is).tells;
   sees = sees x refl;
 }
-happens r t counts call did (Err (Because cause)) shown grown kept sees is = record {
+happens r t counts asked did (Err (Because cause)) shown grown kept sees is = record {
   step = (is, refl);
-  begun = kept (Because cause) refl;
+  begun = kept (Because cause) refl ∙ sym (refused_counts asked cause r.begun);
   clone = record { now = tt; shows = tt; is = refl };
-  tells = same_tells r t shown (answered_visits call r.donor.donor t _ is).tells;
-  sees = λ told. tt;
+  tells = same_tells r t shown (answered_visits asked r.donor.donor t _ is).tells;
+  sees = λ told. refused_sees asked cause (donor_of r.donor);
 }
-happens r t counts call did (Err NoMemory) shown grown kept sees is = record { donor = answered_wants call r.donor.donor t is; begun = kept NoMemory refl; tells = same_tells r t shown (answered_visits call r.donor.donor t _ is).tells; clone = refl }
+happens r t counts asked did (Err NoMemory) shown grown kept sees is = record { donor = answered_wants asked r.donor.donor t is; begun = kept NoMemory refl; tells = same_tells r t shown (answered_visits asked r.donor.donor t _ is).tells; clone = refl }
 
 -- no writer is counted
-pub called : {X : Type 0} (r s : State) (t : staged.Donor) (call : Call) (did : X → Done) (result : Result X EngineRefusal) → r ≡ s → IsShown r → ((x : X) → counted (made (done (did x))) r.begun ≡ r.begun)
-    → ((x : X) → result ≡ Ok x → r.tells ≡ true → Sees (donor_of r.donor) (made (done (did x)))) → AnswersCall call r.donor.donor t (answer_of did result) → Called s call did result (with_donor r t r.begun)
-called r s t call did result is shown uncounted sees answers =
-    let P : State → Type 0 = λ w. Called w call did result (with_donor r t r.begun) in
-    subst P is (happens r t r.begun call did result shown (λ x _. sym (uncounted x)) (λ _ _. refl) sees answers)
+pub called : {X : Type 0} (r s : State) (t : staged.Donor) (asked : EngineCall) (did : X → EngineAnswer) (result : Result X EngineRefusal) → r ≡ s → IsShown r → ((x : X) → counted (made asked (Ok (did x))) r.begun ≡ r.begun)
+    → ((x : X) → result ≡ Ok x → r.tells ≡ true → Sees (donor_of r.donor) (made asked (Ok (did x)))) → AnswersCall asked r.donor.donor t (answer_of did result) → Called s asked did result (with_donor r t r.begun)
+called r s t asked did result is shown uncounted sees given =
+    let P : State → Type 0 = λ w. Called w asked did result (with_donor r t r.begun) in
+    subst P is (happens r t r.begun asked did result shown (λ x _. sym (uncounted x)) (λ _ _. refl) sees given)
 
 -- the same where the number of a table is what its type holds
-pub called_on : {X : Type 0} (r s : State) (t : staged.Donor) (call : ℕ → Call) (did : ℕ → X → Done) (result : Result X EngineRefusal) (number table : ℕ) → number ≡ table → r ≡ s → IsShown r → ((x : X) → counted (made (done (did number x))) r.begun ≡ r.begun)
-    → ((x : X) → result ≡ Ok x → r.tells ≡ true → Sees (donor_of r.donor) (made (done (did number x)))) → AnswersCall (call number) r.donor.donor t (answer_of (did number) result) → Called s (call table) (did table) result (with_donor r t r.begun)
-called_on r s t call did result number table named is shown uncounted sees answers =
-    let P : ℕ → Type 0 = λ n. Called s (call n) (did n) result (with_donor r t r.begun) in
-    subst P named (called r s t (call number) (did number) result is shown uncounted sees answers)
+pub called_on : {X : Type 0} (r s : State) (t : staged.Donor) (asked : ℕ → EngineCall) (did : X → EngineAnswer) (result : Result X EngineRefusal) (number table : ℕ) → number ≡ table → r ≡ s → IsShown r → ((x : X) → counted (made (asked number) (Ok (did x))) r.begun ≡ r.begun)
+    → ((x : X) → result ≡ Ok x → r.tells ≡ true → Sees (donor_of r.donor) (made (asked number) (Ok (did x)))) → AnswersCall (asked number) r.donor.donor t (answer_of did result) → Called s (asked table) did result (with_donor r t r.begun)
+called_on r s t asked did result number table named is shown uncounted sees given =
+    let P : ℕ → Type 0 = λ n. Called s (asked n) did result (with_donor r t r.begun) in
+    subst P named (called r s t (asked number) did result is shown uncounted sees given)
 
 same_ok : {a b : Option (List ℕ)} → ◌≡◌ {A = Result (Option (List ℕ)) EngineRefusal} (Ok a) (Ok b) → a ≡ b
 same_ok e = cc
 
 -- the value that was got is the row's, where the disk tells what it holds
-pub got : (d t : staged.Donor) (recipient : Bool) (trx table key : ℕ) (result : Result (Option (List ℕ)) EngineRefusal) → IsEngine t.engine → AnswersCall (get trx table key) d t (answer_of (λ value. did_get trx table key value) result)
+pub got : (d t : staged.Donor) (recipient : Bool) (trx table key : ℕ) (result : Result (Option (List ℕ)) EngineRefusal) → IsEngine t.engine → AnswersCall (call.Get trx table key) d t (answer_of (λ value. answers.Get value) result)
     → (value : Option (List ℕ)) → result ≡ Ok value → (is_some d.engine.disk.told && recipient) ≡ true → Gets d.engine.donor trx table key value
-got d t recipient trx table key (Err refusal) engine answers value is told = absurd (let e = is in cc)
-got d t recipient trx table key (Ok v) engine answers value is told =
-    let right = right_of t.engine engine ((answered_visits (get trx table key) d t _ answers).tells ∙ both_left _ recipient told) in
+got d t recipient trx table key (Err refusal) engine given value is told = absurd (let e = is in cc)
+got d t recipient trx table key (Ok v) engine given value is told =
+    let right = right_of t.engine engine ((answered_visits (call.Get trx table key) d t _ given).tells ∙ both_left _ recipient told) in
     let P : Option (List ℕ) → Type 0 = λ o. Gets d.engine.donor trx table key o in
-    subst P (same_ok is) ((transacted _ d.engine t.engine _ answers.steps).1.sees right)
+    subst P (same_ok is) ((transacted _ d.engine t.engine _ given.steps).1.sees right)
 
 -- a transaction began, and was counted; or none did, and none was
 pub begun_called : (r s : State) (t : staged.Donor) (counts : finite.FinMap nat_cmp ℕ) (writer index : ℕ) (result : Result ℕ EngineRefusal) → r ≡ s → IsShown r → index ≡ index_in r.begun writer
     → ((trx : ℕ) → result ≡ Ok trx → counts ≡ finite.insert r.begun writer (index_in r.begun writer + 1)) → ((refusal : EngineRefusal) → result ≡ Err refusal → counts ≡ r.begun)
-    → AnswersCall (begin writer index) r.donor.donor t (answer_of (λ trx. did_begin writer index trx) result)
-    → Called s (begin writer (index_in s.begun writer)) (λ trx. did_begin writer (index_in s.begun writer) trx) result (with_donor r t counts)
-begun_called r s t counts writer index result is shown at grown kept answers =
-    let P : State → Type 0 = λ w. Called w (begin writer (index_in w.begun writer)) (λ trx. did_begin writer (index_in w.begun writer) trx) result (with_donor r t counts) in
-    let Q : ℕ → Type 0 = λ n. Called r (begin writer n) (λ trx. did_begin writer n trx) result (with_donor r t counts) in
-    subst P is (subst Q at (happens r t counts (begin writer index) (λ trx. did_begin writer index trx) result shown grown kept (λ _ _ _. tt) answers))
+    → AnswersCall (call.Begin writer index) r.donor.donor t (answer_of (λ trx. answers.Begin trx) result)
+    → Called s (call.Begin writer (index_in s.begun writer)) (λ trx. answers.Begin trx) result (with_donor r t counts)
+begun_called r s t counts writer index result is shown at grown kept given =
+    let P : State → Type 0 = λ w. Called w (call.Begin writer (index_in w.begun writer)) (λ trx. answers.Begin trx) result (with_donor r t counts) in
+    let Q : ℕ → Type 0 = λ n. Called r (call.Begin writer n) (λ trx. answers.Begin trx) result (with_donor r t counts) in
+    subst P is (subst Q at (happens r t counts (call.Begin writer index) (λ trx. answers.Begin trx) result shown grown kept (λ _ _ _. tt) given))
 
 -- memory ran out before the donor was asked
 pub not_counted : (r s t : State) → r ≡ s → t ≡ r → Stays s t

@@ -12,7 +12,10 @@ use Rattle.clone_plain.specs.declared.refusal.Cause.TheVariants as causes
 use Rattle.clone_plain.specs.declared.refusal.EngineRefusal.{EngineRefusal}
 use Rattle.clone_plain.specs.declared.refusal.EngineRefusal.TheVariants.{Because, NoMemory}
 use Rattle.clone_plain.specs.Answers.{Text}
-use Rattle.clone_plain.specs.Calls.{Done, did_flush_begin, did_flush_half, did_flush_land, did_oldest_dirty, done, refused, flush_begin, flush_half, flush_land, call_of}
+use Rattle.clone_plain.specs.declared.call.EngineAnswer.{EngineAnswer}
+use Rattle.clone_plain.specs.declared.call.EngineAnswer.TheVariants as answers
+use Rattle.clone_plain.specs.declared.call.EngineCall.{EngineCall}
+use Rattle.clone_plain.specs.declared.call.EngineCall.TheVariants as call
 use Rattle.clone_events.specs.Events.{Event, made, cleaned, Happens, Events}
 use Rattle.clone_events.specs.Runs.{MakesClean, all_clean, not_flushed, flushed}
 use Rattle.clone_events.specs.BreaksOff.{IsDone}
@@ -29,8 +32,8 @@ abbrev pub frames_of : State → List Frame
 frames_of s = s.donor.donor.engine.buffer.pool.frames
 
 -- an event that is a call that was carried out
-abbrev Did : State → Done → State → Type 0
-Did s d t = Happens donor_of SystemStep s (made (done d)) t
+abbrev Did : State → EngineCall → EngineAnswer → State → Type 0
+Did s asked given t = Happens donor_of SystemStep s (made asked (Ok given)) t
 
 -- each of these pages was flushed, and there are not too many left
 pub record Cleaning (s : State) (landed : ℕ) (u : State) : Type 0 where
@@ -45,7 +48,7 @@ clean_begins s few = record { pages = []; count = refl; happened = refl; few = o
 -- ---- one page
 
 -- one fewer page waits once a page was flushed
-pub fewer_wait : (u v w x t : State) (space page : ℕ) → Did u (did_oldest_dirty (Some (space, page))) v → Did v (did_flush_begin space page) w → Did w (did_flush_half space page) x → Did x (did_flush_land space page) t → waiting (frames_of t) + 1 ≡ waiting (frames_of u)
+pub fewer_wait : (u v w x t : State) (space page : ℕ) → Did u call.OldestDirty (answers.OldestDirty (Some (space, page))) v → Did v (call.FlushBegin space page) answers.FlushBegin w → Did w (call.FlushHalf space page) answers.FlushHalf x → Did x (call.FlushLand space page) answers.FlushLand t → waiting (frames_of t) + 1 ≡ waiting (frames_of u)
 fewer_wait u v w x t space page looks begins halves lands =
     let began = begins.step.0.steps.does.1 in
     let halved = halves.step.0.steps.does.1 in
@@ -57,7 +60,7 @@ fewer_wait u v w x t space page looks begins halves lands =
     (ap (λ (s : flushes.State). s.buffer.pool.frames) landed.3)
     began.1.dirty.holder.within began.1.dirty.holder.holder (waits_for (frame_at (frames_of v) began.0) began.1.dirty.dirty began.1.quiet) landed.2.holder.within landed.2.holder.holder
 
-pub clean_goes : (s u v w x t : State) (landed space page : ℕ) → Cleaning s landed u → Did u (did_oldest_dirty (Some (space, page))) v → Did v (did_flush_begin space page) w → Did w (did_flush_half space page) x → Did x (did_flush_land space page) t → Cleaning s (landed + 1) t
+pub clean_goes : (s u v w x t : State) (landed space page : ℕ) → Cleaning s landed u → Did u call.OldestDirty (answers.OldestDirty (Some (space, page))) v → Did v (call.FlushBegin space page) answers.FlushBegin w → Did w (call.FlushHalf space page) answers.FlushHalf x → Did x (call.FlushLand space page) answers.FlushLand t → Cleaning s (landed + 1) t
 clean_goes s u v w x t landed space page is looks begins halves lands =
     let P : List Event → Type 0 = λ es. Events donor_of SystemStep s es t in
     let whole : flat_map flushed (is.pages ++ (space, page) ∷ []) ≡ flat_map flushed is.pages ++ flushed (space, page) = flat_map-append flushed is.pages ((space, page) ∷ []) in
@@ -70,11 +73,11 @@ clean_goes s u v w x t landed space page is looks begins halves lands =
 
 -- ---- the end
 
-clean_ends : (s u t : State) (landed : ℕ) → Cleaning s landed u → Did u (did_oldest_dirty None) t → Cleans s (Ok landed) t
+clean_ends : (s u t : State) (landed : ℕ) → Cleaning s landed u → Did u call.OldestDirty (answers.OldestDirty None) t → Cleans s (Ok landed) t
 clean_ends s u t landed is looks = record {
   pages = is.pages;
   count = is.count;
-  happened = Events-append donor_of SystemStep s (flat_map flushed is.pages) (made (done (did_oldest_dirty None)) ∷ []) u t is.happened (t, looks, refl);
+  happened = Events-append donor_of SystemStep s (flat_map flushed is.pages) (made call.OldestDirty (Ok (answers.OldestDirty None)) ∷ []) u t is.happened (t, looks, refl);
 }
 
 -- there is no dirty page where none was found
@@ -82,48 +85,49 @@ pub no_page : (found : Option (ℕ × ℕ)) → ((page : ℕ × ℕ) → found �
 no_page None none = refl
 no_page (Some page) none = absurd (none page refl)
 
-pub clean_ended : (s u t : State) (landed : ℕ) (found : Option (ℕ × ℕ)) → found ≡ None → Cleaning s landed u → Did u (did_oldest_dirty found) t → Cleans s (Ok landed) t
-clean_ended s u t landed found none is looks = let P : Option (ℕ × ℕ) → Type 0 = λ o. Did u (did_oldest_dirty o) t in clean_ends s u t landed is (subst P none looks)
+pub clean_ended : (s u t : State) (landed : ℕ) (found : Option (ℕ × ℕ)) → found ≡ None → Cleaning s landed u → Did u call.OldestDirty (answers.OldestDirty found) t → Cleans s (Ok landed) t
+clean_ended s u t landed found none is looks = let P : Option (ℕ × ℕ) → Type 0 = λ o. Did u call.OldestDirty (answers.OldestDirty o) t in clean_ends s u t landed is (subst P none looks)
 
 pages_done : (pages : List (ℕ × ℕ)) (rest : List Event) → AllByRecursion IsDone rest → AllByRecursion IsDone (flat_map flushed pages ++ rest)
 pages_done [] rest is = is
-pages_done (page ∷ pages) rest is = (is_done _, (is_done _, (is_done _, (is_done _, pages_done pages rest is))))
+pages_done (page ∷ pages) rest is = (is_done _ _, (is_done _ _, (is_done _ _, (is_done _ _, pages_done pages rest is))))
 
 front_done : (front rest : List Event) → AllByRecursion IsDone (front ++ rest) → AllByRecursion IsDone front
 front_done [] rest is = tt
 front_done (e ∷ front) rest is = (is.0, front_done front rest is.1)
 
 flushed_done : (page : ℕ × ℕ) → AllByRecursion IsDone (flushed page)
-flushed_done page = (is_done _, (is_done _, (is_done _, (is_done _, tt))))
+flushed_done page = (is_done _ _, (is_done _ _, (is_done _ _, (is_done _ _, tt))))
 
 -- the calls before one of the flush of a page
-before_done : (pages : List (ℕ × ℕ)) (page : ℕ × ℕ) (front rest : List Event) (next : Done) → flushed page ≡ front ++ made (done next) ∷ rest → AllByRecursion IsDone (flat_map flushed pages ++ front)
-before_done pages page front rest next split = pages_done pages front (front_done front (made (done next) ∷ rest) (subst (AllByRecursion IsDone) split (flushed_done page)))
+before_done : (pages : List (ℕ × ℕ)) (page : ℕ × ℕ) (front rest : List Event) (asked : EngineCall) (given : EngineAnswer) → flushed page ≡ front ++ made asked (Ok given) ∷ rest → AllByRecursion IsDone (flat_map flushed pages ++ front)
+before_done pages page front rest asked given split = pages_done pages front (front_done front (made asked (Ok given) ∷ rest) (subst (AllByRecursion IsDone) split (flushed_done page)))
 
 -- a call of a flush wasn't carried out
-stops : (s u v t : State) (landed : ℕ) (page : ℕ × ℕ) (front rest : List Event) (next : Done) (did : Unit {0} → Done) (refusal : EngineRefusal) → Cleaning s landed u → flushed page ≡ front ++ made (done next) ∷ rest → Events donor_of SystemStep u front v
-    → Called v (call_of next) did (Err refusal) t → Cleans s (Err refusal) t
-stops s u v t landed page front rest next did (Because cause) is split before call = record {
+stops : (s u v t : State) (landed : ℕ) (page : ℕ × ℕ) (front rest : List Event) (asked : EngineCall) (given : EngineAnswer) (did : Unit {0} → EngineAnswer) (refusal : EngineRefusal) → Cleaning s landed u → flushed page ≡ front ++ made asked (Ok given) ∷ rest → Events donor_of SystemStep u front v
+    → Called v asked did (Err refusal) t → Cleans s (Err refusal) t
+stops s u v t landed page front rest asked given did (Because cause) is split before failed = record {
   pages = is.pages;
   page = page;
   front = front;
   rest = rest;
-  next = next;
+  asked = asked;
+  given = given;
   split = split;
-  happened = Events-append donor_of SystemStep s (flat_map flushed is.pages ++ front) (made (refused (call_of next) cause) ∷ []) v t (Events-append donor_of SystemStep s (flat_map flushed is.pages) front u v is.happened before) (t, call, refl);
+  happened = Events-append donor_of SystemStep s (flat_map flushed is.pages ++ front) (made asked (Err cause) ∷ []) v t (Events-append donor_of SystemStep s (flat_map flushed is.pages) front u v is.happened before) (t, failed, refl);
 }
-stops s u v t landed page front rest next did NoMemory is split before call = record {
+stops s u v t landed page front rest asked given did NoMemory is split before failed = record {
   front = flat_map flushed is.pages ++ front;
-  next = made (refused (call_of next) causes.DiskFault);
+  next = made asked (Err causes.DiskFault);
   rest = [];
-  makes = not_flushed is.pages page front rest next causes.DiskFault split refl;
-  carried = before_done is.pages page front rest next split;
+  makes = not_flushed is.pages page front rest asked given causes.DiskFault split refl;
+  carried = before_done is.pages page front rest asked given split;
   then = v;
   happened = Events-append donor_of SystemStep s (flat_map flushed is.pages) front u v is.happened before;
-  donor = call.donor;
-  begun = call.begun;
-  tells = call.tells;
-  clone = inl call.clone;
+  donor = failed.donor;
+  begun = failed.begun;
+  tells = failed.tells;
+  clone = inl failed.clone;
 }
 
 -- a refusal that is passed on
@@ -131,30 +135,30 @@ passed_on : (s t : State) (refusal : EngineRefusal) (result : Result ℕ EngineR
 passed_on s t refusal (Ok x) is cleans = absurd is
 passed_on s t refusal (Err e) is cleans = let P : EngineRefusal → Type 0 = λ r. Cleans s (Err r) t in subst P (sym is) cleans
 
-pub not_begun : (s u v t : State) (landed space page : ℕ) (refusal : EngineRefusal) (result : Result ℕ EngineRefusal) → Cleaning s landed u → Did u (did_oldest_dirty (Some (space, page))) v
-    → Called {X = Unit {0}} v (flush_begin space page) (λ _. did_flush_begin space page) (Err refusal) t → IsErrAnd result (λ e. e ≡ refusal) → Cleans s result t
-not_begun s u v t landed space page refusal result is looks call passed =
-    passed_on s t refusal result passed (stops s u v t landed (space, page) (made (done (did_oldest_dirty (Some (space, page)))) ∷ []) _ (did_flush_begin space page) (λ _. did_flush_begin space page) refusal is refl (v, looks, refl) call)
+pub not_begun : (s u v t : State) (landed space page : ℕ) (refusal : EngineRefusal) (result : Result ℕ EngineRefusal) → Cleaning s landed u → Did u call.OldestDirty (answers.OldestDirty (Some (space, page))) v
+    → Called {X = Unit {0}} v (call.FlushBegin space page) (λ _. answers.FlushBegin) (Err refusal) t → IsErrAnd result (λ e. e ≡ refusal) → Cleans s result t
+not_begun s u v t landed space page refusal result is looks failed passed =
+    passed_on s t refusal result passed (stops s u v t landed (space, page) (made call.OldestDirty (Ok (answers.OldestDirty (Some (space, page)))) ∷ []) _ (call.FlushBegin space page) answers.FlushBegin (λ _. answers.FlushBegin) refusal is refl (v, looks, refl) failed)
 
-pub not_halved : (s u v w t : State) (landed space page : ℕ) (refusal : EngineRefusal) (result : Result ℕ EngineRefusal) → Cleaning s landed u → Did u (did_oldest_dirty (Some (space, page))) v → Did v (did_flush_begin space page) w
-    → Called {X = Unit {0}} w (flush_half space page) (λ _. did_flush_half space page) (Err refusal) t → IsErrAnd result (λ e. e ≡ refusal) → Cleans s result t
-not_halved s u v w t landed space page refusal result is looks begins call passed =
-    passed_on s t refusal result passed (stops s u w t landed (space, page) (made (done (did_oldest_dirty (Some (space, page)))) ∷ made (done (did_flush_begin space page)) ∷ []) _ (did_flush_half space page) (λ _. did_flush_half space page) refusal is refl (v, looks, (w, begins, refl)) call)
+pub not_halved : (s u v w t : State) (landed space page : ℕ) (refusal : EngineRefusal) (result : Result ℕ EngineRefusal) → Cleaning s landed u → Did u call.OldestDirty (answers.OldestDirty (Some (space, page))) v → Did v (call.FlushBegin space page) answers.FlushBegin w
+    → Called {X = Unit {0}} w (call.FlushHalf space page) (λ _. answers.FlushHalf) (Err refusal) t → IsErrAnd result (λ e. e ≡ refusal) → Cleans s result t
+not_halved s u v w t landed space page refusal result is looks begins failed passed =
+    passed_on s t refusal result passed (stops s u w t landed (space, page) (made call.OldestDirty (Ok (answers.OldestDirty (Some (space, page)))) ∷ made (call.FlushBegin space page) (Ok answers.FlushBegin) ∷ []) _ (call.FlushHalf space page) answers.FlushHalf (λ _. answers.FlushHalf) refusal is refl (v, looks, (w, begins, refl)) failed)
 
-pub not_landed : (s u v w x t : State) (landed space page : ℕ) (refusal : EngineRefusal) (result : Result ℕ EngineRefusal) → Cleaning s landed u → Did u (did_oldest_dirty (Some (space, page))) v → Did v (did_flush_begin space page) w → Did w (did_flush_half space page) x
-    → Called {X = Unit {0}} x (flush_land space page) (λ _. did_flush_land space page) (Err refusal) t → IsErrAnd result (λ e. e ≡ refusal) → Cleans s result t
-not_landed s u v w x t landed space page refusal result is looks begins halves call passed =
-    passed_on s t refusal result passed (stops s u x t landed (space, page) (made (done (did_oldest_dirty (Some (space, page)))) ∷ made (done (did_flush_begin space page)) ∷ made (done (did_flush_half space page)) ∷ []) [] (did_flush_land space page) (λ _. did_flush_land space page) refusal is refl (v, looks, (w, begins, (x, halves, refl))) call)
+pub not_landed : (s u v w x t : State) (landed space page : ℕ) (refusal : EngineRefusal) (result : Result ℕ EngineRefusal) → Cleaning s landed u → Did u call.OldestDirty (answers.OldestDirty (Some (space, page))) v → Did v (call.FlushBegin space page) answers.FlushBegin w → Did w (call.FlushHalf space page) answers.FlushHalf x
+    → Called {X = Unit {0}} x (call.FlushLand space page) (λ _. answers.FlushLand) (Err refusal) t → IsErrAnd result (λ e. e ≡ refusal) → Cleans s result t
+not_landed s u v w x t landed space page refusal result is looks begins halves failed passed =
+    passed_on s t refusal result passed (stops s u x t landed (space, page) (made call.OldestDirty (Ok (answers.OldestDirty (Some (space, page)))) ∷ made (call.FlushBegin space page) (Ok answers.FlushBegin) ∷ made (call.FlushHalf space page) (Ok answers.FlushHalf) ∷ []) [] (call.FlushLand space page) answers.FlushLand (λ _. answers.FlushLand) refusal is refl (v, looks, (w, begins, (x, halves, refl))) failed)
 
 -- ---- the line
 
 -- the events of a `clean` that landed all
-whole_makes : (pages : List (ℕ × ℕ)) → MakesClean ((flat_map flushed pages ++ made (done (did_oldest_dirty None)) ∷ []) ++ cleaned (length pages) ∷ [])
-whole_makes pages = all_clean pages (append_assoc (flat_map flushed pages) (made (done (did_oldest_dirty None)) ∷ []) (cleaned (length pages) ∷ []))
+whole_makes : (pages : List (ℕ × ℕ)) → MakesClean ((flat_map flushed pages ++ made call.OldestDirty (Ok (answers.OldestDirty None)) ∷ []) ++ cleaned (length pages) ∷ [])
+whole_makes pages = all_clean pages (append_assoc (flat_map flushed pages) (made call.OldestDirty (Ok (answers.OldestDirty None)) ∷ []) (cleaned (length pages) ∷ []))
 
 all_answers : (s t : State) (landed : ℕ) (text : Text) → CleansAll s landed t → text ≡ codes "cleaned " ++ decimal landed → Answers s lines.Clean text t
 all_answers s t landed text is says =
-    let front = flat_map flushed is.pages ++ made (done (did_oldest_dirty None)) ∷ [] in
+    let front = flat_map flushed is.pages ++ made call.OldestDirty (Ok (answers.OldestDirty None)) ∷ [] in
     let last = cleaned (length is.pages) in
     let ends : Happens donor_of SystemStep t last t = record { step = refl; begun = refl; clone = record { now = tt; shows = tt; is = refl }; tells = refl; sees = λ _. tt } in
     record {
@@ -170,11 +174,11 @@ clean_answers bytes s t landed (Ok a) is says = all_answers s t landed (bytes a)
 pub clean_breaks : {A : Type 0} (s t : State) (landed : ℕ) (result : Result A AllocError) → Cleans s (Ok landed) t → OnErr result (BreaksOff s lines.Clean t)
 clean_breaks s t landed (Ok a) is = tt
 clean_breaks s t landed (Err e) is = record {
-  front = flat_map flushed is.pages ++ made (done (did_oldest_dirty None)) ∷ [];
+  front = flat_map flushed is.pages ++ made call.OldestDirty (Ok (answers.OldestDirty None)) ∷ [];
   next = cleaned (length is.pages);
   rest = [];
   makes = whole_makes is.pages;
-  carried = pages_done is.pages (made (done (did_oldest_dirty None)) ∷ []) (is_done _, tt);
+  carried = pages_done is.pages (made call.OldestDirty (Ok (answers.OldestDirty None)) ∷ []) (is_done _ _, tt);
   then = t;
   happened = is.happened;
   donor = refl;
@@ -187,10 +191,10 @@ refusal_answers : (s t : State) (refusal : EngineRefusal) (text : Text) → Clea
 refusal_answers s t refusal text is says =
     let P : EngineRefusal → Type 0 = λ r. Cleans s (Err r) t in
     let at : StopsCleaning s says.cause t = subst P says.is is in
-    let last = made (refused (call_of at.next) says.cause) in
+    let last = made at.asked (Err says.cause) in
     record {
       events = flat_map flushed at.pages ++ at.front ++ last ∷ [];
-      step = (not_flushed at.pages at.page at.front at.rest at.next says.cause at.split refl, at.happened);
+      step = (not_flushed at.pages at.page at.front at.rest at.asked at.given says.cause at.split refl, at.happened);
       is = says.same ∙ sym (said-last (flat_map flushed at.pages ++ at.front) last);
     }
 
@@ -200,30 +204,30 @@ stop_answers bytes s t refusal (Ok a) is says = refusal_answers s t refusal (byt
 
 -- a call of a flush drops nothing
 abbrev DropsNone : Event → Type 0
-DropsNone (made (done did)) = (cause : Cause) → ChangesNothing (call_of did) cause
+DropsNone (made asked (Ok given)) = (cause : Cause) → ChangesNothing asked cause
 DropsNone e = Unit {0}
 
 in_middle : (front rest : List Event) (e : Event) → AllByRecursion DropsNone (front ++ e ∷ rest) → DropsNone e
 in_middle [] rest e all = all.0
 in_middle (x ∷ front) rest e all = in_middle front rest e all.1
 
-flush_nothing : (page : ℕ × ℕ) (front rest : List Event) (next : Done) (cause : Cause) → flushed page ≡ front ++ made (done next) ∷ rest → ChangesNothing (call_of next) cause
-flush_nothing page front rest next cause split =
-    in_middle front rest (made (done next)) (subst (AllByRecursion DropsNone) split ((λ why. tt), ((λ why. tt), ((λ why. tt), ((λ why. tt), tt))))) cause
+flush_nothing : (page : ℕ × ℕ) (front rest : List Event) (asked : EngineCall) (given : EngineAnswer) (cause : Cause) → flushed page ≡ front ++ made asked (Ok given) ∷ rest → ChangesNothing asked cause
+flush_nothing page front rest asked given cause split =
+    in_middle front rest (made asked (Ok given)) (subst (AllByRecursion DropsNone) split ((λ why. tt), ((λ why. tt), ((λ why. tt), ((λ why. tt), tt))))) cause
 
 stopped_breaks : (s t : State) (refusal : EngineRefusal) → Cleans s (Err refusal) t → BreaksOff s lines.Clean t
 stopped_breaks s t (Because cause) is =
-    let last = made (refused (call_of is.next) cause) in
+    let last = made is.asked (Err cause) in
     let before = flat_map flushed is.pages ++ is.front in
     let at = Events-split s before (last ∷ []) t is.happened in
     let P : State → Type 0 = λ w. Happens donor_of SystemStep at.0 last w in
-    let stays = refused_stays at.0 t (call_of is.next) cause (flush_nothing is.page is.front is.rest is.next cause is.split) (subst P at.2.2 at.2.1) in
+    let stays = refused_stays at.0 t is.asked cause (flush_nothing is.page is.front is.rest is.asked is.given cause is.split) (subst P at.2.2 at.2.1) in
     record {
       front = before;
       next = last;
       rest = [];
-      makes = not_flushed is.pages is.page is.front is.rest is.next cause is.split refl;
-      carried = before_done is.pages is.page is.front is.rest is.next is.split;
+      makes = not_flushed is.pages is.page is.front is.rest is.asked is.given cause is.split refl;
+      carried = before_done is.pages is.page is.front is.rest is.asked is.given is.split;
       then = at.0;
       happened = at.1;
       donor = stays.donor;

@@ -1,4 +1,4 @@
--- A clone is brought to its end: what happens behind the stages that are copied meanwhile happens
+-- A clone is brought to its end: what happens after the stages that are copied meanwhile happens
 -- from the beginning, but that the clone comes to its stop first, if it comes to it.
 use Rattle.std.proofs.Common.{◌≡◌, ◌≤◌, ◌<◌, ◌-◌, ℕ, Bool, refl, sym, ap, ◌∙◌, subst, arith, List, [], ◌∷◌, Some, None, MatchOption, Result, Ok, Err, IfOk, OnErr, IsErr}
 use Rattle.std.specs.declared.alloc.AllocError.{AllocError}
@@ -274,26 +274,26 @@ told_untold s t e donor begun is = record { donor = donor; begun = begun; tells 
 
 -- an event that is no call leaves the plain donor and the indexes
 abbrev pub IsNoCall : Event → Type 0
-IsNoCall (made m) = ⊥
+IsNoCall (made asked answer) = ⊥
 IsNoCall e = Unit {0}
 
 no_call_plain : (d after : Donor) (e : Event) → IsNoCall e → PlainEvent d e after → after ≡ d
-no_call_plain d after (made m) quiet is = absurd quiet
+no_call_plain d after (made asked answer) quiet is = absurd quiet
 no_call_plain d after e quiet is = is
 
 no_call_counts : (e : Event) (begun : FinMap nat_cmp ℕ) → IsNoCall e → counted e begun ≡ begun
-no_call_counts (made m) begun quiet = absurd quiet
+no_call_counts (made asked answer) begun quiet = absurd quiet
 no_call_counts e begun quiet = refl
 
 pub quiet_untold : (s t : State) (e : Event) → IsNoCall e → Happens donor_of SystemStep s e t → StaysUntold s (e ∷ []) t
 quiet_untold s t e quiet is = told_untold s t e (no_call_plain (donor_of s.donor) (donor_of t.donor) e quiet (refines s.donor t.donor e is.step)) (is.begun ∙ no_call_counts e s.begun quiet) is
 
 no_call_advances : (e : Event) → Advances e → IsNoCall e
-no_call_advances (made m) kind = absurd kind
+no_call_advances (made asked answer) kind = absurd kind
 no_call_advances e kind = tt
 
 no_call_starts : (e : Event) → Starts e → IsNoCall e
-no_call_starts (made m) kind = absurd kind
+no_call_starts (made asked answer) kind = absurd kind
 no_call_starts e kind = tt
 
 pub comes_untold : (Kind : Event → Type 0) (s t : State) (e : Event) → Kind e → Advances e → Comes s e t → EndsUntold (GoesOn Kind) s t

@@ -7,8 +7,12 @@ use Rattle.clone_plain.specs.declared.refusal.Cause.{Cause}
 use Rattle.clone_plain.specs.declared.refusal.Cause.TheVariants.{NoSuchTrx, DiskFault}
 use Rattle.clone_plain.specs.declared.refusal.EngineRefusal.{EngineRefusal}
 use Rattle.clone_plain.specs.declared.refusal.EngineRefusal.TheVariants.{Because, NoMemory}
-use Rattle.clone_plain.specs.Answers.{Text, done_text, undone_answer}
-use Rattle.clone_plain.specs.Calls.{Call, create, drop, begin, put, delete, get, undo_one, commit, flush_begin, flush_half, flush_land, checkpoint, end, Done, did_get, did_undo_one, Made, done, refused, call_of, AfterRefusal, PlainStep}
+use Rattle.clone_plain.specs.Answers.{Text, answer_text, undone_answer}
+use Rattle.clone_plain.specs.Calls.{AfterRefusal, PlainStep}
+use Rattle.clone_plain.specs.declared.call.EngineAnswer.{EngineAnswer}
+use Rattle.clone_plain.specs.declared.call.EngineAnswer.TheVariants as answers
+use Rattle.clone_plain.specs.declared.call.EngineCall.{EngineCall}
+use Rattle.clone_plain.specs.declared.call.EngineCall.TheVariants as call
 use Rattle.clone_plain.specs.declared.refusal.Undone.{Undone}
 use Rattle.clone_plain.specs.Donor.{Donor}
 use Rattle.clone_plain.specs.Effects.{Undoes}
@@ -21,29 +25,29 @@ use Rattle.clone_events.specs.Runs as goes
 use Rattle.clone_core.specs.System.{SystemStep, donor_of}
 use Rattle.clone_core.specs.Lines.{State, Answers, BreaksOff}
 use Rattle.clone_core.specs.Called.{Stays, StaysUntold, Called, SaysCause, Notes}
-use Rattle.clone_core.proofs.StepLemmas.{refines}
+use Rattle.clone_core.proofs.StepLemmas.{refines, refused_counts}
 
 -- ---- one event
 
 -- what a call does to the plain donor
-pub made_step : (s t : State) (m : Made) → Happens donor_of SystemStep s (made m) t → PlainStep (donor_of s.donor) m (donor_of t.donor)
-made_step s t m is = refines s.donor t.donor (made m) is.step
+pub made_step : (s t : State) (asked : EngineCall) (answer : Result EngineAnswer Cause) → Happens donor_of SystemStep s (made asked answer) t → PlainStep (donor_of s.donor) asked answer (donor_of t.donor)
+made_step s t asked answer is = refines s.donor t.donor (made asked answer) is.step
 
 pub same_stays : (s : State) → Stays s s
 same_stays s = record { donor = refl; begun = refl; tells = refl; clone = refl }
 
 -- a refusal that changes nothing: any but that of a drop in which the disk failed
-abbrev pub ChangesNothing : Call → Cause → Type 0
-ChangesNothing (drop table) cause = cause ≡ DiskFault → ⊥
-ChangesNothing call cause = Unit {0}
+abbrev pub ChangesNothing : EngineCall → Cause → Type 0
+ChangesNothing (call.Drop table) cause = cause ≡ DiskFault → ⊥
+ChangesNothing asked cause = Unit {0}
 
-stays_after : (d : Donor) (call : Call) (cause : Cause) (after : Donor) → ChangesNothing call cause → AfterRefusal d call cause after → after ≡ d
-stays_after d (drop table) DiskFault after nothing is = absurd (nothing refl)
-stays_after d call cause after nothing is = is
+stays_after : (d : Donor) (asked : EngineCall) (cause : Cause) (after : Donor) → ChangesNothing asked cause → AfterRefusal d asked cause after → after ≡ d
+stays_after d (call.Drop table) DiskFault after nothing is = absurd (nothing refl)
+stays_after d asked cause after nothing is = is
 
 -- it leaves the donor and the writers' counts
-pub refused_stays : (s t : State) (call : Call) (cause : Cause) → ChangesNothing call cause → Happens donor_of SystemStep s (made (refused call cause)) t → Stays s t
-refused_stays s t call cause nothing is = record { donor = stays_after (donor_of s.donor) call cause (donor_of t.donor) nothing (made_step s t (refused call cause) is).1; begun = is.begun; tells = is.tells; clone = is.clone.is }
+pub refused_stays : (s t : State) (asked : EngineCall) (cause : Cause) → ChangesNothing asked cause → Happens donor_of SystemStep s (made asked (Err cause)) t → Stays s t
+refused_stays s t asked cause nothing is = record { donor = stays_after (donor_of s.donor) asked cause (donor_of t.donor) nothing (made_step s t asked (Err cause) is).1; begun = is.begun ∙ refused_counts asked cause s.begun; tells = is.tells; clone = is.clone.is }
 
 -- a line of one event
 pub event_answers : {A : Type 0} (bytes : A → Text) (s t : State) (line : Line) (e : Event) (result : Result A AllocError) → Makes (index_in s.begun) line (e ∷ []) → Happens donor_of SystemStep s e t → IfOk result (λ a. bytes a ≡ event_text e)
@@ -60,29 +64,29 @@ at_once s t line next rest makes stays = record { front = []; next = next; rest 
 pub untold_breaks : (s t : State) (line : Line) (next : Event) (rest : List Event) → Makes (index_in s.begun) line (next ∷ rest) → StaysUntold s (next ∷ rest) t → BreaksOff s line t
 untold_breaks s t line next rest makes stays = record { front = []; next = next; rest = rest; makes = makes; carried = tt; then = s; happened = refl; donor = stays.donor; begun = stays.begun; tells = stays.tells; clone = inr (next ∷ rest, makes, stays.clone) }
 
-call_at_once : (s t : State) (line : Line) (call : Call) → ((es : List Event) → MakesOne call es → Makes (index_in s.begun) line es) → Stays s t → BreaksOff s line t
-call_at_once s t line call makes stays = at_once s t line (made (refused call NoSuchTrx)) [] (makes _ (refused call NoSuchTrx, refl, refl)) stays
+call_at_once : (s t : State) (line : Line) (asked : EngineCall) → ((es : List Event) → MakesOne asked es → Makes (index_in s.begun) line es) → Stays s t → BreaksOff s line t
+call_at_once s t line asked makes stays = at_once s t line (made asked (Err NoSuchTrx)) [] (makes _ (Err NoSuchTrx, refl)) stays
 
 -- before a call was carried out that does something to the plain donor
 pub breaks_at_once : (s t : State) (line : Line) → Stays s t → BreaksOff s line t
-breaks_at_once s t (lines.Create table buckets) stays = call_at_once s t _ (create table buckets) (λ es m. m) stays
-breaks_at_once s t (lines.Drop table) stays = call_at_once s t _ (drop table) (λ es m. m) stays
-breaks_at_once s t (lines.Begin writer) stays = call_at_once s t _ (begin writer (index_in s.begun writer)) (λ es m. m) stays
-breaks_at_once s t (lines.Put trx table key value) stays = call_at_once s t _ (put trx table key value) (λ es m. m) stays
-breaks_at_once s t (lines.Delete trx table key) stays = call_at_once s t _ (delete trx table key) (λ es m. m) stays
-breaks_at_once s t (lines.Get trx table key) stays = call_at_once s t _ (get trx table key) (λ es m. m) stays
-breaks_at_once s t (lines.Undo trx) stays = call_at_once s t _ (undo_one trx) (λ es m. m) stays
-breaks_at_once s t (lines.Commit trx) stays = call_at_once s t _ (commit trx) (λ es m. m) stays
-breaks_at_once s t (lines.Set writer table key value) stays = at_once s t (lines.Set writer table key value) (made (refused (begin writer (index_in s.begun writer)) NoSuchTrx)) [] (not_begun NoSuchTrx refl) stays
-breaks_at_once s t (lines.Flush space page) stays = call_at_once s t _ (flush_begin space page) (λ es m. m) stays
-breaks_at_once s t (lines.Half space page) stays = call_at_once s t _ (flush_half space page) (λ es m. m) stays
-breaks_at_once s t (lines.Land space page) stays = call_at_once s t _ (flush_land space page) (λ es m. m) stays
+breaks_at_once s t (lines.Create table buckets) stays = call_at_once s t _ (call.Create table buckets) (λ es m. m) stays
+breaks_at_once s t (lines.Drop table) stays = call_at_once s t _ (call.Drop table) (λ es m. m) stays
+breaks_at_once s t (lines.Begin writer) stays = call_at_once s t _ (call.Begin writer (index_in s.begun writer)) (λ es m. m) stays
+breaks_at_once s t (lines.Put trx table key value) stays = call_at_once s t _ (call.Put trx table key value) (λ es m. m) stays
+breaks_at_once s t (lines.Delete trx table key) stays = call_at_once s t _ (call.Delete trx table key) (λ es m. m) stays
+breaks_at_once s t (lines.Get trx table key) stays = call_at_once s t _ (call.Get trx table key) (λ es m. m) stays
+breaks_at_once s t (lines.Undo trx) stays = call_at_once s t _ (call.UndoOne trx) (λ es m. m) stays
+breaks_at_once s t (lines.Commit trx) stays = call_at_once s t _ (call.Commit trx) (λ es m. m) stays
+breaks_at_once s t (lines.Set writer table key value) stays = at_once s t (lines.Set writer table key value) (made (call.Begin writer (index_in s.begun writer)) (Err NoSuchTrx)) [] (not_begun NoSuchTrx refl) stays
+breaks_at_once s t (lines.Flush space page) stays = call_at_once s t _ (call.FlushBegin space page) (λ es m. m) stays
+breaks_at_once s t (lines.Half space page) stays = call_at_once s t _ (call.FlushHalf space page) (λ es m. m) stays
+breaks_at_once s t (lines.Land space page) stays = call_at_once s t _ (call.FlushLand space page) (λ es m. m) stays
 breaks_at_once s t lines.Clean stays = at_once s t lines.Clean _ _ (all_clean [] refl) stays
-breaks_at_once s t lines.Checkpoint stays = call_at_once s t _ checkpoint (λ es m. m) stays
-breaks_at_once s t lines.Lsn stays = call_at_once s t _ end (λ es m. m) stays
+breaks_at_once s t lines.Checkpoint stays = call_at_once s t _ call.Checkpoint (λ es m. m) stays
+breaks_at_once s t lines.Lsn stays = call_at_once s t _ call.End (λ es m. m) stays
 breaks_at_once s t (lines.Tear byte) stays = at_once s t (lines.Tear byte) (ordered to_donor (orders.Tear byte)) [] refl stays
-breaks_at_once s t (lines.FailDonor call) stays = at_once s t (lines.FailDonor call) (ordered to_donor (orders.FailAt call)) [] refl stays
-breaks_at_once s t (lines.FailRecipient call) stays = at_once s t (lines.FailRecipient call) (ordered to_recipient (orders.FailAt call)) [] refl stays
+breaks_at_once s t (lines.FailDonor number) stays = at_once s t (lines.FailDonor number) (ordered to_donor (orders.FailAt number)) [] refl stays
+breaks_at_once s t (lines.FailRecipient number) stays = at_once s t (lines.FailRecipient number) (ordered to_recipient (orders.FailAt number)) [] refl stays
 breaks_at_once s t lines.Start stays = at_once s t lines.Start started [] (started, tt, refl) stays
 breaks_at_once s t lines.Advance stays = at_once s t lines.Advance broke [] (goes.at_once broke tt refl) stays
 breaks_at_once s t lines.Finish stays = at_once s t lines.Finish broke [] (goes.at_once broke tt refl) stays
@@ -111,50 +115,50 @@ line_breaks s t line (Err e) same = let P : State → Type 0 = λ w. BreaksOff s
 
 -- ---- lines of one call
 
-one_answers : {X : Type 0} (s t : State) (line : Line) (call : Call) (did : X → Done) (called : Result X EngineRefusal) (text answer : Text) → ((es : List Event) → MakesOne call es → Makes (index_in s.begun) line es) → ((x : X) → call_of (did x) ≡ call) → Called s call did called t
-    → ((x : X) → called ≡ Ok x → Happens donor_of SystemStep s (made (done (did x))) t → text ≡ done_text (did x)) → MatchResult called (λ _. answer ≡ text) (λ refusal. SaysCause refusal answer) → Answers s line answer t
-one_answers s t line call did (Ok x) text answer makes same is told says =
-    record { events = made (done (did x)) ∷ []; step = (makes _ (done (did x), same x, refl), (t, is, refl)); is = says ∙ told x refl is }
-one_answers {X} s t line call did (Err refusal) text answer makes same is told says =
-    let P : EngineRefusal → Type 0 = λ r. Called {X = X} s call did (Err r) t in
+one_answers : {X : Type 0} (s t : State) (line : Line) (asked : EngineCall) (did : X → EngineAnswer) (called : Result X EngineRefusal) (text answer : Text) → ((es : List Event) → MakesOne asked es → Makes (index_in s.begun) line es) → Called s asked did called t
+    → ((x : X) → called ≡ Ok x → Happens donor_of SystemStep s (made asked (Ok (did x))) t → text ≡ answer_text (did x)) → MatchResult called (λ _. answer ≡ text) (λ refusal. SaysCause refusal answer) → Answers s line answer t
+one_answers s t line asked did (Ok x) text answer makes is told says =
+    record { events = made asked (Ok (did x)) ∷ []; step = (makes _ (Ok (did x), refl), (t, is, refl)); is = says ∙ told x refl is }
+one_answers {X} s t line asked did (Err refusal) text answer makes is told says =
+    let P : EngineRefusal → Type 0 = λ r. Called {X = X} s asked did (Err r) t in
     let at = subst P says.is is in
-    record { events = made (refused call says.cause) ∷ []; step = (makes _ (refused call says.cause, refl, refl), (t, at, refl)); is = says.same }
+    record { events = made asked (Err says.cause) ∷ []; step = (makes _ (Err says.cause, refl), (t, at, refl)); is = says.same }
 
-pub call_answers : {X A : Type 0} (bytes : A → Text) (s t : State) (line : Line) (call : Call) (did : X → Done) (called : Result X EngineRefusal) (text : Text) (result : Result A AllocError) → ((es : List Event) → MakesOne call es → Makes (index_in s.begun) line es) → ((x : X) → call_of (did x) ≡ call)
-    → Called s call did called t → ((x : X) → called ≡ Ok x → Happens donor_of SystemStep s (made (done (did x))) t → text ≡ done_text (did x)) → IfOk result (λ a. MatchResult called (λ _. bytes a ≡ text) (λ refusal. SaysCause refusal (bytes a))) → IfOk result (λ a. Answers s line (bytes a) t)
-call_answers bytes s t line call did called text (Ok a) makes same is told says = one_answers s t line call did called text (bytes a) makes same is told says
-call_answers bytes s t line call did called text (Err e) makes same is told says = tt
+pub call_answers : {X A : Type 0} (bytes : A → Text) (s t : State) (line : Line) (asked : EngineCall) (did : X → EngineAnswer) (called : Result X EngineRefusal) (text : Text) (result : Result A AllocError) → ((es : List Event) → MakesOne asked es → Makes (index_in s.begun) line es)
+    → Called s asked did called t → ((x : X) → called ≡ Ok x → Happens donor_of SystemStep s (made asked (Ok (did x))) t → text ≡ answer_text (did x)) → IfOk result (λ a. MatchResult called (λ _. bytes a ≡ text) (λ refusal. SaysCause refusal (bytes a))) → IfOk result (λ a. Answers s line (bytes a) t)
+call_answers bytes s t line asked did called text (Ok a) makes is told says = one_answers s t line asked did called text (bytes a) makes is told says
+call_answers bytes s t line asked did called text (Err e) makes is told says = tt
 
 -- a call that was refused, or for which there was no memory, leaves the plain donor
-pub not_called : {X : Type 0} (s t : State) (call : Call) (did : X → Done) (called : Result X EngineRefusal) → ((cause : Cause) → ChangesNothing call cause) → Called s call did called t → IsErr called → Stays s t
-not_called s t call did (Ok x) nothing is failed = absurd (let e = failed in cc)
-not_called s t call did (Err (Because cause)) nothing is failed = refused_stays s t call cause (nothing cause) is
-not_called s t call did (Err NoMemory) nothing is failed = is
+pub not_called : {X : Type 0} (s t : State) (asked : EngineCall) (did : X → EngineAnswer) (called : Result X EngineRefusal) → ((cause : Cause) → ChangesNothing asked cause) → Called s asked did called t → IsErr called → Stays s t
+not_called s t asked did (Ok x) nothing is failed = absurd (let e = failed in cc)
+not_called s t asked did (Err (Because cause)) nothing is failed = refused_stays s t asked cause (nothing cause) is
+not_called s t asked did (Err NoMemory) nothing is failed = is
 
-pub call_breaks : {X A : Type 0} (s t : State) (line : Line) (call : Call) (did : X → Done) (called : Result X EngineRefusal) (result : Result A AllocError) → ((cause : Cause) → ChangesNothing call cause) → Called s call did called t → OnErr result (IsErr called) → OnErr result (BreaksOff s line t)
-call_breaks s t line call did called (Ok a) nothing is failed = tt
-call_breaks s t line call did called (Err e) nothing is failed = breaks_at_once s t line (not_called s t call did called nothing is failed)
+pub call_breaks : {X A : Type 0} (s t : State) (line : Line) (asked : EngineCall) (did : X → EngineAnswer) (called : Result X EngineRefusal) (result : Result A AllocError) → ((cause : Cause) → ChangesNothing asked cause) → Called s asked did called t → OnErr result (IsErr called) → OnErr result (BreaksOff s line t)
+call_breaks s t line asked did called (Ok a) nothing is failed = tt
+call_breaks s t line asked did called (Err e) nothing is failed = breaks_at_once s t line (not_called s t asked did called nothing is failed)
 
 -- a call was refused, and its refusal is shown
-pub refusal_answers : {X A : Type 0} (bytes : A → Text) (s t : State) (line : Line) (call : Call) (did : X → Done) (refusal : EngineRefusal) (result : Result A AllocError) → ((es : List Event) → MakesOne call es → Makes (index_in s.begun) line es) → Called {X = X} s call did (Err refusal) t
+pub refusal_answers : {X A : Type 0} (bytes : A → Text) (s t : State) (line : Line) (asked : EngineCall) (did : X → EngineAnswer) (refusal : EngineRefusal) (result : Result A AllocError) → ((es : List Event) → MakesOne asked es → Makes (index_in s.begun) line es) → Called {X = X} s asked did (Err refusal) t
     → IfOk result (λ a. SaysCause refusal (bytes a)) → IfOk result (λ a. Answers s line (bytes a) t)
-refusal_answers bytes s t line call did refusal (Err e) makes is says = tt
-refusal_answers {X} bytes s t line call did refusal (Ok a) makes is says =
-    let P : EngineRefusal → Type 0 = λ r. Called {X = X} s call did (Err r) t in
-    record { events = made (refused call says.cause) ∷ []; step = (makes _ (refused call says.cause, refl, refl), (t, subst P says.is is, refl)); is = says.same }
+refusal_answers bytes s t line asked did refusal (Err e) makes is says = tt
+refusal_answers {X} bytes s t line asked did refusal (Ok a) makes is says =
+    let P : EngineRefusal → Type 0 = λ r. Called {X = X} s asked did (Err r) t in
+    record { events = made asked (Err says.cause) ∷ []; step = (makes _ (Err says.cause, refl), (t, subst P says.is is, refl)); is = says.same }
 
-pub refusal_breaks : {X A : Type 0} (s t : State) (line : Line) (call : Call) (did : X → Done) (refusal : EngineRefusal) (result : Result A AllocError) → ((cause : Cause) → ChangesNothing call cause) → Called {X = X} s call did (Err refusal) t → OnErr result (BreaksOff s line t)
-refusal_breaks {X} s t line call did refusal result nothing is = stays_breaks s t line result (not_called {X = X} s t call did (Err refusal) nothing is refl)
+pub refusal_breaks : {X A : Type 0} (s t : State) (line : Line) (asked : EngineCall) (did : X → EngineAnswer) (refusal : EngineRefusal) (result : Result A AllocError) → ((cause : Cause) → ChangesNothing asked cause) → Called {X = X} s asked did (Err refusal) t → OnErr result (BreaksOff s line t)
+refusal_breaks {X} s t line asked did refusal result nothing is = stays_breaks s t line result (not_called {X = X} s t asked did (Err refusal) nothing is refl)
 
 -- a drop was refused, and not because the disk failed
-pub drop_breaks : {X A : Type 0} (s t : State) (line : Line) (table : ℕ) (did : X → Done) (refusal : EngineRefusal) (result : Result A AllocError) → Called {X = X} s (drop table) did (Err refusal) t → OnErr result (refusal ≢ Because DiskFault) → OnErr result (BreaksOff s line t)
+pub drop_breaks : {X A : Type 0} (s t : State) (line : Line) (table : ℕ) (did : X → EngineAnswer) (refusal : EngineRefusal) (result : Result A AllocError) → Called {X = X} s (call.Drop table) did (Err refusal) t → OnErr result (refusal ≢ Because DiskFault) → OnErr result (BreaksOff s line t)
 drop_breaks s t line table did refusal (Ok a) is other = tt
-drop_breaks s t line table did (Because cause) (Err e) is other = breaks_at_once s t line (refused_stays s t (drop table) cause (λ fault. other (ap (λ (c : Cause). Because c) fault)) is)
+drop_breaks s t line table did (Because cause) (Err e) is other = breaks_at_once s t line (refused_stays s t (call.Drop table) cause (λ fault. other (ap (λ (c : Cause). Because c) fault)) is)
 drop_breaks s t line table did NoMemory (Err e) is other = breaks_at_once s t line is
 
 -- a value that was got leaves the plain donor
-pub got_stays : (s t : State) (trx table key : ℕ) (value : Option (List ℕ)) → Happens donor_of SystemStep s (made (done (did_get trx table key value))) t → Stays s t
-got_stays s t trx table key value is = record { donor = (made_step s t _ is).1; begun = is.begun; tells = is.tells; clone = is.clone.is }
+pub got_stays : (s t : State) (trx table key : ℕ) (value : Option (List ℕ)) → Happens donor_of SystemStep s (made (call.Get trx table key) (Ok (answers.Get value))) t → Stays s t
+got_stays s t trx table key value is = record { donor = (made_step s t _ _ is).1; begun = is.begun; tells = is.tells; clone = is.clone.is }
 
 -- what is said is said in other words
 pub said_is : {A : Type 0} (bytes : A → Text) (result : Result A AllocError) (text other : Text) → text ≡ other → IfOk result (λ a. bytes a ≡ text) → IfOk result (λ a. bytes a ≡ other)
@@ -162,10 +166,10 @@ said_is bytes (Err e) text other same says = tt
 said_is bytes (Ok a) text other same says = says ∙ same
 
 -- the text that was made before a change was taken back is right once it was
-pub undo_told : (r s t : State) (trx : ℕ) (undone : Undone) (text : Text) → r ≡ s → ((u : Undone) (after : Donor) → Undoes (donor_of r.donor) trx u after → text ≡ undone_answer u) → Happens donor_of SystemStep s (made (done (did_undo_one trx undone))) t → text ≡ undone_answer undone
+pub undo_told : (r s t : State) (trx : ℕ) (undone : Undone) (text : Text) → r ≡ s → ((u : Undone) (after : Donor) → Undoes (donor_of r.donor) trx u after → text ≡ undone_answer u) → Happens donor_of SystemStep s (made (call.UndoOne trx) (Ok (answers.UndoOne undone))) t → text ≡ undone_answer undone
 undo_told r s t trx undone text same told is =
     let P : State → Type 0 = λ w. Undoes (donor_of w.donor) trx undone (donor_of t.donor) in
-    told undone (donor_of t.donor) (subst P (sym same) (made_step s t _ is).1)
+    told undone (donor_of t.donor) (subst P (sym same) (made_step s t _ _ is).1)
 
 -- ---- an order
 
@@ -177,12 +181,12 @@ notes_answer bytes s t line e (Ok a) makes is = record { events = e ∷ []; step
 pub tear_makes : (next : ℕ → ℕ) (line : Line) (byte : ℕ) → line ≡ lines.Tear byte → Makes next line (ordered to_donor (orders.Tear byte) ∷ [])
 tear_makes next line byte is = let P : Line → Type 0 = λ l. Makes next l (ordered to_donor (orders.Tear byte) ∷ []) in subst P (sym is) refl
 
-pub fail_donor_makes : (next : ℕ → ℕ) (line : Line) (call : ℕ) (order : DiskOrder) → line ≡ lines.FailDonor call → order ≡ orders.FailAt call → Makes next line (ordered to_donor order ∷ [])
-fail_donor_makes next line call order is same =
+pub fail_donor_makes : (next : ℕ → ℕ) (line : Line) (number : ℕ) (order : DiskOrder) → line ≡ lines.FailDonor number → order ≡ orders.FailAt number → Makes next line (ordered to_donor order ∷ [])
+fail_donor_makes next line number order is same =
     let P : Line → Type 0 = λ l. Makes next l (ordered to_donor order ∷ []) in
     subst P (sym is) (ap (λ (o : DiskOrder). ordered to_donor o ∷ []) same)
 
-pub fail_recipient_makes : (next : ℕ → ℕ) (line : Line) (call : ℕ) (order : DiskOrder) → line ≡ lines.FailRecipient call → order ≡ orders.FailAt call → Makes next line (ordered to_recipient order ∷ [])
-fail_recipient_makes next line call order is same =
+pub fail_recipient_makes : (next : ℕ → ℕ) (line : Line) (number : ℕ) (order : DiskOrder) → line ≡ lines.FailRecipient number → order ≡ orders.FailAt number → Makes next line (ordered to_recipient order ∷ [])
+fail_recipient_makes next line number order is same =
     let P : Line → Type 0 = λ l. Makes next l (ordered to_recipient order ∷ []) in
     subst P (sym is) (ap (λ (o : DiskOrder). ordered to_recipient o ∷ []) same)

@@ -1,10 +1,10 @@
 -- Each disk gets the orders of the lines that are for it, and no others.
-use Rattle.std.proofs.Common.{◌≡◌, ◌≤◌, ℕ, List, [], ◌∷◌, ◌++◌, refl, sym, ap, ◌∙◌, subst, arith, Option, None, Some, append_assoc, append-nil, filter_map, flat_map}
+use Rattle.std.proofs.Common.{◌≡◌, ◌≤◌, ℕ, List, [], ◌∷◌, ◌++◌, refl, sym, ap, ◌∙◌, subst, arith, Option, None, Some, append_assoc, append-nil, filter_map, flat_map, Ok, Err}
 use Rattle.std.specs.List.{AllByRecursion, cons_option}
 use Rattle.clone_outside.specs.declared.disk.DiskOrder.{DiskOrder}
 use Rattle.clone_script.specs.declared.lines.Line.{Line}
 use Rattle.clone_script.specs.declared.lines.Line.TheVariants as lines
-use Rattle.clone_plain.specs.Calls.{Call, call_of, refused}
+use Rattle.clone_plain.specs.declared.call.EngineCall.{EngineCall}
 use Rattle.clone_events.specs.Events.{Side, to_donor, to_recipient, Event, made, cleaned, looked, archived, started, stopped, readied, completed, broke, lost, again, showed, incomplete, hidden, damaged, ordered, Events}
 use Rattle.clone_events.specs.Headline.{donor_order, recipient_order}
 use Rattle.clone_events.specs.Runs.{Makes, MakesOne, MakesSet, not_begun, not_changed, set, MakesClean, all_clean, not_flushed, flushed, MakesEvent, GoesOn, at_once, by_stop, MakesClone, Starts, Advances, Finishes, Archives, Looks, ShowsOrNot}
@@ -72,7 +72,7 @@ for_recipient_gets to_donor s t order is = visits_get to_donor s t (same_visits 
 for_recipient_gets to_recipient s t order is = record { later = omega (arith, ap (λ (w : System). w.recipient.failures) is); orders = ap (λ (w : System). w.recipient.orders) is }
 
 pub event_gets : (side : Side) (s : System) (e : Event) (t : System) → SystemStep s e t → Gets side s t (order_in side e)
-event_gets side s (made m) t is = both_get side s t (made_visits s.donor t.donor m is.0) (same_visits _ _ is.1)
+event_gets side s (made asked answer) t is = both_get side s t (made_visits s.donor t.donor asked answer is.0) (same_visits _ _ is.1)
 event_gets side s (cleaned landed) t is = same_gets side s t is
 event_gets side s (looked position) t is = same_gets side s t is
 event_gets side s (archived limit reached) t is = archives_get side limit reached s t is
@@ -129,18 +129,18 @@ front_none side (f ∷ front) rest e all is = (all.0, front_none side front rest
 
 clean_none : (side : Side) (es : List Event) → MakesClean es → AllByRecursion (NoOrder side) es
 clean_none side es (all_clean pages is) = subst (AllByRecursion (NoOrder side)) (sym is) (pages_none side pages _ (refl, (refl, tt)))
-clean_none side es (not_flushed pages page front rest next cause split is) =
-    let last : Event = made (refused (call_of next) cause) in
+clean_none side es (not_flushed pages page front rest asked given cause split is) =
+    let last : Event = made asked (Err cause) in
     let all = subst (AllByRecursion (NoOrder side)) split (refl, (refl, (refl, (refl, tt)))) in
-    subst (AllByRecursion (NoOrder side)) (sym (is ∙ append_assoc (flat_map flushed pages) front (last ∷ []))) (pages_none side pages (front ++ last ∷ []) (front_none side front (made _ ∷ rest) last all refl))
+    subst (AllByRecursion (NoOrder side)) (sym (is ∙ append_assoc (flat_map flushed pages) front (last ∷ []))) (pages_none side pages (front ++ last ∷ []) (front_none side front (made asked (Ok given) ∷ rest) last all refl))
 
 set_none : (side : Side) (writer index table key : ℕ) (value : List ℕ) (es : List Event) → MakesSet writer index table key value es → filter_map (order_in side) es ≡ []
 set_none side writer index table key value es (not_begun cause is) = ap (filter_map (order_in side)) is
 set_none side writer index table key value es (not_changed trx cause is) = ap (filter_map (order_in side)) is
-set_none side writer index table key value es (set trx last commits is) = ap (filter_map (order_in side)) is
+set_none side writer index table key value es (set trx last is) = ap (filter_map (order_in side)) is
 
-call_none : (side : Side) (call : Call) (es : List Event) → MakesOne call es → filter_map (order_in side) es ≡ []
-call_none side call es is = ap (filter_map (order_in side)) is.2
+call_none : (side : Side) (asked : EngineCall) (es : List Event) → MakesOne asked es → filter_map (order_in side) es ≡ []
+call_none side asked es is = ap (filter_map (order_in side)) is.1
 
 -- no event of these kinds is an order
 starts_none : (side : Side) (e : Event) → Starts e → order_in side e ≡ None
@@ -211,8 +211,8 @@ line_orders side next lines.Clean es is = no_order side _ es refl refl (none_in 
 line_orders side next lines.Checkpoint es is = no_order side _ es refl refl (call_none side _ es is)
 line_orders side next lines.Lsn es is = no_order side _ es refl refl (call_none side _ es is)
 line_orders side next (lines.Tear byte) es is = to_donor_line side _ _ es refl refl is
-line_orders side next (lines.FailDonor call) es is = to_donor_line side _ _ es refl refl is
-line_orders side next (lines.FailRecipient call) es is = to_recipient_line side _ _ es refl refl is
+line_orders side next (lines.FailDonor number) es is = to_donor_line side _ _ es refl refl is
+line_orders side next (lines.FailRecipient number) es is = to_recipient_line side _ _ es refl refl is
 line_orders side next lines.Start es is = no_order side _ es refl refl (one_none side Starts es (starts_none side) is)
 line_orders side next lines.Advance es is = no_order side _ es refl refl (goes_none side Advances es (advances_none side) is)
 line_orders side next lines.Finish es is = no_order side _ es refl refl (goes_none side Finishes es (finishes_none side) is)

@@ -1,5 +1,5 @@
 -- What is looked up and what is archived beside a clone, and rows before a clone has ended.
-use Rattle.std.proofs.Common.{◌≡◌, ◌≢◌, ◌⊎◌, inl, inr, ℕ, Bool, length, arith, true, false, refl, sym, ap, ◌∙◌, subst, Option, Some, None, is_some, option_map, Result, IfOk}
+use Rattle.std.proofs.Common.{◌≡◌, ◌≢◌, ◌⊎◌, inl, inr, ℕ, Bool, length, arith, true, false, refl, sym, ap, ◌∙◌, subst, Option, Some, None, is_some, option_map, Result, Ok, IfOk}
 use Rattle.std.specs.Option.{option_map_or}
 use Rattle.std.specs.declared.alloc.AllocError.{AllocError}
 use Rattle.clone_plain.specs.Answers.{Text}
@@ -8,7 +8,9 @@ use Rattle.clone_events.specs.Events.{looked, archived, incomplete, event_text, 
 use Rattle.clone_session.specs.declared.info.Stop as session
 use Rattle.clone_engine.specs.Engine.{Engine}
 use Rattle.clone_engine.specs.Acts as act
-use Rattle.clone_engine.specs.Acts.{Does}
+use Rattle.clone_engine.specs.Answering.{Answered, StaysAside}
+use Rattle.clone_calls.specs.declared.answer.DonorAnswer.TheVariants as gives
+use Rattle.clone_calls.specs.declared.call.DonorCall.TheVariants as ask
 use Rattle.clone_engine.specs.Donor as staged
 use Rattle.clone_engine.proofs.ToldLemmas.{for_told}
 use Rattle.clone_lay.specs.Marked.{marked}
@@ -94,7 +96,7 @@ looked_before r s found position is has unfound at =
       sees = λ _. tt;
     })
 
--- and behind it nothing changes
+-- and after it nothing changes
 pub looked_behind : (r s : State) (found : Option session.Stop) (position : ℕ) → r ≡ s → r.clone.stop ≡ option_map stop_of found → is_some found ≡ true → position ≡ length (donor_of r.donor).binlog → Happens donor_of SystemStep s (looked position) s
 looked_behind r s found position is has there at =
     let one = one_found found there in
@@ -109,9 +111,9 @@ looked_behind r s found position is has there at =
 
 -- ---- the donor archives
 
-pub archives : (r s : State) (t : staged.Donor) (limit : ℕ) (reached : Option ℕ) → r ≡ s → IsShown r → Does (act.Archive limit reached) r.donor.donor t → Happens donor_of SystemStep s (archived limit reached) (with_donor r t r.begun)
+pub archives : (r s : State) (t : staged.Donor) (limit : ℕ) (reached : Option ℕ) → r ≡ s → IsShown r → Answered (ask.Archive limit) (gives.Archive (Ok reached)) r.donor.donor t → Happens donor_of SystemStep s (archived limit reached) (with_donor r t r.begun)
 archives r s t limit reached is shown does =
-    let spared = spares (act.Archive limit reached) r.donor.donor t tt does in
+    let spared = spares (act.Calls (ask.Archive limit) (gives.Archive (Ok reached))) r.donor.donor t tt does in
     subst (λ (w : State). Happens donor_of SystemStep w (archived limit reached) (with_donor r t r.begun)) is (record {
       step = record { archives = does; recipient = refl };
       begun = refl;
@@ -127,6 +129,6 @@ archived_said {A} bytes limit reached came result said is same says =
     subst P (sym same) (said_is bytes said (event_text (archived limit came)) (event_text (archived limit reached)) (ap (λ (o : Option ℕ). event_text (archived limit o)) (sym is)) says)
 
 -- there was no memory for it
-pub not_archived : (r s : State) (t : staged.Donor) → r ≡ s → IsShown r → Does act.Refuse r.donor.donor t → Stays s (with_donor r t r.begun)
+pub not_archived : (r s : State) (t : staged.Donor) → r ≡ s → IsShown r → StaysAside r.donor.donor t → Stays s (with_donor r t r.begun)
 not_archived r s t is shown does =
     subst (λ (w : State). Stays w (with_donor r t r.begun)) is (record { donor = ap (λ (e : Engine). e.donor) does.1; begun = refl; tells = same_tells r t shown (ap (λ (e : Engine). is_some e.disk.told) does.1); clone = refl })

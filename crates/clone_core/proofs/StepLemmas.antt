@@ -1,6 +1,6 @@
 -- A step of a donor and the disk of a recipient is one of the plain donor, and its disks stay
 -- theirs.
-use Rattle.std.proofs.Common.{◌≡◌, ◌-◌, ◌⊎◌, inl, inr, ℕ, List, Bool, true, false, nat_le, not, unwrap_or, if◌then◌else◌, refl, sym, ap, ◌∙◌, subst, arith, Option, None, Some, is_some, Result, Ok, Err}
+use Rattle.std.proofs.Common.{◌≡◌, ◌-◌, ◌⊎◌, inl, inr, ℕ, List, Bool, true, false, nat_le, not, unwrap_or, if◌then◌else◌, refl, sym, ap, ◌∙◌, subst, arith, Option, None, Some, is_some, Result, Ok, Err, nat_cmp}
 use Rattle.std.specs.FinMap as finite
 use Rattle.std.specs.Option.{option_map, option_or}
 use Rattle.clone_model.specs.declared.change.Change.{Change}
@@ -13,8 +13,13 @@ use Rattle.clone_plain.specs.declared.refusal.EngineRefusal.TheVariants.{Because
 use Rattle.clone_plain.specs.Causes.{drop_cause, least_holder, no_table, whether}
 use Rattle.clone_plain.specs.Donor.{Donor}
 use Rattle.clone_plain.specs.Effects.{dropped, put_of, delete_of}
-use Rattle.clone_plain.specs.Calls.{Call, create, drop, begin, put, delete, get, undo_one, commit, flush_begin, flush_half, flush_land, oldest_dirty, checkpoint, end, Done, did_create, did_drop, did_begin, did_put, did_delete, did_get, did_undo_one, did_commit, did_flush_begin, did_flush_half, did_flush_land, did_oldest_dirty, did_checkpoint, did_end, Made, done, refused, call_of, cause_of, is_below, AfterRefusal, IsRefused, PlainStep}
-use Rattle.clone_events.specs.Events.{to_donor, to_recipient, Event, made, cleaned, looked, archived, started, stopped, readied, completed, broke, lost, again, showed, incomplete, hidden, damaged, ordered, PlainEvent}
+use Rattle.clone_plain.specs.Calls as calls
+use Rattle.clone_plain.specs.Calls.{cause_of, is_below, AfterRefusal, IsRefused, PlainStep}
+use Rattle.clone_plain.specs.declared.call.EngineAnswer.{EngineAnswer}
+use Rattle.clone_plain.specs.declared.call.EngineAnswer.TheVariants as answers
+use Rattle.clone_plain.specs.declared.call.EngineCall.{EngineCall}
+use Rattle.clone_plain.specs.declared.call.EngineCall.TheVariants as call
+use Rattle.clone_events.specs.Events.{to_donor, to_recipient, Event, made, cleaned, looked, archived, started, stopped, readied, completed, broke, lost, again, showed, incomplete, hidden, damaged, ordered, counted, PlainEvent, Sees}
 use Rattle.clone_trx.proofs.CauseLemmas.{both_none}
 use Rattle.clone_trx.proofs.WalkLemmas.{walk_missed}
 use Rattle.clone_trx.specs.Ways.{Way, reads, walks, stops, writes, freshens, lengthens, makes, drops, ends, CarriesDrop, Goes, Writes, Misses, Answers, held, page_in}
@@ -98,21 +103,21 @@ undo_below d trx None = tt
 undo_below d trx (Some change) = λ page row. tt
 
 -- each stop of the way of a call is a cause below
-pub way_below : (d : Donor) (call : Call) → StopsBelow (way_of d call)
-way_below d (create table buckets) = λ page. tt
-way_below d (drop table) = λ page. tt
-way_below d (begin writer index) = λ page. tt
-way_below d (put trx table key value) = λ number slot row. change_below d trx (put_of table key value) number slot row
-way_below d (delete trx table key) = λ number slot row. change_below d trx (delete_of table key) number slot row
-way_below d (get trx table key) = λ number slot row. tt
-way_below d (undo_one trx) = λ header. undo_below d trx _
-way_below d (commit trx) = λ header page. tt
-way_below d (flush_begin space page) = tt
-way_below d (flush_half space page) = tt
-way_below d (flush_land space page) = tt
-way_below d oldest_dirty = tt
-way_below d checkpoint = tt
-way_below d end = tt
+pub way_below : (d : Donor) (asked : EngineCall) → StopsBelow (way_of d asked)
+way_below d (call.Create table buckets) = λ page. tt
+way_below d (call.Drop table) = λ page. tt
+way_below d (call.Begin writer index) = λ page. tt
+way_below d (call.Put trx table key value) = λ number slot row. change_below d trx (put_of table key value) number slot row
+way_below d (call.Delete trx table key) = λ number slot row. change_below d trx (delete_of table key) number slot row
+way_below d (call.Get trx table key) = λ number slot row. tt
+way_below d (call.UndoOne trx) = λ header. undo_below d trx _
+way_below d (call.Commit trx) = λ header page. tt
+way_below d (call.FlushBegin space page) = tt
+way_below d (call.FlushHalf space page) = tt
+way_below d (call.FlushLand space page) = tt
+way_below d call.OldestDirty = tt
+way_below d call.Checkpoint = tt
+way_below d call.End = tt
 
 not_ok : {X E : Type 0} {x : X} {e : E} → ◌≡◌ {A = Result X E} (Ok x) (Err e) → ⊥
 not_ok is = cc
@@ -128,8 +133,8 @@ answered_refused (Some c) way d e old new cause P below is = (inl (ap (λ x. Som
 answered_refused None way d e old new cause P below is = (inr (refl, goes_below _ way old new cause below is.0), is.1)
 
 -- a call of transactions
-pub transacted : (call : Call) (s t : Engine) (did : Done) → Transacts call s t (Ok did) → (cause_of s.donor call ≡ None) × Did call s t did
-transacted call s t did is = answered_done (cause_of s.donor call) (way_of s.donor call) s.donor t.donor s.buffer t.buffer did (Did call s t) is.goes
+pub transacted : (asked : EngineCall) (s t : Engine) (did : EngineAnswer) → Transacts asked s t (Ok did) → (cause_of s.donor asked ≡ None) × Did asked s t did
+transacted asked s t did is = answered_done (cause_of s.donor asked) (way_of s.donor asked) s.donor t.donor s.buffer t.buffer did (Did asked s t) is.goes
 
 -- a session isn't what the plain donor has against a drop
 running_drop : (d : Donor) (table session : ℕ) → (drop_cause d table ≡ Some (causes.CloneRunning session)) ⊎ ((drop_cause d table ≡ None) × (is_below (causes.CloneRunning session) ≡ true)) → no_table d table ≡ None
@@ -142,20 +147,20 @@ running_drop d table session (inl is) = absurd (by (not (finite.contains_key d.t
 running_drop d table session (inr none) = (both_none (no_table d table) _ none.0).0
 
 -- what is against a call refuses it
-is_refused : (d : Donor) (call : Call) (cause : Cause) → (cause_of d call ≡ Some cause) ⊎ ((cause_of d call ≡ None) × (is_below cause ≡ true)) → IsRefused d call cause
-is_refused d (create table buckets) (causes.CloneRunning session) why = tt
-is_refused d (drop table) (causes.CloneRunning session) why = running_drop d table session why
-is_refused d call cause why = why
+is_refused : (d : Donor) (asked : EngineCall) (cause : Cause) → (cause_of d asked ≡ Some cause) ⊎ ((cause_of d asked ≡ None) × (is_below cause ≡ true)) → IsRefused d asked cause
+is_refused d (call.Create table buckets) (causes.CloneRunning session) why = tt
+is_refused d (call.Drop table) (causes.CloneRunning session) why = running_drop d table session why
+is_refused d asked cause why = why
 
 -- and then nothing has changed
-after_same : (d : Donor) (call : Call) (cause : Cause) (after : Donor) → after ≡ d → AfterRefusal d call cause after
-after_same d (drop table) causes.DiskFault after same = inl same
-after_same d call cause after same = same
+after_same : (d : Donor) (asked : EngineCall) (cause : Cause) (after : Donor) → after ≡ d → AfterRefusal d asked cause after
+after_same d (call.Drop table) causes.DiskFault after same = inl same
+after_same d asked cause after same = same
 
-not_transacted : (call : Call) (s t : Engine) (cause : Cause) → Transacts call s t (Err (Because cause)) → PlainStep s.donor (refused call cause) t.donor
-not_transacted call s t cause is =
-    let at = answered_refused (cause_of s.donor call) (way_of s.donor call) s.donor t.donor s.buffer t.buffer cause (Did call s t) (way_below s.donor call) is.goes in
-    (is_refused s.donor call cause at.0, after_same s.donor call cause t.donor at.1)
+not_transacted : (asked : EngineCall) (s t : Engine) (cause : Cause) → Transacts asked s t (Err (Because cause)) → PlainStep s.donor asked (Err cause) t.donor
+not_transacted asked s t cause is =
+    let at = answered_refused (cause_of s.donor asked) (way_of s.donor asked) s.donor t.donor s.buffer t.buffer cause (Did asked s t) (way_below s.donor asked) is.goes in
+    (is_refused s.donor asked cause at.0, after_same s.donor asked cause t.donor at.1)
 
 not_memory : {a : Cause} → ◌≡◌ {A = EngineRefusal} (Because a) NoMemory → ⊥
 not_memory is = cc
@@ -168,16 +173,16 @@ flush_below cause flush.NoFlush is = below_of cause _ (because is) refl
 flush_below cause flush.DiskFault is = below_of cause _ (because is) refl
 flush_below cause flush.NoMemory is = absurd (not_memory is)
 
-not_flushed : (did : Done) (call : Call) (s t : Engine) (cause : Cause) (Does : Result (Unit {0}) FlushRefusal → Type 0) → cause_of s.donor call ≡ None → Flushes did s t (Err (Because cause)) Does → PlainStep s.donor (refused call cause) t.donor
-not_flushed did call s t cause Does none is = (is_refused s.donor call cause (inr (none, flush_below cause is.does.0 is.does.1)), after_same s.donor call cause t.donor is.donor)
+not_flushed : (did : EngineAnswer) (asked : EngineCall) (s t : Engine) (cause : Cause) (Does : Result (Unit {0}) FlushRefusal → Type 0) → cause_of s.donor asked ≡ None → Flushes did s t (Err (Because cause)) Does → PlainStep s.donor asked (Err cause) t.donor
+not_flushed did asked s t cause Does none is = (is_refused s.donor asked cause (inr (none, flush_below cause is.does.0 is.does.1)), after_same s.donor asked cause t.donor is.donor)
 
 -- a drop
-record HasDropped (o : Option Cause) (table : ℕ) (s t : Engine) (did : Done) : Type 0 where
+record HasDropped (o : Option Cause) (table : ℕ) (s t : Engine) (did : EngineAnswer) : Type 0 where
   free : o ≡ None
-  is : did ≡ did_drop table
+  is : did ≡ answers.Drop
   donor : t.donor ≡ dropped table s.donor
 
-has_dropped : (o : Option Cause) (table : ℕ) (s t : Engine) (did : Done) → AnswersDrop o table s t (Ok did) → HasDropped o table s t did
+has_dropped : (o : Option Cause) (table : ℕ) (s t : Engine) (did : EngineAnswer) → AnswersDrop o table s t (Ok did) → HasDropped o table s t did
 has_dropped (Some why) table s t did is = absurd (not_ok is.0)
 has_dropped None table s t did (inl flies) = absurd (not_ok flies.1)
 has_dropped None table s t did (inr goes) = record { free = refl; is = goes.did; donor = goes.donor }
@@ -186,117 +191,124 @@ has_dropped None table s t did (inr goes) = record { free = refl; is = goes.did;
 abbrev MayBeGone : ℕ → Donor → Donor → Cause → Type 0
 MayBeGone table d after cause = (after ≡ d) ⊎ ((cause ≡ causes.DiskFault) × (after ≡ dropped table d))
 
-may_be_gone : (table : ℕ) (d after : Donor) (old new : Buffered) (cause : Cause) → CarriesDrop {X = Done} table d after old new (Err (Because cause)) → MayBeGone table d after cause
+may_be_gone : (table : ℕ) (d after : Donor) (old new : Buffered) (cause : Cause) → CarriesDrop {X = EngineAnswer} table d after old new (Err (Because cause)) → MayBeGone table d after cause
 may_be_gone table d after old new cause (inl left) = inl left.1
 may_be_gone table d after old new cause (inr failed) = inr (because failed.0, failed.2)
 
 refused_drop : (o : Option Cause) (table : ℕ) (s t : Engine) (cause : Cause) → AnswersDrop o table s t (Err (Because cause)) → ((o ≡ Some cause) ⊎ ((o ≡ None) × (is_below cause ≡ true))) × MayBeGone table s.donor t.donor cause
 refused_drop (Some why) table s t cause is = (inl (ap (λ x. Some x) (sym (same_because is.0))), inl (ap (λ (e : Engine). e.donor) is.1))
 refused_drop None table s t cause (inl flies) = (inr (refl, below_of cause causes.InFlight (same_because flies.1) refl), inl (ap (λ (e : Engine). e.donor) flies.2))
-refused_drop None table s t cause (inr goes) = (inr (refl, goes_below Done (way_of s.donor (drop table)) s.buffer t.buffer cause (way_below s.donor (drop table)) goes.way), may_be_gone table s.donor t.donor s.buffer t.buffer cause goes.donor)
+refused_drop None table s t cause (inr goes) = (inr (refl, goes_below EngineAnswer (way_of s.donor (call.Drop table)) s.buffer t.buffer cause (way_below s.donor (call.Drop table)) goes.way), may_be_gone table s.donor t.donor s.buffer t.buffer cause goes.donor)
 
-after_drop : (table : ℕ) (d after : Donor) (cause : Cause) → MayBeGone table d after cause → AfterRefusal d (drop table) cause after
-after_drop table d after cause (inl same) = after_same d (drop table) cause after same
-after_drop table d after cause (inr gone) = subst (λ (c : Cause). AfterRefusal d (drop table) c after) (sym gone.0) (inr gone.1)
+after_drop : (table : ℕ) (d after : Donor) (cause : Cause) → MayBeGone table d after cause → AfterRefusal d (call.Drop table) cause after
+after_drop table d after cause (inl same) = after_same d (call.Drop table) cause after same
+after_drop table d after cause (inr gone) = subst (λ (c : Cause). AfterRefusal d (call.Drop table) c after) (sym gone.0) (inr gone.1)
 
-not_dropped : (table : ℕ) (s t : Engine) (cause : Cause) → AnswersDrop (drop_cause s.donor table) table s t (Err (Because cause)) → PlainStep s.donor (refused (drop table) cause) t.donor
+not_dropped : (table : ℕ) (s t : Engine) (cause : Cause) → AnswersDrop (drop_cause s.donor table) table s t (Err (Because cause)) → PlainStep s.donor (call.Drop table) (Err cause) t.donor
 not_dropped table s t cause is =
     let at = refused_drop (drop_cause s.donor table) table s t cause is in
-    (is_refused s.donor (drop table) cause at.0, after_drop table s.donor t.donor cause at.1)
+    (is_refused s.donor (call.Drop table) cause at.0, after_drop table s.donor t.donor cause at.1)
 
 drop_wants : (o : Option Cause) (table : ℕ) (s t : Engine) → AnswersDrop o table s t (Err NoMemory) → t.donor ≡ s.donor
 drop_wants (Some why) table s t is = ap (λ (e : Engine). e.donor) is.1
 drop_wants None table s t (inl flies) = ap (λ (e : Engine). e.donor) flies.2
 drop_wants None table s t (inr goes) = by goes.donor
   where
-    by : CarriesDrop {X = Done} table s.donor t.donor s.buffer t.buffer (Err NoMemory) → t.donor ≡ s.donor
+    by : CarriesDrop {X = EngineAnswer} table s.donor t.donor s.buffer t.buffer (Err NoMemory) → t.donor ≡ s.donor
     by (inl left) = left.1
     by (inr failed) = absurd (not_memory (sym failed.0))
 
 -- a look for the oldest dirty page, and the log's end
-looks_same : (s t : Engine) (did : Done) → Looks s t did → t ≡ s
-looks_same s t (did_oldest_dirty page) is = is.1
+looks_same : (s t : Engine) (did : EngineAnswer) → Looks s t did → t ≡ s
+looks_same s t (answers.OldestDirty page) is = is.1
 looks_same s t did is = absurd is
 
-ends_same : (s t : Engine) (did : Done) → Ends s t did → t ≡ s
-ends_same s t (did_end lsn) is = is.1
+ends_same : (s t : Engine) (did : EngineAnswer) → Ends s t did → t ≡ s
+ends_same s t (answers.End lsn) is = is.1
 ends_same s t did is = absurd is
 
 -- THE PLAIN DONOR'S STEP
 
--- the engine's step
-served_done : (d : staged.Donor) (e : Engine) (did : Done) → ServesAs (call_of did) d e (Ok did) → PlainStep d.engine.donor (done did) e.donor
-served_done d e (did_create table buckets) is = let at = transacted _ d.engine e _ is in (at.0, at.1.does)
-served_done d e (did_drop table) is = let at = has_dropped (drop_cause d.engine.donor table) table d.engine e _ is.answers in (at.free, at.donor)
-served_done d e (did_begin writer index trx) is = let at = transacted _ d.engine e _ is in (at.0, at.1.does)
-served_done d e (did_put trx table key value) is = let at = transacted _ d.engine e _ is in (at.0, at.1.does)
-served_done d e (did_delete trx table key) is = let at = transacted _ d.engine e _ is in (at.0, at.1.does)
-served_done d e (did_get trx table key value) is = let at = transacted _ d.engine e _ is in (at.0, at.1.does)
-served_done d e (did_undo_one trx undone) is = let at = transacted _ d.engine e _ is in (at.0, at.1.does)
-served_done d e (did_commit trx position) is = let at = transacted _ d.engine e _ is in (at.0, at.1.does)
-served_done d e (did_flush_begin space page) is = (refl, is.donor)
-served_done d e (did_flush_half space page) is = (refl, is.donor)
-served_done d e (did_flush_land space page) is = (refl, is.donor)
-served_done d e (did_oldest_dirty page) is = (refl, ap (λ (x : Engine). x.donor) is.1)
-served_done d e (did_checkpoint lsn) is = (refl, is.donor)
-served_done d e (did_end lsn) is = (refl, ap (λ (x : Engine). x.donor) is.1)
+-- an answer that is this one
+does_so : (d e : Donor) (asked : EngineCall) (did given : EngineAnswer) → did ≡ given → calls.Does d asked given e → calls.Does d asked did e
+does_so d e asked did given is does = subst (λ (a : EngineAnswer). calls.Does d asked a e) (sym is) does
 
-served_refused : (d : staged.Donor) (e : Engine) (call : Call) (cause : Cause) → ServesAs call d e (Err (Because cause)) → PlainStep d.engine.donor (refused call cause) e.donor
-served_refused d e (create table buckets) cause is = not_transacted _ d.engine e cause is
-served_refused d e (drop table) cause is = not_dropped table d.engine e cause is.answers
-served_refused d e (begin writer index) cause is = not_transacted _ d.engine e cause is
-served_refused d e (put trx table key value) cause is = not_transacted _ d.engine e cause is
-served_refused d e (delete trx table key) cause is = not_transacted _ d.engine e cause is
-served_refused d e (get trx table key) cause is = not_transacted _ d.engine e cause is
-served_refused d e (undo_one trx) cause is = not_transacted _ d.engine e cause is
-served_refused d e (commit trx) cause is = not_transacted _ d.engine e cause is
-served_refused d e (flush_begin space page) cause is = not_flushed _ (flush_begin space page) d.engine e cause _ refl is
-served_refused d e (flush_half space page) cause is = not_flushed _ (flush_half space page) d.engine e cause _ refl is
-served_refused d e (flush_land space page) cause is = not_flushed _ (flush_land space page) d.engine e cause _ refl is
-served_refused d e oldest_dirty cause is = absurd is
-served_refused d e checkpoint cause is = absurd is
-served_refused d e end cause is = absurd is
+-- the engine's step
+served_done : (d : staged.Donor) (e : Engine) (asked : EngineCall) (did : EngineAnswer) → ServesAs asked d e (Ok did) → PlainStep d.engine.donor asked (Ok did) e.donor
+served_done d e (call.Create table buckets) did is = let at = transacted _ d.engine e _ is in (at.0, at.1.does)
+served_done d e (call.Drop table) did is = let at = has_dropped (drop_cause d.engine.donor table) table d.engine e _ is.answers in (at.free, does_so d.engine.donor e.donor (call.Drop table) did answers.Drop at.is at.donor)
+served_done d e (call.Begin writer index) did is = let at = transacted _ d.engine e _ is in (at.0, at.1.does)
+served_done d e (call.Put trx table key value) did is = let at = transacted _ d.engine e _ is in (at.0, at.1.does)
+served_done d e (call.Delete trx table key) did is = let at = transacted _ d.engine e _ is in (at.0, at.1.does)
+served_done d e (call.Get trx table key) did is = let at = transacted _ d.engine e _ is in (at.0, at.1.does)
+served_done d e (call.UndoOne trx) did is = let at = transacted _ d.engine e _ is in (at.0, at.1.does)
+served_done d e (call.Commit trx) did is = let at = transacted _ d.engine e _ is in (at.0, at.1.does)
+served_done d e (call.FlushBegin space page) did is = (refl, does_so d.engine.donor e.donor (call.FlushBegin space page) did answers.FlushBegin is.does.0 is.donor)
+served_done d e (call.FlushHalf space page) did is = (refl, does_so d.engine.donor e.donor (call.FlushHalf space page) did answers.FlushHalf is.does.0 is.donor)
+served_done d e (call.FlushLand space page) did is = (refl, does_so d.engine.donor e.donor (call.FlushLand space page) did answers.FlushLand is.does.0 is.donor)
+served_done d e call.OldestDirty (answers.OldestDirty page) is = (refl, ap (λ (x : Engine). x.donor) is.1)
+served_done d e call.OldestDirty did is = absurd is
+served_done d e call.Checkpoint (answers.Checkpoint lsn) is = (refl, is.donor)
+served_done d e call.Checkpoint did is = absurd is
+served_done d e call.End (answers.End lsn) is = (refl, ap (λ (x : Engine). x.donor) is.1)
+served_done d e call.End did is = absurd is
+
+served_refused : (d : staged.Donor) (e : Engine) (asked : EngineCall) (cause : Cause) → ServesAs asked d e (Err (Because cause)) → PlainStep d.engine.donor asked (Err cause) e.donor
+served_refused d e (call.Create table buckets) cause is = not_transacted _ d.engine e cause is
+served_refused d e (call.Drop table) cause is = not_dropped table d.engine e cause is.answers
+served_refused d e (call.Begin writer index) cause is = not_transacted _ d.engine e cause is
+served_refused d e (call.Put trx table key value) cause is = not_transacted _ d.engine e cause is
+served_refused d e (call.Delete trx table key) cause is = not_transacted _ d.engine e cause is
+served_refused d e (call.Get trx table key) cause is = not_transacted _ d.engine e cause is
+served_refused d e (call.UndoOne trx) cause is = not_transacted _ d.engine e cause is
+served_refused d e (call.Commit trx) cause is = not_transacted _ d.engine e cause is
+served_refused d e (call.FlushBegin space page) cause is = not_flushed _ (call.FlushBegin space page) d.engine e cause _ refl is
+served_refused d e (call.FlushHalf space page) cause is = not_flushed _ (call.FlushHalf space page) d.engine e cause _ refl is
+served_refused d e (call.FlushLand space page) cause is = not_flushed _ (call.FlushLand space page) d.engine e cause _ refl is
+served_refused d e call.OldestDirty cause is = absurd is
+served_refused d e call.Checkpoint cause is = absurd is
+served_refused d e call.End cause is = absurd is
 
 -- no table is made while a clone runs, and none is dropped
-pub record IsRunning (call : Call) (d t : staged.Donor) (answer : Result Done EngineRefusal) : Type 0 where
+pub record IsRunning (asked : EngineCall) (d t : staged.Donor) (answer : Result EngineAnswer EngineRefusal) : Type 0 where
   pub cause : Cause
   pub refused : answer ≡ Err (Because cause)
-  pub plain : IsRefused d.engine.donor call cause
+  pub plain : IsRefused d.engine.donor asked cause
   pub same : t ≡ d
 
-created : (o : Option Session) (table buckets : ℕ) (d t : staged.Donor) (answer : Result Done EngineRefusal) → Creates o table buckets d t answer → Serves (create table buckets) d t answer ⊎ IsRunning (create table buckets) d t answer
+created : (o : Option Session) (table buckets : ℕ) (d t : staged.Donor) (answer : Result EngineAnswer EngineRefusal) → Creates o table buckets d t answer → Serves (call.Create table buckets) d t answer ⊎ IsRunning (call.Create table buckets) d t answer
 created None table buckets d t answer is = inl is
 created (Some s) table buckets d t answer is = inr (record { cause = causes.CloneRunning s.number; refused = is.0; plain = tt; same = is.1 })
 
-kept : (o : Option Session) (table : ℕ) (d t : staged.Donor) (answer : Result Done EngineRefusal) → Drops o table d t answer → Serves (drop table) d t answer ⊎ IsRunning (drop table) d t answer
+kept : (o : Option Session) (table : ℕ) (d t : staged.Donor) (answer : Result EngineAnswer EngineRefusal) → Drops o table d t answer → Serves (call.Drop table) d t answer ⊎ IsRunning (call.Drop table) d t answer
 kept None table d t answer is = inl is
 kept (Some s) table d t answer is = inr (by (no_table d.engine.donor table) refl is.0)
   where
-    by : (o : Option Cause) → no_table d.engine.donor table ≡ o → answer ≡ Err (Because (unwrap_or o (causes.CloneRunning s.number))) → IsRunning (drop table) d t answer
-    by None there answers = record { cause = causes.CloneRunning s.number; refused = answers; plain = there; same = is.1 }
-    by (Some why) none answers = record { cause = why; refused = answers; plain = is_refused d.engine.donor (drop table) why (inl (ap (λ (o : Option Cause). option_or o (option_map causes.TableInUse (least_holder d.engine.donor.locks table))) none)); same = is.1 }
+    by : (o : Option Cause) → no_table d.engine.donor table ≡ o → answer ≡ Err (Because (unwrap_or o (causes.CloneRunning s.number))) → IsRunning (call.Drop table) d t answer
+    by None there says = record { cause = causes.CloneRunning s.number; refused = says; plain = there; same = is.1 }
+    by (Some why) none says = record { cause = why; refused = says; plain = is_refused d.engine.donor (call.Drop table) why (inl (ap (λ (o : Option Cause). option_or o (option_map causes.TableInUse (least_holder d.engine.donor.locks table))) none)); same = is.1 }
 
 -- else a call is the engine's
-pub served : (call : Call) (d t : staged.Donor) (answer : Result Done EngineRefusal) → AnswersCall call d t answer → Serves call d t answer ⊎ IsRunning call d t answer
-served (create table buckets) d t answer is = created d.cloning.session table buckets d t answer is
-served (drop table) d t answer is = kept d.cloning.session table d t answer is
-served call d t answer is = inl is
+pub served : (asked : EngineCall) (d t : staged.Donor) (answer : Result EngineAnswer EngineRefusal) → AnswersCall asked d t answer → Serves asked d t answer ⊎ IsRunning asked d t answer
+served (call.Create table buckets) d t answer is = created d.cloning.session table buckets d t answer is
+served (call.Drop table) d t answer is = kept d.cloning.session table d t answer is
+served asked d t answer is = inl is
 
-done_refines : (d t : staged.Donor) (did : Done) → AnswersCall (call_of did) d t (Ok did) → PlainStep d.engine.donor (done did) t.engine.donor
-done_refines d t did is = elim (served (call_of did) d t (Ok did) is) [
-  | inl serves ↦ served_done d t.engine did serves.steps
+done_refines : (d t : staged.Donor) (asked : EngineCall) (did : EngineAnswer) → AnswersCall asked d t (Ok did) → PlainStep d.engine.donor asked (Ok did) t.engine.donor
+done_refines d t asked did is = elim (served asked d t (Ok did) is) [
+  | inl serves ↦ served_done d t.engine asked did serves.steps
   | inr running ↦ absurd (not_ok running.refused)
 ]
 
-refused_refines : (d t : staged.Donor) (call : Call) (cause : Cause) → AnswersCall call d t (Err (Because cause)) → PlainStep d.engine.donor (refused call cause) t.engine.donor
-refused_refines d t call cause is = elim (served call d t (Err (Because cause)) is) [
-  | inl serves ↦ served_refused d t.engine call cause serves.steps
-  | inr running ↦ (subst (IsRefused d.engine.donor call) (sym (same_because running.refused)) running.plain, after_same d.engine.donor call cause t.engine.donor (ap (λ (x : staged.Donor). x.engine.donor) running.same))
+refused_refines : (d t : staged.Donor) (asked : EngineCall) (cause : Cause) → AnswersCall asked d t (Err (Because cause)) → PlainStep d.engine.donor asked (Err cause) t.engine.donor
+refused_refines d t asked cause is = elim (served asked d t (Err (Because cause)) is) [
+  | inl serves ↦ served_refused d t.engine asked cause serves.steps
+  | inr running ↦ (subst (IsRefused d.engine.donor asked) (sym (same_because running.refused)) running.plain, after_same d.engine.donor asked cause t.engine.donor (ap (λ (x : staged.Donor). x.engine.donor) running.same))
 ]
 
-pub made_refines : (d t : staged.Donor) (m : Made) → CallStep d m t → PlainStep d.engine.donor m t.engine.donor
-made_refines d t (done did) is = done_refines d t did is
-made_refines d t (refused call cause) is = refused_refines d t call cause is
+pub made_refines : (d t : staged.Donor) (asked : EngineCall) (answer : Result EngineAnswer Cause) → CallStep d asked answer t → PlainStep d.engine.donor asked answer t.engine.donor
+made_refines d t asked (Ok did) is = done_refines d t asked did is
+made_refines d t asked (Err cause) is = refused_refines d t asked cause is
 
 same_donor : (s t : System) → t ≡ s → donor_of t ≡ donor_of s
 same_donor s t is = ap donor_of is
@@ -305,7 +317,7 @@ of_donor : (s t : System) → t.donor ≡ s.donor → donor_of t ≡ donor_of s
 of_donor s t is = ap (λ (d : staged.Donor). d.engine.donor) is
 
 pub refines : (s t : System) (e : Event) → SystemStep s e t → PlainEvent (donor_of s) e (donor_of t)
-refines s t (made m) is = made_refines s.donor t.donor m is.0
+refines s t (made asked answer) is = made_refines s.donor t.donor asked answer is.0
 refines s t (cleaned landed) is = same_donor s t is
 refines s t (looked position) is = same_donor s t is
 refines s t (archived limit reached) is = ap (λ (e : Engine). e.donor) is.archives.1
@@ -335,100 +347,73 @@ same_visits s t is = record {
 engine_visits : (s t : Engine) → t ≡ s → Visits s.disk t.disk
 engine_visits s t is = same_visits s.disk t.disk (ap (λ (e : Engine). e.disk) is)
 
-served_visits : (call : Call) (d : staged.Donor) (e : Engine) (answer : Result Done EngineRefusal) → ServesAs call d e answer → Visits d.engine.disk e.disk
-served_visits (create table buckets) d e answer is = is.disk.visits
-served_visits (drop table) d e answer is = is.disk.visits
-served_visits (begin writer index) d e answer is = is.disk.visits
-served_visits (put trx table key value) d e answer is = is.disk.visits
-served_visits (delete trx table key) d e answer is = is.disk.visits
-served_visits (get trx table key) d e answer is = is.disk.visits
-served_visits (undo_one trx) d e answer is = is.disk.visits
-served_visits (commit trx) d e answer is = is.disk.visits
-served_visits (flush_begin space page) d e answer is = is.disk.visits
-served_visits (flush_half space page) d e answer is = is.disk.visits
-served_visits (flush_land space page) d e answer is = is.disk.visits
-served_visits oldest_dirty d e (Ok did) is = engine_visits d.engine e (looks_same d.engine e did is)
-served_visits oldest_dirty d e (Err refusal) is = absurd is
-served_visits checkpoint d e (Ok (did_checkpoint lsn)) is = same_visits d.engine.disk e.disk is.disk
-served_visits checkpoint d e answer is = absurd is
-served_visits end d e (Ok did) is = engine_visits d.engine e (ends_same d.engine e did is)
-served_visits end d e (Err refusal) is = absurd is
+served_visits : (asked : EngineCall) (d : staged.Donor) (e : Engine) (answer : Result EngineAnswer EngineRefusal) → ServesAs asked d e answer → Visits d.engine.disk e.disk
+served_visits (call.Create table buckets) d e answer is = is.disk.visits
+served_visits (call.Drop table) d e answer is = is.disk.visits
+served_visits (call.Begin writer index) d e answer is = is.disk.visits
+served_visits (call.Put trx table key value) d e answer is = is.disk.visits
+served_visits (call.Delete trx table key) d e answer is = is.disk.visits
+served_visits (call.Get trx table key) d e answer is = is.disk.visits
+served_visits (call.UndoOne trx) d e answer is = is.disk.visits
+served_visits (call.Commit trx) d e answer is = is.disk.visits
+served_visits (call.FlushBegin space page) d e answer is = is.disk.visits
+served_visits (call.FlushHalf space page) d e answer is = is.disk.visits
+served_visits (call.FlushLand space page) d e answer is = is.disk.visits
+served_visits call.OldestDirty d e (Ok did) is = engine_visits d.engine e (looks_same d.engine e did is)
+served_visits call.OldestDirty d e (Err refusal) is = absurd is
+served_visits call.Checkpoint d e (Ok (answers.Checkpoint lsn)) is = same_visits d.engine.disk e.disk is.disk
+served_visits call.Checkpoint d e answer is = absurd is
+served_visits call.End d e (Ok did) is = engine_visits d.engine e (ends_same d.engine e did is)
+served_visits call.End d e (Err refusal) is = absurd is
 
-pub answered_visits : (call : Call) (d t : staged.Donor) (answer : Result Done EngineRefusal) → AnswersCall call d t answer → Visits d.engine.disk t.engine.disk
-answered_visits call d t answer is = elim (served call d t answer is) [
-  | inl serves ↦ served_visits call d t.engine answer serves.steps
+pub answered_visits : (asked : EngineCall) (d t : staged.Donor) (answer : Result EngineAnswer EngineRefusal) → AnswersCall asked d t answer → Visits d.engine.disk t.engine.disk
+answered_visits asked d t answer is = elim (served asked d t answer is) [
+  | inl serves ↦ served_visits asked d t.engine answer serves.steps
   | inr running ↦ engine_visits d.engine t.engine (ap (λ (x : staged.Donor). x.engine) running.same)
 ]
 
-pub made_visits : (d t : staged.Donor) (m : Made) → CallStep d m t → Visits d.engine.disk t.engine.disk
-made_visits d t (done did) is = answered_visits (call_of did) d t (Ok did) is
-made_visits d t (refused call cause) is = answered_visits call d t (Err (Because cause)) is
+pub made_visits : (d t : staged.Donor) (asked : EngineCall) (answer : Result EngineAnswer Cause) → CallStep d asked answer t → Visits d.engine.disk t.engine.disk
+made_visits d t asked (Ok did) is = answered_visits asked d t (Ok did) is
+made_visits d t asked (Err cause) is = answered_visits asked d t (Err (Because cause)) is
 
 -- WHERE MEMORY RAN OUT the plain donor is as before
 
-wants_donor : (call : Call) (s t : Engine) → steps.Goes call s t (Err NoMemory) → t.donor ≡ s.donor
-wants_donor call s t (inl same) = ap (λ (e : Engine). e.donor) same
-wants_donor call s t (inr follows) = by (cause_of s.donor call) follows
+wants_donor : (asked : EngineCall) (s t : Engine) → steps.Goes asked s t (Err NoMemory) → t.donor ≡ s.donor
+wants_donor asked s t (inl same) = ap (λ (e : Engine). e.donor) same
+wants_donor asked s t (inr follows) = by (cause_of s.donor asked) follows
   where
-    by : (o : Option Cause) → Answers o (way_of s.donor call) s.donor t.donor s.buffer t.buffer (Err NoMemory) (Did call s t) → t.donor ≡ s.donor
-    by (Some why) answers = answers.1
-    by None answers = answers.1
+    by : (o : Option Cause) → Answers o (way_of s.donor asked) s.donor t.donor s.buffer t.buffer (Err NoMemory) (Did asked s t) → t.donor ≡ s.donor
+    by (Some why) is = is.1
+    by None is = is.1
 
-served_wants : (call : Call) (d : staged.Donor) (e : Engine) → ServesAs call d e (Err NoMemory) → e.donor ≡ d.engine.donor
-served_wants (create table buckets) d e is = wants_donor (create table buckets) d.engine e is.goes
-served_wants (drop table) d e is = drop_wants (drop_cause d.engine.donor table) table d.engine e is.answers
-served_wants (begin writer index) d e is = wants_donor (begin writer index) d.engine e is.goes
-served_wants (put trx table key value) d e is = wants_donor (put trx table key value) d.engine e is.goes
-served_wants (delete trx table key) d e is = wants_donor (delete trx table key) d.engine e is.goes
-served_wants (get trx table key) d e is = wants_donor (get trx table key) d.engine e is.goes
-served_wants (undo_one trx) d e is = wants_donor (undo_one trx) d.engine e is.goes
-served_wants (commit trx) d e is = wants_donor (commit trx) d.engine e is.goes
-served_wants (flush_begin space page) d e is = is.donor
-served_wants (flush_half space page) d e is = is.donor
-served_wants (flush_land space page) d e is = is.donor
-served_wants oldest_dirty d e is = absurd is
-served_wants checkpoint d e is = absurd is
-served_wants end d e is = absurd is
+served_wants : (asked : EngineCall) (d : staged.Donor) (e : Engine) → ServesAs asked d e (Err NoMemory) → e.donor ≡ d.engine.donor
+served_wants (call.Create table buckets) d e is = wants_donor (call.Create table buckets) d.engine e is.goes
+served_wants (call.Drop table) d e is = drop_wants (drop_cause d.engine.donor table) table d.engine e is.answers
+served_wants (call.Begin writer index) d e is = wants_donor (call.Begin writer index) d.engine e is.goes
+served_wants (call.Put trx table key value) d e is = wants_donor (call.Put trx table key value) d.engine e is.goes
+served_wants (call.Delete trx table key) d e is = wants_donor (call.Delete trx table key) d.engine e is.goes
+served_wants (call.Get trx table key) d e is = wants_donor (call.Get trx table key) d.engine e is.goes
+served_wants (call.UndoOne trx) d e is = wants_donor (call.UndoOne trx) d.engine e is.goes
+served_wants (call.Commit trx) d e is = wants_donor (call.Commit trx) d.engine e is.goes
+served_wants (call.FlushBegin space page) d e is = is.donor
+served_wants (call.FlushHalf space page) d e is = is.donor
+served_wants (call.FlushLand space page) d e is = is.donor
+served_wants call.OldestDirty d e is = absurd is
+served_wants call.Checkpoint d e is = absurd is
+served_wants call.End d e is = absurd is
 
-pub answered_wants : (call : Call) (d t : staged.Donor) → AnswersCall call d t (Err NoMemory) → t.engine.donor ≡ d.engine.donor
-answered_wants call d t is = elim (served call d t (Err NoMemory) is) [
-  | inl serves ↦ served_wants call d t.engine serves.steps
+pub answered_wants : (asked : EngineCall) (d t : staged.Donor) → AnswersCall asked d t (Err NoMemory) → t.engine.donor ≡ d.engine.donor
+answered_wants asked d t is = elim (served asked d t (Err NoMemory) is) [
+  | inl serves ↦ served_wants asked d t.engine serves.steps
   | inr running ↦ ap (λ (x : staged.Donor). x.engine.donor) running.same
 ]
 
--- A CALL THAT WAS CARRIED OUT is the one that was made
+-- A CALL THAT WAS REFUSED counts no transaction, and shows no value
 
-looks_call : (s t : Engine) (did : Done) → Looks s t did → call_of did ≡ oldest_dirty
-looks_call s t (did_oldest_dirty page) is = refl
-looks_call s t did is = absurd is
+pub refused_counts : (asked : EngineCall) (cause : Cause) (begun : finite.FinMap nat_cmp ℕ) → counted (made asked (Err cause)) begun ≡ begun
+refused_counts (call.Begin writer index) cause begun = refl
+refused_counts asked cause begun = refl
 
-ends_call : (s t : Engine) (did : Done) → Ends s t did → call_of did ≡ end
-ends_call s t (did_end lsn) is = refl
-ends_call s t did is = absurd is
-
-served_call : (call : Call) (d : staged.Donor) (e : Engine) (did : Done) → ServesAs call d e (Ok did) → call_of did ≡ call
-served_call (create table buckets) d e did is = (transacted _ d.engine e did is).1.is
-served_call (drop table) d e did is = ap call_of (has_dropped (drop_cause d.engine.donor table) table d.engine e did is.answers).is
-served_call (begin writer index) d e did is = (transacted _ d.engine e did is).1.is
-served_call (put trx table key value) d e did is = (transacted _ d.engine e did is).1.is
-served_call (delete trx table key) d e did is = (transacted _ d.engine e did is).1.is
-served_call (get trx table key) d e did is = (transacted _ d.engine e did is).1.is
-served_call (undo_one trx) d e did is = (transacted _ d.engine e did is).1.is
-served_call (commit trx) d e did is = (transacted _ d.engine e did is).1.is
-served_call (flush_begin space page) d e did is = ap call_of is.does.0
-served_call (flush_half space page) d e did is = ap call_of is.does.0
-served_call (flush_land space page) d e did is = ap call_of is.does.0
-served_call oldest_dirty d e did is = looks_call d.engine e did is
-served_call checkpoint d e (did_checkpoint lsn) is = refl
-served_call checkpoint d e did is = absurd is
-served_call end d e did is = ends_call d.engine e did is
-
-answered_call : (call : Call) (d t : staged.Donor) (did : Done) → AnswersCall call d t (Ok did) → call_of did ≡ call
-answered_call call d t did is = elim (served call d t (Ok did) is) [
-  | inl serves ↦ served_call call d t.engine did serves.steps
-  | inr running ↦ absurd (not_ok running.refused)
-]
-
--- so it is a step
-pub done_step : (call : Call) (d t : staged.Donor) (did : Done) → AnswersCall call d t (Ok did) → CallStep d (done did) t
-done_step call d t did is = let P : Call → Type 0 = λ c. AnswersCall c d t (Ok did) in subst P (sym (answered_call call d t did is)) is
+pub refused_sees : (asked : EngineCall) (cause : Cause) (d : Donor) → Sees d (made asked (Err cause))
+refused_sees (call.Get trx table key) cause d = tt
+refused_sees asked cause d = tt

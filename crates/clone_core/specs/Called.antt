@@ -9,7 +9,10 @@ use Rattle.clone_plain.specs.declared.refusal.Cause.{Cause}
 use Rattle.clone_plain.specs.declared.refusal.EngineRefusal.{EngineRefusal}
 use Rattle.clone_plain.specs.declared.refusal.EngineRefusal.TheVariants.{Because, NoMemory}
 use Rattle.clone_plain.specs.Answers.{Text, refusal_text}
-use Rattle.clone_plain.specs.Calls.{Call, Done, did_oldest_dirty, done, refused, call_of}
+use Rattle.clone_plain.specs.declared.call.EngineAnswer.{EngineAnswer}
+use Rattle.clone_plain.specs.declared.call.EngineAnswer.TheVariants as answers
+use Rattle.clone_plain.specs.declared.call.EngineCall.{EngineCall}
+use Rattle.clone_plain.specs.declared.call.EngineCall.TheVariants as call
 use Rattle.clone_events.specs.World.{index_in}
 use Rattle.clone_events.specs.Events.{Event, event_text, made, said, Happens}
 use Rattle.clone_events.specs.Runs.{MakesSet, flushed}
@@ -32,12 +35,12 @@ pub record StaysUntold (s : State) (events : List Event) (t : State) : Type 0 wh
   pub clone : Becomes (donor_of s.donor) s.tells s.clone events t.clone
 
 -- a call of the donor: it was carried out, or refused for a cause, or there was no memory for it
-abbrev pub Called : {X : Type 0} → State → Call → (X → Done) → Result X EngineRefusal → State
-    → Type 0
-Called s call did (Ok x) t = Happens donor_of SystemStep s (made (done (did x))) t
-Called s call did (Err (Because cause)) t =
-    Happens donor_of SystemStep s (made (refused call cause)) t
-Called s call did (Err NoMemory) t = Stays s t
+abbrev pub Called : {X : Type 0} → State → EngineCall → (X → EngineAnswer)
+    → Result X EngineRefusal → State → Type 0
+Called s asked did (Ok x) t = Happens donor_of SystemStep s (made asked (Ok (did x))) t
+Called s asked did (Err (Because cause)) t =
+    Happens donor_of SystemStep s (made asked (Err cause)) t
+Called s asked did (Err NoMemory) t = Stays s t
 
 -- the refusal is for a cause, and this is its text
 pub record SaysCause (refusal : EngineRefusal) (text : Text) : Type 0 where
@@ -49,11 +52,11 @@ pub record SaysCause (refusal : EngineRefusal) (text : Text) : Type 0 where
 pub record RefusesSet (s : State) (writer table key : ℕ) (value : List ℕ) (cause : Cause)
     (t : State) : Type 0 where
   pub front : List Event
-  pub call : Call
+  pub asked : EngineCall
   pub makes : MakesSet writer (index_in s.begun writer) table key value
-      (front ++ made (refused call cause) ∷ [])
+      (front ++ made asked (Err cause) ∷ [])
   pub carried : AllByRecursion IsDone front
-  pub happened : Events s (front ++ made (refused call cause) ∷ []) t
+  pub happened : Events s (front ++ made asked (Err cause) ∷ []) t
 
 -- all calls of a `set` were carried out
 pub record CommitsSet (s : State) (writer table key : ℕ) (value : List ℕ) (position : ℕ)
@@ -74,18 +77,19 @@ Sets s writer table key value (Err NoMemory) t = BreaksOff s (Set writer table k
 pub record CleansAll (s : State) (landed : ℕ) (t : State) : Type 0 where
   pub pages : List (ℕ × ℕ)
   pub count : landed ≡ length pages
-  pub happened : Events s (flat_map flushed pages ++ made (done (did_oldest_dirty None)) ∷ []) t
+  pub happened : Events s (flat_map flushed pages
+      ++ made call.OldestDirty (Ok (answers.OldestDirty None)) ∷ []) t
 
--- a call of a flush was refused, behind pages that landed
+-- a call of a flush was refused, after pages that landed
 pub record StopsCleaning (s : State) (cause : Cause) (t : State) : Type 0 where
   pub pages : List (ℕ × ℕ)
   pub page : ℕ × ℕ
   pub front : List Event
   pub rest : List Event
-  pub next : Done
-  pub split : flushed page ≡ front ++ made (done next) ∷ rest
-  pub happened : Events s
-      (flat_map flushed pages ++ front ++ made (refused (call_of next) cause) ∷ []) t
+  pub asked : EngineCall
+  pub given : EngineAnswer
+  pub split : flushed page ≡ front ++ made asked (Ok given) ∷ rest
+  pub happened : Events s (flat_map flushed pages ++ front ++ made asked (Err cause) ∷ []) t
 
 -- a `clean` by what it answered
 abbrev pub Cleans : State → Result ℕ EngineRefusal → State → Type 0

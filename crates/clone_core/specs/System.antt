@@ -1,5 +1,5 @@
 -- A donor and the disk of a recipient, and what an event does to them.
-use Rattle.std.specs.Prelude.{ℕ, ◌≡◌, ◌&&◌, is_some, Bool, Ok, Err, codes}
+use Rattle.std.specs.Prelude.{ℕ, ◌≡◌, ◌&&◌, is_some, Bool, Result, Ok, Err, codes}
 use Rattle.std.specs.declared.option.Option.{Option}
 use Rattle.clone_outside.specs.Causes.{Rose}
 use Rattle.clone_outside.specs.Disk.{ForTold}
@@ -9,13 +9,16 @@ use Rattle.clone_recover.specs.declared.refusal.Why.TheVariants.{Header, Redo, D
 use Rattle.clone_recover.specs.declared.refusal.RecoverRefusal.TheVariants.{Damaged}
 use Rattle.clone_plain.specs.Donor.{Donor}
 use Rattle.clone_plain.specs.Answers.{Text}
+use Rattle.clone_plain.specs.declared.call.EngineAnswer.{EngineAnswer}
+use Rattle.clone_plain.specs.declared.call.EngineCall.{EngineCall}
+use Rattle.clone_plain.specs.declared.refusal.Cause.{Cause}
+use Rattle.clone_plain.specs.declared.refusal.EngineRefusal.TheVariants.{Because}
+use Rattle.clone_calls.specs.declared.answer.DonorAnswer.TheVariants as answer
+use Rattle.clone_calls.specs.declared.call.DonorCall.TheVariants as call
 use Rattle.clone_events.specs.Events.{to_donor, to_recipient, Event, made, cleaned, looked, archived, started, stopped, readied, completed, broke, lost, again, showed, incomplete, hidden, damaged, ordered}
 use Rattle.clone_engine.specs.Disks.{Visits, with_order}
 use Rattle.clone_outside.specs.DiskCalls.{DiskState}
-use Rattle.clone_plain.specs.Calls.{Made, done, refused, call_of}
-use Rattle.clone_plain.specs.declared.refusal.EngineRefusal.TheVariants.{Because}
-use Rattle.clone_engine.specs.Acts as act
-use Rattle.clone_engine.specs.Acts.{Does}
+use Rattle.clone_engine.specs.Answering.{Answered}
 use Rattle.clone_engine.specs.Donor as staged
 use Rattle.clone_engine.specs.Serving.{AnswersCall}
 use Rattle.clone_request.specs.Advancing.{Lends}
@@ -55,10 +58,11 @@ pub record FindsDamage (s : DiskState) (space page : ℕ) (text : Text) : Type 0
   pub word : text ≡ why_text why
   pub damage : ForTold s.told (λ m. IsCause m (Damaged space page why))
 
--- a call that was made on the donor
-abbrev pub CallStep : staged.Donor → Made → staged.Donor → Type 0
-CallStep d (done did) t = AnswersCall (call_of did) d t (Ok did)
-CallStep d (refused call cause) t = AnswersCall call d t (Err (Because cause))
+-- a call that was made on the donor: it was carried out, or refused for a cause
+abbrev pub CallStep : staged.Donor → EngineCall → Result EngineAnswer Cause → staged.Donor
+    → Type 0
+CallStep d asked (Ok given) t = AnswersCall asked d t (Ok given)
+CallStep d asked (Err cause) t = AnswersCall asked d t (Err (Because cause))
 
 -- A clone goes on: the plain donor and what its disk holds stay, and the recipient's disk is
 -- written.
@@ -68,14 +72,15 @@ pub record CopiesOn (s t : System) : Type 0 where
 
 -- the log is archived up to there, or there is no archive
 pub record ArchivesTo (limit : ℕ) (reached : Option ℕ) (s t : System) : Type 0 where
-  pub archives : Does (act.Archive limit reached) s.donor t.donor
+  pub archives : Answered (call.Archive limit) (answer.Archive (Ok reached)) s.donor t.donor
   pub recipient : t.recipient ≡ s.recipient
 
 -- AN EVENT, in a donor and the disk of a recipient. A clone goes on by calls of both, and its stop
 -- is a moment of the step in which it lies; what is told of it again asks nothing; and rows recover
 -- the recipient's disk.
 abbrev pub SystemStep : System → Event → System → Type 0
-SystemStep s (made m) t = CallStep s.donor m t.donor × (t.recipient ≡ s.recipient)
+SystemStep s (made asked given) t =
+    CallStep s.donor asked given t.donor × (t.recipient ≡ s.recipient)
 SystemStep s (cleaned landed) t = t ≡ s
 SystemStep s (looked position) t = t ≡ s
 SystemStep s (archived limit reached) t = ArchivesTo limit reached s t
@@ -86,7 +91,7 @@ SystemStep s (completed position) t = CopiesOn s t
 SystemStep s broke t = CopiesOn s t × Rose s.recipient.failures t.recipient.failures
 SystemStep s lost t =
     CopiesOn s t × Rose s.donor.engine.disk.failures t.donor.engine.disk.failures
-SystemStep s (again wish answer) t = t ≡ s
+SystemStep s (again wish text) t = t ≡ s
 SystemStep s (showed rows) t = VisitsRecipient s t
 SystemStep s incomplete t = VisitsRecipient s t × ForTold s.recipient.told IsIncomplete
 SystemStep s hidden t = FailsRecipient s t

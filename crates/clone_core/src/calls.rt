@@ -1,6 +1,6 @@
 ghost use Rattle.std.specs.Prelude.{◌^◌, ◌-◌, Ok};
-ghost use Rattle.clone_plain.specs.Calls as call;
-ghost use Rattle.clone_plain.specs.Calls.{did_create, did_drop, did_begin, did_put, did_delete, did_get, did_undo_one, did_commit, did_flush_begin, did_flush_half, did_flush_land, did_oldest_dirty, did_checkpoint, did_end};
+ghost use Rattle.clone_plain.specs.declared.call.EngineCall.TheVariants as call;
+ghost use Rattle.clone_plain.specs.declared.call.EngineAnswer.TheVariants as answers;
 ghost use Rattle.clone_events.specs.World.{index_in, IsWithin};
 ghost use Rattle.clone_core.specs.System.{donor_of};
 ghost use Rattle.clone_core.specs.Called.{Called};
@@ -19,7 +19,7 @@ impl<D: PageDisk, R: PageDisk> World<D, R> {
         table: TableNumber,
         buckets: BucketCount,
     ) -> Result<(), EngineRefusal>
-        ensures { Called self.old (call.create table buckets) (λ _. did_create table buckets) result
+        ensures { Called self.old (call.Create table buckets) (λ _. answers.Create) result
             self.new }
     {
         self.donor.create(table, buckets)
@@ -27,7 +27,7 @@ impl<D: PageDisk, R: PageDisk> World<D, R> {
 
     // Drops a table.
     pub(crate) fn drop_table(&mut self, table: TableNumber) -> Result<(), EngineRefusal>
-        ensures { Called self.old (call.drop table) (λ _. did_drop table) result self.new }
+        ensures { Called self.old (call.Drop table) (λ _. answers.Drop) result self.new }
     {
         self.donor.drop_table(table.get())
     }
@@ -35,8 +35,8 @@ impl<D: PageDisk, R: PageDisk> World<D, R> {
     // Begins a transaction of a writer, and counts it. Where none begins nothing is counted.
     pub(crate) fn begin(&mut self, alloc: Global, writer: u32) -> Result<u32, EngineRefusal>
         requires { IsWithin donor_of (2 ^ 63 - 1) self.old }
-        ensures { Called self.old (call.begin writer (index_in self.old.begun writer))
-            (λ trx. did_begin writer (index_in self.old.begun writer) trx) result self.new }
+        ensures { Called self.old (call.Begin writer (index_in self.old.begun writer))
+            (λ trx. answers.Begin trx) result self.new }
     {
         let was = self.begun.count(writer);
         self.begun.begin(writer)?;
@@ -55,8 +55,8 @@ impl<D: PageDisk, R: PageDisk> World<D, R> {
         key: u64,
         value: &[u8],
     ) -> Result<(), EngineRefusal>
-        ensures { Called self.old (call.put trx table key value.now)
-            (λ _. did_put trx table key value.now) result self.new }
+        ensures { Called self.old (call.Put trx table key value.now)
+            (λ _. answers.Put) result self.new }
     {
         self.donor.put(trx, table.get(), key, value)
     }
@@ -68,7 +68,7 @@ impl<D: PageDisk, R: PageDisk> World<D, R> {
         table: TableNumber,
         key: u64,
     ) -> Result<(), EngineRefusal>
-        ensures { Called self.old (call.delete trx table key) (λ _. did_delete trx table key) result
+        ensures { Called self.old (call.Delete trx table key) (λ _. answers.Delete) result
             self.new }
     {
         self.donor.delete(trx, table.get(), key)
@@ -81,7 +81,7 @@ impl<D: PageDisk, R: PageDisk> World<D, R> {
         table: TableNumber,
         key: u64,
     ) -> Result<Option<Value>, EngineRefusal>
-        ensures { Called self.old (call.get trx table key) (λ value. did_get trx table key value)
+        ensures { Called self.old (call.Get trx table key) (λ value. answers.Get value)
             result self.new }
     {
         let got = self.donor.get(trx, table.get(), key);
@@ -91,7 +91,7 @@ impl<D: PageDisk, R: PageDisk> World<D, R> {
 
     // Takes the last change of a transaction back, or ends it.
     pub(crate) fn undo_one(&mut self, trx: u32) -> Result<Undone, EngineRefusal>
-        ensures { Called self.old (call.undo_one trx) (λ undone. did_undo_one trx undone) result
+        ensures { Called self.old (call.UndoOne trx) (λ undone. answers.UndoOne undone) result
             self.new }
     {
         self.donor.undo_one(trx)
@@ -99,7 +99,7 @@ impl<D: PageDisk, R: PageDisk> World<D, R> {
 
     // Commits a transaction.
     pub(crate) fn commit(&mut self, trx: u32) -> Result<u64, EngineRefusal>
-        ensures { Called self.old (call.commit trx) (λ position. did_commit trx position) result
+        ensures { Called self.old (call.Commit trx) (λ position. answers.Commit position) result
             self.new }
     {
         self.donor.commit(trx)
@@ -107,7 +107,7 @@ impl<D: PageDisk, R: PageDisk> World<D, R> {
 
     // The flush of a page begins.
     pub(crate) fn flush_begin(&mut self, space: u32, page: u32) -> Result<(), EngineRefusal>
-        ensures { Called self.old (call.flush_begin space page) (λ _. did_flush_begin space page)
+        ensures { Called self.old (call.FlushBegin space page) (λ _. answers.FlushBegin)
             result self.new }
     {
         self.donor.flush_begin(space, page)
@@ -115,7 +115,7 @@ impl<D: PageDisk, R: PageDisk> World<D, R> {
 
     // The first half of a page is written.
     pub(crate) fn flush_half(&mut self, space: u32, page: u32) -> Result<(), EngineRefusal>
-        ensures { Called self.old (call.flush_half space page) (λ _. did_flush_half space page)
+        ensures { Called self.old (call.FlushHalf space page) (λ _. answers.FlushHalf)
             result self.new }
     {
         self.donor.flush_half(space, page)
@@ -123,7 +123,7 @@ impl<D: PageDisk, R: PageDisk> World<D, R> {
 
     // The other half of a page is written.
     pub(crate) fn flush_land(&mut self, space: u32, page: u32) -> Result<(), EngineRefusal>
-        ensures { Called self.old (call.flush_land space page) (λ _. did_flush_land space page)
+        ensures { Called self.old (call.FlushLand space page) (λ _. answers.FlushLand)
             result self.new }
     {
         self.donor.flush_land(space, page)
@@ -131,7 +131,7 @@ impl<D: PageDisk, R: PageDisk> World<D, R> {
 
     // The dirty page to be flushed next, if there is one.
     pub(crate) fn oldest_dirty(&mut self) -> Option<(u32, u32)>
-        ensures { Called self.old call.oldest_dirty (λ page. did_oldest_dirty page) (Ok result)
+        ensures { Called self.old call.OldestDirty (λ page. answers.OldestDirty page) (Ok result)
             self.new }
     {
         self.donor.oldest_dirty()
@@ -139,7 +139,7 @@ impl<D: PageDisk, R: PageDisk> World<D, R> {
 
     // Takes a checkpoint.
     pub(crate) fn checkpoint(&mut self) -> u64
-        ensures { Called self.old call.checkpoint (λ lsn. did_checkpoint lsn) (Ok result)
+        ensures { Called self.old call.Checkpoint (λ lsn. answers.Checkpoint lsn) (Ok result)
             self.new }
     {
         self.donor.checkpoint()
@@ -147,7 +147,7 @@ impl<D: PageDisk, R: PageDisk> World<D, R> {
 
     // The log's end.
     pub(crate) fn end(&mut self) -> u64
-        ensures { Called self.old call.end (λ lsn. did_end lsn) (Ok result) self.new }
+        ensures { Called self.old call.End (λ lsn. answers.End lsn) (Ok result) self.new }
     {
         self.donor.end()
     }

@@ -75,7 +75,7 @@ pub fn answered<T: Drop>(
     }
 }
 
-/// The text of a refusal. There is none for want of memory.
+/// The text of a refusal. There is none where memory ran out.
 pub fn refused(alloc: Global, refusal: EngineRefusal) -> Result<String, AllocError>
     ensures { IfOk result (λ text. SaysCause refusal (string_bytes text)) }
 {

@@ -37,7 +37,7 @@ pub enum Course {
         /// How many commits there were at its stop.
         position: u64,
     },
-    /// A fault of the recipient's disk ended it, or want of memory.
+    /// A fault of the recipient's disk ended it, or memory ran out.
     Broken,
     /// A fault of the donor's disk ended it, while a block was read.
     Spent,

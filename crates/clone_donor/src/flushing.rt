@@ -1,10 +1,9 @@
 ghost use Rattle.std.specs.Prelude.{◌≡◌, Ok};
 ghost use Rattle.clone_archive.specs.Archived.{kept_from};
-ghost use Rattle.clone_plain.specs.Calls as call;
-ghost use Rattle.clone_plain.specs.Calls.{did_flush_begin, did_flush_half, did_flush_land, did_oldest_dirty, did_checkpoint};
+ghost use Rattle.clone_plain.specs.declared.call.EngineCall.TheVariants as call;
+ghost use Rattle.clone_plain.specs.declared.call.EngineAnswer.TheVariants as answers;
 ghost use Rattle.clone_engine.specs.Steps.{Checks, Steps, answer_of};
-ghost use Rattle.clone_engine.specs.Acts as act;
-ghost use Rattle.clone_engine.specs.Acts.{Acts};
+ghost use Rattle.clone_engine.specs.Acts.{EngineActs};
 
 use crate::Donor;
 use clone_outside::PageDisk;
@@ -15,16 +14,16 @@ impl<D: PageDisk> Donor<D> {
     /// The flush of a page begins: its image is what will be written. While files are copied the
     /// page is noted, also where the disk fails to lengthen its file.
     pub fn flush_begin(&mut self, space: u32, page: u32) -> Result<(), EngineRefusal>
-        ensures acts { Acts (act.Calls (call.flush_begin space page)
-            (answer_of (λ _. did_flush_begin space page) result)) self.old self.new }
+        ensures acts { EngineActs (call.FlushBegin space page)
+            (answer_of (λ _. answers.FlushBegin) result) self.old self.new }
     {
         self.engine.flush_begin(space, page, &mut self.disk)
     }
 
     /// Writes the first half of a page whose flush has begun.
     pub fn flush_half(&mut self, space: u32, page: u32) -> Result<(), EngineRefusal>
-        ensures acts { Acts (act.Calls (call.flush_half space page)
-            (answer_of (λ _. did_flush_half space page) result)) self.old self.new }
+        ensures acts { EngineActs (call.FlushHalf space page)
+            (answer_of (λ _. answers.FlushHalf) result) self.old self.new }
     {
         self.engine.flush_half(space, page, &mut self.disk)
     }
@@ -32,8 +31,8 @@ impl<D: PageDisk> Donor<D> {
     /// Writes the second half of a page whose first half is written. The page is clean then, or
     /// dirty from its first change after the flush began.
     pub fn flush_land(&mut self, space: u32, page: u32) -> Result<(), EngineRefusal>
-        ensures acts { Acts (act.Calls (call.flush_land space page)
-            (answer_of (λ _. did_flush_land space page) result)) self.old self.new }
+        ensures acts { EngineActs (call.FlushLand space page)
+            (answer_of (λ _. answers.FlushLand) result) self.old self.new }
     {
         self.engine.flush_land(space, page, &mut self.disk)
     }
@@ -41,8 +40,8 @@ impl<D: PageDisk> Donor<D> {
     /// The dirty page to be flushed next, by its space and its number, or none where no dirty page
     /// waits for that.
     pub fn oldest_dirty(&self) -> Option<(u32, u32)>
-        ensures { Steps call.oldest_dirty self.now.engine self.now.engine
-            (Ok (did_oldest_dirty result)) }
+        ensures { Steps call.OldestDirty self.now.engine self.now.engine
+            (Ok (answers.OldestDirty result)) }
     {
         self.engine.oldest_dirty()
     }
@@ -52,7 +51,7 @@ impl<D: PageDisk> Donor<D> {
     pub fn checkpoint(&mut self) -> u64
         ensures checks { Checks (kept_from self.old.cloning.archive) self.old.engine
             self.new.engine result }
-        ensures acts { Acts (act.Calls call.checkpoint (Ok (did_checkpoint result))) self.old
+        ensures acts { EngineActs call.Checkpoint (Ok (answers.Checkpoint result)) self.old
             self.new }
     {
         self.engine.checkpoint()

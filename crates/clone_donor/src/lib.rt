@@ -2,10 +2,10 @@
 //! holds. Each call is the engine's.
 #![tactic(auto)]
 
+mod answering;
 mod copying;
 mod donor;
 mod flushing;
 mod serving;
 
-pub use clone_engine::{Block, BlockRefusal};
 pub use donor::Donor;

@@ -1,5 +1,5 @@
 -- The blocks of a clone: what is read, and what was taken by them.
-use Rattle.std.specs.Prelude.{IsErr, not, ◌==◌}
+use Rattle.std.specs.Prelude.{IsErr, not, slice_get, ◌==◌, ◌&&◌}
 use Rattle.std.proofs.Common.{[], ◌≡◌, ℕ, List, refl, sym, subst, arith, Option, None, Some, IsSome, Result, Ok, Err, OnOk, IfErr, ◌<◌, ◌+◌, ◌++◌, ◌∷◌, ◌∙◌, length, get_or, take, ap, map, ◌≤◌, Bool, true, false, option_map, if◌then◌else◌}
 use Rattle.clone_outside.specs.Disk as disk
 use Rattle.clone_outside.specs.Disk.{DiskImage, ForTold, GivesQuiet}
@@ -14,7 +14,7 @@ use Rattle.clone_buffer.proofs.ReadLemmas.{file_read_allowed}
 use Rattle.clone_flush.specs.Flights.{HasFiles, IsFlown, beside_of}
 use Rattle.clone_plain.specs.declared.refusal.Cause.TheVariants.{DiskFault}
 use Rattle.clone_plain.specs.declared.refusal.EngineRefusal.{EngineRefusal}
-use Rattle.clone_plain.specs.declared.refusal.EngineRefusal.TheVariants.{Because}
+use Rattle.clone_plain.specs.declared.refusal.EngineRefusal.TheVariants.{Because, NoMemory}
 use Rattle.clone_outside.specs.DiskCalls.{DiskState, Reads}
 use Rattle.clone_engine.specs.Engine.{Engine, IsEngine, IsInFile, MakesPages}
 use Rattle.clone_engine.specs.Reading.{ReadsFile, ReadsPage, ListsOpen, OnlyVisits, read_answer, MayHappen}
@@ -25,33 +25,42 @@ use Rattle.std.specs.List.{AllByRecursion, All, Contains, flat_map, range_with_l
 use Rattle.std.proofs.lemmas.List.{map-append, take_more, length-map}
 use Rattle.clone_base.proofs.Lists.{All-push}
 use Rattle.clone_page.specs.declared.pages.PageAt.{PageAt}
-use Rattle.clone_engine.specs.Copying.{ReadsIn, places_of, Gives, IsBlock, IsRedo, ReadsPageOf, taken_from}
+use Rattle.clone_engine.specs.Copying.{FailsReading, RefusesBlock, ReadsIn, places_of, Gives, IsBlock, IsRedo, ReadsPageOf, taken_from}
 use Rattle.clone_engine.specs.Donor.{IsPageOf, ArePages, CopiesOwn, Donor, HasPages, IsDonor, list_of}
 use Rattle.clone_engine.specs.Copies as copies
 use Rattle.clone_engine.specs.Copies.{AreInFiles, AreInPages, with_pages}
 use Rattle.clone_track.specs.TrackedPages.{Pages}
 use Rattle.clone_engine.proofs.TakenPages.{MayRead, files_read, pages_read}
 use Rattle.std.specs.Option.{option_or, option_map_or}
-use Rattle.std.proofs.lemmas.Bool.{eqb-true}
+use Rattle.std.proofs.lemmas.Bool.{eqb-true, true≢false}
+use Rattle.clone_chunk.specs.declared.chunk.Chunk.{Chunk}
+use Rattle.clone_chunk.specs.declared.chunk.Chunk.TheVariants.{Free, Claimed, Finished}
 use Rattle.std.proofs.lemmas.List.Elements.{All-append, All-contains, All-from_recursion, All-head, All-map, All-nil, All-tail, All-weaker, recursion_from_All}
 use Rattle.std.proofs.lemmas.List.FromFn.{get_or-range_with_len, length-range_with_len}
 use Rattle.clone_base.specs.declared.limits.TheConstants.{BLOCK_BYTES, BLOCK_PAGES}
 use Rattle.clone_chunk.specs.Stages.{stage_number}
 use Rattle.clone_snapshot.specs.StageLists as lists
 use Rattle.clone_snapshot.specs.declared.block.RedoBlock.{RedoBlock}
-use Rattle.clone_snapshot.proofs.EachBlock.{block_sized, pages_listed}
+use Rattle.clone_snapshot.specs.declared.listing.Listing.TheVariants as listing
+use Rattle.clone_snapshot.proofs.EachBlock.{block_sized, no_pages, pages_listed, redo_alone}
+use Rattle.clone_calls.specs.Answering.{is_redo}
 use Rattle.clone_session.specs.declared.caller.Caller.{Caller}
 use Rattle.clone_session.specs.declared.copying.BlockWork.{BlockWork}
 use Rattle.clone_session.specs.declared.copying.BlockWork.TheVariants as work
 use Rattle.clone_chunk.specs.declared.cause.CloneCause.{CloneCause}
 use Rattle.clone_chunk.specs.declared.cause.CloneCause.TheVariants.{NoSuchSession}
 use Rattle.clone_session.specs.Cloning.{Cloning, IsCloning, IsInSession, IsInStage, Session}
-use Rattle.clone_session.specs.CloneCalls.{Answers, IsBlockOf, OnSession, part_of}
+use Rattle.clone_session.specs.CloneCalls.{Answers, HasClaimed, IsBlockOf, OnSession, part_of}
 use Rattle.clone_session.proofs.PartLemmas.{stands_as}
-use Rattle.clone_session.specs.CloneCauses.{archive_behind, block_cause, donor_stage, not_claimed, other_stage, session_of, stale, whether}
+use Rattle.clone_session.specs.CloneCauses.{archive_behind, block_cause, donor_stage, is_claimed, not_claimed, other_stage, session_of, stale, whether}
 use Rattle.clone_session.specs.Effects.{finished}
-use Rattle.clone_engine.specs.declared.block.Block.{Block}
-use Rattle.clone_engine.specs.declared.block.Block.TheVariants as block
+use Rattle.clone_calls.specs.declared.block.Block.{Block}
+use Rattle.clone_calls.specs.declared.block.Block.TheVariants as block
+use Rattle.clone_calls.specs.declared.answer.DonorAnswer.TheVariants as answer
+use Rattle.clone_calls.specs.declared.block.BlockRefusal.{BlockRefusal}
+use Rattle.clone_calls.specs.declared.block.BlockRefusal.TheVariants as refused
+use Rattle.clone_calls.specs.declared.call.DonorCall.TheVariants as call
+use Rattle.clone_session.specs.declared.refusal.CloneRefusal.TheVariants as refusal
 use Rattle.clone_engine.specs.Acts as act
 use Rattle.clone_engine.specs.Taken.{IsTaken, IsTakenBy, IsTakenIn, Taken}
 use Rattle.clone_engine.proofs.GoingLemmas.{Like, like_same, like_session}
@@ -223,13 +232,58 @@ is_so : (b : Bool) (cause : CloneCause) → whether (not b) cause ≡ None → b
 is_so true cause none = refl
 is_so false cause none = absurd (let e = none in cc)
 
-pub stage_is : (c : Cloning) (caller : Caller) (stage chunk number : ℕ) (s : Session) → session_of c caller.session ≡ Some s → block_cause c caller stage chunk number ≡ None → stage ≡ donor_stage s
-stage_is c caller stage chunk number s stands none =
-    let behind : Option CloneCause = option_or (not_claimed s caller.task chunk number) (archive_behind c.archive (lists.block_of s.snap.list chunk number)) in
+-- the session is in the stage, and the task has claimed the chunk and may have the block
+clear_is : (c : Cloning) (caller : Caller) (stage chunk number : ℕ) (s : Session) → session_of c caller.session ≡ Some s → block_cause c caller stage chunk number ≡ None → (other_stage s stage ≡ None) × (not_claimed s caller.task chunk number ≡ None)
+clear_is c caller stage chunk number s stands none =
+    let archived : Option CloneCause = archive_behind c.archive (lists.block_of s.snap.list chunk number) in
+    let behind : Option CloneCause = option_or (not_claimed s caller.task chunk number) archived in
     let at : option_or (stale s caller.incarnation) (option_or (other_stage s stage) behind) ≡ None =
     subst (λ (o : Option Session). option_map_or (λ s. option_or (stale s caller.incarnation) (option_or (other_stage s stage) (option_or (not_claimed s caller.task chunk number) (archive_behind c.archive (lists.block_of s.snap.list chunk number))))) o (Some NoSuchSession) ≡ None) stands none in
     let here = both_none (other_stage s stage) behind (both_none (stale s caller.incarnation) (option_or (other_stage s stage) behind) at).1 in
-    eqb-true stage (donor_stage s) (is_so (stage == donor_stage s) _ here.0)
+    (here.0, (both_none (not_claimed s caller.task chunk number) archived here.1).0)
+
+pub stage_is : (c : Cloning) (caller : Caller) (stage chunk number : ℕ) (s : Session) → session_of c caller.session ≡ Some s → block_cause c caller stage chunk number ≡ None → stage ≡ donor_stage s
+stage_is c caller stage chunk number s stands none =
+    eqb-true stage (donor_stage s) (is_so (stage == donor_stage s) _ (clear_is c caller stage chunk number s stands none).0)
+
+first_true : (a b : Bool) → (a && b) ≡ true → a ≡ true
+first_true true b both = refl
+first_true false b both = both
+
+claimed_chunk : (task : ℕ) (chunk : Option Chunk) → is_claimed task chunk ≡ true → chunk ≡ Some (Claimed task)
+claimed_chunk task None is = absurd (true≢false (sym is))
+claimed_chunk task (Some Free) is = absurd (true≢false (sym is))
+claimed_chunk task (Some (Claimed by)) is = ap (λ (t : ℕ). Some (Claimed t)) (eqb-true by task is)
+claimed_chunk task (Some Finished) is = absurd (true≢false (sym is))
+
+pub claimed_is : (c : Cloning) (caller : Caller) (stage chunk number : ℕ) (made : BlockWork) → block_cause c caller stage chunk number ≡ None → IsBlockOf c caller.session chunk number made → HasClaimed caller chunk c
+claimed_is c caller stage chunk number made none of =
+    let on = of.0 in
+    let clear = clear_is c caller stage chunk number on.0 on.1 none in
+    (on.0, on.1, claimed_chunk caller.task (slice_get on.0.snap.chunks chunk) (first_true _ _ (first_true _ _ (is_so _ _ clear.1))))
+
+-- A BLOCK is of redo exactly where its stage copies redo.
+abbrev is_of_redo : BlockWork → Bool
+is_of_redo (work.Pages pages) = false
+is_of_redo (work.Redo redo) = true
+
+work_kind : (l : lists.StageList) (chunk number : ℕ) (made : BlockWork) → lists.block_of l chunk number ≡ Some (part_of made) → is_of_redo made ≡ (stage_number (lists.stage_of l) == 3)
+work_kind l chunk number (work.Redo redo) is =
+    let (start, until, same) = redo_alone l chunk number redo.from redo.length is in
+    subst (λ (x : lists.StageList). true ≡ (stage_number (lists.stage_of x) == 3)) (sym same) refl
+work_kind l chunk number (work.Pages pages) is = by l is
+  where
+    by : (x : lists.StageList) → lists.block_of x chunk number ≡ Some (lists.PagePart pages) → false ≡ (stage_number (lists.stage_of x) == 3)
+    by (lists.Files spaces) has = refl
+    by (lists.Pages listed) has = refl
+    by (lists.Redo start until) has = absurd (no_pages (listing.Redo start until) chunk number pages (λ spaces e. cc) (λ listed e. cc) has)
+    by lists.Nothing has = refl
+
+block_kind : (l : lists.StageList) (d : Donor) (made : BlockWork) (read : Block) → IsBlock l d made read → is_redo read ≡ is_of_redo made
+block_kind l d (work.Pages pages) (block.Pages read) is = refl
+block_kind l d (work.Pages pages) (block.Redo from bytes) is = absurd is
+block_kind l d (work.Redo redo) (block.Pages read) is = absurd is
+block_kind l d (work.Redo redo) (block.Redo from bytes) is = refl
 
 -- A BLOCK has something, and no more than a block may have.
 module _ (c : Cloning) (session chunk number : ℕ) (made : BlockWork) (of : IsBlockOf c session chunk number made) where
@@ -365,11 +419,11 @@ module _ (caller : Caller) (stage chunk number : ℕ) (d : Donor) (k : DiskState
   pub has_redo : (redo : RedoBlock) (read : Block) → made ≡ work.Redo redo → IsRedo d redo read → HasBlock caller chunk number d k read
   has_redo redo read is has = has_block read (λ s stands. subst (λ w. IsBlock s.snap.list d w read) (sym is) has)
 
-module _ (caller : Caller) (chunk number : ℕ) (d : Donor) (k : DiskState) (read : Block) (has : HasBlock caller chunk number d k read) (new : Cloning) (last : Bool) (answered : Answers caller chunk number d.cloning new last) where
+module _ (caller : Caller) (stage chunk number : ℕ) (d : Donor) (k : DiskState) (read : Block) (free : block_cause d.cloning caller stage chunk number ≡ None) (has : HasBlock caller chunk number d k read) (new : Cloning) (last : Bool) (answered : Answers caller chunk number d.cloning new last) where
   abbrev after : Donor
   after = record { engine = record d.engine { disk = k }; cloning = new }
 
-  pub given : Gives caller chunk number d after read last
+  given : Gives caller chunk number d after read last
   given = record { session = has.session; stands = has.stands; work = has.made; made_of = has.made_of; read = has.block; visits = has.visits; answers = answered }
 
   like : Like new d.cloning
@@ -392,13 +446,34 @@ module _ (caller : Caller) (chunk number : ℕ) (d : Donor) (k : DiskState) (rea
           taken_pages d taken pages has.is has.cloning was s (stands_as d.cloning.session caller.session s has.stands) is.1
           (subst (All (Contains (lists.all_pages s.snap.list))) (sym is.0) (pages_listed s.snap.list chunk number places (subst (λ (x : Session). lists.block_of x.snap.list chunk number ≡ Some (lists.PagePart places)) same on.2)))
 
-  pub gives : act.Acts (act.Give caller chunk number read last) d after
+  pub gives : act.CloneActs (call.ReadBlock caller stage chunk number) (answer.ReadBlock (Ok (read, last))) d after
   gives =
       let stays = retold_stays d k (ap (λ (e : Engine). e.disk.told) has.visits.same) new like has.is in
-      record { does = given; donor = stays.donor; taken = λ taken was. stays.taken (taken_from read taken) (taken_block read taken has.block was) }
+      record { does = (free, given); donor = stays.donor; taken = λ taken was. stays.taken (taken_from read taken) (taken_block read taken has.block was) }
 
--- no block is given
-pub misses : (d : Donor) (k : DiskState) → OnlyVisits d.engine (record d.engine { disk = k }) → IsDonor d → act.Acts act.Miss d (record d { engine = record d.engine { disk = k } })
-misses d k visits is =
+-- of the redo exactly in the copy of redo
+pub kind_is : (caller : Caller) (stage chunk number : ℕ) (d : Donor) (k : DiskState) (read : Block) → block_cause d.cloning caller stage chunk number ≡ None → HasBlock caller chunk number d k read → is_redo read ≡ (stage == 3)
+kind_is caller stage chunk number d k read none has =
+    let on = has.made_of.0 in
+    let one : Some on.0 ≡ Some has.session = sym on.1 ∙ has.stands in
+    let same : on.0 ≡ has.session = cc in
+    let of : lists.block_of has.session.snap.list chunk number ≡ Some (part_of has.made) = subst (λ (x : Session). lists.block_of x.snap.list chunk number ≡ Some (part_of has.made)) same on.2 in
+    block_kind has.session.snap.list d has.made read has.block ∙ work_kind has.session.snap.list chunk number has.made of
+    ∙ ap (λ (n : ℕ). n == 3) (sym (stage_is d.cloning caller stage chunk number has.session has.stands none))
+
+-- NO BLOCK IS GIVEN.
+pub misses : (caller : Caller) (stage chunk number : ℕ) (d : Donor) (k : DiskState) (why : BlockRefusal) → OnlyVisits d.engine (record d.engine { disk = k }) → IsDonor d → RefusesBlock caller stage chunk number d (record d { engine = record d.engine { disk = k } }) why
+    → act.CloneActs (call.ReadBlock caller stage chunk number) (answer.ReadBlock (Err why)) d (record d { engine = record d.engine { disk = k } })
+misses caller stage chunk number d k why visits is refuses =
     let stays = retold_stays d k (ap (λ (e : Engine). e.disk.told) visits.same) d.cloning (like_same d.cloning) is in
-    record { does = (refl, visits); donor = stays.donor; taken = stays.taken }
+    record { does = refuses; donor = stays.donor; taken = stays.taken }
+
+-- for want of memory, or after a fault of the disk
+pub unread : (caller : Caller) (stage chunk number : ℕ) (d : Donor) (k : DiskState) (why : BlockRefusal) → OnlyVisits d.engine (record d.engine { disk = k }) → FailsReading d.engine (record d.engine { disk = k }) why → RefusesBlock caller stage chunk number d (record d { engine = record d.engine { disk = k } }) why
+unread caller stage chunk number d k (refused.Clone (refusal.Because cause)) visits fails = absurd (let e = fails in cc)
+unread caller stage chunk number d k (refused.Clone refusal.NoMemory) visits fails = (visits, refl)
+unread caller stage chunk number d k (refused.Engine (Because cause)) visits fails = (same_cause fails.0, fails.1, visits, refl)
+  where
+    same_cause : Because cause ≡ Because DiskFault → cause ≡ DiskFault
+    same_cause is = cc
+unread caller stage chunk number d k (refused.Engine NoMemory) visits fails = absurd (let e = fails.0 in cc)

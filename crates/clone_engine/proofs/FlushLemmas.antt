@@ -48,7 +48,10 @@ use Rattle.clone_engine.proofs.TakenPages.{begun_idle, begun_in_files, begun_in_
 use Rattle.clone_ring.specs.Window.{Window, end_of}
 use Rattle.clone_flush.specs.Calls as flushing
 use Rattle.clone_flush.specs.declared.refusal.FlushRefusal.TheVariants as flush
-use Rattle.clone_plain.specs.Calls.{Call, Done, did_flush_begin, did_flush_half, did_flush_land, flush_begin, flush_half, flush_land}
+use Rattle.clone_plain.specs.declared.call.EngineAnswer.{EngineAnswer}
+use Rattle.clone_plain.specs.declared.call.EngineAnswer.TheVariants as answers
+use Rattle.clone_plain.specs.declared.call.EngineCall.{EngineCall}
+use Rattle.clone_plain.specs.declared.call.EngineCall.TheVariants as call
 use Rattle.clone_plain.specs.declared.refusal.Cause.TheVariants as cause
 use Rattle.clone_plain.specs.declared.refusal.EngineRefusal.{EngineRefusal}
 use Rattle.clone_plain.specs.declared.refusal.EngineRefusal.TheVariants as refusal
@@ -482,13 +485,13 @@ module _ (old new : Cloning) (log : List (List Record)) (taken : Taken) (page : 
 -- The calls of a flush, made on a donor.
 
 -- WHAT A CALL OF A FLUSH ANSWERS
-module _ (did : Done) where
-  abbrev pub flushed : Result (Unit {0}) FlushRefusal → Result Done EngineRefusal
+module _ (did : EngineAnswer) where
+  abbrev pub flushed : Result (Unit {0}) FlushRefusal → Result EngineAnswer EngineRefusal
   flushed r = answer_of (λ (x : Unit {0}). did) (flush_answer r)
 
-  answers : (Does : Result (Unit {0}) FlushRefusal → Type 0) (r : Result (Unit {0}) FlushRefusal) → Does r → AnswersFlush did Does (flushed r)
-  answers Does (Ok x) is = (refl, is)
-  answers Does (Err refusal) is = (refusal, refl, is)
+  flush_answers : (Does : Result (Unit {0}) FlushRefusal → Type 0) (r : Result (Unit {0}) FlushRefusal) → Does r → AnswersFlush did Does (flushed r)
+  flush_answers Does (Ok x) is = (refl, is)
+  flush_answers Does (Err refusal) is = (refusal, refl, is)
 
   -- the disk failed exactly where the flush says so
   fault : (r : Result (Unit {0}) FlushRefusal) → flushed r ≡ Err (Because cause.DiskFault) → IsErrOf r flush.DiskFault
@@ -510,7 +513,7 @@ module _ (did : Done) where
 
   flushes : (s t : Engine) (Does : Result (Unit {0}) FlushRefusal → Type 0) (r : Result (Unit {0}) FlushRefusal) → t.donor ≡ s.donor → Does r → Counts (IsErrOf r flush.DiskFault) s.disk t.disk → is_some t.disk.told ≡ is_some s.disk.told → Flushes did s t (flushed r) Does
   flushes s t Does r same is counts tells = record {
-    does = answers Does r is;
+    does = flush_answers Does r is;
     donor = same;
     disk = record { visits = record { later = counts.later; orders = counts.orders; tells = tells }; fault = λ is. counts.fault (fault r is) };
   }
@@ -548,21 +551,21 @@ module _ (d : Donor) (t : flushing.State) (l : DiskState) (space number : ℕ) (
     written : Written d.engine.donor s t d.engine.disk.told l.told → Stays d (record d { engine = flown })
     written w = stays d flown d.cloning (like_same d.cloning) is (goes (written_engine d.engine.donor s t d.engine.disk l is.engine w stands) w.still w.tells) (keeps w.still) stands
 
-    acts : (call : Call) (did : Done) (Does : Result (Unit {0}) FlushRefusal → Type 0) → (Flushes did d.engine flown (flushed did r) Does → AnswersCall call d (record d { engine = flown }) (flushed did r)) → ((answer : Result Done EngineRefusal) (taken : Taken) → taken_by call answer taken ≡ taken) → Does r
-        → Written d.engine.donor s t d.engine.disk.told l.told → act.Acts (act.Calls call (answer_of (λ (x : Unit {0}). did) answer)) d (record d { engine = flown })
+    acts : (call : EngineCall) (did : EngineAnswer) (Does : Result (Unit {0}) FlushRefusal → Type 0) → (Flushes did d.engine flown (flushed did r) Does → AnswersCall call d (record d { engine = flown }) (flushed did r)) → ((answer : Result EngineAnswer EngineRefusal) (taken : Taken) → taken_by call answer taken ≡ taken) → Does r
+        → Written d.engine.donor s t d.engine.disk.told l.told → act.EngineActs call (answer_of (λ (x : Unit {0}). did) answer) d (record d { engine = flown })
     acts call did Does serves same does w =
         let on = written w in
-        subst (λ (a : Result (Unit {0}) EngineRefusal). act.Acts (act.Calls call (answer_of (λ (x : Unit {0}). did) a)) d (record d { engine = flown })) (sym code) (record {
+        subst (λ (a : Result (Unit {0}) EngineRefusal). act.EngineActs call (answer_of (λ (x : Unit {0}). did) a) d (record d { engine = flown })) (sym code) (record {
           does = serves (flushes did d.engine flown Does r refl does counts w.tells);
           donor = on.donor;
           taken = λ taken was. subst (IsTaken (record d { engine = flown })) (sym (same (flushed did r) taken)) (on.taken taken was);
         })
 
-    pub half_acts : flushing.Halves page s t d.engine.disk.told l.told r → act.Acts (act.Calls (flush_half space number) (answer_of (λ (x : Unit {0}). did_flush_half space number) answer)) d (record d { engine = flown })
-    half_acts does = acts (flush_half space number) (did_flush_half space number) (flushing.Halves page s t d.engine.disk.told l.told) (λ steps. record { steps = steps; cloning = refl }) (λ answer taken. refl) does (half_written_is d.engine.donor page s t d.engine.disk.told l.told r does)
+    pub half_acts : flushing.Halves page s t d.engine.disk.told l.told r → act.EngineActs (call.FlushHalf space number) (answer_of (λ (x : Unit {0}). answers.FlushHalf) answer) d (record d { engine = flown })
+    half_acts does = acts (call.FlushHalf space number) answers.FlushHalf (flushing.Halves page s t d.engine.disk.told l.told) (λ steps. record { steps = steps; cloning = refl }) (λ answer taken. refl) does (half_written_is d.engine.donor page s t d.engine.disk.told l.told r does)
 
-    pub land_acts : flushing.Lands page s t d.engine.disk.told l.told r → act.Acts (act.Calls (flush_land space number) (answer_of (λ (x : Unit {0}). did_flush_land space number) answer)) d (record d { engine = flown })
-    land_acts does = acts (flush_land space number) (did_flush_land space number) (flushing.Lands page s t d.engine.disk.told l.told) (λ steps. record { steps = steps; cloning = refl }) (λ answer taken. refl) does (landed_is d.engine.donor page s t d.engine.disk.told l.told r does)
+    pub land_acts : flushing.Lands page s t d.engine.disk.told l.told r → act.EngineActs (call.FlushLand space number) (answer_of (λ (x : Unit {0}). answers.FlushLand) answer) d (record d { engine = flown })
+    land_acts does = acts (call.FlushLand space number) answers.FlushLand (flushing.Lands page s t d.engine.disk.told l.told) (λ steps. record { steps = steps; cloning = refl }) (λ answer taken. refl) does (landed_is d.engine.donor page s t d.engine.disk.told l.told r does)
 
   -- A FLUSH BEGINS, or doesn't.
   module _ (pool : IsPool d.engine.buffer.pool) (old : IsBuffer d.engine.buffer) (k : IsCloning d.cloning) (c : Cloning) (ensures : Ensures d.engine.donor s t d.engine.disk l page r) where
@@ -618,10 +621,10 @@ module _ (d : Donor) (t : flushing.State) (l : DiskState) (space number : ℕ) (
         let on = stays d flown c (like c d.cloning becomes) is on (keeps begin_is) stands in
         record { donor = on.donor; taken = λ taken stands was. on.taken taken was }
 
-    pub begin_acts : (answer : Result (Unit {0}) EngineRefusal) → answer ≡ flush_answer r → (begun : Bool) → steps.has_begun answer ≡ begun → effects.Becomes c (if begun then effects.with_noted (space, number) d.cloning else d.cloning) → act.Acts (act.Calls (flush_begin space number) (answer_of (λ (x : Unit {0}). did_flush_begin space number) answer)) d after
-    begin_acts answer is begun code becomes = subst (λ (a : Result (Unit {0}) EngineRefusal). act.Acts (act.Calls (flush_begin space number) (answer_of (λ (x : Unit {0}). did_flush_begin space number) a)) d after) (sym is) (record {
+    pub begin_acts : (answer : Result (Unit {0}) EngineRefusal) → answer ≡ flush_answer r → (begun : Bool) → steps.has_begun answer ≡ begun → effects.Becomes c (if begun then effects.with_noted (space, number) d.cloning else d.cloning) → act.EngineActs (call.FlushBegin space number) (answer_of (λ (x : Unit {0}). answers.FlushBegin) answer) d after
+    begin_acts answer is begun code becomes = subst (λ (a : Result (Unit {0}) EngineRefusal). act.EngineActs (call.FlushBegin space number) (answer_of (λ (x : Unit {0}). answers.FlushBegin) a) d after) (sym is) (record {
       does = record {
-        steps = flushes (did_flush_begin space number) d.engine flown (flushing.Begins page s t d.engine.disk.told l.told) r refl ensures.begins ensures.counts begins.tells;
+        steps = flushes answers.FlushBegin d.engine flown (flushing.Begins page s t d.engine.disk.told l.told) r refl ensures.begins ensures.counts begins.tells;
         cloning = subst (λ (b : Bool). effects.Becomes c (if b then effects.with_noted (space, number) d.cloning else d.cloning)) (sym is_begun) becomes;
       };
       donor = (goes_as begun was becomes).donor;
@@ -629,23 +632,23 @@ module _ (d : Donor) (t : flushing.State) (l : DiskState) (space number : ℕ) (
           ((goes_as begun was becomes).taken taken (subst (λ (b : Bool). StandsBeside d.engine taken.copies → StandsBeside flown (flushing.after_begin page b taken.copies)) was (begins.copies taken.copies)));
     })
       where
-        same : (r : Result (Unit {0}) EngineRefusal) → steps.has_begun (answer_of (λ (x : Unit {0}). did_flush_begin space number) r) ≡ steps.has_begun r
+        same : (r : Result (Unit {0}) EngineRefusal) → steps.has_begun (answer_of (λ (x : Unit {0}). answers.FlushBegin) r) ≡ steps.has_begun r
         same (Ok x) = refl
         same (Err (Because cause.DiskFault)) = refl
         same (Err refusal) = refl
 
-        is_begun : steps.has_begun (flushed (did_flush_begin space number) r) ≡ begun
+        is_begun : steps.has_begun (flushed answers.FlushBegin r) ≡ begun
         is_begun = same (flush_answer r) ∙ ap (λ (a : Result (Unit {0}) EngineRefusal). steps.has_begun a) (sym is) ∙ code
 
         was : flushing.has_begun r ≡ begun
-        was = sym (begun_is (did_flush_begin space number) r) ∙ is_begun
+        was = sym (begun_is answers.FlushBegin r) ∙ is_begun
 
         goes_as : (b : Bool) → flushing.has_begun r ≡ b → effects.Becomes c (if b then effects.with_noted (space, number) d.cloning else d.cloning) → Goes b
         goes_as true begun becomes = begun_goes begun becomes
         goes_as false none becomes = unbegun_goes none becomes
 
 -- no flush begins for want of memory
-pub unbegun : (d : Donor) (c : Cloning) (space number : ℕ) → IsDonor d → effects.Becomes c d.cloning → act.Acts (act.Calls (flush_begin space number) (Err refusal.NoMemory)) d (record { engine = d.engine; cloning = c })
+pub unbegun : (d : Donor) (c : Cloning) (space number : ℕ) → IsDonor d → effects.Becomes c d.cloning → act.EngineActs (call.FlushBegin space number) (Err refusal.NoMemory) d (record { engine = d.engine; cloning = c })
 unbegun d c space number is becomes =
     let stays = like_stays d c (like c d.cloning becomes) is in
     record {

@@ -30,7 +30,9 @@ use Rattle.clone_engine.proofs.ToldLemmas.{for_told, told_always, told_stays, to
 use Rattle.clone_buffer.specs.Buffered.{Buffered, IsBuffer}
 use Rattle.clone_buffer.specs.Writing.{written}
 use Rattle.clone_outside.specs.Causes.{Rose}
-use Rattle.clone_plain.specs.Calls.{Call, Done, cause_of}
+use Rattle.clone_plain.specs.Calls.{cause_of}
+use Rattle.clone_plain.specs.declared.call.EngineAnswer.{EngineAnswer}
+use Rattle.clone_plain.specs.declared.call.EngineCall.{EngineCall}
 use Rattle.clone_plain.specs.Donor as plain
 use Rattle.clone_plain.specs.declared.refusal.Cause.{Cause}
 use Rattle.clone_plain.specs.declared.refusal.Cause.TheVariants.{DiskFault}
@@ -282,7 +284,7 @@ stays d e c same is goes keeps copies = record {
 
 -- The answer of a call of transactions, as the call that was carried out or why it wasn't.
 
-module _ {X : Type 0} (did : X → Done) where
+module _ {X : Type 0} (did : X → EngineAnswer) where
   -- the answer is a refusal exactly where the call was refused for it
   pub same_refusal : (result : Result X EngineRefusal) (e : EngineRefusal) → answer_of did result ≡ Err e → result ≡ Err e
   same_refusal (Ok x) e is = absurd (let e = is in cc)
@@ -320,21 +322,16 @@ module _ {X : Type 0} (did : X → Done) where
   goes_to (drops table pages records) old new (Err NoMemory) d = d
   goes_to ends old new result ended = (was_ok result ended.0, ended.1)
 
-  carries_to : (d e : plain.Donor) (result : Result X EngineRefusal) (Does : X → Type 0) (Did : Done → Type 0) → ((x : X) → Does x → Did (did x)) → Carries d e result Does → Carries d e (answer_of did result) Did
+  carries_to : (d e : plain.Donor) (result : Result X EngineRefusal) (Does : X → Type 0) (Did : EngineAnswer → Type 0) → ((x : X) → Does x → Did (did x)) → Carries d e result Does → Carries d e (answer_of did result) Did
   carries_to d e (Ok x) Does Did to does = to x does
   carries_to d e (Err refusal) Does Did to same = same
 
-  pub answers_to : (cause : Option Cause) (w : Way) (d e : plain.Donor) (old new : Buffered) (result : Result X EngineRefusal) (Does : X → Type 0) (Did : Done → Type 0) → ((x : X) → Does x → Did (did x)) → Answers cause w d e old new result Does
+  pub answers_to : (cause : Option Cause) (w : Way) (d e : plain.Donor) (old new : Buffered) (result : Result X EngineRefusal) (Does : X → Type 0) (Did : EngineAnswer → Type 0) → ((x : X) → Does x → Did (did x)) → Answers cause w d e old new result Does
       → Answers cause w d e old new (answer_of did result) Did
   answers_to (Some cause) w d e old new result Does Did to a = (refused result (Because cause) a.0, a.1, a.2)
   answers_to None w d e old new result Does Did to a = (goes_to w old new result a.0, carries_to d e result Does Did to a.1)
 
--- where no table is made, no file is
-pub still_flown : {X : Type 0} (did : X → Done) (result : Result X EngineRefusal) (f : Flights) → ((x : X) → flown (Ok (did x)) f ≡ f) → f ≡ flown (answer_of did result) f
-still_flown did (Ok x) f still = sym (still x)
-still_flown did (Err refusal) f still = refl
-
-module _ {X : Type 0} (did : X → Done) (call : Call) (s t : Engine) (result : Result X EngineRefusal) (Does : X → Type 0) (to : (x : X) → Does x → Did call s t (did x)) where
+module _ {X : Type 0} (did : X → EngineAnswer) (call : EngineCall) (s t : Engine) (result : Result X EngineRefusal) (Does : X → Type 0) (to : (x : X) → Does x → Did call s t (did x)) where
   pub goes_of : Answers (cause_of s.donor call) (way_of s.donor call) s.donor t.donor s.buffer t.buffer result Does → steps.Goes call s t (answer_of did result)
   goes_of a = by result (answers_to did (cause_of s.donor call) (way_of s.donor call) s.donor t.donor s.buffer t.buffer result Does (Did call s t) to a)
     where
@@ -344,7 +341,7 @@ module _ {X : Type 0} (did : X → Done) (call : Call) (s t : Engine) (result : 
       by (Err NoMemory) follows = inr follows
 
   -- THE STEP OF A CALL OF TRANSACTIONS
-  pub transacts : t.flights ≡ flown (answer_of did result) s.flights → Answers (cause_of s.donor call) (way_of s.donor call) s.donor t.donor s.buffer t.buffer result Does → Visits s.disk t.disk → (result ≡ Err (Because DiskFault) → Rose s.disk.failures t.disk.failures) → Holds call s.disk.told t.disk.told
+  pub transacts : t.flights ≡ flown call (answer_of did result) s.flights → Answers (cause_of s.donor call) (way_of s.donor call) s.donor t.donor s.buffer t.buffer result Does → Visits s.disk t.disk → (result ≡ Err (Because DiskFault) → Rose s.disk.failures t.disk.failures) → Holds call s.disk.told t.disk.told
       → Transacts call s t (answer_of did result)
   transacts flights a visits fault holds = record {
     goes = goes_of a;
@@ -376,13 +373,13 @@ module _ (d : Donor) (e : plain.Donor) (b : Buffered) (l : DiskState) where
       (λ copies. stays_flown d.engine.flights copies d.engine.buffer b d.engine.disk.told l.told told (stands (beside_of d.engine.flights copies)) leaves.grows.floor)
 
   -- THE ACT, by what is done where the call is carried out
-  pub acts : {X : Type 0} (did : X → Done) (call : Call) (result : Result X EngineRefusal) (Does : X → Type 0) (most : ℕ) → ((answer : Result Done EngineRefusal) → Transacts call d.engine after answer → AnswersCall call d (record d { engine = after }) answer) → ((answer : Result Done EngineRefusal) (taken : Taken) → taken_by call answer taken ≡ taken) → ((x : X) → Does x → Did call d.engine after (did x)) → ((x : X) → flown (Ok (did x)) d.engine.flights ≡ d.engine.flights)
+  pub acts : {X : Type 0} (did : X → EngineAnswer) (call : EngineCall) (result : Result X EngineRefusal) (Does : X → Type 0) (most : ℕ) → ((answer : Result EngineAnswer EngineRefusal) → Transacts call d.engine after answer → AnswersCall call d (record d { engine = after }) answer) → ((answer : Result EngineAnswer EngineRefusal) (taken : Taken) → taken_by call answer taken ≡ taken) → ((x : X) → Does x → Did call d.engine after (did x)) → ((answer : Result EngineAnswer EngineRefusal) → flown call answer d.engine.flights ≡ d.engine.flights)
       → IsDonor d → IsBuffer b → Leaves most d.engine.donor e d.engine.buffer b → LogGoes d.engine after → Keeps e b → Answers (cause_of d.engine.donor call) (way_of d.engine.donor call) d.engine.donor e d.engine.buffer b result Does → Reads (IsErrOf result (Because DiskFault)) d.engine.disk l → Holds call d.engine.disk.told l.told → StaysStanding d.engine.buffer b d.engine.disk.told l.told
-      → act.Acts (act.Calls call (answer_of did result)) d (record d { engine = after })
+      → act.EngineActs call (answer_of did result) d (record d { engine = after })
   acts did call result Does most serves same to still is buffer leaves log kept answer asks holds stands =
       let on = goes_on most is buffer leaves log kept stands asks.told in
       record {
-        does = serves (answer_of did result) (transacts did call d.engine after result Does to (still_flown did result d.engine.flights still) answer (record { later = asks.later; orders = asks.orders; tells = ap is_some asks.told }) asks.fault holds);
+        does = serves (answer_of did result) (transacts did call d.engine after result Does to (sym (still (answer_of did result))) answer (record { later = asks.later; orders = asks.orders; tells = ap is_some asks.told }) asks.fault holds);
         donor = on.donor;
         taken = λ taken was. subst (IsTaken (record d { engine = after })) (sym (same (answer_of did result) taken)) (on.taken taken was);
       }

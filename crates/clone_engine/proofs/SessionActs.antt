@@ -1,5 +1,9 @@
 -- The calls of a clone, made on a donor, but for its blocks.
-use Rattle.std.proofs.Common.{[], ◌≡◌, ◌∙◌, ℕ, refl, sym, ap, subst, Option, Some, None, Result, Ok, Err, is_some, ◌≤◌, Bool, true, false, IfSome, nat_lt, nat_le, ◌&&◌, if◌then◌else◌, List, length, arith, ◌==◌, option_map}
+use Rattle.std.proofs.Common.{IfOk, ◌⊎◌, inl, inr, ◌≢◌, eqb-true, MatchResult, [], ◌≡◌, ◌∙◌, ℕ, refl, sym, ap, subst, Option, Some, None, Result, Ok, Err, is_some, ◌≤◌, Bool, true, false, IfSome, nat_lt, nat_le, ◌&&◌, if◌then◌else◌, List, length, arith, ◌==◌, option_map}
+use Rattle.std.specs.Prelude.{IsErr, IsErrAnd}
+use Rattle.std.proofs.lemmas.Bool.{cases_eq}
+use Rattle.clone_chunk.specs.Stages.{stage_number}
+use Rattle.clone_session.specs.declared.ending.Moment.{Moment}
 use Rattle.clone_outside.specs.Disk.{DiskImage, ForTold}
 use Rattle.clone_outside.specs.DiskCalls.{DiskState, Orders}
 use Rattle.clone_outside.specs.declared.disk.DiskOrder.{DiskOrder}
@@ -14,10 +18,17 @@ use Rattle.clone_chunk.specs.declared.cause.CloneCause.{CloneCause}
 use Rattle.clone_session.specs.Cloning.{Cloning, Session, CopiesPages, IsCloning, IsInSession, IsInStage, IsIdle}
 use Rattle.clone_session.specs.declared.refusal.CloneRefusal.{CloneRefusal}
 use Rattle.clone_session.specs.declared.refusal.CloneRefusal.TheVariants.{Because, NoMemory}
-use Rattle.clone_session.specs.CloneCalls.{Claims, Decided, CanArchive, Archives, archived_on, Acknowledges}
-use Rattle.clone_session.specs.Effects.{Becomes, aside, left, advanced, files_ended, pages_ended, stopped_at, Tells, opened, reopened}
+use Rattle.clone_session.specs.CloneCalls.{Claims, Decided, CanArchive, Archives, archived_on, Acknowledges, Reinits}
+use Rattle.clone_chunk.specs.declared.partials.PartialChunk.{PartialChunk}
+use Rattle.clone_session.specs.Effects.{Becomes, aside, left, acknowledged, advanced, created_since, rejoined, files_ended, pages_ended, stopped_at, Tells, opened, reopened}
 use Rattle.clone_session.proofs.PartLemmas.{stands_as}
+use Rattle.clone_calls.specs.declared.answer.DonorAnswer.{DonorAnswer}
+use Rattle.clone_calls.specs.declared.answer.DonorAnswer.TheVariants as answer
+use Rattle.clone_calls.specs.declared.call.DonorCall.{DonorCall}
+use Rattle.clone_calls.specs.declared.call.DonorCall.TheVariants as call
 use Rattle.clone_engine.specs.Acts as act
+use Rattle.clone_engine.specs.Answering as answering
+use Rattle.clone_engine.specs.Answering.{Answered, CarriesOut, CarriesOutFreely, taken_on}
 use Rattle.clone_engine.specs.Donor.{Donor, IsDonor, NotesPages, CopiesOwn, list_of, ArePages, HasPages, known_files}
 use Rattle.clone_engine.proofs.MomentLemmas.{can_same, can_settled, can_unarchived, can_archived, IsInRing, can_begun, can_stopped, nearest_in_ring, of_archived, floor_above, of_begun, of_stopped}
 use Rattle.clone_engine.proofs.GoingLemmas.{stopped_as, Like, like, like_same, like_session, like_trans, KeepsPages, Stays, is_taken, noted_stay, own_stays, same_files, same_image, taken_grows, in_stays}
@@ -30,7 +41,8 @@ use Rattle.clone_buffer.specs.Flushing.{IsReached}
 use Rattle.clone_buffer.specs.OnePage.{Copies, no_copies}
 use Rattle.clone_pool.specs.Pool.{IsPool, AreOpenPages}
 use Rattle.clone_flush.proofs.FlightLemmas.{floor_settled, stands_checked, stands_settled, start_told}
-use Rattle.clone_plain.specs.Calls.{checkpoint, did_checkpoint}
+use Rattle.clone_plain.specs.declared.call.EngineAnswer.TheVariants as answers
+use Rattle.clone_plain.specs.declared.call.EngineCall.TheVariants as to_engine
 use Rattle.clone_engine.specs.Archives.{IsOfLog}
 use Rattle.clone_engine.specs.Engine.{Engine, IsEngine, StandsBeside}
 use Rattle.clone_engine.specs.Taken.{Taken, IsTaken, IsTakenBy, nothing, HasStopped, IsTakenIn}
@@ -42,7 +54,7 @@ use Rattle.clone_session.specs.declared.info.Stop.{Stop}
 use Rattle.clone_engine.specs.Copies.{AreInFiles, AreInPages, AreStopped, files_over, first_copies}
 use Rattle.std.proofs.lemmas.List.{append-nil}
 use Rattle.clone_session.specs.declared.info.StageInfo.{StageInfo}
-use Rattle.clone_session.specs.CloneCauses.{donor_stage}
+use Rattle.clone_session.specs.CloneCauses.{acknowledgement_cause, attach_cause, donor_stage, hello_cause}
 use Rattle.clone_engine.specs.Copying.{moment_of, taken_after, taken_over, BeginsAs, taken_at}
 use Rattle.std.specs.FinMap as finite
 use Rattle.clone_buffer.specs.Reading.{OthersAreClosed}
@@ -93,11 +105,38 @@ pub refused_becomes : {X : Type 0} (cause : Option CloneCause) (old new : Clonin
 refused_becomes cause old new (Because e) Does is = ap aside is.1
 refused_becomes cause old new NoMemory Does is = is.1
 
--- A call of a clone was refused, or took nothing.
-pub refuses : (d : Donor) (c : Cloning) → IsDonor d → Becomes c d.cloning → act.Acts act.Refuse d (record { engine = d.engine; cloning = c })
-refuses d c is becomes =
-    let stays = like_stays d c (like c d.cloning becomes) is in
-    record { does = (becomes, refl); donor = stays.donor; taken = stays.taken }
+-- A CALL OF A CLONE that leaves what its session copies, and what was taken.
+pub quiet_acts : (asked : DonorCall) (given : DonorAnswer) (d : Donor) (c : Cloning) → Like c d.cloning → IsDonor d → ((taken : Taken) → taken_on asked given d (record { engine = d.engine; cloning = c }) taken ≡ taken)
+    → Answered asked given d (record { engine = d.engine; cloning = c }) → act.CloneActs asked given d (record { engine = d.engine; cloning = c })
+quiet_acts asked given d c same is quiet does =
+    let stays = like_stays d c same is in
+    record { does = does; donor = stays.donor; taken = λ taken was. subst (IsTaken (record { engine = d.engine; cloning = c })) (sym (quiet taken)) (stays.taken taken was) }
+
+-- it was refused, or memory ran out
+pub refused_out : {X Y : Type 0} (cause : Option CloneCause) (d : Donor) (c : Cloning) (why : CloneRefusal) (Did : Y → Type 0) (Does : X → Type 0) → Decided cause d.cloning c (Err why) Did → CarriesOut cause (Err why) d (record { engine = d.engine; cloning = c }) Does
+refused_out cause d c (Because why) Did Does is = (is.0, λ i. record { engine = d.engine; cloning = is.1 i })
+refused_out cause d c NoMemory Did Does is = (is.0, (is.1, refl))
+
+pub refused_like : {X : Type 0} (cause : Option CloneCause) (d : Donor) (c : Cloning) (why : CloneRefusal) (Did : X → Type 0) → Decided cause d.cloning c (Err why) Did → Like c d.cloning
+refused_like cause d c why Did is = like c d.cloning (refused_becomes cause d.cloning c why Did is)
+
+-- a result that is this refusal, or some
+pub err_is : {X E : Type 0} (r : Result X E) (e : E) → IsErrAnd r (λ y. y ≡ e) → r ≡ Err e
+err_is (Ok x) e is = absurd is
+err_is (Err y) e is = ap (λ (z : _). Err z) is
+
+pub by_err : {X E : Type 0} (r : Result X E) (P : Result X E → Type 0) → IsErr r → ((e : E) → P (Err e)) → P r
+by_err (Ok x) P is to = absurd (let e = is in cc)
+by_err (Err e) P is to = to e
+
+-- it takes no memory, and changes nothing
+pub freely : {X : Type 0} (P : X → Type 0) (cause : Option CloneCause) (d : Donor) (result : Result X CloneCause) → MatchResult result (λ x. (cause ≡ None) × P x) (λ why. cause ≡ Some why) → CarriesOutFreely cause result d d (λ x. P x × (d ≡ d))
+freely P cause d (Ok x) is = (is.0, (is.1, refl))
+freely P cause d (Err why) is = (is, refl)
+
+pub freely_none : {X : Type 0} (cause : Option CloneCause) (d : Donor) (result : Result X CloneCause) → MatchResult result (λ _. cause ≡ None) (λ why. cause ≡ Some why) → CarriesOutFreely cause result d d (λ _. d ≡ d)
+freely_none cause d (Ok x) is = (is, refl)
+freely_none cause d (Err why) is = (is, refl)
 
 -- A CLAIM
 claims_like : (caller : Caller) (stage : ℕ) (old new : Cloning) (result : Result (Option ℕ) CloneCause) → Claims caller stage old new result → Like new old
@@ -106,10 +145,36 @@ claims_like caller stage old new (Ok (Some chunk)) is =
     subst (λ (c : Cloning). Like c old) (sym is.1.2.1) (like_session old is.1.0 _ (stands_as old.session caller.session is.1.0 is.1.1) refl)
 claims_like caller stage old new (Err cause) is = subst (λ (c : Cloning). Like c old) (sym is.1) (like_same old)
 
-pub claims : (d : Donor) (c : Cloning) (caller : Caller) (stage : ℕ) (result : Result (Option ℕ) CloneCause) → IsDonor d → Claims caller stage d.cloning c result → act.Acts (act.Claim caller stage result) d (record { engine = d.engine; cloning = c })
-claims d c caller stage result is did =
-    let stays = like_stays d c (claims_like caller stage d.cloning c result did) is in
-    record { does = (did, refl); donor = stays.donor; taken = stays.taken }
+pub claims : (d : Donor) (c : Cloning) (caller : Caller) (stage : ℕ) (result : Result (Option ℕ) CloneCause) → IsDonor d → Claims caller stage d.cloning c result → act.CloneActs (call.Claim caller stage) (answer.Claim result) d (record { engine = d.engine; cloning = c })
+claims d c caller stage result is did = quiet_acts (call.Claim caller stage) (answer.Claim result) d c (claims_like caller stage d.cloning c result did) is (λ taken. refl) (did, refl)
+
+-- A TASK JOINS the session.
+pub attaches : (d : Donor) (caller : Caller) (result : Result StageInfo CloneRefusal) → IsDonor d → Decided (attach_cause d.cloning caller) d.cloning d.cloning result (Tells d.cloning) → act.CloneActs (call.Attach caller) (answer.Attach result) d d
+attaches d caller result is decided = quiet_acts (call.Attach caller) (answer.Attach result) d d.cloning (like_same d.cloning) is (λ taken. refl) (by result decided, refl)
+  where
+    by : (r : Result StageInfo CloneRefusal) → Decided (attach_cause d.cloning caller) d.cloning d.cloning r (Tells d.cloning) → CarriesOut (attach_cause d.cloning caller) r d d (Tells d.cloning)
+    by (Ok info) is = is
+    by (Err why) is = refused_out (attach_cause d.cloning caller) d d.cloning why (Tells d.cloning) (Tells d.cloning) is
+
+-- A LATER INCARNATION JOINS the session.
+rejoins_like : (caller : Caller) (stage : ℕ) (bitmap : List ℕ) (partials : List PartialChunk) (info : StageInfo) (old new : Cloning) → Reinits caller stage bitmap partials old new info → Like new old
+rejoins_like caller stage bitmap partials info old new did =
+    let s = did.0 in
+    let on = did.2 in
+    like_trans new (rejoined caller.incarnation on.0 s old) old (like new (rejoined caller.incarnation on.0 s old) on.3) (like_session old s (record s { incarnation = caller.incarnation; snap = on.0 }) (stands_as old.session caller.session s did.1) on.1)
+
+module _ (d : Donor) (c : Cloning) (cause : Option CloneCause) (caller : Caller) (stage : ℕ) (bitmap : List ℕ) (partials : List PartialChunk) where
+  abbrev joined : Donor
+  joined = record { engine = d.engine; cloning = c }
+
+  pub rejoins_out : (result : Result StageInfo CloneRefusal) → Decided cause d.cloning c result (Reinits caller stage bitmap partials d.cloning c)
+      → CarriesOut cause result d joined (λ info. Reinits caller stage bitmap partials d.cloning c info × (d.engine ≡ d.engine))
+  rejoins_out (Ok info) decided = (decided.0, (decided.1, refl))
+  rejoins_out (Err why) decided = refused_out cause d c why (Reinits caller stage bitmap partials d.cloning c) (λ info. Reinits caller stage bitmap partials d.cloning c info × (d.engine ≡ d.engine)) decided
+
+  pub rejoined_like : (result : Result StageInfo CloneRefusal) → Decided cause d.cloning c result (Reinits caller stage bitmap partials d.cloning c) → Like c d.cloning
+  rejoined_like (Ok info) decided = rejoins_like caller stage bitmap partials info d.cloning c decided.1
+  rejoined_like (Err why) decided = refused_like cause d c why (Reinits caller stage bitmap partials d.cloning c) decided
 
 -- A donor whose clone has changed, and whose log was let go then: all of it that isn't needed from
 -- an LSN on, which is the last checkpoint, or one that is taken there.
@@ -190,7 +255,7 @@ module _ (d : Donor) (c : Cloning) (is : IsDonor d) (buffer : IsBuffer d.engine.
 
 -- A CHECKPOINT
 pub checks : (d : Donor) (lsn : ℕ) → IsDonor d → IsBuffer d.engine.buffer → IsPool d.engine.buffer.pool → IsReached d.engine.buffer lsn
-    → act.Acts (act.Calls checkpoint (Ok (did_checkpoint lsn))) d (record d { engine = let_go lsn d.cloning d.engine })
+    → act.EngineActs to_engine.Checkpoint (Ok (answers.Checkpoint lsn)) d (record d { engine = let_go lsn d.cloning d.engine })
 checks d lsn is buffer pool reached = record {
   does = record { steps = record { reached = reached; state = refl; donor = refl; disk = refl }; cloning = refl };
   donor = donor_let_go d d.cloning lsn is buffer left stood;
@@ -234,13 +299,13 @@ module _ (d : Donor) (c : Cloning) (becomes : Becomes c (left d.cloning)) where
   stage (Some m) log = subst (IsTakenBy c log nothing) (sym gone.list) (λ space number. refl)
 
   -- THE SESSION ENDS
-  pub leaves_acts : IsDonor d → IsBuffer d.engine.buffer → act.Acts act.Leave d (settled_as d c)
-  leaves_acts is buffer = record {
-    does = (becomes, refl);
+  pub leaves_acts : (asked : DonorCall) (given : DonorAnswer) → ((taken : Taken) → taken_on asked given d (settled_as d c) taken ≡ nothing) → (answering.Leaves d (settled_as d c) → Answered asked given d (settled_as d c)) → IsDonor d → IsBuffer d.engine.buffer → act.CloneActs asked given d (settled_as d c)
+  leaves_acts asked given gone does is buffer = record {
+    does = does (becomes, refl);
     donor = settled_donor d c is buffer leaves;
-    taken = λ taken was.
+    taken = λ taken was. subst (IsTaken (settled_as d c)) (sym (gone taken)) (
         let flown = for_told (IsFlown d.engine.buffer d.engine.flights taken.copies) (IsFlown d.engine.buffer d.engine.flights no_copies) d.engine.disk.told (λ m flown. left_flown d.engine.buffer d.engine.flights m taken.copies flown) was.stands in
-        settled_taken d c is buffer leaves nothing flown (stage d.engine.disk.told d.engine.buffer.log);
+        settled_taken d c is buffer leaves nothing flown (stage d.engine.disk.told d.engine.buffer.log));
   }
 
 -- More of the log is archived, before the log is settled.
@@ -313,7 +378,7 @@ module _ (d : Donor) (c : Cloning) (limit : ℕ) (is : IsDonor d) (buffer : IsBu
   archives_did (Some lsn) did = did
 
   -- MORE OF THE LOG IS ARCHIVED
-  pub archives_acts : (reached : Option ℕ) → Archives {E = AllocError} limit d.engine.buffer.ring d.cloning c (Ok reached) → act.Acts (act.Archive limit reached) d (settled_as d c)
+  pub archives_acts : (reached : Option ℕ) → Archives {E = AllocError} limit d.engine.buffer.ring d.cloning c (Ok reached) → act.CloneActs (call.Archive limit) (answer.Archive (Ok reached)) d (settled_as d c)
   archives_acts reached did =
       let leaves = archives_leaves reached did in
       record {
@@ -341,7 +406,7 @@ module _ (d : Donor) (c : Cloning) where
     pub left : Left d c
     pub taken : (taken : Taken) (m : DiskImage) → d.engine.disk.told ≡ Some m → Flown taken m → By d.cloning taken → Flown (to taken) m × By c (to taken)
 
-module _ (d : Donor) (c : Cloning) (s : Session) (is : IsDonor d) (buffer : IsBuffer d.engine.buffer) (stands : d.cloning.session ≡ Some s) where
+module _ (d : Donor) (c : Cloning) (s : Session) (is : IsDonor d) (buffer : IsBuffer d.engine.buffer) (stands : d.cloning.session ≡ Some s) (files : List (ℕ × ℕ)) where
   abbrev base : ℕ
   base = nearest_in d.engine.buffer.ring d.engine.flights.checkpoint
 
@@ -357,11 +422,11 @@ module _ (d : Donor) (c : Cloning) (s : Session) (is : IsDonor d) (buffer : IsBu
   }
 
   -- THE COPY OF FILES ENDS
-  files_end : (spaces : List (ℕ × ℕ)) → s.snap.list ≡ lists.Files spaces → Becomes c (files_ended (moment_of d.engine) s d.cloning) → Ends d c (taken_over d.engine (lists.Files spaces))
-  files_end spaces list becomes = record { left = left; taken = goes }
+  files_end : (spaces created : List (ℕ × ℕ)) → s.snap.list ≡ lists.Files spaces → Becomes c (files_ended (moment_of d.engine) created s d.cloning) → Ends d c (taken_over d.engine (lists.Files spaces))
+  files_end spaces created list becomes = record { left = left; taken = goes }
     where
-      same : Like c (files_ended (moment_of d.engine) s d.cloning)
-      same = like c (files_ended (moment_of d.engine) s d.cloning) becomes
+      same : Like c (files_ended (moment_of d.engine) created s d.cloning)
+      same = like c (files_ended (moment_of d.engine) created s d.cloning) becomes
 
       in_ring : IsInRing d.engine.buffer.ring base
       in_ring = nearest_in_ring d.engine.buffer.ring d.engine.flights.checkpoint
@@ -426,7 +491,7 @@ module _ (d : Donor) (c : Cloning) (s : Session) (is : IsDonor d) (buffer : IsBu
             (over.0, subst (IsTakenBy c (log d c) after) (sym stops.list) (for_one (HasStopped c (log d c) after) c.archive (stopped end a) stops.archive stopped_is))
 
   -- THE COPY OF REDO ENDS, and nothing is copied any more
-  redo_ends : (start end : ℕ) → s.snap.list ≡ lists.Redo start end → Becomes c (advanced (moment_of d.engine) s (lists.Redo start end) d.cloning) → Ends d c (λ taken. taken)
+  redo_ends : (start end : ℕ) → s.snap.list ≡ lists.Redo start end → Becomes c (advanced (moment_of d.engine) files s (lists.Redo start end) d.cloning) → Ends d c (λ taken. taken)
   redo_ends start end list becomes = record {
     left = record {
       ring = same.ring;
@@ -442,30 +507,48 @@ module _ (d : Donor) (c : Cloning) (s : Session) (is : IsDonor d) (buffer : IsBu
     );
   }
     where
-      same : Like c (advanced (moment_of d.engine) s (lists.Redo start end) d.cloning)
-      same = like c (advanced (moment_of d.engine) s (lists.Redo start end) d.cloning) becomes
+      same : Like c (advanced (moment_of d.engine) files s (lists.Redo start end) d.cloning)
+      same = like c (advanced (moment_of d.engine) files s (lists.Redo start end) d.cloning) becomes
 
-  on_list : (l : lists.StageList) → s.snap.list ≡ l → IsInStage d.cloning s l → Becomes c (advanced (moment_of d.engine) s l d.cloning) → Ends d c (taken_over d.engine l)
-  on_list (lists.Files spaces) list in_stage becomes = files_end spaces list becomes
+  on_list : (l : lists.StageList) → s.snap.list ≡ l → IsInStage d.cloning s l → Becomes c (advanced (moment_of d.engine) files s l d.cloning) → Ends d c (taken_over d.engine l)
+  on_list (lists.Files spaces) list in_stage becomes = files_end spaces (created_since spaces files) list becomes
   on_list (lists.Pages pages) list in_stage becomes = pages_end s.snap.room pages list in_stage becomes
   on_list (lists.Redo start end) list in_stage becomes = redo_ends start end list becomes
   on_list lists.Nothing list in_stage becomes = same_ends (like c d.cloning becomes)
 
-  by_stage : (own : Bool) → IsInStage d.cloning s s.snap.list → Becomes c (if own then advanced (moment_of d.engine) s s.snap.list d.cloning else d.cloning) → Ends d c (λ taken. if own then taken_over d.engine s.snap.list taken else taken)
+  by_stage : (own : Bool) → IsInStage d.cloning s s.snap.list → Becomes c (if own then advanced (moment_of d.engine) files s s.snap.list d.cloning else d.cloning) → Ends d c (λ taken. if own then taken_over d.engine s.snap.list taken else taken)
   by_stage true in_stage becomes = on_list s.snap.list refl in_stage becomes
   by_stage false in_stage becomes = same_ends (like c d.cloning becomes)
 
+-- an acknowledgement of another stage than the copy of files asks for no files
+pub for_files : (now : Moment) (files known : List (ℕ × ℕ)) (stage : ℕ) (s : Session) (c : Cloning) → (stage ≡ 1 → files ≡ known) → acknowledged now files stage s c ≡ acknowledged now known stage s c
+for_files now files known stage s c at = by (cases_eq stage 1)
+  where
+    same : (l : lists.StageList) → (stage ≡ 1 → ⊥) → (stage == stage_number (lists.stage_of l)) ≡ true → advanced now files s l c ≡ advanced now known s l c
+    same (lists.Files spaces) other own = absurd (other (eqb-true stage 1 own))
+    same (lists.Pages pages) other own = refl
+    same (lists.Redo from until) other own = refl
+    same lists.Nothing other own = refl
+
+    chosen : (own : Bool) → (stage ≡ 1 → ⊥) → (stage == donor_stage s) ≡ own → (if own then advanced now files s s.snap.list c else c) ≡ (if own then advanced now known s s.snap.list c else c)
+    chosen true other own = same s.snap.list other own
+    chosen false other own = refl
+
+    by : (stage ≡ 1) ⊎ (stage ≢ 1) → acknowledged now files stage s c ≡ acknowledged now known stage s c
+    by (inl first) = ap (λ (f : List (ℕ × ℕ)). acknowledged now f stage s c) (at first)
+    by (inr other) = chosen (stage == donor_stage s) other refl
+
 -- A STAGE IS ACKNOWLEDGED
-module _ (d : Donor) (c : Cloning) (is : IsDonor d) (buffer : IsBuffer d.engine.buffer) (cloning : IsCloning d.cloning) (caller : Caller) (stage : ℕ) (info : StageInfo) (did : Acknowledges (moment_of d.engine) caller.session stage d.cloning c info) where
+module _ (d : Donor) (c : Cloning) (is : IsDonor d) (buffer : IsBuffer d.engine.buffer) (cloning : IsCloning d.cloning) (caller : Caller) (stage floor : ℕ) (info : StageInfo) (none : acknowledgement_cause d.cloning caller stage floor (moment_of d.engine).position ≡ None) (did : Acknowledges (moment_of d.engine) (known_files d.engine) caller.session stage d.cloning c info) where
   -- what is taken, where this session stands
-  abbrev taken_on : Option Session → Taken → Taken
-  taken_on o taken = option_map_or (λ (s : Session). if stage == donor_stage s then taken_over d.engine s.snap.list taken else taken) o taken
+  abbrev taken_where : Option Session → Taken → Taken
+  taken_where o taken = option_map_or (λ (s : Session). if stage == donor_stage s then taken_over d.engine s.snap.list taken else taken) o taken
 
   acked : Ends d c (taken_after d stage)
   acked =
       let s = did.0 in
       let stands : d.cloning.session ≡ Some s = stands_as d.cloning.session caller.session s did.1 in
-      subst (λ (o : Option Session). Ends d c (taken_on o)) (sym stands) (by_stage d c s is buffer stands (stage == donor_stage s) (subst (IsInSession d.cloning) stands cloning.session).2 did.2)
+      subst (λ (o : Option Session). Ends d c (taken_where o)) (sym stands) (by_stage d c s is buffer stands (known_files d.engine) (stage == donor_stage s) (subst (IsInSession d.cloning) stands cloning.session).2 did.2)
 
   abbrev Both : Taken → DiskImage → Type 0
   Both taken m = Flown d c (taken_after d stage taken) m × By d c c (taken_after d stage taken)
@@ -474,9 +557,9 @@ module _ (d : Donor) (c : Cloning) (is : IsDonor d) (buffer : IsBuffer d.engine.
   both taken None is flown by = tt
   both taken (Some m) is flown by = acked.taken taken m is flown by
 
-  pub acks : act.Acts (act.Ack caller stage info) d (settled_as d c)
+  pub acks : act.CloneActs (call.Ack caller stage floor) (answer.Ack (Ok info)) d (settled_as d c)
   acks = record {
-    does = record { acknowledges = did; settles = refl };
+    does = (none, record { acknowledges = did; settles = refl });
     donor = settled_donor d c is buffer acked.left;
     taken = λ taken was.
         let after = taken_after d stage taken in
@@ -540,9 +623,9 @@ module _ (d : Donor) (c : Cloning) (hello : Hello) (in_flight : List (ℕ × ℕ
             (λ m has. subst (IsTakenBy c d.engine.buffer.log after) (sym same.list) (subst (λ (o : Option Pages). AreInFiles o after.copies) (sym same.pages) has.1)) has;
       }))
 
-  pub opened_acts : IsBuffer d.engine.buffer → IsPool d.engine.buffer.pool → AreOpenPages d.engine.buffer.pool.frames in_flight → ListsOpen d.engine in_flight → Tells c info → act.Acts (act.Begin hello info) d t
-  opened_acts buffer pool opens closed tells = record {
-    does = record { engine = refl; begins = subst (BeginsAs hello d t) (sym none) (in_flight, opens, becomes); tells = tells };
+  pub opened_acts : IsBuffer d.engine.buffer → IsPool d.engine.buffer.pool → AreOpenPages d.engine.buffer.pool.frames in_flight → ListsOpen d.engine in_flight → hello_cause d.cloning hello ≡ None → Tells c info → act.CloneActs (call.Init hello) (answer.Init (Ok info)) d t
+  opened_acts buffer pool opens closed free tells = record {
+    does = (free, record { engine = refl; begins = subst (BeginsAs hello d t) (sym none) (in_flight, opens, becomes); tells = tells });
     donor = opened_donor buffer pool opens;
     taken = λ taken was. opened_taken buffer closed taken;
   }
@@ -555,11 +638,11 @@ module _ (d : Donor) (c : Cloning) (hello : Hello) (s : Session) (info : StageIn
   reopened_like : Like c d.cloning
   reopened_like = like_trans c (reopened hello s d.cloning) d.cloning (like c (reopened hello s d.cloning) becomes) (like_session d.cloning s _ stands refl)
 
-  pub reopened_acts : IsDonor d → Tells c info → act.Acts (act.Begin hello info) d u
-  reopened_acts is tells =
+  pub reopened_acts : IsDonor d → hello_cause d.cloning hello ≡ None → Tells c info → act.CloneActs (call.Init hello) (answer.Init (Ok info)) d u
+  reopened_acts is free tells =
       let stays = like_stays d c reopened_like is in
       record {
-        does = record { engine = refl; begins = subst (BeginsAs hello d u) (sym stands) becomes; tells = tells };
+        does = (free, record { engine = refl; begins = subst (BeginsAs hello d u) (sym stands) becomes; tells = tells });
         donor = stays.donor;
         taken = λ taken was. subst (λ (o : Option Session). IsTaken u (taken_at d u o taken)) (sym stands) (stays.taken taken was);
       }

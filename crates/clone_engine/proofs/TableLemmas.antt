@@ -57,7 +57,10 @@ use Rattle.clone_trx.specs.Sound.{HasSize}
 use Rattle.clone_trx.specs.Ways.{Way, Answers, StaysOutsideFiles, CarriesDrop, Drops, Goes, StaysOutside, StaysStanding, held, page_in}
 use Rattle.clone_trx.proofs.CreateLemmas.{no_space}
 use Rattle.std.specs.Prelude.{IsErrOf}
-use Rattle.clone_plain.specs.Calls.{Call, Done, create, did_create, did_drop, drop}
+use Rattle.clone_plain.specs.declared.call.EngineAnswer.{EngineAnswer}
+use Rattle.clone_plain.specs.declared.call.EngineAnswer.TheVariants as answers
+use Rattle.clone_plain.specs.declared.call.EngineCall.{EngineCall}
+use Rattle.clone_plain.specs.declared.call.EngineCall.TheVariants as to_engine
 use Rattle.clone_engine.specs.Growth.{Makes, PagesStay, GoesOn}
 use Rattle.clone_engine.proofs.GoingLemmas.{transacts, goes_to, same_refusal, of_few, like_same, Stays, donor_goes, is_taken}
 use Rattle.clone_engine.proofs.WayLemmas.{create_grows, create_stay, records_stay, Grows, WritesOf, goes_grows, of_tables}
@@ -257,7 +260,7 @@ unknown_is None p is none = sym is
 unknown_is (Some n) p is none = absurd (true≢false none)
 
 -- the file of a table that is made, or isn't
-pub left_flown : (f : Flights) (table buckets : ℕ) (made : Result (Unit {0}) EngineRefusal) → finite.get f.files table ≡ None → steps.left_unmade made table (with_file table buckets f) ≡ steps.flown (steps.answer_of (λ (x : Unit {0}). did_create table buckets) made) f
+pub left_flown : (f : Flights) (table buckets : ℕ) (made : Result (Unit {0}) EngineRefusal) → finite.get f.files table ≡ None → steps.left_unmade made table (with_file table buckets f) ≡ steps.flown (to_engine.Create table buckets) (steps.answer_of (λ (x : Unit {0}). answers.Create) made) f
 left_flown f table buckets (Ok x) unknown = refl
 left_flown f table buckets (Err refusal) unknown = λ i. record f { files = removed_again nat_cmp_total exact_unsigned f.files table buckets unknown i }
 
@@ -298,8 +301,8 @@ module _ (k l : DiskState) (table buckets : ℕ) {X : Type 0} (result : Result X
 -- transactions answer
 module _ (d e : Donor) (old new : Buffered) (f : Flights) (k l : DiskState) (table buckets : ℕ) (is : IsEngine (engine d old f k)) (was : IsBuffer old) (buffer : IsBuffer new) (ranges : (1 ≤ table) × (table ≤ 1000000) × (buckets ≤ MOST_PAGES)) (unknown : finite.get f.files table ≡ None) (kept : Keeps e new)
     (stays : StaysOutsideFiles table old new k.told l.told) where
-  abbrev did : Unit {0} → Done
-  did x = did_create table buckets
+  abbrev did : Unit {0} → EngineAnswer
+  did x = answers.Create
 
   abbrev Does : Unit {0} → Type 0
   Does x = e ≡ created table buckets d
@@ -416,18 +419,18 @@ module _ (d e : Donor) (old new : Buffered) (f : Flights) (k l : DiskState) (tab
         tables = of_tables IsOfTable 1 old new (λ r is. is) grows is.tables;
       }
 
-    makes_as : OnDisk k l table buckets r → Counts (IsErrOf r (Because DiskFault)) k l → IsEngine (engine e new (steps.flown (steps.answer_of did r) f) l) → (steps.flown (steps.answer_of did r) f).checkpoint ≡ f.checkpoint → IsBeforeOrAfter k.told l.told after → ((copies : Copies) → NoFilesOf table copies → StandsFlown old f copies k.told → StandsFlown new (steps.flown (steps.answer_of did r) f) copies l.told)
-        → Makes (create table buckets) (engine d old f k) (engine e new (steps.flown (steps.answer_of did r) f) l) (steps.answer_of did r)
+    makes_as : OnDisk k l table buckets r → Counts (IsErrOf r (Because DiskFault)) k l → IsEngine (engine e new (steps.flown (to_engine.Create table buckets) (steps.answer_of did r) f) l) → (steps.flown (to_engine.Create table buckets) (steps.answer_of did r) f).checkpoint ≡ f.checkpoint → IsBeforeOrAfter k.told l.told after → ((copies : Copies) → NoFilesOf table copies → StandsFlown old f copies k.told → StandsFlown new (steps.flown (to_engine.Create table buckets) (steps.answer_of did r) f) copies l.told)
+        → Makes (to_engine.Create table buckets) (engine d old f k) (engine e new (steps.flown (to_engine.Create table buckets) (steps.answer_of did r) f) l) (steps.answer_of did r)
     makes_as on counts is_engine checkpoint holds copies =
         let tells = either_tells k.told l.told after holds in
-        let t : Engine = engine e new (steps.flown (steps.answer_of did r) f) l in
+        let t : Engine = engine e new (steps.flown (to_engine.Create table buckets) (steps.answer_of did r) f) l in
         record {
-          step = transacts did (create table buckets) (engine d old f k) t r Does (λ x does. record { is = refl; does = does; sees = tt }) refl answer (record { later = counts.later; orders = counts.orders; tells = tells }) counts.fault holds;
+          step = transacts did (to_engine.Create table buckets) (engine d old f k) t r Does (λ x does. record { does = does; sees = tt }) refl answer (record { later = counts.later; orders = counts.orders; tells = tells }) counts.fault holds;
           goes = record { engine = is_engine; buffer = buffer; checkpoint = checkpoint; tells = tells; log = of_few 1 (engine d old f k) t (omega arith) grows.log; ring = grows.ring };
           copies = copies;
         }
 
-  pub creates : (r : Result (Unit {0}) EngineRefusal) (answer : AnswersSo r) → OnDisk k l table buckets r → Counts (IsErrOf r (Because DiskFault)) k l → Makes (create table buckets) (engine d old f k) (engine e new (steps.flown (steps.answer_of did r) f) l) (steps.answer_of did r)
+  pub creates : (r : Result (Unit {0}) EngineRefusal) (answer : AnswersSo r) → OnDisk k l table buckets r → Counts (IsErrOf r (Because DiskFault)) k l → Makes (to_engine.Create table buckets) (engine d old f k) (engine e new (steps.flown (to_engine.Create table buckets) (steps.answer_of did r) f) l) (steps.answer_of did r)
   creates (Ok x) answer on counts =
       let becomes = done_donor d e old new (create_cause d table) x (create_way table buckets) Does answer in
       makes_as (Ok x) answer on counts (made_engine (Ok x) answer becomes on.made_is) refl (inr on.made_is) (made_copies (Ok x) answer becomes on.made_is)
@@ -658,8 +661,8 @@ module _ (d e : Donor) (old new : Buffered) (f : Flights) (k l : DiskState) (tab
     pub stays : new.log ≡ old.log → StaysStanding old new k.told l.told
     pub stands : StaysOutside table old new k.told l.told
 
-  abbrev dropped_as : Unit {0} → Done
-  dropped_as x = did_drop table
+  abbrev dropped_as : Unit {0} → EngineAnswer
+  dropped_as x = answers.Drop
 
   abbrev s : Engine
   s = engine d old f k
@@ -709,7 +712,7 @@ module _ (d e : Donor) (old new : Buffered) (f : Flights) (k l : DiskState) (tab
     carried (Ok x) is = is
     carried (Err refusal) is = is
 
-    answered : (r : Result (Unit {0}) EngineRefusal) → IfOk (steps.answer_of dropped_as r) (λ x. x ≡ did_drop table)
+    answered : (r : Result (Unit {0}) EngineRefusal) → IfOk (steps.answer_of dropped_as r) (λ x. x ≡ answers.Drop)
     answered (Ok x) = refl
     answered (Err refusal) = tt
 
@@ -744,7 +747,7 @@ module _ (d e : Donor) (old new : Buffered) (f : Flights) (k l : DiskState) (tab
         by true = refl
         by false = refl
 
-    pub drops : IsBuffer new → Counts (IsErrOf result (Because DiskFault)) k l → Makes (drop table) s left (steps.answer_of dropped_as result)
+    pub drops : IsBuffer new → Counts (IsErrOf result (Because DiskFault)) k l → Makes (to_engine.Drop table) s left (steps.answer_of dropped_as result)
     drops buffer counts = record {
       step = drop_step counts;
       goes = record { engine = drop_engine; buffer = buffer; checkpoint = drop_checkpoint; tells = drop_tells; log = of_few 1 s left (omega arith) drop_grows.log; ring = drop_grows.ring };
@@ -776,11 +779,11 @@ module _ (table : ℕ) (d : staged.Donor) (e : Engine) (none : d.cloning.session
         (told_if (AreIdle taken.copies) (IsFlown d.engine.buffer d.engine.flights taken.copies) (IsFlown e.buffer e.flights taken.copies) d.engine.disk.told e.disk.told goes.tells idle (λ idle. copies taken.copies (no_files taken.copies idle))) was;
   }
 
-  pub tables_acts : (call : Call) (answer : Result Done EngineRefusal) (c : Cloning) → c ≡ d.cloning → staged.IsDonor d → IsCloning d.cloning → GoesOn d.engine e → ((copies : Copies) → NoFilesOf table copies → StandsBeside d.engine copies → StandsBeside e copies) → ((taken : Taken) → taken_by call answer taken ≡ taken) → AnswersCall call d (record d { engine = e }) answer
-      → act.Acts (act.Calls call answer) d (record { engine = e; cloning = c })
+  pub tables_acts : (call : EngineCall) (answer : Result EngineAnswer EngineRefusal) (c : Cloning) → c ≡ d.cloning → staged.IsDonor d → IsCloning d.cloning → GoesOn d.engine e → ((copies : Copies) → NoFilesOf table copies → StandsBeside d.engine copies → StandsBeside e copies) → ((taken : Taken) → taken_by call answer taken ≡ taken) → AnswersCall call d (record d { engine = e }) answer
+      → act.EngineActs call answer d (record { engine = e; cloning = c })
   tables_acts call answer c same is k goes copies kept does =
       let on = tables_stay is k goes copies in
-      subst (λ (c : Cloning). act.Acts (act.Calls call answer) d (record { engine = e; cloning = c })) (sym same) (record {
+      subst (λ (c : Cloning). act.EngineActs call answer d (record { engine = e; cloning = c })) (sym same) (record {
         does = does;
         donor = on.donor;
         taken = λ taken was. subst (IsTaken (record d { engine = e })) (sym (kept taken)) (on.taken taken was);

@@ -26,11 +26,11 @@ use Rattle.clone_session.specs.CloneCalls.{Acknowledges, Answers, IsBlockOf, red
 use Rattle.clone_session.specs.Effects.{Becomes, Tells, opened, reopened}
 use Rattle.clone_engine.specs.Engine.{Engine}
 use Rattle.clone_engine.specs.Reading.{OnlyVisits, ReadsFile, ReadsPage}
-use Rattle.clone_engine.specs.declared.block.Block.{Block}
-use Rattle.clone_engine.specs.declared.block.Block.TheVariants.{Pages, Redo}
+use Rattle.clone_calls.specs.declared.block.Block.{Block}
+use Rattle.clone_calls.specs.declared.block.Block.TheVariants.{Pages, Redo}
 use Rattle.clone_page.specs.declared.pages.PageAt.{PageAt}
-use Rattle.clone_engine.specs.declared.block.BlockRefusal.{BlockRefusal}
-use Rattle.clone_engine.specs.declared.block.BlockRefusal.TheVariants as refused
+use Rattle.clone_calls.specs.declared.block.BlockRefusal.{BlockRefusal}
+use Rattle.clone_calls.specs.declared.block.BlockRefusal.TheVariants as refused
 use Rattle.clone_engine.specs.Donor.{Donor, known_files}
 use Rattle.clone_engine.specs.Copies.{files_over, first_copies, pages_over, with_pages}
 use Rattle.clone_engine.specs.Taken.{Taken}
@@ -136,7 +136,8 @@ RefusesBlock caller stage chunk number d t (refused.Engine engine.NoMemory) = ‚ä
 
 -- AN ACKNOWLEDGEMENT, at this moment
 pub record Acks (caller : Caller) (stage : ‚Ñï) (d t : Donor) (info : StageInfo) : Type 0 where
-  pub acknowledges : Acknowledges (moment_of d.engine) caller.session stage d.cloning t.cloning info
+  pub acknowledges : Acknowledges (moment_of d.engine) (known_files d.engine) caller.session stage
+      d.cloning t.cloning info
   pub settles : Settles d t
 
 -- a stage is over

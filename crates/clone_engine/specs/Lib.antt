@@ -12,6 +12,7 @@ pub mod Donor
 pub mod Taken
 pub mod Serving
 pub mod Copying
+pub mod Answering
 pub mod Acts
 pub mod Laid
 pub mod Over

@@ -3,7 +3,10 @@ use Rattle.std.specs.Prelude.{ℕ, ◌≡◌, None, Some, Result, Ok, Err, unwra
 use Rattle.std.specs.declared.option.Option.{Option}
 use Rattle.clone_archive.specs.Archived.{kept_from}
 use Rattle.clone_flush.specs.Calls.{after_begin}
-use Rattle.clone_plain.specs.Calls.{Call, create, drop, flush_begin, checkpoint, Done, did_checkpoint}
+use Rattle.clone_plain.specs.declared.call.EngineAnswer.{EngineAnswer}
+use Rattle.clone_plain.specs.declared.call.EngineAnswer.TheVariants as answers
+use Rattle.clone_plain.specs.declared.call.EngineCall.{EngineCall}
+use Rattle.clone_plain.specs.declared.call.EngineCall.TheVariants as call
 use Rattle.clone_plain.specs.Causes.{no_table}
 use Rattle.clone_plain.specs.declared.refusal.Cause.TheVariants.{CloneRunning}
 use Rattle.clone_plain.specs.declared.refusal.EngineRefusal.{EngineRefusal}
@@ -16,44 +19,47 @@ use Rattle.clone_engine.specs.Donor.{Donor}
 use Rattle.clone_engine.specs.Taken.{Taken}
 
 -- a page whose flush began is noted, while pages are tracked, also where the flush failed at once
-abbrev pub noted_by : Call → Result Done EngineRefusal → Cloning → Cloning
-noted_by (flush_begin space page) answer c =
+abbrev pub noted_by : EngineCall → Result EngineAnswer EngineRefusal → Cloning → Cloning
+noted_by (call.FlushBegin space page) answer c =
     if has_begun answer then with_noted (space, page) c else c
 noted_by call answer c = c
 
 -- and then what was read of it counts no more
-abbrev pub taken_by : Call → Result Done EngineRefusal → Taken → Taken
-taken_by (flush_begin space page) answer taken = record taken {
+abbrev pub taken_by : EngineCall → Result EngineAnswer EngineRefusal → Taken → Taken
+taken_by (call.FlushBegin space page) answer taken = record taken {
   copies = after_begin (record { space = space; number = page }) (has_begun answer) taken.copies;
 }
 taken_by call answer taken = taken
 
 -- the engine's step, but that a checkpoint leaves the log that the archive needs
-abbrev pub ServesAs : Call → Donor → Engine → Result Done EngineRefusal → Type 0
-ServesAs checkpoint d e (Ok (did_checkpoint lsn)) =
+abbrev pub ServesAs : EngineCall → Donor → Engine → Result EngineAnswer EngineRefusal → Type 0
+ServesAs call.Checkpoint d e (Ok (answers.Checkpoint lsn)) =
     Checks (kept_from d.cloning.archive) d.engine e lsn
-ServesAs checkpoint d e answer = ⊥
+ServesAs call.Checkpoint d e answer = ⊥
 ServesAs call d e answer = Steps call d.engine e answer
 
 -- A CALL OF THE ENGINE
-pub record Serves (call : Call) (d t : Donor) (answer : Result Done EngineRefusal) : Type 0 where
+pub record Serves (call : EngineCall) (d t : Donor) (answer : Result EngineAnswer EngineRefusal)
+    : Type 0 where
   pub steps : ServesAs call d t.engine answer
   pub cloning : Becomes t.cloning (noted_by call answer d.cloning)
 
 -- No table is made while a session stands.
-abbrev pub Creates : Option Session → ℕ → ℕ → Donor → Donor → Result Done EngineRefusal → Type 0
-Creates None table buckets d t answer = Serves (create table buckets) d t answer
+abbrev pub Creates : Option Session → ℕ → ℕ → Donor → Donor → Result EngineAnswer EngineRefusal
+    → Type 0
+Creates None table buckets d t answer = Serves (call.Create table buckets) d t answer
 Creates (Some s) table buckets d t answer =
     (answer ≡ Err (Because (CloneRunning s.number))) × (t ≡ d)
 
 -- No table is dropped then either, and where there is none, that is the cause.
-abbrev pub Drops : Option Session → ℕ → Donor → Donor → Result Done EngineRefusal → Type 0
-Drops None table d t answer = Serves (drop table) d t answer
+abbrev pub Drops : Option Session → ℕ → Donor → Donor → Result EngineAnswer EngineRefusal → Type 0
+Drops None table d t answer = Serves (call.Drop table) d t answer
 Drops (Some s) table d t answer =
     (answer ≡ Err (Because (unwrap_or (no_table d.engine.donor table) (CloneRunning s.number))))
     × (t ≡ d)
 
-abbrev pub AnswersCall : Call → Donor → Donor → Result Done EngineRefusal → Type 0
-AnswersCall (create table buckets) d t answer = Creates d.cloning.session table buckets d t answer
-AnswersCall (drop table) d t answer = Drops d.cloning.session table d t answer
+abbrev pub AnswersCall : EngineCall → Donor → Donor → Result EngineAnswer EngineRefusal → Type 0
+AnswersCall (call.Create table buckets) d t answer =
+    Creates d.cloning.session table buckets d t answer
+AnswersCall (call.Drop table) d t answer = Drops d.cloning.session table d t answer
 AnswersCall call d t answer = Serves call d t answer

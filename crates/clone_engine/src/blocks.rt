@@ -1,19 +1,23 @@
-ghost use Rattle.std.specs.Prelude.{◌≡◌, ◌≤◌, IfErr, IfOk, IsErr, MatchResult, OnOk, None};
+ghost use Rattle.std.specs.Prelude.{◌≡◌, ◌==◌, ◌≤◌, IfErr, IfOk, IsErr, MatchResult, OnOk, None};
 ghost use Rattle.std.specs.List.{AllByRecursion};
 ghost use Rattle.clone_base.specs.declared.limits.TheConstants.{BLOCK_BYTES};
 ghost use Rattle.clone_outside.specs.DiskCalls.{DiskState, Reads};
+ghost use Rattle.clone_chunk.specs.Stages.{stage_number};
+ghost use Rattle.clone_chunk.specs.declared.stage.Stage.TheVariants.{RedoCopy};
+ghost use Rattle.clone_calls.specs.Answering.{is_redo};
 ghost use Rattle.clone_session.specs.CloneCalls.{IsInArchive};
-ghost use Rattle.clone_session.specs.CloneCauses.{block_cause};
 ghost use Rattle.clone_plain.specs.declared.refusal.Cause.TheVariants.{DiskFault};
-ghost use Rattle.clone_engine.specs.Acts as act;
-ghost use Rattle.clone_engine.specs.Acts.{Acts};
-ghost use Rattle.clone_engine.specs.Copying.{FailsReading, Gives, IsRedo, ReadsIn, RefusesBlock, places_of};
+ghost use Rattle.clone_calls.specs.declared.answer.DonorAnswer.TheVariants as answer;
+ghost use Rattle.clone_calls.specs.declared.call.DonorCall.TheVariants as call;
+ghost use Rattle.clone_engine.specs.Acts.{CloneActs};
+ghost use Rattle.clone_engine.specs.Copying.{FailsReading, IsRedo, ReadsIn, places_of};
 ghost use Rattle.clone_engine.specs.Donor.{IsDonor};
 ghost use Rattle.clone_engine.specs.Engine.{IsEngine};
 ghost use Rattle.clone_engine.specs.Over.{over};
 ghost use Rattle.clone_engine.specs.Reading.{OnlyVisits};
 
-use crate::{Block, BlockRefusal, Engine};
+use crate::Engine;
+use clone_calls::{Block, BlockRefusal};
 use clone_chunk::RedoBytes;
 use clone_outside::PageDisk;
 use clone_page::{Page, PageAt, Pages};
@@ -41,17 +45,10 @@ impl Engine {
         disk: &mut D,
     ) -> Result<(Block, bool), BlockRefusal>
         requires donor { IsDonor (over self.old (D.state disk.old)) }
-        ensures free { OnOk result (block_cause self.old.cloning caller stage chunk number ≡ None) }
-        ensures gives { IfOk result (λ given. Gives caller chunk number
-            (over self.old (D.state disk.old)) (over self.new (D.state disk.new))
-            given.0 given.1) }
-        ensures refused { IfErr result (RefusesBlock caller stage chunk number
-            (over self.old (D.state disk.old)) (over self.new (D.state disk.new))) }
-        ensures acts { MatchResult result
-            (λ given. Acts (act.Give caller chunk number given.0 given.1)
-            (over self.old (D.state disk.old)) (over self.new (D.state disk.new)))
-            (λ _. Acts act.Miss
-            (over self.old (D.state disk.old)) (over self.new (D.state disk.new))) }
+        ensures kind { IfOk result (λ given. is_redo given.0 ≡ (stage == stage_number RedoCopy)) }
+        ensures acts { CloneActs (call.ReadBlock caller stage chunk number)
+            (answer.ReadBlock result)
+            (over self.old (D.state disk.old)) (over self.new (D.state disk.new)) }
     {
         let work = self.cloning.block(caller, stage, chunk, number)?;
         self.cloning.laws();

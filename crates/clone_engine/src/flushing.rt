@@ -1,10 +1,9 @@
 ghost use Rattle.std.specs.Prelude.{◌≡◌, Ok};
 ghost use Rattle.clone_outside.specs.DiskCalls.{DiskState};
 ghost use Rattle.clone_archive.specs.Archived.{kept_from};
-ghost use Rattle.clone_plain.specs.Calls as call;
-ghost use Rattle.clone_plain.specs.Calls.{did_flush_begin, did_flush_half, did_flush_land, did_checkpoint};
-ghost use Rattle.clone_engine.specs.Acts as act;
-ghost use Rattle.clone_engine.specs.Acts.{Acts};
+ghost use Rattle.clone_plain.specs.declared.call.EngineCall.TheVariants as call;
+ghost use Rattle.clone_plain.specs.declared.call.EngineAnswer.TheVariants as answers;
+ghost use Rattle.clone_engine.specs.Acts.{EngineActs};
 ghost use Rattle.clone_engine.specs.Donor.{IsDonor};
 ghost use Rattle.clone_engine.specs.Over.{over};
 ghost use Rattle.clone_engine.specs.Steps.{Checks, IsOldestDirty, answer_of, flush_answer, has_begun, refusal_of};
@@ -26,8 +25,8 @@ impl Engine {
         disk: &mut D,
     ) -> Result<(), EngineRefusal>
         requires donor { IsDonor (over self.old (D.state disk.old)) }
-        ensures acts { Acts (act.Calls (call.flush_begin space page)
-            (answer_of (λ _. did_flush_begin space page) result))
+        ensures acts { EngineActs (call.FlushBegin space page)
+            (answer_of (λ _. answers.FlushBegin) result)
             (over self.old (D.state disk.old)) (over self.new (D.state disk.new)) }
     {
         self.cloning.laws();
@@ -52,8 +51,8 @@ impl Engine {
         disk: &mut D,
     ) -> Result<(), EngineRefusal>
         requires donor { IsDonor (over self.old (D.state disk.old)) }
-        ensures acts { Acts (act.Calls (call.flush_half space page)
-            (answer_of (λ _. did_flush_half space page) result))
+        ensures acts { EngineActs (call.FlushHalf space page)
+            (answer_of (λ _. answers.FlushHalf) result)
             (over self.old (D.state disk.old)) (over self.new (D.state disk.new)) }
     {
         let written = answered(self.flusher.half(&mut self.buffer, space, page, disk));
@@ -70,8 +69,8 @@ impl Engine {
         disk: &mut D,
     ) -> Result<(), EngineRefusal>
         requires donor { IsDonor (over self.old (D.state disk.old)) }
-        ensures acts { Acts (act.Calls (call.flush_land space page)
-            (answer_of (λ _. did_flush_land space page) result))
+        ensures acts { EngineActs (call.FlushLand space page)
+            (answer_of (λ _. answers.FlushLand) result)
             (over self.old (D.state disk.old)) (over self.new (D.state disk.new)) }
     {
         let written = answered(self.flusher.land(&mut self.buffer, space, page, disk));
@@ -93,7 +92,7 @@ impl Engine {
         ensures checks { (disk : DiskState) → Checks (kept_from self.old.cloning.archive)
             (over self.old disk).engine (over self.new disk).engine result }
         ensures acts { (disk : DiskState) → IsDonor (over self.old disk)
-            → Acts (act.Calls call.checkpoint (Ok (did_checkpoint result))) (over self.old disk)
+            → EngineActs call.Checkpoint (Ok (answers.Checkpoint result)) (over self.old disk)
             (over self.new disk) }
     {
         self.buffer.laws();

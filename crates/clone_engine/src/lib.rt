@@ -4,7 +4,6 @@
 //! has taken goes on beside the engine, and at the stop that is one moment of the donor.
 #![tactic(auto)]
 
-mod block;
 mod blocks;
 mod copying;
 mod engine;
@@ -14,7 +13,6 @@ mod opening;
 mod reading;
 mod serving;
 
-pub use block::{Block, BlockRefusal};
 pub use engine::Engine;
 pub use laws::run_laws;
 pub use opening::{OpenCause, OpenRefusal, is_empty};

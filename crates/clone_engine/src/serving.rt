@@ -1,11 +1,10 @@
 ghost use Rattle.std.specs.Prelude.{◌≡◌, ◌≢◌, Err, None, unwrap_or};
-ghost use Rattle.clone_plain.specs.Calls as call;
+ghost use Rattle.clone_plain.specs.declared.call.EngineCall.TheVariants as call;
 ghost use Rattle.clone_plain.specs.Causes.{no_table};
-ghost use Rattle.clone_plain.specs.Calls.{did_create, did_drop, did_begin, did_put, did_delete, did_get, did_undo_one, did_commit};
+ghost use Rattle.clone_plain.specs.declared.call.EngineAnswer.TheVariants as answers;
 ghost use Rattle.clone_plain.specs.declared.refusal.Cause.TheVariants.{CloneRunning};
 ghost use Rattle.clone_plain.specs.declared.refusal.EngineRefusal.TheVariants.{NoMemory};
-ghost use Rattle.clone_engine.specs.Acts as act;
-ghost use Rattle.clone_engine.specs.Acts.{Acts};
+ghost use Rattle.clone_engine.specs.Acts.{EngineActs};
 ghost use Rattle.clone_engine.specs.Donor.{IsDonor};
 ghost use Rattle.clone_engine.specs.Growth.{Makes};
 ghost use Rattle.clone_engine.specs.Over.{over};
@@ -29,8 +28,8 @@ impl Engine {
         disk: &mut D,
     ) -> Result<(), EngineRefusal>
         requires donor { IsDonor (over self.old (D.state disk.old)) }
-        ensures acts { Acts (act.Calls (call.create table buckets)
-            (answer_of (λ _. did_create table buckets) result))
+        ensures acts { EngineActs (call.Create table buckets)
+            (answer_of (λ _. answers.Create) result)
             (over self.old (D.state disk.old)) (over self.new (D.state disk.new)) }
     {
         if let Some(session) = self.cloning.session() {
@@ -48,9 +47,9 @@ impl Engine {
         disk: &mut D,
     ) -> Result<(), EngineRefusal>
         requires donor { IsDonor (over self.old (D.state disk.old)) }
-        ensures makes { Makes (call.create table buckets)
+        ensures makes { Makes (call.Create table buckets)
             (over self.old (D.state disk.old)).engine (over self.new (D.state disk.new)).engine
-            (answer_of (λ _. did_create table buckets) result) }
+            (answer_of (λ _. answers.Create) result) }
         ensures same { self.new.cloning ≡ self.old.cloning }
     {
         self.transactions.laws();
@@ -74,8 +73,8 @@ impl Engine {
     /// its way to the disk. Where the disk fails to remove the file, the table is gone all the same.
     pub fn drop_table<D: PageDisk>(&mut self, table: u32, disk: &mut D) -> Result<(), EngineRefusal>
         requires donor { IsDonor (over self.old (D.state disk.old)) }
-        ensures acts { Acts (act.Calls (call.drop table)
-            (answer_of (λ _. did_drop table) result))
+        ensures acts { EngineActs (call.Drop table)
+            (answer_of (λ _. answers.Drop) result)
             (over self.old (D.state disk.old)) (over self.new (D.state disk.new)) }
     {
         if let Some(session) = self.cloning.session() {
@@ -100,9 +99,9 @@ impl Engine {
     // Drops a table with its pages and its file.
     fn give_up_table<D: PageDisk>(&mut self, table: u32, disk: &mut D) -> Result<(), EngineRefusal>
         requires donor { IsDonor (over self.old (D.state disk.old)) }
-        ensures makes { Makes (call.drop table)
+        ensures makes { Makes (call.Drop table)
             (over self.old (D.state disk.old)).engine (over self.new (D.state disk.new)).engine
-            (answer_of (λ _. did_drop table) result) }
+            (answer_of (λ _. answers.Drop) result) }
         ensures same { self.new.cloning ≡ self.old.cloning }
     {
         self.transactions.laws();
@@ -127,8 +126,8 @@ impl Engine {
         disk: &mut D,
     ) -> Result<u32, EngineRefusal>
         requires donor { IsDonor (over self.old (D.state disk.old)) }
-        ensures acts { Acts (act.Calls (call.begin writer index)
-            (answer_of (λ trx. did_begin writer index trx) result))
+        ensures acts { EngineActs (call.Begin writer index)
+            (answer_of (λ trx. answers.Begin trx) result)
             (over self.old (D.state disk.old)) (over self.new (D.state disk.new)) }
     {
         self.transactions.laws();
@@ -150,8 +149,8 @@ impl Engine {
         disk: &mut D,
     ) -> Result<(), EngineRefusal>
         requires donor { IsDonor (over self.old (D.state disk.old)) }
-        ensures acts { Acts (act.Calls (call.put trx table key value.now)
-            (answer_of (λ _. did_put trx table key value.now) result))
+        ensures acts { EngineActs (call.Put trx table key value.now)
+            (answer_of (λ _. answers.Put) result)
             (over self.old (D.state disk.old)) (over self.new (D.state disk.new)) }
     {
         self.transactions.laws();
@@ -172,8 +171,8 @@ impl Engine {
         disk: &mut D,
     ) -> Result<(), EngineRefusal>
         requires donor { IsDonor (over self.old (D.state disk.old)) }
-        ensures acts { Acts (act.Calls (call.delete trx table key)
-            (answer_of (λ _. did_delete trx table key) result))
+        ensures acts { EngineActs (call.Delete trx table key)
+            (answer_of (λ _. answers.Delete) result)
             (over self.old (D.state disk.old)) (over self.new (D.state disk.new)) }
     {
         self.transactions.laws();
@@ -194,8 +193,8 @@ impl Engine {
         disk: &mut D,
     ) -> Result<Option<Value>, EngineRefusal>
         requires donor { IsDonor (over self.old (D.state disk.old)) }
-        ensures acts { Acts (act.Calls (call.get trx table key)
-            (answer_of (λ value. did_get trx table key value) result))
+        ensures acts { EngineActs (call.Get trx table key)
+            (answer_of (λ value. answers.Get value) result)
             (over self.old (D.state disk.old)) (over self.new (D.state disk.new)) }
         ensures memory { result ≢ Err NoMemory }
     {
@@ -212,8 +211,8 @@ impl Engine {
     /// takes no memory.
     pub fn undo_one<D: PageDisk>(&mut self, trx: u32, disk: &mut D) -> Result<Undone, EngineRefusal>
         requires donor { IsDonor (over self.old (D.state disk.old)) }
-        ensures acts { Acts (act.Calls (call.undo_one trx)
-            (answer_of (λ undone. did_undo_one trx undone) result))
+        ensures acts { EngineActs (call.UndoOne trx)
+            (answer_of (λ undone. answers.UndoOne undone) result)
             (over self.old (D.state disk.old)) (over self.new (D.state disk.new)) }
         ensures memory { result ≢ Err NoMemory }
     {
@@ -227,8 +226,8 @@ impl Engine {
     /// Commits a transaction, and answers the new number of commits. This takes no memory.
     pub fn commit<D: PageDisk>(&mut self, trx: u32, disk: &mut D) -> Result<u64, EngineRefusal>
         requires donor { IsDonor (over self.old (D.state disk.old)) }
-        ensures acts { Acts (act.Calls (call.commit trx)
-            (answer_of (λ position. did_commit trx position) result))
+        ensures acts { EngineActs (call.Commit trx)
+            (answer_of (λ position. answers.Commit position) result)
             (over self.old (D.state disk.old)) (over self.new (D.state disk.new)) }
         ensures memory { result ≢ Err NoMemory }
     {

@@ -1,7 +1,9 @@
 -- What events add to the binlog: a commit each time that one is answered, and nothing else. To the
 -- drops they may add.
-use Rattle.std.proofs.Common.{◌≡◌, ℕ, ◌+◌, List, [], ◌∷◌, ◌++◌, length, refl, sym, ap, ◌∙◌, subst, zero, suc, zero-add, add-zero, arith, append_assoc, length-append, Option, Some, None, append-nil, filter_map, inl, inr, unwrap_or}
-use Rattle.clone_events.proofs.Common.{cons_option, range_with_len, Drops, Commit, Donor, Undoes, Done, did_create, did_drop, did_begin, did_put, did_delete, did_get, did_undo_one, did_commit, did_flush_begin, did_flush_half, did_flush_land, did_oldest_dirty, did_checkpoint, did_end, Made, done, refused, Call, drop, AfterRefusal, Cause, Does, PlainStep, World, Event, made, PlainEvent, Happens, Events, committed_at, AreCommits, MakesDrops, AreDrops}
+use Rattle.std.proofs.Common.{◌≡◌, ℕ, ◌+◌, List, [], ◌∷◌, ◌++◌, length, refl, sym, ap, ◌∙◌, subst, zero, suc, zero-add, add-zero, arith, append_assoc, length-append, Option, Some, None, Result, Ok, Err, append-nil, filter_map, inl, inr, unwrap_or}
+use Rattle.clone_events.proofs.Common.{cons_option, range_with_len, Drops, Commit, Donor, Undoes, EngineCall, EngineAnswer, AfterRefusal, Cause, Does, PlainStep, World, Event, made, PlainEvent, Happens, Events, committed_at, AreCommits, MakesDrops, AreDrops}
+use Rattle.clone_plain.specs.declared.call.EngineAnswer.TheVariants as answers
+use Rattle.clone_plain.specs.declared.call.EngineCall.TheVariants as call
 use Rattle.clone_plain.specs.declared.refusal.Cause.TheVariants.{DiskFault}
 use Rattle.std.proofs.lemmas.List.FromFn.{length-range_with_len}
 use Rattle.clone_plain.specs.declared.refusal.Undone.{Undone}
@@ -35,40 +37,41 @@ record AddsBy (before : Donor) (e : Event) (after : Donor) : Type 0 where
   adds : Adds before after (cons_option (committed_at e) [])
   made_drops : MakesDrops (length before.binlog) e adds.gone
 
-undoes_none : (d : Donor) (trx : ℕ) (undone : Undone) (after : Donor) → Undoes d trx undone after → AddsBy d (made (done (did_undo_one trx undone))) after
+undoes_none : (d : Donor) (trx : ℕ) (undone : Undone) (after : Donor) → Undoes d trx undone after → AddsBy d (made (call.UndoOne trx) (Ok (answers.UndoOne undone))) after
 undoes_none d trx (Left left) after is = record { adds = adds_none d after (binlog_of is.is) (drops_of is.is); made_drops = refl }
 undoes_none d trx Ended after is = record { adds = adds_none d after (binlog_of is.is) (drops_of is.is); made_drops = refl }
 
-does_add : (d : Donor) (x : Done) (after : Donor) → Does d x after → AddsBy d (made (done x)) after
-does_add d (did_create table buckets) after is = record { adds = adds_none d after (binlog_of is) (drops_of is); made_drops = refl }
-does_add d (did_drop table) after is = record { adds = adds_drop d after (length d.binlog, table) (binlog_of is) (drops_of is); made_drops = refl }
-does_add d (did_begin writer index trx) after is = record { adds = adds_none d after (binlog_of is.1) (drops_of is.1); made_drops = refl }
-does_add d (did_put trx table key value) after is = record { adds = adds_none d after (binlog_of is.is) (drops_of is.is); made_drops = refl }
-does_add d (did_delete trx table key) after is = record { adds = adds_none d after (binlog_of is.is) (drops_of is.is); made_drops = refl }
-does_add d (did_get trx table key value) after is = record { adds = adds_none d after (binlog_of is) (drops_of is); made_drops = refl }
-does_add d (did_undo_one trx undone) after is = undoes_none d trx undone after is
-does_add d (did_commit trx position) after is = record { adds = adds_one d after is.commit position (binlog_of is.is) (drops_of is.is) is.count; made_drops = refl }
-does_add d (did_flush_begin space page) after is = record { adds = adds_none d after (binlog_of is) (drops_of is); made_drops = refl }
-does_add d (did_flush_half space page) after is = record { adds = adds_none d after (binlog_of is) (drops_of is); made_drops = refl }
-does_add d (did_flush_land space page) after is = record { adds = adds_none d after (binlog_of is) (drops_of is); made_drops = refl }
-does_add d (did_oldest_dirty page) after is = record { adds = adds_none d after (binlog_of is) (drops_of is); made_drops = refl }
-does_add d (did_checkpoint lsn) after is = record { adds = adds_none d after (binlog_of is) (drops_of is); made_drops = refl }
-does_add d (did_end lsn) after is = record { adds = adds_none d after (binlog_of is) (drops_of is); made_drops = refl }
+does_add : (d : Donor) (asked : EngineCall) (given : EngineAnswer) (after : Donor) → Does d asked given after → AddsBy d (made asked (Ok given)) after
+does_add d (call.Create table buckets) answers.Create after is = record { adds = adds_none d after (binlog_of is) (drops_of is); made_drops = refl }
+does_add d (call.Drop table) answers.Drop after is = record { adds = adds_drop d after (length d.binlog, table) (binlog_of is) (drops_of is); made_drops = refl }
+does_add d (call.Begin writer index) (answers.Begin trx) after is = record { adds = adds_none d after (binlog_of is.1) (drops_of is.1); made_drops = refl }
+does_add d (call.Put trx table key value) answers.Put after is = record { adds = adds_none d after (binlog_of is.is) (drops_of is.is); made_drops = refl }
+does_add d (call.Delete trx table key) answers.Delete after is = record { adds = adds_none d after (binlog_of is.is) (drops_of is.is); made_drops = refl }
+does_add d (call.Get trx table key) (answers.Get value) after is = record { adds = adds_none d after (binlog_of is) (drops_of is); made_drops = refl }
+does_add d (call.UndoOne trx) (answers.UndoOne undone) after is = undoes_none d trx undone after is
+does_add d (call.Commit trx) (answers.Commit position) after is = record { adds = adds_one d after is.commit position (binlog_of is.is) (drops_of is.is) is.count; made_drops = refl }
+does_add d (call.FlushBegin space page) answers.FlushBegin after is = record { adds = adds_none d after (binlog_of is) (drops_of is); made_drops = refl }
+does_add d (call.FlushHalf space page) answers.FlushHalf after is = record { adds = adds_none d after (binlog_of is) (drops_of is); made_drops = refl }
+does_add d (call.FlushLand space page) answers.FlushLand after is = record { adds = adds_none d after (binlog_of is) (drops_of is); made_drops = refl }
+does_add d call.OldestDirty (answers.OldestDirty page) after is = record { adds = adds_none d after (binlog_of is) (drops_of is); made_drops = refl }
+does_add d call.Checkpoint (answers.Checkpoint lsn) after is = record { adds = adds_none d after (binlog_of is) (drops_of is); made_drops = refl }
+does_add d call.End (answers.End lsn) after is = record { adds = adds_none d after (binlog_of is) (drops_of is); made_drops = refl }
+does_add d asked given after is = absurd is
 
-refused_add : (d : Donor) (call : Call) (cause : Cause) (after : Donor) → AfterRefusal d call cause after → AddsBy d (made (refused call cause)) after
-refused_add d (drop table) DiskFault after (inl same) = record { adds = adds_none d after (binlog_of same) (drops_of same); made_drops = inl refl }
-refused_add d (drop table) DiskFault after (inr gone) = record { adds = adds_drop d after (length d.binlog, table) (binlog_of gone) (drops_of gone); made_drops = inr refl }
-refused_add d call cause after same = record { adds = adds_none d after (binlog_of same) (drops_of same); made_drops = refl }
+refused_add : (d : Donor) (asked : EngineCall) (cause : Cause) (after : Donor) → AfterRefusal d asked cause after → AddsBy d (made asked (Err cause)) after
+refused_add d (call.Drop table) DiskFault after (inl same) = record { adds = adds_none d after (binlog_of same) (drops_of same); made_drops = inl refl }
+refused_add d (call.Drop table) DiskFault after (inr gone) = record { adds = adds_drop d after (length d.binlog, table) (binlog_of gone) (drops_of gone); made_drops = inr refl }
+refused_add d asked cause after same = record { adds = adds_none d after (binlog_of same) (drops_of same); made_drops = refl }
 
-made_add : (d : Donor) (m : Made) (after : Donor) → PlainStep d m after → AddsBy d (made m) after
-made_add d (done x) after is = does_add d x after is.1
-made_add d (refused call cause) after is = refused_add d call cause after is.1
+made_add : (d : Donor) (asked : EngineCall) (answer : Result EngineAnswer Cause) (after : Donor) → PlainStep d asked answer after → AddsBy d (made asked answer) after
+made_add d asked (Ok given) after is = does_add d asked given after is.1
+made_add d asked (Err cause) after is = refused_add d asked cause after is.1
 
-pub made_adds : (d : Donor) (m : Made) (after : Donor) → PlainStep d m after → Adds d after (cons_option (committed_at (made m)) [])
-made_adds d m after is = (made_add d m after is).adds
+pub made_adds : (d : Donor) (asked : EngineCall) (answer : Result EngineAnswer Cause) (after : Donor) → PlainStep d asked answer after → Adds d after (cons_option (committed_at (made asked answer)) [])
+made_adds d asked answer after is = (made_add d asked answer after is).adds
 
 plain_adds : (d : Donor) (e : Event) (after : Donor) → PlainEvent d e after → AddsBy d e after
-plain_adds d (made m) after is = made_add d m after is
+plain_adds d (made asked answer) after is = made_add d asked answer after is
 plain_adds d e after is = record { adds = adds_none d after (binlog_of is) (drops_of is); made_drops = refl }
 
 -- numbers in a row, in two parts

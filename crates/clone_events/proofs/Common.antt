@@ -10,7 +10,9 @@ pub use Rattle.clone_model.specs.History.{Drops, Rows, fold, history_of}
 pub use Rattle.clone_model.specs.declared.change.Change.{Change}
 pub use Rattle.clone_model.specs.declared.change.Commit.{Commit}
 pub use Rattle.clone_script.specs.declared.lines.Line.{Line}
-pub use Rattle.clone_plain.specs.Calls.{Made, PlainStep, did_begin, did_put, did_commit, done, did_create, did_drop, did_delete, did_get, did_undo_one, did_flush_begin, did_flush_half, did_flush_land, did_oldest_dirty, did_checkpoint, did_end, refused, AfterRefusal, Done, Call, drop, Does, call_of, commit, made_call, begin, put}
+pub use Rattle.clone_plain.specs.Calls.{PlainStep, AfterRefusal, Does}
+pub use Rattle.clone_plain.specs.declared.call.EngineAnswer.{EngineAnswer}
+pub use Rattle.clone_plain.specs.declared.call.EngineCall.{EngineCall}
 pub use Rattle.clone_plain.specs.Donor.{Donor, no_donor}
 pub use Rattle.clone_plain.specs.Effects.{begun, with_change, Changes, Undoes, put_of}
 pub use Rattle.clone_events.specs.Events.{Event, made, looked, stopped, showed, ordered, Events, PlainEvent, Happens, Shows, clone_after, counted, said}

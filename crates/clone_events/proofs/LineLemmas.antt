@@ -1,7 +1,8 @@
 -- A line makes one event, or it is a `set`, or none of its events commits or begins, as those of
 -- `clean` and of `clone`.
-use Rattle.std.proofs.Common.{◌≡◌, ℕ, List, [], ◌∷◌, ◌++◌, refl, sym, ap, subst, ◌∙◌, append_assoc, None, flat_map, nat_cmp}
-use Rattle.clone_events.proofs.Common.{AllByRecursion, FinMap, Line, Cause, Call, commit, call_of, did_create, did_drop, did_begin, did_put, did_delete, did_get, did_undo_one, did_commit, did_flush_begin, did_flush_half, did_flush_land, did_oldest_dirty, did_checkpoint, did_end, Made, done, refused, made_call, Event, made, stopped, ordered, counted, committed_at, Makes, MakesOne, MakesSet, MakesClean, all_clean, not_flushed, flushed, Starts, Finishes, Advances, GoesOn, at_once, by_stop, MakesClone}
+use Rattle.std.proofs.Common.{◌≡◌, ℕ, List, [], ◌∷◌, ◌++◌, refl, sym, subst, ◌∙◌, append_assoc, None, Ok, Err, flat_map, nat_cmp}
+use Rattle.clone_events.proofs.Common.{AllByRecursion, FinMap, Line, Cause, EngineCall, Event, made, stopped, ordered, counted, committed_at, Makes, MakesOne, MakesSet, MakesClean, all_clean, not_flushed, flushed, Starts, Finishes, Advances, GoesOn, at_once, by_stop, MakesClone}
+use Rattle.clone_plain.specs.declared.call.EngineCall.TheVariants as call
 use Rattle.clone_script.specs.declared.lines.Line.TheVariants as lines
 
 -- by an event nothing commits, and no transaction begins
@@ -30,28 +31,33 @@ front_quiet : (front rest : List Event) (e : Event) → AllByRecursion IsQuiet (
 front_quiet [] rest e all is = (is, tt)
 front_quiet (f ∷ front) rest e all is = (all.0, front_quiet front rest e all.1 is)
 
+-- a call that is refused
+refused_quiet : (asked : EngineCall) (cause : Cause) → IsQuiet (made asked (Err cause))
+refused_quiet (call.Begin writer index) cause = is_quiet _ refl (λ begun. refl)
+refused_quiet asked cause = is_quiet _ refl (λ begun. refl)
+
 clean_quiet : (events : List Event) → MakesClean events → AllByRecursion IsQuiet events
 clean_quiet events (all_clean pages is) = subst (AllByRecursion IsQuiet) (sym is) (pages_quiet pages _ (is_quiet _ refl (λ begun. refl), (is_quiet _ refl (λ begun. refl), tt)))
-clean_quiet events (not_flushed pages page front rest next cause split is) =
-    let last : Event = made (refused (call_of next) cause) in
+clean_quiet events (not_flushed pages page front rest asked given cause split is) =
+    let last : Event = made asked (Err cause) in
     let all = subst (AllByRecursion IsQuiet) split (flushed_quiet page [] tt) in
-    let front_last = front_quiet front (made (done next) ∷ rest) last all (is_quiet last refl (λ begun. refl)) in
+    let front_last = front_quiet front (made asked (Ok given) ∷ rest) last all (refused_quiet asked cause) in
     subst (AllByRecursion IsQuiet) (sym (is ∙ append_assoc (flat_map flushed pages) front (last ∷ []))) (pages_quiet pages (front ++ last ∷ []) front_last)
 
-call_shape : (call : Call) (events : List Event) → MakesOne call events → Shape events
-call_shape call events is = one (made is.0) is.2
+call_shape : (asked : EngineCall) (events : List Event) → MakesOne asked events → Shape events
+call_shape asked events is = one (made asked is.0) is.1
 
 -- none of these is a call
 starts_quiet : (e : Event) → Starts e → IsQuiet e
-starts_quiet (made m) is = absurd is
+starts_quiet (made asked answer) is = absurd is
 starts_quiet e is = is_quiet e refl (λ begun. refl)
 
 finishes_quiet : (e : Event) → Finishes e → IsQuiet e
-finishes_quiet (made m) is = absurd is
+finishes_quiet (made asked answer) is = absurd is
 finishes_quiet e is = is_quiet e refl (λ begun. refl)
 
 advances_quiet : (e : Event) → Advances e → IsQuiet e
-advances_quiet (made m) is = absurd is
+advances_quiet (made asked answer) is = absurd is
 advances_quiet e is = is_quiet e refl (λ begun. refl)
 
 goes_quiet : (Kind : Event → Type 0) (events : List Event) → ((e : Event) → Kind e → IsQuiet e) → GoesOn Kind events → AllByRecursion IsQuiet events
@@ -87,29 +93,3 @@ shape next lines.Look events is = one is.0 is.2
 shape next (lines.Archive bytes) events is = one is.0 is.2
 shape next lines.Clone events is = quiet (clone_quiet events is)
 shape next lines.Rows events is = one is.0 is.2
-
--- a commit that was made: it was refused, or carried out
-pub data CommitMade (trx : ℕ) (m : Made) : Type 0 where
-  was_refused : (call : Call) (cause : Cause) → m ≡ refused call cause → CommitMade trx m
-  was_done : (position : ℕ) → m ≡ done (did_commit trx position) → CommitMade trx m
-
-abbrev same_trx : Call → ℕ
-same_trx (commit trx) = trx
-same_trx call = 0
-
-pub commit_made : (trx : ℕ) (m : Made) → made_call m ≡ commit trx → CommitMade trx m
-commit_made trx (refused call cause) is = was_refused call cause refl
-commit_made trx (done (did_create table buckets)) is = cc
-commit_made trx (done (did_drop table)) is = cc
-commit_made trx (done (did_begin writer index t)) is = cc
-commit_made trx (done (did_put t table key value)) is = cc
-commit_made trx (done (did_delete t table key)) is = cc
-commit_made trx (done (did_get t table key value)) is = cc
-commit_made trx (done (did_undo_one t undone)) is = cc
-commit_made trx (done (did_flush_begin space page)) is = cc
-commit_made trx (done (did_flush_half space page)) is = cc
-commit_made trx (done (did_flush_land space page)) is = cc
-commit_made trx (done (did_oldest_dirty page)) is = cc
-commit_made trx (done (did_checkpoint lsn)) is = cc
-commit_made trx (done (did_end lsn)) is = cc
-commit_made trx (done (did_commit t position)) is = was_done position (ap (λ n. done (did_commit n position)) (ap same_trx is))

@@ -1,11 +1,13 @@
 -- A line adds at most one commit, and at most one transaction of each writer.
-use Rattle.std.proofs.Common.{◌≡◌, ℕ, ◌+◌, ◌≤◌, List, [], ◌∷◌, length, Bool, true, false, cond, refl, sym, ap, ◌∙◌, subst, arith, length-append, Option, Some, None, unwrap_or, inl, inr, ◌⊎◌, filter_map, nat_cmp}
-use Rattle.clone_events.proofs.Common.{cons_option, AllByRecursion, FinMap, get, get-empty, get-insert, eq_by_cmp, Line, Cause, Donor, Call, begin, put, Done, did_create, did_drop, did_begin, did_put, did_delete, did_get, did_undo_one, did_commit, did_flush_begin, did_flush_half, did_flush_land, did_oldest_dirty, did_checkpoint, did_end, Made, done, refused, World, opened, index_in, IsWithin, Event, made, PlainEvent, counted, Happens, Events, MakesSet, not_begun, not_changed, set, LineStep, Runs, committed_at}
+use Rattle.std.proofs.Common.{◌≡◌, ℕ, ◌+◌, ◌≤◌, List, [], ◌∷◌, length, Bool, true, false, cond, refl, sym, ap, ◌∙◌, subst, arith, length-append, Option, Some, None, Result, Ok, Err, unwrap_or, inl, inr, ◌⊎◌, filter_map, nat_cmp}
+use Rattle.clone_events.proofs.Common.{cons_option, AllByRecursion, FinMap, get, get-empty, get-insert, eq_by_cmp, Line, Cause, Donor, EngineCall, EngineAnswer, World, opened, index_in, IsWithin, Event, made, PlainEvent, counted, Happens, Events, MakesSet, not_begun, not_changed, set, LineStep, Runs, committed_at}
+use Rattle.clone_plain.specs.declared.call.EngineAnswer.TheVariants as answers
+use Rattle.clone_plain.specs.declared.call.EngineCall.TheVariants as call
 use Rattle.std.specs.FinMap.{insert}
 use Rattle.std.proofs.lemmas.Cmp.{nat_cmp_total}
 use Rattle.std.proofs.lemmas.List.FromFn.{length-range_with_len}
 use Rattle.clone_events.proofs.BinlogLemmas.{events_add}
-use Rattle.clone_events.proofs.LineLemmas.{IsQuiet, Shape, one, sets, quiet, shape, CommitMade, was_refused, was_done, commit_made}
+use Rattle.clone_events.proofs.LineLemmas.{IsQuiet, Shape, one, sets, quiet, shape}
 
 abbrev Begun : Type 0
 Begun = FinMap nat_cmp ℕ
@@ -14,36 +16,15 @@ Begun = FinMap nat_cmp ℕ
 MayBegin : Begun → Begun → Type 0
 MayBegin before after = (after ≡ before) ⊎ ((writer : ℕ) × (after ≡ insert before writer (index_in before writer + 1)))
 
-done_begins : (d : Done) (begun : Begun) → MayBegin begun (counted (made (done d)) begun)
+made_begins : (asked : EngineCall) (answer : Result EngineAnswer Cause) (begun : Begun) → MayBegin begun (counted (made asked answer) begun)
 unfolding MayBegin
-done_begins (did_create table buckets) begun = inl refl
-done_begins (did_drop table) begun = inl refl
-done_begins (did_begin writer index trx) begun = inr (writer, refl)
-done_begins (did_put trx table key value) begun = inl refl
-done_begins (did_delete trx table key) begun = inl refl
-done_begins (did_get trx table key value) begun = inl refl
-done_begins (did_undo_one trx undone) begun = inl refl
-done_begins (did_commit trx position) begun = inl refl
-done_begins (did_flush_begin space page) begun = inl refl
-done_begins (did_flush_half space page) begun = inl refl
-done_begins (did_flush_land space page) begun = inl refl
-done_begins (did_oldest_dirty page) begun = inl refl
-done_begins (did_checkpoint lsn) begun = inl refl
-done_begins (did_end lsn) begun = inl refl
-
-made_begins : (m : Made) (begun : Begun) → MayBegin begun (counted (made m) begun)
-unfolding MayBegin
-made_begins (done d) begun = done_begins d begun
-made_begins (refused call cause) begun = inl refl
+made_begins (call.Begin writer index) (Ok (answers.Begin trx)) begun = inr (writer, refl)
+made_begins asked answer begun = inl refl
 
 counted_begins : (e : Event) (begun : Begun) → MayBegin begun (counted e begun)
 unfolding MayBegin
-counted_begins (made m) begun = made_begins m begun
+counted_begins (made asked answer) begun = made_begins asked answer begun
 counted_begins e begun = inl refl
-
-commit_begins : (trx : ℕ) (m : Made) (begun : Begun) → CommitMade trx m → counted (made m) begun ≡ begun
-commit_begins trx m begun (was_refused call cause is) = ap (λ n. counted (made n) begun) is
-commit_begins trx m begun (was_done position is) = ap (λ n. counted (made n) begun) is
 
 one_more : (b : Bool) (x n : ℕ) (o : Option ℕ) → x ≤ n → unwrap_or o 0 ≤ n → unwrap_or (cond b (Some (x + 1)) o) 0 ≤ n + 1
 one_more true x n o le les = omega arith
@@ -65,7 +46,7 @@ at_most_one (Some position) = omega arith
 set_commits : (writer index table key : ℕ) (value : List ℕ) (events : List Event) → MakesSet writer index table key value events → length (filter_map committed_at events) ≤ 1
 set_commits writer index table key value events (not_begun cause is) = omega (arith, ap (λ es. length (filter_map committed_at es)) is)
 set_commits writer index table key value events (not_changed trx cause is) = omega (arith, ap (λ es. length (filter_map committed_at es)) is)
-set_commits writer index table key value events (set trx last commits is) = omega (arith, ap (λ es. length (filter_map committed_at es)) is, at_most_one (committed_at (made last)))
+set_commits writer index table key value events (set trx last is) = omega (arith, ap (λ es. length (filter_map committed_at es)) is, at_most_one (committed_at (made (call.Commit trx) last)))
 
 quiet_commits : (events : List Event) → AllByRecursion IsQuiet events → filter_map committed_at events ≡ []
 quiet_commits [] all = refl
@@ -87,22 +68,22 @@ module _ {D : Type 0} (plain : D → Donor) (Step : D → Event → D → Type 0
   one_begins s e t is = subst (MayBegin s.begun) (begun_of is.0 t is.2) (event_begins s e is.0 is.1)
 
   -- of a `set` the begin alone counts
-  refused_begins : (s : World D) (writer index trx : ℕ) (call : Call) (cause : Cause) (t : World D) → Events plain Step s (made (done (did_begin writer index trx)) ∷ made (refused call cause) ∷ []) t → MayBegin s.begun t.begun
+  refused_begins : (s : World D) (writer index trx table key : ℕ) (value : List ℕ) (cause : Cause) (t : World D)
+      → Events plain Step s (made (call.Begin writer index) (Ok (answers.Begin trx)) ∷ made (call.Put trx table key value) (Err cause) ∷ []) t → MayBegin s.begun t.begun
   unfolding MayBegin
-  refused_begins s writer index trx call cause t is = inr (writer, begun_of _ _ (sym is.2.2) ∙ is.2.1.begun ∙ is.1.begun)
+  refused_begins s writer index trx table key value cause t is = inr (writer, begun_of _ _ (sym is.2.2) ∙ is.2.1.begun ∙ is.1.begun)
 
-  all_begin : (s : World D) (writer index trx table key : ℕ) (value : List ℕ) (last : Made) (t : World D) → CommitMade trx last
-      → Events plain Step s (made (done (did_begin writer index trx)) ∷ made (done (did_put trx table key value)) ∷ made last ∷ []) t → MayBegin s.begun t.begun
+  all_begin : (s : World D) (writer index trx table key : ℕ) (value : List ℕ) (last : Result EngineAnswer Cause) (t : World D)
+      → Events plain Step s (made (call.Begin writer index) (Ok (answers.Begin trx)) ∷ made (call.Put trx table key value) (Ok answers.Put) ∷ made (call.Commit trx) last ∷ []) t → MayBegin s.begun t.begun
   unfolding MayBegin
-  all_begin s writer index trx table key value last t commits is =
-      inr (writer, begun_of _ _ (sym is.2.2.2) ∙ is.2.2.1.begun ∙ commit_begins trx last _ commits ∙ is.2.1.begun ∙ is.1.begun)
+  all_begin s writer index trx table key value last t is = inr (writer, begun_of _ _ (sym is.2.2.2) ∙ is.2.2.1.begun ∙ is.2.1.begun ∙ is.1.begun)
 
   set_begins : (s : World D) (writer index table key : ℕ) (value : List ℕ) (events : List Event) (t : World D) → MakesSet writer index table key value events → Events plain Step s events t → MayBegin s.begun t.begun
-  set_begins s writer index table key value events t (not_begun cause is) happened = let P : List Event → Type 0 = λ es. Events plain Step s es t in one_begins s (made (refused (begin writer index) cause)) t (subst P is happened)
-  set_begins s writer index table key value events t (not_changed trx cause is) happened = let P : List Event → Type 0 = λ es. Events plain Step s es t in refused_begins s writer index trx (put trx table key value) cause t (subst P is happened)
-  set_begins s writer index table key value events t (set trx last commits is) happened =
+  set_begins s writer index table key value events t (not_begun cause is) happened = let P : List Event → Type 0 = λ es. Events plain Step s es t in one_begins s (made (call.Begin writer index) (Err cause)) t (subst P is happened)
+  set_begins s writer index table key value events t (not_changed trx cause is) happened = let P : List Event → Type 0 = λ es. Events plain Step s es t in refused_begins s writer index trx table key value cause t (subst P is happened)
+  set_begins s writer index table key value events t (set trx last is) happened =
       let P : List Event → Type 0 = λ es. Events plain Step s es t in
-      all_begin s writer index trx table key value last t (commit_made trx last commits) (subst P is happened)
+      all_begin s writer index trx table key value last t (subst P is happened)
 
   quiet_begins : (s : World D) (events : List Event) (t : World D) → AllByRecursion IsQuiet events → Events plain Step s events t → t.begun ≡ s.begun
   quiet_begins s [] t all is = begun_of _ _ (sym is)

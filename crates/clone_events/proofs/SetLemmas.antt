@@ -1,11 +1,12 @@
 -- The commit of a `set` is of its writer, and has its one change.
-use Rattle.std.proofs.Common.{◌≡◌, ℕ, ◌+◌, ◌-◌, ◌<◌, List, [], ◌∷◌, ◌++◌, length, sym, ap, ◌∙◌, subst, arith, length-append, append_assoc, Some, slice_get, filter_map}
-use Rattle.clone_events.proofs.Common.{nat_cmp_total, nat_cmp-IsAntisymmetric, get-set_same, same_Some, slice_get-get_or, Change, Commit, Line, Donor, begun, put_of, with_change, Changes, did_begin, did_put, did_commit, Made, done, PlainStep, World, Event, made, PlainEvent, Happens, Events, MakesSet, not_begun, not_changed, set, Runs, committed_at, IsSet, AreSets}
+use Rattle.std.proofs.Common.{◌≡◌, ℕ, ◌+◌, ◌-◌, ◌<◌, List, [], ◌∷◌, ◌++◌, length, sym, ap, ◌∙◌, subst, arith, length-append, append_assoc, Some, Result, Ok, slice_get, filter_map}
+use Rattle.clone_events.proofs.Common.{nat_cmp_total, nat_cmp-IsAntisymmetric, get-set_same, same_Some, slice_get-get_or, Change, Commit, Line, Donor, begun, put_of, with_change, Changes, EngineCall, EngineAnswer, Cause, PlainStep, World, Event, made, PlainEvent, Happens, Events, MakesSet, not_begun, not_changed, set, Runs, committed_at, IsSet, AreSets}
+use Rattle.clone_plain.specs.declared.call.EngineAnswer.TheVariants as answers
+use Rattle.clone_plain.specs.declared.call.EngineCall.TheVariants as call
 use Rattle.std.specs.FinMap as finite
 use Rattle.std.proofs.Math.Seq.{get_or-append_seam}
 use Rattle.clone_script.specs.declared.lines.Line.TheVariants as lines
 use Rattle.clone_events.proofs.BinlogLemmas.{events_add}
-use Rattle.clone_events.proofs.LineLemmas.{CommitMade, was_refused, was_done, commit_made}
 use Rattle.clone_events.proofs.RunLemmas.{Runs-Events}
 
 -- the commit of a transaction that began and made one change
@@ -33,16 +34,16 @@ set_stands writer index table key value before commit after more position is gro
     )
 
 module _ {D : Type 0} (plain : D → Donor) (Step : D → Event → D → Type 0) (refines : (d e : D) (event : Event) → Step d event e → PlainEvent (plain d) event (plain e)) where
-  made_step : (s u : World D) (m : Made) → Happens plain Step s (made m) u → PlainStep (plain s.donor) m (plain u.donor)
-  made_step s u m is = refines s.donor u.donor (made m) is.step
+  made_step : (s u : World D) (asked : EngineCall) (answer : Result EngineAnswer Cause) → Happens plain Step s (made asked answer) u → PlainStep (plain s.donor) asked answer (plain u.donor)
+  made_step s u asked answer is = refines s.donor u.donor (made asked answer) is.step
 
   -- a transaction began, made its one change and committed
-  set_commits : (s u v w : World D) (writer index trx table key : ℕ) (value : List ℕ) (position : ℕ) → Happens plain Step s (made (done (did_begin writer index trx))) u → Happens plain Step u (made (done (did_put trx table key value))) v
-      → Happens plain Step v (made (done (did_commit trx position))) w → (after more : List Commit) → after ≡ (plain w.donor).binlog ++ more → IsSet writer table key value after position
+  set_commits : (s u v w : World D) (writer index trx table key : ℕ) (value : List ℕ) (position : ℕ) → Happens plain Step s (made (call.Begin writer index) (Ok (answers.Begin trx))) u → Happens plain Step u (made (call.Put trx table key value) (Ok answers.Put)) v
+      → Happens plain Step v (made (call.Commit trx) (Ok (answers.Commit position))) w → (after more : List Commit) → after ≡ (plain w.donor).binlog ++ more → IsSet writer table key value after position
   set_commits s u v w writer index trx table key value position begins puts commits after more grown =
-      let first = made_step s u _ begins in
-      let second = made_step u v _ puts in
-      let third = made_step v w _ commits in
+      let first = made_step s u _ _ begins in
+      let second = made_step u v _ _ puts in
+      let third = made_step v w _ _ commits in
       let whole = one_change _ _ _ trx writer index (put_of table key value) third.1.commit first.1.1 second.1 third.1.was_active in
       set_stands writer index table key value (plain v.donor).binlog third.1.commit after more position whole (grown ∙ ap (λ (d : Donor). d.binlog ++ more) third.1.is) third.1.count
 
@@ -52,25 +53,22 @@ module _ {D : Type 0} (plain : D → Donor) (Step : D → Event → D → Type 0
   same_position : (p position : ℕ) → p ∷ [] ≡ position ∷ [] → p ≡ position
   same_position p position is = cc
 
-  -- all three calls of a `set` were made, and the last is that of its commit
-  all_set : (s t : World D) (writer index trx table key : ℕ) (value : List ℕ) (last : Made) (position : ℕ) → CommitMade trx last → Events plain Step s (made (done (did_begin writer index trx)) ∷ made (done (did_put trx table key value)) ∷ made last ∷ []) t
-      → filter_map committed_at (made last ∷ []) ≡ position ∷ [] → (after more : List Commit) → after ≡ (plain t.donor).binlog ++ more → IsSet writer table key value after position
-  all_set s t writer index trx table key value last position (was_refused call cause is) happened answered after more grown = absurd (no_position position (ap (λ m. filter_map committed_at (made m ∷ [])) (sym is) ∙ answered))
-  all_set s t writer index trx table key value last position (was_done p is) happened answered after more grown =
-      let P : Made → Type 0 = λ m. Happens plain Step happened.2.0 (made m) happened.2.2.0 in
-      let committed = subst P is happened.2.2.1 in
-      let same : p ≡ position = same_position p position (ap (λ m. filter_map committed_at (made m ∷ [])) (sym is) ∙ answered) in
+  -- all three calls of a `set` were made, and the last was answered by a position
+  all_set : (s t : World D) (writer index trx table key : ℕ) (value : List ℕ) (last : Result EngineAnswer Cause) (position : ℕ) → Events plain Step s (made (call.Begin writer index) (Ok (answers.Begin trx)) ∷ made (call.Put trx table key value) (Ok answers.Put) ∷ made (call.Commit trx) last ∷ []) t
+      → filter_map committed_at (made (call.Commit trx) last ∷ []) ≡ position ∷ [] → (after more : List Commit) → after ≡ (plain t.donor).binlog ++ more → IsSet writer table key value after position
+  all_set s t writer index trx table key value (Ok (answers.Commit p)) position happened answered after more grown =
       let end = ap (λ (w : World D). (plain w.donor).binlog) happened.2.2.2 in
       let Q : ℕ → Type 0 = IsSet writer table key value after in
-      subst Q same (set_commits s happened.0 happened.2.0 happened.2.2.0 writer index trx table key value p happened.1 happened.2.1 committed after more (grown ∙ ap (λ b. b ++ more) (sym end)))
+      subst Q (same_position p position answered) (set_commits s happened.0 happened.2.0 happened.2.2.0 writer index trx table key value p happened.1 happened.2.1 happened.2.2.1 after more (grown ∙ ap (λ b. b ++ more) (sym end)))
+  all_set s t writer index trx table key value last position happened answered after more grown = absurd (no_position position answered)
 
   set_is : (s t : World D) (writer index table key : ℕ) (value : List ℕ) (events : List Event) (position : ℕ) → MakesSet writer index table key value events → Events plain Step s events t → filter_map committed_at events ≡ position ∷ []
       → (after more : List Commit) → after ≡ (plain t.donor).binlog ++ more → IsSet writer table key value after position
   set_is s t writer index table key value events position (not_begun cause is) happened answered after more grown = absurd (no_position position (ap (filter_map committed_at) (sym is) ∙ answered))
   set_is s t writer index table key value events position (not_changed trx cause is) happened answered after more grown = absurd (no_position position (ap (filter_map committed_at) (sym is) ∙ answered))
-  set_is s t writer index table key value events position (set trx last commits is) happened answered after more grown =
+  set_is s t writer index table key value events position (set trx last is) happened answered after more grown =
       let P : List Event → Type 0 = λ es. Events plain Step s es t in
-      all_set s t writer index trx table key value last position (commit_made trx last commits) (subst P is happened) (ap (filter_map committed_at) (sym is) ∙ answered) after more grown
+      all_set s t writer index trx table key value last position (subst P is happened) (ap (filter_map committed_at) (sym is) ∙ answered) after more grown
 
   -- each `set` of a run stands in the binlog that the run leaves
   pub are_sets : (s : World D) (ls : List Line) (events : List (List Event)) (t : World D) → Runs plain Step s ls events t → AreSets ls events (plain t.donor).binlog

@@ -1,16 +1,17 @@
 -- What a line has done where memory ran out in it.
-use Rattle.std.specs.Prelude.{ℕ, ◌≡◌, ◌⊎◌, Bool, List, [], ◌∷◌, ◌++◌}
+use Rattle.std.specs.Prelude.{ℕ, ◌≡◌, ◌⊎◌, Bool, List, [], ◌∷◌, ◌++◌, Ok}
 use Rattle.std.specs.List.{AllByRecursion}
 use Rattle.clone_script.specs.declared.lines.Line.{Line}
 use Rattle.clone_plain.specs.Donor.{Donor}
-use Rattle.clone_plain.specs.Calls.{Done, done}
+use Rattle.clone_plain.specs.declared.call.EngineAnswer.{EngineAnswer}
+use Rattle.clone_plain.specs.declared.call.EngineCall.{EngineCall}
 use Rattle.clone_events.specs.World.{World, Clone, index_in}
 use Rattle.clone_events.specs.Events.{Event, made, Clones, Events, clone_after}
 use Rattle.clone_events.specs.Runs.{Makes}
 
 -- a call was carried out, against which there was no cause
 abbrev pub IsDone : Event → Type 0
-IsDone event = (d : Done) × (event ≡ made (done d))
+IsDone event = (asked : EngineCall) × (given : EngineAnswer) × (event ≡ made asked (Ok given))
 
 -- a clone of this donor became another by these events
 abbrev pub Becomes : Donor → Bool → Clone → List Event → Clone → Type 0

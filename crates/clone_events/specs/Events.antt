@@ -2,7 +2,7 @@
 -- becomes of its clone, rows that are shown, and orders to disks. The donor, with the disks behind
 -- it, is of a type D; `plain` tells the plain donor that it is, and `Step` what an event does to
 -- it.
-use Rattle.std.specs.Prelude.{ℕ, ◌≡◌, ◌≢◌, ◌≤◌, ◌+◌, ◌==◌, Bool, true, is_some, List, [], ◌∷◌, ◌++◌, length, None, Some, MatchOption, codes}
+use Rattle.std.specs.Prelude.{ℕ, ◌≡◌, ◌≢◌, ◌≤◌, ◌+◌, ◌==◌, Bool, true, is_some, List, [], ◌∷◌, ◌++◌, length, None, Some, Result, Ok, MatchOption, codes}
 use Rattle.std.specs.Fmt.{decimal}
 use Rattle.std.specs.declared.option.Option.{Option}
 use Rattle.std.specs.FinMap as finite
@@ -11,8 +11,13 @@ use Rattle.clone_outside.specs.declared.disk.DiskOrder.{DiskOrder}
 use Rattle.clone_model.specs.History.{Rows, fold, rows_in}
 use Rattle.clone_plain.specs.Donor.{Donor}
 use Rattle.clone_plain.specs.Effects.{Gets}
-use Rattle.clone_plain.specs.Calls.{did_begin, did_get, Made, done, PlainStep}
-use Rattle.clone_plain.specs.Answers.{Text, made_text, rows_answer}
+use Rattle.clone_plain.specs.Calls.{PlainStep}
+use Rattle.clone_plain.specs.declared.call.EngineAnswer.{EngineAnswer}
+use Rattle.clone_plain.specs.declared.call.EngineAnswer.TheVariants as answers
+use Rattle.clone_plain.specs.declared.call.EngineCall.{EngineCall}
+use Rattle.clone_plain.specs.declared.call.EngineCall.TheVariants as call
+use Rattle.clone_plain.specs.declared.refusal.Cause.{Cause}
+use Rattle.clone_plain.specs.Answers.{Text, called_text, rows_answer}
 use Rattle.clone_events.specs.World.{World, Stop, Progress, absent, copying, complete, broken, spent, Clone, IsUnderWay, HasEnded, IsSure, index_in, stop_now, before_stop, with_floor}
 
 -- the two sides of a clone
@@ -26,8 +31,8 @@ pub data Wish : Type 0 where
   to_go_on : Wish
 
 pub data Event : Type 0 where
-  -- a call of the donor
-  made : Made → Event
+  -- a call of the donor, with its answer
+  made : EngineCall → Result EngineAnswer Cause → Event
   -- so many pages landed, and no dirty page waits for its flush
   cleaned : (landed : ℕ) → Event
   -- the requester looks up how many commits there are
@@ -73,7 +78,7 @@ spent_text = codes "restarts spent 1"
 
 -- the answer that an event gives a line, whose last it is; a stop is never the last
 abbrev pub event_text : Event → Text
-event_text (made m) = made_text m
+event_text (made asked answer) = called_text answer
 event_text (cleaned landed) = codes "cleaned " ++ decimal landed
 event_text (looked position) = codes "position " ++ decimal position
 event_text (archived limit (Some lsn)) = codes "archived " ++ decimal lsn
@@ -100,7 +105,7 @@ said (e ∷ f ∷ more) = said (f ∷ more)
 
 -- a writer has begun one transaction more
 abbrev pub counted : Event → finite.FinMap nat_cmp ℕ → finite.FinMap nat_cmp ℕ
-counted (made (done (did_begin writer index trx))) begun =
+counted (made (call.Begin writer index) (Ok (answers.Begin trx))) begun =
     finite.insert begun writer (index_in begun writer + 1)
 counted event begun = begun
 
@@ -192,12 +197,12 @@ pub record Clones (d : Donor) (tells : Bool) (old : Clone) (e : Event) (new : Cl
 
 -- the value that a `get` answers is the row's
 abbrev pub Sees : Donor → Event → Type 0
-Sees d (made (done (did_get trx table key value))) = Gets d trx table key value
+Sees d (made (call.Get trx table key) (Ok (answers.Get value))) = Gets d trx table key value
 Sees d event = Unit {0}
 
 -- a step of the plain donor, which knows no disk
 abbrev pub PlainEvent : Donor → Event → Donor → Type 0
-PlainEvent d (made m) after = PlainStep d m after
+PlainEvent d (made asked answer) after = PlainStep d asked answer after
 PlainEvent d event after = after ≡ d
 
 module _ {D : Type 0} (plain : D → Donor) (Step : D → Event → D → Type 0) where

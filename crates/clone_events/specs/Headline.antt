@@ -1,5 +1,5 @@
 -- What a whole run says of its binlog and of its clone.
-use Rattle.std.specs.Prelude.{ℕ, ◌≡◌, ◌-◌, ◌⊎◌, Bool, List, [], ◌∷◌, ◌++◌, length, None, Some, unwrap_or, slice_get}
+use Rattle.std.specs.Prelude.{ℕ, ◌≡◌, ◌-◌, ◌⊎◌, Bool, List, [], ◌∷◌, ◌++◌, length, None, Some, Ok, Err, unwrap_or, slice_get}
 use Rattle.std.specs.declared.option.Option.{Option}
 use Rattle.std.specs.List.{filter_map, flat_map, range_with_len}
 use Rattle.clone_model.specs.History.{Drops}
@@ -9,7 +9,8 @@ use Rattle.clone_script.specs.declared.lines.Line.TheVariants as lines
 use Rattle.clone_plain.specs.Donor.{Donor}
 use Rattle.clone_plain.specs.Effects.{put_of}
 use Rattle.clone_plain.specs.declared.refusal.Cause.TheVariants.{DiskFault}
-use Rattle.clone_plain.specs.Calls.{drop, did_commit, did_drop, done, refused}
+use Rattle.clone_plain.specs.declared.call.EngineAnswer.TheVariants as answers
+use Rattle.clone_plain.specs.declared.call.EngineCall.TheVariants as call
 use Rattle.clone_outside.specs.declared.disk.DiskOrder.{DiskOrder}
 use Rattle.clone_outside.specs.declared.disk.DiskOrder.TheVariants as order
 use Rattle.clone_events.specs.World.{Clone}
@@ -21,7 +22,7 @@ all_events events = flat_map (λ es. es) events
 
 -- the position that an event was answered by which a transaction committed
 abbrev pub committed_at : Event → Option ℕ
-committed_at (made (done (did_commit trx position))) = Some position
+committed_at (made (call.Commit trx) (Ok (answers.Commit position))) = Some position
 committed_at event = None
 
 -- The positions that were answered are 1, 2, 3 and so on, one for each commit of the binlog.
@@ -31,8 +32,9 @@ AreCommits events binlog = filter_map committed_at events ≡ range_with_len 1 (
 -- The drops that an event makes, behind so many commits: the one that was carried out, and maybe
 -- the one in which the disk failed.
 abbrev pub MakesDrops : ℕ → Event → Drops → Type 0
-MakesDrops position (made (done (did_drop table))) drops = drops ≡ (position, table) ∷ []
-MakesDrops position (made (refused (drop table) DiskFault)) drops =
+MakesDrops position (made (call.Drop table) (Ok answers.Drop)) drops =
+    drops ≡ (position, table) ∷ []
+MakesDrops position (made (call.Drop table) (Err DiskFault)) drops =
     (drops ≡ []) ⊎ (drops ≡ (position, table) ∷ [])
 MakesDrops position event drops = drops ≡ []
 

@@ -1,5 +1,5 @@
 -- Which events a line makes, and runs of lines.
-use Rattle.std.specs.Prelude.{ℕ, ◌≡◌, List, [], ◌∷◌, ◌++◌, length, None, Some}
+use Rattle.std.specs.Prelude.{ℕ, ◌≡◌, List, [], ◌∷◌, ◌++◌, length, None, Some, Result, Ok, Err}
 use Rattle.std.specs.List.{flat_map}
 use Rattle.clone_outside.specs.declared.disk.DiskOrder.TheVariants as order
 use Rattle.clone_model.specs.Texts.{ended}
@@ -7,41 +7,47 @@ use Rattle.clone_script.specs.declared.lines.Line.{Line}
 use Rattle.clone_script.specs.declared.lines.Line.TheVariants.{Create, Drop, Begin, Put, Delete, Get, Undo, Commit, Set, Flush, Half, Land, Clean, Checkpoint, Lsn, Tear, FailDonor, FailRecipient, Start, Advance, Finish, Look, Archive, Clone, Rows as ShowRows}
 use Rattle.clone_plain.specs.declared.refusal.Cause.{Cause}
 use Rattle.clone_plain.specs.Donor.{Donor}
-use Rattle.clone_plain.specs.Calls.{Call, create, drop, begin, put, delete, get, undo_one, commit, flush_begin, flush_half, flush_land, checkpoint, end, Done, did_begin, did_put, did_flush_begin, did_flush_half, did_flush_land, did_oldest_dirty, Made, done, refused, made_call, call_of}
+use Rattle.clone_plain.specs.declared.call.EngineAnswer.{EngineAnswer}
+use Rattle.clone_plain.specs.declared.call.EngineAnswer.TheVariants as answers
+use Rattle.clone_plain.specs.declared.call.EngineCall.{EngineCall}
+use Rattle.clone_plain.specs.declared.call.EngineCall.TheVariants as call
 use Rattle.clone_events.specs.World.{World, Stop, index_in}
 use Rattle.clone_events.specs.Events.{to_donor, to_recipient, to_begin, to_go_on, Event, made, cleaned, looked, archived, started, stopped, readied, completed, broke, lost, again, showed, incomplete, hidden, damaged, ordered, said, Events}
 
--- one call is made
-abbrev pub MakesOne : Call → List Event → Type 0
-MakesOne call events = (m : Made) × (made_call m ≡ call) × (events ≡ made m ∷ [])
+-- one call is made, and answered
+abbrev pub MakesOne : EngineCall → List Event → Type 0
+MakesOne asked events = (answer : Result EngineAnswer Cause) × (events ≡ made asked answer ∷ [])
 
 -- A transaction begins, makes one change and commits, as far as none of the three calls is refused.
 pub data MakesSet (writer index table key : ℕ) (value : List ℕ) (events : List Event) : Type 0 where
-  not_begun : (cause : Cause) → events ≡ made (refused (begin writer index) cause) ∷ []
+  not_begun : (cause : Cause) → events ≡ made (call.Begin writer index) (Err cause) ∷ []
       → MakesSet writer index table key value events
   not_changed : (trx : ℕ) (cause : Cause)
-      → events ≡ made (done (did_begin writer index trx))
-      ∷ made (refused (put trx table key value) cause) ∷ []
+      → events ≡ made (call.Begin writer index) (Ok (answers.Begin trx))
+      ∷ made (call.Put trx table key value) (Err cause) ∷ []
       → MakesSet writer index table key value events
-  set : (trx : ℕ) (last : Made) → made_call last ≡ commit trx
-      → events ≡ made (done (did_begin writer index trx))
-      ∷ made (done (did_put trx table key value)) ∷ made last ∷ []
+  set : (trx : ℕ) (last : Result EngineAnswer Cause)
+      → events ≡ made (call.Begin writer index) (Ok (answers.Begin trx))
+      ∷ made (call.Put trx table key value) (Ok answers.Put) ∷ made (call.Commit trx) last ∷ []
       → MakesSet writer index table key value events
 
 -- the calls that flush a page, each carried out
 abbrev pub flushed : ℕ × ℕ → List Event
 flushed page =
-    made (done (did_oldest_dirty (Some page))) ∷ made (done (did_flush_begin page.0 page.1))
-    ∷ made (done (did_flush_half page.0 page.1)) ∷ made (done (did_flush_land page.0 page.1)) ∷ []
+    made call.OldestDirty (Ok (answers.OldestDirty (Some page)))
+    ∷ made (call.FlushBegin page.0 page.1) (Ok answers.FlushBegin)
+    ∷ made (call.FlushHalf page.0 page.1) (Ok answers.FlushHalf)
+    ∷ made (call.FlushLand page.0 page.1) (Ok answers.FlushLand) ∷ []
 
 -- The oldest dirty page is flushed until there is none, as far as none of the calls is refused.
 pub data MakesClean (events : List Event) : Type 0 where
   all_clean : (pages : List (ℕ × ℕ)) → events ≡ flat_map flushed pages
-      ++ made (done (did_oldest_dirty None)) ∷ cleaned (length pages) ∷ []
+      ++ made call.OldestDirty (Ok (answers.OldestDirty None)) ∷ cleaned (length pages) ∷ []
       → MakesClean events
-  not_flushed : (pages : List (ℕ × ℕ)) (page : ℕ × ℕ) (front rest : List Event) (next : Done)
-      (cause : Cause) → flushed page ≡ front ++ made (done next) ∷ rest
-      → events ≡ flat_map flushed pages ++ front ++ made (refused (call_of next) cause) ∷ []
+  not_flushed : (pages : List (ℕ × ℕ)) (page : ℕ × ℕ) (front rest : List Event)
+      (asked : EngineCall) (given : EngineAnswer) (cause : Cause)
+      → flushed page ≡ front ++ made asked (Ok given) ∷ rest
+      → events ≡ flat_map flushed pages ++ front ++ made asked (Err cause) ∷ []
       → MakesClean events
 
 -- what `start` may make happen
@@ -97,22 +103,22 @@ ShowsOrNot event = ⊥
 
 -- the events of a line, where each writer's next transaction has this index
 abbrev pub Makes : (ℕ → ℕ) → Line → List Event → Type 0
-Makes next (Create table buckets) events = MakesOne (create table buckets) events
-Makes next (Drop table) events = MakesOne (drop table) events
-Makes next (Begin writer) events = MakesOne (begin writer (next writer)) events
-Makes next (Put trx table key value) events = MakesOne (put trx table key value) events
-Makes next (Delete trx table key) events = MakesOne (delete trx table key) events
-Makes next (Get trx table key) events = MakesOne (get trx table key) events
-Makes next (Undo trx) events = MakesOne (undo_one trx) events
-Makes next (Commit trx) events = MakesOne (commit trx) events
+Makes next (Create table buckets) events = MakesOne (call.Create table buckets) events
+Makes next (Drop table) events = MakesOne (call.Drop table) events
+Makes next (Begin writer) events = MakesOne (call.Begin writer (next writer)) events
+Makes next (Put trx table key value) events = MakesOne (call.Put trx table key value) events
+Makes next (Delete trx table key) events = MakesOne (call.Delete trx table key) events
+Makes next (Get trx table key) events = MakesOne (call.Get trx table key) events
+Makes next (Undo trx) events = MakesOne (call.UndoOne trx) events
+Makes next (Commit trx) events = MakesOne (call.Commit trx) events
 Makes next (Set writer table key value) events =
     MakesSet writer (next writer) table key value events
-Makes next (Flush space page) events = MakesOne (flush_begin space page) events
-Makes next (Half space page) events = MakesOne (flush_half space page) events
-Makes next (Land space page) events = MakesOne (flush_land space page) events
+Makes next (Flush space page) events = MakesOne (call.FlushBegin space page) events
+Makes next (Half space page) events = MakesOne (call.FlushHalf space page) events
+Makes next (Land space page) events = MakesOne (call.FlushLand space page) events
 Makes next Clean events = MakesClean events
-Makes next Checkpoint events = MakesOne checkpoint events
-Makes next Lsn events = MakesOne end events
+Makes next Checkpoint events = MakesOne call.Checkpoint events
+Makes next Lsn events = MakesOne call.End events
 Makes next (Tear byte) events = events ≡ ordered to_donor (order.Tear byte) ∷ []
 Makes next (FailDonor call) events = events ≡ ordered to_donor (order.FailAt call) ∷ []
 Makes next (FailRecipient call) events = events ≡ ordered to_recipient (order.FailAt call) ∷ []

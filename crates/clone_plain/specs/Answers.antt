@@ -1,5 +1,5 @@
 -- The texts of answers, without the line feed behind them.
-use Rattle.std.specs.Prelude.{ℕ, List, [], ◌++◌, length, None, Some, codes}
+use Rattle.std.specs.Prelude.{ℕ, List, [], ◌++◌, length, None, Some, codes, Result, Ok, Err}
 use Rattle.std.specs.declared.option.Option.{Option}
 use Rattle.std.specs.Fmt.{decimal}
 use Rattle.clone_model.specs.History.{Row}
@@ -8,7 +8,8 @@ use Rattle.clone_plain.specs.declared.refusal.Cause.{Cause}
 use Rattle.clone_plain.specs.declared.refusal.Cause.TheVariants.{NoSuchTrx, NoSuchTable, TableExists, RowLocked, ValueTooLong, UndoFull, SpaceFull, LogFull, PoolFull, TooManyTransactions, TooManyTables, CloneRunning, TableInUse, NotDirty, InFlight, NoFlush, DiskFault}
 use Rattle.clone_plain.specs.declared.refusal.Undone.{Undone}
 use Rattle.clone_plain.specs.declared.refusal.Undone.TheVariants.{Left, Ended}
-use Rattle.clone_plain.specs.Calls.{Done, did_create, did_drop, did_begin, did_put, did_delete, did_get, did_undo_one, did_commit, did_flush_begin, did_flush_half, did_flush_land, did_oldest_dirty, did_checkpoint, did_end, Made, done, refused}
+use Rattle.clone_plain.specs.declared.call.EngineAnswer.{EngineAnswer}
+use Rattle.clone_plain.specs.declared.call.EngineAnswer.TheVariants as answers
 
 abbrev pub Text : Type 0
 Text = List ℕ
@@ -44,25 +45,26 @@ undone_answer (Left left) = codes "undone " ++ decimal left
 undone_answer Ended = codes "ended"
 
 -- the answer of a call that was carried out; that of a look for a dirty page no line shows
-abbrev pub done_text : Done → Text
-done_text (did_create table buckets) = codes "created"
-done_text (did_drop table) = codes "dropped"
-done_text (did_begin writer index trx) = codes "trx " ++ decimal trx
-done_text (did_put trx table key value) = codes "ok"
-done_text (did_delete trx table key) = codes "ok"
-done_text (did_get trx table key value) = value_answer value
-done_text (did_undo_one trx undone) = undone_answer undone
-done_text (did_commit trx position) = codes "committed " ++ decimal position
-done_text (did_flush_begin space page) = codes "begun"
-done_text (did_flush_half space page) = codes "half"
-done_text (did_flush_land space page) = codes "landed"
-done_text (did_oldest_dirty page) = []
-done_text (did_checkpoint lsn) = codes "checkpoint " ++ decimal lsn
-done_text (did_end lsn) = codes "lsn " ++ decimal lsn
+abbrev pub answer_text : EngineAnswer → Text
+answer_text answers.Create = codes "created"
+answer_text answers.Drop = codes "dropped"
+answer_text (answers.Begin trx) = codes "trx " ++ decimal trx
+answer_text answers.Put = codes "ok"
+answer_text answers.Delete = codes "ok"
+answer_text (answers.Get value) = value_answer value
+answer_text (answers.UndoOne undone) = undone_answer undone
+answer_text (answers.Commit position) = codes "committed " ++ decimal position
+answer_text answers.FlushBegin = codes "begun"
+answer_text answers.FlushHalf = codes "half"
+answer_text answers.FlushLand = codes "landed"
+answer_text (answers.OldestDirty page) = []
+answer_text (answers.Checkpoint lsn) = codes "checkpoint " ++ decimal lsn
+answer_text (answers.End lsn) = codes "lsn " ++ decimal lsn
 
-abbrev pub made_text : Made → Text
-made_text (done d) = done_text d
-made_text (refused call cause) = refusal_text cause
+-- and of one that was refused
+abbrev pub called_text : Result EngineAnswer Cause → Text
+called_text (Ok given) = answer_text given
+called_text (Err cause) = refusal_text cause
 
 -- the rows, each on a line, and then their number
 abbrev pub rows_answer : List Row → Text

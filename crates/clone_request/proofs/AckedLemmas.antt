@@ -32,18 +32,19 @@ use Rattle.clone_track.specs.TrackedPages.{listed}
 use Rattle.clone_plain.specs.Donor as plain
 use Rattle.clone_session.specs.declared.info.StageInfo.{StageInfo}
 use Rattle.clone_session.specs.declared.info.Stop.{Stop}
-use Rattle.clone_session.specs.Cloning.{CopiesPages, CopiesRedo, IsCloning, IsInSession, IsInStage as InStage, Session}
+use Rattle.clone_session.specs.Cloning.{Cloning, CopiesPages, CopiesRedo, IsCloning, IsInSession, IsInStage as InStage, Session}
 use Rattle.clone_session.specs.declared.refusal.CloneRefusal.{CloneRefusal}
 use Rattle.clone_session.specs.CloneCauses.{donor_stage}
-use Rattle.clone_session.specs.Effects.{Becomes, acknowledged, advanced, begun, position_of, range_of, range_to, stopped_at, told_of}
+use Rattle.clone_session.specs.Effects.{Becomes, acknowledged, advanced, begun, created_since, position_of, range_of, range_to, stopped_at, told_of}
 use Rattle.clone_session.proofs.PartLemmas.{stands_as}
 use Rattle.clone_engine.specs.Engine.{Engine}
 use Rattle.clone_engine.proofs.ToldLemmas.{for_told, told_both}
-use Rattle.clone_engine.specs.Acts as act
-use Rattle.clone_engine.specs.Acts.{Acts}
+use Rattle.clone_calls.specs.declared.answer.DonorAnswer.TheVariants as answer
+use Rattle.clone_calls.specs.declared.call.DonorCall.TheVariants as call
+use Rattle.clone_engine.specs.Acts.{CloneActs}
 use Rattle.clone_engine.specs.Archives.{IsOfLog}
 use Rattle.clone_engine.specs.Copying.{moment_of, taken_after, taken_over}
-use Rattle.clone_engine.specs.Donor.{Donor, IsDonor, list_of}
+use Rattle.clone_engine.specs.Donor.{Donor, IsDonor, known_files, list_of}
 use Rattle.clone_engine.specs.Laid.{IsComplete, IsLaid}
 use Rattle.clone_engine.specs.Taken.{HasStopped, IsTaken, IsTakenBy, Taken}
 use Rattle.clone_engine.proofs.GoingLemmas.{Like, like}
@@ -63,6 +64,10 @@ use Rattle.clone_request.proofs.WaitLemmas.{first_settled, none_waits}
 abbrev pub number_of : StageList → ℕ
 number_of l = stage_number (stage_of l)
 
+-- a donor's clone once its stage is over
+abbrev stage_over : Donor → Session → StageList → Cloning
+stage_over d s l = advanced (moment_of d.engine) (known_files d.engine) s l d.cloning
+
 -- Archived bytes as many as a log has from the archive's start on are those of the log.
 log_whole : (log rest whole : List (List Record)) (a : Archived) → IsOfLog whole a → whole ≡ log ++ rest → archived_of a ≤ ends log → length a.bytes ≡ length (drop (a.start - first_lsn) (log_of log)) → a.bytes ≡ drop (a.start - first_lsn) (log_of log)
 log_whole log rest whole a of grown within count =
@@ -81,7 +86,7 @@ stopped_start copy start log starts v is (inl tracked) = let wrong : machine.Tra
 stopped_start copy start log starts v is (inr from) = from
 
 -- A stage is copied, and acknowledged.
-module _ (d t : Donor) (s : Session) (taken : Taken) (sizes : PageCounts) (told : Option DiskImage) (stop : Option plain.Donor) (info : StageInfo) (held : IsInStage d s None taken sizes told) (finished : All (λ chunk. chunk ≡ Finished) s.snap.chunks) (snap : IsSnap s.snap.list s.snap.chunks s.snap.room) (at_is : option_map (λ (e : Engine). e.donor) taken.stop ≡ stop) where
+module _ (d t : Donor) (s : Session) (taken : Taken) (sizes : PageCounts) (told : Option DiskImage) (stop : Option plain.Donor) (info : StageInfo) (floor : ℕ) (held : IsInStage d s None taken sizes told) (finished : All (λ chunk. chunk ≡ Finished) s.snap.chunks) (snap : IsSnap s.snap.list s.snap.chunks s.snap.room) (at_is : option_map (λ (e : Engine). e.donor) taken.stop ≡ stop) where
   abbrev Held : DiskImage → Type 0
   Held m = HoldsStage s.snap.list s.snap.chunks None taken d.cloning.archive m
 
@@ -92,23 +97,23 @@ module _ (d t : Donor) (s : Session) (taken : Taken) (sizes : PageCounts) (told 
   none_pages m holds = holds_weaker (WaitsForPage s.snap.list s.snap.chunks None) no_page taken.copies m (λ space number. nothing_waits (HasPage space number)) holds.pages
 
   -- the donor's stage is this one
-  module _ (l : StageList) (list : s.snap.list ≡ l) (acts : Acts (act.Ack CALLER (number_of l) info) d t) (own : (number_of l == number_of l) ≡ true) where
+  module _ (l : StageList) (list : s.snap.list ≡ l) (acts : CloneActs (call.Ack CALLER (number_of l) floor) (answer.Ack (Ok info)) d t) (own : (number_of l == number_of l) ≡ true) where
     abbrev over : Taken
     over = taken_over d.engine l taken
 
     copies_list : list_of d.cloning ≡ Some l
     copies_list = ap (option_map (λ (s : Session). s.snap.list)) held.session ∙ ap (λ (x : StageList). Some x) list
 
-    pub becomes : Becomes t.cloning (advanced (moment_of d.engine) s l d.cloning)
+    pub becomes : Becomes t.cloning (stage_over d s l)
     becomes =
-        let did = acts.does.acknowledges in
+        let did = acts.does.1.acknowledges in
         let same = same_session d.cloning.session did.0 s (stands_as d.cloning.session CALLER.session did.0 did.1) held.session in
-        let ends : acknowledged (moment_of d.engine) (number_of l) s d.cloning ≡ advanced (moment_of d.engine) s l d.cloning =
-        ((λ i. if number_of l == number_of (list i) then advanced (moment_of d.engine) s (list i) d.cloning else d.cloning) ∙ ap (λ (b : Bool). if b then advanced (moment_of d.engine) s l d.cloning else d.cloning) own) in
-        subst (Becomes t.cloning) ends (subst (λ (x : Session). Becomes t.cloning (acknowledged (moment_of d.engine) (number_of l) x d.cloning)) same did.2)
+        let ends : acknowledged (moment_of d.engine) (known_files d.engine) (number_of l) s d.cloning ≡ stage_over d s l =
+        ((λ i. if number_of l == number_of (list i) then stage_over d s (list i) else d.cloning) ∙ ap (λ (b : Bool). if b then stage_over d s l else d.cloning) own) in
+        subst (Becomes t.cloning) ends (subst (λ (x : Session). Becomes t.cloning (acknowledged (moment_of d.engine) (known_files d.engine) (number_of l) x d.cloning)) same did.2)
 
-    pub like_after : Like t.cloning (advanced (moment_of d.engine) s l d.cloning)
-    like_after = like t.cloning (advanced (moment_of d.engine) s l d.cloning) becomes
+    pub like_after : Like t.cloning (stage_over d s l)
+    like_after = like t.cloning (stage_over d s l) becomes
 
     pub goes : IsTaken t over
     goes =
@@ -118,10 +123,10 @@ module _ (d t : Donor) (s : Session) (taken : Taken) (sizes : PageCounts) (told 
         subst (IsTaken t) ends (acts.taken taken held.is)
 
     pub tells : t.engine.disk.told ≡ d.engine.disk.told
-    tells = ap (λ (e : Engine). e.disk.told) acts.does.settles
+    tells = ap (λ (e : Engine). e.disk.told) acts.does.1.settles
 
-    pub comes_to : (next : StageList) → (advanced (moment_of d.engine) s l d.cloning).session ≡ Some (record s { snap = begun next }) → Comes t.cloning info next
-    comes_to next is = comes t.cloning (advanced (moment_of d.engine) s l d.cloning) info s next held.own acts.does.acknowledges.3 becomes is
+    pub comes_to : (next : StageList) (created : List (ℕ × ℕ)) → (stage_over d s l).session ≡ Some (record s { snap = begun next; created = created }) → Comes t.cloning info next
+    comes_to next created is = comes t.cloning (stage_over d s l) info s next created held.own acts.does.1.acknowledges.3 becomes is
 
     -- what holds of the next stage
     module _ (next : StageList) (come : Comes t.cloning info next) where
@@ -164,11 +169,11 @@ module _ (d t : Donor) (s : Session) (taken : Taken) (sizes : PageCounts) (told 
   AskedAs stages i = Asks (record { sizes = sizes; stages = stages }) d told stop (Ok i) t
 
   -- THE COPY OF FILES IS OVER
-  pub files_acked : (spaces : List (ℕ × ℕ)) → s.snap.list ≡ lists.Files spaces → Acts (act.Ack CALLER 1 info) d t → IsStopOf stop d.cloning.stop → Asked 1
+  pub files_acked : (spaces : List (ℕ × ℕ)) → s.snap.list ≡ lists.Files spaces → CloneActs (call.Ack CALLER 1 floor) (answer.Ack (Ok info)) d t → IsStopOf stop d.cloning.stop → Asked 1
   files_acked spaces list acts stopped_is =
       let l : StageList = lists.Files spaces in
       let next : StageList = lists.Pages (listed d.cloning.tracking.pages) in
-      let come = comes_to l list acts refl next refl in
+      let come = comes_to l list acts refl next (created_since spaces (known_files d.engine)) refl in
       let By : Type 0 = IsTakenBy d.cloning d.engine.buffer.log taken (list_of d.cloning) in
       let after = taken_over d.engine l taken in
       let Next : DiskImage → Type 0 = λ m. HoldsStage next (replicate (chunk_count next) Free) None after t.cloning.archive m in
@@ -181,7 +186,7 @@ module _ (d t : Donor) (s : Session) (taken : Taken) (sizes : PageCounts) (told 
       subst (AskedAs 1) (sym come.told_is) (refl, copying_next l list acts refl next come 0 stop tt at_is (λ _. early) disk, subst (IsStopOf stop) (sym (like_after l list acts refl).stop) stopped_is)
 
   -- THE STOP
-  module _ (pages : List (ℕ × ℕ)) (list : s.snap.list ≡ lists.Pages pages) (acts : Acts (act.Ack CALLER 2 info) d t) (donor : IsDonor d) (had : CopiesPages d.cloning s.snap.room) where
+  module _ (pages : List (ℕ × ℕ)) (list : s.snap.list ≡ lists.Pages pages) (acts : CloneActs (call.Ack CALLER 2 floor) (answer.Ack (Ok info)) d t) (donor : IsDonor d) (had : CopiesPages d.cloning s.snap.room) where
     abbrev l : StageList
     l = lists.Pages pages
 
@@ -210,7 +215,7 @@ module _ (d t : Donor) (s : Session) (taken : Taken) (sizes : PageCounts) (told 
     like_stopped = like t.cloning (stopped_at (moment_of d.engine) s a d.cloning) stops
 
     come : Comes t.cloning info next
-    come = comes t.cloning (stopped_at (moment_of d.engine) s a d.cloning) info s next held.own acts.does.acknowledges.3 stops refl
+    come = comes t.cloning (stopped_at (moment_of d.engine) s a d.cloning) info s next s.created held.own acts.does.1.acknowledges.3 stops refl
 
     -- the bytes of the log are in its buffer then
     buffer : IsTakenBy t.cloning t.engine.buffer.log after (list_of t.cloning) → IsBuffer d.engine.buffer
@@ -257,7 +262,7 @@ module _ (d t : Donor) (s : Session) (taken : Taken) (sizes : PageCounts) (told 
     pages_acked = subst (AskedAs 2) (sym come.told_is) (refl, copying_next l list acts refl next come a.start (stop_after_ack 2 d stop) refl at_now (λ low. absurd (omega (arith, low))) pages_disk, stopped_now)
 
   -- THE COPY OF REDO IS OVER
-  module _ (start end : ℕ) (list : s.snap.list ≡ lists.Redo start end) (acts : Acts (act.Ack CALLER 3 info) d t) (donor : IsDonor d) (archives : ForSome d.cloning.archive IsArchived) (had : CopiesRedo d.cloning s.number start end) where
+  module _ (start end : ℕ) (list : s.snap.list ≡ lists.Redo start end) (acts : CloneActs (call.Ack CALLER 3 floor) (answer.Ack (Ok info)) d t) (donor : IsDonor d) (archives : ForSome d.cloning.archive IsArchived) (had : CopiesRedo d.cloning s.number start end) where
     abbrev redo_list : StageList
     redo_list = lists.Redo start end
 
@@ -267,11 +272,11 @@ module _ (d t : Donor) (s : Session) (taken : Taken) (sizes : PageCounts) (told 
     abbrev By : Type 0
     By = IsTakenBy d.cloning d.engine.buffer.log taken (list_of d.cloning)
 
-    like_done : Like t.cloning (advanced (moment_of d.engine) s redo_list d.cloning)
+    like_done : Like t.cloning (stage_over d s redo_list)
     like_done = like_after redo_list list acts refl
 
     done_come : Comes t.cloning info lists.Nothing
-    done_come = comes_to redo_list list acts refl lists.Nothing refl
+    done_come = comes_to redo_list list acts refl lists.Nothing s.created refl
 
     still_kept : t.cloning.archive ≡ Some kept
     still_kept = like_done.archive ∙ had.stands
@@ -376,23 +381,23 @@ module _ (d t : Donor) (s : Session) (taken : Taken) (sizes : PageCounts) (told 
     redo_acked stopped_is = subst (AskedAs 3) (sym done_come.told_is) (refl, is_done, subst (IsStopOf stop) (sym like_done.stop) stopped_is)
 
   -- ANY OF THEM
-  pub each_acked : (l : StageList) → s.snap.list ≡ l → (stages : ℕ) → number_of l ≡ stages → stages ≤ 3 → InStage d.cloning s l → IsDonor d → ForSome d.cloning.archive IsArchived → IsStopOf stop d.cloning.stop → Acts (act.Ack CALLER stages info) d t → Asked stages
+  pub each_acked : (l : StageList) → s.snap.list ≡ l → (stages : ℕ) → number_of l ≡ stages → stages ≤ 3 → InStage d.cloning s l → IsDonor d → ForSome d.cloning.archive IsArchived → IsStopOf stop d.cloning.stop → CloneActs (call.Ack CALLER stages floor) (answer.Ack (Ok info)) d t → Asked stages
   each_acked (lists.Files spaces) list stages is few in_stage donor archives stopped_is acts =
-      subst (λ (n : ℕ). Acts (act.Ack CALLER n info) d t → Asked n) is (λ acts. files_acked spaces list acts stopped_is) acts
+      subst (λ (n : ℕ). CloneActs (call.Ack CALLER n floor) (answer.Ack (Ok info)) d t → Asked n) is (λ acts. files_acked spaces list acts stopped_is) acts
   each_acked (lists.Pages pages) list stages is few in_stage donor archives stopped_is acts =
-      subst (λ (n : ℕ). Acts (act.Ack CALLER n info) d t → Asked n) is (λ acts. pages_acked pages list acts donor in_stage) acts
+      subst (λ (n : ℕ). CloneActs (call.Ack CALLER n floor) (answer.Ack (Ok info)) d t → Asked n) is (λ acts. pages_acked pages list acts donor in_stage) acts
   each_acked (lists.Redo start end) list stages is few in_stage donor archives stopped_is acts =
-      subst (λ (n : ℕ). Acts (act.Ack CALLER n info) d t → Asked n) is (λ acts. redo_acked start end list acts donor archives in_stage stopped_is) acts
+      subst (λ (n : ℕ). CloneActs (call.Ack CALLER n floor) (answer.Ack (Ok info)) d t → Asked n) is (λ acts. redo_acked start end list acts donor archives in_stage stopped_is) acts
   each_acked lists.Nothing list stages is few in_stage donor archives stopped_is acts = absurd (omega (arith, is, few))
 
 -- THE NEXT STAGE IS ASKED FOR
-pub asks_next : (d t : Donor) (info : StageInfo) (r : Requester) (told : Option DiskImage) (stop : Option plain.Donor) → IsDonor d → IsCloning d.cloning → ForSome d.cloning.archive IsArchived → ForSome d.cloning.session (λ s. IsSnap s.snap.list s.snap.chunks s.snap.room) → IsCopied d r told stop → IsStopOf stop d.cloning.stop → Acts (act.Ack CALLER r.stages info) d t
+pub asks_next : (d t : Donor) (info : StageInfo) (floor : ℕ) (r : Requester) (told : Option DiskImage) (stop : Option plain.Donor) → IsDonor d → IsCloning d.cloning → ForSome d.cloning.archive IsArchived → ForSome d.cloning.session (λ s. IsSnap s.snap.list s.snap.chunks s.snap.room) → IsCopied d r told stop → IsStopOf stop d.cloning.stop → CloneActs (call.Ack CALLER r.stages floor) (answer.Ack (Ok info)) d t
     → Asks r d told stop (Ok info) t
-asks_next d t info r told stop donor cloning archives snap is stopped_is acts =
+asks_next d t info floor r told stop donor cloning archives snap is stopped_is acts =
     let s = is.session in
     let stands = is.in_stage.session in
-    each_acked d t s is.taken r.sizes told stop info is.in_stage is.finished (snap s stands) is.at s.snap.list refl r.stages is.stage is.last (subst (IsInSession d.cloning) stands cloning.session).2 donor archives stopped_is acts
+    each_acked d t s is.taken r.sizes told stop info floor is.in_stage is.finished (snap s stands) is.at s.snap.list refl r.stages is.stage is.last (subst (IsInSession d.cloning) stands cloning.session).2 donor archives stopped_is acts
 
 -- by what is answered
-pub acked : (stage : ℕ) (d t : Donor) (result : Result StageInfo CloneRefusal) (info : StageInfo) → result ≡ Ok info → MatchResult result (λ info. Acts (act.Ack CALLER stage info) d t) (λ _. Acts act.Refuse d t) → Acts (act.Ack CALLER stage info) d t
-acked stage d t result info is acts = subst (λ (r : Result StageInfo CloneRefusal). MatchResult r (λ info. Acts (act.Ack CALLER stage info) d t) (λ _. Acts act.Refuse d t)) is acts
+pub acked : (stage floor : ℕ) (d t : Donor) (result : Result StageInfo CloneRefusal) (info : StageInfo) → result ≡ Ok info → CloneActs (call.Ack CALLER stage floor) (answer.Ack result) d t → CloneActs (call.Ack CALLER stage floor) (answer.Ack (Ok info)) d t
+acked stage floor d t result info is acts = subst (λ (r : Result StageInfo CloneRefusal). CloneActs (call.Ack CALLER stage floor) (answer.Ack r) d t) is acts

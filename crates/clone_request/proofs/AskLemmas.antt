@@ -11,7 +11,8 @@ use Rattle.clone_session.specs.declared.limits.TheConstants.{VERSION}
 use Rattle.clone_chunk.specs.declared.cause.CloneCause.{CloneCause}
 use Rattle.clone_session.specs.declared.refusal.CloneRefusal.{CloneRefusal}
 use Rattle.clone_session.specs.declared.refusal.CloneRefusal.TheVariants.{Because}
-use Rattle.clone_session.specs.CloneCalls.{Decided}
+use Rattle.clone_engine.specs.Answering.{CarriesOut}
+use Rattle.clone_engine.specs.Donor.{Donor}
 use Rattle.clone_chunk.specs.declared.cause.CloneCause.TheVariants.{Stale, StageMismatch, ChunksLeft, FloorAhead, NoSuchSession}
 use Rattle.clone_session.specs.Cloning.{Cloning, Session}
 use Rattle.clone_session.specs.CloneCauses.{acknowledgement_cause, chunks_left, donor_stage, floor_ahead, hello_cause, is_acknowledged, on_session, stale, whether}
@@ -67,10 +68,10 @@ may_acknowledge c s stage floor position stands own finished is some few low =
     ∙ none_against_copied s floor position (none_left s.snap.chunks finished) low stage some few is
 
 -- What has no cause against it isn't refused.
-pub not_refused : {X : Type 0} (cause : Option CloneCause) (old new : Cloning) (result : Result X CloneRefusal) (e : CloneCause) (Does : X → Type 0) → result ≡ Err (Because e) → Decided cause old new result Does → cause ≡ None → ⊥
-not_refused {X} cause old new result e Does is decided none =
-    let d = subst (λ (r : Result X CloneRefusal). Decided cause old new r Does) is decided in
-    let wrong : None ≡ Some e = sym none ∙ d.0 in
+pub not_refused : {X : Type 0} (cause : Option CloneCause) (d t : Donor) (result : Result X CloneRefusal) (e : CloneCause) (Does : X → Type 0) → result ≡ Err (Because e) → CarriesOut cause result d t Does → cause ≡ None → ⊥
+not_refused {X} cause d t result e Does is did none =
+    let here = subst (λ (r : Result X CloneRefusal). CarriesOut cause r d t Does) is did in
+    let wrong : None ≡ Some e = sym none ∙ here.0 in
     absurd (cc)
 
 -- a stage is copied where their count isn't 0

@@ -23,8 +23,9 @@ use Rattle.clone_session.specs.Effects.{claimed}
 use Rattle.clone_session.proofs.PartLemmas.{stands_as}
 use Rattle.clone_engine.specs.Engine.{Engine}
 use Rattle.clone_engine.proofs.ToldLemmas.{for_told}
-use Rattle.clone_engine.specs.Acts as act
-use Rattle.clone_engine.specs.Acts.{Acts}
+use Rattle.clone_calls.specs.declared.answer.DonorAnswer.TheVariants as answer
+use Rattle.clone_calls.specs.declared.call.DonorCall.TheVariants as call
+use Rattle.clone_engine.specs.Acts.{CloneActs}
 use Rattle.clone_engine.specs.Donor.{Donor}
 use Rattle.clone_engine.specs.Taken.{IsTaken, Taken}
 use Rattle.clone_request.specs.declared.asking.TheConstants.{CALLER}
@@ -72,7 +73,7 @@ module _ (d : Donor) (s : Session) (chunk : ℕ) (least : IsLeastFree s.snap.chu
   claimed_in : (taken : Taken) (sizes : PageCounts) (told : Option DiskImage) → IsTaken after taken → IsInStage d s None taken sizes told → IsInStage after next (Some work) taken sizes told
   claimed_in taken sizes told goes is = record {
     session = refl;
-    own = record { number = is.own.number; incarnation = is.own.incarnation; tasks = is.own.tasks };
+    own = record { number = is.own.number; incarnation = is.own.incarnation; tasks = is.own.tasks; version = is.own.version };
     settled = claimed_settled s.snap.chunks chunk is.settled;
     is = goes;
     early = is.early;
@@ -104,7 +105,7 @@ pub same_session : (o : Option Session) (s u : Session) → o ≡ Some s → o �
 same_session o s u first second = let both : Some s ≡ Some u = sym first ∙ second in cc
 
 -- A CHUNK IS CLAIMED
-pub claims : (d t : Donor) (stage chunk checkpoint : ℕ) (told : Option DiskImage) (sizes : PageCounts) (stop : Option plain.Donor) → ForSome d.cloning.session (λ s. IsSnap s.snap.list s.snap.chunks s.snap.room) → Acts (act.Claim CALLER stage (Ok (Some chunk))) d t → IsCopying d told sizes stage checkpoint None stop
+pub claims : (d t : Donor) (stage chunk checkpoint : ℕ) (told : Option DiskImage) (sizes : PageCounts) (stop : Option plain.Donor) → ForSome d.cloning.session (λ s. IsSnap s.snap.list s.snap.chunks s.snap.room) → CloneActs (call.Claim CALLER stage) (answer.Claim (Ok (Some chunk))) d t → IsCopying d told sizes stage checkpoint None stop
     → IsCopying t told sizes stage checkpoint (Some (record { chunk = chunk; laid = 0 })) stop
 claims d t stage chunk checkpoint told sizes stop snap acts is =
     let s = acts.does.0.1.0 in
@@ -123,7 +124,7 @@ claims d t stage chunk checkpoint told sizes stop snap acts is =
       at = is.at;
     })
 
-pub claims_fewer : (d t : Donor) (stage chunk : ℕ) → Acts (act.Claim CALLER stage (Ok (Some chunk))) d t → free_left t < free_left d
+pub claims_fewer : (d t : Donor) (stage chunk : ℕ) → CloneActs (call.Claim CALLER stage) (answer.Claim (Ok (Some chunk))) d t → free_left t < free_left d
 claims_fewer d t stage chunk acts =
     let s = acts.does.0.1.0 in
     let stands = stands_as d.cloning.session CALLER.session s acts.does.0.1.1 in
@@ -131,7 +132,7 @@ claims_fewer d t stage chunk acts =
     omega (arith, claimed_fewer d s chunk acts.does.0.1.2.0, ap left stands, ap (λ (c : Cloning). left c.session) acts.does.0.1.2.1)
 
 -- NO CHUNK IS FREE
-pub claims_none : (d t : Donor) (stage checkpoint : ℕ) (told : Option DiskImage) (sizes : PageCounts) (stop : Option plain.Donor) → Acts (act.Claim CALLER stage (Ok None)) d t → IsCopying d told sizes stage checkpoint None stop
+pub claims_none : (d t : Donor) (stage checkpoint : ℕ) (told : Option DiskImage) (sizes : PageCounts) (stop : Option plain.Donor) → CloneActs (call.Claim CALLER stage) (answer.Claim (Ok None)) d t → IsCopying d told sizes stage checkpoint None stop
     → IsAllCopied t told sizes stage checkpoint stop
 claims_none d t stage checkpoint told sizes stop acts is =
     let s = acts.does.0.1.0 in
@@ -144,11 +145,11 @@ claims_none d t stage checkpoint told sizes stop acts is =
 
 -- By what is answered.
 module _ (d t : Donor) (stage : ℕ) where
-  pub claims_some : (result : Option ℕ) → ForSome d.cloning.session (λ s. IsSnap s.snap.list s.snap.chunks s.snap.room) → Acts (act.Claim CALLER stage (Ok result)) d t
+  pub claims_some : (result : Option ℕ) → ForSome d.cloning.session (λ s. IsSnap s.snap.list s.snap.chunks s.snap.room) → CloneActs (call.Claim CALLER stage) (answer.Claim (Ok result)) d t
       → IfSome result (λ chunk. (told : Option DiskImage) (sizes : PageCounts) (checkpoint : ℕ) (stop : Option plain.Donor) → IsCopying d told sizes stage checkpoint None stop → IsCopying t told sizes stage checkpoint (Some (record { chunk = chunk; laid = 0 })) stop)
   claims_some None snap acts = tt
   claims_some (Some chunk) snap acts = λ told sizes checkpoint stop. claims d t stage chunk checkpoint told sizes stop snap acts
 
-  pub claims_less : (result : Option ℕ) → Acts (act.Claim CALLER stage (Ok result)) d t → IfSome result (λ chunk. free_left t < free_left d)
+  pub claims_less : (result : Option ℕ) → CloneActs (call.Claim CALLER stage) (answer.Claim (Ok result)) d t → IfSome result (λ chunk. free_left t < free_left d)
   claims_less None acts = tt
   claims_less (Some chunk) acts = claims_fewer d t stage chunk acts

@@ -1,5 +1,5 @@
 -- The session that stands once a donor has come to a stage, and what the donor tells of it.
-use Rattle.std.proofs.Common.{◌≡◌, Some, option_map, sym, ap, ◌∙◌}
+use Rattle.std.proofs.Common.{◌≡◌, ℕ, List, Some, option_map, sym, ap, ◌∙◌}
 use Rattle.std.specs.Prelude.{replicate}
 use Rattle.clone_chunk.specs.declared.chunk.Chunk.TheVariants.{Free}
 use Rattle.clone_snapshot.specs.StageLists.{StageList, chunk_count}
@@ -21,9 +21,9 @@ pub record Comes (c : Cloning) (info : StageInfo) (list : StageList) : Type 0 wh
 abbrev bare : Session → Session
 bare s = record s { snap = record s.snap { room = 0 } }
 
-pub comes : (c old : Cloning) (info : StageInfo) (s : Session) (list : StageList) → IsOwn s → Tells c info → Becomes c old → old.session ≡ Some (record s { snap = begun list }) → Comes c info list
-comes c old info s list own tells becomes is =
-    let next : Session = record s { snap = begun list } in
+pub comes : (c old : Cloning) (info : StageInfo) (s : Session) (list : StageList) (created : List (ℕ × ℕ)) → IsOwn s → Tells c info → Becomes c old → old.session ≡ Some (record s { snap = begun list; created = created }) → Comes c info list
+comes c old info s list created own tells becomes is =
+    let next : Session = record s { snap = begun list; created = created } in
     let both : Some (bare tells.0) ≡ Some (bare next) = sym (ap (option_map bare) tells.1) ∙ ap (λ (c : Cloning). c.session) becomes ∙ ap (option_map bare) is in
     let same : bare tells.0 ≡ bare next = cc in
     let list_is : tells.0.snap.list ≡ list = ap (λ (x : Session). x.snap.list) same in
@@ -34,6 +34,7 @@ comes c old info s list own tells becomes is =
         number = ap (λ (x : Session). x.number) same ∙ own.number;
         incarnation = ap (λ (x : Session). x.incarnation) same ∙ own.incarnation;
         tasks = ap (λ (x : Session). x.tasks) same ∙ own.tasks;
+        version = ap (λ (x : Session). x.version) same ∙ own.version;
       };
       list_is = list_is;
       chunks_are = ap (λ (x : Session). x.snap.chunks) same;

@@ -92,7 +92,7 @@ module _ (d : Donor) (told : Option DiskImage) (info : StageInfo) (stop : Option
       by None holds = tt
       by (Some x) holds = each now holds
 
--- the mark isn't written, or the call failed behind that
+-- the mark isn't written, or the call failed after that
 pub completes_failed : (d : Donor) (stop : Option plain.Donor) (result : Result Advanced StepRefusal) (told now : Option DiskImage) (P : StepRefusal → Type 0) → IsErrAnd result P → IsStopOf stop d.cloning.stop
     → ForBoth d now (λ m. ForTold told (λ b. m.mark ≡ b.mark) ⊎ ((stop ≡ Some (stop_from d stop)) × HoldsDonor (stop_from d stop) m)) → Completes d stop result d told now
 completes_failed d stop (Ok (advanced.Ready stage)) told now P is stopped partly = absurd is

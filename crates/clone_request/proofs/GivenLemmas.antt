@@ -23,6 +23,7 @@ use Rattle.clone_lay.specs.Sized.{AreSizes, PageCounts}
 use Rattle.clone_chunk.specs.declared.chunk.Chunk.{Chunk}
 use Rattle.clone_chunk.specs.declared.chunk.Chunk.TheVariants.{Claimed, Finished, Free}
 use Rattle.clone_chunk.specs.Chunks.{is_free}
+use Rattle.clone_snapshot.specs.Resets.{IsLast}
 use Rattle.clone_snapshot.specs.Snaps.{IsInLog, IsSnap}
 use Rattle.clone_snapshot.specs.StageLists as lists
 use Rattle.clone_snapshot.specs.StageLists.{StageList, Part, PagePart, RedoPart, all_pages, block_count, block_of, pages_of_space}
@@ -43,17 +44,18 @@ use Rattle.clone_session.specs.declared.copying.BlockWork.TheVariants as work
 use Rattle.clone_session.proofs.PartLemmas.{in_log}
 use Rattle.clone_engine.specs.Engine.{Engine, IsEngine, IsInFile}
 use Rattle.clone_engine.specs.Reading.{OnlyVisits}
-use Rattle.clone_engine.specs.Acts as act
-use Rattle.clone_engine.specs.Acts.{Acts}
+use Rattle.clone_calls.specs.declared.answer.DonorAnswer.TheVariants as gives
+use Rattle.clone_calls.specs.declared.call.DonorCall.TheVariants as call
+use Rattle.clone_engine.specs.Acts.{CloneActs}
 use Rattle.clone_engine.specs.Archives.{IsOfLog}
 use Rattle.clone_engine.specs.Copies.{PageRead}
 use Rattle.clone_engine.specs.Copying.{IsBlock, places_of, taken_from}
 use Rattle.clone_engine.specs.Donor.{ArePages, CopiesOwn, Donor, IsDonor, IsPageOf, list_of}
 use Rattle.clone_engine.specs.Taken.{HasStopped, IsTaken, IsTakenBy, IsTakenIn, Taken}
-use Rattle.clone_engine.specs.declared.block.Block.{Block}
-use Rattle.clone_engine.specs.declared.block.Block.TheVariants as block
+use Rattle.clone_calls.specs.declared.block.Block.{Block}
+use Rattle.clone_calls.specs.declared.block.Block.TheVariants as block
 use Rattle.clone_page.specs.declared.pages.PageAt.{PageAt}
-use Rattle.clone_engine.specs.declared.block.BlockRefusal.{BlockRefusal}
+use Rattle.clone_calls.specs.declared.block.BlockRefusal.{BlockRefusal}
 use Rattle.clone_engine.proofs.BlockLemmas.{InFile, OfImage, files_own}
 use Rattle.clone_engine.proofs.ToldLemmas.{of_told}
 use Rattle.clone_request.specs.Copying.{IsCopying, IsWork, StartsAt, free_left}
@@ -65,6 +67,7 @@ use Rattle.clone_request.specs.declared.asking.TheConstants.{CALLER}
 use Rattle.clone_request.specs.declared.requester.TheConstants.{SESSION}
 use Rattle.clone_request.proofs.FileLemmas.{own_low}
 use Rattle.clone_request.proofs.HeldLemmas.{IsLow, IsNotOf, MayCount, holds_beside, holds_pages, holds_weaker}
+use Rattle.clone_request.proofs.LastBlocks.{last_numbered}
 use Rattle.clone_request.proofs.ReadLemmas.{left_in, same_session}
 use Rattle.clone_request.proofs.RedoBlocks.{block_number}
 use Rattle.clone_request.proofs.RedoLemmas.{redo_laid, redo_same_but, redo_weaker}
@@ -209,7 +212,7 @@ left_finished chunks chunk is =
 
 module _ (d t : Donor) (told : Option DiskImage) (sizes : PageCounts) (stage checkpoint chunk number : ℕ) (stop : Option plain.Donor) (last : Bool) (part : Part)
     (was : IsCopying d told sizes stage checkpoint (Some (record { chunk = chunk; laid = number })) stop) (block_is : block_of was.session.snap.list chunk number ≡ Some part)
-    (visits : OnlyVisits d.engine t.engine) (answers : Answers CALLER chunk number d.cloning t.cloning last) where
+    (visits : OnlyVisits d.engine t.engine) (answers : Answers CALLER chunk number d.cloning t.cloning last) (is_cloning : IsCloning d.cloning) where
   abbrev list : StageList
   list = was.session.snap.list
 
@@ -226,10 +229,13 @@ module _ (d t : Donor) (told : Option DiskImage) (sizes : PageCounts) (stage che
   session_with b = record was.session { snap = record was.session.snap { chunks = chunks_with b } }
 
   abbrev Ends : Session → Type 0
-  Ends s = (IsTrue last ↔ (number + 1 ≡ block_count s.snap.list chunk)) × (t.cloning ≡ (if last then finished chunk s d.cloning else d.cloning))
+  Ends s = (IsTrue last ↔ IsLast s.snap.list s.snap.kept chunk number) × (t.cloning ≡ (if last then finished chunk s d.cloning else d.cloning))
 
   ended : Ends was.session
   ended = subst Ends (same_session d.cloning was.session answers.0 was.in_stage.session answers.1) answers.2
+
+  numbered_last : IsTrue last ↔ (number + 1 ≡ block_count list chunk)
+  numbered_last = last_numbered d.cloning was.session is_cloning was.in_stage.session was.in_stage.own chunk number last ended.0
 
   stands_now : t.cloning.session ≡ Some (session_with last)
   stands_now = ap (λ (c : cloning.Cloning). c.session) ended.1 ∙ by last
@@ -256,7 +262,7 @@ module _ (d t : Donor) (told : Option DiskImage) (sizes : PageCounts) (stage che
   told_now = ap (λ (e : Engine). e.disk.told) visits.same
 
   waits_now : (Has : Part → Type 0) → (Has part → ⊥) → Waits list chunks in_work Has → Waits list (chunks_with last) (work_after chunk number last) Has
-  waits_now Has not waits = by last ended.0.0 (laid_waits list chunks chunk number part Has block_is not waits)
+  waits_now Has not waits = by last numbered_last.0 (laid_waits list chunks chunk number part Has block_is not waits)
     where
       by : (b : Bool) → (IsTrue b → number + 1 ≡ block_count list chunk) → Waits list chunks (Some (record { chunk = chunk; laid = number + 1 })) Has → Waits list (chunks_with b) (work_after chunk number b) Has
       by true end w = last_waits list chunks chunk (number + 1) Has (end refl) w
@@ -270,7 +276,7 @@ module _ (d t : Donor) (told : Option DiskImage) (sizes : PageCounts) (stage che
       by false = laid_settled chunks chunk number (number + 1) was.in_stage.settled
 
   works_now : ForSome (work_after chunk number last) (IsWork (session_with last))
-  works_now = by last ended.0.1
+  works_now = by last numbered_last.1
     where
       old : IsWork was.session (record { chunk = chunk; laid = number })
       old = was.works (record { chunk = chunk; laid = number }) refl
@@ -301,7 +307,7 @@ module _ (d t : Donor) (told : Option DiskImage) (sizes : PageCounts) (stage che
     taken = taken;
     in_stage = record {
       session = stands_now;
-      own = record { number = was.in_stage.own.number; incarnation = was.in_stage.own.incarnation; tasks = was.in_stage.own.tasks };
+      own = record { number = was.in_stage.own.number; incarnation = was.in_stage.own.incarnation; tasks = was.in_stage.own.tasks; version = was.in_stage.own.version };
       settled = settled_now;
       is = is;
       early = λ low. stop_same ∙ was.in_stage.early low;
@@ -322,7 +328,7 @@ module _ (d t : Donor) (told : Option DiskImage) (sizes : PageCounts) (stage che
           (laid m there)
           (of_told (λ _. ForTold told (HoldsStage list chunks in_work was.taken d.cloning.archive)) d.engine.disk.told m there was.in_stage.disk))
 
-  module _ (is : IsDonor d) (is_cloning : IsCloning d.cloning) where
+  module _ (is : IsDonor d) where
     list_here : list_of d.cloning ≡ Some list
     list_here = ap (λ (o : Option Session). option_map (λ (x : Session). x.snap.list) o) was.in_stage.session
 
@@ -463,25 +469,25 @@ module _ (d t : Donor) (told : Option DiskImage) (sizes : PageCounts) (stage che
 
 -- A BLOCK IS READ
 module _ (d t : Donor) (told : Option DiskImage) (sizes : PageCounts) (stage checkpoint chunk number : ℕ) (stop : Option plain.Donor) (last : Bool) (read : Block)
-    (was : IsCopying d told sizes stage checkpoint (Some (record { chunk = chunk; laid = number })) stop) (acts : Acts (act.Give CALLER chunk number read last) d t)
+    (was : IsCopying d told sizes stage checkpoint (Some (record { chunk = chunk; laid = number })) stop) (acts : CloneActs (call.ReadBlock CALLER stage chunk number) (gives.ReadBlock (Ok (read, last))) d t)
     (is : IsDonor d) (engine : IsEngine d.engine) (safe : IsSafe d.engine.donor) (is_cloning : IsCloning d.cloning) (archives : ForSome d.cloning.archive IsArchived) (snap : ForSome d.cloning.session (λ s. IsSnap s.snap.list s.snap.chunks s.snap.room)) where
-  list_same : acts.does.session.snap.list ≡ was.session.snap.list
-  list_same = ap (λ (s : Session). s.snap.list) (same_session d.cloning was.session acts.does.session was.in_stage.session acts.does.stands)
+  list_same : acts.does.1.session.snap.list ≡ was.session.snap.list
+  list_same = ap (λ (s : Session). s.snap.list) (same_session d.cloning was.session acts.does.1.session was.in_stage.session acts.does.1.stands)
 
   is_of : (w : BlockWork) → OnSession d.cloning SESSION (λ s. block_of s.snap.list chunk number ≡ Some (part_of w)) → block_of was.session.snap.list chunk number ≡ Some (part_of w)
   is_of w on = subst (λ (s : Session). block_of s.snap.list chunk number ≡ Some (part_of w)) (same_session d.cloning was.session on.0 was.in_stage.session on.1) on.2
 
-  by : (w : BlockWork) (b : Block) → block_of was.session.snap.list chunk number ≡ Some (part_of w) → IsThere d.cloning w → IsBlock acts.does.session.snap.list d w b → IsTaken t (taken_from b was.taken) → ReadsInto t told stage checkpoint chunk number last stop b
-  by (work.Pages pages) (block.Pages pages_read) on kept made taken = pages_into d t told sizes stage checkpoint chunk number stop last (PagePart pages) was on acts.does.visits acts.does.answers is is_cloning pages pages_read refl made.0 engine safe taken
+  by : (w : BlockWork) (b : Block) → block_of was.session.snap.list chunk number ≡ Some (part_of w) → IsThere d.cloning w → IsBlock acts.does.1.session.snap.list d w b → IsTaken t (taken_from b was.taken) → ReadsInto t told stage checkpoint chunk number last stop b
+  by (work.Pages pages) (block.Pages pages_read) on kept made taken = pages_into d t told sizes stage checkpoint chunk number stop last (PagePart pages) was on acts.does.1.visits acts.does.1.answers is_cloning is pages pages_read refl made.0 engine safe taken
   by (work.Pages pages) (block.Redo from bytes) on kept made taken = absurd made
   by (work.Redo redo) (block.Pages pages_read) on kept made taken = absurd made
-  by (work.Redo redo) (block.Redo from bytes) on kept made taken = redo_into d t told sizes stage checkpoint chunk number stop last (RedoPart redo.from redo.length) was on acts.does.visits acts.does.answers is is_cloning redo from bytes refl made.0 made.1 kept (snap was.session was.in_stage.session).in_log archives taken
+  by (work.Redo redo) (block.Redo from bytes) on kept made taken = redo_into d t told sizes stage checkpoint chunk number stop last (RedoPart redo.from redo.length) was on acts.does.1.visits acts.does.1.answers is_cloning is redo from bytes refl made.0 made.1 kept (snap was.session was.in_stage.session).in_log archives taken
 
   pub reads_into : ReadsInto t told stage checkpoint chunk number last stop read
-  reads_into = by acts.does.work read (is_of acts.does.work acts.does.made_of.0) acts.does.made_of.1 acts.does.read (acts.taken was.taken was.in_stage.is)
+  reads_into = by acts.does.1.work read (is_of acts.does.1.work acts.does.1.made_of.0) acts.does.1.made_of.1 acts.does.1.read (acts.taken was.taken was.in_stage.is)
 
   pub reads_left : free_left t ≡ free_left d
-  reads_left = left_now d t told sizes stage checkpoint chunk number stop last (part_of acts.does.work) was (is_of acts.does.work acts.does.made_of.0) acts.does.visits acts.does.answers
+  reads_left = left_now d t told sizes stage checkpoint chunk number stop last (part_of acts.does.1.work) was (is_of acts.does.1.work acts.does.1.made_of.0) acts.does.1.visits acts.does.1.answers is_cloning
 
 -- THE ANSWER, for a stage that was copied before as it is now
 abbrev pub Stays : Donor → Donor → (stage chunk number : ℕ) → Type 0
@@ -494,11 +500,11 @@ module _ (before d t : Donor) (stage chunk number : ℕ) (stays : Stays before d
   Reads given = (told : Option DiskImage) (sizes : PageCounts) (checkpoint : ℕ) (stop : Option plain.Donor) → IsCopying before told sizes stage checkpoint (Some (record { chunk = chunk; laid = number })) stop
       → ReadsInto t told stage checkpoint chunk number given.1 stop given.0
 
-  pub answer_reads : (answer : Result (Block × Bool) BlockRefusal) → MatchResult answer (λ given. Acts (act.Give CALLER chunk number given.0 given.1) d t) (λ _. Acts act.Miss d t) → IfOk answer Reads
+  pub answer_reads : (answer : Result (Block × Bool) BlockRefusal) → CloneActs (call.ReadBlock CALLER stage chunk number) (gives.ReadBlock answer) d t → IfOk answer Reads
   answer_reads (Ok given) acts = λ told sizes checkpoint stop was. reads_into d t told sizes stage checkpoint chunk number stop given.1 given.0 (stays told sizes checkpoint stop was) acts is engine safe is_cloning archives snap
   answer_reads (Err e) acts = tt
 
   pub answer_left : (told : Option DiskImage) (sizes : PageCounts) (checkpoint : ℕ) (stop : Option plain.Donor) → IsCopying before told sizes stage checkpoint (Some (record { chunk = chunk; laid = number })) stop → free_left d ≡ free_left before
-      → (answer : Result (Block × Bool) BlockRefusal) → MatchResult answer (λ given. Acts (act.Give CALLER chunk number given.0 given.1) d t) (λ _. Acts act.Miss d t) → IfOk answer (λ given. free_left t ≡ free_left before)
+      → (answer : Result (Block × Bool) BlockRefusal) → CloneActs (call.ReadBlock CALLER stage chunk number) (gives.ReadBlock answer) d t → IfOk answer (λ given. free_left t ≡ free_left before)
   answer_left told sizes checkpoint stop was same (Ok given) acts = reads_left d t told sizes stage checkpoint chunk number stop given.1 given.0 (stays told sizes checkpoint stop was) acts is engine safe is_cloning archives snap ∙ same
   answer_left told sizes checkpoint stop was same (Err e) acts = tt

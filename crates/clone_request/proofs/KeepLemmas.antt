@@ -8,9 +8,23 @@ use Rattle.clone_chunk.specs.declared.chunk.Chunk.{Chunk}
 use Rattle.clone_chunk.specs.declared.chunk.Chunk.TheVariants.{Finished}
 use Rattle.clone_snapshot.specs.StageLists as lists
 use Rattle.clone_snapshot.specs.StageLists.{StageList}
-use Rattle.clone_plain.specs.Calls.{Call, create, drop as drop_call, begin, put, delete, get, undo_one, commit, flush_begin, flush_half, flush_land, oldest_dirty, checkpoint, end, Done, did_oldest_dirty, did_checkpoint, did_end}
+use Rattle.clone_calls.specs.declared.answer.DonorAnswer.TheVariants as gives
+use Rattle.clone_calls.specs.declared.block.BlockRefusal.{BlockRefusal}
+use Rattle.clone_calls.specs.declared.block.BlockRefusal.TheVariants as block
+use Rattle.clone_calls.specs.declared.call.DonorCall.TheVariants as ask
+use Rattle.clone_chunk.specs.declared.cause.CloneCause.{CloneCause}
+use Rattle.clone_engine.specs.Answering.{CarriesOut}
+use Rattle.clone_engine.specs.Copying.{RefusesBlock}
+use Rattle.clone_plain.specs.declared.call.EngineAnswer.{EngineAnswer}
+use Rattle.clone_plain.specs.declared.call.EngineAnswer.TheVariants as answers
+use Rattle.clone_plain.specs.declared.call.EngineCall.{EngineCall}
+use Rattle.clone_plain.specs.declared.call.EngineCall.TheVariants as call
 use Rattle.clone_plain.specs.Donor as plain
 use Rattle.clone_plain.specs.declared.refusal.EngineRefusal.{EngineRefusal}
+use Rattle.clone_plain.specs.declared.refusal.EngineRefusal.TheVariants as engine
+use Rattle.clone_session.specs.declared.caller.Caller.{Caller}
+use Rattle.clone_session.specs.declared.refusal.CloneRefusal.{CloneRefusal}
+use Rattle.clone_session.specs.declared.refusal.CloneRefusal.TheVariants.{Because, NoMemory}
 use Rattle.clone_session.specs.Cloning.{Cloning, Session}
 use Rattle.clone_session.specs.CloneCalls.{Archives, archived_on}
 use Rattle.clone_session.specs.CloneCauses.{donor_stage}
@@ -69,8 +83,8 @@ leaves_same old new is = record {
 }
 
 -- a page that is noted leaves the rest
-leaves_noted : (call : Call) (answer : Result Done EngineRefusal) (old new : Cloning) → Becomes new (noted_by call answer old) → Leaves old new
-leaves_noted (flush_begin space page) answer old new is = by (has_begun answer) is
+leaves_noted : (call : EngineCall) (answer : Result EngineAnswer EngineRefusal) (old new : Cloning) → Becomes new (noted_by call answer old) → Leaves old new
+leaves_noted (call.FlushBegin space page) answer old new is = by (has_begun answer) is
   where
     by : (begun : Bool) → Becomes new (if begun then with_noted (space, page) old else old) → Leaves old new
     by true is = record {
@@ -85,35 +99,35 @@ leaves_noted call answer old new is = leaves_becomes old new is
 abbrev Tells : Engine → Engine → Type 0
 Tells s t = is_some t.disk.told ≡ is_some s.disk.told
 
-looks : (s t : Engine) (did : Done) → Looks s t did → t ≡ s
-looks s t (did_oldest_dirty page) is = is.1
+looks : (s t : Engine) (did : EngineAnswer) → Looks s t did → t ≡ s
+looks s t (answers.OldestDirty page) is = is.1
 looks s t did is = absurd is
 
-ends : (s t : Engine) (did : Done) → Ends s t did → t ≡ s
-ends s t (did_end lsn) is = is.1
+ends : (s t : Engine) (did : EngineAnswer) → Ends s t did → t ≡ s
+ends s t (answers.End lsn) is = is.1
 ends s t did is = absurd is
 
 same_tells : (s t : Engine) → t ≡ s → Tells s t
 same_tells s t is = ap (λ (e : Engine). is_some e.disk.told) is
 
-steps_tells : (call : Call) (d : Donor) (e : Engine) (answer : Result Done EngineRefusal) → ServesAs call d e answer → Tells d.engine e
-steps_tells (create table buckets) d e answer steps = steps.disk.visits.tells
-steps_tells (drop_call table) d e answer steps = steps.disk.visits.tells
-steps_tells (begin writer index) d e answer steps = steps.disk.visits.tells
-steps_tells (put trx table key value) d e answer steps = steps.disk.visits.tells
-steps_tells (delete trx table key) d e answer steps = steps.disk.visits.tells
-steps_tells (get trx table key) d e answer steps = steps.disk.visits.tells
-steps_tells (undo_one trx) d e answer steps = steps.disk.visits.tells
-steps_tells (commit trx) d e answer steps = steps.disk.visits.tells
-steps_tells (flush_begin space page) d e answer steps = steps.disk.visits.tells
-steps_tells (flush_half space page) d e answer steps = steps.disk.visits.tells
-steps_tells (flush_land space page) d e answer steps = steps.disk.visits.tells
-steps_tells oldest_dirty d e (Ok did) steps = same_tells d.engine e (looks d.engine e did steps)
-steps_tells oldest_dirty d e (Err refusal) steps = absurd steps
-steps_tells checkpoint d e (Ok (did_checkpoint lsn)) steps = ap (λ (k : DiskState). is_some k.told) steps.disk
-steps_tells checkpoint d e answer steps = absurd steps
-steps_tells end d e (Ok did) steps = same_tells d.engine e (ends d.engine e did steps)
-steps_tells end d e (Err refusal) steps = absurd steps
+steps_tells : (call : EngineCall) (d : Donor) (e : Engine) (answer : Result EngineAnswer EngineRefusal) → ServesAs call d e answer → Tells d.engine e
+steps_tells (call.Create table buckets) d e answer steps = steps.disk.visits.tells
+steps_tells (call.Drop table) d e answer steps = steps.disk.visits.tells
+steps_tells (call.Begin writer index) d e answer steps = steps.disk.visits.tells
+steps_tells (call.Put trx table key value) d e answer steps = steps.disk.visits.tells
+steps_tells (call.Delete trx table key) d e answer steps = steps.disk.visits.tells
+steps_tells (call.Get trx table key) d e answer steps = steps.disk.visits.tells
+steps_tells (call.UndoOne trx) d e answer steps = steps.disk.visits.tells
+steps_tells (call.Commit trx) d e answer steps = steps.disk.visits.tells
+steps_tells (call.FlushBegin space page) d e answer steps = steps.disk.visits.tells
+steps_tells (call.FlushHalf space page) d e answer steps = steps.disk.visits.tells
+steps_tells (call.FlushLand space page) d e answer steps = steps.disk.visits.tells
+steps_tells call.OldestDirty d e (Ok did) steps = same_tells d.engine e (looks d.engine e did steps)
+steps_tells call.OldestDirty d e (Err refusal) steps = absurd steps
+steps_tells call.Checkpoint d e (Ok (answers.Checkpoint lsn)) steps = ap (λ (k : DiskState). is_some k.told) steps.disk
+steps_tells call.Checkpoint d e answer steps = absurd steps
+steps_tells call.End d e (Ok did) steps = same_tells d.engine e (ends d.engine e did steps)
+steps_tells call.End d e (Err refusal) steps = absurd steps
 
 -- WHAT AN ACT THAT NO REQUESTER MAKES LEAVES of the donor
 module _ (d t : Donor) where
@@ -121,7 +135,7 @@ module _ (d t : Donor) where
     leaves : Leaves d.cloning t.cloning
     tells : Tells d.engine t.engine
 
-  serves : (call : Call) (answer : Result Done EngineRefusal) → Serves call d t answer → Spares
+  serves : (call : EngineCall) (answer : Result EngineAnswer EngineRefusal) → Serves call d t answer → Spares
   serves call answer did = record { leaves = leaves_noted call answer d.cloning t.cloning did.cloning; tells = steps_tells call d t.engine answer did.steps }
 
   nothing : t ≡ d → Spares
@@ -130,17 +144,17 @@ module _ (d t : Donor) where
     tells = same_tells d.engine t.engine (ap (λ (x : Donor). x.engine) same);
   }
 
-  creates : (o : Option Session) (table buckets : ℕ) (answer : Result Done EngineRefusal) → Creates o table buckets d t answer → Spares
-  creates None table buckets answer did = serves (create table buckets) answer did
+  creates : (o : Option Session) (table buckets : ℕ) (answer : Result EngineAnswer EngineRefusal) → Creates o table buckets d t answer → Spares
+  creates None table buckets answer did = serves (call.Create table buckets) answer did
   creates (Some s) table buckets answer did = nothing did.1
 
-  drops : (o : Option Session) (table : ℕ) (answer : Result Done EngineRefusal) → Drops o table d t answer → Spares
-  drops None table answer did = serves (drop_call table) answer did
+  drops : (o : Option Session) (table : ℕ) (answer : Result EngineAnswer EngineRefusal) → Drops o table d t answer → Spares
+  drops None table answer did = serves (call.Drop table) answer did
   drops (Some s) table answer did = nothing did.1
 
-  calls : (call : Call) (answer : Result Done EngineRefusal) → AnswersCall call d t answer → Spares
-  calls (create table buckets) answer did = creates d.cloning.session table buckets answer did
-  calls (drop_call table) answer did = drops d.cloning.session table answer did
+  calls : (call : EngineCall) (answer : Result EngineAnswer EngineRefusal) → AnswersCall call d t answer → Spares
+  calls (call.Create table buckets) answer did = creates d.cloning.session table buckets answer did
+  calls (call.Drop table) answer did = drops d.cloning.session table answer did
   calls call answer did = serves call answer did
 
   archives : (limit : ℕ) (reached : Option ℕ) → Archives {E = Unit {0}} limit d.engine.buffer.ring d.cloning t.cloning (Ok reached) → Leaves d.cloning t.cloning
@@ -157,16 +171,39 @@ module _ (d t : Donor) where
       longer : length a.bytes ≤ length (archived_on limit d.engine.buffer.ring a).bytes
       longer = omega (arith, length-append a.bytes more)
 
+  -- a call that was refused
+  refused : {X : Type 0} (cause : Option CloneCause) (why : CloneRefusal) (Does : X → Type 0) → CarriesOut {X = X} cause (Err why) d t Does → Spares
+  refused cause (Because why) Does did = nothing did.1
+  refused cause NoMemory Does did = record { leaves = leaves_becomes d.cloning t.cloning did.1.0; tells = same_tells d.engine t.engine did.1.1 }
+
+  unread : (caller : Caller) (stage chunk number : ℕ) (why : BlockRefusal) → RefusesBlock caller stage chunk number d t why → Spares
+  unread caller stage chunk number (block.Clone (Because cause)) did = nothing did.1
+  unread caller stage chunk number (block.Clone NoMemory) did = record { leaves = leaves_same d.cloning t.cloning did.1; tells = ap (λ (e : Engine). is_some e.disk.told) did.0.same }
+  unread caller stage chunk number (block.Engine (engine.Because cause)) did = record { leaves = leaves_same d.cloning t.cloning did.3; tells = ap (λ (e : Engine). is_some e.disk.told) did.2.same }
+  unread caller stage chunk number (block.Engine engine.NoMemory) did = absurd did
+
   spares : (a : Act) → IsOutside a → Does a d t → Spares
-  spares (act.Calls call answer) outside did = calls call answer did
+  spares (act.Calls (ask.Engine asked) (gives.Engine given)) outside did = calls asked given did
+  spares (act.Calls (ask.Archive limit) (gives.Archive (Ok reached))) outside did = record { leaves = archives limit reached did.0; tells = ap (λ (e : Engine). is_some e.disk.told) did.1 }
+  spares (act.Calls (ask.Archive limit) (gives.Archive (Err why))) outside did = record { leaves = leaves_becomes d.cloning t.cloning did.0; tells = same_tells d.engine t.engine did.1 }
+  spares (act.Calls (ask.Init hello) (gives.Init (Err why))) outside did = refused _ why _ did
+  spares (act.Calls (ask.Attach caller) (gives.Attach (Err why))) outside did = nothing did.1
+  spares (act.Calls (ask.Reinit caller stage finished) (gives.Reinit (Err why))) outside did = refused _ why _ did
+  spares (act.Calls (ask.ReinitBlocks caller stage taken) (gives.ReinitBlocks (Err why))) outside did = refused _ why _ did
+  spares (act.Calls (ask.Kept caller stage chunk) (gives.Kept (Err why))) outside did = nothing did.1
+  spares (act.Calls (ask.Execute caller stage) (gives.Execute (Err why))) outside did = nothing did.1
+  spares (act.Calls (ask.Claim caller stage) (gives.Claim (Err why))) outside did = record { leaves = leaves_same d.cloning t.cloning did.0.1; tells = same_tells d.engine t.engine did.1 }
+  spares (act.Calls (ask.ReadBlock caller stage chunk number) (gives.ReadBlock (Err why))) outside did = unread caller stage chunk number why did
+  spares (act.Calls (ask.Ack caller stage floor) (gives.Ack (Err why))) outside did = refused _ why _ did
+  spares (act.Calls (ask.Exit caller) (gives.Exit (Err why))) outside did = nothing did.1
+  spares (act.Calls (ask.Abandon session) (gives.Abandon (Err why))) outside did = nothing did.1
+  spares (act.Calls (ask.Engine asked) given) outside did = absurd did
+  spares (act.Calls (ask.Archive limit) given) outside did = absurd did
+  spares (act.Calls asked given) outside did = absurd outside
   spares act.Orders outside did = record {
     leaves = leaves_same d.cloning t.cloning (ap (λ (x : Donor). x.cloning) did.same);
     tells = ap (λ (x : Donor). is_some x.engine.disk.told) did.same ∙ ap is_some did.told;
   }
-  spares (act.Archive limit reached) outside did = record { leaves = archives limit reached did.0; tells = ap (λ (e : Engine). is_some e.disk.told) did.1 }
-  spares act.Refuse outside did = record { leaves = leaves_becomes d.cloning t.cloning did.0; tells = same_tells d.engine t.engine did.1 }
-  spares act.Miss outside did = record { leaves = leaves_same d.cloning t.cloning did.0; tells = ap (λ (e : Engine). is_some e.disk.told) did.1.same }
-  spares a outside did = absurd outside
 
 -- What was taken then: what a disk holds of it counts still.
 record Follows (taken news : Taken) : Type 1 where
@@ -176,17 +213,27 @@ record Follows (taken news : Taken) : Type 1 where
 follows_same : (taken : Taken) → Follows taken taken
 follows_same taken = record { stop = refl; holds = λ waits m held. held }
 
-call_stop : (call : Call) (answer : Result Done EngineRefusal) (taken : Taken) → (taken_by call answer taken).stop ≡ taken.stop
-call_stop (flush_begin space page) answer taken = refl
+call_stop : (call : EngineCall) (answer : Result EngineAnswer EngineRefusal) (taken : Taken) → (taken_by call answer taken).stop ≡ taken.stop
+call_stop (call.FlushBegin space page) answer taken = refl
 call_stop call answer taken = refl
 
 follows : (a : Act) (d t : Donor) (taken : Taken) → IsOutside a → Follows taken (after_act a d t taken)
-follows (act.Calls call answer) d t taken outside = record { stop = call_stop call answer taken; holds = called_holds call answer taken }
+follows (act.Calls (ask.Engine asked) (gives.Engine given)) d t taken outside = record { stop = call_stop asked given taken; holds = called_holds asked given taken }
+follows (act.Calls (ask.Engine asked) given) d t taken outside = follows_same taken
+follows (act.Calls (ask.Archive limit) given) d t taken outside = follows_same taken
+follows (act.Calls (ask.Init hello) (gives.Init (Err why))) d t taken outside = follows_same taken
+follows (act.Calls (ask.Attach caller) (gives.Attach (Err why))) d t taken outside = follows_same taken
+follows (act.Calls (ask.Reinit caller stage finished) (gives.Reinit (Err why))) d t taken outside = follows_same taken
+follows (act.Calls (ask.ReinitBlocks caller stage has) (gives.ReinitBlocks (Err why))) d t taken outside = follows_same taken
+follows (act.Calls (ask.Kept caller stage chunk) (gives.Kept (Err why))) d t taken outside = follows_same taken
+follows (act.Calls (ask.Execute caller stage) (gives.Execute (Err why))) d t taken outside = follows_same taken
+follows (act.Calls (ask.Claim caller stage) (gives.Claim (Err why))) d t taken outside = follows_same taken
+follows (act.Calls (ask.ReadBlock caller stage chunk number) (gives.ReadBlock (Err why))) d t taken outside = follows_same taken
+follows (act.Calls (ask.Ack caller stage floor) (gives.Ack (Err why))) d t taken outside = follows_same taken
+follows (act.Calls (ask.Exit caller) (gives.Exit (Err why))) d t taken outside = follows_same taken
+follows (act.Calls (ask.Abandon session) (gives.Abandon (Err why))) d t taken outside = follows_same taken
+follows (act.Calls asked given) d t taken outside = absurd outside
 follows act.Orders d t taken outside = follows_same taken
-follows (act.Archive limit reached) d t taken outside = follows_same taken
-follows act.Refuse d t taken outside = follows_same taken
-follows act.Miss d t taken outside = follows_same taken
-follows a d t taken outside = absurd outside
 
 -- The redo that is laid stays so, as more of it is archived.
 redo_grows : (list : StageList) (chunks : List Chunk) (work : Option InWork) (at : Option Engine) (a b : Option Archived) (m : DiskImage) → Grows a b → HoldsListed list chunks work at a m → HoldsListed list chunks work at b m
@@ -231,6 +278,7 @@ module _ (d t : Donor) (r : Requester) (told : Option DiskImage) (stop : Option 
         number = ap (λ (x : Session). x.number) same ∙ stage.own.number;
         incarnation = ap (λ (x : Session). x.incarnation) same ∙ stage.own.incarnation;
         tasks = ap (λ (x : Session). x.tasks) same ∙ stage.own.tasks;
+        version = ap (λ (x : Session). x.version) same ∙ stage.own.version;
       };
       settled = subst (λ (x : Session). AreSettled x.snap.chunks None) (sym same) stage.settled;
       is = now taken stage.is;

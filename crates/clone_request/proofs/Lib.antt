@@ -2,6 +2,7 @@ mod StandingLemmas
 mod RoomLemmas
 mod HeldLemmas
 mod WaitLemmas
+mod LastBlocks
 mod RedoBlocks
 mod RedoLemmas
 mod StageLemmas

@@ -25,14 +25,16 @@ use Rattle.clone_chunk.specs.declared.cause.CloneCause.TheVariants.{ArchiveBehin
 use Rattle.clone_session.specs.declared.refusal.CloneRefusal.TheVariants as clone
 use Rattle.clone_session.proofs.PartLemmas.{stands_as}
 use Rattle.clone_engine.specs.Engine.{Engine}
-use Rattle.clone_engine.specs.Acts as act
-use Rattle.clone_engine.specs.Acts.{Acts}
+use Rattle.clone_calls.specs.declared.answer.DonorAnswer.TheVariants as gives
+use Rattle.clone_calls.specs.declared.call.DonorCall.TheVariants as call
+use Rattle.clone_engine.specs.Acts.{CloneActs}
+use Rattle.clone_engine.specs.Answering.{Answered}
 use Rattle.clone_engine.specs.Copying.{RefusesBlock}
 use Rattle.clone_engine.specs.Donor.{Donor, IsDonor}
 use Rattle.clone_engine.specs.Taken.{Taken}
-use Rattle.clone_engine.specs.declared.block.Block.{Block}
-use Rattle.clone_engine.specs.declared.block.BlockRefusal.{BlockRefusal}
-use Rattle.clone_engine.specs.declared.block.BlockRefusal.TheVariants as block
+use Rattle.clone_calls.specs.declared.block.Block.{Block}
+use Rattle.clone_calls.specs.declared.block.BlockRefusal.{BlockRefusal}
+use Rattle.clone_calls.specs.declared.block.BlockRefusal.TheVariants as block
 use Rattle.clone_engine.proofs.MomentLemmas.{next_kept}
 use Rattle.clone_engine.proofs.ToldLemmas.{told_stays}
 use Rattle.clone_request.specs.Causes.{IsNoCause, step_of}
@@ -42,6 +44,7 @@ use Rattle.clone_request.specs.Waiting.{AreSettled, InWork, WaitsForRedo}
 use Rattle.clone_request.specs.declared.asking.TheConstants.{CALLER}
 use Rattle.clone_request.specs.declared.requester.StepRefusal.{StepRefusal}
 use Rattle.clone_request.specs.declared.requester.TheConstants.{SESSION}
+use Rattle.clone_request.proofs.LastBlocks.{not_kept}
 use Rattle.clone_request.proofs.RedoLemmas.{redo_weaker}
 use Rattle.clone_request.proofs.WaitLemmas.{block_there}
 
@@ -53,9 +56,9 @@ pub same_session : (c : Cloning) (s t : Session) → c.session ≡ Some s → se
 same_session c s t stands is = let one : Some t ≡ Some s = sym (stands_as c.session SESSION t is) ∙ stands in cc
 
 -- Nothing is against a block of the chunk in work but that its redo isn't archived.
-cause_is : (c : Cloning) (s : Session) (stage chunk number : ℕ) (part : Part) → c.session ≡ Some s → IsOwn s → donor_stage s ≡ stage → slice_get s.snap.chunks chunk ≡ Some (Claimed 0) → block_of s.snap.list chunk number ≡ Some part
+cause_is : (c : Cloning) (s : Session) (stage chunk number : ℕ) (part : Part) → IsCloning c → c.session ≡ Some s → IsOwn s → donor_stage s ≡ stage → slice_get s.snap.chunks chunk ≡ Some (Claimed 0) → block_of s.snap.list chunk number ≡ Some part
     → block_cause c CALLER stage chunk number ≡ archive_behind c.archive (Some part)
-cause_is c s stage chunk number part stands own stage_is claim is =
+cause_is c s stage chunk number part cloning stands own stage_is claim is =
     ap (λ (o : Option Session). option_map_or (λ s. option_or (stale s 1) (option_or (other_stage s stage) (option_or (not_claimed s 0 chunk number) (archive_behind c.archive (block_of s.snap.list chunk number))))) o (Some NoSuchSession)) (session_there c s stands own.number)
     ∙ (λ i. option_or (fresh i) (option_or (same i) (option_or (claimed i) (archive_behind c.archive (is i)))))
   where
@@ -66,7 +69,7 @@ cause_is c s stage chunk number part stands own stage_is claim is =
     same = ap (λ (b : Bool). whether (not b) (StageMismatch (donor_stage s) stage)) (eq-eqb stage (donor_stage s) (sym stage_is))
 
     claimed : not_claimed s 0 chunk number ≡ None
-    claimed = λ i. whether (not (is_claimed 0 (claim i) && is_some (is i))) NotClaimed
+    claimed = λ i. whether (not (is_claimed 0 (claim i) && is_some (is i) && not (not_kept c s cloning stands own chunk number i))) NotClaimed
 
 -- redo isn't archived up to there
 pub record Behind (archive : Option Archived) (part : Part) (cause : CloneCause) : Type 0 where
@@ -93,11 +96,11 @@ module _ (d : Donor) (told : Option DiskImage) (sizes : PageCounts) (stage check
   pub part_there : (part : Part) × (block_of was.session.snap.list chunk number ≡ Some part)
   part_there = block_there was.session.snap.list chunk number (was.works (record { chunk = chunk; laid = number }) refl).1
 
-  pub cause_of : block_cause d.cloning CALLER stage chunk number ≡ archive_behind d.cloning.archive (Some part_there.0)
-  cause_of = cause_is d.cloning was.session stage chunk number part_there.0 was.in_stage.session was.in_stage.own was.stage_is (was.works (record { chunk = chunk; laid = number }) refl).0 part_there.1
+  pub cause_of : IsCloning d.cloning → block_cause d.cloning CALLER stage chunk number ≡ archive_behind d.cloning.archive (Some part_there.0)
+  cause_of cloning = cause_is d.cloning was.session stage chunk number part_there.0 cloning was.in_stage.session was.in_stage.own was.stage_is (was.works (record { chunk = chunk; laid = number }) refl).0 part_there.1
 
-  pub only_behind : (cause : CloneCause) → block_cause d.cloning CALLER stage chunk number ≡ Some cause → Behind d.cloning.archive part_there.0 cause
-  only_behind cause is = is_behind d.cloning.archive part_there.0 cause (sym cause_of ∙ is)
+  pub only_behind : IsCloning d.cloning → (cause : CloneCause) → block_cause d.cloning CALLER stage chunk number ≡ Some cause → Behind d.cloning.archive part_there.0 cause
+  only_behind cloning cause is = is_behind d.cloning.archive part_there.0 cause (sym (cause_of cloning) ∙ is)
 
 -- MORE IS ARCHIVED
 
@@ -119,7 +122,7 @@ told_map : (P Q : DiskImage → Type 0) (told : Option DiskImage) → ((m : Disk
 told_map P Q None to had = tt
 told_map P Q (Some m) to had = to m had
 
-module _ (d t : Donor) (limit : ℕ) (reached : Option ℕ) (a : Archived) (stands : d.cloning.archive ≡ Some a) (acts : Acts (act.Archive limit reached) d t) where
+module _ (d t : Donor) (limit : ℕ) (reached : Option ℕ) (a : Archived) (stands : d.cloning.archive ≡ Some a) (acts : CloneActs (call.Archive limit) (gives.Archive (Ok reached)) d t) where
   abbrev pub more : Archived
   more = archived_on limit d.engine.buffer.ring a
 
@@ -186,7 +189,7 @@ module _ (d t : Donor) (limit : ℕ) (reached : Option ℕ) (a : Archived) (stan
       taken = was.taken;
       in_stage = record {
         session = next.1;
-        own = record { number = ap (λ (s : Session). s.number) next.2 ∙ was.in_stage.own.number; incarnation = ap (λ (s : Session). s.incarnation) next.2 ∙ was.in_stage.own.incarnation; tasks = ap (λ (s : Session). s.tasks) next.2 ∙ was.in_stage.own.tasks };
+        own = record { number = ap (λ (s : Session). s.number) next.2 ∙ was.in_stage.own.number; incarnation = ap (λ (s : Session). s.incarnation) next.2 ∙ was.in_stage.own.incarnation; tasks = ap (λ (s : Session). s.tasks) next.2 ∙ was.in_stage.own.tasks; version = ap (λ (s : Session). s.version) next.2 ∙ was.in_stage.own.version };
         settled = subst (λ (c : List Chunk). AreSettled c work) (sym chunks_is) was.in_stage.settled;
         is = acts.taken was.taken was.in_stage.is;
         early = λ low. was.in_stage.early (omega (arith, low, stage_same));
@@ -203,7 +206,7 @@ module _ (d t : Donor) (limit : ℕ) (reached : Option ℕ) (a : Archived) (stan
 -- what was behind is archived then
 module _ (d t : Donor) (told : Option DiskImage) (sizes : PageCounts) (stage checkpoint chunk number : ℕ) (stop : Option plain.Donor) (archived until : ℕ) (reached : Option ℕ)
     (was : IsCopying d told sizes stage checkpoint (Some (record { chunk = chunk; laid = number })) stop) (is : IsDonor d) (cloning : IsCloning d.cloning) (log : IsInLog was.session.snap.list)
-    (against : block_cause d.cloning CALLER stage chunk number ≡ Some (ArchiveBehind archived until)) (acts : Acts (act.Archive (until - archived) reached) d t) where
+    (against : block_cause d.cloning CALLER stage chunk number ≡ Some (ArchiveBehind archived until)) (acts : CloneActs (call.Archive (until - archived)) (gives.Archive (Ok reached)) d t) where
   abbrev s : Session
   s = was.session
 
@@ -211,7 +214,7 @@ module _ (d t : Donor) (told : Option DiskImage) (sizes : PageCounts) (stage che
   part = part_there d told sizes stage checkpoint chunk number stop was
 
   b : Behind d.cloning.archive part.0 (ArchiveBehind archived until)
-  b = only_behind d told sizes stage checkpoint chunk number stop was (ArchiveBehind archived until) against
+  b = only_behind d told sizes stage checkpoint chunk number stop was cloning (ArchiveBehind archived until) against
 
   archived_is : archived ≡ archived_of b.a
   archived_is = let same = b.is in cc
@@ -257,15 +260,15 @@ module _ (d t : Donor) (told : Option DiskImage) (sizes : PageCounts) (stage che
   pub copying_then : IsCopying t told sizes stage checkpoint (Some (record { chunk = chunk; laid = number })) stop
   copying_then = archived_copying d t (until - archived) reached b.a b.stands acts told sizes stage checkpoint (Some (record { chunk = chunk; laid = number })) stop was
 
-  pub free_then : block_cause t.cloning CALLER stage chunk number ≡ None
+  pub free_then : IsCloning t.cloning → block_cause t.cloning CALLER stage chunk number ≡ None
   unfolding copying_then next archived_copying as_bare
-  free_then =
+  free_then still =
       let new = copying_then in
       let (x, there) = part_there t told sizes stage checkpoint chunk number stop new in
       let list : new.session.snap.list ≡ s.snap.list = list_is d t (until - archived) reached b.a b.stands acts told sizes stage checkpoint (Some (record { chunk = chunk; laid = number })) stop was in
       let both : Some x ≡ Some (RedoPart b.from b.count) = sym there ∙ ap (λ (l : StageList). block_of l chunk number) list ∙ redo_is in
       let same : x ≡ RedoPart b.from b.count = cc in
-      cause_of t told sizes stage checkpoint chunk number stop new
+      cause_of t told sizes stage checkpoint chunk number stop new still
       ∙ ap (λ (o : Option Archived). archive_behind o (Some x)) (archive_is d t (until - archived) reached b.a b.stands acts)
       ∙ ap (λ (p : Part). archive_behind (Some (more d t (until - archived) reached b.a b.stands acts)) (Some p)) same
       ∙ ap (λ (c : Bool). whether c (ArchiveBehind (archived_of (more d t (until - archived) reached b.a b.stands acts)) (b.from + b.count))) (le-ltb (archived_of (more d t (until - archived) reached b.a b.stands acts)) (b.from + b.count) (omega (arith, reaches, until_is)))
@@ -279,15 +282,15 @@ behind_as d t stage chunk number archived until answer is refused =
 
 -- or for no such cause
 pub not_behind : (d t : Donor) (told : Option DiskImage) (sizes : PageCounts) (stage checkpoint chunk number : ℕ) (stop : Option plain.Donor) (answer : Result (Block × Bool) BlockRefusal)
-    → IsCopying d told sizes stage checkpoint (Some (record { chunk = chunk; laid = number })) stop → ((archived until : ℕ) → answer ≡ Err (block.Clone (clone.Because (ArchiveBehind archived until))) → ⊥)
+    → IsCopying d told sizes stage checkpoint (Some (record { chunk = chunk; laid = number })) stop → IsCloning d.cloning → ((archived until : ℕ) → answer ≡ Err (block.Clone (clone.Because (ArchiveBehind archived until))) → ⊥)
     → IfErr answer (RefusesBlock CALLER stage chunk number d t) → IfErr answer IsNoCause
-not_behind d t told sizes stage checkpoint chunk number stop (Ok given) was not refused = tt
-not_behind d t told sizes stage checkpoint chunk number stop (Err (block.Clone (clone.Because cause))) was not refused =
+not_behind d t told sizes stage checkpoint chunk number stop (Ok given) was cloning not refused = tt
+not_behind d t told sizes stage checkpoint chunk number stop (Err (block.Clone (clone.Because cause))) was cloning not refused =
     let (some, same) = refused in
-    let b = only_behind d told sizes stage checkpoint chunk number stop was cause some in
+    let b = only_behind d told sizes stage checkpoint chunk number stop was cloning cause some in
     not (archived_of b.a) (b.from + b.count) (ap (λ (c : CloneCause). Err (block.Clone (clone.Because c))) b.is)
-not_behind d t told sizes stage checkpoint chunk number stop (Err (block.Clone clone.NoMemory)) was not refused = tt
-not_behind d t told sizes stage checkpoint chunk number stop (Err (block.Engine why)) was not refused = tt
+not_behind d t told sizes stage checkpoint chunk number stop (Err (block.Clone clone.NoMemory)) was cloning not refused = tt
+not_behind d t told sizes stage checkpoint chunk number stop (Err (block.Engine why)) was cloning not refused = tt
 
 -- WHAT THE ANSWER IS to the clone
 
@@ -311,12 +314,12 @@ on_ok P (Err e) result is had = subst (λ (r : Result (Block × Bool) StepRefusa
 
 -- the requester's calls, where the redo of a block was behind first
 module _ (d u t : Donor) (stage chunk number archived until : ℕ) (reached : Option ℕ) (answer : Result (Block × Bool) BlockRefusal) (answer_is : answer ≡ Err (block.Clone (clone.Because (ArchiveBehind archived until))))
-    (refused : IfErr answer (RefusesBlock CALLER stage chunk number d u)) (acts : Acts (act.Archive (until - archived) reached) u t) (is : IsDonor d) (cloning : IsCloning d.cloning) (snap : ForSome d.cloning.session (λ s. IsSnap s.snap.list s.snap.chunks s.snap.room)) where
+    (refused : IfErr answer (RefusesBlock CALLER stage chunk number d u)) (acts : CloneActs (call.Archive (until - archived)) (gives.Archive (Ok reached)) u t) (is : IsDonor d) (cloning : IsCloning d.cloning) (snap : ForSome d.cloning.session (λ s. IsSnap s.snap.list s.snap.chunks s.snap.room)) where
   against : (block_cause d.cloning CALLER stage chunk number ≡ Some (ArchiveBehind archived until)) × (u ≡ d)
   against = behind_as d u stage chunk number archived until answer answer_is refused
 
-  acts_on : Acts (act.Archive (until - archived) reached) d t
-  acts_on = subst (λ (x : Donor). Acts (act.Archive (until - archived) reached) x t) against.1 acts
+  acts_on : CloneActs (call.Archive (until - archived)) (gives.Archive (Ok reached)) d t
+  acts_on = subst (λ (x : Donor). CloneActs (call.Archive (until - archived)) (gives.Archive (Ok reached)) x t) against.1 acts
 
   module _ (told : Option DiskImage) (sizes : PageCounts) (checkpoint : ℕ) (stop : Option plain.Donor) (was : IsCopying d told sizes stage checkpoint (Some (record { chunk = chunk; laid = number })) stop) where
     log : IsInLog was.session.snap.list
@@ -325,10 +328,15 @@ module _ (d u t : Donor) (stage chunk number archived until : ℕ) (reached : Op
     pub stays_then : IsCopying t told sizes stage checkpoint (Some (record { chunk = chunk; laid = number })) stop
     stays_then = copying_then d t told sizes stage checkpoint chunk number stop archived until reached was is cloning log against.0 acts_on
 
-    pub none_then : block_cause t.cloning CALLER stage chunk number ≡ None
+    pub none_then : IsCloning t.cloning → block_cause t.cloning CALLER stage chunk number ≡ None
     none_then = free_then d t told sizes stage checkpoint chunk number stop archived until reached was is cloning log against.0 acts_on
 
     pub left_then : free_left t ≡ free_left d
     left_then =
-        let b = only_behind d told sizes stage checkpoint chunk number stop was (ArchiveBehind archived until) against.0 in
+        let b = only_behind d told sizes stage checkpoint chunk number stop was cloning (ArchiveBehind archived until) against.0 in
         archived_left d t (until - archived) reached b.a b.stands acts_on told sizes stage checkpoint (Some (record { chunk = chunk; laid = number })) stop was
+
+-- why a block wasn't answered
+pub refused_read : (stage chunk number : ℕ) (d t : Donor) (r : Result (Block × Bool) BlockRefusal) → Answered (call.ReadBlock CALLER stage chunk number) (gives.ReadBlock r) d t → IfErr r (RefusesBlock CALLER stage chunk number d t)
+refused_read stage chunk number d t (Ok given) is = tt
+refused_read stage chunk number d t (Err why) is = is

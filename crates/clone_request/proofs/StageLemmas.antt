@@ -25,7 +25,9 @@ use Rattle.clone_chunk.specs.declared.chunk.Chunk.TheVariants.{Free}
 use Rattle.clone_snapshot.specs.StageLists as lists
 use Rattle.clone_snapshot.specs.StageLists.{chunk_count}
 use Rattle.clone_engine.specs.Copies.{AreInFiles, AreInPages, IsInFiles, files_over, is_noted, pages_over}
-use Rattle.clone_plain.specs.Calls.{Call, flush_begin, Done}
+use Rattle.clone_plain.specs.declared.call.EngineAnswer.{EngineAnswer}
+use Rattle.clone_plain.specs.declared.call.EngineCall.{EngineCall}
+use Rattle.clone_plain.specs.declared.call.EngineCall.TheVariants as call
 use Rattle.clone_plain.specs.declared.refusal.EngineRefusal.{EngineRefusal}
 use Rattle.clone_flush.specs.Calls.{after_begin}
 use Rattle.clone_engine.specs.Steps.{has_begun}
@@ -44,7 +46,7 @@ noted_listed : (tracked : Option Pages) (s n : ℕ) → is_noted tracked s n ≡
 noted_listed None s n is = absurd (true≢false (sym is))
 noted_listed (Some set) s n is = Contains-from_any (λ x y same. row_cmp_exact x y (is_equal (row_cmp x y) same)) (s, n) (finite.keys set) (sym (contains_key-keys set (s, n)) ∙ is)
 
--- what counts while files are copied, of a page that isn't tracked, counts behind
+-- what counts while files are copied, of a page that isn't tracked, counts after that
 untracked_start : (starts : List Standing) (v : Standing) (base : ℕ) → Counts (machine.Untracked starts) v → HasStart (machine.Copied base starts) v
 untracked_start starts v base (inl is) = absurd (cc)
 untracked_start starts v base (inr start) = start
@@ -102,8 +104,8 @@ noted_holds page waits copies m holds = holds_counts waits waits copies (with_no
     by s n v (inr counts) = inr (noted_counts (is_same page (record { space = s; number = n })) (copies s n) v counts)
 
 -- A call of the engine is made.
-pub called_holds : (call : Call) (answer : Result Done EngineRefusal) (taken : Taken) (waits : ℕ → ℕ → Type 0) (m : DiskImage) → HoldsPages waits taken.copies m → HoldsPages waits (taken_by call answer taken).copies m
-called_holds (flush_begin space page) answer taken waits m holds = by (has_begun answer)
+pub called_holds : (call : EngineCall) (answer : Result EngineAnswer EngineRefusal) (taken : Taken) (waits : ℕ → ℕ → Type 0) (m : DiskImage) → HoldsPages waits taken.copies m → HoldsPages waits (taken_by call answer taken).copies m
+called_holds (call.FlushBegin space page) answer taken waits m holds = by (has_begun answer)
   where
     by : (begun : Bool) → HoldsPages waits (after_begin (record { space = space; number = page }) begun taken.copies) m
     by true = noted_holds (record { space = space; number = page }) waits taken.copies m holds

@@ -10,6 +10,10 @@ use Rattle.clone_plain.specs.Donor.{history}
 use Rattle.clone_lay.specs.Marked.{marked}
 use Rattle.clone_staged.specs.Holds.{HoldsCopy}
 use Rattle.clone_engine.specs.Disks.{Visits}
+use Rattle.clone_calls.specs.declared.answer.DonorAnswer.{DonorAnswer}
+use Rattle.clone_calls.specs.declared.answer.DonorAnswer.TheVariants as answer
+use Rattle.clone_calls.specs.declared.call.DonorCall.{DonorCall}
+use Rattle.clone_calls.specs.declared.call.DonorCall.TheVariants as call
 use Rattle.clone_engine.specs.Acts as act
 use Rattle.clone_engine.specs.Acts.{Act}
 use Rattle.clone_engine.specs.Donor.{Donor}
@@ -89,11 +93,24 @@ HasRisen (Err DonorFault) d t failures now =
     Rose d.engine.disk.failures t.engine.disk.failures
 HasRisen (Err NoMemory) d t failures now = Unit {0}
 
--- acts that no requester makes: the donor's own, and calls of a clone that were refused
+-- a call of a clone that was refused
+abbrev pub IsRefusal : DonorCall → DonorAnswer → Type 0
+IsRefusal (call.Init hello) (answer.Init (Err why)) = Unit {0}
+IsRefusal (call.Attach caller) (answer.Attach (Err why)) = Unit {0}
+IsRefusal (call.Reinit caller stage finished) (answer.Reinit (Err why)) = Unit {0}
+IsRefusal (call.ReinitBlocks caller stage taken) (answer.ReinitBlocks (Err why)) = Unit {0}
+IsRefusal (call.Kept caller stage chunk) (answer.Kept (Err why)) = Unit {0}
+IsRefusal (call.Execute caller stage) (answer.Execute (Err why)) = Unit {0}
+IsRefusal (call.Claim caller stage) (answer.Claim (Err why)) = Unit {0}
+IsRefusal (call.ReadBlock caller stage chunk number) (answer.ReadBlock (Err why)) = Unit {0}
+IsRefusal (call.Ack caller stage floor) (answer.Ack (Err why)) = Unit {0}
+IsRefusal (call.Exit caller) (answer.Exit (Err why)) = Unit {0}
+IsRefusal (call.Abandon session) (answer.Abandon (Err why)) = Unit {0}
+IsRefusal asked given = ⊥
+
+-- acts that no requester makes: calls of the engine, archiving, orders, and calls that were refused
 abbrev pub IsOutside : Act → Type 0
-IsOutside (act.Calls call answer) = Unit {0}
+IsOutside (act.Calls (call.Engine asked) given) = Unit {0}
+IsOutside (act.Calls (call.Archive limit) given) = Unit {0}
+IsOutside (act.Calls asked given) = IsRefusal asked given
 IsOutside act.Orders = Unit {0}
-IsOutside (act.Archive limit reached) = Unit {0}
-IsOutside act.Refuse = Unit {0}
-IsOutside act.Miss = Unit {0}
-IsOutside act = ⊥

@@ -5,8 +5,8 @@ use Rattle.clone_request.specs.declared.requester.StepRefusal.{StepRefusal}
 use Rattle.clone_request.specs.declared.requester.StepRefusal.TheVariants.{RecipientFault, DonorFault, NoMemory}
 use Rattle.clone_plain.specs.declared.refusal.EngineRefusal.TheVariants as engine
 use Rattle.clone_session.specs.declared.refusal.CloneRefusal.TheVariants as clone
-use Rattle.clone_engine.specs.declared.block.BlockRefusal.{BlockRefusal}
-use Rattle.clone_engine.specs.declared.block.BlockRefusal.TheVariants as block
+use Rattle.clone_calls.specs.declared.block.BlockRefusal.{BlockRefusal}
+use Rattle.clone_calls.specs.declared.block.BlockRefusal.TheVariants as block
 
 -- what a refusal of the requester's disk is to the clone
 abbrev pub step_refusal : Refusal → StepRefusal

@@ -11,8 +11,8 @@ use Rattle.clone_chunk.specs.Plans.{stage_of}
 use Rattle.clone_chunk.specs.Stages.{stage_number}
 use Rattle.clone_plain.specs.Donor as plain
 use Rattle.clone_session.specs.declared.info.StageInfo.{StageInfo}
-use Rattle.clone_engine.specs.declared.block.Block.{Block}
-use Rattle.clone_engine.specs.declared.block.Block.TheVariants.{Pages, Redo}
+use Rattle.clone_calls.specs.declared.block.Block.{Block}
+use Rattle.clone_calls.specs.declared.block.Block.TheVariants.{Pages, Redo}
 use Rattle.clone_page.specs.declared.pages.PageAt.{PageAt}
 use Rattle.clone_engine.specs.Donor.{Donor}
 use Rattle.clone_request.specs.declared.requester.StepRefusal.{StepRefusal}

@@ -17,6 +17,7 @@ use Rattle.clone_snapshot.specs.StageLists as lists
 use Rattle.clone_snapshot.specs.StageLists.{StageList}
 use Rattle.clone_plain.specs.Donor as plain
 use Rattle.clone_session.specs.declared.info.Stop.{Stop}
+use Rattle.clone_session.specs.declared.limits.TheConstants.{VERSION}
 use Rattle.clone_session.specs.Cloning.{Session}
 use Rattle.clone_session.specs.CloneCauses.{donor_stage}
 use Rattle.clone_engine.specs.Engine.{Engine}
@@ -54,11 +55,12 @@ pub record HoldsStage (list : StageList) (chunks : List Chunk) (work : Option In
   pub pages : HoldsPages (WaitsForPage list chunks work) taken.copies m
   pub redo : HoldsListed list chunks work taken.stop a m
 
--- the requester's session: its number, its first incarnation, and one task
+-- the requester's session: its number, its first incarnation, one task, and the first version
 pub record IsOwn (s : Session) : Type 0 where
   pub number : s.number ≡ SESSION
   pub incarnation : s.incarnation ≡ 1
   pub tasks : s.tasks ≡ 1
+  pub version : s.version ≡ VERSION
 
 -- WITHIN A STAGE, with what was taken of the donor: the session is the requester's, and what is
 -- laid stands on the disk, where both disks tell what they hold.

@@ -15,8 +15,9 @@ ghost use Rattle.clone_request.specs.Causes.{IsNoCause, step_of};
 
 use crate::requester::{Requester, SESSION, StepRefusal};
 use clone_base::PAGE_SIZE;
+use clone_calls::{Block, BlockRefusal};
 use clone_chunk::CloneCause;
-use clone_donor::{Block, BlockRefusal, Donor};
+use clone_donor::Donor;
 use clone_outside::PageDisk;
 use clone_plain::EngineRefusal;
 use clone_session::{Caller, CloneRefusal, Hello, StageInfo, VERSION};
@@ -51,7 +52,7 @@ impl Requester {
         let answer = if self.stages == 0 {
             donor.init(alloc, &hello())
         } else {
-            donor.ack(CALLER, self.stages, floor)
+            donor.ack(alloc, CALLER, self.stages, floor)
         };
         match answer {
             Ok(info) => Ok(info),
@@ -138,7 +139,7 @@ pub fn read<D: PageDisk>(
     answered(donor.read_block(alloc, CALLER, stage, chunk, number))
 }
 
-/// Up to where redo is archived, and up to where a block needs it, if that is behind.
+/// Up to where redo is archived, and up to where a block needs it, if it isn't archived so far.
 fn behind(answer: &Result<(Block, bool), BlockRefusal>) -> Option<(u64, u64)>
     ensures some { IfSome result (λ lsns. answer.now ≡ Err (BlockRefusal.Clone (CloneRefusal.Because
         (CloneCause.ArchiveBehind lsns.0 lsns.1)))) }

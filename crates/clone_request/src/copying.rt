@@ -14,7 +14,8 @@ ghost use Rattle.clone_request.specs.Reading.{AreLow, IsFit, with_block, work_af
 use crate::asking::{claim, read};
 use crate::requester::{Requester, StepRefusal};
 use clone_base::Counts;
-use clone_donor::{Block, Donor};
+use clone_calls::Block;
+use clone_donor::Donor;
 use clone_lay::{lay_page, lay_redo};
 use clone_model::MOST_PAGES;
 use clone_outside::{PageDisk, Refusal};

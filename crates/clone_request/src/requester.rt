@@ -121,11 +121,11 @@ impl Requester {
     }
 
     /// Copies the next stage: the donor is asked for the session, or told that the stage before is
-    /// copied, and each block is laid at its place. Behind the last stage the copy is completed, and
-    /// the session ends. The floor is what the requester has looked up; it is told the donor with
-    /// each acknowledgement.
+    /// copied, and each block is laid at its place. After the last stage the copy is completed, and
+    /// the session ends. The floor is what the requester has looked up; each acknowledgement tells
+    /// it to the donor.
     ///
-    /// A fault of either disk ends the clone, and so does want of memory.
+    /// A fault of either disk ends the clone, and so does running out of memory.
     pub fn advance<D: PageDisk, R: PageDisk>(
         &mut self,
         alloc: Global,

@@ -39,7 +39,7 @@ module _ (c : Cloning) (a more : Archived) (stands : c.archive ≡ Some a) (star
     own = r.own;
   }
 
-  -- there is room for a copy of redo that ends a ring's size behind
+  -- there is room for a copy of redo that ends a ring's size later
   abbrev HasRoom : Session → Type 0
   HasRoom s = stage_of s.snap.list ≡ PageCopy → chunk_count (Redo more.start (reach c.ring more)) ≤ s.snap.room
 
@@ -61,4 +61,4 @@ module _ (c : Cloning) (a more : Archived) (stands : c.archive ≡ Some a) (star
     where
       by : (o : Option Session) → ((s : Session) → o ≡ Some s → HasRoom s) → IsInSession c o → IsInSession on o
       by None room idle = let none : Some a ≡ None = sym stands ∙ idle.unarchived in absurd (cc)
-      by (Some s) room in_session = (in_session.0, in_session.1, stage s s.snap.list (room s refl) in_session.2)
+      by (Some s) room in_session = (in_session.0, in_session.1, stage s s.snap.list (room s refl) in_session.2, in_session.3, in_session.4)

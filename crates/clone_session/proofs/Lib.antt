@@ -3,3 +3,4 @@ pub mod StopLemmas
 pub mod ArchiveLemmas
 pub mod PartLemmas
 pub mod PlanLemmas
+pub mod StageLemmas

@@ -30,7 +30,7 @@ in_log list chunk block from count log is =
     let within = redo_between start end chunk block from count range.0 (subst (λ l. block_of l chunk block ≡ Some (RedoPart from count)) redo is) in
     omega (arith, range.1, within.1)
 
--- redo that isn't behind is archived
+-- redo of which the archive isn't short is archived
 not_behind : (a : Archived) (until : ℕ) → behind (Some a) until ≡ None → until ≤ archived_of a
 not_behind a until fine = by (nat_lt (archived_of a) until) refl fine
   where

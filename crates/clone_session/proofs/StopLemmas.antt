@@ -1,12 +1,13 @@
 -- The stop: what the copy of pages leaves when it ends.
-use Rattle.std.proofs.Common.{◌≡◌, ◌∙◌, ℕ, List, refl, sym, subst, ap, arith, Option, Some, option_map, replicate}
+use Rattle.std.proofs.Common.{◌≡◌, ◌≤◌, ◌∙◌, ℕ, List, refl, sym, subst, ap, arith, Option, Some, option_map, length, replicate}
+use Rattle.clone_base.specs.declared.limits.TheConstants.{SPACE_LIMIT}
 use Rattle.std.specs.Option.{option_map_or}
 use Rattle.clone_chunk.specs.declared.chunk.Chunk.TheVariants.{Free}
 use Rattle.clone_archive.specs.Archived.{Archived, start_of, stopped}
 use Rattle.clone_snapshot.specs.StageLists.{Pages, Redo, chunk_count}
 use Rattle.clone_session.specs.declared.ending.Moment.{Moment}
 use Rattle.clone_session.specs.declared.info.Stop.{Stop}
-use Rattle.clone_session.specs.Cloning.{Cloning, Session, CopiesPages, IsInStage, IsInSession, IsCloning}
+use Rattle.clone_session.specs.Cloning.{Cloning, Session, CopiesPages, IsInStage, IsInSession, IsOfVersion, IsCloning}
 use Rattle.clone_session.specs.Effects.{Becomes, aside, pages_ended, stopped_at}
 
 module _ (now : Moment) (c : Cloning) (s t : Session) (start : ℕ) (archive : Option Archived) where
@@ -30,8 +31,8 @@ module _ (now : Moment) (c : Cloning) (s t : Session) (start : ℕ) (archive : O
     ended : archive ≡ Some (stopped now.end copies.archive)
     ended = ends ∙ ap (option_map (stopped now.end)) copies.stands
 
-    pub stops : t.tasks ≡ s.tasks → IsCloning after
-    stops tasks = record {
+    pub stops : t.tasks ≡ s.tasks → t.created ≡ s.created → IsOfVersion t → IsCloning after
+    stops tasks created blocks = record {
       ring = k.ring;
       session = (
         omega (arith, tasks, in_pages.0),
@@ -46,15 +47,19 @@ module _ (now : Moment) (c : Cloning) (s t : Session) (start : ℕ) (archive : O
           stopped = refl;
           own = refl;
         }),
+        subst (λ (xs : List (ℕ × ℕ)). length xs ≤ SPACE_LIMIT) (sym created) in_pages.3,
+        blocks,
       );
     }
 
-    pub becomes : t.number ≡ s.number → t.incarnation ≡ s.incarnation → t.tasks ≡ s.tasks → t.snap.chunks ≡ replicate (chunk_count (Redo start now.end)) Free → Becomes after (pages_ended now s c)
-    becomes number incarnation tasks chunks =
+    pub becomes : t.number ≡ s.number → t.incarnation ≡ s.incarnation → t.tasks ≡ s.tasks → t.version ≡ s.version → t.created ≡ s.created → t.snap.chunks ≡ replicate (chunk_count (Redo start now.end)) Free → t.snap.kept ≡ replicate (chunk_count (Redo start now.end)) 0
+        → Becomes after (pages_ended now s c)
+    becomes number incarnation tasks version created chunks kept =
         let list : t.snap.list ≡ Redo copies.archive.start now.end = next ∙ ap (λ n. Redo n now.end) (sym starts) in
         let free : t.snap.chunks ≡ replicate (chunk_count (Redo copies.archive.start now.end)) Free = chunks ∙ ap (λ n. replicate (chunk_count (Redo n now.end)) Free) (sym starts) in
+        let none : t.snap.kept ≡ replicate (chunk_count (Redo copies.archive.start now.end)) 0 = kept ∙ ap (λ n. replicate (chunk_count (Redo n now.end)) 0) (sym starts) in
         let there : aside after ≡ aside (stopped_at now s copies.archive c) = λ i. record {
-          session = Some (record { number = number i; incarnation = incarnation i; tasks = tasks i; snap = record { list = list i; chunks = free i; room = 0 } });
+          session = Some (record { number = number i; incarnation = incarnation i; tasks = tasks i; version = version i; snap = record { list = list i; chunks = free i; kept = none i; room = 0 }; created = created i });
           tracking = record c.tracking { kept = 0; room = 0 };
           archive = ended i;
           stop = Some (record { session = number i; position = now.position; drops = now.drops });

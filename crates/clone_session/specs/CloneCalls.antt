@@ -1,16 +1,23 @@
 -- The calls of a clone, with their answers.
-use Rattle.std.specs.Prelude.{ℕ, ◌≡◌, ◌↔◌, ◌≤◌, ◌<◌, ◌+◌, ◌-◌, ◌^◌, Bool, List, [], length, take, drop, None, Some, Result, Ok, Err, All, IsTrue, slice_get, if◌then◌else◌}
+use Rattle.std.specs.Prelude.{ℕ, ◌≡◌, ◌↔◌, ◌≤◌, ◌<◌, ◌+◌, ◌-◌, ◌^◌, ◌==◌, Bool, List, [], length}
+use Rattle.std.specs.Prelude.{take, drop, None, Some, Result, Ok, Err, All, IsTrue, slice_get}
+use Rattle.std.specs.Prelude.{if◌then◌else◌}
 use Rattle.std.specs.declared.option.Option.{Option}
 use Rattle.clone_base.specs.declared.limits.TheConstants.{LSN_LIMIT, SPACE_LIMIT}
 use Rattle.std.specs.Option.{ForSome}
 use Rattle.clone_chunk.specs.Chunks.{IsLeastFree, IsTaken}
 use Rattle.clone_chunk.specs.declared.chunk.Chunk.TheVariants.{Claimed}
+use Rattle.clone_chunk.specs.declared.partials.PartialChunk.{PartialChunk}
 use Rattle.clone_ring.specs.Window.{Window, end_of}
-use Rattle.clone_archive.specs.Archived.{Archived, archived_of, kept_from, end_in, copied, next_count}
-use Rattle.clone_snapshot.specs.StageLists.{Files, Part, PagePart, RedoPart, block_of, block_count, chunk_count}
+use Rattle.clone_archive.specs.Archived.{Archived, archived_of, kept_from, end_in, copied}
+use Rattle.clone_archive.specs.Archived.{next_count}
+use Rattle.clone_snapshot.specs.StageLists.{Files, Part, PagePart, RedoPart, block_of, chunk_count}
+use Rattle.clone_snapshot.specs.Resets.{IsLast, IsReset}
+use Rattle.clone_snapshot.specs.Snaps.{Snap}
 use Rattle.clone_snapshot.specs.declared.block.RedoBlock.{RedoBlock}
 use Rattle.clone_session.specs.declared.copying.BlockWork.{BlockWork}
-use Rattle.clone_session.specs.declared.copying.BlockWork.TheVariants.{Pages as BlockPages, Redo as BlockRedo}
+use Rattle.clone_session.specs.declared.copying.BlockWork.TheVariants.{Pages as BlockPages}
+use Rattle.clone_session.specs.declared.copying.BlockWork.TheVariants.{Redo as BlockRedo}
 use Rattle.clone_session.specs.declared.caller.Caller.{Caller}
 use Rattle.clone_session.specs.declared.ending.Moment.{Moment}
 use Rattle.clone_session.specs.declared.info.StageInfo.{StageInfo}
@@ -19,22 +26,41 @@ use Rattle.clone_session.specs.declared.refusal.CloneRefusal.{CloneRefusal}
 use Rattle.clone_session.specs.declared.refusal.CloneRefusal.TheVariants.{Because, NoMemory}
 use Rattle.clone_session.specs.Cloning.{Cloning, Session}
 use Rattle.clone_session.specs.CloneCauses.{session_of, claim_cause, donor_stage}
-use Rattle.clone_session.specs.Effects.{Becomes, Tells, acknowledged, claimed, finished}
+use Rattle.clone_session.specs.Effects.{Becomes, Tells, acknowledged, claimed, finished, rejoined}
 
 -- A call is carried out only where there is no cause against it. Else it is refused for that cause,
--- and nothing has changed. Want of memory is free.
+-- and nothing has changed. Out of memory is free.
 abbrev pub Decided : {X : Type 0} → Option CloneCause → Cloning → Cloning → Result X CloneRefusal
     → (X → Type 0) → Type 0
 Decided cause old new (Ok x) Does = (cause ≡ None) × Does x
 Decided cause old new (Err (Because e)) Does = (cause ≡ Some e) × (new ≡ old)
 Decided cause old new (Err NoMemory) Does = (cause ≡ None) × Becomes new old
 
--- An acknowledgement: the session's stage is over, or it was before, and the answer tells the stage
--- that it has come to.
-abbrev pub Acknowledges : Moment → ℕ → ℕ → Cloning → Cloning → StageInfo → Type 0
-Acknowledges now number stage old new info =
+-- An acknowledgement, when the donor has these files: the session's stage is over, or it was
+-- before, and the answer tells the stage that it has come to.
+abbrev pub Acknowledges : Moment → List (ℕ × ℕ) → (number stage : ℕ) → Cloning → Cloning → StageInfo
+    → Type 0
+Acknowledges now files number stage old new info =
     (s : Session) × (session_of old number ≡ Some s)
-    × Becomes new (acknowledged now stage s old) × Tells new info
+    × Becomes new (acknowledged now files stage s old) × Tells new info
+
+-- what a requester in this stage has of the donor's: nothing, where the donor's is the next one
+abbrev pub of_stage : {X : Type 0} → ℕ → Session → List X → List X
+of_stage stage s list = if stage == donor_stage s then list else []
+
+-- A LATER INCARNATION joins the session, which stays in its stage, with the chunks that it has and
+-- with blocks of others. No claim stays. The answer tells the stage.
+abbrev pub Rejoins : ℕ → ℕ → List ℕ → List PartialChunk → Session → Cloning → Cloning → Type 0
+Rejoins incarnation stage bitmap partials s old new =
+    (snap : Snap) × (snap.list ≡ s.snap.list)
+    × IsReset snap.list (of_stage stage s bitmap) (of_stage stage s partials) snap.chunks snap.kept
+    × Becomes new (rejoined incarnation snap s old)
+
+abbrev pub Reinits : Caller → ℕ → List ℕ → List PartialChunk → Cloning → Cloning → StageInfo
+    → Type 0
+Reinits caller stage bitmap partials old new info =
+    (s : Session) × (session_of old caller.session ≡ Some s)
+    × Rejoins caller.incarnation stage bitmap partials s old new × Tells new info
 
 -- the session of this number is so
 abbrev pub OnSession : Cloning → ℕ → (Session → Type 0) → Type 0
@@ -97,11 +123,11 @@ HasClaimed caller chunk c =
     OnSession c caller.session
     (λ s. slice_get s.snap.chunks chunk ≡ Some (Claimed caller.task))
 
--- A BLOCK WAS ANSWERED. The last one of a chunk finishes it.
+-- A BLOCK WAS ANSWERED. The last one of a chunk that isn't kept finishes it.
 abbrev pub Answers : Caller → ℕ → ℕ → Cloning → Cloning → Bool → Type 0
 Answers caller chunk block old new last =
     OnSession old caller.session
-    (λ s. (IsTrue last ↔ (block + 1 ≡ block_count s.snap.list chunk))
+    (λ s. (IsTrue last ↔ IsLast s.snap.list s.snap.kept chunk block)
     × (new ≡ (if last then finished chunk s old else old)))
 
 -- The ring has what comes next for the archive, and reaches to its fixed end.
@@ -121,8 +147,8 @@ Archives limit ring old new (Ok (Some lsn)) =
     × (lsn ≡ archived_of (archived_on limit ring a))
 Archives limit ring old new (Err e) = Becomes new old
 
--- the archive whose end is open reaches to the log's end, or is behind it by no more than a ring's
--- size
+-- the archive whose end is open reaches to the log's end, or falls short of it by no more than a
+-- ring's size
 abbrev pub IsWithinRing : ℕ → ℕ → Option Archived → Type 0
 IsWithinRing end ring None = Unit {0}
 IsWithinRing end ring (Some a) =

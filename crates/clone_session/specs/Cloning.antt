@@ -1,5 +1,6 @@
 -- What a donor keeps of the clone that it gives.
 use Rattle.std.specs.Prelude.{ℕ, ◌≡◌, ◌≤◌, ◌<◌, ◌+◌, ◌-◌, List, length, min, None, Some, IsSome}
+use Rattle.std.specs.Prelude.{All}
 use Rattle.std.specs.declared.option.Option.{Option}
 use Rattle.clone_base.specs.declared.limits.TheConstants.{LSN_LIMIT, SPACE_LIMIT}
 use Rattle.clone_track.specs.TrackedPages.{TrackedPages}
@@ -8,14 +9,19 @@ use Rattle.clone_snapshot.specs.StageLists.{StageList, Files, Pages, Redo, Nothi
 use Rattle.clone_snapshot.specs.Snaps.{Snap}
 use Rattle.clone_model.specs.declared.config.TheConstants.{MOST_RING}
 use Rattle.clone_session.specs.declared.info.Stop.{Stop}
-use Rattle.clone_session.specs.declared.limits.TheConstants.{MOST_TASKS}
+use Rattle.clone_session.specs.declared.limits.TheConstants.{MOST_TASKS, VERSION}
 
--- a session: who asked for it, and the stage that it has come to with its chunks
+-- a session: who asked for it, the stage that it has come to with its chunks, and the spaces that
+-- were created while files were copied
 pub record Session : Type 0 where
   pub number : ℕ
   pub incarnation : ℕ
   pub tasks : ℕ
+  -- that of the protocol, which the session was opened with
+  pub version : ℕ
   pub snap : Snap
+  -- each with its number of pages, from the end of the copy of files on
+  pub created : List (ℕ × ℕ)
 
 pub record Cloning : Type 0 where
   pub session : Option Session
@@ -39,12 +45,12 @@ pub record CopiesFiles (c : Cloning) (spaces : List (ℕ × ℕ)) : Type 0 where
   pub unarchived : c.archive ≡ None
   pub few : length spaces ≤ SPACE_LIMIT
 
--- a ring's size behind what is archived, or where a log may end at most
+-- a ring's size after what is archived, or where a log may end at most
 abbrev pub reach : ℕ → Archived → ℕ
 reach ring archive = min (archived_of archive + ring) (LSN_LIMIT - 1)
 
 -- An archive stands whose end is open, and there is room for the chunks of redo that ends a ring's
--- size behind it.
+-- size after it.
 pub record CopiesPages (c : Cloning) (room : ℕ) : Type 0 where
   pub untracked : c.tracking.pages ≡ None
   pub archive : Archived
@@ -71,9 +77,15 @@ IsInStage c s (Pages pages) = CopiesPages c s.snap.room
 IsInStage c s (Redo start end) = CopiesRedo c s.number start end
 IsInStage c s Nothing = (start end : ℕ) × CopiesRedo c s.number start end
 
+-- In the first version no block is kept.
+abbrev pub IsOfVersion : Session → Type 0
+IsOfVersion s = s.version ≡ VERSION → All (λ mask. mask ≡ 0) s.snap.kept
+
 abbrev pub IsInSession : Cloning → Option Session → Type 0
 IsInSession c None = IsIdle c
-IsInSession c (Some s) = (1 ≤ s.tasks) × (s.tasks ≤ MOST_TASKS) × IsInStage c s s.snap.list
+IsInSession c (Some s) =
+    (1 ≤ s.tasks) × (s.tasks ≤ MOST_TASKS) × IsInStage c s s.snap.list
+    × (length s.created ≤ SPACE_LIMIT) × IsOfVersion s
 
 -- what holds of every clone
 pub record IsCloning (c : Cloning) : Type 0 where

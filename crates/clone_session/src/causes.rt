@@ -1,11 +1,12 @@
 ghost use Rattle.std.specs.Prelude.{◌≡◌, None, Some, MatchResult};
-ghost use Rattle.clone_session.specs.CloneCauses.{session_of, stale, other_stage, not_claimed};
+ghost use Rattle.clone_session.specs.CloneCauses.{session_of, stale, not_later, other_stage};
 ghost use Rattle.clone_session.specs.CloneCauses.{hello_cause, standing_cause, claim_cause};
-ghost use Rattle.clone_session.specs.CloneCauses.{block_cause, acknowledgement_cause, exit_cause};
-ghost use Rattle.clone_session.specs.CloneCauses.{is_acknowledged, donor_stage, archive_behind};
+ghost use Rattle.clone_session.specs.CloneCauses.{attach_cause, reinit_cause, reinit_blocks_cause};
+ghost use Rattle.clone_session.specs.CloneCauses.{acknowledgement_cause, exit_cause};
+ghost use Rattle.clone_session.specs.CloneCauses.{is_acknowledged, out_of_stage};
 ghost use Rattle.clone_chunk.specs.declared.cause.CloneCause.TheVariants.{NoSuchSession};
 
-use crate::limits::{MOST_TASKS, VERSION};
+use crate::limits::{BLOCKS_VERSION, MOST_TASKS, VERSION};
 use crate::session::Session;
 use crate::{Caller, Cloning, Hello};
 use clone_base::PAGE_SIZE;
@@ -29,7 +30,7 @@ impl Cloning {
         ensures { MatchResult result (λ _. hello_cause self.now hello.now ≡ None)
             (λ cause. hello_cause self.now hello.now ≡ Some cause) }
     {
-        if hello.version != VERSION {
+        if hello.version != VERSION && hello.version != BLOCKS_VERSION {
             return Err(CloneCause::VersionMismatch {
                 theirs: u64::from(hello.version),
             });
@@ -48,6 +49,50 @@ impl Cloning {
             });
         }
         check_standing(&self.session, hello)
+    }
+
+    // Of a task that joins the session.
+    pub(crate) fn check_attach(&self, caller: Caller) -> Result<(), CloneCause>
+        ensures { MatchResult result (λ _. attach_cause self.now caller ≡ None)
+            (λ cause. attach_cause self.now caller ≡ Some cause) }
+    {
+        let session = self.session_of(caller.session)?;
+        if caller.incarnation != session.incarnation {
+            return Err(CloneCause::Stale {
+                incarnation: u64::from(session.incarnation),
+            });
+        }
+        if session.tasks <= caller.task {
+            return Err(CloneCause::TasksOutOfRange {
+                tasks: u64::from(caller.task),
+            });
+        }
+        Ok(())
+    }
+
+    // Of a later incarnation that joins it.
+    pub(crate) fn check_reinit(&self, caller: Caller, stage: u8) -> Result<(), CloneCause>
+        ensures { MatchResult result (λ _. reinit_cause self.now caller stage ≡ None)
+            (λ cause. reinit_cause self.now caller stage ≡ Some cause) }
+    {
+        let session = self.session_of(caller.session)?;
+        check_later(session, caller.incarnation)?;
+        check_copied(session, stage)
+    }
+
+    // Of one that tells its blocks.
+    pub(crate) fn check_reinit_blocks(&self, caller: Caller, stage: u8) -> Result<(), CloneCause>
+        ensures { MatchResult result (λ _. reinit_blocks_cause self.now caller stage ≡ None)
+            (λ cause. reinit_blocks_cause self.now caller stage ≡ Some cause) }
+    {
+        let session = self.session_of(caller.session)?;
+        check_later(session, caller.incarnation)?;
+        if session.version == VERSION {
+            return Err(CloneCause::VersionMismatch {
+                theirs: u64::from(BLOCKS_VERSION),
+            });
+        }
+        check_copied(session, stage)
     }
 
     // Of a claim.
@@ -74,13 +119,8 @@ impl Cloning {
     {
         let session = self.session_of(caller.session)?;
         check_incarnation(session, caller.incarnation)?;
+        check_copied(session, stage)?;
         let donor = session.stage_number();
-        if !is_acknowledged(session, stage) {
-            return Err(CloneCause::StageMismatch {
-                donor: u64::from(donor),
-                recipient: u64::from(stage),
-            });
-        }
         let count = session.snapshot.left();
         if stage == donor && count != 0 {
             return Err(CloneCause::ChunksLeft {
@@ -116,11 +156,7 @@ fn check_standing(session: &Option<Session>, hello: &Hello) -> Result<(), CloneC
             session: session.number,
         });
     }
-    if hello.incarnation <= session.incarnation {
-        return Err(CloneCause::Stale {
-            incarnation: u64::from(session.incarnation),
-        });
-    }
+    check_later(session, hello.incarnation)?;
     let donor = session.stage_number();
     if donor != 1 {
         return Err(CloneCause::StageMismatch {
@@ -144,6 +180,19 @@ pub(crate) fn check_incarnation(session: &Session, incarnation: u32) -> Result<(
     Ok(())
 }
 
+// Whether an incarnation is no later one than that of the session.
+fn check_later(session: &Session, incarnation: u32) -> Result<(), CloneCause>
+    ensures { MatchResult result (λ _. not_later session.now incarnation ≡ None)
+        (λ cause. not_later session.now incarnation ≡ Some cause) }
+{
+    if incarnation <= session.incarnation {
+        return Err(CloneCause::Stale {
+            incarnation: u64::from(session.incarnation),
+        });
+    }
+    Ok(())
+}
+
 // Whether the donor is in another stage.
 pub(crate) fn check_stage(session: &Session, stage: u8) -> Result<(), CloneCause>
     ensures { MatchResult result (λ _. other_stage session.now stage ≡ None)
@@ -159,8 +208,21 @@ pub(crate) fn check_stage(session: &Session, stage: u8) -> Result<(), CloneCause
     Ok(())
 }
 
-// Whether a stage may be acknowledged: one in which something is copied, the donor's or the one
-// before it.
+// Whether a stage isn't one in which something is copied, the donor's or the one before it.
+fn check_copied(session: &Session, stage: u8) -> Result<(), CloneCause>
+    ensures { MatchResult result (λ _. out_of_stage session.now stage ≡ None)
+        (λ cause. out_of_stage session.now stage ≡ Some cause) }
+{
+    if !is_acknowledged(session, stage) {
+        return Err(CloneCause::StageMismatch {
+            donor: u64::from(session.stage_number()),
+            recipient: u64::from(stage),
+        });
+    }
+    Ok(())
+}
+
+// Whether a stage may be acknowledged.
 fn is_acknowledged(session: &Session, stage: u8) -> bool
     ensures { result ≡ is_acknowledged session.now stage }
 {

@@ -1,6 +1,6 @@
 //! What a donor keeps of the clone that it gives. Pages are tracked exactly while files are copied,
 //! and an archive stands exactly from the copy of pages on. Then the map of chunks has room for a
-//! copy of redo that ends a ring's size behind what is archived, so that the stop takes no memory.
+//! copy of redo that ends a ring's size after what is archived, so that the stop takes no memory.
 ghost use Rattle.std.specs.Prelude.{◌≡◌, ◌≤◌, None, option_map};
 ghost use Rattle.clone_model.specs.declared.config.TheConstants.{MOST_RING};
 ghost use Rattle.std.specs.Option.{ForSome};

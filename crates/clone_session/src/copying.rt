@@ -1,12 +1,15 @@
 ghost use Rattle.std.specs.Prelude.{◌≡◌, None, Some, IfOk, IfSome, MatchResult, length, option_map};
+ghost use Rattle.std.specs.Prelude.{slice_index};
 ghost use Rattle.clone_snapshot.specs.StageLists.{block_of};
-ghost use Rattle.clone_session.specs.CloneCalls.{Answers, Claims, HasClaimed, IsBlockOf, IsInLog, IsInArchive, part_of, redo_in};
-ghost use Rattle.clone_session.specs.CloneCauses.{archive_behind, block_cause, claim_cause, not_claimed};
+ghost use Rattle.clone_session.specs.CloneCalls.{Answers, Claims, HasClaimed, IsBlockOf, IsInLog};
+ghost use Rattle.clone_session.specs.CloneCalls.{IsInArchive, OnSession, part_of, redo_in};
+ghost use Rattle.clone_session.specs.CloneCauses.{archive_behind, block_cause, claim_cause};
+ghost use Rattle.clone_session.specs.CloneCauses.{kept_cause, not_claimed, unclaimed};
 
 use crate::causes::{check_incarnation, check_stage};
 use crate::session::Session;
 use crate::{Caller, Cloning};
-use clone_chunk::CloneCause;
+use clone_chunk::{CloneCause, is_kept};
 use clone_snapshot::{PageBlock, RedoBlock, Snapshot};
 
 /// What a block is made of.
@@ -40,7 +43,22 @@ impl Cloning {
         Ok(session.snapshot.claim(caller.task))
     }
 
-    /// What a block of a claimed chunk is made of. No memory is taken.
+    /// The mask of the kept blocks of a claimed chunk: bit b, of value 2^b, is block b. No memory
+    /// is taken.
+    pub fn kept(&self, caller: Caller, stage: u8, chunk: u32) -> Result<u8, CloneCause>
+        ensures { MatchResult result
+            (λ mask. (kept_cause self.now caller stage chunk ≡ None)
+            × OnSession self.now caller.session (λ s. mask ≡ slice_index s.snap.kept chunk))
+            (λ cause. kept_cause self.now caller stage chunk ≡ Some cause) }
+    {
+        let session = self.session_of(caller.session)?;
+        check_incarnation(session, caller.incarnation)?;
+        check_stage(session, stage)?;
+        check_claimed(session, caller.task, chunk)?;
+        Ok(session.snapshot.kept(chunk))
+    }
+
+    /// What a block of a claimed chunk is made of, which isn't kept. No memory is taken.
     pub fn block(
         &self,
         caller: Caller,
@@ -63,7 +81,7 @@ impl Cloning {
         Ok(work)
     }
 
-    // Whether a block of redo ends behind what is archived.
+    // Whether a block of redo ends after what is archived.
     fn check_archived(&self, work: &BlockWork) -> Result<(), CloneCause>
         requires { IsInLog work.now }
         ensures { MatchResult result
@@ -93,8 +111,8 @@ impl Cloning {
         }
     }
 
-    /// A block of a claimed chunk was answered. The answer is whether it was the chunk's last, and
-    /// then the chunk is finished. No memory is taken.
+    /// A block of a claimed chunk was answered. The answer is whether it was the chunk's last that
+    /// isn't kept, and then the chunk is finished. No memory is taken.
     pub fn answered(&mut self, caller: Caller, chunk: u32, block: u8) -> bool
         requires claimed { HasClaimed caller chunk self.old }
         ensures { Answers caller chunk block self.old self.new result }
@@ -109,7 +127,19 @@ impl Cloning {
     }
 }
 
-// What a block of a chunk is made of that the task has claimed.
+// Whether the task hasn't claimed a chunk.
+fn check_claimed(session: &Session, task: u8, chunk: u32) -> Result<(), CloneCause>
+    ensures { MatchResult result (λ _. unclaimed session.now task chunk ≡ None)
+        (λ cause. unclaimed session.now task chunk ≡ Some cause) }
+{
+    if session.snapshot.is_claimed_by(task, chunk) {
+        Ok(())
+    } else {
+        Err(CloneCause::NotClaimed)
+    }
+}
+
+// What a block that isn't kept is made of, of a chunk that the task has claimed.
 fn claimed_block(
     session: &Session,
     task: u8,
@@ -122,8 +152,10 @@ fn claimed_block(
         (λ cause. not_claimed session.now task chunk block ≡ Some cause) }
     ensures in_log { IfOk result IsInLog }
 {
+    let kept = is_kept(session.snapshot.kept(chunk), block);
+    let sent = session.snapshot.is_claimed_by(task, chunk) && !kept;
     match block_work(&session.snapshot, chunk, block) {
-        Some(work) if session.snapshot.is_claimed_by(task, chunk) => Ok(work),
+        Some(work) if sent => Ok(work),
         _ => Err(CloneCause::NotClaimed),
     }
 }

@@ -1,24 +1,31 @@
-ghost use Rattle.std.specs.Prelude.{◌≡◌, ℕ, List, Err, None, Some, IsSome, OnOk, OnErr, MatchResult};
+ghost use Rattle.std.specs.Prelude.{◌≡◌, ◌≢◌, ◌≤◌, ◌<◌, ℕ, List, Err, None, Some, IsSome, IfOk};
+ghost use Rattle.std.specs.Prelude.{OnOk, OnErr, MatchResult, length};
+ghost use Rattle.clone_base.specs.declared.limits.TheConstants.{SPACE_LIMIT};
 ghost use Rattle.clone_session.specs.CloneCauses.{acknowledgement_cause, exit_cause, abandon_cause};
+ghost use Rattle.clone_session.specs.CloneCauses.{donor_stage};
 ghost use Rattle.clone_session.specs.CloneCalls.{Decided, Acknowledges, InFiles, IsMoment};
-ghost use Rattle.clone_session.specs.Effects.{Becomes, Tells, left, acknowledged, files_ended, pages_ended, plan_of, range_of, position_of};
+ghost use Rattle.clone_session.specs.Effects.{Becomes, Tells, left, acknowledged, files_ended};
+ghost use Rattle.clone_session.specs.Effects.{pages_ended};
 ghost use Rattle.clone_session.specs.Cloning.{Session};
 ghost use Rattle.clone_snapshot.specs.StageLists.{Files, Pages};
 ghost use Rattle.clone_session.specs.declared.refusal.CloneRefusal.TheVariants.{NoMemory};
 
+use crate::created::created_since;
 use crate::info::{StageInfo, Stop};
-use crate::session::Session;
 use crate::{Caller, CloneRefusal, Cloning};
-use clone_chunk::{CloneCause, Stage, StagePlan};
+use clone_chunk::{CloneCause, Spaces, Stage};
 use clone_snapshot::{page_chunks, redo_chunks};
-use std::alloc::AllocError;
+use std::alloc::{AllocError, Global};
+
+/// The number of the stage in which files are copied.
+const FILE_COPY: u8 = 1;
 
 /// A moment of a donor.
 #[derive(Clone, Copy, Debug, PartialEq, Eq)]
 pub struct Moment {
     /// The LSN of the last checkpoint.
     pub checkpoint: u64,
-    /// The LSN behind the log's last byte.
+    /// The LSN after the log's last byte.
     pub end: u64,
     /// How many commits there are.
     pub position: u64,
@@ -28,62 +35,89 @@ pub struct Moment {
 
 // How stages and sessions end.
 impl Cloning {
-    /// A stage is acknowledged. That of the donor's stage ends it: the copy of files ends with the
-    /// archive's start at the last checkpoint, and the copy of pages with the stop. That of the
-    /// stage before it is answered as the one that ended it was. The end of the copy of files alone
-    /// takes memory.
+    /// What is against an acknowledgement, as its first cause, where there are so many commits.
+    pub fn acknowledgement(
+        &self,
+        caller: Caller,
+        stage: u8,
+        floor: u64,
+        position: u64,
+    ) -> Result<(), CloneCause>
+        ensures { MatchResult result
+            (λ _. acknowledgement_cause self.now caller stage floor position ≡ None)
+            (λ cause. acknowledgement_cause self.now caller stage floor position ≡ Some cause) }
+    {
+        self.check_acknowledgement(caller, stage, floor, position)
+    }
+
+    /// A stage is acknowledged, when the donor has these files, each a space with its number of
+    /// pages. That of the donor's stage ends it: the copy of files ends with the archive's start at
+    /// the last checkpoint, and the copy of pages with the stop. That of the stage before it is
+    /// answered as the one that ended it was. That of the copy of files alone takes memory.
     pub fn acknowledge(
         &mut self,
+        alloc: Global,
         caller: Caller,
         stage: u8,
         floor: u64,
         now: Moment,
+        files: &[(u32, u32)],
     ) -> Result<StageInfo, CloneRefusal>
         requires moment { IsMoment self.old now }
+        requires files { length files.now ≤ SPACE_LIMIT }
         ensures acknowledges { Decided
             (acknowledgement_cause self.old caller stage floor now.position) self.old self.new
             result
-            (Acknowledges now caller.session stage self.old self.new) }
-        ensures memory { result ≡ Err NoMemory → InFiles self.old }
+            (Acknowledges now files.now caller.session stage self.old self.new) }
+        ensures memory { result ≡ Err NoMemory → stage ≡ FILE_COPY }
     {
         self.check_acknowledgement(caller, stage, floor, now.position)?;
-        self.advance(stage, now)?;
-        Ok(self.later_info())
+        if stage == FILE_COPY {
+            return Ok(self.acknowledge_files(alloc, now, files)?);
+        }
+        self.laws();
+        self.advance(stage, now);
+        Ok(self.info(Spaces::new(alloc)))
     }
 
-    // The donor's stage is over, where it is the one acknowledged.
-    fn advance(&mut self, stage: u8, now: Moment) -> Result<(), AllocError>
+    // The copy of files is acknowledged, which this ends, or has ended before. The error is out of
+    // memory, and nothing has changed then.
+    fn acknowledge_files(
+        &mut self,
+        alloc: Global,
+        now: Moment,
+        files: &[(u32, u32)],
+    ) -> Result<StageInfo, AllocError>
         requires stands { IsSome self.old.session }
         requires moment { IsMoment self.old now }
-        ensures ok { OnOk result ((s : Session) × (self.old.session ≡ Some s)
-            × Becomes self.new (acknowledged now stage s self.old)) }
+        requires files { length files.now ≤ SPACE_LIMIT }
+        ensures ok { IfOk result (λ info. (s : Session) × (self.old.session ≡ Some s)
+            × Becomes self.new (acknowledged now files.now FILE_COPY s self.old)
+            × Tells self.new info) }
         ensures err { OnErr result (Becomes self.new self.old) }
-        ensures memory { OnErr result (InFiles self.old) }
     {
-        let Some(session) = &mut self.session else {
+        let Some(session) = &self.session else {
             unreachable!();
         };
-        if stage != session.stage_number() {
-            return Ok(());
+        if session.stage_number() != FILE_COPY {
+            return self.current(alloc);
         }
-        match session.stage() {
-            Stage::FileCopy => self.end_files(now)?,
-            Stage::PageCopy => self.end_pages(now),
-            Stage::RedoCopy => session.snapshot.done(),
-            Stage::Done => {}
-        }
-        Ok(())
+        let created = created_since(alloc, session.snapshot.spaces(), files)?;
+        let spaces = Spaces::of_pairs(alloc, &created)?;
+        self.end_files(now, created)?;
+        Ok(self.info(spaces))
     }
 
-    // The copy of files ends. The pages that were tracked are copied next, and the redo is archived
-    // from the last checkpoint on. This makes the room for a copy of redo that ends a ring's size
-    // behind the checkpoint.
-    fn end_files(&mut self, now: Moment) -> Result<(), AllocError>
+    // The copy of files ends, when these spaces have been created. The pages that were tracked are
+    // copied next, and the redo is archived from the last checkpoint on. This makes the room for a
+    // copy of redo that ends a ring's size after the checkpoint.
+    fn end_files(&mut self, now: Moment, created: Vec<(u32, u32)>) -> Result<(), AllocError>
         requires stands { (s : Session) × (spaces : List (ℕ × ℕ)) × (self.old.session ≡ Some s)
             × (s.snap.list ≡ Files spaces) }
         requires moment { IsMoment self.old now }
+        requires few { length created.items ≤ SPACE_LIMIT }
         ensures ok { OnOk result ((s : Session) × (self.old.session ≡ Some s)
-            × Becomes self.new (files_ended now s self.old)) }
+            × Becomes self.new (files_ended now created.items s self.old)) }
         ensures err { OnErr result (Becomes self.new self.old) }
     {
         let chunks = redo_chunks(now.checkpoint, self.reach(now.checkpoint));
@@ -93,8 +127,31 @@ impl Cloning {
         session.snapshot.reserve(chunks)?;
         session.snapshot.reserve(page_chunks(self.tracker.most()))?;
         session.snapshot.page_copy(self.tracker.stop());
+        session.created = created;
         self.archive.start(now.checkpoint);
         Ok(())
+    }
+
+    // A stage after the copy of files is over, where it is the one acknowledged. No memory is
+    // taken.
+    fn advance(&mut self, stage: u8, now: Moment)
+        requires stands { IsSome self.old.session }
+        requires later { stage ≢ FILE_COPY }
+        requires moment { IsMoment self.old now }
+        ensures { (s : Session) × (self.old.session ≡ Some s) × ((files : List (ℕ × ℕ)) →
+            Becomes self.new (acknowledged now files stage s self.old)) }
+    {
+        let Some(session) = &mut self.session else {
+            unreachable!();
+        };
+        if stage != session.stage_number() {
+            return;
+        }
+        match session.stage() {
+            Stage::PageCopy => self.end_pages(now),
+            Stage::RedoCopy => session.snapshot.done(),
+            Stage::FileCopy | Stage::Done => {}
+        }
     }
 
     // The stop: archiving ends at the log's end, and the redo up to there is copied next.
@@ -118,72 +175,6 @@ impl Cloning {
             position: now.position,
             drops: now.drops,
         });
-    }
-
-    // What a donor tells of a stage after the copy of files.
-    fn later_info(&self) -> StageInfo
-        requires stands { IsSome self.now.session }
-        requires later { InFiles self.now → ⊥ }
-        ensures { Tells self.now result }
-    {
-        let Some(session) = &self.session else {
-            unreachable!();
-        };
-        StageInfo {
-            session: session.number,
-            incarnation: session.incarnation,
-            plan: self.later_plan(session),
-        }
-    }
-
-    // What is copied in a stage after the copy of files.
-    fn later_plan(&self, session: &Session) -> StagePlan
-        requires stands { self.now.session ≡ Some session.now }
-        requires later { InFiles self.now → ⊥ }
-        ensures { result ≡ plan_of self.now session.now.snap.list }
-    {
-        self.laws();
-        let chunks = session.snapshot.count();
-        let (checkpoint, lsn) = self.archived_range();
-        let position = self.position();
-        match session.stage() {
-            Stage::FileCopy => unreachable!(),
-            Stage::PageCopy => StagePlan::PageCopy {
-                chunks,
-                position: session.snapshot.page_count() as u64,
-            },
-            Stage::RedoCopy => StagePlan::RedoCopy {
-                chunks,
-                checkpoint,
-                lsn,
-                position,
-            },
-            Stage::Done => StagePlan::Done {
-                checkpoint,
-                lsn,
-                position,
-            },
-        }
-    }
-
-    // Where the redo that is copied begins and ends.
-    fn archived_range(&self) -> (u64, u64)
-        ensures { result ≡ range_of self.now.archive }
-    {
-        match (self.archive.first(), self.archive.end()) {
-            (Some(start), Some(end)) => (start, end),
-            _ => (0, 0),
-        }
-    }
-
-    // How many commits there were at the last stop.
-    fn position(&self) -> u64
-        ensures { result ≡ position_of self.now.stop }
-    {
-        match self.stop {
-            Some(stop) => stop.position,
-            None => 0,
-        }
     }
 
     /// The requester has left, and the session is gone. No memory is taken.

@@ -1,4 +1,5 @@
-ghost use Rattle.std.specs.Prelude.{◌≡◌, ◌≤◌, ◌<◌, ◌+◌, ◌-◌, min, option_map, Some, IsSome, IfSome, OnOk, OnErr};
+ghost use Rattle.std.specs.Prelude.{◌≡◌, ◌≤◌, ◌<◌, ◌+◌, ◌-◌, min, option_map, Some, IsSome};
+ghost use Rattle.std.specs.Prelude.{IfSome, OnOk, OnErr};
 ghost use Rattle.clone_base.specs.declared.limits.TheConstants.{LSN_LIMIT};
 ghost use Rattle.clone_chunk.specs.declared.stage.Stage.TheVariants.{PageCopy};
 ghost use Rattle.clone_snapshot.specs.StageLists.{Redo, chunk_count, stage_of};
@@ -39,8 +40,8 @@ impl Cloning {
 
     /// Archives so many bytes of the log, or as many as are left up to the log's end, or to the
     /// stop. The answer is the LSN up to which the redo is archived, or none exactly where no
-    /// archive stands. The error is want of memory, and nothing has changed then. Before the stop
-    /// this makes the room for a copy of redo that ends a ring's size behind that LSN.
+    /// archive stands. The error is out of memory, and nothing has changed then. Before the stop
+    /// this makes the room for a copy of redo that ends a ring's size after that LSN.
     pub fn archive(&mut self, ring: &Ring, limit: u64) -> Result<Option<u64>, AllocError>
         requires ring { CanArchive self.old ring.now }
         ensures archives { Archives limit ring.now self.old self.new result }
@@ -65,7 +66,7 @@ impl Cloning {
         Some((start, archived + limit.min(until - archived)))
     }
 
-    /// A ring's size behind an LSN, or where a log may end at most.
+    /// A ring's size after an LSN, or where a log may end at most.
     pub(crate) fn reach(&self, lsn: u64) -> u64
         requires { lsn < LSN_LIMIT }
         ensures { result ≡ min (lsn + self.now.ring) (LSN_LIMIT - 1) }

@@ -1,7 +1,7 @@
 use clone_chunk::CloneCause;
 use std::alloc::AllocError;
 
-/// Why a call of a clone has no answer: a cause that stands, or want of memory, which is free.
+/// Why a call of a clone has no answer: there is a cause against it, or there was no memory.
 #[derive(Clone, Copy, Debug, PartialEq, Eq, Drop)]
 pub enum CloneRefusal {
     /// There is a cause.

@@ -3,13 +3,11 @@ ghost use Rattle.clone_session.specs.CloneCauses.{hello_cause};
 ghost use Rattle.clone_session.specs.CloneCalls.{AreFiles};
 ghost use Rattle.clone_session.specs.Effects.{Becomes, Tells, opened, reopened};
 ghost use Rattle.clone_session.specs.Cloning.{Session};
-ghost use Rattle.clone_chunk.specs.declared.plan.StagePlan.TheVariants.{FileCopy};
-ghost use Rattle.clone_snapshot.specs.StageLists.{chunk_count};
 
 use crate::info::StageInfo;
 use crate::session::Session;
 use crate::{Cloning, Hello};
-use clone_chunk::{CloneCause, Spaces, StagePlan};
+use clone_chunk::{CloneCause, Spaces};
 use clone_snapshot::Snapshot;
 use std::alloc::{AllocError, Global};
 
@@ -24,7 +22,7 @@ impl Cloning {
     }
 
     /// A session begins with the copy of the files of these spaces, each with its number of pages.
-    /// The pages whose write is open are tracked from the start. The error is want of memory, and
+    /// The pages whose write is open are tracked from the start. The error is out of memory, and
     /// nothing has changed then.
     pub fn open(
         &mut self,
@@ -46,19 +44,19 @@ impl Cloning {
         let snapshot = Snapshot::start(alloc, kept)?;
         self.tracker.start(in_flight)?;
         self.archive.clear();
-        let session = Session {
+        self.session = Some(Session {
             number: hello.session,
             incarnation: hello.incarnation,
             tasks: hello.tasks,
+            version: hello.version,
             snapshot,
-        };
-        let info = files_info(&session, told);
-        self.session = Some(session);
-        Ok(info)
+            created: Vec::new(alloc),
+        });
+        Ok(self.info(told))
     }
 
-    /// A later incarnation begins the session that stands again, with no chunk finished. The error
-    /// is want of memory, and nothing has changed then.
+    /// A later incarnation begins the session that stands again, with no chunk finished. The number
+    /// of tasks and the version stay. The error is out of memory, and nothing has changed then.
     pub fn reopen(&mut self, alloc: Global, hello: &Hello) -> Result<StageInfo, AllocError>
         requires stands { IsSome self.old.session }
         requires accepted { hello_cause self.old hello.now ≡ None }
@@ -69,27 +67,9 @@ impl Cloning {
         let Some(session) = &mut self.session else {
             unreachable!();
         };
-        let told = Spaces::of_pairs(alloc, session.snapshot.spaces())?;
+        let told = session.told_spaces(alloc)?;
         session.incarnation = hello.incarnation;
         session.snapshot.restart();
-        Ok(files_info(session, told))
-    }
-}
-
-// What a donor tells of the copy of files.
-fn files_info(session: &Session, spaces: Spaces) -> StageInfo
-    ensures { result ≡ record {
-      session = session.now.number;
-      incarnation = session.now.incarnation;
-      plan = FileCopy (chunk_count session.now.snap.list) spaces;
-    } }
-{
-    StageInfo {
-        session: session.number,
-        incarnation: session.incarnation,
-        plan: StagePlan::FileCopy {
-            chunks: session.snapshot.count(),
-            spaces,
-        },
+        Ok(self.info(told))
     }
 }

@@ -1,9 +1,10 @@
 -- How many blocks a chunk has.
-use Rattle.std.proofs.Common.{ℕ, ◌≡◌, ◌<◌, ◌≤◌, ◌^◌, ◌↔◌, [], length, Some, None, arith, ap, inl, inr}
+use Rattle.std.proofs.Common.{ℕ, ◌≡◌, ◌<◌, ◌≤◌, ◌↔◌, [], length, Some, None, arith, ap, inl, inr}
 use Rattle.std.specs.List.{slice_get}
 use Rattle.std.specs.Option.{option_map_or}
 use Rattle.std.proofs.lemmas.Bool.{cases_lt}
 use Rattle.std.proofs.lemmas.Option.{slice_get-get_or, slice_get_past}
+use Rattle.clone_chunk.specs.declared.masks.TheConstants.{CHUNK_BLOCKS}
 use Rattle.clone_snapshot.specs.StageLists.{StageList, Part, PagePart, RedoPart, chunks_of, chunk_count, blocks_of, block_count}
 use Rattle.clone_snapshot.proofs.CutLemmas.{length-cut}
 use Rattle.clone_snapshot.proofs.EachBlock.{IsChunkSized, chunk_sized}
@@ -11,11 +12,11 @@ use Rattle.clone_snapshot.proofs.JoinLemmas.{length-chunks}
 use Rattle.std.proofs.Common.{get_or}
 
 -- a chunk has at least one, and at most eight of pages or four of redo
-counted : (part : Part) → IsChunkSized part → (0 < length (blocks_of part)) × (length (blocks_of part) < 2 ^ 8)
+counted : (part : Part) → IsChunkSized part → (0 < length (blocks_of part)) × (length (blocks_of part) ≤ CHUNK_BLOCKS)
 counted (PagePart pages) sized = (omega (arith, sized.0, length-cut 8 (PagePart pages)), omega (arith, sized.1, length-cut 8 (PagePart pages)))
 counted (RedoPart from count) sized = (omega (arith, sized.0, length-cut 16384 (RedoPart from count)), omega (arith, sized.1, length-cut 16384 (RedoPart from count)))
 
-within : (list : StageList) (chunk : ℕ) → chunk < chunk_count list → (0 < block_count list chunk) × (block_count list chunk < 2 ^ 8)
+within : (list : StageList) (chunk : ℕ) → chunk < chunk_count list → (0 < block_count list chunk) × (block_count list chunk ≤ CHUNK_BLOCKS)
 within list chunk below =
     let part = get_or (chunks_of list) chunk (RedoPart 0 0) in
     let here : slice_get (chunks_of list) chunk ≡ Some part = slice_get-get_or (chunks_of list) chunk (RedoPart 0 0) (omega (arith, below, length-chunks list)) in
@@ -38,7 +39,7 @@ has_blocks list chunk = (some, λ below. (within list chunk below).0)
           | inr beyond ↦ absurd (omega (arith, blocks, past list chunk beyond))
         ]
 
-pub few_blocks : (list : StageList) (chunk : ℕ) → block_count list chunk < 2 ^ 8
+pub few_blocks : (list : StageList) (chunk : ℕ) → block_count list chunk ≤ CHUNK_BLOCKS
 few_blocks list chunk =
     elim (cases_lt chunk (chunk_count list)) [
       | inl below ↦ (within list chunk below).1

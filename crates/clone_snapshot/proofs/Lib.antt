@@ -5,3 +5,5 @@ pub mod FileLemmas
 pub mod JoinLemmas
 pub mod EachBlock
 pub mod CountLemmas
+pub mod ResetLemmas
+pub mod LastLemmas

@@ -1,3 +1,4 @@
 pub mod StageLists
 pub mod Snaps
 pub mod Blocks
+pub mod Resets

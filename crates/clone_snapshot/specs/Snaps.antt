@@ -7,10 +7,12 @@ use Rattle.clone_snapshot.specs.StageLists.{StageList, Files, Pages, Redo, Nothi
 use Rattle.clone_snapshot.specs.declared.listing.Listing.{Listing}
 use Rattle.clone_snapshot.specs.declared.listing.Listing.TheVariants as code
 
--- a stage's list, the states of its chunks, and for how many chunks there is room
+-- a stage's list, the states of its chunks and the masks of their kept blocks, and for how many
+-- chunks there is room
 pub record Snap : Type 0 where
   pub list : StageList
   pub chunks : List Chunk
+  pub kept : List ℕ
   pub room : ℕ
 
 -- what the code's list is

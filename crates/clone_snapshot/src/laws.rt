@@ -1,10 +1,12 @@
-ghost use Rattle.std.specs.Prelude.{◌≡◌, ◌↔◌, ◌+◌, ◌<◌, ◌≤◌, ◌^◌, ℕ, List, Some, length};
+ghost use Rattle.std.specs.Prelude.{◌≡◌, ◌↔◌, ◌+◌, ◌<◌, ◌≤◌, ℕ, List, Some, length, slice_index};
 ghost use Rattle.std.specs.Prelude.{All, Contains};
 ghost use Rattle.std.specs.List.{flat_map};
+ghost use Rattle.clone_chunk.specs.declared.masks.TheConstants.{CHUNK_BLOCKS};
 ghost use Rattle.clone_snapshot.specs.StageLists.{StageList, Files, Redo, Part, PagePart, RedoPart};
 ghost use Rattle.clone_snapshot.specs.StageLists.{chunks_of, chunk_count, blocks_of};
 ghost use Rattle.clone_snapshot.specs.StageLists.{block_of, block_count, run, IsBlockSized};
 ghost use Rattle.clone_snapshot.specs.StageLists.{pages_of, all_pages, bytes_of, all_bytes};
+ghost use Rattle.clone_snapshot.specs.Resets.{IsLast};
 
 /// The blocks of all chunks, in order, are the list: the pages of files and of a list of pages,
 /// each as often as it is listed and in their order, and the bytes of redo without a gap.
@@ -15,13 +17,13 @@ pub fn blocks_are_the_list()
         flat_map bytes_of (flat_map blocks_of (chunks_of list)) ≡ all_bytes list }
 {}
 
-/// How many chunks there are; each of them, and no other, has blocks, whose numbers fit in a byte;
-/// and each block has something, and no more than a block may have.
+/// How many chunks there are; each of them, and no other, has blocks, as many at most as a mask has
+/// bits; and each block has something, and no more than a block may have.
 pub fn chunks_have_blocks()
     ensures chunks { (list : StageList) → length (chunks_of list) ≡ chunk_count list }
     ensures blocks { (list : StageList) (chunk : ℕ) →
         (0 < block_count list chunk) ↔ (chunk < chunk_count list) }
-    ensures numbered { (list : StageList) (chunk : ℕ) → block_count list chunk < 2 ^ 8 }
+    ensures few { (list : StageList) (chunk : ℕ) → block_count list chunk ≤ CHUNK_BLOCKS }
     ensures sized { (list : StageList) (chunk block : ℕ) (part : Part) →
         block_of list chunk block ≡ Some part → IsBlockSized part }
 {}
@@ -41,4 +43,10 @@ pub fn blocks_lie_within()
     ensures redo { (start end chunk block from count : ℕ) → start ≤ end →
         block_of (Redo start end) chunk block ≡ Some (RedoPart from count) →
         (start ≤ from) × (from + count ≤ end) }
+{}
+
+/// Where no block of a chunk is kept, the last that is sent is the one with the greatest number.
+pub fn last_of_all()
+    ensures { (list : StageList) (kept : List ℕ) (chunk block : ℕ) → slice_index kept chunk ≡ 0 →
+        IsLast list kept chunk block ↔ (block + 1 ≡ block_count list chunk) }
 {}

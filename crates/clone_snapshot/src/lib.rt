@@ -8,11 +8,12 @@ mod laws;
 mod listing;
 mod pages;
 mod redo;
+mod resets;
 mod sizes;
 mod snapshot;
 mod span;
 
 pub use block::{PageBlock, RedoBlock};
-pub use laws::{blocks_are_the_list, blocks_lie_within, chunks_have_blocks};
+pub use laws::{blocks_are_the_list, blocks_lie_within, chunks_have_blocks, last_of_all};
 pub use sizes::{CHUNK_BYTES, CHUNK_PAGES, page_chunks, redo_chunks};
 pub use snapshot::Snapshot;

@@ -1,29 +1,33 @@
 //! A snapshot has as many chunks in its map as its list is cut into, and the map has room for
 //! them. A range of redo lies in a log, below the LSN under which every log ends.
 ghost use Rattle.std.specs.Prelude.{◌≡◌, ◌↔◌, ◌+◌, ◌<◌, ◌≤◌, ◌^◌, ℕ, List, []};
-ghost use Rattle.std.specs.Prelude.{length, replicate, slice_get, slice_set, All, Some};
+ghost use Rattle.std.specs.Prelude.{length, replicate, slice_get, slice_set, slice_index};
+ghost use Rattle.std.specs.Prelude.{All, Some};
 ghost use Rattle.std.specs.Prelude.{IsTrue, IsNone, IfSome, IfNone, IfOk, OnOk, OnErr};
 ghost use Rattle.std.specs.Bool.{OnTrue, OnFalse};
 ghost use Rattle.clone_base.specs.declared.limits.TheConstants.{LSN_LIMIT};
 ghost use Rattle.clone_chunk.specs.Chunks.{IsTaken, IsLeastFree, left_of};
+ghost use Rattle.clone_chunk.specs.Partials.{ArePartials};
 ghost use Rattle.clone_chunk.specs.declared.chunk.Chunk.TheVariants.{Free, Claimed, Finished};
 ghost use Rattle.clone_snapshot.specs.StageLists.{Files, Pages, Redo, Nothing};
-ghost use Rattle.clone_snapshot.specs.StageLists.{PagePart, RedoPart, block_of, block_count};
+ghost use Rattle.clone_snapshot.specs.StageLists.{PagePart, RedoPart, block_of};
 ghost use Rattle.clone_snapshot.specs.StageLists.{stage_of, chunk_count};
 ghost use Rattle.clone_snapshot.specs.Snaps.{IsSnap, spaces_of, listed_count, redo_of};
+ghost use Rattle.clone_snapshot.specs.Resets.{IsReset, IsLast};
 ghost use Rattle.clone_snapshot.specs.declared.block.RedoBlock.{RedoBlock};
 
-use crate::files::{block_of_files, blocks_of_files, file_chunks};
+use crate::files::{block_of_files, file_chunks};
 use crate::listing::Listing;
-use crate::pages::{block_of_pages, blocks_of_pages};
-use crate::redo::{block_of_redo, blocks_of_redo};
+use crate::pages::block_of_pages;
+use crate::redo::block_of_redo;
+use crate::resets::{all_kept, reset};
 use crate::{PageBlock, RedoBlock, page_chunks, redo_chunks};
-use clone_chunk::{ChunkMap, Stage};
+use clone_chunk::{ChunkMap, PartialChunk, Stage};
 use std::alloc::{AllocError, Global};
 use std::marker::Model;
 
-/// A stage's list with the states of its chunks. Contracts see both, and for how many chunks there
-/// is room.
+/// A stage's list with the states of its chunks and the masks of their kept blocks. Contracts see
+/// these, and for how many chunks there is room.
 #[derive(Drop)]
 pub struct Snapshot {
     list: Listing,
@@ -38,6 +42,7 @@ impl Model for Snapshot {
     ghost view = { λ s. record {
       list = list_of s.list;
       chunks = s.chunks.states;
+      kept = s.chunks.kept;
       room = s.chunks.room;
     } };
 
@@ -52,6 +57,8 @@ impl Snapshot {
         ensures list { IfOk result (λ s. s.list ≡ Files spaces.items) }
         ensures chunks { IfOk result
             (λ s. s.chunks ≡ replicate (chunk_count (Files spaces.items)) Free) }
+        ensures kept { IfOk result
+            (λ s. s.kept ≡ replicate (chunk_count (Files spaces.items)) 0) }
         ensures room { IfOk result (λ s. chunk_count (Files spaces.items) ≤ s.room) }
     {
         let chunks = ChunkMap::new(alloc, file_chunks(&spaces))?;
@@ -127,6 +134,7 @@ impl Snapshot {
             (λ n. self.new.chunks ≡ slice_set self.old.chunks n (Claimed task)) }
         ensures unchanged { IfNone result (self.new.chunks ≡ self.old.chunks) }
         ensures list { self.new.list ≡ self.old.list }
+        ensures kept { self.new.kept ≡ self.old.kept }
         ensures room { self.new.room ≡ self.old.room }
     {
         self.chunks.claim(task)
@@ -140,6 +148,7 @@ impl Snapshot {
             (self.new.chunks ≡ slice_set self.old.chunks chunk Finished) }
         ensures unchanged { OnFalse result (self.new.chunks ≡ self.old.chunks) }
         ensures list { self.new.list ≡ self.old.list }
+        ensures kept { self.new.kept ≡ self.old.kept }
         ensures room { self.new.room ≡ self.old.room }
     {
         self.chunks.finish(task, chunk)
@@ -177,23 +186,50 @@ impl Snapshot {
         }
     }
 
-    /// Whether this is the chunk's last block.
-    pub fn is_last(&self, chunk: u32, block: u8) -> bool
-        ensures { IsTrue result ↔ (block + 1 ≡ block_count self.now.list chunk) }
+    /// The mask of a chunk's kept blocks: bit b, of value 2^b, is block b. It is 0 where there is
+    /// no such chunk.
+    pub fn kept(&self, chunk: u32) -> u8
+        ensures { result ≡ slice_index self.now.kept chunk }
     {
-        let blocks = match &self.list {
-            Listing::Files(spaces) => blocks_of_files(spaces, chunk),
-            Listing::Pages(pages) => blocks_of_pages(pages, chunk),
-            Listing::Redo { start, end } => blocks_of_redo(*start, *end, chunk),
-            Listing::Nothing => 0,
-        };
-        block as u64 + 1 == blocks
+        self.chunks.kept(chunk)
     }
 
-    /// Makes all chunks free again. No memory is taken.
+    /// Whether this is the last of the chunk's blocks that aren't kept.
+    pub fn is_last(&self, chunk: u32, block: u8) -> bool
+        ensures { IsTrue result ↔ IsLast self.now.list self.now.kept chunk block }
+    {
+        let blocks = self.list.blocks(chunk);
+        block < blocks && all_kept(self.chunks.kept(chunk), block + 1, blocks)
+    }
+
+    /// Begins the stage anew with what a requester has: a chunk is finished where its bit is set,
+    /// or each of its blocks is in its mask, and free elsewhere; of a chunk the blocks in its mask
+    /// are kept, and no others. No claim stays, and no memory is taken.
+    pub fn reset_blocks(&mut self, bitmap: &[u8], partials: &[PartialChunk])
+        requires { ArePartials partials.now }
+        ensures list { self.new.list ≡ self.old.list }
+        ensures reset { IsReset self.old.list bitmap.now partials.now self.new.chunks
+            self.new.kept }
+        ensures room { self.new.room ≡ self.old.room }
+    {
+        reset(&mut self.chunks, &self.list, bitmap, partials);
+    }
+
+    /// Begins the stage anew with the chunks that have their bit, which are finished. No claim
+    /// stays, no block is kept, and no memory is taken.
+    pub fn reset_to(&mut self, bitmap: &[u8])
+        ensures list { self.new.list ≡ self.old.list }
+        ensures reset { IsReset self.old.list bitmap.now [] self.new.chunks self.new.kept }
+        ensures room { self.new.room ≡ self.old.room }
+    {
+        self.chunks.reset_to(bitmap);
+    }
+
+    /// Makes all chunks free again, with no block kept. No memory is taken.
     pub fn restart(&mut self)
         ensures list { self.new.list ≡ self.old.list }
         ensures chunks { self.new.chunks ≡ replicate (chunk_count self.old.list) Free }
+        ensures kept { self.new.kept ≡ replicate (chunk_count self.old.list) 0 }
         ensures room { self.old.room ≤ self.new.room }
     {
         self.chunks.restart(self.chunks.count());
@@ -204,8 +240,9 @@ impl Snapshot {
     pub fn reserve(&mut self, chunks: u32) -> Result<(), AllocError>
         ensures list { self.new.list ≡ self.old.list }
         ensures chunks { self.new.chunks ≡ self.old.chunks }
+        ensures kept { self.new.kept ≡ self.old.kept }
         ensures room { OnOk result (chunks ≤ self.new.room) }
-        ensures kept { self.old.room ≤ self.new.room }
+        ensures more { self.old.room ≤ self.new.room }
         ensures err { OnErr result (self.new.room ≡ self.old.room) }
     {
         self.chunks.reserve(chunks)
@@ -218,6 +255,7 @@ impl Snapshot {
         requires room { chunk_count (Pages pages.items) ≤ self.old.room }
         ensures list { self.new.list ≡ Pages pages.items }
         ensures chunks { self.new.chunks ≡ replicate (chunk_count (Pages pages.items)) Free }
+        ensures kept { self.new.kept ≡ replicate (chunk_count (Pages pages.items)) 0 }
         ensures room { self.old.room ≤ self.new.room }
     {
         self.chunks.restart(page_chunks(pages.len()));
@@ -232,6 +270,7 @@ impl Snapshot {
         requires room { chunk_count (Redo start end) ≤ self.old.room }
         ensures list { self.new.list ≡ Redo start end }
         ensures chunks { self.new.chunks ≡ replicate (chunk_count (Redo start end)) Free }
+        ensures kept { self.new.kept ≡ replicate (chunk_count (Redo start end)) 0 }
         ensures room { self.old.room ≤ self.new.room }
     {
         self.chunks.restart(redo_chunks(start, end));
@@ -242,6 +281,7 @@ impl Snapshot {
     pub fn done(&mut self)
         ensures list { self.new.list ≡ Nothing }
         ensures chunks { self.new.chunks ≡ [] }
+        ensures kept { self.new.kept ≡ [] }
         ensures room { self.old.room ≤ self.new.room }
     {
         self.chunks.restart(0);

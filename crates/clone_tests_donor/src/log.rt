@@ -34,15 +34,15 @@ enum Step {
     Commit,
 }
 
-/// Calls of a new engine, and what its log has behind so many bytes.
+/// Calls of a new engine, and what its log has after so many bytes.
 type Case = (&'static [Step], u64, &'static [&'static [u8]]);
 
 const CASES: [Case; 4] = [
     (&ROW_COMMITTED, 0, &ONE_ROW),
     (&ROW_TAKEN_BACK, 330, &TAKING_BACK),
-    // behind 39 puts of 218 bytes
+    // after 39 puts of 218 bytes
     (&CHANGE_ON_NEXT_PAGE, 330 + 39 * 218, &NEXT_PAGE),
-    // behind 52 puts, of which three begin a page, of undo records or of a bucket
+    // after 52 puts, of which three begin a page, of undo records or of a bucket
     (
         &ROW_BEHIND_A_FULL_PAGE,
         21 + 39 + 41 + 3 * 229 + 49 * 218,

@@ -28,7 +28,7 @@ fn open_over(alloc: Global, disk: MemDisk) -> (Option<OpenCause>, MemDisk) {
 }
 
 // Opening makes three calls of the disk. Where one of them fails nothing is made, and the next time
-// the donor opens. The fourth call comes behind it.
+// the donor opens. The fourth call comes after it.
 #[test]
 fn a_call_of_opening_fails(rt: HostRuntime) -> Result<(), Fail> {
     for call in 1..4 {

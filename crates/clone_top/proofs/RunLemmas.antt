@@ -100,7 +100,7 @@ pub fault_kept : {T U : Type 0} (before now : ℕ) (refusal : Refusal) (answer :
 fault_kept before now refusal (Ok x) cause is fault = absurd is
 fault_kept before now refusal (Err e) cause is fault = cause.fault (ap Err (sym is ∙ err_same e Fault fault))
 
--- want of memory is no fault
+-- memory that ran out is no fault
 pub no_fault : {U : Type 0} (answer : Result U Refusal) → IsErrAnd answer (λ e. e ≡ NoMemory) → IsErrOf answer Fault → ⊥
 no_fault (Ok x) is fault = absurd is
 no_fault (Err e) is fault = let both = ap Err (sym is) ∙ fault in cc

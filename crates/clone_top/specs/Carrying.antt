@@ -31,7 +31,7 @@ pub record AnsweredAll (lines : List Line) (first final : State)
   pub run : Runs first lines events final
   pub out : new ≡ appended old (output events)
 
--- nothing happened behind the first lines, or memory ran out in the next one
+-- nothing happened after the first lines, or memory ran out in the next one
 pub data Leaves (lines : List Line) (count : ℕ) (final left : State) : Type 0 where
   behind : left ≡ final → Leaves lines count final left
   within : (line : Line) → slice_get lines count ≡ Some line → BreaksOff final line left
@@ -53,7 +53,7 @@ pub record Finished (lines : List Line) (first final : State)
   pub answered : AnsweredAll lines first final out_old out_new
   pub binlog : binlog_new ≡ appended binlog_old (binlog_text (donor_of final.donor).binlog)
 
--- it stopped in the lines, or behind them in the binlog
+-- it stopped in the lines, or after them in the binlog
 pub data Stopped (lines : List Line) (first left : State)
     (out_old out_new binlog_old binlog_new : Option (List ℕ)) : Type 0 where
   in_lines : AnsweredSome lines first left out_old out_new → binlog_new ≡ binlog_old

@@ -36,7 +36,7 @@ abbrev pub HasScript : Streams → Streams → Type 0
 HasScript old new =
     (config : Config) × (lines : List Line) × IsRead old.source new.source config lines
 
--- The donor's disk failed at its first look, ahead of any at the recipient's; or in opening, behind
+-- The donor's disk failed at its first look, before any at the recipient's; or in opening, after
 -- looks at both, by which both were empty.
 pub data FailsDonor (given back : Disks) : Type 0 where
   at_look : Looks given.donor back.donor → back.recipient ≡ given.recipient

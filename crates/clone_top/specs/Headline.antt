@@ -34,12 +34,12 @@ pub record Run : Type 0 where
 abbrev pub carried : Run → List Line
 carried run = take run.count run.lines
 
--- All lines were carried out, and nothing behind them.
+-- All lines were carried out, and nothing after them.
 pub record IsWhole (run : Run) : Type 0 where
   pub all : carried run ≡ run.lines
   pub left : run.left ≡ run.final
 
--- Nothing happened behind the lines that were carried out, or memory ran out in the next line.
+-- Nothing happened after the lines that were carried out, or memory ran out in the next line.
 pub data LeavesPlain (run : Run) : Type 0 where
   behind : run.left ≡ run.final → LeavesPlain run
   within : (line : Line) → slice_get run.lines run.count ≡ Some line
@@ -85,9 +85,9 @@ pub record HasCompleted (d : Donor) (clone : Clone) (m : DiskImage) : Type 0 whe
 -- The source gave a script, and both disks were empty. Its lines, as far as they were carried out,
 -- are a run of the plain donor, and what was written is their answers, and the commits of that run:
 -- one for each position that was answered, in order, that of a `set` with its one change. The drops
--- are those that were answered, each behind the commits before it, and maybe those in which the
+-- are those that were answered, each after the commits before it, and maybe those in which the
 -- disk failed. Where a clone is complete at position n, that is at least what was looked up before
--- its stop; the rows shown behind it are, in ascending order, exactly those that the first n
+-- its stop; the rows shown after it are, in ascending order, exactly those that the first n
 -- commits leave, with the tables dropped before it, and nothing of a transaction that was open
 -- then; and the recipient's disk that comes back holds a complete clone at n, which recovers to
 -- these rows whenever it is recovered.

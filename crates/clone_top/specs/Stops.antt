@@ -17,7 +17,7 @@ pub record TookAtMost (count : ℕ) (old new : Option (List ℕ)) : Type 0 where
   pub taken : old ≡ prepended bytes new
   pub few : length bytes ≤ count
 
--- The source is as a read that failed left it, and none was made behind that: so many bytes were
+-- The source is as a read that failed left it, and none was made after that: so many bytes were
 -- given before, without a failure, and that read gave none.
 abbrev pub LeftByFailure : {S : Type 0} → (S → Option (List ℕ)) → (S → ℕ) → S → S → Type 0
 LeftByFailure {S} left failures old new =

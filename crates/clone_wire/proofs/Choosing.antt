@@ -1,10 +1,11 @@
 -- Whether one of some numbers lies between two.
-use Rattle.std.proofs.Common.{◌≡◌, ℕ, ◌-◌, ◌*◌, ◌/◌, ◌%◌, ◌<◌, ◌≤◌, min, true, ◌&&◌, leb, subst, arith}
+use Rattle.std.proofs.Common.{◌≡◌, ℕ, ◌-◌, ◌*◌, ◌/◌, ◌%◌, ◌<◌, ◌≤◌, min, true, ◌&&◌, leb, arith}
 use Rattle.std.proofs.lemmas.Bool.Decides.{nat_tests}
 use Rattle.std.proofs.Math.Nat.{div-mul-le_self, mod-eq-sub-div-mul, mul-le-mul_right, le-div_iff_mul-le, mul-mod_left}
 use Rattle.clone_wire.specs.declared.numbers.Numbers.{Numbers}
 use Rattle.clone_wire.specs.Choices.{has_between}
 use Rattle.clone_wire.specs.Frames.{IsOneOf}
+use Rattle.clone_wire.proofs.Spans.{IsTest}
 
 both_tell : (a b c d : ℕ) → (leb a b && leb c d) ≡ true → (a ≤ b) × (c ≤ d)
 both_tell a b c d e = grind (arith, nat_tests)
@@ -45,9 +46,5 @@ between_again numbers v low high some one above below =
     let rest = one.steps in
     both_again numbers.least top low (top - (top - numbers.least) % numbers.step) (omega (arith, one.low, one.high)) (omega (arith, one.low, one.high))
 
--- a number that lies between itself and itself is one of them
-pub between_same : (numbers : Numbers) (n : ℕ) → 0 < numbers.step → has_between numbers n n ≡ true → IsOneOf numbers n
-between_same numbers n some e =
-    let found = between_tells numbers n n some e in
-    let same : found.0 ≡ n = omega (arith, found.2, found.3) in
-    subst (IsOneOf numbers) same found.1
+pub numbers_test : (numbers : Numbers) → 0 < numbers.step → IsTest (IsOneOf numbers) (has_between numbers)
+numbers_test numbers some = record { lets = λ x low high one p q. between_again numbers x low high some one p q; finds = λ low high p e. between_tells numbers low high some e }

@@ -33,9 +33,6 @@ only_spelling side bytes frame spelled = let p = (frame_laws side).from bytes fr
 pub as_spelled : (frame : Frame) (text : List ℕ) → IsFrame frame → text ≡ spelling frame → Spells (side_of frame) text frame
 as_spelled frame text is e = subst (λ t. Spells (side_of frame) t frame) (sym e) (spells_back (side_of frame) frame is refl)
 
-pub spelled_has : (side : Side) (bytes : List ℕ) (frame : Frame) → Spells side bytes frame → (spelled_frame side).Has frame
-spelled_has side bytes frame spelled = let p = only_spelling side bytes frame spelled in (p.0, p.1)
-
 -- ---- the head of a frame
 
 spelling_long : (frame : Frame) → length (spelling frame) ≡ 5 + length (payload frame)
@@ -82,7 +79,7 @@ head_stays : (side : Side) (bytes more : List ℕ) (e : Fault) → IsBytes bytes
 unfolding head_at
 head_stays side bytes more e fit other failed = ((head_laws side).stays bytes more e fit other failed).0
 
--- what was read stands at the front
+-- what was read is at the front
 pub found : (side : Side) (bytes : List ℕ) (h : ℕ × ℕ) (rest : List ℕ) (frame : Frame) (left : List ℕ) → IsBytes bytes → head_at side bytes ≡ Ok (h, rest) → payload_at h.0 h.1 rest ≡ Ok (frame, left)
     → Spells side (take (5 + h.1) bytes) frame × (5 + h.1 ≤ length bytes)
 found side bytes h rest frame left fit head payload =

@@ -1,5 +1,5 @@
 -- The fields of frames are formats.
-use Rattle.std.proofs.Common.{◌≡◌, ℕ, zero, suc, ◌-◌, ◌*◌, ◌^◌, ◌<◌, ◌≤◌, ◌==◌, Bool, true, false, get_or, List, [], ◌∷◌, ◌++◌, length, replicate, Ok, Err, refl, sym, ap, subst, ◌∙◌, arith, inl, inr}
+use Rattle.std.proofs.Common.{◌≡◌, ℕ, zero, suc, ◌-◌, ◌*◌, ◌^◌, ◌<◌, ◌≤◌, ◌==◌, Bool, true, false, get_or, List, [], ◌∷◌, ◌++◌, length, replicate, refl, sym, ap, ◌∙◌, arith}
 use Rattle.std.proofs.Math.Nat.{zero-mod, one-le-pow}
 use Rattle.std.proofs.lemmas.Bool.{lt-ltb}
 use Rattle.std.proofs.lemmas.List.{length-append, length-replicate, get_or-append_right, get_or-replicate}
@@ -7,8 +7,7 @@ use Rattle.byteorder.specs.Endian.{big_bytes}
 use Rattle.clone_bytes.specs.Fields.{IsBytes}
 use Rattle.clone_bytes.specs.Formats.{run, tested, Begun, IsFormat}
 use Rattle.clone_bytes.proofs.Numbers.{IsBytes-append, IsBytes-replicate}
-use Rattle.clone_bytes.proofs.Answers.{either_way, same_err, not_both}
-use Rattle.clone_bytes.proofs.Fields.{number_laws, run_laws, judged_laws}
+use Rattle.clone_bytes.proofs.Fields.{number_laws, run_laws}
 use Rattle.clone_bytes.proofs.Formats.{followed_laws, seen_laws, made_laws, tested_laws}
 use Rattle.clone_wire.specs.declared.numbers.Numbers.{Numbers}
 use Rattle.clone_wire.specs.declared.fault.Fault.TheVariants.{Short, Garbled}
@@ -22,9 +21,10 @@ use Rattle.clone_wire.specs.Frames.{IsOneOf}
 use Rattle.clone_chunk.specs.Stages.{copy_number, copy_numbered}
 use Rattle.clone_wire.specs.Stages.{page_number, page_numbered}
 use Rattle.clone_wire.specs.Spelling.{flag}
-use Rattle.clone_wire.specs.Reading.{refusals, word, judge_in, one_in, number_in, bitmap, flag_in, copy_in, pages_in, attempt, space}
+use Rattle.clone_wire.specs.Reading.{refusals, word, one_in, number_in, bitmap, flag_in, copy_in, pages_in, attempt, space}
 use Rattle.clone_wire.specs.Reading as Reading
-use Rattle.clone_wire.proofs.Choosing.{between_tells, between_again}
+use Rattle.clone_wire.proofs.Spans.{wanted_laws}
+use Rattle.clone_wire.proofs.Choosing.{numbers_test}
 
 pub words : {p : ℕ} (n : ℕ) → IsFormat refusals p (word n)
 words {p} n = number_laws p n
@@ -39,19 +39,10 @@ pub record IsChoice (width : ℕ) (numbers : Numbers) : Type 0 where
 
 pub number_in_laws : (at width p : ℕ) (numbers : Numbers) → IsChoice width numbers → at ≤ p → IsFormat refusals p (number_in at width numbers)
 unfolding one_in
-number_in_laws at width p numbers choice there = judged_laws (record {
+number_in_laws at width p numbers choice there = wanted_laws at width p (IsOneOf numbers) (has_between numbers) (numbers_test numbers choice.steps) (record {
   some = (numbers.least, record { low = omega arith; high = choice.some; steps = (let none : numbers.least - numbers.least ≡ 0 = omega arith in rw none (zero-mod numbers.step)) });
   within = λ x one. omega (arith, one.high, choice.within);
-  lets = λ x low high one p q. (let found = between_again numbers x low high choice.steps one p q in rw found refl);
-  finds = λ low high p e. elim (either_way (has_between numbers low high) (Ok tt) (Err (Garbled at)) (Ok tt) e) [ inl h ↦ between_tells numbers low high choice.steps h.0 | inr h ↦ absurd (not_both refl (sym h.1)) ];
-  refuses = λ low high e f. elim (either_way (has_between numbers low high) (Ok tt) (Err (Garbled at)) (Err e) f) [
-    | inl h ↦ absurd (not_both refl h.1)
-    | inr h ↦ subst (λ e. (e ≡ Short → ⊥) × (refusals.place e ≤ p)) (same_err refl h.1) (garbled, there)
-  ];
-})
-  where
-    garbled : Garbled at ≡ Short → ⊥
-    garbled e = cc
+}) there
 
 pub range_choice : (width least most : ℕ) → least ≤ most → most < 256 ^ width → IsChoice width (between least most)
 range_choice width least most some within = record { steps = omega arith; some = some; within = within }

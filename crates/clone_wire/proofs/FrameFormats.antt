@@ -12,10 +12,11 @@ use Rattle.clone_wire.specs.declared.frame.Frame.TheVariants.{Execute, Exit, End
 use Rattle.clone_wire.specs.Choices.{only}
 use Rattle.clone_wire.specs.Frames.{IsOneOf, IsHead, codes, lengths}
 use Rattle.clone_wire.specs.Spelling.{payload}
-use Rattle.clone_wire.specs.Reading.{refusals, framed, copy_in, attempt, init, attach, reinit, ack, exit, cause, payload_of, head, frame, frame_at}
+use Rattle.clone_wire.specs.Reading.{refusals, framed, copy_in, attempt, init, attach, reinit, reinit2, ack, exit, cause, payload_of, head, frame, frame_at}
 use Rattle.clone_wire.specs.Reading as Reading
 use Rattle.clone_wire.proofs.FieldFormats.{IsChoice, words, number_in_laws, range_choice, same_number, flag_laws, copy_laws, pages_in_laws, bitmap_laws, attempt_laws, page_laws}
 use Rattle.clone_wire.proofs.PlanFormats.{plan_laws, cause_laws}
+use Rattle.clone_wire.proofs.TakenFormats.{taken_laws}
 
 -- ---- payloads
 
@@ -29,6 +30,9 @@ reinit_laws : (n : ℕ) → n ≤ 1048576 → IsFormat refusals 5 (reinit n)
 reinit_laws n few =
     made_laws payload _ (followed_laws attempt_laws (λ attempt a. followed_laws (copy_laws 17 _ (omega arith)) (λ stage s. followed_laws (number_in_laws 18 4 _ _ (range_choice 4 (8 * n - 7) (8 * n) (omega arith) (omega arith)) (omega arith)) (λ count c. bitmap_laws 22 count n _ (omega arith)))))
     (λ x has. (let count : x.1.1.1.count ≡ x.1.1.0 = sym (ap (λ bits. bits.count) has.1.1.1.2) in rw count refl))
+
+reinit2_laws : (long : ℕ) → long ≤ 1056656 → IsFormat refusals 5 (reinit2 long)
+reinit2_laws long few = made_laws payload _ (followed_laws attempt_laws (λ attempt a. followed_laws (copy_laws 17 _ (omega arith)) (λ stage s. taken_laws long _ few (omega arith)))) (λ x has. refl)
 
 execute_laws : IsFormat refusals 5 (framed Execute (copy_in 5))
 execute_laws = made_laws payload Execute (copy_laws 5 5 (omega arith)) (λ x has. refl)
@@ -76,10 +80,11 @@ payload_laws code long head =
     (λ not3. choose_laws (code == 4) (λ e. execute_laws)
     (λ not4. choose_laws (code == 5) (λ e. ack_laws)
     (λ not5. choose_laws (code == 6) (λ e. exit_laws)
-    (λ not6. choose_laws (code == 16) (λ e. (let h = known code 16 long e head in stage_laws ((long - 43) / 8) (omega (arith, h.high))))
+    (λ not6. choose_laws (code == 7) (λ e. (let h = known code 7 long e head in reinit2_laws (long - 21) (omega (arith, h.high))))
+    (λ not7. choose_laws (code == 16) (λ e. (let h = known code 16 long e head in stage_laws ((long - 43) / 8) (omega (arith, h.high))))
     (λ not16. choose_laws (code == 17) (λ e. (let h = known code 17 long e head in pages_laws ((long - 19) / 4104) (omega (arith, h.high))))
     (λ not17. choose_laws (code == 18) (λ e. (let h = known code 18 long e head in redo_laws (long - 30) (omega (arith, h.high))))
-    (λ not18. choose_laws (code == 19) (λ e. end_laws) (λ not19. refused_laws))))))))))
+    (λ not18. choose_laws (code == 19) (λ e. end_laws) (λ not19. refused_laws)))))))))))
 
 same_text : (b : Bool) {t s u : List ℕ} → t ≡ u → s ≡ u → cond b t s ≡ u
 same_text true p q = p
@@ -88,7 +93,7 @@ same_text false p q = q
 pub payload_text : (code long : ℕ) (x : Frame) → (payload_of code long).text x ≡ payload x
 payload_text code long x =
     same_text (code == 1) refl (same_text (code == 2) refl (same_text (code == 3) refl (same_text (code == 4) refl (same_text (code == 5) refl
-    (same_text (code == 6) refl (same_text (code == 16) refl (same_text (code == 17) refl (same_text (code == 18) refl (same_text (code == 19) refl refl)))))))))
+    (same_text (code == 6) refl (same_text (code == 7) refl (same_text (code == 16) refl (same_text (code == 17) refl (same_text (code == 18) refl (same_text (code == 19) refl refl))))))))))
 
 -- ---- the head
 
@@ -97,7 +102,7 @@ either_choice width true x y p q = p
 either_choice width false x y p q = q
 
 codes_choice : (side : Side) → IsChoice 1 (codes side)
-codes_choice Command = range_choice 1 1 6 (omega arith) (omega arith)
+codes_choice Command = range_choice 1 1 7 (omega arith) (omega arith)
 codes_choice Answer = range_choice 1 16 20 (omega arith) (omega arith)
 
 one_length : (n : ℕ) → n < 256 ^ 4 → IsChoice 4 (only n)
@@ -108,8 +113,8 @@ lengths_choice code =
     either_choice 4 (code == 1) _ _ (one_length 20 (omega arith)) (either_choice 4 (code == 2) _ _ (one_length 13 (omega arith))
     (either_choice 4 (code == 3) _ _ (range_choice 4 17 1048593 (omega arith) (omega arith)) (either_choice 4 (code == 4) _ _ (one_length 1 (omega arith))
     (either_choice 4 (code == 5) _ _ (one_length 9 (omega arith)) (either_choice 4 (code == 6) _ _ (one_length 0 (omega arith))
-    (either_choice 4 (code == 16) _ _ (record { steps = omega arith; some = omega arith; within = omega arith }) (either_choice 4 (code == 17) _ _ (record { steps = omega arith; some = omega arith; within = omega arith })
-    (either_choice 4 (code == 18) _ _ (range_choice 4 31 16414 (omega arith) (omega arith)) (either_choice 4 (code == 19) _ _ (one_length 13 (omega arith)) (one_length 17 (omega arith)))))))))))
+    (either_choice 4 (code == 7) _ _ (range_choice 4 21 1056677 (omega arith) (omega arith)) (either_choice 4 (code == 16) _ _ (record { steps = omega arith; some = omega arith; within = omega arith }) (either_choice 4 (code == 17) _ _ (record { steps = omega arith; some = omega arith; within = omega arith })
+    (either_choice 4 (code == 18) _ _ (range_choice 4 31 16414 (omega arith) (omega arith)) (either_choice 4 (code == 19) _ _ (one_length 13 (omega arith)) (one_length 17 (omega arith))))))))))))
 
 pub head_laws : (side : Side) → IsFormat refusals 0 (head side)
 head_laws side = followed_laws (number_in_laws 0 1 0 (codes side) (codes_choice side) (omega arith)) (λ code one. number_in_laws 1 4 _ (lengths code) (lengths_choice code) (omega arith))

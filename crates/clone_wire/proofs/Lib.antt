@@ -5,6 +5,7 @@ pub mod FrameFormats
 pub mod FrameSpellings
 pub mod Decoding
 pub mod Unique
-pub mod Digits
+pub mod Spans
+pub mod ListedLemmas
+pub mod TakenFormats
 pub mod Lists
-mod Onward

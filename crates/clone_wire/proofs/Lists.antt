@@ -1,10 +1,10 @@
 -- Reading items one after the other, as a loop does.
-use Rattle.std.proofs.Common.{◌≡◌, ℕ, suc, ◌-◌, ◌+◌, ◌≤◌, ◌<◌, List, [], ◌∷◌, ◌++◌, Result, Ok, Err, refl, sym, ap, ◌∙◌, append_assoc, arith}
-use Rattle.std.proofs.lemmas.List.{append-nil}
+use Rattle.std.proofs.Common.{◌≡◌, ℕ, suc, ◌-◌, ◌+◌, ◌*◌, ◌<◌, List, [], ◌∷◌, ◌++◌, Result, Ok, Err, refl, sym, ap, ◌∙◌, append_assoc, arith}
 use Rattle.clone_wire.specs.declared.fault.Fault.{Fault}
 use Rattle.clone_wire.specs.declared.fault.Fault.TheVariants.{Short, Garbled, NoMemory}
 use Rattle.clone_bytes.specs.Formats.{◌>>=◌, list_at}
-use Rattle.clone_wire.specs.Reading.{Fails}
+use Rattle.clone_chunk.specs.declared.partials.PartialChunk.{PartialChunk}
+use Rattle.clone_wire.specs.Reading.{Fails, partial_in, partials_at}
 
 -- what was read before, and what is still read
 abbrev pub with_front : {X : Type 0} → List X → Result (List X × List ℕ) Fault → Result (List X × List ℕ) Fault
@@ -33,9 +33,16 @@ ends item (Garbled at) front count i bytes total lt h so_far =
     let one : with_front front (list_at item (count - i) bytes) ≡ Err (Garbled at) = rw (k, h) refl in
     sym so_far ∙ one
 
-pub is_done : {X : Type 0} (item : List ℕ → Result (X × List ℕ) Fault) (front : List X) (count i : ℕ) (bytes : List ℕ) (total : Result (List X × List ℕ) Fault) → count ≤ i
-    → with_front front (list_at item (count - i) bytes) ≡ total → total ≡ Ok (front, bytes)
-is_done {X = X} item front count i bytes total le so_far =
-    let k : count - i ≡ 0 = omega arith in
-    let one : with_front front (list_at item (count - i) bytes) ≡ Ok (front, bytes) = rw k (ap (λ (xs : List X). Ok (xs, bytes)) (append-nil front)) in
-    sym so_far ∙ one
+-- ---- partial chunks, of which each is read by the one before it
+
+pub more_listed : (at : ℕ) (bitmap : List ℕ) (from : ℕ) (front : List PartialChunk) (count i : ℕ) (bytes : List ℕ) (x : PartialChunk) (after : List ℕ) (total : Result (List PartialChunk × List ℕ) Fault) → i < count
+    → (partial_in (at + 5 * i) bitmap from (count - i - 1)).read bytes ≡ Ok (x, after) → with_front front (partials_at (at + 5 * i) bitmap from (count - i) bytes) ≡ total
+    → with_front (front ++ x ∷ []) (partials_at (at + 5 * (i + 1)) bitmap (x.chunk + 1) (count - (i + 1)) after) ≡ total
+more_listed at bitmap from front count i bytes x after total lt h so_far =
+    let k : count - i ≡ suc (count - (i + 1)) = omega arith in
+    let rest : count - i - 1 ≡ count - (i + 1) = omega arith in
+    let place : at + 5 * (i + 1) ≡ at + 5 * i + 5 = omega arith in
+    let read : (partial_in (at + 5 * i) bitmap from (count - (i + 1))).read bytes ≡ Ok (x, after) = rw rest at h in
+    let one : with_front front (partials_at (at + 5 * i) bitmap from (count - i) bytes) ≡ with_front (front ++ x ∷ []) (partials_at (at + 5 * i + 5) bitmap (x.chunk + 1) (count - (i + 1)) after) =
+    rw (k, read) (regroup front x (partials_at (at + 5 * i + 5) bitmap (x.chunk + 1) (count - (i + 1)) after)) in
+    rw place (sym one ∙ so_far)

@@ -40,13 +40,14 @@ none_one : (has : Bool) (most : ℕ) → IsOneOf (any_if has most) 0
 none_one true most = in_range 0 most 0 (omega arith) (omega arith)
 none_one false most = in_range 0 0 0 (omega arith) (omega arith)
 
-first_one : (b : Bool) → IsOneOf (between 1 (cond b 4 1)) 1
-first_one true = in_range 1 4 1 (omega arith) (omega arith)
-first_one false = in_range 1 1 1 (omega arith) (omega arith)
+-- the first two stages may list spaces
+early_one : (b : Bool) (stage : ℕ) → 1 ≤ stage → stage ≤ 2 → IsOneOf (between 1 (cond b 4 2)) stage
+early_one true stage some early = in_range 1 4 stage (omega arith) (omega arith)
+early_one false stage some early = in_range 1 2 stage (omega arith) (omega arith)
 
-first_stage_choice : (b : Bool) → IsChoice 1 (between 1 (cond b 4 1))
-first_stage_choice true = range_choice 1 1 4 (omega arith) (omega arith)
-first_stage_choice false = range_choice 1 1 1 (omega arith) (omega arith)
+stage_choice : (b : Bool) → IsChoice 1 (between 1 (cond b 4 2))
+stage_choice true = range_choice 1 1 4 (omega arith) (omega arith)
+stage_choice false = range_choice 1 1 2 (omega arith) (omega arith)
 
 -- ---- stages
 
@@ -56,38 +57,38 @@ stage_text stage chunks checkpoint lsn position spaces =
 
 -- the fields of a stage are those of its plan
 planned_is : (stage chunks checkpoint lsn position : ℕ) (spaces : List SpaceSize) → AllAre IsSpace spaces → length spaces ≤ 63
-    → IsOneOf (between 1 (cond (length spaces == 0) 4 1)) stage → IsOneOf (any_if (not (stage == 4)) 0xFFFFFFFF) chunks → IsOneOf (any_if (nat_le 3 stage) most8) checkpoint → IsOneOf (any_if (nat_le 3 stage) most8) lsn
+    → IsOneOf (between 1 (cond (length spaces == 0) 4 2)) stage → IsOneOf (any_if (not (stage == 4)) 0xFFFFFFFF) chunks → IsOneOf (any_if (nat_le 3 stage) most8) checkpoint → IsOneOf (any_if (nat_le 3 stage) most8) lsn
     → IsOneOf (any_if (nat_le 2 stage) most8) position
     → (stage_text stage chunks checkpoint lsn position spaces ≡ plan_bytes (planned stage chunks checkpoint lsn position spaces)) × IsPlan (planned stage chunks checkpoint lsn position spaces)
 unfolding plan_bytes
 planned_is zero chunks checkpoint lsn position spaces are few one c p l q = absurd (omega (arith, one.low))
 planned_is (suc zero) chunks checkpoint lsn position spaces are few one c p l q =
     (rw (← no_value most8 checkpoint p, ← no_value most8 lsn l, ← no_value most8 position q) refl, (has_width true 4 0xFFFFFFFF chunks (omega arith) c, are, few))
-planned_is (suc (suc zero)) chunks checkpoint lsn position [] are few one c p l q =
-    (rw (← no_value most8 checkpoint p, ← no_value most8 lsn l) refl, (has_width true 4 0xFFFFFFFF chunks (omega arith) c, has_width true 8 most8 position (omega arith) q))
+planned_is (suc (suc zero)) chunks checkpoint lsn position spaces are few one c p l q =
+    (rw (← no_value most8 checkpoint p, ← no_value most8 lsn l) refl, (has_width true 4 0xFFFFFFFF chunks (omega arith) c, has_width true 8 most8 position (omega arith) q, are, few))
 planned_is (suc (suc (suc zero))) chunks checkpoint lsn position [] are few one c p l q =
     (refl, (has_width true 4 0xFFFFFFFF chunks (omega arith) c, has_width true 8 most8 checkpoint (omega arith) p, has_width true 8 most8 lsn (omega arith) l, has_width true 8 most8 position (omega arith) q))
 planned_is (suc (suc (suc (suc zero)))) chunks checkpoint lsn position [] are few one c p l q =
     (rw (← no_value 0xFFFFFFFF chunks c) refl, (has_width true 8 most8 checkpoint (omega arith) p, has_width true 8 most8 lsn (omega arith) l, has_width true 8 most8 position (omega arith) q))
 planned_is (suc (suc (suc (suc (suc n))))) chunks checkpoint lsn position [] are few one c p l q = absurd (omega (arith, one.high))
-planned_is (suc (suc n)) chunks checkpoint lsn position (x ∷ spaces) are few one c p l q = absurd (let some : (suc (length spaces) == 0) ≡ false = ne_eqb (suc (length spaces)) 0 (λ e. omega arith) in let high : suc (suc n) ≤ 1 = rw some at one.high in omega arith)
+planned_is (suc (suc (suc n))) chunks checkpoint lsn position (x ∷ spaces) are few one c p l q = absurd (let some : (suc (length spaces) == 0) ≡ false = ne_eqb (suc (length spaces)) 0 (λ e. omega arith) in let high : suc (suc (suc n)) ≤ 2 = rw some at one.high in omega arith)
 
 -- what was read of a stage is a plan, spelled so
-pub plan_is : (n : ℕ) (x : ℕ × (ℕ × (ℕ × (ℕ × (ℕ × (ℕ × List SpaceSize)))))) → n ≤ 63 → IsOneOf (between 1 (cond (n == 0) 4 1)) x.0 × (plan_fields n x.0).Has x.1
+pub plan_is : (n : ℕ) (x : ℕ × (ℕ × (ℕ × (ℕ × (ℕ × (ℕ × List SpaceSize)))))) → n ≤ 63 → IsOneOf (between 1 (cond (n == 0) 4 2)) x.0 × (plan_fields n x.0).Has x.1
     → (stage_text x.0 x.1.0 x.1.1.0 x.1.1.1.0 x.1.1.1.1.0 x.1.1.1.1.1.1 ≡ plan_bytes (planned x.0 x.1.0 x.1.1.0 x.1.1.1.0 x.1.1.1.1.0 x.1.1.1.1.1.1)) × IsPlan (planned x.0 x.1.0 x.1.1.0 x.1.1.1.0 x.1.1.1.1.0 x.1.1.1.1.1.1)
 plan_is n x few has =
     let xs = has.1.1.1.1.1.1 in
-    planned_is x.0 x.1.0 x.1.1.0 x.1.1.1.0 x.1.1.1.1.0 x.1.1.1.1.1.1 xs.1 (omega (arith, xs.0)) (subst (λ m. IsOneOf (between 1 (cond (m == 0) 4 1)) x.0) (sym xs.0) has.0) has.1.0 has.1.1.0 has.1.1.1.0 has.1.1.1.1.0
+    planned_is x.0 x.1.0 x.1.1.0 x.1.1.1.0 x.1.1.1.1.0 x.1.1.1.1.1.1 xs.1 (omega (arith, xs.0)) (subst (λ m. IsOneOf (between 1 (cond (m == 0) 4 2)) x.0) (sym xs.0) has.0) has.1.0 has.1.1.0 has.1.1.1.0 has.1.1.1.1.0
 
 pub plan_laws : (n p : ℕ) → n ≤ 63 → 17 ≤ p → IsFormat refusals p (stage_plan n)
 plan_laws n p few there =
-    made_laws plan_bytes _ (followed_laws (number_in_laws 17 1 p (between 1 (cond (n == 0) 4 1)) (first_stage_choice (n == 0)) there)
+    made_laws plan_bytes _ (followed_laws (number_in_laws 17 1 p (between 1 (cond (n == 0) 4 2)) (stage_choice (n == 0)) there)
     (λ stage s. followed_laws (number_in_laws 18 4 _ _ (any_choice 4 (not (stage == 4)) 0xFFFFFFFF (omega arith)) (omega arith)) (λ chunks c. followed_laws (number_in_laws 22 8 _ _ (any_choice 8 (nat_le 3 stage) most8 (omega arith)) (omega arith))
     (λ checkpoint k. followed_laws (number_in_laws 30 8 _ _ (any_choice 8 (nat_le 3 stage) most8 (omega arith)) (omega arith)) (λ lsn l. followed_laws (number_in_laws 38 8 _ _ (any_choice 8 (nat_le 2 stage) most8 (omega arith)) (omega arith))
     (λ position q. followed_laws (number_in_laws 46 2 _ _ (range_choice 2 n n (omega arith) (omega arith)) (omega arith)) (λ count k. list_laws (λ p. space_laws) n _)))))))
     (λ x has. sym (plan_is n x few has).0 ∙ counts n x has)
   where
-    counts : (n : ℕ) (x : ℕ × (ℕ × (ℕ × (ℕ × (ℕ × (ℕ × List SpaceSize)))))) → IsOneOf (between 1 (cond (n == 0) 4 1)) x.0 × (plan_fields n x.0).Has x.1
+    counts : (n : ℕ) (x : ℕ × (ℕ × (ℕ × (ℕ × (ℕ × (ℕ × List SpaceSize)))))) → IsOneOf (between 1 (cond (n == 0) 4 2)) x.0 × (plan_fields n x.0).Has x.1
         → stage_text x.0 x.1.0 x.1.1.0 x.1.1.1.0 x.1.1.1.1.0 x.1.1.1.1.1.1 ≡ big_bytes 1 x.0 ++ (plan_fields n x.0).text x.1
     counts n x has = let same : length x.1.1.1.1.1.1 ≡ x.1.1.1.1.1.0 = has.1.1.1.1.1.1.0 ∙ sym (same_number n x.1.1.1.1.1.0 has.1.1.1.1.1.0) in rw same refl
 
@@ -97,9 +98,9 @@ only_one n = in_range n n n (omega arith) (omega arith)
 -- each plan has a stage
 pub has_plan : (p : StagePlan) → IsPlan p → (stage_plan (length (spaces_of p))).Has p
 has_plan (plan.FileCopy chunks spaces) is =
-    ((1, (chunks, (0, (0, (0, (length spaces, spaces)))))), (first_one (length spaces == 0), (has_one 4 0xFFFFFFFF chunks (omega arith) is.0, (none_one false most8, (none_one false most8, (none_one false most8, (only_one (length spaces), (refl, is.1))))))), refl)
-has_plan (plan.PageCopy chunks position) is =
-    ((2, (chunks, (0, (0, (position, (0, [])))))), (in_range 1 4 2 (omega arith) (omega arith), (has_one 4 0xFFFFFFFF chunks (omega arith) is.0, (none_one false most8, (none_one false most8, (has_one 8 most8 position (omega arith) is.1, (only_one 0, (refl, tt))))))), refl)
+    ((1, (chunks, (0, (0, (0, (length spaces, spaces)))))), (early_one (length spaces == 0) 1 (omega arith) (omega arith), (has_one 4 0xFFFFFFFF chunks (omega arith) is.0, (none_one false most8, (none_one false most8, (none_one false most8, (only_one (length spaces), (refl, is.1))))))), refl)
+has_plan (plan.PageCopy chunks position spaces) is =
+    ((2, (chunks, (0, (0, (position, (length spaces, spaces)))))), (early_one (length spaces == 0) 2 (omega arith) (omega arith), (has_one 4 0xFFFFFFFF chunks (omega arith) is.0, (none_one false most8, (none_one false most8, (has_one 8 most8 position (omega arith) is.1, (only_one (length spaces), (refl, is.2))))))), refl)
 has_plan (plan.RedoCopy chunks checkpoint lsn position) is =
     ((3, (chunks, (checkpoint, (lsn, (position, (0, [])))))), (in_range 1 4 3 (omega arith) (omega arith), (has_one 4 0xFFFFFFFF chunks (omega arith) is.0, (has_one 8 most8 checkpoint (omega arith) is.1, (has_one 8 most8 lsn (omega arith) is.2, (has_one 8 most8 position (omega arith) is.3, (only_one 0, (refl, tt))))))), refl)
 has_plan (plan.Done checkpoint lsn position) is =

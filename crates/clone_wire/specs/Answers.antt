@@ -34,8 +34,8 @@ pub record IsFront (side : Side) (bytes : List ℕ) (long : ℕ) : Type 0 where
 abbrev pub IsLost : Side → List ℕ → Type 0
 IsLost side bytes = (more : List ℕ) → IsBytes more → BeginsNone side (bytes ++ more)
 
--- How many bytes are needed is the length of the frame, or 5 where that can't be told since fewer
--- than 5 are there.
+-- How many bytes are needed is the length of the frame, or 5 where that isn't known yet, since
+-- fewer than 5 are there.
 abbrev pub Needs : Side → List ℕ → ℕ → Type 0
 Needs side bytes need =
     ((5 ≤ length bytes) × IsFront side bytes need)
@@ -48,8 +48,8 @@ pub record StopsAt (side : Side) (bytes : List ℕ) (at : ℕ) : Type 0 where
   pub before : (long : ℕ) × IsFront side (take at bytes) long
   pub stops : frame_at side bytes ≡ Err (fault.Garbled at)
 
--- The frame whose spelling is at the front, and the length of that front. A refusal other than want
--- of memory comes only where no front is one: `NotYet` exactly where further bytes would make one,
+-- The frame whose spelling is at the front, and the length of that front. A refusal other than
+-- `NoMemory` comes only where no front is one: `NotYet` exactly where further bytes would make one,
 -- and `Garbled` exactly where none could.
 abbrev pub Decodes : Side → List ℕ → Result (Frame × ℕ) WireRefusal → Type 0
 Decodes side bytes (Ok found) = Spells side (take found.1 bytes) found.0 × (found.1 ≤ length bytes)

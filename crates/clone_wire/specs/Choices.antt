@@ -1,5 +1,7 @@
 -- The numbers that may stand in a field: the least, and each so many steps more, up to the most.
-use Rattle.std.specs.Prelude.{ℕ, ◌+◌, ◌*◌, ◌-◌, ◌%◌, min, Bool, nat_le, ◌&&◌, if◌then◌else◌}
+use Rattle.std.specs.Prelude.{ℕ, ◌+◌, ◌*◌, ◌-◌, ◌/◌, ◌%◌, min, Bool, nat_le, ◌&&◌, if◌then◌else◌}
+use Rattle.clone_chunk.specs.declared.partials.TheConstants.{MOST_PARTIAL}
+use Rattle.clone_wire.specs.declared.limits.TheConstants.{MOST_BITMAP, PARTIAL_BYTES}
 use Rattle.clone_wire.specs.declared.numbers.Numbers.{Numbers}
 
 abbrev pub in_steps : ℕ → ℕ → ℕ → Numbers
@@ -14,6 +16,13 @@ only n = between n n
 -- the lengths of so many bytes of fields and a list of items, from the least to the most of them
 abbrev pub listed : ℕ → ℕ → ℕ → ℕ → Numbers
 listed fields least most each = in_steps (fields + least * each) (fields + most * each) each
+
+-- How many bytes a bitmap may have that fills so many bytes together with partial chunks: the rest
+-- is whole chunks, and not too many.
+abbrev pub bitmap_sizes : ℕ → Numbers
+bitmap_sizes long =
+    in_steps (long - PARTIAL_BYTES * min MOST_PARTIAL (long / PARTIAL_BYTES)) (min long MOST_BITMAP)
+    PARTIAL_BYTES
 
 -- all numbers up to the most where the frame has a value there, and else 0
 abbrev pub any_if : Bool → ℕ → Numbers

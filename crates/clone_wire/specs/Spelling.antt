@@ -7,12 +7,14 @@ use Rattle.clone_wire.specs.declared.frame.Attempt.{Attempt}
 use Rattle.clone_wire.specs.declared.frame.Side.{Side}
 use Rattle.clone_wire.specs.declared.frame.Side.TheVariants.{Command, Answer}
 use Rattle.clone_wire.specs.declared.frame.Frame.{Frame}
-use Rattle.clone_wire.specs.declared.frame.Frame.TheVariants.{Init, Attach, Reinit, Execute, Ack}
-use Rattle.clone_wire.specs.declared.frame.Frame.TheVariants.{Exit, Stage, Pages, Redo, End}
-use Rattle.clone_wire.specs.declared.frame.Frame.TheVariants.{Refused}
+use Rattle.clone_wire.specs.declared.frame.Frame.TheVariants.{Init, Attach, Reinit, Reinit2}
+use Rattle.clone_wire.specs.declared.frame.Frame.TheVariants.{Execute, Ack, Exit, Stage, Pages}
+use Rattle.clone_wire.specs.declared.frame.Frame.TheVariants.{Redo, End, Refused}
 use Rattle.clone_chunk.specs.declared.plan.StagePlan.{StagePlan}
 use Rattle.clone_chunk.specs.declared.spaces.SpaceSize.{SpaceSize}
 use Rattle.clone_page.specs.declared.pages.PageAt.{PageAt}
+use Rattle.clone_chunk.specs.declared.partials.PartialChunk.{PartialChunk}
+use Rattle.clone_chunk.specs.Partials.{Taken}
 use Rattle.clone_chunk.specs.Stages.{stage_number, copy_number}
 use Rattle.clone_wire.specs.Stages.{page_number}
 use Rattle.clone_chunk.specs.declared.cause.CloneCause.{CloneCause}
@@ -25,6 +27,7 @@ abbrev pub side_of : Frame → Side
 side_of (Init attempt version size compressed tasks) = Command
 side_of (Attach attempt task) = Command
 side_of (Reinit attempt stage finished) = Command
+side_of (Reinit2 attempt stage taken) = Command
 side_of (Execute stage) = Command
 side_of (Ack stage floor) = Command
 side_of Exit = Command
@@ -41,6 +44,7 @@ code_of (Reinit attempt stage finished) = 3
 code_of (Execute stage) = 4
 code_of (Ack stage floor) = 5
 code_of Exit = 6
+code_of (Reinit2 attempt stage taken) = 7
 code_of (Stage attempt plan) = 16
 code_of (Pages attempt stage chunk block pages) = 17
 code_of (Redo attempt chunk block from bytes) = 18
@@ -58,6 +62,17 @@ space_bytes space = big_bytes 4 space.space ++ big_bytes 4 space.pages
 
 abbrev pub page_bytes : PageAt → List ℕ
 page_bytes page = big_bytes 4 page.space ++ big_bytes 4 page.number ++ page.page
+
+abbrev pub partial_bytes : PartialChunk → List ℕ
+partial_bytes partial = big_bytes 4 partial.chunk ++ big_bytes 1 partial.mask
+
+-- their number, and they
+abbrev pub listed_bytes : List PartialChunk → List ℕ
+listed_bytes partials = big_bytes 4 (length partials) ++ flat_map partial_bytes partials
+
+abbrev pub taken_bytes : Taken → List ℕ
+taken_bytes taken =
+    big_bytes 4 taken.finished.count ++ taken.finished.bytes ++ listed_bytes taken.partials
 
 abbrev pub cause_bytes : CloneCause → List ℕ
 cause_bytes cause =
@@ -77,6 +92,8 @@ payload (Init attempt version size compressed tasks) = big_bytes 2 version ++ bi
 payload (Attach attempt task) = attempt_bytes attempt ++ big_bytes 1 task
 payload (Reinit attempt stage finished) = attempt_bytes attempt ++ big_bytes 1 (copy_number stage)
     ++ big_bytes 4 finished.count ++ finished.bytes
+payload (Reinit2 attempt stage taken) = attempt_bytes attempt ++ big_bytes 1 (copy_number stage)
+    ++ taken_bytes taken
 payload (Execute stage) = big_bytes 1 (copy_number stage)
 payload (Ack stage floor) = big_bytes 1 (copy_number stage) ++ big_bytes 8 floor
 payload Exit = []

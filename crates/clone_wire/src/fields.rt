@@ -1,5 +1,7 @@
-ghost use Rattle.std.specs.Prelude.{◌≡◌, ◌≢◌, ◌<◌, ◌≤◌, length, IfOk};
-ghost use Rattle.clone_bytes.specs.Formats.{byte_at, number_at, run_at};
+ghost use Rattle.std.specs.Prelude.{◌≡◌, ◌≢◌, ◌<◌, ◌≤◌, ◌+◌, ◌-◌, ◌^◌, length, IfOk};
+ghost use Rattle.byteorder.specs.Endian.{big_number};
+ghost use Rattle.clone_bytes.specs.Fields.{IsBytes};
+ghost use Rattle.clone_bytes.specs.Formats.{number_at, run_at};
 ghost use Rattle.clone_wire.specs.Frames.{IsOneOf};
 ghost use Rattle.clone_wire.specs.Reading.{Gives, number_in, flag_in, copy_in, pages_in, attempt};
 ghost use Rattle.clone_wire.specs.declared.fault.Fault.TheVariants.{Short};
@@ -7,10 +9,11 @@ ghost use Rattle.clone_wire.specs.declared.fault.Fault.TheVariants.{Short};
 use crate::fault::Fault;
 use crate::numbers::Numbers;
 use crate::{Attempt, PageStage};
+use byteorder::{BigEndian, ByteOrder};
 use clone_bytes::Reader;
 use clone_chunk::CopyStage;
 
-// Each function answers the value of the field at the front, which the reader is behind then.
+// Each function answers the value of the field at the front, and leaves the bytes after it.
 
 pub(crate) fn u8_of(reader: &mut Reader) -> Result<u8, Fault>
     ensures { Gives (λ x. (x, reader.new)) result (number_at Short 1 reader.old) }
@@ -76,7 +79,6 @@ pub(crate) fn pages_stage_of(at: usize, reader: &mut Reader) -> Result<PageStage
 }
 
 // A number of `width` bytes, which is one of these. The field begins at `at`.
-#[tactic(auto, unfolding(crate::specs::Reading::one_in))]
 pub(crate) fn number_in(
     at: usize,
     width: usize,
@@ -91,22 +93,29 @@ pub(crate) fn number_in(
     ensures one { IfOk result (IsOneOf numbers) }
     ensures memory { result ≢ Err Fault.NoMemory }
 {
-    let mut number: u64 = 0;
-    for done in 0..width {
-        let byte = byte_of(reader)?;
-        number = number * 256 + byte as u64;
-        let unit = 256_u64.pow((width - done - 1) as u32);
-        let least = number * unit;
-        if !numbers.has_between(least, least + (unit - 1)) {
-            return Err(Fault::Garbled { at });
-        }
+    let bytes = reader.rest();
+    if bytes.is_empty() {
+        return Err(Fault::Short);
     }
-    Ok(number)
+    let (low, high) = span_of(width, bytes);
+    if !numbers.has_between(low, high) {
+        return Err(Fault::Garbled { at });
+    }
+    reader.take(width)?;
+    Ok(low)
 }
 
-fn byte_of(reader: &mut Reader) -> Result<u8, Fault>
-    ensures gives { Gives (λ x. (x, reader.new)) result (byte_at Short reader.old) }
-    ensures memory { result ≢ Err Fault.NoMemory }
+// The least and the greatest number of so many bytes that begin with those that are there.
+pub(crate) fn span_of(width: usize, bytes: &[u8]) -> (u64, u64)
+    requires some { 1 ≤ length bytes.now }
+    requires wide { 1 ≤ width }
+    requires narrow { width ≤ 8 }
+    ensures bytes { IsBytes bytes.now }
+    ensures low { result.0 ≡ big_number width bytes.now }
+    ensures high { result.1 ≡ result.0 + (256 ^ (width - length bytes.now) - 1) }
 {
-    Ok(reader.u8()?)
+    let there = width.min(bytes.len());
+    let unit = 256_u64.pow((width - there) as u32);
+    let low = BigEndian::read_uint(bytes, there) * unit;
+    (low, low + (unit - 1))
 }

@@ -1,11 +1,12 @@
 //! The frames of the wire and their lengths. A frame has its code in 1 byte, the length of its
-//! payload in 4, and the payload; a requester's codes are 1 to 6, a donor's 16 to 20. Each value
+//! payload in 4, and the payload; a requester's codes are 1 to 7, a donor's 16 to 20. Each value
 //! of this type is within the ranges of its fields, by the types of those.
 use crate::PageStage;
 use crate::limits::{
-    HEAD_BYTES, PAGE_AT_BYTES, PAGES_FIELDS, REDO_FIELDS, REINIT_FIELDS, SPACE_BYTES, STAGE_FIELDS,
+    HEAD_BYTES, PAGE_AT_BYTES, PAGES_FIELDS, PARTIAL_BYTES, REDO_FIELDS, REINIT_FIELDS,
+    REINIT2_FIELDS, SPACE_BYTES, STAGE_FIELDS,
 };
-use clone_chunk::{Bitmap, CloneCause, CopyStage, RedoBytes, StagePlan};
+use clone_chunk::{Bitmap, CloneCause, CopyStage, RedoBytes, StagePlan, TakenBlocks};
 use clone_page::Pages;
 
 /// One attempt at a clone: a session, and which of its incarnations, since each loss begins
@@ -46,6 +47,12 @@ pub enum Frame {
         attempt: Attempt,
         stage: CopyStage,
         finished: Bitmap,
+    },
+    /// The requester comes back so to a session of version 2, and has blocks of other chunks too.
+    Reinit2 {
+        attempt: Attempt,
+        stage: CopyStage,
+        taken: TakenBlocks,
     },
     /// A task asks for blocks.
     Execute {
@@ -102,6 +109,7 @@ impl Frame {
             Frame::Init { .. }
             | Frame::Attach { .. }
             | Frame::Reinit { .. }
+            | Frame::Reinit2 { .. }
             | Frame::Execute { .. }
             | Frame::Ack { .. }
             | Frame::Exit => Side::Command,
@@ -124,6 +132,7 @@ impl Frame {
             Frame::Execute { .. } => 4,
             Frame::Ack { .. } => 5,
             Frame::Exit => 6,
+            Frame::Reinit2 { .. } => 7,
             Frame::Stage { .. } => 16,
             Frame::Pages { .. } => 17,
             Frame::Redo { .. } => 18,
@@ -140,6 +149,10 @@ impl Frame {
                 + PAGE_AT_BYTES * pages.as_slice().len(),
             Frame::Redo { bytes, .. } => HEAD_BYTES + REDO_FIELDS + bytes.as_slice().len(),
             Frame::Reinit { finished, .. } => HEAD_BYTES + REINIT_FIELDS + finished.bytes().len(),
+            Frame::Reinit2 { taken, .. } => HEAD_BYTES
+                + REINIT2_FIELDS
+                + taken.finished().bytes().len()
+                + PARTIAL_BYTES * taken.partials().as_slice().len(),
             Frame::Stage { plan, .. } => HEAD_BYTES
                 + STAGE_FIELDS
                 + SPACE_BYTES * plan.spaces().len(),

@@ -15,7 +15,7 @@ pub fn one_spelling()
         Spells side a m → Spells side b n → a ++ x ≡ b ++ y → (a ≡ b) × (m ≡ n) }
 {}
 
-/// For every list of bytes one answer of `decode` fits, want of memory aside.
+/// For every list of bytes one answer of `decode` fits, unless it is out of memory.
 pub fn one_answer()
     ensures { (side : Side) (bytes : List ℕ) (a b : Result (Frame × ℕ) WireRefusal) →
         IsBytes bytes → Decodes side bytes a → Decodes side bytes b →

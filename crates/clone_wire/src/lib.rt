@@ -13,6 +13,7 @@ mod numbers;
 mod payloads;
 mod reading;
 mod stage;
+mod taken;
 mod writing;
 
 pub use encoding::encode;
@@ -20,8 +21,8 @@ pub use fault::{HeadRefusal, WireRefusal};
 pub use frame::{Attempt, Frame, Side};
 pub use laws::{one_answer, one_spelling, spells_back};
 pub use limits::{
-    HEAD_BYTES, MOST_BITMAP, PAGE_AT_BYTES, PAGES_FIELDS, REDO_FIELDS, REINIT_FIELDS, SPACE_BYTES,
-    STAGE_FIELDS,
+    HEAD_BYTES, MOST_BITMAP, MOST_TAKEN, PAGE_AT_BYTES, PAGES_FIELDS, PARTIAL_BYTES, REDO_FIELDS,
+    REINIT_FIELDS, REINIT2_FIELDS, SPACE_BYTES, STAGE_FIELDS,
 };
 pub use reading::{decode, read_head};
 pub use stage::PageStage;

@@ -1,5 +1,5 @@
 use clone_base::PAGE_SIZE;
-use clone_chunk::MOST_CHUNKS;
+use clone_chunk::{MOST_CHUNKS, MOST_PARTIAL};
 
 /// The bytes of a frame's code and length.
 pub const HEAD_BYTES: usize = 5;
@@ -9,6 +9,15 @@ pub const MOST_BITMAP: usize = MOST_CHUNKS as usize / 8;
 
 /// The bytes of REINIT's fields before the bitmap.
 pub const REINIT_FIELDS: usize = 17;
+
+/// The bytes of REINIT2's fields without the bitmap and the partial chunks.
+pub const REINIT2_FIELDS: usize = 21;
+
+/// The bytes of a partial chunk.
+pub const PARTIAL_BYTES: usize = 5;
+
+/// The most bytes of a bitmap and of partial chunks.
+pub const MOST_TAKEN: usize = MOST_BITMAP + PARTIAL_BYTES * MOST_PARTIAL;
 
 /// The bytes of STAGE's fields before the spaces.
 pub const STAGE_FIELDS: usize = 43;

@@ -1,6 +1,6 @@
 //! The fields of each payload, at their distances from the beginning of the frame, in the order
 //! that `specs/Spelling.antt` gives. The payload begins at 5. A field out of its range is named by
-//! where it stands.
+//! the offset at which it begins.
 ghost use Rattle.std.specs.Prelude.{◌≡◌, ◌≤◌, ◌+◌, ◌/◌};
 ghost use Rattle.clone_base.specs.declared.limits.TheConstants.{PAGE_SIZE, SPACE_LIMIT};
 ghost use Rattle.clone_base.specs.declared.limits.TheConstants.{BLOCK_PAGES, BLOCK_BYTES};
@@ -100,7 +100,7 @@ pub(crate) fn reinit_of(alloc: Global, n: usize, reader: &mut Reader) -> Result<
     })
 }
 
-fn bitmap_of(
+pub(crate) fn bitmap_of(
     alloc: Global,
     at: usize,
     count: u64,
@@ -152,7 +152,7 @@ fn plan_of(alloc: Global, n: usize, reader: &mut Reader) -> Result<StagePlan, Fa
     requires { n ≤ SPACE_LIMIT }
     ensures { Gives (λ x. (x, reader.new)) result ((stage_plan n).read reader.old) }
 {
-    let most = if n == 0 { 4 } else { 1 };
+    let most = if n == 0 { 4 } else { 2 };
     let stage = number_in(17, 1, Numbers::between(1, most), reader)?;
     let chunks = number_in(18, 4, any_if(stage != 4, 0xFFFF_FFFF), reader)?;
     let checkpoint = number_in(22, 8, any_if(stage >= 3, u64::MAX), reader)?;
@@ -182,7 +182,11 @@ fn planned(
 {
     match stage {
         1 => StagePlan::FileCopy { chunks, spaces },
-        2 => StagePlan::PageCopy { chunks, position },
+        2 => StagePlan::PageCopy {
+            chunks,
+            position,
+            spaces,
+        },
         3 => StagePlan::RedoCopy {
             chunks,
             checkpoint,

@@ -6,14 +6,15 @@ ghost use Rattle.clone_wire.specs.Reading.{Gives, head_at, payload_at};
 use crate::fault::Fault;
 use crate::fields::number_in;
 use crate::limits::{
-    HEAD_BYTES, MOST_BITMAP, PAGE_AT_BYTES, PAGES_FIELDS, REDO_FIELDS, REINIT_FIELDS, SPACE_BYTES,
-    STAGE_FIELDS,
+    HEAD_BYTES, MOST_BITMAP, MOST_TAKEN, PAGE_AT_BYTES, PAGES_FIELDS, REDO_FIELDS, REINIT_FIELDS,
+    REINIT2_FIELDS, SPACE_BYTES, STAGE_FIELDS,
 };
 use crate::numbers::Numbers;
 use crate::payloads::{
     ack_of, attach_of, end_of, execute_of, init_of, pages_frame_of, redo_of, refused_of, reinit_of,
     stage_of,
 };
+use crate::taken::reinit2_of;
 use crate::{Frame, HeadRefusal, Side, WireRefusal};
 use clone_base::{BLOCK_BYTES, BLOCK_PAGES, SPACE_LIMIT};
 use clone_bytes::Reader;
@@ -34,7 +35,7 @@ fn codes(side: Side) -> Numbers
     ensures { result ≡ codes side }
 {
     match side {
-        Side::Command => Numbers::between(1, 6),
+        Side::Command => Numbers::between(1, 7),
         Side::Answer => Numbers::between(16, 20),
     }
 }
@@ -50,6 +51,7 @@ fn lengths(code: u64) -> Numbers
         4 => Numbers::only(1),
         5 => Numbers::only(9),
         6 => Numbers::only(0),
+        7 => Numbers::listed(REINIT2_FIELDS, 0, MOST_TAKEN, 1),
         16 => Numbers::listed(STAGE_FIELDS, 0, SPACE_LIMIT, SPACE_BYTES),
         17 => Numbers::listed(PAGES_FIELDS, 1, BLOCK_PAGES, PAGE_AT_BYTES),
         18 => Numbers::listed(REDO_FIELDS, 1, BLOCK_BYTES, 1),
@@ -70,6 +72,7 @@ fn payload_of(alloc: Global, code: u8, length: usize, reader: &mut Reader) -> Re
         4 => execute_of(reader),
         5 => ack_of(reader),
         6 => Ok(Frame::Exit),
+        7 => reinit2_of(alloc, length - REINIT2_FIELDS, reader),
         16 => stage_of(alloc, (length - STAGE_FIELDS) / SPACE_BYTES, reader),
         17 => pages_frame_of(alloc, (length - PAGES_FIELDS) / PAGE_AT_BYTES, reader),
         18 => redo_of(alloc, length - REDO_FIELDS, reader),
@@ -92,7 +95,7 @@ pub fn read_head(bytes: &[u8], side: Side) -> Result<(u8, u32), HeadRefusal>
 }
 
 /// The frame of this side whose spelling is at the front of the bytes, and the length of that
-/// spelling. Memory is taken once for a list in the frame, and only there.
+/// spelling. Memory is taken for the lists in the frame, and only there.
 pub fn decode(alloc: Global, bytes: &[u8], side: Side) -> Result<(Frame, usize), WireRefusal>
     ensures { Decodes side bytes.now result }
 {

@@ -1,31 +1,37 @@
 //! The spelling of a frame: code in 1 byte, length of the payload in 4, then the payload's fields
 //! in the order that `specs/Spelling.antt` gives, with nothing between them. Numbers have
-//! their highest byte first, and a list stands behind its length. A payload that names an attempt
+//! their highest byte first, and a list comes after its length. A payload that names an attempt
 //! begins with it, 12 bytes, but for INIT, where it is the last field.
 ghost use Rattle.std.specs.Prelude.{◌≡◌, ◌≤◌, ◌+◌, ◌*◌, ◌++◌, length, vec_len, OnOk};
 ghost use Rattle.std.specs.List.{flat_map};
 ghost use Rattle.byteorder.specs.Endian.{big_bytes};
 ghost use Rattle.clone_base.specs.declared.limits.TheConstants.{SPACE_LIMIT};
 ghost use Rattle.clone_base.specs.declared.limits.TheConstants.{BLOCK_PAGES, BLOCK_BYTES};
-ghost use Rattle.clone_wire.specs.declared.limits.TheConstants.{MOST_BITMAP};
-ghost use Rattle.clone_wire.specs.declared.limits.TheConstants.{REINIT_FIELDS, STAGE_FIELDS};
+ghost use Rattle.clone_wire.specs.declared.limits.TheConstants.{MOST_BITMAP, MOST_TAKEN};
+ghost use Rattle.clone_wire.specs.declared.limits.TheConstants.{REINIT_FIELDS, REINIT2_FIELDS};
+ghost use Rattle.clone_wire.specs.declared.limits.TheConstants.{STAGE_FIELDS, PARTIAL_BYTES};
 ghost use Rattle.clone_wire.specs.declared.limits.TheConstants.{PAGES_FIELDS, REDO_FIELDS};
 ghost use Rattle.clone_wire.specs.declared.limits.TheConstants.{SPACE_BYTES, PAGE_AT_BYTES};
 ghost use Rattle.clone_wire.specs.Spelling.{attempt_bytes, space_bytes, page_bytes, plan_bytes};
-ghost use Rattle.clone_wire.specs.Spelling.{flag, payload};
+ghost use Rattle.clone_wire.specs.Spelling.{partial_bytes, taken_bytes, flag, payload};
 ghost use Rattle.clone_chunk.specs.Plans.{stage_of, chunks_of, checkpoint_of, lsn_of};
 ghost use Rattle.clone_chunk.specs.Plans.{position_of, spaces_of};
 ghost use Rattle.clone_chunk.specs.Stages.{stage_number, copy_number};
 ghost use Rattle.clone_wire.specs.Stages.{page_number};
 ghost use Rattle.clone_bytes.specs.Fields.{IsBytes};
 ghost use Rattle.clone_chunk.specs.Bitmaps.{IsBitmap};
+ghost use Rattle.clone_chunk.specs.Partials.{ArePartials};
+ghost use Rattle.clone_chunk.specs.declared.partials.TheConstants.{MOST_PARTIAL};
 ghost use Rattle.clone_chunk.specs.Causes.{cause_number, cause_first, cause_second};
 ghost use Rattle.clone_wire.specs.Ranges.{HasWidth, AllAre, IsAttempt, IsSpace};
-ghost use Rattle.clone_wire.specs.Ranges.{IsPlan, IsPageAt, IsFrame};
+ghost use Rattle.clone_wire.specs.Ranges.{IsPlan, IsPageAt, IsChunkNumber, IsTakenBlocks, IsFrame};
 
 use crate::{Attempt, Frame, PageStage};
 use byteorder::{BigEndian, ByteOrder};
-use clone_chunk::{Bitmap, CloneCause, CopyStage, RedoBytes, SpaceSize, StagePlan};
+use clone_chunk::{
+    Bitmap, CloneCause, CopyStage, PartialChunk, Partials, RedoBytes, SpaceSize, StagePlan,
+    TakenBlocks,
+};
 use clone_page::{PageAt, Pages};
 use std::alloc::AllocError;
 
@@ -169,6 +175,57 @@ fn push_reinit(
     push_u8(text, stage.number())?;
     push_u32(text, finished.count())?;
     push_bytes(text, finished.bytes())
+}
+
+fn push_partial(text: &mut Vec<u8>, partial: &PartialChunk) -> Result<(), AllocError>
+    ensures text { OnOk result (text.new.items ≡ text.old.items
+        ++ big_bytes 4 partial.now.chunk ++ big_bytes 1 partial.now.mask) }
+    ensures long { OnOk result (vec_len text.new ≤ vec_len text.old + 5) }
+    ensures kept { OnOk result (IsChunkNumber partial.now) }
+{
+    push_u32(text, partial.chunk)?;
+    push_u8(text, partial.mask)
+}
+
+fn push_partials(text: &mut Vec<u8>, partials: &[PartialChunk]) -> Result<(), AllocError>
+    ensures text { OnOk result (text.new.items ≡ text.old.items
+        ++ flat_map partial_bytes partials.now) }
+    ensures long { OnOk result
+        (vec_len text.new ≤ vec_len text.old + PARTIAL_BYTES * length partials.now) }
+    ensures kept { OnOk result (AllAre IsChunkNumber partials.now) }
+{
+    for partial in partials {
+        push_partial(text, partial)?;
+    }
+    Ok(())
+}
+
+fn push_listed(text: &mut Vec<u8>, partials: &Partials) -> Result<(), AllocError>
+    ensures text { OnOk result (text.new.items ≡ text.old.items
+        ++ big_bytes 4 (length partials.now) ++ flat_map partial_bytes partials.now) }
+    ensures long { OnOk result
+        (vec_len text.new ≤ vec_len text.old + (4 + PARTIAL_BYTES * MOST_PARTIAL)) }
+    ensures kept { OnOk result (ArePartials partials.now × AllAre IsChunkNumber partials.now) }
+{
+    push_u32(text, partials.as_slice().len() as u32)?;
+    push_partials(text, partials.as_slice())
+}
+
+fn push_reinit2(
+    text: &mut Vec<u8>,
+    attempt: Attempt,
+    stage: CopyStage,
+    taken: &TakenBlocks,
+) -> Result<(), AllocError>
+    ensures text { OnOk result (text.new.items ≡ text.old.items ++ big_bytes 8 attempt.session
+        ++ big_bytes 4 attempt.incarnation ++ big_bytes 1 (copy_number stage)
+        ++ taken_bytes taken.now) }
+    ensures long { OnOk result
+        (vec_len text.new ≤ vec_len text.old + (REINIT2_FIELDS + MOST_TAKEN)) }
+    ensures kept { OnOk result (IsAttempt attempt × IsTakenBlocks taken.now) }
+{
+    push_reinit(text, attempt, stage, taken.finished())?;
+    push_listed(text, taken.partials())
 }
 
 fn push_staged(text: &mut Vec<u8>, attempt: Attempt, stage: CopyStage) -> Result<(), AllocError>
@@ -339,7 +396,7 @@ fn push_redo_block(
 pub(crate) fn push_payload(text: &mut Vec<u8>, frame: &Frame) -> Result<(), AllocError>
     ensures text { OnOk result (text.new.items ≡ text.old.items ++ payload frame.now) }
     ensures long { OnOk result
-        (vec_len text.new ≤ vec_len text.old + (REINIT_FIELDS + MOST_BITMAP)) }
+        (vec_len text.new ≤ vec_len text.old + (REINIT2_FIELDS + MOST_TAKEN)) }
     ensures kept { OnOk result (IsFrame frame.now) }
 {
     match frame {
@@ -356,6 +413,11 @@ pub(crate) fn push_payload(text: &mut Vec<u8>, frame: &Frame) -> Result<(), Allo
             stage,
             finished,
         } => push_reinit(text, *attempt, *stage, finished),
+        Frame::Reinit2 {
+            attempt,
+            stage,
+            taken,
+        } => push_reinit2(text, *attempt, *stage, taken),
         Frame::Execute { stage } => push_u8(text, stage.number()),
         Frame::Ack { stage, floor } => push_ack(text, *stage, *floor),
         Frame::Exit => Ok(()),

@@ -4,7 +4,7 @@ ghost use Rattle.clone_base.specs.declared.limits.TheConstants.{LSN_LIMIT, PAGE_
 ghost use Rattle.std.specs.Prelude.{◌≡◌, ◌≤◌, ◌+◌, ◌-◌, ◌%◌, IsTrue};
 
 use clone_base::{Counts, LSN_LIMIT, PAGE_SIZE};
-use clone_donor::Block;
+use clone_calls::Block;
 use clone_lay::{begin_copy, complete, lay_page, lay_redo, make_room, size_laws};
 use clone_memdisk::MemDisk;
 use clone_outside::CloneEnd;
@@ -56,7 +56,7 @@ impl Requester {
         Ok(Requester { disk, sizes })
     }
 
-    /// Lays a block. Redo lies behind this checkpoint.
+    /// Lays a block. Redo lies after this checkpoint.
     pub fn lay(self, checkpoint: u64, block: &Block) -> Result<Requester, Fail> {
         match block {
             Block::Pages(pages) => self.lay_pages(pages.as_slice()),
@@ -121,7 +121,7 @@ impl Requester {
     }
 }
 
-// Whether so many bytes of redo from an LSN on lie whole pages behind a checkpoint, within the log.
+// Whether so many bytes of redo from an LSN on lie whole pages after a checkpoint, within the log.
 fn is_behind(checkpoint: u64, from: u64, length: u64) -> bool
     ensures { IsTrue result → (checkpoint ≤ from) × ((from - checkpoint) % PAGE_SIZE ≡ 0)
         × (from + length ≤ LSN_LIMIT) }

@@ -91,7 +91,7 @@ fn copy_pages(
     caller: Caller,
     requester: Requester,
 ) -> Result<Requester, Fail> {
-    let acked = donor.ack(caller, 1, 0);
+    let acked = donor.ack(walk.alloc, caller, 1, 0);
     let info = acked.ok().ok_or("no copy of pages")?;
     assert!(rt; info.plan.stage() == Stage::PageCopy);
     walk.stage = 2;
@@ -115,7 +115,7 @@ fn stop(
     expected: &Expected,
 ) -> Result<StageInfo, Fail> {
     let end = donor.end();
-    let acked = donor.ack(caller, 2, donor.look());
+    let acked = donor.ack(walk.alloc, caller, 2, donor.look());
     let info = acked.ok().ok_or("no copy of redo")?;
     assert!(rt; info.plan.stage() == Stage::RedoCopy);
     assert_eq!(rt;
@@ -142,7 +142,7 @@ fn copy_redo(
         checkpoint: info.plan.checkpoint(),
     };
     let requester = copy_stage(rt, donor, walk, copy, requester)?;
-    let acked = donor.ack(caller, 3, 0);
+    let acked = donor.ack(walk.alloc, caller, 3, 0);
     let done = acked.ok().ok_or("not done")?;
     assert!(rt; done.plan.stage() == Stage::Done);
     Ok(requester)

@@ -9,8 +9,8 @@ returns-clause-chunks c = length-chunks
 pub returns-clause-blocks : goal.returns-clause-blocks
 returns-clause-blocks c = has_blocks
 
-pub returns-clause-numbered : goal.returns-clause-numbered
-returns-clause-numbered c = few_blocks
+pub returns-clause-few : goal.returns-clause-few
+returns-clause-few c = few_blocks
 
 pub returns-clause-sized : goal.returns-clause-sized
 returns-clause-sized c = block_sized

@@ -1,52 +1,31 @@
-use Rattle.std.proofs.Common.{◌≡◌, ◌+◌, ◌-◌, ◌*◌, true, false, sym, ◌∙◌, arith, inr}
-use Rattle.clone_bytes.specs.Formats.{least_of, most_of}
+use Rattle.std.proofs.Common.{Ok, sym, ap, ◌∙◌}
+use Rattle.std.proofs.lemmas.Result.{err_from_is_err_and}
 use Rattle.clone_wire.specs.Choices.{has_between}
 use Rattle.clone_wire.specs.Reading.{one_in}
-use Rattle.clone_wire.proofs.Digits.{room, goes_on, garbles}
+use Rattle.clone_wire.proofs.Choosing.{numbers_test}
+use Rattle.clone_wire.proofs.Spans.{none_left, span_left, garbled_at_once, short_at_once, whole_at_once}
 use Rattle.clone_wire.proofs.fields.number_in.Goals as goal
 
-pub overflow_mul-number : goal.overflow_mul-number
-overflow_mul-number c = let r = room c.loop-done.number c.loop-done.done 0 c.in_ok-byte.byte c.loop-done.invariant.below (omega arith) (omega (arith, c.requires.narrow, c.loop-done-test.true)) in omega (arith, r.small)
-
-pub overflow_add-number : goal.overflow_add-number
-overflow_add-number c = let r = room c.loop-done.number c.loop-done.done 0 c.in_ok-byte.byte c.loop-done.invariant.below (omega arith) (omega (arith, c.requires.narrow, c.loop-done-test.true)) in omega (arith, r.small)
-
-pub pow-unit-requires : goal.pow-unit-requires
-pow-unit-requires c =
-    let r = room c.loop-done.number c.loop-done.done (c.args.width - c.loop-done.done - 1) c.in_ok-byte.byte c.loop-done.invariant.below (omega arith) (omega (arith, c.requires.narrow, c.loop-done-test.true)) in
-    omega (arith, r.unit)
-
-pub overflow_mul-least : goal.overflow_mul-least
-overflow_mul-least c =
-    let r = room c.loop-done.number c.loop-done.done (c.args.width - c.loop-done.done - 1) c.in_ok-byte.byte c.loop-done.invariant.below (omega arith) (omega (arith, c.requires.narrow, c.loop-done-test.true)) in
-    rw c.pow-unit.ensures (omega (arith, r.whole, r.some))
-
-pub overflow_sub-unit : goal.overflow_sub-unit
-overflow_sub-unit c =
-    let r = room c.loop-done.number c.loop-done.done (c.args.width - c.loop-done.done - 1) c.in_ok-byte.byte c.loop-done.invariant.below (omega arith) (omega (arith, c.requires.narrow, c.loop-done-test.true)) in
-    omega (arith, r.some, c.pow-unit.ensures)
-
-pub overflow_add-least : goal.overflow_add-least
-overflow_add-least c =
-    let r = room c.loop-done.number c.loop-done.done (c.args.width - c.loop-done.done - 1) c.in_ok-byte.byte c.loop-done.invariant.below (omega arith) (omega (arith, c.requires.narrow, c.loop-done-test.true)) in
-    rw c.pow-unit.ensures (omega (arith, r.whole, r.some))
+pub returns-then-is_empty-clause-gives : goal.returns-then-is_empty-clause-gives
+unfolding one_in
+returns-then-is_empty-clause-gives c = none_left c.args.at c.args.width (has_between c.args.numbers) c.rest-bytes.result.now c.args.reader.now c.is_empty.result c.requires.wide c.is_empty.ensures c.if-is_empty.true c.rest-bytes.ensures
 
 pub returns-then-not-has_between-clause-gives : goal.returns-then-not-has_between-clause-gives
 unfolding one_in
 returns-then-not-has_between-clause-gives c =
-    let w : c.args.width - c.loop-done.done - 1 ≡ c.args.width - (c.loop-done.done + 1) = omega arith in
-    let none : has_between c.args.numbers (least_of (c.args.width - (c.loop-done.done + 1)) (c.loop-done.number * 256 + c.in_ok-byte.byte)) (most_of (c.args.width - (c.loop-done.done + 1)) (c.loop-done.number * 256 + c.in_ok-byte.byte)) ≡ false =
-    rw (c.pow-unit.ensures, w, c.if-not-has_between.true) at (sym c.has_between.ensures) in
-    sym c.loop-done.invariant.so_far ∙ garbles c.args.at c.args.numbers c.loop-done.number c.in_ok-byte.byte c.args.width c.loop-done.done c.loop-done.reader c.byte_of.new.reader c.loop-done-test.true c.in_ok-byte.ensures.gives none
+    let span = span_left c.args.width c.rest-bytes.result.now c.args.reader.now c.span_of-low.result.0 c.span_of-low.result.1 c.is_empty.result c.span_of-low.ensures.bytes c.requires.wide c.is_empty.ensures c.if-is_empty.false c.span_of-low.ensures.low c.span_of-low.ensures.high c.rest-bytes.ensures in
+    garbled_at_once (numbers_test c.args.numbers c.requires.steps) c.args.at c.args.width c.args.reader.now c.span_of-low.result.0 c.span_of-low.result.1 span (sym c.has_between.ensures ∙ c.if-not-has_between.true)
 
-pub loop-done-preserved : goal.loop-done-preserved
-loop-done-preserved c =
-    let r = room c.loop-done.number c.loop-done.done (c.args.width - c.loop-done.done - 1) c.in_ok-byte.byte c.loop-done.invariant.below (omega arith) (omega (arith, c.requires.narrow, c.loop-done-test.true)) in
-    let w : c.args.width - c.loop-done.done - 1 ≡ c.args.width - (c.loop-done.done + 1) = omega arith in
-    let one : has_between c.args.numbers (least_of (c.args.width - (c.loop-done.done + 1)) (c.loop-done.number * 256 + c.in_ok-byte.byte)) (most_of (c.args.width - (c.loop-done.done + 1)) (c.loop-done.number * 256 + c.in_ok-byte.byte)) ≡ true =
-    rw (c.pow-unit.ensures, w, c.if-not-has_between.false) at (sym c.has_between.ensures) in
-    record {
-      so_far = sym (goes_on c.args.at c.args.numbers c.loop-done.number c.in_ok-byte.byte c.args.width c.loop-done.done c.loop-done.reader c.byte_of.new.reader c.loop-done-test.true c.in_ok-byte.ensures.gives one) ∙ c.loop-done.invariant.so_far;
-      below = r.next;
-      one = inr one;
-    }
+pub returns-in_err-take-clause-gives : goal.returns-in_err-take-clause-gives
+unfolding one_in
+returns-in_err-take-clause-gives c =
+    let span = span_left c.args.width c.rest-bytes.result.now c.args.reader.now c.span_of-low.result.0 c.span_of-low.result.1 c.is_empty.result c.span_of-low.ensures.bytes c.requires.wide c.is_empty.ensures c.if-is_empty.false c.span_of-low.ensures.low c.span_of-low.ensures.high c.rest-bytes.ensures in
+    let p = err_from_is_err_and c.from_residual.result c.from_residual.ensures.1 in
+    rw (p.1, p.2) (short_at_once (numbers_test c.args.numbers c.requires.steps) c.args.at c.args.width c.args.reader.now c.span_of-low.result.0 c.span_of-low.result.1 span (sym c.has_between.ensures ∙ c.if-not-has_between.false) c.in_err-take.ensures.0)
+
+pub returns-clause-gives : goal.returns-clause-gives
+unfolding one_in
+returns-clause-gives c =
+    let span = span_left c.args.width c.rest-bytes.result.now c.args.reader.now c.span_of-low.result.0 c.span_of-low.result.1 c.is_empty.result c.span_of-low.ensures.bytes c.requires.wide c.is_empty.ensures c.if-is_empty.false c.span_of-low.ensures.low c.span_of-low.ensures.high c.rest-bytes.ensures in
+    let whole = whole_at_once (numbers_test c.args.numbers c.requires.steps) c.args.at c.args.width c.args.reader.now c.span_of-low.result.0 c.span_of-low.result.1 span (sym c.has_between.ensures ∙ c.if-not-has_between.false) c.in_ok-take.ensures.0 in
+    whole.0 ∙ ap (λ t. Ok (c.span_of-low.result.0, t)) (sym c.in_ok-take.ensures.2)

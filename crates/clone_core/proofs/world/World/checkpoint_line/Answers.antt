@@ -1,12 +1,13 @@
-use Rattle.std.proofs.Common.{refl, string_bytes}
+use Rattle.std.proofs.Common.{refl, string_bytes, Ok}
 use Rattle.clone_script.specs.declared.lines.Line.TheVariants as lines
-use Rattle.clone_plain.specs.Calls.{did_checkpoint, done}
+use Rattle.clone_plain.specs.declared.call.EngineAnswer.TheVariants as answers
+use Rattle.clone_plain.specs.declared.call.EngineCall.TheVariants as call
 use Rattle.clone_events.specs.Events.{made}
 use Rattle.clone_core.proofs.LineLemmas.{event_answers, stays_breaks, made_step}
 use Rattle.clone_core.proofs.world.World.checkpoint_line.Goals as goal
 
 pub returns-clause-ok : goal.returns-clause-ok
-returns-clause-ok g c = event_answers string_bytes c.args.self.now _ lines.Checkpoint (made (done (did_checkpoint c.checkpoint-lsn.result))) c.format.result (done (did_checkpoint c.checkpoint-lsn.result), refl, refl) c.checkpoint-lsn.ensures c.format.ensures.ok
+returns-clause-ok g c = event_answers string_bytes c.args.self.now _ lines.Checkpoint (made call.Checkpoint (Ok (answers.Checkpoint c.checkpoint-lsn.result))) c.format.result (Ok (answers.Checkpoint c.checkpoint-lsn.result), refl) c.checkpoint-lsn.ensures c.format.ensures.ok
 
 pub returns-clause-err : goal.returns-clause-err
-returns-clause-err g c = stays_breaks c.args.self.now _ lines.Checkpoint c.format.result (record { donor = (made_step _ _ _ c.checkpoint-lsn.ensures).1; begun = c.checkpoint-lsn.ensures.begun; tells = c.checkpoint-lsn.ensures.tells; clone = c.checkpoint-lsn.ensures.clone.is })
+returns-clause-err g c = stays_breaks c.args.self.now _ lines.Checkpoint c.format.result (record { donor = (made_step _ _ _ _ c.checkpoint-lsn.ensures).1; begun = c.checkpoint-lsn.ensures.begun; tells = c.checkpoint-lsn.ensures.tells; clone = c.checkpoint-lsn.ensures.clone.is })

@@ -1,6 +1,7 @@
-use Rattle.std.proofs.Common.{refl, string_bytes}
+use Rattle.std.proofs.Common.{string_bytes}
 use Rattle.clone_script.specs.declared.lines.Line.TheVariants as lines
-use Rattle.clone_plain.specs.Calls.{create, did_create}
+use Rattle.clone_plain.specs.declared.call.EngineAnswer.TheVariants as answers
+use Rattle.clone_plain.specs.declared.call.EngineCall.TheVariants as call
 use Rattle.clone_core.proofs.LineLemmas.{same_breaks, call_answers, call_breaks}
 use Rattle.clone_core.proofs.world.World.create_line.Goals as goal
 
@@ -9,7 +10,7 @@ returns-in_err-text-clause-err g c = same_breaks c.args.self.now (lines.Create c
 
 pub returns-clause-ok : goal.returns-clause-ok
 returns-clause-ok g c =
-    call_answers string_bytes c.args.self.now _ (lines.Create c.args.table c.args.buckets) (create c.args.table c.args.buckets) (λ _. did_create c.args.table c.args.buckets) c.create-called.result _ c.answered.result (λ es m. m) (λ _. refl) c.create-called.ensures (λ x is happened. c.in_ok-text.ensures.ok) c.answered.ensures.ok
+    call_answers string_bytes c.args.self.now _ (lines.Create c.args.table c.args.buckets) (call.Create c.args.table c.args.buckets) (λ _. answers.Create) c.create-called.result _ c.answered.result (λ es m. m) c.create-called.ensures (λ x is happened. c.in_ok-text.ensures.ok) c.answered.ensures.ok
 
 pub returns-clause-err : goal.returns-clause-err
-returns-clause-err g c = call_breaks c.args.self.now _ (lines.Create c.args.table c.args.buckets) (create c.args.table c.args.buckets) (λ _. did_create c.args.table c.args.buckets) c.create-called.result c.answered.result (λ cause. tt) c.create-called.ensures c.answered.ensures.err
+returns-clause-err g c = call_breaks c.args.self.now _ (lines.Create c.args.table c.args.buckets) (call.Create c.args.table c.args.buckets) (λ _. answers.Create) c.create-called.result c.answered.result (λ cause. tt) c.create-called.ensures c.answered.ensures.err

@@ -1,5 +1,6 @@
 use Rattle.std.proofs.Common.{◌∙◌, refl, sym, subst, Option}
-use Rattle.clone_plain.specs.Calls as call
+use Rattle.clone_plain.specs.declared.call.EngineAnswer.TheVariants as answers
+use Rattle.clone_plain.specs.declared.call.EngineCall.TheVariants as call
 use Rattle.clone_session.specs.Cloning.{Session}
 use Rattle.clone_engine.specs.Over.{over}
 use Rattle.clone_engine.specs.Serving.{Drops}
@@ -14,9 +15,9 @@ returns g c =
     let m = b.ensures.makes in
     let d = over a.self.now (g.D.PageDisk.state a.disk.now) in
     let t = over b.new.self (g.D.PageDisk.state b.new.disk) in
-    let answer = answer_of (λ (x : Unit {0}). call.did_drop a.table) b.result in
+    let answer = answer_of (λ (x : Unit {0}). answers.Drop) b.result in
     let none = no_session d.cloning.session (sym c.session.ensures ∙ c.in_default.is) in
     record {
-      acts = tables_acts a.table d t.engine none (call.drop a.table) answer t.cloning b.ensures.same c.requires.donor c.laws.ensures m.goes m.copies (λ taken. refl)
+      acts = tables_acts a.table d t.engine none (call.Drop a.table) answer t.cloning b.ensures.same c.requires.donor c.laws.ensures m.goes m.copies (λ taken. refl)
           (subst (λ (o : Option Session). Drops o a.table d (record d { engine = t.engine }) answer) (sym none) (record { steps = m.step; cloning = refl }));
     }

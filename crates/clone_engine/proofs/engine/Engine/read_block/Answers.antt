@@ -1,10 +1,15 @@
-use Rattle.std.proofs.Common.{List, sym, ap, ◌∙◌, subst}
-use Rattle.std.proofs.lemmas.Result.{MatchResult-from_err}
+use Rattle.std.proofs.Common.{List, Bool, Result, Err, sym, ap, ◌∙◌, subst}
 use Rattle.clone_outside.specs.DiskCalls.{DiskState}
 use Rattle.clone_page.specs.declared.pages.PageAt.{PageAt}
-use Rattle.clone_engine.specs.declared.block.Block.TheVariants as block
+use Rattle.clone_calls.specs.declared.block.Block.TheVariants as block
+use Rattle.clone_calls.specs.declared.answer.DonorAnswer.TheVariants as answer
+use Rattle.clone_calls.specs.declared.block.Block.{Block}
+use Rattle.clone_calls.specs.declared.block.BlockRefusal.{BlockRefusal}
+use Rattle.clone_calls.specs.declared.call.DonorCall.TheVariants as call
+use Rattle.clone_engine.specs.Acts.{CloneActs}
 use Rattle.clone_engine.specs.Over.{over}
-use Rattle.clone_engine.proofs.BlockLemmas.{HasBlock, MayGive, given, gives, has_pages, has_redo, misses, pages_sized, redo_sized, visits_none}
+use Rattle.clone_engine.proofs.SessionActs.{err_is}
+use Rattle.clone_engine.proofs.BlockLemmas.{HasBlock, MayGive, claimed_is, gives, has_pages, has_redo, kind_is, misses, unread, pages_sized, redo_sized, visits_none}
 use Rattle.clone_engine.proofs.engine.Engine.read_block.Goals as goal
 
 has_read : (g : _) (c : goal.After-answered-last g) → HasBlock c.args.caller c.args.chunk c.args.number (over c.args.self.now (g.D.PageDisk.state c.args.disk.now)) (g.D.PageDisk.state c.match-work.disk) c.match-work.block
@@ -37,10 +42,22 @@ redo-requires-clause-few g c =
 
 pub returns-in_err-pages-in-Pages-clause-acts : goal.returns-in_err-pages-in-Pages-clause-acts
 returns-in_err-pages-in-Pages-clause-acts g c =
-    MatchResult-from_err c.from_residual-in_err-pages-in-Pages.result _ _ c.from_residual-in_err-pages-in-Pages.ensures.0 (λ _. misses (over c.args.self.now (g.D.PageDisk.state c.args.disk.now)) (g.D.PageDisk.state c.pages.new.disk) c.pages.ensures.visits c.requires.donor)
+    let a = c.args in
+    let d = over a.self.now (g.D.PageDisk.state a.disk.now) in
+    let l = g.D.PageDisk.state c.pages.new.disk in
+    let why = c.in_err-pages-in-Pages.field-0.0 in
+    let visits = c.pages.ensures.visits in
+    subst (λ (r : Result (Block × Bool) BlockRefusal). CloneActs (call.ReadBlock a.caller a.stage a.chunk a.number) (answer.ReadBlock r) d (record d { engine = record d.engine { disk = l } }))
+    (sym (err_is c.from_residual-in_err-pages-in-Pages.result why c.from_residual-in_err-pages-in-Pages.ensures.1))
+    (misses a.caller a.stage a.chunk a.number d l why visits c.requires.donor (unread a.caller a.stage a.chunk a.number d l why visits c.in_err-pages-in-Pages.ensures.refused))
 
-pub returns-clause-gives : goal.returns-clause-gives
-returns-clause-gives g c = given c.args.caller c.args.chunk c.args.number _ _ c.match-work.block (has_read g c) c.answered-last.new.self c.answered-last.result c.answered-last.ensures
+pub returns-clause-kind : goal.returns-clause-kind
+returns-clause-kind g c = kind_is c.args.caller c.args.stage c.args.chunk c.args.number _ _ c.match-work.block c.in_ok-work.ensures.0 (has_read g c)
 
 pub returns-clause-acts : goal.returns-clause-acts
-returns-clause-acts g c = gives c.args.caller c.args.chunk c.args.number _ _ c.match-work.block (has_read g c) c.answered-last.new.self c.answered-last.result c.answered-last.ensures
+returns-clause-acts g c = gives c.args.caller c.args.stage c.args.chunk c.args.number _ _ c.match-work.block c.in_ok-work.ensures.0 (has_read g c) c.answered-last.new.self c.answered-last.result c.answered-last.ensures
+
+pub answered-last-requires : goal.answered-last-requires
+answered-last-requires g c =
+    let a = c.args in
+    record { claimed = claimed_is a.self.now.cloning a.caller a.stage a.chunk a.number c.in_ok-work.work c.in_ok-work.ensures.0 c.in_ok-work.ensures.1 }

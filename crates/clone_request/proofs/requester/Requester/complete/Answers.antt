@@ -23,7 +23,7 @@ returns-clause-completes g c = λ stop done stopped.
     let passed = stop_passed d stop d.cloning.stop c.end_of-end.result.position (done.position ∙ ap Some (sym end.end.position)) stopped in (
       passed.0,
       passed.1,
-      subst (IsStopOf stop) (sym (ap (λ (x : Cloning). x.stop) c.in-Ok.ensures.acts.does.0)) stopped,
-      none_before _ _ (ap (λ (x : Cloning). x.session) c.in-Ok.ensures.acts.does.0),
+      subst (IsStopOf stop) (sym (ap (λ (x : Cloning). x.stop) c.in-Ok.ensures.acts.does.1.0)) stopped,
+      none_before _ _ (ap (λ (x : Cloning). x.session) c.in-Ok.ensures.acts.does.1.0),
       completed_holds d told c.args.info.now stop done c.laws.ensures.donor c.laws.ensures.cloning c.end_of-end.result end.ranges end.end now c.in_ok-complete.ensures.ok,
     )

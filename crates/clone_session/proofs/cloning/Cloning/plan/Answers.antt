@@ -3,7 +3,7 @@ use Rattle.clone_chunk.specs.declared.plan.StagePlan.TheVariants.{RedoCopy}
 use Rattle.clone_snapshot.specs.StageLists.{chunk_count}
 use Rattle.clone_session.specs.Cloning.{Session}
 use Rattle.clone_session.proofs.PlanLemmas.{plan_redo}
-use Rattle.clone_session.proofs.cloning.Cloning.later_plan.Goals as goal
+use Rattle.clone_session.proofs.cloning.Cloning.plan.Goals as goal
 
 pub returns-in-RedoCopy : goal.returns-in-RedoCopy
 returns-in-RedoCopy c =

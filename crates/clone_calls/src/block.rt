@@ -30,7 +30,7 @@ pub enum BlockRefusal {
 impl From<CloneCause> for BlockRefusal {
     ghost use Rattle.std.specs.Prelude.{◌≡◌};
     ghost use Rattle.clone_session.specs.declared.refusal.CloneRefusal.TheVariants.{Because};
-    ghost use Rattle.clone_engine.specs.declared.block.BlockRefusal.TheVariants.{Clone};
+    ghost use Rattle.clone_calls.specs.declared.block.BlockRefusal.TheVariants.{Clone};
 
     ghost from_gives = { λ c e. e ≡ Clone (Because c) };
 
@@ -41,7 +41,7 @@ impl From<CloneCause> for BlockRefusal {
 
 impl From<EngineRefusal> for BlockRefusal {
     ghost use Rattle.std.specs.Prelude.{◌≡◌};
-    ghost use Rattle.clone_engine.specs.declared.block.BlockRefusal.TheVariants.{Engine};
+    ghost use Rattle.clone_calls.specs.declared.block.BlockRefusal.TheVariants.{Engine};
 
     ghost from_gives = { λ r e. e ≡ Engine r };
 
@@ -53,7 +53,7 @@ impl From<EngineRefusal> for BlockRefusal {
 impl From<AllocError> for BlockRefusal {
     ghost use Rattle.std.specs.Prelude.{◌≡◌};
     ghost use Rattle.clone_session.specs.declared.refusal.CloneRefusal.TheVariants.{NoMemory};
-    ghost use Rattle.clone_engine.specs.declared.block.BlockRefusal.TheVariants.{Clone};
+    ghost use Rattle.clone_calls.specs.declared.block.BlockRefusal.TheVariants.{Clone};
 
     ghost from_gives = { λ _ e. e ≡ Clone NoMemory };
 
