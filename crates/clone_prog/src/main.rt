@@ -45,7 +45,7 @@ fn run_program(rt: HostRuntime) -> Result<u8, Refusal> {
     Ok(ended.status)
 }
 
-/// The words of the command line behind the program's name, or none where one of them is no text.
+/// The words of the command line after the program's name, or none where one of them is no text.
 fn words_of(rt: &(impl Env + AllocGlobal)) -> Result<Vec<String>, AllocError> {
     match env::args(rt) {
         Ok(words) => words.skip(1).collect(rt.alloc()),

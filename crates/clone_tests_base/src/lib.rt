@@ -1,5 +1,5 @@
-//! The tests of the crates at the bottom: values and texts, chunks and blocks, pages, and what lies
-//! outside.
+//! The tests of the crates at the bottom: values and texts, chunks and blocks, sessions, pages, and
+//! what lies outside.
 //! They stand apart, since a crate with tests is proved twice.
 #![tactic(auto)]
 
@@ -12,6 +12,8 @@ mod chunk;
 #[cfg(test)]
 mod lay;
 #[cfg(test)]
+mod marks;
+#[cfg(test)]
 mod memdisk;
 #[cfg(test)]
 mod model;
@@ -20,7 +22,11 @@ mod outside;
 #[cfg(test)]
 mod page;
 #[cfg(test)]
+mod progress;
+#[cfg(test)]
 mod script;
+#[cfg(test)]
+mod session;
 #[cfg(test)]
 mod snapshot;
 #[cfg(test)]

@@ -1,4 +1,4 @@
-use clone_chunk::Stage;
+use clone_chunk::{PartialChunk, Partials, Stage};
 use clone_snapshot::{PageBlock, RedoBlock, Snapshot, page_chunks, redo_chunks};
 use std::alloc::{AllocError, Global};
 
@@ -111,5 +111,50 @@ fn blocks_of_redo(rt: HostRuntime) -> Result<(), AllocError> {
     for (chunk, block, redo) in blocks {
         assert!(rt; snapshot.redo_block(chunk, block) == redo, "at {chunk}");
     }
+    Ok(())
+}
+
+// A list of these partial chunks, as far as they ascend.
+fn partials(alloc: Global, chunks: &[(u32, u8)]) -> Result<Partials, AllocError> {
+    let mut list = Partials::new(alloc);
+    for (chunk, mask) in chunks {
+        let partial = PartialChunk {
+            chunk: *chunk,
+            mask: *mask,
+        };
+        let above = list.as_slice().iter().all(|p| p.chunk < partial.chunk);
+        if above && 1 <= *mask && *mask <= 254 && !list.is_full() {
+            list.push(partial)?;
+        }
+    }
+    Ok(list)
+}
+
+// Chunks of 8, 8, 1, 8 and 1 blocks. Chunk 0 is finished by its bit and chunk 2 by its mask. Of
+// chunk 1 the blocks 0 and 7 are kept. The mask of chunk 4 has a block that the chunk doesn't have,
+// and there is no chunk 5.
+#[test]
+fn reset_to_blocks(rt: HostRuntime) -> Result<(), AllocError> {
+    let spaces = Vec::from_slice(rt.alloc(), &[(0, 129), (5, 65)])?;
+    let mut snapshot = Snapshot::start(rt.alloc(), spaces)?;
+    assert!(rt; snapshot.claim(1) == Some(0) && snapshot.claim(1) == Some(1));
+    let masks = [
+        (1, 0b1000_0001),
+        (2, 0b0000_1001),
+        (4, 0b0000_0010),
+        (5, 0b0000_0001),
+    ];
+    let list = partials(rt.alloc(), &masks)?;
+    snapshot.reset_blocks(&[0b1110_0001], list.as_slice());
+    for (chunk, mask) in [(0, 0), (1, 0b1000_0001), (2, 1), (3, 0), (4, 0), (5, 0)] {
+        assert!(rt; snapshot.kept(chunk) == mask, "at {chunk}");
+    }
+    assert!(rt; snapshot.left() == 3 && !snapshot.is_claimed_by(1, 1));
+    for chunk in [1, 3, 4] {
+        assert!(rt; snapshot.claim(2) == Some(chunk));
+    }
+    assert!(rt; snapshot.is_last(1, 6) && !snapshot.is_last(1, 5) && snapshot.is_last(3, 7));
+    snapshot.reset_to(&[0b0000_0010]);
+    assert!(rt; snapshot.left() == 4 && snapshot.kept(1) == 0 && snapshot.claim(2) == Some(0));
     Ok(())
 }

@@ -1,0 +1,3 @@
+pub mod FetchedLemmas
+pub mod KeptLemmas
+pub mod StepLemmas

@@ -1,0 +1,5 @@
+pub mod Refusals
+pub mod Receptions
+pub mod Expecting
+pub mod Taking
+pub mod Showing

@@ -1,0 +1,4 @@
+pub mod AnswerLemmas
+pub mod CommandLemmas
+pub mod StepLemmas
+pub mod ServedLemmas
