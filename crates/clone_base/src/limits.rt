@@ -19,6 +19,12 @@ pub const TRANSACTION_LIMIT: u32 = 64;
 /// How many changes a transaction may have.
 pub const CHANGE_LIMIT: usize = 160;
 
+/// How many tasks may copy one clone. There is at least one.
+pub const MOST_TASKS: usize = 16;
+
+/// The highest number of losses that a clone may be let off.
+pub const MOST_LOSSES: u32 = 100;
+
 /// The space of a recipient's disk that holds the redo bytes. It and the spaces behind it are no
 /// tables.
 pub const REDO_SPACE: u32 = 0xFFFF_FF00;

@@ -58,7 +58,7 @@ impl Partials {
         self.list.len() == MOST_PARTIAL
     }
 
-    /// Adds a chunk at the end. The error is want of memory, and the list is as before.
+    /// Adds a chunk at the end. The error is that memory ran out, and the list is as before.
     pub fn push(&mut self, partial: PartialChunk) -> Result<(), AllocError>
         requires room { length self.old < MOST_PARTIAL }
         requires mask { IsMask partial.mask }

@@ -67,7 +67,7 @@ impl Spaces {
         self.list.len() == SPACE_LIMIT
     }
 
-    /// Adds a space at the end. The error is want of memory, and the list is as before.
+    /// Adds a space at the end. The error is that memory ran out, and the list is as before.
     pub fn push(&mut self, space: SpaceSize) -> Result<(), AllocError>
         requires { length self.old < SPACE_LIMIT }
         ensures ok { OnOk result (self.new ≡ self.old ++ space ∷ []) }

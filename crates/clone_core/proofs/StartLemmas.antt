@@ -98,7 +98,7 @@ module _ (d : staged.Donor) (old new : DiskState) (begun : finite.FinMap nat_cmp
   unended : HasEnded before.clone.progress → ⊥
   unended ended = subst HasEnded (ap progress_of none) ended
 
-  -- a fault came in the way, or want of memory
+  -- a fault came in the way, or memory ran out
   pub breaks : (s : State) → before ≡ s → Rose old.failures new.failures → Happens donor_of SystemStep s broke (after course.Broken)
   breaks s is rose =
       subst (λ (w : State). Happens donor_of SystemStep w broke (after course.Broken)) is

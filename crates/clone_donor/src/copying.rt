@@ -123,7 +123,7 @@ impl<D: PageDisk> Donor<D> {
 
     /// Archives so many bytes of the log, or as many as are left up to its end, or to the stop. The
     /// answer is the LSN up to which the redo is archived, or none exactly where no archive stands.
-    /// The error is want of memory, and nothing has changed then.
+    /// The error is that memory ran out, and nothing has changed then.
     pub fn archive(&mut self, limit: u64) -> Result<Option<u64>, AllocError>
         ensures acts { CloneActs (call.Archive limit) (answer.Archive result)
             self.old self.new }

@@ -134,7 +134,7 @@ impl<D: PageDisk> Donor<D> {
         self.engine.stop()
     }
 
-    /// Hands an order to the disk. The error is want of memory.
+    /// Hands an order to the disk. The error is that memory ran out.
     pub fn order(&mut self, order: DiskOrder) -> Result<(), AllocError>
         ensures disk { Orders order self.old.engine.disk self.new.engine.disk result }
         ensures acts { Acts act.Orders self.old self.new }

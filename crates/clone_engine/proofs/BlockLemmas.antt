@@ -468,7 +468,7 @@ misses caller stage chunk number d k why visits is refuses =
     let stays = retold_stays d k (ap (λ (e : Engine). e.disk.told) visits.same) d.cloning (like_same d.cloning) is in
     record { does = refuses; donor = stays.donor; taken = stays.taken }
 
--- for want of memory, or after a fault of the disk
+-- since memory ran out, or after a fault of the disk
 pub unread : (caller : Caller) (stage chunk number : ℕ) (d : Donor) (k : DiskState) (why : BlockRefusal) → OnlyVisits d.engine (record d.engine { disk = k }) → FailsReading d.engine (record d.engine { disk = k }) why → RefusesBlock caller stage chunk number d (record d { engine = record d.engine { disk = k } }) why
 unread caller stage chunk number d k (refused.Clone (refusal.Because cause)) visits fails = absurd (let e = fails in cc)
 unread caller stage chunk number d k (refused.Clone refusal.NoMemory) visits fails = (visits, refl)

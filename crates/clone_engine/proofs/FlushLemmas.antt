@@ -647,7 +647,7 @@ module _ (d : Donor) (t : flushing.State) (l : DiskState) (space number : ℕ) (
         goes_as true begun becomes = begun_goes begun becomes
         goes_as false none becomes = unbegun_goes none becomes
 
--- no flush begins for want of memory
+-- no flush begins where memory ran out
 pub unbegun : (d : Donor) (c : Cloning) (space number : ℕ) → IsDonor d → effects.Becomes c d.cloning → act.EngineActs (call.FlushBegin space number) (Err refusal.NoMemory) d (record { engine = d.engine; cloning = c })
 unbegun d c space number is becomes =
     let stays = like_stays d c (like c d.cloning becomes) is in

@@ -116,13 +116,13 @@ taken_from (Pages read) taken = record taken {
 }
 taken_from (Redo from bytes) taken = taken
 
--- pages aren't read, for want of memory, or after a fault of the disk
+-- pages aren't read, since memory ran out, or after a fault of the disk
 abbrev pub FailsReading : Engine → Engine → BlockRefusal → Type 0
 FailsReading e f (refused.Clone why) = why ≡ refusal.NoMemory
 FailsReading e f (refused.Engine why) =
     (why ≡ engine.Because DiskFault) × Rose e.disk.failures f.disk.failures
 
--- No block is answered: for the clone's cause, or after a fault of the disk, or for want of memory.
+-- No block is answered: for the clone's cause, or after a fault of the disk, or since memory ran out.
 -- Nothing but the disk's count of faults has changed.
 abbrev pub RefusesBlock : Caller → (stage chunk number : ℕ) → Donor → Donor → BlockRefusal → Type 0
 RefusesBlock caller stage chunk number d t (refused.Clone (refusal.Because cause)) =

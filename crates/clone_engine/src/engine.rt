@@ -97,7 +97,7 @@ impl Engine {
         self.cloning.last_stop()
     }
 
-    /// Hands an order to the disk. The error is want of memory.
+    /// Hands an order to the disk. The error is that memory ran out.
     pub fn order<D: PageDisk>(&self, order: DiskOrder, disk: &mut D) -> Result<(), AllocError>
         requires donor { IsDonor (over self.now (D.state disk.old)) }
         ensures disk { Orders order (D.state disk.old) (D.state disk.new) result }

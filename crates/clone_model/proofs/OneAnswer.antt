@@ -110,7 +110,7 @@ same_binlogs a b p q e =
     ] in
     same_commits a b p q lines
 
--- two answers to one text are one, want of memory aside
+-- two answers to one text are one, unless memory runs out
 pub one_answer : (text : List ℕ) (a b : Result (List Commit) ReadRefusal) → ReadsBinlog text a → ReadsBinlog text b → a ≢ Err NoMemory → b ≢ Err NoMemory → a ≡ b
 one_answer text (Ok a) (Ok b) h k p q = ap Ok (same_binlogs a b h.1 k.1 (sym h.0 ∙ k.0))
 one_answer text (Ok a) (Err (BadLine n)) h k p q = absurd (no_bad_line text a n h.0 h.1 k)

@@ -113,13 +113,13 @@ pub fn one_binlog()
         → a ≡ b }
 {}
 
-/// A text has one answer, want of memory aside.
+/// A text has one answer, unless memory runs out.
 pub fn one_answer()
     ensures { (text : List ℕ) (a b : Result (List Commit) ReadRefusal) → ReadsBinlog text a
         → ReadsBinlog text b → a ≢ Err NoMemory → b ≢ Err NoMemory → a ≡ b }
 {}
 
-/// A binlog is read back from its text, want of memory aside.
+/// A binlog is read back from its text, unless memory runs out.
 pub fn binlog_reads_back()
     ensures { (commits : List Commit) (answer : Result (List Commit) ReadRefusal)
         → AreCommits commits → ReadsBinlog (binlog_text commits) answer → answer ≢ Err NoMemory

@@ -124,7 +124,7 @@ pub trait PageDisk {
         ensures syncs { Syncs (state self.old) (state self.new) result };
 
     /// Tells a disk in memory what to do. A real disk does nothing, and answers Ok. The error is
-    /// want of memory, and the disk is as before.
+    /// that memory ran out, and the disk is as before.
     fn order(&mut self, order: DiskOrder) -> Result<(), AllocError>
         ensures given { Orders order (state self.old) (state self.new) result };
 

@@ -89,7 +89,8 @@ impl fmt::Display for Cause {
     }
 }
 
-/// Why a call of the donor has no answer: a cause that stands, or want of memory, which is free.
+/// Why a call of the donor has no answer: a cause that stands, or that memory ran out, which may
+/// happen at any call.
 #[derive(Clone, Copy, Debug, PartialEq, Eq, Drop)]
 pub enum EngineRefusal {
     /// There is a cause.

@@ -4,7 +4,7 @@ ghost use Rattle.clone_outside.specs.DiskCalls.{Alters, Asks};
 ghost use Rattle.clone_outside.specs.declared.mark.Mark.TheVariants.{InProgress};
 ghost use Rattle.clone_lay.specs.Marked.{marked};
 ghost use Rattle.clone_lay.specs.Sized.{AreSizes};
-ghost use Rattle.clone_tasks.specs.declared.table.TheConstants.{MOST_LOSSES, MOST_TASKS};
+ghost use Rattle.clone_base.specs.declared.limits.TheConstants.{MOST_LOSSES, MOST_TASKS};
 ghost use Rattle.clone_recipient.specs.Receptions.{IsNotEmpty, begun};
 ghost use Rattle.clone_recipient.specs.declared.refusal.BeginCause.TheVariants as causes;
 

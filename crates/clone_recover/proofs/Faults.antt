@@ -36,7 +36,7 @@ named s n fetch.NoMemory is = absurd (let e = is in cc)
 pub fetch_known : (s n : ℕ) (cause : FetchRefusal) (e : RecoverRefusal) → e ≡ not_fetched s n cause → e ≡ Incomplete → ⊥
 fetch_known s n cause e is same = named s n cause (sym is ∙ same)
 
--- A fault or want of memory stands behind each of them.
+-- A fault, or memory that ran out, stands behind each of them.
 
 disk_is_cause : (e : RecoverRefusal) (m : DiskImage) → IsOfDisk e → IsCause m e
 disk_is_cause Incomplete m is = absurd is

@@ -142,7 +142,7 @@ HasRedoOn told total = ForTold told (λ m. IsQuiet m → HasRedo m total)
 abbrev pub IsNoRedoOn : Option DiskImage → ℕ → RecoverRefusal → Type 0
 IsNoRedoOn told total refusal = ForTold told (λ m. IsQuiet m → IsNoRedo m total refusal)
 
--- a refusal that names the redo's space, or want of memory
+-- a refusal that names the redo's space, or memory ran out
 abbrev pub IsOfRedo : RecoverRefusal → Type 0
 IsOfRedo Incomplete = ⊥
 IsOfRedo (Damaged space page why.Header) = ⊥

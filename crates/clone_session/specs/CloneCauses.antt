@@ -5,7 +5,7 @@ use Rattle.std.specs.Prelude.{if◌then◌else◌, is_some, None, Some, slice_ge
 use Rattle.std.specs.Prelude.{option_and_then}
 use Rattle.std.specs.declared.option.Option.{Option}
 use Rattle.std.specs.Option.{option_or, option_map_or}
-use Rattle.clone_base.specs.declared.limits.TheConstants.{PAGE_SIZE}
+use Rattle.clone_base.specs.declared.limits.TheConstants.{MOST_TASKS, PAGE_SIZE}
 use Rattle.clone_chunk.specs.declared.chunk.Chunk.{Chunk}
 use Rattle.clone_chunk.specs.declared.chunk.Chunk.TheVariants.{Free, Claimed, Finished}
 use Rattle.clone_chunk.specs.Chunks.{left_of, is_kept}
@@ -14,7 +14,7 @@ use Rattle.clone_archive.specs.Archived.{Archived, archived_of}
 use Rattle.clone_snapshot.specs.StageLists.{Part, PagePart, RedoPart, stage_of, block_of}
 use Rattle.clone_session.specs.declared.caller.Caller.{Caller}
 use Rattle.clone_session.specs.declared.caller.Hello.{Hello}
-use Rattle.clone_session.specs.declared.limits.TheConstants.{VERSION, BLOCKS_VERSION, MOST_TASKS}
+use Rattle.clone_session.specs.declared.limits.TheConstants.{VERSION, BLOCKS_VERSION}
 use Rattle.clone_chunk.specs.declared.cause.CloneCause.{CloneCause}
 use Rattle.clone_chunk.specs.declared.cause.CloneCause.TheVariants.{Busy, VersionMismatch}
 use Rattle.clone_chunk.specs.declared.cause.CloneCause.TheVariants.{PageSizeMismatch}

@@ -2,14 +2,14 @@
 use Rattle.std.specs.Prelude.{ℕ, ◌≡◌, ◌≤◌, ◌<◌, ◌+◌, ◌-◌, List, length, min, None, Some, IsSome}
 use Rattle.std.specs.Prelude.{All}
 use Rattle.std.specs.declared.option.Option.{Option}
-use Rattle.clone_base.specs.declared.limits.TheConstants.{LSN_LIMIT, SPACE_LIMIT}
+use Rattle.clone_base.specs.declared.limits.TheConstants.{LSN_LIMIT, MOST_TASKS, SPACE_LIMIT}
 use Rattle.clone_track.specs.TrackedPages.{TrackedPages}
 use Rattle.clone_archive.specs.Archived.{Archived, archived_of}
 use Rattle.clone_snapshot.specs.StageLists.{StageList, Files, Pages, Redo, Nothing, chunk_count}
 use Rattle.clone_snapshot.specs.Snaps.{Snap}
 use Rattle.clone_model.specs.declared.config.TheConstants.{MOST_RING}
 use Rattle.clone_session.specs.declared.info.Stop.{Stop}
-use Rattle.clone_session.specs.declared.limits.TheConstants.{MOST_TASKS, VERSION}
+use Rattle.clone_session.specs.declared.limits.TheConstants.{VERSION}
 
 -- a session: who asked for it, the stage that it has come to with its chunks, and the spaces that
 -- were created while files were copied

@@ -6,10 +6,10 @@ ghost use Rattle.clone_session.specs.CloneCauses.{acknowledgement_cause, exit_ca
 ghost use Rattle.clone_session.specs.CloneCauses.{is_acknowledged, out_of_stage};
 ghost use Rattle.clone_chunk.specs.declared.cause.CloneCause.TheVariants.{NoSuchSession};
 
-use crate::limits::{BLOCKS_VERSION, MOST_TASKS, VERSION};
+use crate::limits::{BLOCKS_VERSION, VERSION};
 use crate::session::Session;
 use crate::{Caller, Cloning, Hello};
-use clone_base::PAGE_SIZE;
+use clone_base::{MOST_TASKS, PAGE_SIZE};
 use clone_chunk::{CloneCause, Stage};
 
 // What is against a call, as its first cause.
@@ -43,7 +43,7 @@ impl Cloning {
         if hello.compress {
             return Err(CloneCause::CompressionRefused);
         }
-        if hello.tasks == 0 || MOST_TASKS < hello.tasks {
+        if hello.tasks == 0 || MOST_TASKS < hello.tasks as usize {
             return Err(CloneCause::TasksOutOfRange {
                 tasks: u64::from(hello.tasks),
             });

@@ -23,5 +23,5 @@ pub use cloning::Cloning;
 pub use copying::BlockWork;
 pub use ending::Moment;
 pub use info::{StageInfo, Stop};
-pub use limits::{BLOCKS_VERSION, MOST_TASKS, VERSION};
+pub use limits::{BLOCKS_VERSION, VERSION};
 pub use refusal::CloneRefusal;

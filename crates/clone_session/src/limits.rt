@@ -3,6 +3,3 @@ pub const VERSION: u16 = 1;
 
 /// The version in which a later incarnation tells the blocks that it has, and they are kept.
 pub const BLOCKS_VERSION: u16 = 2;
-
-/// How many tasks a requester may have.
-pub const MOST_TASKS: u8 = 16;

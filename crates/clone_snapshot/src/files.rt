@@ -14,8 +14,8 @@ struct FileChunk {
     pages: Span,
 }
 
-/// How many chunks files have.
-pub(crate) fn file_chunks(spaces: &[(u32, u32)]) -> u32
+/// How many chunks FILE COPY has over these spaces, each with its number of pages.
+pub fn file_chunks(spaces: &[(u32, u32)]) -> u32
     requires { chunk_count (Files spaces.now) < 2 ^ 32 }
     ensures { result ≡ chunk_count (Files spaces.now) }
 {
@@ -25,8 +25,9 @@ pub(crate) fn file_chunks(spaces: &[(u32, u32)]) -> u32
         .sum()
 }
 
-/// The pages of a block of files, if there is such a block.
-pub(crate) fn block_of_files(spaces: &[(u32, u32)], chunk: u32, block: u8) -> Option<PageBlock>
+/// The pages of a block of FILE COPY over these spaces, each with its number of pages. None comes
+/// exactly where they have no such chunk, or this no such block.
+pub fn block_of_files(spaces: &[(u32, u32)], chunk: u32, block: u8) -> Option<PageBlock>
     ensures { option_map (λ pages. PagePart pages) result ≡
         block_of (Files spaces.now) chunk block }
 {

@@ -51,7 +51,7 @@ impl Model for Snapshot {
 
 impl Snapshot {
     /// FILE COPY over these spaces, each with its number of pages, in their order. No chunk is
-    /// claimed. The error is want of memory.
+    /// claimed. The error is that memory ran out.
     pub fn start(alloc: Global, spaces: Vec<(u32, u32)>) -> Result<Snapshot, AllocError>
         requires { chunk_count (Files spaces.items) < 2 ^ 32 }
         ensures list { IfOk result (λ s. s.list ≡ Files spaces.items) }

@@ -7,7 +7,7 @@ use Rattle.clone_tasks.specs.declared.end.CloneEnd.TheVariants as end
 use Rattle.clone_tasks.specs.declared.end.LossAnswer.{LossAnswer}
 use Rattle.clone_tasks.specs.declared.end.LossAnswer.TheVariants as loss
 use Rattle.clone_tasks.specs.declared.standing.Standing.TheVariants.{Apart}
-use Rattle.clone_tasks.specs.declared.table.TheConstants.{MOST_TASKS}
+use Rattle.clone_base.specs.declared.limits.TheConstants.{MOST_TASKS}
 use Rattle.clone_tasks.specs.Tables.{Table, incarnation_of}
 
 -- how many chunks that aren't finished keep their blocks

@@ -13,7 +13,7 @@ use Rattle.clone_tasks.specs.declared.standing.Standing.{Standing}
 use Rattle.clone_tasks.specs.declared.standing.Standing.TheVariants.{Apart, Joining, Ready}
 use Rattle.clone_tasks.specs.declared.standing.Standing.TheVariants.{Fetching, Served}
 use Rattle.clone_tasks.specs.declared.standing.Standing.TheVariants.{Acknowledging}
-use Rattle.clone_tasks.specs.declared.table.TheConstants.{MOST_LOSSES, MOST_TASKS}
+use Rattle.clone_base.specs.declared.limits.TheConstants.{MOST_LOSSES, MOST_TASKS}
 
 pub record Table : Type 0 where
   pub session : ℕ

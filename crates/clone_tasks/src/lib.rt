@@ -17,4 +17,4 @@ pub use end::{CloneEnd, LossAnswer};
 pub use laws::{rule_laws, sending_laws};
 pub use rule::{Link, Rule};
 pub use standing::{Phase, Standing};
-pub use table::{MOST_LOSSES, MOST_TASKS, TaskTable};
+pub use table::TaskTable;

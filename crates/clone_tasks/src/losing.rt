@@ -2,7 +2,8 @@ ghost use Rattle.std.specs.Prelude.{◌≡◌, IsTrue};
 ghost use Rattle.clone_tasks.specs.Losing.{kept_in, loss_answer, loss_table};
 ghost use Rattle.clone_tasks.specs.Tables.{is_running};
 
-use crate::{CloneEnd, LossAnswer, MOST_TASKS, Standing, TaskTable};
+use crate::{CloneEnd, LossAnswer, Standing, TaskTable};
+use clone_base::MOST_TASKS;
 use clone_chunk::MOST_PARTIAL;
 
 impl TaskTable {

@@ -5,7 +5,8 @@ ghost use Rattle.clone_tasks.specs.Tables.{renewed};
 ghost use Rattle.clone_tasks.specs.declared.standing.Phase.TheVariants.{Copying, Done};
 ghost use Rattle.clone_tasks.specs.declared.standing.Standing.TheVariants.{Ready};
 
-use crate::{CloneEnd, MOST_TASKS, Phase, Standing, TaskTable};
+use crate::{CloneEnd, Phase, Standing, TaskTable};
+use clone_base::MOST_TASKS;
 use clone_chunk::CopyStage;
 use clone_marks::Marks;
 

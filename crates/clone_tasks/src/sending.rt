@@ -4,8 +4,8 @@ ghost use Rattle.clone_tasks.specs.Sending.{Sends, IsFirst, Reattaches, after_se
 ghost use Rattle.clone_tasks.specs.Sending.{kept_floor};
 ghost use Rattle.clone_tasks.specs.Tables.{MayStand, attempt_of, with_standing};
 
-use crate::{MOST_TASKS, Phase, Rule, Standing, TaskTable};
-use clone_base::PAGE_SIZE;
+use crate::{Phase, Rule, Standing, TaskTable};
+use clone_base::{MOST_TASKS, PAGE_SIZE};
 use clone_chunk::CopyStage;
 use clone_wire::{Attempt, Frame};
 use std::alloc::{AllocError, Global};

@@ -3,18 +3,14 @@
 //! task 0 may have sent an ACK that awaits its answer, and each chunk is finished then.
 ghost use Rattle.std.specs.Prelude.{◌≡◌, ◌≤◌};
 ghost use Rattle.std.specs.Option.{option_copied};
+ghost use Rattle.clone_base.specs.declared.limits.TheConstants.{MOST_LOSSES};
 ghost use Rattle.clone_tasks.specs.Tables.{begun, incarnation_of, is_running, standing_of};
 
 use crate::{CloneEnd, Phase, Standing};
+use clone_base::MOST_TASKS;
 use clone_marks::Marks;
 use std::alloc::Global;
 use std::marker::Model;
-
-/// How many tasks a recipient may have.
-pub const MOST_TASKS: usize = 16;
-
-/// The highest limit of losses.
-pub const MOST_LOSSES: u32 = 100;
 
 /// The tasks of a recipient.
 #[derive(Drop)]

@@ -61,8 +61,8 @@ impl Tracker {
     }
 
     /// Makes room for one page more at least. While idle nothing changes, and no memory is taken.
-    /// The error is want of memory; that more than `TRACKED_LIMIT` pages would be noted counts as
-    /// such.
+    /// The error is that memory ran out; that more than `TRACKED_LIMIT` pages would be noted
+    /// counts as such.
     pub fn reserve(&mut self) -> Result<(), AllocError>
         ensures pages { self.new.pages ≡ self.old.pages }
         ensures kept { self.new.kept ≡ self.old.kept }
@@ -92,7 +92,7 @@ impl Tracker {
     }
 
     /// Makes room for a page and notes it. While idle nothing changes, and no memory is taken. The
-    /// error is want of memory, as with `reserve`.
+    /// error is that memory ran out, as with `reserve`.
     pub fn note(&mut self, space: u32, page: u32) -> Result<(), AllocError>
         ensures ok { OnOk result (self.new.pages ≡ noted (space, page) self.old.pages) }
         ensures kept { self.new.kept ≤ self.old.kept + 1 }

@@ -9,13 +9,13 @@ use Rattle.clap.specs.Walk.{is_empty}
 use Rattle.clap.specs.Facts.{parser_of_value}
 use Rattle.clap.specs.Words.{Accepts, IsUnsignedIn}
 use Rattle.clap.specs.Words.{Row, Rule, Text, fault_of, first_of, one_of, subcommand_of}
-use Rattle.clone_base.specs.declared.limits.TheConstants.{TABLE_LIMIT}
+use Rattle.clone_base.specs.declared.limits.TheConstants.{MOST_LOSSES, MOST_TASKS, TABLE_LIMIT}
 use Rattle.clone_model.specs.declared.config.TheConstants.{LEAST_POOL, MOST_POOL}
 use Rattle.clone_model.specs.declared.config.TheConstants.{LEAST_RING, MOST_RING}
 use Rattle.clone_model.specs.declared.line.TheConstants.{MOST_BUCKETS}
 use Rattle.clone_words.specs.Options.{program, run_options, directory_options}
 use Rattle.clone_words.specs.declared.options.TheConstants.{MOST_WRITERS, MOST_TRANSACTIONS}
-use Rattle.clone_words.specs.declared.options.TheConstants.{MOST_TASKS, MOST_RESTARTS, MOST_CUTS}
+use Rattle.clone_words.specs.declared.options.TheConstants.{MOST_CUTS}
 use Rattle.clone_words.specs.declared.command.Command.{Command}
 use Rattle.clone_words.specs.declared.command.Command.TheVariants as command
 use Rattle.clone_words.specs.declared.command.Place.{Place}
@@ -76,7 +76,7 @@ pub record IsInRange (run : Run) : Type 0 where
   pub tables : (1 ≤ run.tables) × (run.tables ≤ TABLE_LIMIT)
   pub buckets : (1 ≤ run.buckets) × (run.buckets ≤ MOST_BUCKETS)
   pub tasks : (1 ≤ run.tasks) × (run.tasks ≤ MOST_TASKS)
-  pub limit : run.limit ≤ MOST_RESTARTS
+  pub limit : run.limit ≤ MOST_LOSSES
   pub pool : (LEAST_POOL ≤ run.pool) × (run.pool ≤ MOST_POOL)
   pub ring : (LEAST_RING ≤ run.ring) × (run.ring ≤ MOST_RING)
   pub cuts : run.cuts ≤ MOST_CUTS

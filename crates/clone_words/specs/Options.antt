@@ -4,12 +4,12 @@ use Rattle.clap.specs.Words.{App, Rule, Shape, Text, new_rule}
 use Rattle.clap.specs.Simple.{new_shape, with_subcommand}
 use Rattle.clap.specs.declared.builder.action.ArgAction.TheVariants.{Set, SetTrue}
 use Rattle.clap.specs.declared.builder.value_parser.ValueParser.TheVariants.{Unsigned}
-use Rattle.clone_base.specs.declared.limits.TheConstants.{TABLE_LIMIT}
+use Rattle.clone_base.specs.declared.limits.TheConstants.{MOST_LOSSES, MOST_TASKS, TABLE_LIMIT}
 use Rattle.clone_model.specs.declared.config.TheConstants.{LEAST_POOL, MOST_POOL}
 use Rattle.clone_model.specs.declared.config.TheConstants.{LEAST_RING, MOST_RING}
 use Rattle.clone_model.specs.declared.line.TheConstants.{MOST_BUCKETS}
 use Rattle.clone_words.specs.declared.options.TheConstants.{MOST_WRITERS, MOST_TRANSACTIONS}
-use Rattle.clone_words.specs.declared.options.TheConstants.{MOST_TASKS, MOST_RESTARTS, MOST_CUTS}
+use Rattle.clone_words.specs.declared.options.TheConstants.{MOST_CUTS}
 
 -- `--name N`, where N is from `least` to `most`
 abbrev pub number : Text → ℕ → ℕ → Rule
@@ -43,7 +43,7 @@ run_options =
     ∷ or (codes "4") (number (codes "tables") 1 TABLE_LIMIT)
     ∷ or (codes "64") (number (codes "buckets") 1 MOST_BUCKETS)
     ∷ or (codes "4") (number (codes "tasks") 1 MOST_TASKS)
-    ∷ or (codes "16") (number (codes "limit") 0 MOST_RESTARTS)
+    ∷ or (codes "16") (number (codes "limit") 0 MOST_LOSSES)
     ∷ or (codes "256") (number (codes "pool") LEAST_POOL MOST_POOL)
     ∷ or (codes "1048576") (number (codes "ring") LEAST_RING MOST_RING)
     ∷ or (codes "0") (number (codes "cuts") 0 MOST_CUTS)

@@ -7,7 +7,7 @@ ghost use Rattle.clone_words.specs.Options.{program, run, of_directory, number, 
 
 use clap::builder::ValueParser;
 use clap::{Arg, ArgAction, Command};
-use clone_base::TABLE_LIMIT;
+use clone_base::{MOST_LOSSES, MOST_TASKS, TABLE_LIMIT};
 use clone_model::{LEAST_POOL, LEAST_RING, MOST_BUCKETS, MOST_POOL, MOST_RING};
 use std::alloc::{AllocError, Global};
 
@@ -16,12 +16,6 @@ pub const MOST_WRITERS: u64 = 16;
 
 /// The most transactions of a writer.
 pub const MOST_TRANSACTIONS: u64 = 100_000;
-
-/// The most tasks of `run`. There is at least one.
-pub const MOST_TASKS: u64 = 16;
-
-/// The most losses that a clone may be let off.
-pub const MOST_RESTARTS: u64 = 100;
 
 /// The most cuts that `run` may make.
 pub const MOST_CUTS: u64 = 100;
@@ -52,8 +46,8 @@ fn run<'a>(alloc: Global) -> Result<Command<'a>, AllocError>
         number(alloc, "transactions", 0, MOST_TRANSACTIONS).default_value("100"),
         number(alloc, "tables", 1, TABLE_LIMIT as u64).default_value("4"),
         number(alloc, "buckets", 1, u64::from(MOST_BUCKETS)).default_value("64"),
-        number(alloc, "tasks", 1, MOST_TASKS).default_value("4"),
-        number(alloc, "limit", 0, MOST_RESTARTS).default_value("16"),
+        number(alloc, "tasks", 1, MOST_TASKS as u64).default_value("4"),
+        number(alloc, "limit", 0, MOST_LOSSES as u64).default_value("16"),
         number(alloc, "pool", u64::from(LEAST_POOL), u64::from(MOST_POOL)).default_value("256"),
         number(alloc, "ring", LEAST_RING, MOST_RING).default_value("1048576"),
         number(alloc, "cuts", 0, MOST_CUTS).default_value("0"),

@@ -2,10 +2,10 @@ use Rattle.std.proofs.Common.{◌∙◌, refl, codes}
 use Rattle.clap.specs.Matches.{found_of}
 use Rattle.clap.specs.Walk.{rows_of}
 use Rattle.clap.proofs.WalkLemmas.{first_value-rows}
-use Rattle.clone_base.specs.declared.limits.TheConstants.{TABLE_LIMIT}
+use Rattle.clone_base.specs.declared.limits.TheConstants.{MOST_LOSSES, MOST_TASKS, TABLE_LIMIT}
 use Rattle.clone_model.specs.declared.config.TheConstants.{LEAST_POOL, MOST_POOL, LEAST_RING, MOST_RING}
 use Rattle.clone_model.specs.declared.line.TheConstants.{MOST_BUCKETS}
-use Rattle.clone_words.specs.declared.options.TheConstants.{MOST_WRITERS, MOST_TRANSACTIONS, MOST_TASKS, MOST_RESTARTS, MOST_CUTS}
+use Rattle.clone_words.specs.declared.options.TheConstants.{MOST_WRITERS, MOST_TRANSACTIONS, MOST_CUTS}
 use Rattle.clone_words.specs.Commands.{AreFound}
 use Rattle.clone_words.proofs.Values.{in_range, readable}
 use Rattle.clone_words.proofs.reading.run_of.Goals as goal
@@ -36,7 +36,7 @@ number_of-requires-6 c = record { found = readable (codes "tasks") 1 MOST_TASKS 
 
 pub number_of-requires-7 : goal.number_of-requires-7
 unfolding AreFound
-number_of-requires-7 c = record { found = readable (codes "limit") 0 MOST_RESTARTS (rows_of (found_of c.args.options.now)) (c.requires.found.1.1.1.1.1.1.0 refl) }
+number_of-requires-7 c = record { found = readable (codes "limit") 0 MOST_LOSSES (rows_of (found_of c.args.options.now)) (c.requires.found.1.1.1.1.1.1.0 refl) }
 
 pub number_of-requires-8 : goal.number_of-requires-8
 unfolding AreFound
@@ -77,7 +77,7 @@ returns-clause-ranges c = record {
   tables = in_range (codes "tables") 1 TABLE_LIMIT _ (rows_of (found_of c.args.options.now)) (c.requires.found.1.1.1.0 refl) c.number_of-4.ensures;
   buckets = in_range (codes "buckets") 1 MOST_BUCKETS _ (rows_of (found_of c.args.options.now)) (c.requires.found.1.1.1.1.0 refl) c.number_of-5.ensures;
   tasks = in_range (codes "tasks") 1 MOST_TASKS _ (rows_of (found_of c.args.options.now)) (c.requires.found.1.1.1.1.1.0 refl) c.number_of-6.ensures;
-  limit = (in_range (codes "limit") 0 MOST_RESTARTS _ (rows_of (found_of c.args.options.now)) (c.requires.found.1.1.1.1.1.1.0 refl) c.number_of-7.ensures).1;
+  limit = (in_range (codes "limit") 0 MOST_LOSSES _ (rows_of (found_of c.args.options.now)) (c.requires.found.1.1.1.1.1.1.0 refl) c.number_of-7.ensures).1;
   pool = in_range (codes "pool") LEAST_POOL MOST_POOL _ (rows_of (found_of c.args.options.now)) (c.requires.found.1.1.1.1.1.1.1.0 refl) c.number_of-8.ensures;
   ring = in_range (codes "ring") LEAST_RING MOST_RING _ (rows_of (found_of c.args.options.now)) (c.requires.found.1.1.1.1.1.1.1.1.0 refl) c.number_of-9.ensures;
   cuts = (in_range (codes "cuts") 0 MOST_CUTS _ (rows_of (found_of c.args.options.now)) (c.requires.found.1.1.1.1.1.1.1.1.1.0 refl) c.number_of-10.ensures).1;
