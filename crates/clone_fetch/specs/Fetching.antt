@@ -30,7 +30,7 @@ use Rattle.clone_tasks.specs.Tables.{Table, is_running}
 use Rattle.clone_recipient.specs.Expecting.{is_expected}
 use Rattle.clone_recipient.specs.Receptions.{Reception}
 use Rattle.clone_recipient.specs.Showing.{IsEndOf}
-use Rattle.clone_recipient.specs.Taking.{Takes, took_of}
+use Rattle.clone_recipient.specs.Taking.{KeepsMark, Takes, took_of}
 use Rattle.clone_fetch.specs.declared.answer.TaskAnswer.{TaskAnswer}
 use Rattle.clone_fetch.specs.declared.answer.TaskAnswer.TheVariants as says
 
@@ -84,11 +84,12 @@ pub data TakesFrame (task : ℕ) (got : Frame) (old new : Reception) (before aft
       → TakesFrame task got old new before after answer
   rejects : is_expected old task got ≡ false → Breaks (spelling got) old new answer
       → after ≡ before → TakesFrame task got old new before after answer
-  not_laid : is_expected old task got ≡ true
+  not_laid : is_expected old task got ≡ true → KeepsMark before.told after.told
       → new ≡ ended_as end.DiskFault (record old { sizes = new.sizes })
       → answer ≡ says.Ended end.DiskFault → TakesFrame task got old new before after answer
-  no_room : is_expected old task got ≡ true → new ≡ record old { sizes = new.sizes }
-      → answer ≡ says.NoMemory → TakesFrame task got old new before after answer
+  no_room : is_expected old task got ≡ true → KeepsMark before.told after.told
+      → new ≡ record old { sizes = new.sizes } → answer ≡ says.NoMemory
+      → TakesFrame task got old new before after answer
 
 abbrev pub is_lost : Link → Bool
 is_lost link.Absent = false

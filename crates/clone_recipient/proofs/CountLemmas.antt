@@ -1,10 +1,8 @@
 -- The chunks of a stage stay as many as it is cut into, with as many blocks.
-use Rattle.std.proofs.Common.{◌≡◌, ◌==◌, ◌∙◌, refl, ap, sym, subst, ℕ, Bool, true, false, List, Result, Ok, Err, Some, if◌then◌else◌}
+use Rattle.std.proofs.Common.{◌≡◌, ◌==◌, ◌∙◌, refl, ap, sym, subst, ℕ, Bool, true, false, Result, Ok, Err, Some, if◌then◌else◌}
 use Rattle.std.specs.Prelude.{OnErr, OnOk}
 use Rattle.clone_chunk.specs.declared.copy_stage.CopyStage.{CopyStage}
 use Rattle.clone_chunk.specs.declared.copy_stage.CopyStage.TheVariants.{FileCopy, PageCopy, RedoCopy}
-use Rattle.clone_snapshot.specs.Snaps.{spaces_of}
-use Rattle.clone_snapshot.specs.StageLists.{StageList, Files}
 use Rattle.clone_marks.specs.Blocks.{blocks_of}
 use Rattle.clone_marks.specs.Counts.{block_counts, unmarked}
 use Rattle.clone_marks.proofs.ForgetLemmas.{forgotten_blocks}
@@ -87,7 +85,3 @@ pub begun_counted : (stage : CopyStage) (t : Table) (r : Reception) → r.table 
 begun_counted stage t r is phase none =
     subst (λ (p : Phase). AreCounted p r) (sym (ap (λ (x : Table). x.phase) is ∙ phase))
     (ap (λ (x : Table). blocks_of x.marks) is ∙ ap blocks_of none ∙ begun_blocks (block_counts (list_of stage r)))
-
--- a list that is one of files is that of its spaces
-pub files_named : (list : StageList) (spaces : List (ℕ × ℕ)) → list ≡ Files spaces → list ≡ Files (spaces_of list)
-files_named list spaces is = is ∙ ap Files (sym (ap spaces_of is))

@@ -1,14 +1,14 @@
 -- What is known of answers that are expected.
-use Rattle.std.proofs.Common.{◌≡◌, ◌≢◌, ◌∙◌, refl, ap, sym, ◌<◌, ◌≤◌, ◌+◌, ◌*◌, ◌&&◌, ◌↔◌, ◌∷◌, [], ℕ, suc, Bool, true, false, List, length, Option, None, Some, is_some, ◌==◌, eqb-true, arith}
+use Rattle.std.proofs.Common.{◌≡◌, ◌≢◌, ◌∙◌, refl, ap, sym, ◌<◌, ◌≤◌, ◌+◌, ◌*◌, ◌&&◌, ◌∷◌, [], ℕ, suc, Bool, true, false, List, length, Option, option_map, None, Some, ◌==◌, eqb-true, arith}
 use Rattle.std.specs.List.{AllByRecursion}
 use Rattle.std.specs.Int.{div_ceil}
 use Rattle.std.specs.Prelude.{nat_le, nat_lt}
-use Rattle.std.proofs.lemmas.Bool.{leb-true, ltb-true, true≢false}
+use Rattle.std.proofs.lemmas.Bool.{leb-true, ltb-true}
 use Rattle.std.proofs.lemmas.List.Sums.{sum_by-cons}
 use Rattle.clone_base.specs.declared.limits.TheConstants.{LSN_LIMIT, SPACE_LIMIT}
 use Rattle.clone_model.specs.declared.line.TheConstants.{MOST_PAGES}
 use Rattle.clone_chunk.specs.declared.spaces.SpaceSize.{SpaceSize}
-use Rattle.clone_snapshot.specs.StageLists.{Files, Redo, Part, PagePart, RedoPart, chunk_count}
+use Rattle.clone_snapshot.specs.StageLists.{Files, Redo, Part, PagePart, chunk_count}
 use Rattle.clone_marks.specs.Counts.{pairs_of}
 use Rattle.clone_page.specs.declared.pages.PageAt.{PageAt}
 use Rattle.clone_chunk.specs.Plans as plans
@@ -38,19 +38,17 @@ at_long (a ∷ places) (p ∷ pages) other = false_behind (is_at a p) _ (at_long
     false_behind false b is = refl
 
 -- the pages of a block that is found
-pub places_at : (o : Option Part) (found : Option (List (ℕ × ℕ))) (places slice : List (ℕ × ℕ)) (pages : List PageAt) (answer : Bool) → ((ps : List (ℕ × ℕ)) → (found ≡ Some ps) ↔ (o ≡ Some (PagePart ps))) → found ≡ Some places → slice ≡ places → answer ≡ are_at slice pages → answer ≡ are_pages_of o pages
-places_at o found places slice pages answer finds is same fits =
-    fits ∙ ap (λ (ps : List (ℕ × ℕ)). are_at ps pages) same ∙ sym (ap (λ (part : Option Part). are_pages_of part pages) ((finds places).0 is))
+pub places_at : (o : Option Part) (found : Option (List (ℕ × ℕ))) (places slice : List (ℕ × ℕ)) (pages : List PageAt) (answer : Bool) → option_map (λ ps. PagePart ps) found ≡ o → found ≡ Some places → slice ≡ places → answer ≡ are_at slice pages → answer ≡ are_pages_of o pages
+places_at o found places slice pages answer has is same fits =
+    fits ∙ ap (λ (ps : List (ℕ × ℕ)). are_at ps pages) same ∙ ap (λ (part : Option Part). are_pages_of part pages) (sym (ap (option_map (λ ps. PagePart ps)) is) ∙ has)
 
 -- and what is in none
-pub none_at : (o : Option Part) (found : Option (List (ℕ × ℕ))) (pages : List PageAt) → ((ps : List (ℕ × ℕ)) → (found ≡ Some ps) ↔ (o ≡ Some (PagePart ps))) → found ≡ None → false ≡ are_pages_of o pages
-none_at None found pages finds none = refl
-none_at (Some (PagePart places)) found pages finds none = absurd (true≢false (sym (ap is_some ((finds places).1 refl)) ∙ ap is_some none))
-none_at (Some (RedoPart from count)) found pages finds none = refl
+pub none_at : (o : Option Part) (found : Option (List (ℕ × ℕ))) (pages : List PageAt) → option_map (λ ps. PagePart ps) found ≡ o → found ≡ None → false ≡ are_pages_of o pages
+none_at o found pages has none = ap (λ (part : Option Part). are_pages_of part pages) (sym (ap (option_map (λ ps. PagePart ps)) none) ∙ has)
 
 -- ---- what is known of such lists
 
-both : (a b : Bool) → (a && b) ≡ true → (a ≡ true) × (b ≡ true)
+pub both : (a b : Bool) → (a && b) ≡ true → (a ≡ true) × (b ≡ true)
 both true b is = (refl, is)
 both false b is = absurd (let e = is in cc)
 

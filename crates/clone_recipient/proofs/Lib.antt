@@ -1,5 +1,7 @@
 pub mod BlankLemmas
 pub mod CountLemmas
 pub mod ExpectLemmas
+pub mod MarkLemmas
+pub mod RecordLemmas
 pub mod SizeLemmas
 pub mod StepLemmas

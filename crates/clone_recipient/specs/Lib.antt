@@ -3,3 +3,4 @@ pub mod Receptions
 pub mod Expecting
 pub mod Taking
 pub mod Showing
+pub mod Record

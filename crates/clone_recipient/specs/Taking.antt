@@ -1,5 +1,5 @@
 -- WHAT A TAKEN ANSWER CHANGES.
-use Rattle.std.specs.Prelude.{ℕ, ◌≡◌, Bool, true, false, List, map, Some}
+use Rattle.std.specs.Prelude.{ℕ, ◌≡◌, Bool, true, false, List, map, option_map, Some}
 use Rattle.std.specs.declared.option.Option.{Option}
 use Rattle.clone_outside.specs.Disk.{DiskImage, Steps}
 use Rattle.clone_lay.specs.Laid.{laid_pages}
@@ -17,7 +17,8 @@ use Rattle.clone_page.specs.declared.pages.PageAt.{PageAt}
 use Rattle.clone_wire.specs.declared.frame.Frame.{Frame}
 use Rattle.clone_wire.specs.declared.frame.Frame.TheVariants as frame
 use Rattle.clone_wire.specs.Spelling.{code_of}
-use Rattle.clone_tasks.specs.Awaiting.{moves}
+use Rattle.clone_marks.specs.Blocks.{AreAllTaken}
+use Rattle.clone_tasks.specs.Awaiting.{is_opening, moves}
 use Rattle.clone_tasks.specs.Moves.{HasTaken, begins, joined_by, served}
 use Rattle.clone_tasks.specs.Tables.{Table}
 use Rattle.clone_tasks.specs.declared.end.CloneEnd.TheVariants as end
@@ -59,14 +60,20 @@ with_plan (Done checkpoint lsn position) r = r
 abbrev pub moved_by : StagePlan → Reception → Reception
 moved_by plan r = record (with_plan plan r) { table = table_after plan r.table }
 
--- A STAGE moves the recipient, or leaves it where it is.
+-- A STAGE moves the recipient, where each block of the stage before was taken, or leaves it where
+-- it is.
 abbrev pub TakesStage : Bool → StagePlan → ℕ → Reception → Reception
     → Option DiskImage → Option DiskImage → Type 0
 TakesStage true plan task old new told now =
     (new ≡ record (moved_by plan old) { sizes = new.sizes })
     × Steps told now (with_told (told_by plan))
+    × (is_opening old.table.phase ≡ false → AreAllTaken old.table.marks)
 TakesStage false plan task old new told now =
     (new ≡ record old { table = joined_by old.table task }) × (now ≡ told)
+
+-- THE MARK of a disk that tells what it holds is as it was: a copy that isn't complete stays one
+abbrev pub KeepsMark : Option DiskImage → Option DiskImage → Type 0
+KeepsMark told now = option_map (λ m. m.mark) now ≡ option_map (λ m. m.mark) told
 
 -- ---- a block
 

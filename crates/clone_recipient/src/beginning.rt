@@ -1,5 +1,5 @@
-ghost use Rattle.std.specs.Prelude.{◌≡◌, ◌≤◌, false, Err, IfOk, OnOk, IsTrue};
-ghost use Rattle.clone_outside.specs.Disk.{ForTold, Steps, blank};
+ghost use Rattle.std.specs.Prelude.{◌≡◌, ◌≤◌, false, Err, IfOk, OnErr, OnOk, IsTrue};
+ghost use Rattle.clone_outside.specs.Disk.{ForTold, IsBeforeOrAfter, Steps, blank};
 ghost use Rattle.clone_outside.specs.DiskCalls.{Alters, Asks};
 ghost use Rattle.clone_outside.specs.declared.mark.Mark.TheVariants.{InProgress};
 ghost use Rattle.clone_lay.specs.Marked.{marked};
@@ -12,13 +12,13 @@ use crate::{BeginCause, Reception};
 use clone_base::Counts;
 use clone_lay::begin_copy;
 use clone_outside::{CloneEnd, PageDisk, Refusal};
-use clone_snapshot::Snapshot;
 use clone_tasks::TaskTable;
 use std::alloc::Global;
 
 impl Reception {
     /// Begins a clone of so many tasks on an empty disk, by the mark of a copy that is in progress.
-    /// No donor is asked. Refused where the disk holds a space or a mark, and where it fails.
+    /// No donor is asked. Refused where the disk holds a space or a mark, which stays as it is then,
+    /// and where it fails.
     pub fn begin<R: PageDisk>(
         alloc: Global,
         disk: &mut R,
@@ -39,18 +39,21 @@ impl Reception {
         ensures sizes { IfOk result (λ r. ForTold (R.state disk.new).told (AreSizes r.sizes)) }
         ensures not_empty { result ≡ Err causes.NotEmpty
             → ForTold (R.state disk.old).told IsNotEmpty }
+        ensures untouched { result ≡ Err causes.NotEmpty
+            → (R.state disk.new).told ≡ (R.state disk.old).told }
+        ensures partial { OnErr result (IsBeforeOrAfter (R.state disk.old).told
+            (R.state disk.new).told (marked (InProgress session))) }
         ensures works { Alters (result ≡ Err causes.DiskFault)
             (R.state disk.old) (R.state disk.new) }
     {
         if !is_empty(alloc, disk)? {
             return Err(BeginCause::NotEmpty);
         }
-        let files = Snapshot::start(alloc, Vec::new(alloc))?;
         begin_copy(disk, session)?;
         Ok(Reception {
             table: TaskTable::new(alloc, session, tasks, limit, version),
             sizes: Counts::new(alloc),
-            files,
+            files: Vec::new(alloc),
             pages: 0,
             end: CloneEnd {
                 session,

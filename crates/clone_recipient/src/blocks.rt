@@ -1,6 +1,6 @@
 //! Whether pages or redo are those of a block.
 ghost use Rattle.std.specs.Prelude.{◌≡◌, ◌<◌, ◌≤◌, ◌-◌, ◌*◌, ◌^◌, min};
-ghost use Rattle.clone_snapshot.specs.StageLists.{Redo, block_of};
+ghost use Rattle.clone_snapshot.specs.StageLists.{Files, Redo, block_of};
 ghost use Rattle.clone_marks.specs.Counts.{counted_pages};
 ghost use Rattle.clone_recipient.specs.Expecting.{are_at, are_pages, are_pages_of, is_at, is_page};
 ghost use Rattle.clone_recipient.specs.Expecting.{place_of, size_at};
@@ -9,13 +9,13 @@ use crate::MOST_SPACE;
 use clone_base::{BLOCK_BYTES, BLOCK_PAGES};
 use clone_model::MOST_PAGES;
 use clone_page::PageAt;
-use clone_snapshot::{CHUNK_BYTES, CHUNK_PAGES, Snapshot};
+use clone_snapshot::{CHUNK_BYTES, CHUNK_PAGES, block_of_files};
 
-/// Whether pages are those of a block of what is listed.
-pub(crate) fn are_pages_of(files: &Snapshot, chunk: u32, block: u8, pages: &[PageAt]) -> bool
-    ensures { result ≡ are_pages_of (block_of files.now.list chunk block) pages.now }
+/// Whether pages are those of a block of these files, each with its number of pages.
+pub(crate) fn are_pages_of(files: &[(u32, u32)], chunk: u32, block: u8, pages: &[PageAt]) -> bool
+    ensures { result ≡ are_pages_of (block_of (Files files.now) chunk block) pages.now }
 {
-    match files.page_block(chunk, block) {
+    match block_of_files(files, chunk, block) {
         Some(places) => are_at(places.as_slice(), pages),
         None => false,
     }

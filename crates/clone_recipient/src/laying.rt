@@ -1,5 +1,5 @@
 //! What an answer brings is laid on the disk, page by page and space by space.
-ghost use Rattle.std.specs.Prelude.{◌<◌, OnOk};
+ghost use Rattle.std.specs.Prelude.{◌<◌, OnErr, OnOk};
 ghost use Rattle.std.specs.List.{AllByRecursion};
 ghost use Rattle.clone_model.specs.declared.line.TheConstants.{MOST_PAGES};
 ghost use Rattle.clone_outside.specs.Disk.{ForTold, Steps};
@@ -8,7 +8,7 @@ ghost use Rattle.clone_lay.specs.Laid.{laid_pages};
 ghost use Rattle.clone_lay.specs.Sized.{AreSizes};
 ghost use Rattle.clone_accepted.specs.Disk.{with_rooms};
 ghost use Rattle.clone_marks.specs.Counts.{pairs_of};
-ghost use Rattle.clone_recipient.specs.Taking.{laid_at};
+ghost use Rattle.clone_recipient.specs.Taking.{KeepsMark, laid_at};
 
 use clone_base::Counts;
 use clone_chunk::SpaceSize;
@@ -27,6 +27,8 @@ pub(crate) fn lay_pages<R: PageDisk>(
     ensures ok { OnOk result (Steps (R.state disk.old).told (R.state disk.new).told
         (laid_pages (laid_at pages.now))) }
     ensures sizes { OnOk result (ForTold (R.state disk.new).told (AreSizes sizes.new)) }
+    ensures mark { OnErr result
+        (KeepsMark (R.state disk.old).told (R.state disk.new).told) }
     ensures works { Works (R.state disk.old) (R.state disk.new) result }
 {
     for page in pages {
@@ -45,6 +47,8 @@ pub(crate) fn make_rooms<R: PageDisk>(
     ensures ok { OnOk result (Steps (R.state disk.old).told (R.state disk.new).told
         (with_rooms (pairs_of spaces.now))) }
     ensures sizes { OnOk result (ForTold (R.state disk.new).told (AreSizes sizes.new)) }
+    ensures mark { OnErr result
+        (KeepsMark (R.state disk.old).told (R.state disk.new).told) }
     ensures works { Works (R.state disk.old) (R.state disk.new) result }
 {
     for space in spaces {

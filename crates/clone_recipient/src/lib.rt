@@ -7,6 +7,7 @@ mod beginning;
 mod blocks;
 mod completing;
 mod expecting;
+mod laws;
 mod laying;
 mod limits;
 mod moving;
@@ -18,6 +19,7 @@ mod refusal;
 mod taking;
 mod took;
 
+pub use laws::record_laws;
 pub use limits::{MOST_COPIED, MOST_SPACE};
 pub use reception::Reception;
 pub use recipient::{BeginRefusal, Recipient};

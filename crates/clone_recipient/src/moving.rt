@@ -14,7 +14,7 @@ ghost use Rattle.clone_marks.specs.Counts.{block_counts, counted_pages, pairs_of
 ghost use Rattle.clone_tasks.specs.Moves.{begins};
 ghost use Rattle.clone_tasks.specs.declared.standing.Phase.TheVariants.{Copying};
 ghost use Rattle.clone_recipient.specs.Expecting.{are_spaces, fits};
-ghost use Rattle.clone_recipient.specs.Taking.{moved_by, told_by};
+ghost use Rattle.clone_recipient.specs.Taking.{KeepsMark, moved_by, told_by};
 ghost use Rattle.clone_recipient.specs.declared.limits.TheConstants.{MOST_COPIED};
 
 use crate::Reception;
@@ -22,7 +22,6 @@ use crate::laying::make_rooms;
 use clone_chunk::{CopyStage, SpaceSize, StagePlan};
 use clone_marks::Marks;
 use clone_outside::{CloneEnd, PageDisk, Refusal};
-use clone_snapshot::Snapshot;
 use std::alloc::{AllocError, Global};
 
 impl Reception {
@@ -42,6 +41,8 @@ impl Reception {
         ensures sizes { OnOk result
             (ForTold (R.state disk.new).told (AreSizes self.new.sizes)) }
         ensures kept { OnErr result (self.new ≡ record self.old { sizes = self.new.sizes }) }
+        ensures mark { OnErr result
+            (KeepsMark (R.state disk.old).told (R.state disk.new).told) }
         ensures works { Works (R.state disk.old) (R.state disk.new) result }
     {
         match plan {
@@ -80,7 +81,7 @@ impl Reception {
         ensures kept { OnErr result (self.new ≡ self.old) }
     {
         let marks = Marks::of_files(alloc, spaces)?;
-        let files = Snapshot::start(alloc, pairs_of(alloc, spaces)?)?;
+        let files = pairs_of(alloc, spaces)?;
         self.files = files;
         self.table.begin_stage(CopyStage::FileCopy, marks);
         Ok(())
@@ -107,6 +108,8 @@ impl Reception {
         ensures sizes { OnOk result
             (ForTold (R.state disk.new).told (AreSizes self.new.sizes)) }
         ensures kept { OnErr result (self.new ≡ record self.old { sizes = self.new.sizes }) }
+        ensures mark { OnErr result
+            (KeepsMark (R.state disk.old).told (R.state disk.new).told) }
         ensures works { Works (R.state disk.old) (R.state disk.new) result }
     {
         let marks = Marks::of_pages(alloc, pages)?;

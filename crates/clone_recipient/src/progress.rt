@@ -8,7 +8,7 @@ ghost use Rattle.clone_recipient.specs.Showing.{redo_chunks, status_of};
 use crate::Reception;
 use clone_chunk::CopyStage;
 use clone_progress::{CloneStatus, Copied, Progress, progress_text};
-use clone_snapshot::{CHUNK_PAGES, redo_chunks};
+use clone_snapshot::{CHUNK_PAGES, file_chunks, redo_chunks};
 use clone_tasks::{CloneEnd, Phase};
 use std::alloc::{AllocError, Global};
 
@@ -41,20 +41,20 @@ impl Reception {
             Phase::Copying {
                 stage: CopyStage::PageCopy,
             } => Copied::Pages {
-                files: self.files.count(),
+                files: file_chunks(&self.files),
                 finished,
                 chunks,
             },
             Phase::Copying {
                 stage: CopyStage::RedoCopy,
             } => Copied::Redo {
-                files: self.files.count(),
+                files: file_chunks(&self.files),
                 pages: self.page_chunks(),
                 finished,
                 chunks,
             },
             Phase::Done => Copied::All {
-                files: self.files.count(),
+                files: file_chunks(&self.files),
                 pages: self.page_chunks(),
                 redo: self.redo_chunks(),
             },

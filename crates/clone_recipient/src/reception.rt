@@ -1,5 +1,5 @@
 //! The chunks of the stage that is copied have as many blocks as what was told of it is cut into.
-//! The list of files is always one of files.
+//! The files have fewer than 2^32 chunks.
 ghost use Rattle.std.specs.Prelude.{◌≡◌, ◌≤◌, ◌<◌, true, IfOk, OnErr, OnOk, IsTrue, Some};
 ghost use Rattle.clone_tasks.specs.Losing.{loss_answer, loss_table};
 ghost use Rattle.clone_tasks.specs.Rules.{sending_rule};
@@ -10,7 +10,6 @@ ghost use Rattle.clone_recipient.specs.Receptions.{AreCounted};
 
 use clone_base::Counts;
 use clone_outside::CloneEnd as LaidEnd;
-use clone_snapshot::Snapshot;
 use clone_tasks::{CloneEnd, LossAnswer, TaskTable};
 use clone_wire::Frame;
 use std::alloc::{AllocError, Global};
@@ -21,7 +20,7 @@ use std::marker::Model;
 pub struct Reception {
     pub(crate) table: TaskTable,
     pub(crate) sizes: Counts,
-    pub(crate) files: Snapshot,
+    pub(crate) files: Vec<(u32, u32)>,
     pub(crate) pages: u32,
     pub(crate) end: LaidEnd,
     pub(crate) synced: bool,
@@ -29,10 +28,9 @@ pub struct Reception {
 }
 
 impl Model for Reception {
-    ghost use Rattle.std.specs.Prelude.{◌≡◌};
+    ghost use Rattle.std.specs.Prelude.{◌<◌, ◌^◌};
     ghost use Rattle.std.specs.Coded.{codes};
-    ghost use Rattle.clone_snapshot.specs.Snaps.{spaces_of};
-    ghost use Rattle.clone_snapshot.specs.StageLists.{Files};
+    ghost use Rattle.clone_snapshot.specs.StageLists.{Files, chunk_count};
     ghost use Rattle.clone_recipient.specs.Receptions.{Reception, AreCounted, sizes_code};
 
     ghost Value = { Reception };
@@ -42,7 +40,7 @@ impl Model for Reception {
     ghost view = { λ r. record {
       table = r.table;
       sizes = r.sizes;
-      files = spaces_of r.files.list;
+      files = r.files.items;
       pages = r.pages;
       checkpoint = r.end.checkpoint;
       lsn = r.end.lsn;
@@ -51,11 +49,11 @@ impl Model for Reception {
       recovered = r.recovered;
     } };
 
-    ghost invariant = { λ r. (r.files.list ≡ Files (spaces_of r.files.list))
+    ghost invariant = { λ r. (chunk_count (Files r.files.items) < 2 ^ 32)
         × AreCounted r.table.phase (record {
           table = r.table;
           sizes = r.sizes;
-          files = spaces_of r.files.list;
+          files = r.files.items;
           pages = r.pages;
           checkpoint = r.end.checkpoint;
           lsn = r.end.lsn;

@@ -1,5 +1,5 @@
 ghost use Rattle.std.specs.Prelude.{◌≡◌, ◌≤◌, IfErr, IfOk, OnOk};
-ghost use Rattle.clone_outside.specs.Disk.{ForTold, Steps, blank};
+ghost use Rattle.clone_outside.specs.Disk.{ForTold, IsBeforeOrAfter, Steps, blank};
 ghost use Rattle.clone_outside.specs.DiskCalls.{Alters};
 ghost use Rattle.clone_outside.specs.declared.mark.Mark.TheVariants.{InProgress};
 ghost use Rattle.clone_lay.specs.Marked.{marked};
@@ -14,6 +14,7 @@ use std::alloc::Global;
 
 /// A recipient: what it knows of a clone, and the disk that this is laid on. The calls of the
 /// reception that lay something take the disk.
+#[derive(Drop)]
 pub struct Recipient<R> {
     /// What it knows.
     pub reception: Reception,
@@ -22,6 +23,7 @@ pub struct Recipient<R> {
 }
 
 /// A clone isn't begun, and the disk is given back.
+#[derive(Drop)]
 pub struct BeginRefusal<R> {
     /// Why.
     pub cause: BeginCause,
@@ -31,7 +33,8 @@ pub struct BeginRefusal<R> {
 
 impl<R: PageDisk> Recipient<R> {
     /// Begins a clone of so many tasks on an empty disk, by the mark of a copy that is in progress.
-    /// No donor is asked. Refused where the disk holds a space or a mark, and where it fails.
+    /// No donor is asked. Refused where the disk holds a space or a mark, which stays as it is then,
+    /// and where it fails.
     pub fn begin(
         alloc: Global,
         disk: R,
@@ -53,6 +56,10 @@ impl<R: PageDisk> Recipient<R> {
             (λ r. ForTold (R.state r.disk).told (AreSizes r.reception.sizes)) }
         ensures not_empty { IfErr result (λ r. r.cause ≡ causes.NotEmpty
             → ForTold (R.state disk).told IsNotEmpty) }
+        ensures untouched { IfErr result (λ r. r.cause ≡ causes.NotEmpty
+            → (R.state r.disk).told ≡ (R.state disk).told) }
+        ensures partial { IfErr result (λ r. IsBeforeOrAfter (R.state disk).told
+            (R.state r.disk).told (marked (InProgress session))) }
         ensures refused { IfErr result (λ r. Alters (r.cause ≡ causes.DiskFault)
             (R.state disk) (R.state r.disk)) }
     {

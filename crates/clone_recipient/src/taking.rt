@@ -15,7 +15,7 @@ ghost use Rattle.clone_marks.specs.Blocks.{is_left};
 ghost use Rattle.clone_wire.specs.declared.frame.Frame.{Frame};
 ghost use Rattle.clone_tasks.specs.Awaiting.{moves};
 ghost use Rattle.clone_recipient.specs.Expecting.{fits, fits_redo, is_expected};
-ghost use Rattle.clone_recipient.specs.Taking.{HasMarked, Takes, TakesStage, laid_at, took_of};
+ghost use Rattle.clone_recipient.specs.Taking.{HasMarked, KeepsMark, Takes, TakesStage, laid_at, took_of};
 ghost use Rattle.clone_recipient.specs.declared.refusal.TakeRefusal.TheVariants as refused;
 
 use crate::laying::lay_pages;
@@ -31,7 +31,7 @@ use std::alloc::Global;
 impl Reception {
     /// Takes a frame that has come for a task. `Unexpected` comes exactly where the task doesn't
     /// await it, with that very frame, and nothing has changed. After another error nothing has
-    /// changed but the disk, and the copy is to be given up.
+    /// changed but the disk, whose mark is as it was, and the copy is to be given up.
     pub fn take<R: PageDisk>(
         &mut self,
         alloc: Global,
@@ -52,6 +52,8 @@ impl Reception {
         ensures sizes { OnOk result
             (ForTold (R.state disk.new).told (AreSizes self.new.sizes)) }
         ensures kept { OnErr result (self.new ≡ record self.old { sizes = self.new.sizes }) }
+        ensures mark { OnErr result
+            (KeepsMark (R.state disk.old).told (R.state disk.new).told) }
         ensures works { Alters (result ≡ Err refused.DiskFault)
             (R.state disk.old) (R.state disk.new) }
     {
@@ -78,6 +80,8 @@ impl Reception {
         ensures sizes { OnOk result
             (ForTold (R.state disk.new).told (AreSizes self.new.sizes)) }
         ensures kept { OnErr result (self.new ≡ record self.old { sizes = self.new.sizes }) }
+        ensures mark { OnErr result
+            (KeepsMark (R.state disk.old).told (R.state disk.new).told) }
         ensures works { Works (R.state disk.old) (R.state disk.new) result }
     {
         match frame {
@@ -122,6 +126,8 @@ impl Reception {
         ensures sizes { OnOk result
             (ForTold (R.state disk.new).told (AreSizes self.new.sizes)) }
         ensures kept { OnErr result (self.new ≡ record self.old { sizes = self.new.sizes }) }
+        ensures mark { OnErr result
+            (KeepsMark (R.state disk.old).told (R.state disk.new).told) }
         ensures works { Works (R.state disk.old) (R.state disk.new) result }
     {
         if self.table.moves(task) {
@@ -148,6 +154,8 @@ impl Reception {
         ensures sizes { OnOk result
             (ForTold (R.state disk.new).told (AreSizes self.new.sizes)) }
         ensures kept { OnErr result (self.new ≡ record self.old { sizes = self.new.sizes }) }
+        ensures mark { OnErr result
+            (KeepsMark (R.state disk.old).told (R.state disk.new).told) }
         ensures works { Works (R.state disk.old) (R.state disk.new) result }
     {
         lay_pages(disk, &mut self.sizes, pages)?;
@@ -174,6 +182,8 @@ impl Reception {
         ensures sizes { OnOk result
             (ForTold (R.state disk.new).told (AreSizes self.new.sizes)) }
         ensures kept { OnErr result (self.new ≡ record self.old { sizes = self.new.sizes }) }
+        ensures mark { OnErr result
+            (KeepsMark (R.state disk.old).told (R.state disk.new).told) }
         ensures works { Works (R.state disk.old) (R.state disk.new) result }
     {
         lay_redo(disk, &mut self.sizes, self.end.checkpoint, from, bytes)?;
