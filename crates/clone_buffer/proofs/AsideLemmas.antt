@@ -1,6 +1,6 @@
 -- A buffer of which a frame is set aside for a page, or is so no more.
-use Rattle.std.proofs.Common.{◌≡◌, ◌≢◌, ◌<◌, ◌⊎◌, inl, inr, ℕ, true, List, length, set, refl, sym, ap, subst, ◌∙◌, Option, Some, None, Result, Ok, Err, MatchOption, IsSome, IsTrue}
-use Rattle.clone_buffer.proofs.Common.{cases_eq, get_or-set_same, get_or-set_other, DiskImage, Image, replayed, Content, Unused, Fresh, Loading, Frame, PageName, FetchRefusal, no_frame, frame_at, name_of, holder, loader, loading_of, Frames, IsPool, IsVictim, used, with_frame, Buffered, IsBuffer, Shown, Shows, Beside, IsKept, IsKeptPage, frame_of}
+use Rattle.std.proofs.Common.{◌≡◌, ◌≢◌, ◌<◌, ◌⊎◌, inl, inr, ℕ, List, length, set, refl, sym, ap, subst, ◌∙◌, Option, Some, None, Result, Ok, Err, MatchOption, IsSome, IsTrue}
+use Rattle.clone_buffer.proofs.Common.{cases_eq, get_or-set_same, get_or-set_other, DiskImage, Image, replayed, Content, Unused, Fresh, Loading, Frame, PageName, FetchRefusal, no_frame, frame_at, name_of, holder, loader, loading_of, Frames, IsPool, IsVictim, used, with_frame, Buffered, IsBuffer, Shown, Shows, Beside, IsKeptPage}
 use Rattle.clone_image.specs.Image.{page_of}
 use Rattle.clone_pool.specs.Frames.{left_in, emptied, aside_for, discarded}
 use Rattle.clone_pool.specs.declared.frame.Content.TheVariants.{Held}

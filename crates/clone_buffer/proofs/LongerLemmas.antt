@@ -1,14 +1,12 @@
 -- A mini-transaction that makes a space longer, and changes its new pages.
-use Rattle.std.proofs.Common.{◌≡◌, ◌≢◌, ◌<◌, ◌≤◌, ◌+◌, ◌==◌, ◌^◌, ◌⊎◌, inl, inr, ◌++◌, ℕ, Bool, true, false, List, [], ◌∷◌, length, refl, sym, ap, subst, ◌∙◌, arith, Option, Some, None, Result, option_map, IsSome, IsTrue, if◌then◌else◌}
+use Rattle.std.proofs.Common.{◌≡◌, ◌≢◌, ◌<◌, ◌≤◌, ◌+◌, ◌==◌, ◌^◌, ◌⊎◌, inl, inr, ◌++◌, ℕ, Bool, true, false, List, [], ◌∷◌, length, refl, sym, ap, subst, ◌∙◌, arith, Option, Some, None, Result, IsSome, IsTrue, if◌then◌else◌}
 use Rattle.clone_buffer.proofs.Common.{cases_eq, cases_lt, false≢true, AllByRecursion, DiskImage, zero_page, Record, spelling, Image, replayed, IsSpelled, Standing, past_end, stands, redone, HasSpace, ends, touches, resets, passes, free_in, LogFull, Content, Unused, Fresh, Loading, PageName, frame_at, Frames, IsPool, Buffered, IsBuffer, Shown, Shows, Beside, IsKept, HasFrame, any_names, written, Writes}
 use Rattle.std.proofs.lemmas.Bool.{eq-eqb, lt-ltb, le-ltb}
 use Rattle.clone_mtr.specs.declared.record.Record.TheVariants.{Extend}
-use Rattle.clone_image.specs.Image.{page_of, page_count, with_pages, with_edit, extended}
-use Rattle.clone_image.specs.Image as image_is
+use Rattle.clone_image.specs.Image.{page_of, page_count}
 use Rattle.clone_image.specs.Replay.{end_of}
 use Rattle.clone_image.specs.Redone.{made, standing_at}
-use Rattle.clone_image.proofs.Pages.{records_counts, records_pages}
-use Rattle.clone_undo.specs.Changes as undo
+use Rattle.clone_image.proofs.Pages.{records_counts}
 use Rattle.clone_law.specs.Touches.{Touch, reaches, reached, applied, Sound, Ordered}
 use Rattle.clone_ring.specs.Window as ring
 use Rattle.clone_pool.specs.declared.frame.Content.TheVariants.{Held}

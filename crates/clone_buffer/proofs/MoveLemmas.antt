@@ -1,6 +1,6 @@
 -- A buffer stands, whatever is done to a frame that leaves its page as it is.
 use Rattle.std.proofs.Common.{◌≡◌, ◌<◌, ◌&&◌, ◌==◌, ◌-◌, ℕ, Bool, true, false, List, length, refl, sym, ap, subst, ◌∙◌, Option, Some, None, Ok, Err, Result, MatchOption, if◌then◌else◌}
-use Rattle.clone_buffer.proofs.Common.{DiskImage, Window, Frame, Unused, PageName, FetchRefusal, frame_at, is_fresh, holder, touched, freshened, next_use, Frames, IsPool, IsFrameFor, IsVictim, used, with_frame, Buffered, Beside, frame_of, IsKeptPage, IsKept}
+use Rattle.clone_buffer.proofs.Common.{DiskImage, Window, Frame, Unused, PageName, FetchRefusal, frame_at, is_fresh, holder, touched, freshened, next_use, Frames, IsPool, IsFrameFor, used, with_frame, Buffered, Beside, frame_of, IsKeptPage, IsKept}
 use Rattle.std.proofs.lemmas.List.{length-set}
 use Rattle.clone_pool.specs.Frames.{pinned, unpinned}
 use Rattle.clone_pool.specs.Pool.{Freshens, TakesFrame, with_fresh}

@@ -1,14 +1,14 @@
 -- One page of a buffer over a disk that tells what it holds, in the words of the law of one page.
-use Rattle.std.specs.Prelude.{ℕ, ◌≡◌, ◌&&◌, Bool, true, false, List, None, Some, slice_get, option_map, if◌then◌else◌}
+use Rattle.std.specs.Prelude.{ℕ, ◌≡◌, ◌==◌, ◌&&◌, Bool, true, false, List, None, Some, slice_get, option_map, if◌then◌else◌}
 use Rattle.std.specs.declared.option.Option.{Option}
 use Rattle.std.specs.FinMap as finite
 use Rattle.clone_outside.specs.Disk.{DiskImage, page_of}
 use Rattle.clone_outside.specs.declared.disk.Held.{Held}
 use Rattle.clone_mtr.specs.declared.record.Record.{Record}
 use Rattle.clone_image.specs.Replay.{first_lsn}
-use Rattle.clone_image.specs.Redone.{Standing, no_space, past_end, stands, redone}
+use Rattle.clone_image.specs.Redone.{Standing, no_space, past_end, stands, made, redone}
 use Rattle.clone_law.specs.Machine as machine
-use Rattle.clone_law.specs.Machine.{Copy, PageEngine, Flight, NoFiles, PageWorld}
+use Rattle.clone_law.specs.Machine.{Copy, PageEngine, Flight, NoFiles, PageWorld, created}
 use Rattle.clone_pool.specs.declared.frame.Frame.{Frame}
 use Rattle.clone_pool.specs.declared.frame.Flush.{Flush}
 use Rattle.clone_pool.specs.declared.frame.Flush.TheVariants.{Idle, Begun, Failed}
@@ -22,6 +22,12 @@ Copies = ℕ → ℕ → Copy
 -- no clone is under way
 abbrev pub no_copies : Copies
 no_copies = λ space number. machine.Idle
+
+-- what a clone has of each page after a space of so many pages was made: each page of it starts as
+-- it was made
+abbrev pub after_create : ℕ → ℕ → Copies → Copies
+after_create space pages copies = λ s number.
+    if s == space then created (made number pages) (copies s number) else copies s number
 
 -- no clone is in the FILE COPY of the space
 abbrev pub NoFilesOf : ℕ → Copies → Type 0

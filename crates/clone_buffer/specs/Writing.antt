@@ -19,7 +19,7 @@ use Rattle.clone_pool.specs.Index.{is_name_of}
 use Rattle.clone_pool.specs.Frames.{frame_at, holder, page_changed, changed}
 use Rattle.clone_pool.specs.Pool.{Frames, with_frame}
 use Rattle.clone_buffer.specs.Buffered.{Buffered, image_of}
-use Rattle.clone_buffer.specs.OnePage.{Copies, NoFilesOf}
+use Rattle.clone_buffer.specs.OnePage.{Beside, after_create}
 
 -- the frame of the page that the record names, if it has one
 abbrev pub named_frame : List Frame → Record → Option ℕ
@@ -101,14 +101,11 @@ HasMade (Create space pages ∷ rest) m =
     finite.get m.spaces space ≡ Some (replicate pages disk.zero_page)
 HasMade (Drop space ∷ rest) m = ⊥
 
--- no clone is in the FILE COPY of the space that the records make
-abbrev pub NoFilesOfMade : List Record → Copies → Type 0
-NoFilesOfMade [] copies = ⊥
-NoFilesOfMade (Init space number kind ∷ rest) copies = ⊥
-NoFilesOfMade (Write space number patch ∷ rest) copies = ⊥
-NoFilesOfMade (Extend space pages ∷ rest) copies = ⊥
-NoFilesOfMade (Create space pages ∷ rest) copies = NoFilesOf space copies
-NoFilesOfMade (Drop space ∷ rest) copies = ⊥
+-- what is kept beside a buffer after the records have made their space
+abbrev pub with_made : List Record → Beside → Beside
+with_made (Create space pages ∷ rest) beside =
+    record beside { copy = after_create space pages beside.copy }
+with_made records beside = beside
 
 -- The mini-transaction stands behind the log, in the ring too, and its records have changed the
 -- frames of the pages that they name.

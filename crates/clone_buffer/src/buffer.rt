@@ -68,7 +68,7 @@ impl Model for Buffer {
 impl Buffer {
     ghost use Rattle.std.specs.declared.option.Option.{Option};
     ghost use Rattle.clone_outside.specs.Disk.{DiskImage, ForTold, blank};
-    ghost use Rattle.clone_buffer.specs.Writing.{HasFrame, IsOnPage, Creates, HasMade, Lengthens, NoFilesOfMade, Writes, written};
+    ghost use Rattle.clone_buffer.specs.Writing.{HasFrame, IsOnPage, Creates, HasMade, Lengthens, Writes, with_made, written};
     ghost use Rattle.clone_buffer.specs.Dropping.{DropsSpace, WritesWithout};
     ghost use Rattle.clone_buffer.specs.Buffered.{image_of, IsBuffer, Shows};
     ghost use Rattle.clone_buffer.specs.OnePage.{Beside, NoFilesOf, NoFlightsOf, at_rest, bytes_in, frame_of};
@@ -335,10 +335,9 @@ impl Buffer {
         requires short { length (spelling records.now) ≤ longest }
         requires creates { IsTrue self.old.right → Creates self.old records.now }
         ensures written { Writes records.now self.old self.new result }
-        ensures stands { (beside : Beside) (told : Option DiskImage)
-            → NoFilesOfMade records.now beside.copy
+        ensures stands { IfOk result (λ end. (beside : Beside) (told : Option DiskImage)
             → Stands self.old beside told → ForTold told (HasMade records.now)
-            → Stands self.new beside told }
+            → Stands self.new (with_made records.now beside) told) }
     {
         self.pool.laws();
         self.append(records)

@@ -1,6 +1,6 @@
 -- A step of a donor and the disk of a recipient is one of the plain donor, and its disks stay
 -- theirs.
-use Rattle.std.proofs.Common.{◌≡◌, ◌-◌, ◌⊎◌, inl, inr, ℕ, List, Bool, true, false, nat_le, not, unwrap_or, if◌then◌else◌, refl, sym, ap, ◌∙◌, subst, arith, Option, None, Some, is_some, Result, Ok, Err, nat_cmp}
+use Rattle.std.proofs.Common.{◌==◌, ◌≡◌, ◌-◌, ◌⊎◌, inl, inr, ℕ, List, Bool, true, false, nat_le, not, unwrap_or, if◌then◌else◌, refl, sym, ap, ◌∙◌, subst, arith, Option, None, Some, is_some, Result, Ok, Err, nat_cmp}
 use Rattle.std.specs.FinMap as finite
 use Rattle.std.specs.Option.{option_map, option_or}
 use Rattle.clone_model.specs.declared.change.Change.{Change}
@@ -10,7 +10,9 @@ use Rattle.clone_plain.specs.declared.refusal.Cause.{Cause}
 use Rattle.clone_plain.specs.declared.refusal.Cause.TheVariants as causes
 use Rattle.clone_plain.specs.declared.refusal.EngineRefusal.{EngineRefusal}
 use Rattle.clone_plain.specs.declared.refusal.EngineRefusal.TheVariants.{Because, NoMemory}
-use Rattle.clone_plain.specs.Causes.{drop_cause, least_holder, no_table, whether}
+use Rattle.clone_plain.specs.Causes.{create_cause, drop_cause, least_holder, no_table, whether}
+use Rattle.clone_base.specs.declared.limits.TheConstants.{TABLE_LIMIT}
+use Rattle.std.proofs.lemmas.Bool.{true≢false}
 use Rattle.clone_plain.specs.Donor.{Donor}
 use Rattle.clone_plain.specs.Effects.{dropped, put_of, delete_of}
 use Rattle.clone_plain.specs.Calls as calls
@@ -38,7 +40,7 @@ use Rattle.clone_engine.specs.Steps as steps
 use Rattle.clone_engine.specs.Steps.{AnswersDrop, Looks, Ends, Flushes, Transacts, Did, way_of, refusal_of}
 use Rattle.clone_session.specs.Cloning.{Session}
 use Rattle.clone_engine.specs.Donor as staged
-use Rattle.clone_engine.specs.Serving.{AnswersCall, Creates, Drops, Serves, ServesAs}
+use Rattle.clone_engine.specs.Serving.{AnswersCall, Drops, Serves, ServesAs}
 use Rattle.clone_core.specs.System.{System, SystemStep, CallStep, donor_of}
 
 -- whatever is read, the way stops for a cause below alone
@@ -144,11 +146,21 @@ running_drop d table session (inl is) = absurd (by (not (finite.contains_key d.t
     by true holder is = cc
     by false None is = cc
     by false (Some trx) is = cc
-running_drop d table session (inr none) = (both_none (no_table d table) _ none.0).0
+running_drop d table session (inr none) = absurd (true≢false (sym none.1))
+
+-- nor is it against a table that is to be made
+running_create : (d : Donor) (table session : ℕ) → (create_cause d table ≡ Some (causes.CloneRunning session)) ⊎ ((create_cause d table ≡ None) × (is_below (causes.CloneRunning session) ≡ true)) → ⊥
+running_create d table session (inl is) = by (finite.contains_key d.tables table) (finite.len d.tables == TABLE_LIMIT) is
+  where
+    by : (there full : Bool) → option_or (whether there causes.TableExists) (whether full causes.TooManyTables) ≡ Some (causes.CloneRunning session) → ⊥
+    by true full is = cc
+    by false true is = cc
+    by false false is = cc
+running_create d table session (inr none) = true≢false (sym none.1)
 
 -- what is against a call refuses it
 is_refused : (d : Donor) (asked : EngineCall) (cause : Cause) → (cause_of d asked ≡ Some cause) ⊎ ((cause_of d asked ≡ None) × (is_below cause ≡ true)) → IsRefused d asked cause
-is_refused d (call.Create table buckets) (causes.CloneRunning session) why = tt
+is_refused d (call.Create table buckets) (causes.CloneRunning session) why = running_create d table session why
 is_refused d (call.Drop table) (causes.CloneRunning session) why = running_drop d table session why
 is_refused d asked cause why = why
 
@@ -269,16 +281,12 @@ served_refused d e call.OldestDirty cause is = absurd is
 served_refused d e call.Checkpoint cause is = absurd is
 served_refused d e call.End cause is = absurd is
 
--- no table is made while a clone runs, and none is dropped
+-- no table is dropped while a clone runs
 pub record IsRunning (asked : EngineCall) (d t : staged.Donor) (answer : Result EngineAnswer EngineRefusal) : Type 0 where
   pub cause : Cause
   pub refused : answer ≡ Err (Because cause)
   pub plain : IsRefused d.engine.donor asked cause
   pub same : t ≡ d
-
-created : (o : Option Session) (table buckets : ℕ) (d t : staged.Donor) (answer : Result EngineAnswer EngineRefusal) → Creates o table buckets d t answer → Serves (call.Create table buckets) d t answer ⊎ IsRunning (call.Create table buckets) d t answer
-created None table buckets d t answer is = inl is
-created (Some s) table buckets d t answer is = inr (record { cause = causes.CloneRunning s.number; refused = is.0; plain = tt; same = is.1 })
 
 kept : (o : Option Session) (table : ℕ) (d t : staged.Donor) (answer : Result EngineAnswer EngineRefusal) → Drops o table d t answer → Serves (call.Drop table) d t answer ⊎ IsRunning (call.Drop table) d t answer
 kept None table d t answer is = inl is
@@ -290,7 +298,6 @@ kept (Some s) table d t answer is = inr (by (no_table d.engine.donor table) refl
 
 -- else a call is the engine's
 pub served : (asked : EngineCall) (d t : staged.Donor) (answer : Result EngineAnswer EngineRefusal) → AnswersCall asked d t answer → Serves asked d t answer ⊎ IsRunning asked d t answer
-served (call.Create table buckets) d t answer is = created d.cloning.session table buckets d t answer is
 served (call.Drop table) d t answer is = kept d.cloning.session table d t answer is
 served asked d t answer is = inl is
 

@@ -13,7 +13,7 @@ use std::alloc::Global;
 
 // The calls of transactions.
 impl<D: PageDisk> Donor<D> {
-    /// Makes an empty table, unless a session stands.
+    /// Makes an empty table, also while a session stands.
     pub fn create(&mut self, table: TableNumber, buckets: BucketCount) -> Result<(), EngineRefusal>
         ensures acts { EngineActs (call.Create table buckets)
             (answer_of (λ _. answers.Create) result) self.old self.new }

@@ -345,24 +345,30 @@ module _ (b : Buffered) (f : Flights) (copies : one.Copies) (m : DiskImage) (k :
 
 -- A buffer that stands over the disk as it was.
 
--- It stands beside this still.
-abbrev Stays : one.Beside → Buffered → Buffered → Option DiskImage → Option DiskImage → Type 0
-Stays beside old new before after = Stands old beside before → Stands new beside after
+-- It stands beside this still, or beside what a clone has of each page by then.
+abbrev Becomes : one.Beside → one.Beside → Buffered → Buffered → Option DiskImage → Option DiskImage → Type 0
+Becomes beside later old new before after = Stands old beside before → Stands new later after
 
-still_flown : (f : Flights) (copies : one.Copies) (old new : Buffered) (told : Option DiskImage) → Stays (beside_of f copies) old new told told → new.ring.floor ≡ old.ring.floor → StandsFlown old f copies told → StandsFlown new f copies told
-still_flown f copies old new None stays floor had = tt
-still_flown f copies old new (Some m) stays floor k = record { kept = stays k.kept; there = k.there; floor = omega (arith, floor, k.floor) }
+abbrev Stays : one.Beside → Buffered → Buffered → Option DiskImage → Option DiskImage → Type 0
+Stays beside = Becomes beside beside
+
+still_flown : (f : Flights) (copies later : one.Copies) (old new : Buffered) (told : Option DiskImage) → Becomes (beside_of f copies) (beside_of f later) old new told told → new.ring.floor ≡ old.ring.floor → StandsFlown old f copies told → StandsFlown new f later told
+still_flown f copies later old new None stays floor had = tt
+still_flown f copies later old new (Some m) stays floor k = record { kept = stays k.kept; there = k.there; floor = omega (arith, floor, k.floor) }
+
+pub becomes_flown : (f : Flights) (copies later : one.Copies) (old new : Buffered) (before after : Option DiskImage) → after ≡ before → Becomes (beside_of f copies) (beside_of f later) old new before after → new.ring.floor ≡ old.ring.floor → StandsFlown old f copies before → StandsFlown new f later after
+becomes_flown f copies later old new before after same stays floor had =
+    subst (StandsFlown new f later) (sym same) (still_flown f copies later old new before (subst (Becomes (beside_of f copies) (beside_of f later) old new before) same stays) floor had)
 
 pub stays_flown : (f : Flights) (copies : one.Copies) (old new : Buffered) (before after : Option DiskImage) → after ≡ before → Stays (beside_of f copies) old new before after → new.ring.floor ≡ old.ring.floor → StandsFlown old f copies before → StandsFlown new f copies after
-stays_flown f copies old new before after same stays floor had =
-    subst (StandsFlown new f copies) (sym same) (still_flown f copies old new before (subst (Stays (beside_of f copies) old new before) same stays) floor had)
+stays_flown f copies = becomes_flown f copies copies
 
 -- One that stands over the disk with a table's space made.
-module _ (d : Donor) (f : Flights) (copies : one.Copies) (old new : Buffered) (table buckets : ℕ) (b : IsBuffer old) (kept : IsTrue old.right → IsKept d (image_of old)) (low : 1 ≤ table) (none : finite.get d.tables table ≡ None) (floor : new.ring.floor ≡ old.ring.floor) where
+module _ (d : Donor) (f : Flights) (copies later : one.Copies) (old new : Buffered) (table buckets : ℕ) (b : IsBuffer old) (kept : IsTrue old.right → IsKept d (image_of old)) (low : 1 ≤ table) (none : finite.get d.tables table ≡ None) (floor : new.ring.floor ≡ old.ring.floor) where
   abbrev made : DiskImage → DiskImage
   made m = with_created m table buckets
 
-  flown_made : (m : DiskImage) → Stays (beside_of f copies) old new (Some m) (Some (made m)) → IsFlown old f copies m → IsFlown new f copies (made m)
+  flown_made : (m : DiskImage) → Becomes (beside_of f copies) (beside_of f later) old new (Some m) (Some (made m)) → IsFlown old f copies m → IsFlown new f later (made m)
   flown_made m stays k = record { kept = stays k.kept; there = there; floor = omega (arith, floor, k.floor) }
     where
       there : (page : PageName) (w : PageWrite) → write_of f page ≡ Some w → IsOnDisk w (disk.page_of (made m) page.space page.number)
@@ -371,9 +377,9 @@ module _ (d : Donor) (f : Flights) (copies : one.Copies) (old new : Buffered) (t
           let other = flies_elsewhere d old (beside_of f copies) m table page b k.kept (kept k.kept.right) low none flies in
           subst (IsOnDisk w) (sym (other_page m table buckets page.space page.number other)) (k.there page w is)
 
-  pub made_flown : (before after : Option DiskImage) → Steps before after made → Stays (beside_of f copies) old new before after → StandsFlown old f copies before → StandsFlown new f copies after
-  made_flown None after is stays had = subst (StandsFlown new f copies) (sym is) tt
-  made_flown (Some m) after is stays k = subst (StandsFlown new f copies) (sym is) (flown_made m (subst (Stays (beside_of f copies) old new (Some m)) is stays) k)
+  pub made_flown : (before after : Option DiskImage) → Steps before after made → Becomes (beside_of f copies) (beside_of f later) old new before after → StandsFlown old f copies before → StandsFlown new f later after
+  made_flown None after is stays had = subst (StandsFlown new f later) (sym is) tt
+  made_flown (Some m) after is stays k = subst (StandsFlown new f later) (sym is) (flown_made m (subst (Becomes (beside_of f copies) (beside_of f later) old new (Some m)) is stays) k)
 
 -- What holds of every donor, after a call of transactions.
 

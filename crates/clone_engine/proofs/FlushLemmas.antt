@@ -10,7 +10,7 @@ use Rattle.clone_pool.specs.declared.frame.PageName.{PageName}
 use Rattle.clone_flush.specs.Flights.{Files, ends_before, is_short, Flights, HasFiles, IsFlown, StandsFlown, beside_of, beyond}
 use Rattle.clone_flush.specs.declared.refusal.FlushRefusal.{FlushRefusal}
 use Rattle.clone_engine.specs.Donor.{HasPages, IsPageOf, NotesPages, list_of, Donor, IsDonor}
-use Rattle.clone_engine.proofs.GoingLemmas.{KeepsFiles, same_files, stopped_as, Like, like, like_same, KeepsPages, StaysNear, Stays, donor_goes, noted_stay, of_few, own_goes, same_image, stays}
+use Rattle.clone_engine.proofs.GoingLemmas.{same_files, stopped_as, Like, like, like_same, StaysNear, Stays, donor_goes, noted_stay, of_few, own_goes, same_image, stays}
 use Rattle.clone_image.specs.Image.{page_of}
 use Rattle.clone_image.specs.Redone.{past_end}
 use Rattle.clone_image.specs.Replay.{replayed}
@@ -58,7 +58,7 @@ use Rattle.clone_plain.specs.declared.refusal.EngineRefusal.TheVariants as refus
 use Rattle.clone_plain.specs.declared.refusal.EngineRefusal.TheVariants.{Because}
 use Rattle.clone_session.specs.Effects as effects
 use Rattle.clone_engine.specs.Acts as act
-use Rattle.clone_engine.specs.Growth.{GoesOn}
+use Rattle.clone_engine.specs.Growth.{GoesOn, KeepsFiles, KeepsPages}
 use Rattle.clone_engine.specs.Serving.{AnswersCall, taken_by}
 use Rattle.clone_engine.specs.Steps as steps
 use Rattle.clone_engine.specs.Steps.{AnswersFlush, Flushes, answer_of, flush_answer}

@@ -24,7 +24,7 @@ use Rattle.clone_session.specs.CloneCalls.{CanArchive}
 use Rattle.clone_trx.specs.Kept.{KeptBetween, Keeps}
 use Rattle.clone_engine.specs.Archives.{IsOfLog}
 use Rattle.clone_engine.specs.Engine.{Engine, IsEngine, StandsBeside}
-use Rattle.clone_engine.specs.Growth.{GoesOn, GrowsBy, LogGoes, PagesStay}
+use Rattle.clone_engine.specs.Growth.{GoesOn, GrowsBy, KeepsFiles, KeepsImage, KeepsPages, LogGoes, PagesStay}
 use Rattle.clone_engine.proofs.MomentLemmas.{of_grown, can_grown, can_same, placed_on}
 use Rattle.clone_engine.proofs.ToldLemmas.{for_told, told_always, told_stays, told_with}
 use Rattle.clone_buffer.specs.Buffered.{Buffered, IsBuffer}
@@ -158,10 +158,6 @@ of_two s t g between = record { log = g; between = λ first second is right. (be
 
 -- FILES AND PAGES: what is copied and noted stays the engine's, as its files and its image only grow.
 
--- no file is forgotten, and none gets shorter
-abbrev pub KeepsFiles : Files → Files → Type 0
-KeepsFiles old new = (space pages : ℕ) → finite.get old space ≡ Some pages → HasPages new (space, pages)
-
 pub same_files : (old new : Files) → new ≡ old → KeepsFiles old new
 same_files old new same space pages known = record { pages = pages; known = subst (λ (f : Files). finite.get f space ≡ Some pages) (sym same) known; enough = omega arith }
 
@@ -169,15 +165,6 @@ has_more : (old new : Files) → KeepsFiles old new → (file : ℕ × ℕ) → 
 has_more old new keeps file has =
     let more = keeps file.0 has.pages has.known in
     record { pages = more.pages; known = more.known; enough = omega (arith, has.enough, more.enough) }
-
--- no page of the image goes
-abbrev pub KeepsImage : Engine → Engine → Type 0
-KeepsImage s t = (space number : ℕ) → IsPageOf s space number → IsPageOf t space number
-
--- The engine keeps its files, and its image where the disk tells what it holds.
-pub record KeepsPages (s t : Engine) : Type 0 where
-  pub files : KeepsFiles s.flights.files t.flights.files
-  pub image : ForTold t.disk.told (λ m. KeepsImage s t)
 
 -- with the log as it was
 pub same_image : (s t : Engine) → t.buffer.log ≡ s.buffer.log → ForTold t.disk.told (λ m. KeepsImage s t)

@@ -6,5 +6,6 @@ pub mod MomentLemmas
 pub mod BlockLemmas
 pub mod SessionActs
 pub mod TableLemmas
+pub mod MakingLemmas
 pub mod WayLemmas
 pub mod EngineLemmas

@@ -31,7 +31,8 @@ use Rattle.clone_engine.specs.Answering as answering
 use Rattle.clone_engine.specs.Answering.{Answered, CarriesOut, CarriesOutFreely, taken_on}
 use Rattle.clone_engine.specs.Donor.{Donor, IsDonor, NotesPages, CopiesOwn, list_of, ArePages, HasPages, known_files}
 use Rattle.clone_engine.proofs.MomentLemmas.{can_same, can_settled, can_unarchived, can_archived, IsInRing, can_begun, can_stopped, nearest_in_ring, of_archived, floor_above, of_begun, of_stopped}
-use Rattle.clone_engine.proofs.GoingLemmas.{stopped_as, Like, like, like_same, like_session, like_trans, KeepsPages, Stays, is_taken, noted_stay, own_stays, same_files, same_image, taken_grows, in_stays}
+use Rattle.clone_engine.specs.Growth.{KeepsPages}
+use Rattle.clone_engine.proofs.GoingLemmas.{stopped_as, Like, like, like_same, like_session, like_trans, Stays, is_taken, noted_stay, own_stays, same_files, same_image, taken_grows, in_stays}
 use Rattle.clone_engine.proofs.EngineLemmas.{retold}
 use Rattle.clone_engine.proofs.WayLemmas.{log_same}
 use Rattle.std.specs.Option.{ForSome, option_map_or}

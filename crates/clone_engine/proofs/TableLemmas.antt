@@ -1,4 +1,4 @@
--- An engine is opened, and tables are made and dropped.
+-- An engine is opened, and tables are dropped.
 use Rattle.std.proofs.Common.{[], ◌≡◌, ◌≢◌, ◌==◌, ◌<◌, ◌⊎◌, inl, inr, ℕ, Bool, true, false, List, ◌∷◌, length, eq-eqb, eqb-true, refl, sym, ap, subst, ◌∙◌, arith, Option, None, Some, IsTrue, is_some, nat_le, option_map, if◌then◌else◌, ◌≤◌, IsSome, Result, Ok, Err, OnOk, OnErr, ◌+◌, ◌++◌, min, option_and_then, slice_get, IfOk, not, length-append}
 use Rattle.std.specs.FinMap as finite
 use Rattle.std.proofs.lemmas.Bool.{cases_eq, leb-true, true≢false}
@@ -54,7 +54,7 @@ use Rattle.clone_plain.specs.declared.refusal.EngineRefusal.TheVariants.{Because
 use Rattle.clone_contents.specs.Contents.{contents_of}
 use Rattle.clone_trx.specs.Calls.{create_way, drop_way, number_of_entry, pages_told}
 use Rattle.clone_trx.specs.Sound.{HasSize}
-use Rattle.clone_trx.specs.Ways.{Way, Answers, StaysOutsideFiles, CarriesDrop, Drops, Goes, StaysOutside, StaysStanding, held, page_in}
+use Rattle.clone_trx.specs.Ways.{Way, Answers, CarriesDrop, Drops, Goes, StaysOutside, StaysStanding, held, page_in}
 use Rattle.clone_trx.proofs.CreateLemmas.{no_space}
 use Rattle.std.specs.Prelude.{IsErrOf}
 use Rattle.clone_plain.specs.declared.call.EngineAnswer.{EngineAnswer}
@@ -228,215 +228,9 @@ module _ (e : Engine) (c : Cloning) (engine : IsEngine e) (no_write : c.session 
     stage = told (λ m. IsTakenBy c e.buffer.log nothing (list_of c)) (λ m first_stands. subst (IsTakenBy c e.buffer.log nothing) (sym no_list) (λ space number. refl));
   }
 
--- A table is made, or dropped, while no session stands.
+-- A table is dropped.
 
--- A table is made, or dropped.
-
--- What holds of every donor after a table was made, or wasn't.
-
--- the disk failed, or the cause is another
-pub is_fault : (cause : Cause) → (cause ≡ DiskFault) ⊎ (cause ≡ DiskFault → ⊥)
-is_fault NoSuchTrx = inr (λ e. cc)
-is_fault NoSuchTable = inr (λ e. cc)
-is_fault TableExists = inr (λ e. cc)
-is_fault (RowLocked holder) = inr (λ e. cc)
-is_fault ValueTooLong = inr (λ e. cc)
-is_fault UndoFull = inr (λ e. cc)
-is_fault SpaceFull = inr (λ e. cc)
-is_fault (LogFull need free) = inr (λ e. cc)
-is_fault (PoolFull frames) = inr (λ e. cc)
-is_fault TooManyTransactions = inr (λ e. cc)
-is_fault TooManyTables = inr (λ e. cc)
-is_fault (CloneRunning session) = inr (λ e. cc)
-is_fault (TableInUse trx) = inr (λ e. cc)
-is_fault NotDirty = inr (λ e. cc)
-is_fault InFlight = inr (λ e. cc)
-is_fault NoFlush = inr (λ e. cc)
-is_fault DiskFault = inl refl
-
--- a file isn't known
-pub unknown_is : (o p : Option ℕ) → o ≡ p → is_some o ≡ false → p ≡ None
-unknown_is None p is none = sym is
-unknown_is (Some n) p is none = absurd (true≢false none)
-
--- the file of a table that is made, or isn't
-pub left_flown : (f : Flights) (table buckets : ℕ) (made : Result (Unit {0}) EngineRefusal) → finite.get f.files table ≡ None → steps.left_unmade made table (with_file table buckets f) ≡ steps.flown (to_engine.Create table buckets) (steps.answer_of (λ (x : Unit {0}). answers.Create) made) f
-left_flown f table buckets (Ok x) unknown = refl
-left_flown f table buckets (Err refusal) unknown = λ i. record f { files = removed_again nat_cmp_total exact_unsigned f.files table buckets unknown i }
-
--- a call that was refused leaves the donor, and one that was carried out has made the table
-module _ {X : Type 0} (d e : Donor) (old new : Buffered) where
-  refused_donor : (cause : Option Cause) (refusal : EngineRefusal) (w : Way) (Does : X → Type 0) → Answers cause w d e old new (Err refusal) Does → e ≡ d
-  refused_donor (Some cause) refusal w Does a = a.1
-  refused_donor None refusal w Does a = a.1
-
-  done_donor : (cause : Option Cause) (x : X) (w : Way) (Does : X → Type 0) → Answers cause w d e old new (Ok x) Does → Does x
-  done_donor (Some cause) x w Does a = absurd (let e = a.0 in cc)
-  done_donor None x w Does a = a.1
-
--- What the disk tells then, by the answer.
-module _ (k l : DiskState) (table buckets : ℕ) {X : Type 0} (result : Result X EngineRefusal) where
-  abbrev made : DiskImage → DiskImage
-  made m = with_created m table buckets
-
-  pub record OnDisk : Type 0 where
-    pub made_is : OnOk result (Steps k.told l.told made)
-    pub left : result ≡ Err (Because DiskFault) → IsBeforeOrAfter k.told l.told made
-    pub same : (result ≡ Err (Because DiskFault) → ⊥) → OnErr result (l.told ≡ k.told)
-
-  module _ (on : OnDisk) where
-    told_same : (refusal : EngineRefusal) → result ≡ Err refusal → (refusal ≡ Because DiskFault → ⊥) → l.told ≡ k.told
-    told_same refusal is other = subst (λ (r : Result X EngineRefusal). OnErr r (l.told ≡ k.told)) is (on.same (λ fault. other (let both : Err refusal ≡ Err (Because DiskFault) = sym is ∙ fault in cc)))
-
-    -- by the refusal: as before, or with the space made
-    pub told_left : (refusal : EngineRefusal) → result ≡ Err refusal → IsBeforeOrAfter k.told l.told made
-    told_left NoMemory is = inl (told_same NoMemory is (λ e. cc))
-    told_left (Because cause) is = by (is_fault cause)
-      where
-        by : (cause ≡ DiskFault) ⊎ (cause ≡ DiskFault → ⊥) → IsBeforeOrAfter k.told l.told made
-        by (inl fault) = on.left (is ∙ ap (λ (c : Cause). Err (Because c)) fault)
-        by (inr other) = inl (told_same (Because cause) is (λ e. other (cc)))
-
--- WHAT A CALL THAT MAKES A TABLE leaves of an engine where the table's file isn't known, by what the
--- transactions answer
-module _ (d e : Donor) (old new : Buffered) (f : Flights) (k l : DiskState) (table buckets : ℕ) (is : IsEngine (engine d old f k)) (was : IsBuffer old) (buffer : IsBuffer new) (ranges : (1 ≤ table) × (table ≤ 1000000) × (buckets ≤ MOST_PAGES)) (unknown : finite.get f.files table ≡ None) (kept : Keeps e new)
-    (stays : StaysOutsideFiles table old new k.told l.told) where
-  abbrev did : Unit {0} → EngineAnswer
-  did x = answers.Create
-
-  abbrev Does : Unit {0} → Type 0
-  Does x = e ≡ created table buckets d
-
-  abbrev pub AnswersSo : Result (Unit {0}) EngineRefusal → Type 0
-  AnswersSo r = Answers (create_cause d table) (create_way table buckets) d e old new r Does
-
-  module _ (r : Result (Unit {0}) EngineRefusal) (answer : AnswersSo r) where
-    grows : Grows IsOfTable 1 old new
-    grows = create_grows d e old new table buckets r ranges.1 answer
-
-    pages_there : PagesStay old new
-    pages_there = create_stay (create_cause d table) d e old new table buckets r Does (λ right. no_space d (image_of old) table (is.keeps.kept right) ranges.0 (no_table d f.files table is.spaces unknown)) answer
-
-    abbrev after : DiskImage → DiskImage
-    after m = with_created m table buckets
-
-    none : finite.get d.tables table ≡ None
-    none = no_table d f.files table is.spaces unknown
-
-    calm : NoFilesOf table (beyond f.files)
-    calm number = by (ends_before (finite.get f.files table) number) (ap (λ (o : Option ℕ). ends_before o number) unknown)
-      where
-        by : (t : Bool) → t ≡ false → NoFiles (if t then Untracked (past_end ∷ []) else Idle)
-        by true e = absurd (true≢false e)
-        by false e = tt
-
-    -- its space is made on the disk, or isn't
-    either_copies : IsBeforeOrAfter k.told l.told after → (copies : Copies) → NoFilesOf table copies → StandsFlown old f copies k.told → StandsFlown new f copies l.told
-    either_copies (inl same) copies quiet = stays_flown f copies old new k.told l.told same (stays (beside_of f copies) quiet) grows.floor
-    either_copies (inr step) copies quiet = made_flown d f copies old new table buckets was is.keeps.kept ranges.0 none grows.floor k.told l.told step (stays (beside_of f copies) quiet)
-
-    files_left : IsBeforeOrAfter k.told l.told after → ForTold l.told (HasFiles f.files)
-    files_left either = told_either k.told l.told after (HasFiles f.files) (HasFiles f.files) either (λ m h. h) (λ m h. space_left m table buckets f.files unknown h) is.files
-
-    -- the pages of known files are there still
-    makes : IsBeforeOrAfter k.told l.told after → ForTold l.told (λ _. MakesPages f.files new)
-    makes either =
-        told_either k.told l.told after (λ _. MakesPages f.files new) (λ _. MakesPages f.files new) either (λ m had. had) (λ m had. had)
-        (told_both (λ _. IsTrue old.right) (λ _. MakesPages f.files old) (λ _. MakesPages f.files new) k.told (λ m right had space number inside. pages_there right space number (had space number inside)) (right_told old f no_copies k.told is.stands) is.within)
-
-    -- THE CALL WAS REFUSED
-    refused_engine : e ≡ d → IsBeforeOrAfter k.told l.told after → IsEngine (engine e new f l)
-    refused_engine same either = subst (λ (x : Donor). IsEngine (engine x new f l)) (sym same) (record {
-      keeps = subst (λ (x : Donor). Keeps x new) same kept;
-      stands = either_copies either no_copies (λ number. tt) is.stands;
-      files = files_left either;
-      spaces = is.spaces;
-      within = makes either;
-      short = either_copies either (beyond f.files) calm is.short;
-      tables = of_tables IsOfTable 1 old new (λ r is. is) grows is.tables;
-    })
-
-    -- THE TABLE WAS MADE
-    module _ (becomes : e ≡ created table buckets d) (step : Steps k.told l.told after) where
-      abbrev g : Flights
-      g = with_file table buckets f
-
-      refiled : (copies : Copies) (told : Option DiskImage) → StandsFlown new f copies told → StandsFlown new g copies told
-      refiled copies None st = tt
-      refiled copies (Some m) k = record { kept = k.kept; there = k.there; floor = k.floor }
-
-      made_copies : (copies : Copies) → NoFilesOf table copies → StandsFlown old f copies k.told → StandsFlown new g copies l.told
-      made_copies copies quiet st = refiled copies l.told (either_copies (inr step) copies quiet st)
-
-      sized : IsTrue new.right → HasSize (contents_of (image_of new)) table buckets
-      sized right = ((kept.kept right).sound.tables.sizes table buckets (ap (λ (x : Donor). finite.get x.tables table) becomes ∙ get-put_same d.tables table buckets)).0
-
-      -- a page past the end of the new file
-      short_rule : (m : DiskImage) → IsFlown new g (beyond f.files) (after m) → (space number : ℕ) → CopyRule space number (engine_of new (beside_of g (beyond f.files)) (after m) space number) (beyond g.files space number)
-      short_rule m flying space number = by (cases_eq space table)
-        where
-          R : ℕ → Copy → Type 0
-          R s c = CopyRule s number (engine_of new (beside_of g (beyond f.files)) (after m) s number) c
-
-          own : (t : Bool) → nat_le buckets number ≡ t → R table (if t then Untracked (past_end ∷ []) else Idle)
-          own true past =
-              let out = past_made m table buckets number (leb-true buckets number past) in
-              past_rule new g (beyond f.files) (after m) flying table number out.0 out.1 (let size = sized flying.kept.right in spaced_page new table number size.pages buffer size.size)
-          own false past = tt
-
-          by : (space ≡ table) ⊎ (space ≢ table) → R space (beyond g.files space number)
-          by (inl same) = subst (λ (s : ℕ). R s (beyond g.files s number)) (sym same)
-              (subst (λ (o : Option ℕ). R table (if ends_before o number then Untracked (past_end ∷ []) else Idle)) (sym (get-put_same f.files table buckets)) (own (nat_le buckets number) refl))
-          by (inr other) = subst (λ (o : Option ℕ). R space (if ends_before o number then Untracked (past_end ∷ []) else Idle)) (sym (get-put_other f.files table space buckets other))
-              (copy_kept new (beside_of g (beyond f.files)) (after m) space number flying.kept).copy
-
-      made_short : StandsFlown new g (beyond g.files) l.told
-      made_short = by k.told step (made_copies (beyond f.files) calm is.short)
-        where
-          by : (before : Option DiskImage) → Steps before l.told after → StandsFlown new g (beyond f.files) l.told → StandsFlown new g (beyond g.files) l.told
-          by None stepped st = subst (StandsFlown new g (beyond g.files)) (sym stepped) tt
-          by (Some m) stepped st = subst (StandsFlown new g (beyond g.files)) (sym stepped)
-              (stands_with new g (beyond f.files) (beyond g.files) (after m) (subst (StandsFlown new g (beyond f.files)) stepped st) (short_rule m (subst (StandsFlown new g (beyond f.files)) stepped st)))
-
-      made_within : ForTold l.told (λ _. MakesPages g.files new)
-      made_within = told_both (λ _. MakesPages f.files new) (λ _. IsTrue new.right) (λ _. MakesPages g.files new) l.told (λ m had right space number inside. one had right space number inside (cases_eq space table)) (makes (inr step)) (right_told new f no_copies l.told (either_copies (inr step) no_copies (λ number. tt) is.stands))
-        where
-          one : MakesPages f.files new → IsTrue new.right → (space number : ℕ) → LiesIn g.files space number → (space ≡ table) ⊎ (space ≢ table) → IsSome (page_of (image_of new) space number)
-          one had right space number inside (inl same) =
-              let value = same_Some buckets inside.pages (sym (get-put_same f.files table buckets) ∙ ap (finite.get g.files) (sym same) ∙ inside.file) in
-              let size = sized right in
-              is_there new space number size.pages (ap (page_count (image_of new)) same ∙ size.size) (omega (arith, inside.within, value, size.enough))
-          one had right space number inside (inr other) = had space number (record { pages = inside.pages; file = sym (get-put_other f.files table space buckets other) ∙ inside.file; within = inside.within })
-
-      made_engine : IsEngine (engine e new g l)
-      made_engine = record {
-        keeps = kept;
-        stands = made_copies no_copies (λ number. tt) is.stands;
-        files = told_stepped (HasFiles f.files) (HasFiles g.files) k.told l.told after step (λ m h. space_made m table buckets f.files h) is.files;
-        spaces = subst (λ (x : Donor). AreOfDonor x g.files) (sym becomes) (made_files d f.files table buckets ranges.0 ranges.2 unknown is.spaces);
-        within = made_within;
-        short = made_short;
-        tables = of_tables IsOfTable 1 old new (λ r is. is) grows is.tables;
-      }
-
-    makes_as : OnDisk k l table buckets r → Counts (IsErrOf r (Because DiskFault)) k l → IsEngine (engine e new (steps.flown (to_engine.Create table buckets) (steps.answer_of did r) f) l) → (steps.flown (to_engine.Create table buckets) (steps.answer_of did r) f).checkpoint ≡ f.checkpoint → IsBeforeOrAfter k.told l.told after → ((copies : Copies) → NoFilesOf table copies → StandsFlown old f copies k.told → StandsFlown new (steps.flown (to_engine.Create table buckets) (steps.answer_of did r) f) copies l.told)
-        → Makes (to_engine.Create table buckets) (engine d old f k) (engine e new (steps.flown (to_engine.Create table buckets) (steps.answer_of did r) f) l) (steps.answer_of did r)
-    makes_as on counts is_engine checkpoint holds copies =
-        let tells = either_tells k.told l.told after holds in
-        let t : Engine = engine e new (steps.flown (to_engine.Create table buckets) (steps.answer_of did r) f) l in
-        record {
-          step = transacts did (to_engine.Create table buckets) (engine d old f k) t r Does (λ x does. record { does = does; sees = tt }) refl answer (record { later = counts.later; orders = counts.orders; tells = tells }) counts.fault holds;
-          goes = record { engine = is_engine; buffer = buffer; checkpoint = checkpoint; tells = tells; log = of_few 1 (engine d old f k) t (omega arith) grows.log; ring = grows.ring };
-          copies = copies;
-        }
-
-  pub creates : (r : Result (Unit {0}) EngineRefusal) (answer : AnswersSo r) → OnDisk k l table buckets r → Counts (IsErrOf r (Because DiskFault)) k l → Makes (to_engine.Create table buckets) (engine d old f k) (engine e new (steps.flown (to_engine.Create table buckets) (steps.answer_of did r) f) l) (steps.answer_of did r)
-  creates (Ok x) answer on counts =
-      let becomes = done_donor d e old new (create_cause d table) x (create_way table buckets) Does answer in
-      makes_as (Ok x) answer on counts (made_engine (Ok x) answer becomes on.made_is) refl (inr on.made_is) (made_copies (Ok x) answer becomes on.made_is)
-  creates (Err refusal) answer on counts =
-      let left = told_left k l table buckets (Err refusal) on refusal refl in
-      makes_as (Err refusal) answer on counts (refused_engine (Err refusal) answer (refused_donor d e old new (create_cause d table) refusal (create_way table buckets) Does answer) left) refl left (either_copies (Err refusal) answer left)
+-- A table is dropped.
 
 -- What holds of every donor after a table was dropped, or wasn't.
 
@@ -754,7 +548,7 @@ module _ (d e : Donor) (old new : Buffered) (f : Flights) (k l : DiskState) (tab
       copies = drop_copies;
     }
 
--- A table is made or dropped while no session stands.
+-- A table is dropped while no session stands.
 
 -- no session has a number
 pub no_session : (o : Option Session) → option_map (λ (s : Session). s.number) o ≡ None → o ≡ None

@@ -14,7 +14,7 @@ use Rattle.clone_plain.specs.declared.refusal.EngineRefusal.TheVariants.{Because
 use Rattle.clone_session.specs.Cloning.{Cloning, Session}
 use Rattle.clone_session.specs.Effects.{Becomes, with_noted}
 use Rattle.clone_engine.specs.Engine.{Engine}
-use Rattle.clone_engine.specs.Steps.{Checks, Steps, has_begun}
+use Rattle.clone_engine.specs.Steps.{Checks, Steps, copies_made, has_begun}
 use Rattle.clone_engine.specs.Donor.{Donor}
 use Rattle.clone_engine.specs.Taken.{Taken}
 
@@ -24,8 +24,11 @@ noted_by (call.FlushBegin space page) answer c =
     if has_begun answer then with_noted (space, page) c else c
 noted_by call answer c = c
 
--- and then what was read of it counts no more
+-- and then what was read of it counts no more. A page of a table that is made counts as it is made.
 abbrev pub taken_by : EngineCall → Result EngineAnswer EngineRefusal → Taken → Taken
+taken_by (call.Create table buckets) answer taken = record taken {
+  copies = copies_made answer table buckets taken.copies;
+}
 taken_by (call.FlushBegin space page) answer taken = record taken {
   copies = after_begin (record { space = space; number = page }) (has_begun answer) taken.copies;
 }
@@ -44,14 +47,7 @@ pub record Serves (call : EngineCall) (d t : Donor) (answer : Result EngineAnswe
   pub steps : ServesAs call d t.engine answer
   pub cloning : Becomes t.cloning (noted_by call answer d.cloning)
 
--- No table is made while a session stands.
-abbrev pub Creates : Option Session → ℕ → ℕ → Donor → Donor → Result EngineAnswer EngineRefusal
-    → Type 0
-Creates None table buckets d t answer = Serves (call.Create table buckets) d t answer
-Creates (Some s) table buckets d t answer =
-    (answer ≡ Err (Because (CloneRunning s.number))) × (t ≡ d)
-
--- No table is dropped then either, and where there is none, that is the cause.
+-- No table is dropped while a session stands, and where there is none, that is the cause.
 abbrev pub Drops : Option Session → ℕ → Donor → Donor → Result EngineAnswer EngineRefusal → Type 0
 Drops None table d t answer = Serves (call.Drop table) d t answer
 Drops (Some s) table d t answer =
@@ -59,7 +55,5 @@ Drops (Some s) table d t answer =
     × (t ≡ d)
 
 abbrev pub AnswersCall : EngineCall → Donor → Donor → Result EngineAnswer EngineRefusal → Type 0
-AnswersCall (call.Create table buckets) d t answer =
-    Creates d.cloning.session table buckets d t answer
 AnswersCall (call.Drop table) d t answer = Drops d.cloning.session table d t answer
 AnswersCall call d t answer = Serves call d t answer

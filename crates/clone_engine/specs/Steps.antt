@@ -10,7 +10,7 @@ use Rattle.clone_pool.specs.Frames.{frame_at, name_of}
 use Rattle.clone_pool.specs.Pool.{AreNotWaiting, IsNextToFlush}
 use Rattle.clone_buffer.specs.Buffered.{Buffered}
 use Rattle.clone_buffer.specs.Flushing.{IsReached}
-use Rattle.clone_buffer.specs.OnePage.{Copies, NoFilesOf}
+use Rattle.clone_buffer.specs.OnePage.{Copies, NoFilesOf, after_create}
 use Rattle.clone_flush.specs.Calls.{Begins, Halves, Lands, after_begin, checked, with_file, without_file}
 use Rattle.clone_flush.specs.Flights.{Flights, HasWriteOf}
 use Rattle.clone_flush.specs.declared.refusal.FlushRefusal.{FlushRefusal}
@@ -72,10 +72,16 @@ Sees d after (call.Get trx table key) (answers.Get value) =
     IsTrue after.right → Gets d trx table key value
 Sees d after asked did = Unit {0}
 
+-- a table is made only where no file of it is known
+abbrev pub IsFresh : EngineCall → Engine → Type 0
+IsFresh (call.Create table buckets) s = finite.get s.flights.files table ≡ None
+IsFresh call s = Unit {0}
+
 -- this call was carried out, and did what it is for
 pub record Did (call : EngineCall) (s t : Engine) (did : EngineAnswer) : Type 0 where
   pub does : Does s.donor call did t.donor
   pub sees : Sees s.donor t.buffer call did
+  pub fresh : IsFresh call s
 
 -- a call of transactions answers for its cause or goes its way, up to this answer
 abbrev pub FollowsItsWay : EngineCall → Engine → Engine → Result EngineAnswer EngineRefusal → Type 0
@@ -223,11 +229,18 @@ has_begun (Ok x) = true
 has_begun (Err (Because cause.DiskFault)) = true
 has_begun (Err refusal) = false
 
+-- what a clone has of each page, after a table was made, or wasn't
+abbrev pub copies_made : {X : Type 0} → Result X EngineRefusal → ℕ → ℕ → Copies → Copies
+copies_made (Ok x) table buckets copies = after_create table buckets copies
+copies_made (Err refusal) table buckets copies = copies
+
 -- WHAT A CLONE HAS of each page goes on beside the pages. The tracker notes a page whose flush
--- begins. A table may be made or dropped while no clone is in the FILE COPY of its space.
+-- begins. A page of a table that is made starts as it is made, and a table may be dropped while no
+-- clone is in the FILE COPY of its space.
 abbrev pub KeepsCopies : EngineCall → Engine → Engine → Result EngineAnswer EngineRefusal → Type 0
 KeepsCopies (call.Create table buckets) s t answer =
-    (copies : Copies) → NoFilesOf table copies → StandsBeside s copies → StandsBeside t copies
+    (copies : Copies) → StandsBeside s copies
+    → StandsBeside t (copies_made answer table buckets copies)
 KeepsCopies (call.Drop table) s t answer =
     (copies : Copies) → NoFilesOf table copies → StandsBeside s copies → StandsBeside t copies
 KeepsCopies (call.FlushBegin space page) s t answer =

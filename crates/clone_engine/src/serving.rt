@@ -6,7 +6,7 @@ ghost use Rattle.clone_plain.specs.declared.refusal.Cause.TheVariants.{CloneRunn
 ghost use Rattle.clone_plain.specs.declared.refusal.EngineRefusal.TheVariants.{NoMemory};
 ghost use Rattle.clone_engine.specs.Acts.{EngineActs};
 ghost use Rattle.clone_engine.specs.Donor.{IsDonor};
-ghost use Rattle.clone_engine.specs.Growth.{Makes};
+ghost use Rattle.clone_engine.specs.Growth.{KeepsPages, Makes};
 ghost use Rattle.clone_engine.specs.Over.{over};
 ghost use Rattle.clone_engine.specs.Steps.{answer_of, left_by, left_unmade};
 
@@ -20,7 +20,7 @@ use std::alloc::Global;
 
 // The calls of transactions.
 impl Engine {
-    /// Makes an empty table with a file of its own, unless a session stands.
+    /// Makes an empty table with a file of its own, also while a session stands.
     pub fn create<D: PageDisk>(
         &mut self,
         table: TableNumber,
@@ -32,10 +32,6 @@ impl Engine {
             (answer_of (λ _. answers.Create) result)
             (over self.old (D.state disk.old)) (over self.new (D.state disk.new)) }
     {
-        if let Some(session) = self.cloning.session() {
-            return Err(Cause::CloneRunning { session }.into());
-        }
-        self.cloning.laws();
         self.make_table(table, buckets, disk)
     }
 
@@ -50,6 +46,8 @@ impl Engine {
         ensures makes { Makes (call.Create table buckets)
             (over self.old (D.state disk.old)).engine (over self.new (D.state disk.new)).engine
             (answer_of (λ _. answers.Create) result) }
+        ensures keeps { KeepsPages (over self.old (D.state disk.old)).engine
+            (over self.new (D.state disk.new)).engine }
         ensures same { self.new.cloning ≡ self.old.cloning }
     {
         self.transactions.laws();

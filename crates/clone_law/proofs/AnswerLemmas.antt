@@ -3,7 +3,7 @@ use Rattle.std.proofs.Common.{◌≡◌, ℕ, true, List, [], ◌∷◌, subst, 
 use Rattle.std.specs.List.{AllByRecursion}
 use Rattle.std.proofs.lemmas.Bool.{false≢true}
 use Rattle.clone_image.specs.Redone.{Standing}
-use Rattle.clone_law.specs.Machine.{Copy, Idle, Untracked, Tracked, Copied, Stopped, PageWorld, Event, Created, Begun, Failed, Started, FileRead, FilesEnded, PageRead, PagesEnded, Left, noted, created, file_read, files_ended, page_read, pages_ended, happens, Runs}
+use Rattle.clone_law.specs.Machine.{Copy, Idle, Untracked, Tracked, Copied, Stopped, PageWorld, Event, Created, Opened, Begun, Failed, Started, FileRead, FilesEnded, PageRead, PagesEnded, Left, noted, created, file_read, files_ended, page_read, pages_ended, happens, Runs}
 use Rattle.clone_law.specs.Starts.{HasStart, HasCopied, InSession, InCalm}
 
 read_keeps : (bytes : List ℕ) (c : Copy) (u : Standing) → HasStart c u → HasStart (file_read bytes c) u
@@ -82,6 +82,7 @@ module _ (space number : ℕ) (u : Standing) where
 
   calm_step : (w : PageWorld) (e : Event) → InCalm e ≡ true → HasStart w.copy u → HasStart (happens space number w e).copy u
   calm_step w (Created m) calm has = absurd (false≢true calm)
+  calm_step w (Opened m bytes) calm has = absurd (false≢true calm)
   calm_step w (Begun bytes) calm has = absurd (false≢true calm)
   calm_step w (Failed disk) calm has = absurd (false≢true calm)
   calm_step w (Started listed) calm has = absurd (false≢true calm)
@@ -96,6 +97,7 @@ module _ (space number : ℕ) (u : Standing) where
   session_step w (Started listed) inside has = absurd (false≢true inside)
   session_step w Left inside has = absurd (false≢true inside)
   session_step w (Created m) inside has = created_copied _ w.copy has
+  session_step w (Opened m bytes) inside has = created_copied _ w.copy has
   session_step w (Begun bytes) inside has = noted_copied w.copy has
   session_step w (Failed disk) inside has = noted_copied w.copy has
   session_step w (FileRead bytes) inside has = read_copied bytes w.copy has

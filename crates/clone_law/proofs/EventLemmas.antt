@@ -222,12 +222,16 @@ module _ (space number : ℕ) where
     aligned = at_longer e.checkpoint e.log m r.aligned;
   }
 
+  -- where its space wasn't there, a page was as good as a zero page then
+  zero_since : (log : List (List Record)) (m : List Record) → redone space number log ≡ no_space → Since space number (ends log) (stands zero_page) (log ++ m ∷ [])
+  zero_since log m none = since_longer space number (ends log) (stands zero_page) log m (since_now space number (ends log) (stands zero_page) log (omega arith) (subst (λ (v : Standing). Lax (stands zero_page) v) (sym none) refl))
+
   opened : (e : PageEngine) (m : List Record) (bytes : List ℕ) → EngineRule space number e → Suits space number e.log m → redone space number (e.log ++ m ∷ []) ≡ stands bytes → redone space number e.log ≡ no_space
       → EngineRule space number (record e { log = e.log ++ m ∷ []; disk = stands zero_page; writing = false; frame = Some bytes; oldest = Some (ends e.log); flight = None })
   opened e m bytes r suits now none = record {
     fits = fits_push space number e.log m r.fits suits;
     framed = now;
-    quiet = λ closed has. since_longer space number (ends e.log) (stands zero_page) e.log m (since_now space number (ends e.log) (stands zero_page) e.log (omega arith) (subst (λ (v : Standing). Lax (stands zero_page) v) (sym none) refl));
+    quiet = λ closed has. zero_since e.log m none;
     flying = tt;
     bare = tt;
     order = tt;
@@ -463,7 +467,7 @@ module _ (space number : ℕ) where
   copy_kept w (Passed m) r rule may = copy_passed w.engine m w.copy may.1 rule
   copy_kept w (Changed m bytes) r rule may = copy_changed w.engine m (Some bytes) w.copy rule
   copy_kept w (Created m) r rule may = copy_created w.engine (happens space number w (Created m)).engine m w.copy (redone space number (w.engine.log ++ m ∷ [])) refl refl refl (Lax-refl _) rule
-  copy_kept w (Opened m bytes) r rule may = copy_reset w.engine (happens space number w (Opened m bytes)).engine m w.copy refl may.3 rule
+  copy_kept w (Opened m bytes) r rule may = copy_created w.engine (happens space number w (Opened m bytes)).engine m w.copy (stands zero_page) refl refl refl (zero_since w.engine.log m may.2) rule
   copy_kept w (Dropped m disk) r rule may = copy_reset w.engine (happens space number w (Dropped m disk)).engine m w.copy refl may.2 rule
   copy_kept w (Fetched bytes) r rule may = copy_same w.engine (happens space number w (Fetched bytes)).engine w.copy refl refl (λ a b. (a, b)) rule
   copy_kept w Evicted r rule may = copy_same w.engine (happens space number w Evicted).engine w.copy refl refl (λ a b. (a, b)) rule

@@ -122,7 +122,7 @@ started true flight starts = Tracked
 started false (Some i) starts = Tracked
 started false None starts = Untracked starts
 
--- the space is made, and the page starts as it is then
+-- the space is made, and the page starts as the disk has it then
 abbrev pub created : Standing → Copy → Copy
 created v Idle = Idle
 created v (Untracked starts) = Untracked (v ∷ [])
@@ -194,7 +194,7 @@ happens space number w (Opened m bytes) =
         oldest = Some (ends w.engine.log);
         flight = None;
       };
-      copy = w.copy;
+      copy = created (stands zero_page) w.copy;
     }
 happens space number w (Dropped m disk) =
     record {
@@ -282,7 +282,7 @@ Allowed space number w (Created m) = Suits space number w.engine.log m
 Allowed space number w (Opened m bytes) =
     Suits space number w.engine.log m
     × (redone space number (w.engine.log ++ m ∷ []) ≡ stands bytes)
-    × (redone space number w.engine.log ≡ no_space) × NoFiles w.copy
+    × (redone space number w.engine.log ≡ no_space)
 Allowed space number w (Dropped m disk) =
     Suits space number w.engine.log m × (redone space number (w.engine.log ++ m ∷ []) ≡ no_space)
     × NoFiles w.copy

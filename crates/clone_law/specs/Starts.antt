@@ -4,7 +4,7 @@ use Rattle.clone_mtr.specs.declared.record.Record.{Record}
 use Rattle.clone_image.specs.Redone.{Standing, redone, redone_from}
 use Rattle.clone_law.specs.Touches.{Lax}
 use Rattle.clone_law.specs.Since.{ends}
-use Rattle.clone_law.specs.Machine.{Copy, Idle, Untracked, Tracked, Copied, Stopped, Event, Created, Begun, Failed, Started, Left}
+use Rattle.clone_law.specs.Machine.{Copy, Idle, Untracked, Tracked, Copied, Stopped, Event, Created, Opened, Begun, Failed, Started, Left}
 
 -- Redo of a starting value by the archived log gives the page as it was at the stop.
 abbrev pub Gives : ℕ → ℕ → ℕ → List (List Record) → Standing → Type 0
@@ -44,6 +44,7 @@ abbrev pub InCalm : Event → Bool
 InCalm (Started listed) = false
 InCalm Left = false
 InCalm (Created m) = false
+InCalm (Opened m bytes) = false
 InCalm (Begun bytes) = false
 InCalm (Failed disk) = false
 InCalm _ = true

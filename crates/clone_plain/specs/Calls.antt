@@ -47,8 +47,8 @@ Does d call.Checkpoint (answers.Checkpoint lsn) after = after ≡ d
 Does d call.End (answers.End lsn) after = after ≡ d
 Does d asked given after = ⊥
 
--- a cause that the plain donor doesn't know: a page, the log or the pool is full, a clone runs, a
--- page isn't at this step of a flush, or the disk failed
+-- a cause that the plain donor doesn't know: a page, the log or the pool is full, a page isn't at
+-- this step of a flush, or the disk failed
 abbrev pub is_below : Cause → Bool
 is_below NoSuchTrx = false
 is_below NoSuchTable = false
@@ -61,7 +61,7 @@ is_below (LogFull need free) = true
 is_below (PoolFull frames) = true
 is_below TooManyTransactions = false
 is_below TooManyTables = false
-is_below (CloneRunning session) = true
+is_below (CloneRunning session) = false
 is_below (TableInUse trx) = false
 is_below NotDirty = true
 is_below InFlight = true
@@ -69,10 +69,10 @@ is_below NoFlush = true
 is_below DiskFault = true
 
 -- A call is refused for the cause against it. Where there is none, it may be refused for one that
--- the plain donor doesn't know. A clone that runs is against a new table ahead of all other causes,
--- and against a drop behind one alone, that there is no such table.
+-- the plain donor doesn't know. A clone that runs is against a drop alone, and only where there is
+-- such a table.
 abbrev pub IsRefused : Donor → EngineCall → Cause → Type 0
-IsRefused d (call.Create table buckets) (CloneRunning session) = Unit {0}
+IsRefused d (call.Create table buckets) (CloneRunning session) = ⊥
 IsRefused d (call.Drop table) (CloneRunning session) = no_table d table ≡ None
 IsRefused d call cause =
     (cause_of d call ≡ Some cause) ⊎ ((cause_of d call ≡ None) × (is_below cause ≡ true))

@@ -38,7 +38,7 @@ pub enum Cause {
     TooManyTransactions,
     /// E11: 62 tables are there.
     TooManyTables,
-    /// E12: a session of a clone stands, so no table is made, and none is dropped.
+    /// E12: a session of a clone stands, so no table is dropped.
     CloneRunning {
         /// Its number.
         session: u64,

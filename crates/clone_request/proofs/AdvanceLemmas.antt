@@ -1,5 +1,5 @@
 -- What a step of a clone leaves, by what it answers.
-use Rattle.std.proofs.Common.{◌≡◌, ◌≤◌, ◌+◌, ◌==◌, ◌⊎◌, ℕ, zero, suc, Bool, true, false, cond, Option, None, Some, Result, Ok, Err, length, is_some, refl, sym, ap, subst, ◌∙◌, arith, inl, inr}
+use Rattle.std.proofs.Common.{◌≡◌, ◌≤◌, ◌+◌, ◌==◌, ◌⊎◌, ℕ, zero, suc, List, [], Bool, true, false, cond, Option, None, Some, Result, Ok, Err, length, is_some, refl, sym, ap, subst, ◌∙◌, arith, inl, inr}
 use Rattle.std.specs.Prelude.{IsErrAnd, unwrap_or}
 use Rattle.std.proofs.lemmas.Bool.{cases_lt}
 use Rattle.clone_outside.specs.Disk.{DiskImage, ForTold, blank}
@@ -10,12 +10,15 @@ use Rattle.clone_lay.proofs.SizeLemmas.{no_sizes}
 use Rattle.clone_chunk.specs.declared.stage.Stage.{Stage}
 use Rattle.clone_chunk.specs.declared.stage.Stage.TheVariants.{FileCopy, PageCopy, RedoCopy, Done}
 use Rattle.clone_chunk.specs.Stages.{stage_number}
+use Rattle.clone_chunk.specs.declared.plan.StagePlan.{StagePlan}
+use Rattle.clone_chunk.specs.declared.plan.StagePlan.TheVariants as plans
+use Rattle.clone_chunk.specs.declared.spaces.SpaceSize.{SpaceSize}
 use Rattle.clone_chunk.specs.Plans.{checkpoint_of, spaces_of, stage_of}
 use Rattle.clone_session.specs.declared.info.StageInfo.{StageInfo}
 use Rattle.std.specs.FinMap as finite
 use Rattle.clone_plain.specs.Donor as plain
 use Rattle.clone_engine.proofs.ToldLemmas.{for_told}
-use Rattle.clone_engine.specs.Donor.{Donor}
+use Rattle.clone_engine.specs.Donor.{Donor, IsDonor}
 use Rattle.clone_request.specs.declared.requester.TheConstants.{SESSION}
 use Rattle.clone_request.specs.declared.requester.Advanced.{Advanced}
 use Rattle.clone_request.specs.declared.requester.Advanced.TheVariants.{Ready, Complete}
@@ -26,7 +29,8 @@ use Rattle.clone_trx.specs.Kept.{IsSafe}
 use Rattle.clone_engine.specs.Engine.{IsEngine}
 use Rattle.clone_request.specs.Copying.{HasAsked, IsAllCopied, IsCopying, IsDone}
 use Rattle.clone_request.proofs.BeginLemmas.{begun_copying}
-use Rattle.clone_request.specs.Laying.{KeepsMark, pairs_of, with_rooms}
+use Rattle.clone_accepted.specs.Disk.{with_rooms}
+use Rattle.clone_request.specs.Laying.{KeepsMark, pairs_of}
 use Rattle.clone_request.specs.Reading.{Asks, stop_after_ack}
 use Rattle.clone_request.specs.Requester.{IsStopOf, IsUnderWay, Requester}
 use Rattle.clone_request.proofs.StepLemmas.{mark_stays}
@@ -136,28 +140,82 @@ asked_done r d t told stop info asks is =
     let same : stop_after_ack r.stages d stop ≡ stop = ap (λ (n : ℕ). stop_after_ack n d stop) last in
     (last, subst (λ (o : Option plain.Donor). IsDone t told info o) same (subst (λ (s : Stage). HasAsked s info t told r.sizes (stop_after_ack r.stages d stop)) is asks.1), subst (λ (o : Option plain.Donor). IsStopOf o t.cloning.stop) same asks.2)
 
-pub asked_sizes : (r : Requester) (d t : Donor) (told : Option DiskImage) (stop : Option plain.Donor) (info : StageInfo) → Asks r d told stop (Ok info) t → stage_of info.plan ≡ FileCopy → ForTold told (AreSizes r.sizes)
-asked_sizes r d t told stop info asks is =
-    let asked = subst (λ (s : Stage). HasAsked s info t told r.sizes (stop_after_ack r.stages d stop)) is asks.1 in
-    subst (λ (sizes : PageCounts). ForTold told (AreSizes sizes)) (sym asked.1)
-    (for_told (λ m. m ≡ marked (InProgress SESSION) blank) (AreSizes finite.empty) told (λ m same. no_sizes m (ap (λ (x : DiskImage). x.spaces) same)) asked.3)
+-- a stage that is copied
+abbrev pub IsOfCopy : Stage → Type 0
+IsOfCopy s = (s ≡ FileCopy) ⊎ ((s ≡ PageCopy) ⊎ (s ≡ RedoCopy))
 
--- another stage is being copied at once, and the first one once there is room for the files
-pub asked_copies : (r : Requester) (d t : Donor) (told : Option DiskImage) (stop : Option plain.Donor) (info : StageInfo) → Asks r d told stop (Ok info) t → (stage_of info.plan ≡ PageCopy) ⊎ (stage_of info.plan ≡ RedoCopy) → IsCopying t told r.sizes (stage_number (stage_of info.plan)) (checkpoint_of info.plan) None (stop_after_ack r.stages d stop)
-asked_copies r d t told stop info asks (inl is) =
-    let at : Option plain.Donor = stop_after_ack r.stages d stop in
-    subst (λ (s : Stage). IsCopying t told r.sizes (stage_number s) (checkpoint_of info.plan) None at) (sym is) (subst (λ (s : Stage). HasAsked s info t told r.sizes at) is asks.1)
-asked_copies r d t told stop info asks (inr is) =
-    let at : Option plain.Donor = stop_after_ack r.stages d stop in
-    subst (λ (s : Stage). IsCopying t told r.sizes (stage_number s) (checkpoint_of info.plan) None at) (sym is) (subst (λ (s : Stage). HasAsked s info t told r.sizes at) is asks.1)
+pub asked_sizes : (r : Requester) (d t : Donor) (told : Option DiskImage) (stop : Option plain.Donor) (info : StageInfo) → Asks r d told stop (Ok info) t → IsOfCopy (stage_of info.plan) → ForTold told (AreSizes r.sizes)
+asked_sizes r d t told stop info asks copied = by copied
+  where
+    Asked : Stage → Type 0
+    Asked s = HasAsked s info t told r.sizes (stop_after_ack r.stages d stop)
 
-pub asked_begins : (r : Requester) (d t : Donor) (told now : Option DiskImage) (kept : PageCounts) (stop : Option plain.Donor) (info : StageInfo) → IsEngine t.engine → IsSafe t.engine.donor → Asks r d told stop (Ok info) t → stage_of info.plan ≡ FileCopy → is_some now ≡ is_some told → KeepsMark told now
+    by : IsOfCopy (stage_of info.plan) → ForTold told (AreSizes r.sizes)
+    by (inl is) =
+        let asked = subst Asked is asks.1 in
+        subst (λ (sizes : PageCounts). ForTold told (AreSizes sizes)) (sym asked.1)
+        (for_told (λ m. m ≡ marked (InProgress SESSION) blank) (AreSizes finite.empty) told (λ m same. no_sizes m (ap (λ (x : DiskImage). x.spaces) same)) asked.3)
+    by (inr (inl is)) = (subst Asked is asks.1).sized
+    by (inr (inr is)) = (subst Asked is asks.1).in_stage.sized
+
+-- redo is copied into no new space
+no_spaces : (plan : StagePlan) → stage_of plan ≡ RedoCopy → spaces_of plan ≡ []
+no_spaces (plans.FileCopy chunks spaces) is = absurd (cc)
+no_spaces (plans.PageCopy chunks position spaces) is = absurd (cc)
+no_spaces (plans.RedoCopy chunks checkpoint lsn position) is = refl
+no_spaces (plans.Done checkpoint lsn position) is = absurd (cc)
+
+none_made : (spaces : List SpaceSize) (told now : Option DiskImage) → spaces ≡ [] → Steps told now (with_rooms (pairs_of spaces)) → told ≡ now
+none_made spaces told now none steps = by told (subst (λ (ss : List SpaceSize). Steps told now (with_rooms (pairs_of ss))) none steps)
+  where
+    by : (o : Option DiskImage) → Steps o now (λ m. m) → o ≡ now
+    by None is = sym is
+    by (Some m) is = sym is
+
+copying_sized : (d : Donor) (told : Option DiskImage) (sizes kept : PageCounts) (stage checkpoint : ℕ) (stop : Option plain.Donor) → IsCopying d told sizes stage checkpoint None stop → ForTold told (AreSizes kept) → IsCopying d told kept stage checkpoint None stop
+copying_sized d told sizes kept stage checkpoint stop was sized = record {
+  session = was.session;
+  taken = was.taken;
+  in_stage = record {
+    donor = was.in_stage.donor;
+    session = was.in_stage.session;
+    own = was.in_stage.own;
+    settled = was.in_stage.settled;
+    is = was.in_stage.is;
+    early = was.in_stage.early;
+    disk = was.in_stage.disk;
+    mark = was.in_stage.mark;
+    sized = sized;
+  };
+  works = was.works;
+  stage_is = was.stage_is;
+  starts = was.starts;
+  at = was.at;
+}
+
+-- it is being copied once there is room for its spaces
+pub asked_copies : (r : Requester) (d t : Donor) (told now : Option DiskImage) (kept : PageCounts) (stop : Option plain.Donor) (info : StageInfo) → IsDonor t → IsSafe t.engine.donor → Asks r d told stop (Ok info) t → IsOfCopy (stage_of info.plan) → is_some now ≡ is_some told → KeepsMark told now
     → Steps told now (with_rooms (pairs_of (spaces_of info.plan))) → ForTold now (AreSizes kept) → IsCopying t now kept (stage_number (stage_of info.plan)) (checkpoint_of info.plan) None (stop_after_ack r.stages d stop)
-asked_begins r d t told now kept stop info engine safe asks is tells keeps steps sizes =
-    let at : Option plain.Donor = stop_after_ack r.stages d stop in
-    let asked = subst (λ (s : Stage). HasAsked s info t told r.sizes at) is asks.1 in
-    subst (λ (s : Stage). IsCopying t now kept (stage_number s) (checkpoint_of info.plan) None at) (sym is)
-    (subst (λ (o : Option plain.Donor). IsCopying t now kept 1 (checkpoint_of info.plan) None o) (sym asked.2) (begun_copying t info asked.0 told now kept engine safe asked.3 tells keeps steps sizes))
+asked_copies r d t told now kept stop info donor safe asks copied tells keeps steps sizes = by copied
+  where
+    at : Option plain.Donor
+    at = stop_after_ack r.stages d stop
+
+    Asked : Stage → Type 0
+    Asked s = HasAsked s info t told r.sizes at
+
+    Copies : Stage → Type 0
+    Copies s = IsCopying t now kept (stage_number s) (checkpoint_of info.plan) None at
+
+    by : IsOfCopy (stage_of info.plan) → Copies (stage_of info.plan)
+    by (inl is) =
+        let asked = subst Asked is asks.1 in
+        subst Copies (sym is)
+        (subst (λ (o : Option plain.Donor). IsCopying t now kept 1 (checkpoint_of info.plan) None o) (sym asked.2) (begun_copying t info asked.0 told now kept donor safe asked.3 tells keeps steps sizes))
+    by (inr (inl is)) = subst Copies (sym is) ((subst Asked is asks.1).roomed now kept tells keeps steps sizes)
+    by (inr (inr is)) =
+        subst Copies (sym is)
+        (copying_sized t now r.sizes kept 3 (checkpoint_of info.plan) at (subst (λ (o : Option DiskImage). IsCopying t o r.sizes 3 (checkpoint_of info.plan) None at) (none_made (spaces_of info.plan) told now (no_spaces info.plan is) steps) (subst Asked is asks.1)) sizes)
 
 -- the stage that was asked for is copied
 pub asked_ready : (r : Requester) (d t u : Donor) (told now : Option DiskImage) (kept : PageCounts) (stop : Option plain.Donor) (info : StageInfo) → Asks r d told stop (Ok info) t → stage_number (stage_of info.plan) ≤ 3 → u.cloning.stop ≡ t.cloning.stop
@@ -169,9 +227,10 @@ asked_ready r d t u told now kept stop info asks low same copied =
     let ready = way_goes_on u now kept (r.stages + 1) (checkpoint_of info.plan) at (omega arith) last (subst (λ (n : ℕ). IsAllCopied u now kept n (checkpoint_of info.plan) at) asks.0 copied) (subst (IsStopOf at) (sym same) asks.2) in
     (last, subst (λ (o : Option plain.Donor). IsUnderWay u (record { sizes = kept; stages = r.stages + 1 }) now o) (stop_then r.stages d stop last) ready)
 
-pub copied_low : (s : Stage) → (s ≡ PageCopy) ⊎ (s ≡ RedoCopy) → stage_number s ≤ 3
+pub copied_low : (s : Stage) → IsOfCopy s → stage_number s ≤ 3
 copied_low s (inl is) = subst (λ (x : Stage). stage_number x ≤ 3) (sym is) (omega arith)
-copied_low s (inr is) = subst (λ (x : Stage). stage_number x ≤ 3) (sym is) (omega arith)
+copied_low s (inr (inl is)) = subst (λ (x : Stage). stage_number x ≤ 3) (sym is) (omega arith)
+copied_low s (inr (inr is)) = subst (λ (x : Stage). stage_number x ≤ 3) (sym is) (omega arith)
 
 -- an error is a step that failed
 pub leaves_failed : (r s : Requester) (d t : Donor) (stop : Option plain.Donor) (result : Result Advanced StepRefusal) (now : Option DiskImage) (P : StepRefusal → Type 0) → IsErrAnd result P → Fails d t now stop → Leaves r d stop result s t now

@@ -1,5 +1,5 @@
 -- A chunk of a stage is claimed, or none is free.
-use Rattle.std.proofs.Common.{◌≡◌, ◌<◌, ◌+◌, ℕ, List, Option, Some, None, Ok, cond, refl, sym, ap, subst, ◌∙◌, arith}
+use Rattle.std.proofs.Common.{◌≡◌, ◌<◌, ◌+◌, ℕ, List, Option, Some, None, Ok, cond, refl, sym, ap, subst, ◌∙◌, arith, ◌⊎◌}
 use Rattle.std.specs.Prelude.{IfSome, length, slice_set, get_or}
 use Rattle.std.specs.List.{All, count_by}
 use Rattle.std.specs.Option.{ForSome, option_map_or}
@@ -26,13 +26,13 @@ use Rattle.clone_engine.proofs.ToldLemmas.{for_told}
 use Rattle.clone_calls.specs.declared.answer.DonorAnswer.TheVariants as answer
 use Rattle.clone_calls.specs.declared.call.DonorCall.TheVariants as call
 use Rattle.clone_engine.specs.Acts.{CloneActs}
-use Rattle.clone_engine.specs.Donor.{Donor}
+use Rattle.clone_engine.specs.Donor.{Donor, IsDonor}
 use Rattle.clone_engine.specs.Taken.{IsTaken, Taken}
 use Rattle.clone_request.specs.declared.asking.TheConstants.{CALLER}
 use Rattle.clone_request.specs.Copying.{IsAllCopied, IsCopying, IsWork, StartsAt, free_left}
-use Rattle.clone_request.specs.Requester.{HoldsListed, HoldsStage, IsInStage, redo_from}
-use Rattle.clone_request.specs.Waiting.{BeginsAt, HasPage, InWork, Waits, WaitsForPage, WaitsForRedo}
-use Rattle.clone_request.proofs.HeldLemmas.{holds_weaker}
+use Rattle.clone_request.specs.Requester.{HoldsListed, HoldsStage, IsInStage, made_in, redo_from}
+use Rattle.clone_request.specs.Waiting.{BeginsAt, HasPage, InWork, Waits, WaitsForPage, WaitsForRedo, WaitsForRoom}
+use Rattle.clone_request.proofs.HeldLemmas.{first_weaker, holds_weaker}
 use Rattle.clone_request.proofs.RedoLemmas.{redo_weaker}
 use Rattle.clone_request.proofs.WaitLemmas.{all_finished, claimed_settled, claimed_waits}
 
@@ -50,9 +50,11 @@ listed_weaker (lists.Redo start end) olds news work None a m weaker holds = hold
 listed_weaker (lists.Redo start end) olds news work (Some at) None m weaker holds = holds
 listed_weaker lists.Nothing olds news work at a m weaker holds = holds
 
-stage_weaker : (list : StageList) (olds news : List Chunk) (work : Option InWork) (taken : Taken) (a : Option Archived) (m : DiskImage) → Weaker list olds news work → HoldsStage list olds None taken a m → HoldsStage list news work taken a m
-stage_weaker list olds news work taken a m weaker holds = record {
-  pages = holds_weaker (WaitsForPage list olds None) (WaitsForPage list news work) taken.copies m (λ s n. weaker (HasPage s n)) holds.pages;
+stage_weaker : (made : List (ℕ × ℕ)) (list : StageList) (olds news : List Chunk) (work : Option InWork) (taken : Taken) (a : Option Archived) (m : DiskImage) → Weaker list olds news work → HoldsStage made list olds None taken a m → HoldsStage made list news work taken a m
+stage_weaker made list olds news work taken a m weaker holds = record {
+  pages = holds_weaker (λ s n. WaitsForPage list olds None s n ⊎ WaitsForRoom made s) (λ s n. WaitsForPage list news work s n ⊎ WaitsForRoom made s) taken.copies m (λ s n. first_weaker (weaker (HasPage s n))) holds.pages;
+  made_as = holds.made_as;
+  listed = holds.listed;
   redo = listed_weaker list olds news work taken.stop a m weaker holds.redo;
 }
 
@@ -70,16 +72,17 @@ module _ (d : Donor) (s : Session) (chunk : ℕ) (least : IsLeastFree s.snap.chu
   abbrev after : Donor
   after = record { engine = d.engine; cloning = claimed 0 chunk s d.cloning }
 
-  claimed_in : (taken : Taken) (sizes : PageCounts) (told : Option DiskImage) → IsTaken after taken → IsInStage d s None taken sizes told → IsInStage after next (Some work) taken sizes told
-  claimed_in taken sizes told goes is = record {
+  claimed_in : (taken : Taken) (sizes : PageCounts) (told : Option DiskImage) → IsDonor after → IsTaken after taken → IsInStage d s None taken sizes told → IsInStage after next (Some work) taken sizes told
+  claimed_in taken sizes told donor goes is = record {
+    donor = donor;
     session = refl;
     own = record { number = is.own.number; incarnation = is.own.incarnation; tasks = is.own.tasks; version = is.own.version };
     settled = claimed_settled s.snap.chunks chunk is.settled;
     is = goes;
     early = is.early;
-    disk = for_told (λ _. ForTold told (HoldsStage s.snap.list s.snap.chunks None taken d.cloning.archive)) (λ _. ForTold told (HoldsStage s.snap.list chunks (Some work) taken d.cloning.archive)) d.engine.disk.told
-        (λ _. for_told (HoldsStage s.snap.list s.snap.chunks None taken d.cloning.archive) (HoldsStage s.snap.list chunks (Some work) taken d.cloning.archive) told
-        (λ m. stage_weaker s.snap.list s.snap.chunks chunks (Some work) taken d.cloning.archive m (λ Has. claimed_waits s.snap.list s.snap.chunks chunk Has least))) is.disk;
+    disk = for_told (λ _. ForTold told (HoldsStage (made_in d.engine s.snap.list) s.snap.list s.snap.chunks None taken d.cloning.archive)) (λ _. ForTold told (HoldsStage (made_in d.engine s.snap.list) s.snap.list chunks (Some work) taken d.cloning.archive)) d.engine.disk.told
+        (λ _. for_told (HoldsStage (made_in d.engine s.snap.list) s.snap.list s.snap.chunks None taken d.cloning.archive) (HoldsStage (made_in d.engine s.snap.list) s.snap.list chunks (Some work) taken d.cloning.archive) told
+        (λ m. stage_weaker (made_in d.engine s.snap.list) s.snap.list s.snap.chunks chunks (Some work) taken d.cloning.archive m (λ Has. claimed_waits s.snap.list s.snap.chunks chunk Has least))) is.disk;
     mark = is.mark;
     sized = is.sized;
   }
@@ -117,7 +120,7 @@ claims d t stage chunk checkpoint told sizes stop snap acts is =
     subst (λ (x : Donor). IsCopying x told sizes stage checkpoint work stop) (sym now) (record {
       session = next d s chunk least;
       taken = is.taken;
-      in_stage = claimed_in d s chunk least is.taken sizes told (subst (λ (x : Donor). IsTaken x is.taken) now (acts.taken is.taken is.in_stage.is)) (subst (λ (x : Session). IsInStage d x None is.taken sizes told) same is.in_stage);
+      in_stage = claimed_in d s chunk least is.taken sizes told (subst IsDonor now acts.donor) (subst (λ (x : Donor). IsTaken x is.taken) now (acts.taken is.taken is.in_stage.is)) (subst (λ (x : Session). IsInStage d x None is.taken sizes told) same is.in_stage);
       works = claimed_works d s chunk least (snap s stands).count;
       stage_is = ap donor_stage (sym same) ∙ is.stage_is;
       starts = subst (λ (x : Session). StartsAt x.snap.list checkpoint) same is.starts;

@@ -1,14 +1,14 @@
 -- A session begins: each page of the donor's files waits, and of all others what stands counts.
 use Rattle.std.proofs.Common.{◌≡◌, ◌≢◌, ◌<◌, ◌≤◌, ◌⊎◌, ◌∙◌, ◌∷◌, inl, inr, [], ℕ, zero, suc, List, length, get_or, Bool, true, false, Option, None, Some, refl, arith, sym, ap, subst, is_some, IsSome, if◌then◌else◌}
-use Rattle.std.specs.Prelude.{nat_le, option_and_then, option_map, replicate, slice_get}
+use Rattle.std.specs.Prelude.{IsTrue, nat_le, not, option_and_then, option_map, replicate, slice_get}
 use Rattle.std.specs.FinMap as finite
-use Rattle.std.specs.List.{Contains, flat_map}
+use Rattle.std.specs.List.{AllByRecursion, Contains, flat_map}
 use Rattle.std.proofs.lemmas.Bool.{cases_eq, cases_lt, leb-false}
-use Rattle.std.proofs.lemmas.List.Elements.{Contains-append_left, Contains-append_right}
+use Rattle.std.proofs.lemmas.List.Elements.{All-filter, Contains-append_left, Contains-append_right, recursion_from_All}
 use Rattle.std.proofs.lemmas.List.FromFn.{get_or-map-range_with_len, length-map-range_with_len}
 use Rattle.std.proofs.lemmas.Option.{slice_get_within}
 use Rattle.clone_base.specs.declared.limits.TheConstants.{REDO_SPACE}
-use Rattle.clone_outside.specs.Disk.{DiskImage, pages_in}
+use Rattle.clone_outside.specs.Disk.{DiskImage, ForTold, pages_in}
 use Rattle.clone_contents.specs.Records.{system_size}
 use Rattle.clone_image.specs.Image.{page_count}
 use Rattle.clone_image.specs.Redone.{Standing, past_end, standing_of}
@@ -17,6 +17,11 @@ use Rattle.clone_overlay.specs.Images.{redo_space}
 use Rattle.clone_overlay.specs.Images as overlay
 use Rattle.clone_law.specs.Machine.{Untracked}
 use Rattle.clone_buffer.specs.Buffered.{image_of}
+use Rattle.clone_buffer.specs.OnePage.{no_copies}
+use Rattle.clone_flush.specs.Flights.{IsFlown}
+use Rattle.clone_session.specs.Effects.{created_since, is_listed}
+use Rattle.clone_standing.specs.Latest.{IsLowRoom}
+use Rattle.clone_engine.proofs.ToldLemmas.{told_both}
 use Rattle.clone_chunk.specs.declared.chunk.Chunk.TheVariants.{Free}
 use Rattle.clone_snapshot.specs.StageLists.{Files, all_pages, chunk_count, pages_of_space}
 use Rattle.clone_flush.specs.Flights.{ends_before}
@@ -26,9 +31,10 @@ use Rattle.clone_engine.specs.Engine.{Engine, IsEngine, IsInFile}
 use Rattle.clone_engine.specs.Copies.{first_copies, first_copy, first_starts, is_noted}
 use Rattle.clone_engine.specs.Donor.{IsPageOf, known_files}
 use Rattle.clone_engine.proofs.TakenPages.{all_entries, has_entry}
-use Rattle.clone_request.specs.Laying.{with_rooms}
-use Rattle.clone_request.specs.Waiting.{Counts, HoldsPages, WaitsForPage}
-use Rattle.clone_request.proofs.RoomLemmas.{rooms_beside_redo, rooms_past, rooms_quiet, rooms_short, rooms_standing}
+use Rattle.clone_accepted.specs.Disk.{with_rooms}
+use Rattle.clone_standing.specs.Counting.{Counts}
+use Rattle.clone_request.specs.Waiting.{HoldsPages, WaitsForPage}
+use Rattle.clone_standing.proofs.RoomLemmas.{rooms_beside_redo, rooms_past, rooms_quiet, rooms_short, rooms_standing}
 use Rattle.clone_request.proofs.WaitLemmas.{first_pages}
 
 -- what a part of a joined list has
@@ -140,3 +146,22 @@ module _ (e : Engine) (engine : IsEngine e) (safe : IsSafe e.donor) where
         at s n low true file is = inr (inl refl)
         at s n low false None is = inr (inr (inl (rooms_standing (known_files e) m empty s n low)))
         at s n low false (Some pages) is = by s n pages low is (ends_before (Some pages) n) refl
+
+-- SPACES THAT WERE MADE SINCE are such files, too.
+pub made_low : (e : Engine) → IsEngine e → IsSafe e.donor → (spaces : List (ℕ × ℕ)) → ForTold e.disk.told (λ _. AllByRecursion IsLowRoom (created_since spaces (known_files e)))
+made_low e engine safe spaces =
+    told_both (IsFlown e.buffer e.flights no_copies) (λ _. IsWithin) (λ _. AllByRecursion IsLowRoom made) e.disk.told (λ m flown within. low flown.kept.right within) engine.stands engine.within
+  where
+    IsWithin : Type 0
+    IsWithin = (space number : ℕ) → IsInFile e space number → IsPageOf e space number
+
+    is_made : ℕ × ℕ → Bool
+    is_made file = not (is_listed file.0 spaces)
+
+    made : List (ℕ × ℕ)
+    made = created_since spaces (known_files e)
+
+    low : IsTrue e.buffer.right → IsWithin → AllByRecursion IsLowRoom made
+    low right within =
+        recursion_from_All IsLowRoom made (All-filter is_made IsLowRoom (known_files e)
+        (all_entries (λ s pages. (s < redo_space) × (s ≡ 0 → pages ≤ system_size)) e.flights.files (λ s pages known. (file_low e engine safe s pages known, short_file e engine safe (engine.keeps.kept right) within s pages known))))

@@ -61,18 +61,21 @@ use Rattle.clone_engine.proofs.ToldLemmas.{of_told}
 use Rattle.clone_request.specs.Copying.{IsCopying, IsWork, StartsAt, free_left}
 use Rattle.clone_request.specs.Laying.{KeepsMark, reads_of, with_laid}
 use Rattle.clone_request.specs.Reading.{AreLow, ReadsInto, work_after}
-use Rattle.clone_request.specs.Requester.{HoldsListed, HoldsStage, redo_from}
-use Rattle.clone_request.specs.Waiting.{AreSettled, BeginsAt, HasPage, HoldsRedo, InWork, Waits, WaitsForPage, WaitsForRedo}
+use Rattle.clone_request.specs.Requester.{HoldsListed, HoldsStage, made_in, redo_from}
+use Rattle.clone_request.specs.Waiting.{AreSettled, BeginsAt, HasOnlyListed, HasPage, HoldsRedo, InWork, Waits, WaitsForPage, WaitsForRedo, WaitsForRoom}
 use Rattle.clone_request.specs.declared.asking.TheConstants.{CALLER}
 use Rattle.clone_request.specs.declared.requester.TheConstants.{SESSION}
 use Rattle.clone_request.proofs.FileLemmas.{own_low}
-use Rattle.clone_request.proofs.HeldLemmas.{IsLow, IsNotOf, MayCount, holds_beside, holds_pages, holds_weaker}
+use Rattle.clone_request.proofs.HeldLemmas.{first_weaker, IsLow, IsNotOf, MayCount, holds_beside, holds_pages, holds_weaker}
 use Rattle.clone_request.proofs.LastBlocks.{last_numbered}
 use Rattle.clone_request.proofs.ReadLemmas.{left_in, same_session}
-use Rattle.clone_request.proofs.RedoBlocks.{block_number}
-use Rattle.clone_request.proofs.RedoLemmas.{redo_laid, redo_same_but, redo_weaker}
+use Rattle.clone_request.proofs.RedoLemmas.{redo_laid, redo_weaker}
 use Rattle.clone_request.proofs.StageLemmas.{files_may, pages_may}
-use Rattle.clone_request.proofs.StandingLemmas.{laid_beside_redo, redo_quiet}
+use Rattle.clone_standing.specs.Latest.{redo_number}
+use Rattle.clone_request.proofs.MadeLemmas.{made_read, only_laid}
+use Rattle.clone_standing.proofs.DiskLemmas.{redo_beside}
+use Rattle.clone_standing.proofs.RedoBytes.{block_number}
+use Rattle.clone_standing.proofs.StandingLemmas.{laid_beside_redo, redo_quiet}
 use Rattle.clone_request.proofs.WaitLemmas.{laid_settled, laid_waits, last_settled, last_waits}
 
 -- THE DISK
@@ -258,6 +261,9 @@ module _ (d t : Donor) (told : Option DiskImage) (sizes : PageCounts) (stage che
       by true = refl
       by false = refl
 
+  made_now : made_in t.engine list ≡ made_in d.engine list
+  made_now = ap (λ (e : Engine). made_in e list) visits.same
+
   told_now : t.engine.disk.told ≡ d.engine.disk.told
   told_now = ap (λ (e : Engine). e.disk.told) visits.same
 
@@ -295,23 +301,24 @@ module _ (d t : Donor) (told : Option DiskImage) (sizes : PageCounts) (stage che
           subst (IsWork was.session) same (old.0, more end (cases_lt (number + 1) (block_count list chunk)))
 
   abbrev Now : Taken → Option Archived → DiskImage → Type 0
-  Now taken archive = HoldsStage list (chunks_with last) (work_after chunk number last) taken archive
+  Now taken archive = HoldsStage (made_in d.engine list) list (chunks_with last) (work_after chunk number last) taken archive
 
   -- the stage, once the block is laid
-  copying_now : (taken : Taken) (step : DiskImage → DiskImage) → IsTaken t taken → taken.stop ≡ was.taken.stop
-      → ((m : DiskImage) → d.engine.disk.told ≡ Some m → (x : DiskImage) → HoldsStage list chunks in_work was.taken d.cloning.archive x → Now taken d.cloning.archive (step x))
+  copying_now : (taken : Taken) (step : DiskImage → DiskImage) → IsDonor t → IsTaken t taken → taken.stop ≡ was.taken.stop
+      → ((m : DiskImage) → d.engine.disk.told ≡ Some m → (x : DiskImage) → HoldsStage (made_in d.engine list) list chunks in_work was.taken d.cloning.archive x → Now taken d.cloning.archive (step x))
       → (now : Option DiskImage) (kept : PageCounts) → is_some now ≡ is_some told → KeepsMark told now → ForTold t.engine.disk.told (λ _. Steps told now step) → ForTold now (AreSizes kept)
       → IsCopying t now kept stage checkpoint (work_after chunk number last) stop
-  copying_now taken step is stop_same laid now kept tells keeps steps sized = record {
+  copying_now taken step donor is stop_same laid now kept tells keeps steps sized = record {
     session = session_with last;
     taken = taken;
     in_stage = record {
+      donor = donor;
       session = stands_now;
       own = record { number = was.in_stage.own.number; incarnation = was.in_stage.own.incarnation; tasks = was.in_stage.own.tasks; version = was.in_stage.own.version };
       settled = settled_now;
       is = is;
       early = λ low. stop_same ∙ was.in_stage.early low;
-      disk = subst (λ (o : Option DiskImage). ForTold o (λ _. ForTold now (Now taken t.cloning.archive))) (sym told_now) (subst (λ (o : Option Archived). ForTold d.engine.disk.told (λ _. ForTold now (Now taken o))) (sym archive_now) disk);
+      disk = subst (λ (made : List (ℕ × ℕ)). ForTold t.engine.disk.told (λ _. ForTold now (HoldsStage made list (chunks_with last) (work_after chunk number last) taken t.cloning.archive))) (sym made_now) (subst (λ (o : Option DiskImage). ForTold o (λ _. ForTold now (Now taken t.cloning.archive))) (sym told_now) (subst (λ (o : Option Archived). ForTold d.engine.disk.told (λ _. ForTold now (Now taken o))) (sym archive_now) disk));
       mark = mark_stays _ told now tells keeps was.in_stage.mark;
       sized = sized;
     };
@@ -323,10 +330,10 @@ module _ (d t : Donor) (told : Option DiskImage) (sizes : PageCounts) (stage che
     where
       disk : ForTold d.engine.disk.told (λ _. ForTold now (Now taken d.cloning.archive))
       disk = for_told (λ _. ForTold now (Now taken d.cloning.archive)) d.engine.disk.told (λ m there.
-          told_step (HoldsStage list chunks in_work was.taken d.cloning.archive) (Now taken d.cloning.archive) told now step
+          told_step (HoldsStage (made_in d.engine list) list chunks in_work was.taken d.cloning.archive) (Now taken d.cloning.archive) told now step
           (of_told (λ _. Steps told now step) d.engine.disk.told m there (subst (λ (o : Option DiskImage). ForTold o (λ _. Steps told now step)) told_now steps))
           (laid m there)
-          (of_told (λ _. ForTold told (HoldsStage list chunks in_work was.taken d.cloning.archive)) d.engine.disk.told m there was.in_stage.disk))
+          (of_told (λ _. ForTold told (HoldsStage (made_in d.engine list) list chunks in_work was.taken d.cloning.archive)) d.engine.disk.told m there was.in_stage.disk))
 
   module _ (is : IsDonor d) where
     list_here : list_of d.cloning ≡ Some list
@@ -339,7 +346,7 @@ module _ (d t : Donor) (told : Option DiskImage) (sizes : PageCounts) (stage che
     taken_in m there = subst (IsTakenBy d.cloning d.engine.buffer.log was.taken) list_here (of_told (λ _. IsTakenBy d.cloning d.engine.buffer.log was.taken (list_of d.cloning)) d.engine.disk.told m there was.in_stage.is.stage)
 
     -- PAGES
-    module _ (pages : List (ℕ × ℕ)) (read : List PageAt) (part_is : part ≡ PagePart pages) (places : places_of read ≡ pages) (engine : IsEngine d.engine) (safe : IsSafe d.engine.donor) (is_taken : IsTaken t (taken_from (block.Pages read) was.taken)) where
+    module _ (pages : List (ℕ × ℕ)) (read : List PageAt) (part_is : part ≡ PagePart pages) (places : places_of read ≡ pages) (engine : IsEngine d.engine) (safe : IsSafe d.engine.donor) (donor_now : IsDonor t) (is_taken : IsTaken t (taken_from (block.Pages read) was.taken)) where
       pages_are : block_of list chunk number ≡ Some (PagePart pages)
       pages_are = block_is ∙ ap (λ (p : Part). Some p) part_is
 
@@ -350,14 +357,16 @@ module _ (d t : Donor) (told : Option DiskImage) (sizes : PageCounts) (stage che
       not_part : (s n : ℕ) → IsNotOf (reads_of read) s n → HasPage s n part → ⊥
       not_part s n not has = not_there read s n not (subst (λ (ps : List (ℕ × ℕ)). Contains ps (s, n)) (sym places) (subst (HasPage s n) part_is has))
 
-      pages_laid : (m : DiskImage) → d.engine.disk.told ≡ Some m → (x : DiskImage) → HoldsStage list chunks in_work was.taken d.cloning.archive x → Now (taken_from (block.Pages read) was.taken) d.cloning.archive (with_laid (reads_of read) x)
+      pages_laid : (m : DiskImage) → d.engine.disk.told ≡ Some m → (x : DiskImage) → HoldsStage (made_in d.engine list) list chunks in_work was.taken d.cloning.archive x → Now (taken_from (block.Pages read) was.taken) d.cloning.archive (with_laid (reads_of read) x)
       pages_laid m there x held =
           let low = low_reads d.engine safe (kept_there d.engine engine m there) read (own m there) in
           let some = lists_pages list chunk number pages pages_are in
           record {
-            pages = holds_weaker (λ s n. WaitsForPage list chunks in_work s n × IsNotOf (reads_of read) s n) (WaitsForPage list (chunks_with last) (work_after chunk number last)) _ _
-                (λ s n w. waits_now (HasPage s n) (not_part s n w.1) w.0)
-                (holds_pages (reads_of read) (WaitsForPage list chunks in_work) was.taken.copies x low (may_count d.cloning d.engine.buffer.log was.taken was.session list some in_stage (taken_in m there)) held.pages);
+            pages = holds_weaker (λ s n. (WaitsForPage list chunks in_work s n ⊎ WaitsForRoom (made_in d.engine list) s) × IsNotOf (reads_of read) s n) (λ s n. WaitsForPage list (chunks_with last) (work_after chunk number last) s n ⊎ WaitsForRoom (made_in d.engine list) s) _ _
+                (λ s n w. first_weaker (waits_now (HasPage s n) (not_part s n w.1)) w.0)
+                (holds_pages (reads_of read) (λ s n. WaitsForPage list chunks in_work s n ⊎ WaitsForRoom (made_in d.engine list) s) was.taken.copies x low (may_count d.cloning d.engine.buffer.log was.taken was.session list some in_stage (taken_in m there)) held.pages);
+            made_as = made_read list (made_in d.engine list) (reads_of read) was.taken.copies held.made_as;
+            listed = only_laid list read x (subst (All (Contains (all_pages list))) (sym places) (pages_listed list chunk number pages pages_are)) held.listed;
             redo = listed_stays list chunks (chunks_with last) in_work (work_after chunk number last) was.taken.stop d.cloning.archive x (with_laid (reads_of read) x) some (pages_beside (reads_of read) x low) held.redo;
           }
 
@@ -365,12 +374,12 @@ module _ (d t : Donor) (told : Option DiskImage) (sizes : PageCounts) (stage che
       pages_into = record {
         fit = tt;
         low = subst (λ (o : Option DiskImage). ForTold o (λ _. AreLow (block.Pages read))) (sym told_now) (for_told (λ _. AreLow (block.Pages read)) d.engine.disk.told (λ m there. low_numbers d.engine safe (kept_there d.engine engine m there) read (own m there)));
-        laid = copying_now (taken_from (block.Pages read) was.taken) (with_laid (reads_of read)) is_taken refl pages_laid;
+        laid = copying_now (taken_from (block.Pages read) was.taken) (with_laid (reads_of read)) donor_now is_taken refl pages_laid;
       }
 
     -- REDO
     module _ (redo : RedoBlock) (from : ℕ) (read : List ℕ) (part_is : part ≡ RedoPart redo.from redo.length) (from_is : from ≡ redo.from) (bytes_are : read ≡ redo_in d.cloning.archive redo) (kept_there : IsInArchive d.cloning.archive redo)
-        (log : IsInLog list) (archives : ForSome d.cloning.archive IsArchived) (is_taken : IsTaken t was.taken) where
+        (log : IsInLog list) (archives : ForSome d.cloning.archive IsArchived) (donor_now : IsDonor t) (is_taken : IsTaken t was.taken) where
       redo_is : block_of list chunk number ≡ Some (RedoPart redo.from redo.length)
       redo_is = block_is ∙ ap (λ (p : Part). Some p) part_is
 
@@ -389,22 +398,22 @@ module _ (d t : Donor) (told : Option DiskImage) (sizes : PageCounts) (stage che
       begins : checkpoint ≡ range.0
       begins = subst (λ (l : StageList). StartsAt l checkpoint) range.2 was.starts
 
-      numbered : (k : ℕ) × (redo.from ≡ range.0 + 16384 * k) × (16384 * k < range.1 - range.0) × (redo.length ≡ min 16384 (range.1 - range.0 - 16384 * k))
-      numbered = block_number range.0 range.1 chunk number redo.from redo.length ordered.0 (subst (λ (l : StageList). block_of l chunk number ≡ Some (RedoPart redo.from redo.length)) range.2 redo_is)
-
       abbrev k : ℕ
-      k = numbered.0
+      k = redo_number chunk number
+
+      numbered : (redo.from ≡ range.0 + 16384 * k) × (16384 * k < range.1 - range.0) × (redo.length ≡ min 16384 (range.1 - range.0 - 16384 * k))
+      numbered = block_number range.0 range.1 chunk number redo.from redo.length ordered.0 (subst (λ (l : StageList). block_of l chunk number ≡ Some (RedoPart redo.from redo.length)) range.2 redo_is)
 
       inside : (a.start ≤ redo.from) × (redo.from + redo.length ≤ archived_of a)
       inside = subst (λ (o : Option Archived). IsInArchive o redo) copies.stands kept_there
 
       bytes_is : read ≡ take redo.length (drop (16384 * k) a.bytes)
       bytes_is =
-          let offset : redo.from - a.start ≡ 16384 * k = omega (arith, numbered.1, copies.starts) in
+          let offset : redo.from - a.start ≡ 16384 * k = omega (arith, numbered.0, copies.starts) in
           bytes_are ∙ ap (λ (o : Option Archived). redo_in o redo) copies.stands ∙ ap (λ (n : ℕ). take redo.length (drop n a.bytes)) offset
 
       distance_is : from - checkpoint ≡ 16384 * k
-      distance_is = omega (arith, from_is, begins, numbered.1)
+      distance_is = omega (arith, from_is, begins, numbered.0)
 
       few : length read ≤ redo.length
       few = omega (arith, ap length bytes_is, length-take redo.length (drop (16384 * k) a.bytes))
@@ -428,18 +437,18 @@ module _ (d t : Donor) (told : Option DiskImage) (sizes : PageCounts) (stage che
         bytes_of_block : read ≡ redo_block whole k
         bytes_of_block =
             bytes_is
-            ∙ block_bytes has.at.buffer.log has.rest a k redo.length of_log (omega (arith, (archives a copies.stands).before_end range.1 copies.ended, end_is)) (omega (arith, inside.1, numbered.1, copies.starts)) (omega (arith, numbered.3, end_is, copies.starts))
+            ∙ block_bytes has.at.buffer.log has.rest a k redo.length of_log (omega (arith, (archives a copies.stands).before_end range.1 copies.ended, end_is)) (omega (arith, inside.1, numbered.0, copies.starts)) (omega (arith, numbered.2, end_is, copies.starts))
             ∙ ap (λ (n : ℕ). redo_block (drop (n - first_lsn) (log_of has.at.buffer.log)) k) copies.starts
 
         long : length (redo_block whole k) ≡ redo.length
-        long = omega (arith, length-take 16384 (drop (16384 * k) whole), length-drop (16384 * k) whole, whole_long, numbered.3)
+        long = omega (arith, length-take 16384 (drop (16384 * k) whole), length-drop (16384 * k) whole, whole_long, numbered.2)
 
         abbrev Waiting : StageList → List Chunk → Option InWork → ℕ → Type 0
         Waiting l cs w distance = WaitsForRedo l cs w (range.0 + distance)
 
         weaker : (distance : ℕ) → Waiting (lists.Redo range.0 range.1) chunks in_work distance × (distance ≡ 16384 * k → ⊥) → Waiting (lists.Redo range.0 range.1) (chunks_with last) (work_after chunk number last) distance
         weaker distance w = subst (λ (l : StageList). Waiting l (chunks_with last) (work_after chunk number last) distance) range.2
-            (waits_now (BeginsAt (range.0 + distance)) (λ is. let from : redo.from ≡ range.0 + distance = subst (BeginsAt (range.0 + distance)) part_is is in w.1 (omega (arith, from, numbered.1))) (subst (λ (l : StageList). Waiting l chunks in_work distance) (sym range.2) w.0))
+            (waits_now (BeginsAt (range.0 + distance)) (λ is. let from : redo.from ≡ range.0 + distance = subst (BeginsAt (range.0 + distance)) part_is is in w.1 (omega (arith, from, numbered.0))) (subst (λ (l : StageList). Waiting l chunks in_work distance) (sym range.2) w.0))
 
         held_as : (x : DiskImage) → HoldsListed list chunks in_work was.taken.stop d.cloning.archive x → HoldsRedo (Waiting (lists.Redo range.0 range.1) chunks in_work) whole (length a.bytes) x
         held_as x held = subst (λ (l : StageList). HoldsListed l chunks in_work (Some has.at) (Some a) x) range.2 (subst (λ (o : Option Engine). HoldsListed list chunks in_work o (Some a) x) has.stop (subst (λ (o : Option Archived). HoldsListed list chunks in_work was.taken.stop o x) copies.stands held))
@@ -450,21 +459,23 @@ module _ (d t : Donor) (told : Option DiskImage) (sizes : PageCounts) (stage che
         laid_is : (x : DiskImage) → laid_redo (from - checkpoint) read x ≡ laid_redo (16384 * k) (redo_block whole k) x
         laid_is x = λ i. laid_redo (distance_is i) (bytes_of_block i) x
 
-        redo_holds : (x : DiskImage) → HoldsStage list chunks in_work was.taken d.cloning.archive x → Now was.taken d.cloning.archive (laid_redo (from - checkpoint) read x)
+        redo_holds : (x : DiskImage) → HoldsStage (made_in d.engine list) list chunks in_work was.taken d.cloning.archive x → Now was.taken d.cloning.archive (laid_redo (from - checkpoint) read x)
         redo_holds x held = record {
-          pages = holds_weaker (WaitsForPage list chunks in_work) (WaitsForPage list (chunks_with last) (work_after chunk number last)) was.taken.copies (laid_redo (from - checkpoint) read x)
-              (λ s n w. waits_now (HasPage s n) (λ is. let none = subst (HasPage s n) part_is is in omega (arith, none.1)) w)
-              (holds_beside (WaitsForPage list chunks in_work) was.taken.copies x (laid_redo (from - checkpoint) read x) (redo_same_but x (from - checkpoint) read) (redo_quiet x (from - checkpoint) read held.pages.quiet) held.pages);
+          pages = holds_weaker (λ s n. WaitsForPage list chunks in_work s n ⊎ WaitsForRoom (made_in d.engine list) s) (λ s n. WaitsForPage list (chunks_with last) (work_after chunk number last) s n ⊎ WaitsForRoom (made_in d.engine list) s) was.taken.copies (laid_redo (from - checkpoint) read x)
+              (λ s n w. first_weaker (waits_now (HasPage s n) (λ is. let none = subst (HasPage s n) part_is is in omega (arith, none.1))) w)
+              (holds_beside (λ s n. WaitsForPage list chunks in_work s n ⊎ WaitsForRoom (made_in d.engine list) s) was.taken.copies x (laid_redo (from - checkpoint) read x) (redo_beside x (from - checkpoint) read) (redo_quiet x (from - checkpoint) read held.pages.quiet) held.pages);
+          made_as = held.made_as;
+          listed = subst (λ (l : StageList). HasOnlyListed l (laid_redo (from - checkpoint) read x)) (sym range.2) tt;
           redo = holds_as (laid_redo (from - checkpoint) read x) (subst (HoldsRedo (Waiting (lists.Redo range.0 range.1) (chunks_with last) (work_after chunk number last)) whole (length a.bytes)) (sym (laid_is x))
               (redo_weaker (λ distance. Waiting (lists.Redo range.0 range.1) chunks in_work distance × (distance ≡ 16384 * k → ⊥)) (Waiting (lists.Redo range.0 range.1) (chunks_with last) (work_after chunk number last)) whole (length a.bytes) (length a.bytes) (laid_redo (16384 * k) (redo_block whole k) x) (omega arith) weaker
-              (redo_laid (Waiting (lists.Redo range.0 range.1) chunks in_work) whole (length a.bytes) x k (omega (arith, numbered.2, whole_long)) (omega (arith, long, inside.1, numbered.1, copies.starts)) (held_as x held.redo))));
+              (redo_laid (Waiting (lists.Redo range.0 range.1) chunks in_work) whole (length a.bytes) x k (omega (arith, numbered.1, whole_long)) (omega (arith, long, inside.1, numbered.0, copies.starts)) (held_as x held.redo))));
         }
 
       pub redo_into : ReadsInto t told stage checkpoint chunk number last stop (block.Redo from read)
       redo_into = record {
-        fit = (omega (arith, from_is, begins, numbered.1), omega (arith, distance_is), omega (arith, from_is, few, in_log list chunk number redo.from redo.length log redo_is));
+        fit = (omega (arith, from_is, begins, numbered.0), omega (arith, distance_is), omega (arith, from_is, few, in_log list chunk number redo.from redo.length log redo_is));
         low = for_told (λ _. Unit {0}) t.engine.disk.told (λ m there. tt);
-        laid = copying_now was.taken (laid_redo (from - checkpoint) read) is_taken refl redo_holds;
+        laid = copying_now was.taken (laid_redo (from - checkpoint) read) donor_now is_taken refl redo_holds;
       }
 
 -- A BLOCK IS READ
@@ -478,10 +489,10 @@ module _ (d t : Donor) (told : Option DiskImage) (sizes : PageCounts) (stage che
   is_of w on = subst (λ (s : Session). block_of s.snap.list chunk number ≡ Some (part_of w)) (same_session d.cloning was.session on.0 was.in_stage.session on.1) on.2
 
   by : (w : BlockWork) (b : Block) → block_of was.session.snap.list chunk number ≡ Some (part_of w) → IsThere d.cloning w → IsBlock acts.does.1.session.snap.list d w b → IsTaken t (taken_from b was.taken) → ReadsInto t told stage checkpoint chunk number last stop b
-  by (work.Pages pages) (block.Pages pages_read) on kept made taken = pages_into d t told sizes stage checkpoint chunk number stop last (PagePart pages) was on acts.does.1.visits acts.does.1.answers is_cloning is pages pages_read refl made.0 engine safe taken
+  by (work.Pages pages) (block.Pages pages_read) on kept made taken = pages_into d t told sizes stage checkpoint chunk number stop last (PagePart pages) was on acts.does.1.visits acts.does.1.answers is_cloning is pages pages_read refl made.0 engine safe acts.donor taken
   by (work.Pages pages) (block.Redo from bytes) on kept made taken = absurd made
   by (work.Redo redo) (block.Pages pages_read) on kept made taken = absurd made
-  by (work.Redo redo) (block.Redo from bytes) on kept made taken = redo_into d t told sizes stage checkpoint chunk number stop last (RedoPart redo.from redo.length) was on acts.does.1.visits acts.does.1.answers is_cloning is redo from bytes refl made.0 made.1 kept (snap was.session was.in_stage.session).in_log archives taken
+  by (work.Redo redo) (block.Redo from bytes) on kept made taken = redo_into d t told sizes stage checkpoint chunk number stop last (RedoPart redo.from redo.length) was on acts.does.1.visits acts.does.1.answers is_cloning is redo from bytes refl made.0 made.1 kept (snap was.session was.in_stage.session).in_log archives acts.donor taken
 
   pub reads_into : ReadsInto t told stage checkpoint chunk number last stop read
   reads_into = by acts.does.1.work read (is_of acts.does.1.work acts.does.1.made_of.0) acts.does.1.made_of.1 acts.does.1.read (acts.taken was.taken was.in_stage.is)

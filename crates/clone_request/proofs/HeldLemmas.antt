@@ -1,20 +1,29 @@
 -- What a disk holds of pages that were taken, once one more is laid, or redo.
-use Rattle.std.proofs.Common.{◌≡◌, ◌<◌, ◌∷◌, [], ℕ, List, ◌==◌, ◌&&◌, ◌⊎◌, inl, inr, Bool, true, false, cond, refl, sym, ap, subst, ◌∙◌}
+use Rattle.std.proofs.Common.{◌≡◌, ◌<◌, ◌∷◌, [], ℕ, List, ◌==◌, ◌&&◌, ◌⊎◌, inl, inr, Bool, true, false, cond, Option, None, refl, sym, ap, subst, ◌∙◌}
 use Rattle.std.proofs.lemmas.Bool.{and_parts, eqb-true, eq-eqb, true≢false}
 use Rattle.std.specs.List.{AllByRecursion}
 use Rattle.clone_base.specs.declared.limits.TheConstants.{REDO_SPACE}
 use Rattle.clone_outside.specs.Disk.{DiskImage, IsSameBut}
 use Rattle.clone_contents.specs.Records.{system_size}
-use Rattle.clone_image.specs.Redone.{Standing, stands, standing_of}
+use Rattle.clone_image.specs.Redone.{Standing, no_space, stands, standing_of}
 use Rattle.clone_law.specs.Machine as machine
 use Rattle.clone_law.specs.Machine.{Copy}
 use Rattle.clone_buffer.specs.OnePage.{Copies}
 use Rattle.clone_overlay.specs.Images.{redo_space, image_of, IsQuiet}
 use Rattle.clone_lay.specs.Laid.{laid_page}
 use Rattle.clone_engine.specs.Copies.{PageRead, answered, with_page, with_pages}
+use Rattle.clone_accepted.specs.Disk.{with_rooms}
+use Rattle.clone_standing.specs.Latest.{IsLowRoom}
+use Rattle.clone_standing.proofs.RoomLemmas.{made_short, made_stands, rooms_lax, rooms_still}
 use Rattle.clone_request.specs.Laying.{with_laid}
-use Rattle.clone_request.specs.Waiting.{Counts, HoldsPages}
-use Rattle.clone_request.proofs.StandingLemmas.{counts_lax, laid_there, laid_others, laid_short, laid_quiet, redo_standing, redo_short}
+use Rattle.clone_standing.specs.Counting.{Counts}
+use Rattle.clone_request.specs.Waiting.{HoldsPages, WaitsForRoom}
+use Rattle.clone_standing.specs.Latest.{made_standing}
+use Rattle.clone_law.specs.Touches.{Lax}
+use Rattle.std.specs.List.{Contains}
+use Rattle.std.specs.FinMap as finite
+use Rattle.clone_outside.specs.declared.disk.Held.{Held}
+use Rattle.clone_standing.proofs.StandingLemmas.{counts_lax, laid_there, laid_others, laid_short, laid_quiet, redo_standing, redo_short, space_standing, standing_low}
 
 -- an answered block of the page counts
 abbrev pub MayCount : Copy → Type 0
@@ -35,6 +44,26 @@ holds_weaker waits others copies m weaker holds = record { pages = λ s n low. b
     by : (s n : ℕ) → waits s n ⊎ Counts (copies s n) (standing_of (image_of m) s n) → others s n ⊎ Counts (copies s n) (standing_of (image_of m) s n)
     by s n (inl w) = inl (weaker s n w)
     by s n (inr c) = inr c
+
+pub first_weaker : {A B C : Type 0} → (A → B) → A ⊎ C → B ⊎ C
+first_weaker to (inl a) = inl (to a)
+first_weaker to (inr c) = inr c
+
+-- room is made for the spaces that wait for it, and what stands of their pages counts
+pub holds_roomed : (spaces : List (ℕ × ℕ)) (copies : Copies) (m : DiskImage) → AllByRecursion IsLowRoom spaces → ((space pages number : ℕ) → Contains spaces (space, pages) → Counts (copies space number) (made_standing pages number)) → ((space : ℕ) → space < redo_space → WaitsForRoom spaces space → finite.get m.spaces space ≡ None) → HoldsPages (λ space number. WaitsForRoom spaces space) copies m
+    → HoldsPages (λ space number. ⊥) copies (with_rooms spaces m)
+holds_roomed spaces copies m low made none holds = record {
+  pages = λ s n below. inr (by s n below (holds.pages s n below));
+  short = made_short spaces m low holds.short;
+  quiet = rooms_still spaces m holds.quiet;
+}
+  where
+    nothing : (s n : ℕ) → s < redo_space → WaitsForRoom spaces s → Lax (standing_of (image_of m) s n) no_space
+    nothing s n below room = subst (λ (v : Standing). Lax v no_space) (sym (standing_low m s n below ∙ ap (λ (o : Option (List Held)). space_standing o n) (none s below room))) tt
+
+    by : (s n : ℕ) → s < redo_space → WaitsForRoom spaces s ⊎ Counts (copies s n) (standing_of (image_of m) s n) → Counts (copies s n) (standing_of (image_of (with_rooms spaces m)) s n)
+    by s n below (inl (pages, has)) = counts_lax (copies s n) _ _ (made_stands spaces m s pages n below (nothing s n below (pages, has)) has) (made s pages n has)
+    by s n below (inr c) = counts_lax (copies s n) _ _ (rooms_lax spaces m s n below) c
 
 -- two places whose test fails are apart
 apart : (a b s n : ℕ) → ((s == a) && (n == b)) ≡ false → s ≡ a → n ≡ b → ⊥

@@ -10,7 +10,8 @@ use Rattle.clone_chunk.specs.declared.spaces.SpaceSize.{SpaceSize}
 use Rattle.clone_lay.specs.Laid.{laid_page, with_room}
 use Rattle.clone_page.specs.declared.pages.PageAt.{PageAt}
 use Rattle.clone_engine.specs.Copies.{PageRead}
-use Rattle.clone_request.specs.Laying.{pairs_of, reads_of, with_laid, with_rooms}
+use Rattle.clone_accepted.specs.Disk.{with_rooms}
+use Rattle.clone_request.specs.Laying.{pairs_of, reads_of, with_laid}
 use Rattle.clone_request.proofs.StepLemmas.{laid_more, rooms_more, steps_then}
 
 -- the pages of a block have numbers below the limit

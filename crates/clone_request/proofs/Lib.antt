@@ -1,11 +1,10 @@
-mod StandingLemmas
-mod RoomLemmas
 mod HeldLemmas
 mod WaitLemmas
 mod LastBlocks
 mod RedoBlocks
 mod RedoLemmas
 mod StageLemmas
+mod MadeLemmas
 mod FileLemmas
 pub mod KeepLemmas
 mod ClaimLemmas

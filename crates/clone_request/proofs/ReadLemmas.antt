@@ -39,7 +39,7 @@ use Rattle.clone_engine.proofs.MomentLemmas.{next_kept}
 use Rattle.clone_engine.proofs.ToldLemmas.{told_stays}
 use Rattle.clone_request.specs.Causes.{IsNoCause, step_of}
 use Rattle.clone_request.specs.Copying.{IsCopying, StartsAt, free_left}
-use Rattle.clone_request.specs.Requester.{HoldsListed, HoldsStage, IsOwn}
+use Rattle.clone_request.specs.Requester.{HoldsListed, HoldsStage, IsOwn, made_in}
 use Rattle.clone_request.specs.Waiting.{AreSettled, InWork, WaitsForRedo}
 use Rattle.clone_request.specs.declared.asking.TheConstants.{CALLER}
 use Rattle.clone_request.specs.declared.requester.StepRefusal.{StepRefusal}
@@ -139,6 +139,9 @@ module _ (d t : Donor) (limit : ℕ) (reached : Option ℕ) (a : Archived) (stan
   pub archive_is : t.cloning.archive ≡ Some more
   archive_is = ap (λ (c : Cloning). c.archive) becomes
 
+  made_same : (list : StageList) → made_in t.engine list ≡ made_in d.engine list
+  made_same list = ap (λ (e : Engine). made_in e list) acts.does.1
+
   told_is : t.engine.disk.told ≡ d.engine.disk.told
   told_is = ap (λ (e : Engine). e.disk.told) acts.does.1
 
@@ -151,8 +154,8 @@ module _ (d t : Donor) (limit : ℕ) (reached : Option ℕ) (a : Archived) (stan
       (omega (arith, length-append a.bytes (take (next_count limit a d.engine.buffer.ring) (drop (archived_of a - d.engine.buffer.ring.floor) d.engine.buffer.ring.bytes)))) (λ distance w. w) held
   more_listed lists.Nothing chunks work at m held = held
 
-  more_stage : (list : StageList) (chunks : List Chunk) (work : Option InWork) (taken : Taken) (m : DiskImage) → HoldsStage list chunks work taken (Some a) m → HoldsStage list chunks work taken (Some more) m
-  more_stage list chunks work taken m held = record { pages = held.pages; redo = more_listed list chunks work taken.stop m held.redo }
+  more_stage : (made : List (ℕ × ℕ)) (list : StageList) (chunks : List Chunk) (work : Option InWork) (taken : Taken) (m : DiskImage) → HoldsStage made list chunks work taken (Some a) m → HoldsStage made list chunks work taken (Some more) m
+  more_stage made list chunks work taken m held = record { pages = held.pages; made_as = held.made_as; listed = held.listed; redo = more_listed list chunks work taken.stop m held.redo }
 
   module _ (told : Option DiskImage) (sizes : PageCounts) (stage checkpoint : ℕ) (work : Option InWork) (stop : Option plain.Donor)
       (was : IsCopying d told sizes stage checkpoint work stop) where
@@ -168,16 +171,19 @@ module _ (d t : Donor) (limit : ℕ) (reached : Option ℕ) (a : Archived) (stan
     stage_same : donor_stage next.0 ≡ donor_stage was.session
     stage_same = ap donor_stage next.2
 
-    held : ForTold d.engine.disk.told (λ _. ForTold told (HoldsStage was.session.snap.list was.session.snap.chunks work was.taken (Some a)))
-    held = subst (λ (o : Option Archived). ForTold d.engine.disk.told (λ _. ForTold told (HoldsStage was.session.snap.list was.session.snap.chunks work was.taken o))) stands was.in_stage.disk
+    held : ForTold d.engine.disk.told (λ _. ForTold told (HoldsStage (made_in d.engine was.session.snap.list) was.session.snap.list was.session.snap.chunks work was.taken (Some a)))
+    held = subst (λ (o : Option Archived). ForTold d.engine.disk.told (λ _. ForTold told (HoldsStage (made_in d.engine was.session.snap.list) was.session.snap.list was.session.snap.chunks work was.taken o))) stands was.in_stage.disk
 
     abbrev Kept : StageList → List Chunk → Option Archived → Type 0
-    Kept list chunks archive = ForTold told (HoldsStage list chunks work was.taken archive)
+    Kept list chunks archive = ForTold told (HoldsStage (made_in d.engine list) list chunks work was.taken archive)
 
-    keeps : Kept was.session.snap.list was.session.snap.chunks (Some a) → Kept next.0.snap.list next.0.snap.chunks t.cloning.archive
+    abbrev KeptThen : List (ℕ × ℕ) → Type 0
+    KeptThen made = ForTold told (HoldsStage made next.0.snap.list next.0.snap.chunks work was.taken t.cloning.archive)
+
+    keeps : Kept was.session.snap.list was.session.snap.chunks (Some a) → KeptThen (made_in t.engine next.0.snap.list)
     keeps had =
-        subst (λ (l : StageList). Kept l next.0.snap.chunks t.cloning.archive) (sym list_is) (subst (λ (c : List Chunk). Kept was.session.snap.list c t.cloning.archive) (sym chunks_is) (subst (Kept was.session.snap.list was.session.snap.chunks) (sym archive_is)
-        (told_map (HoldsStage was.session.snap.list was.session.snap.chunks work was.taken (Some a)) (HoldsStage was.session.snap.list was.session.snap.chunks work was.taken (Some more)) told (λ m. more_stage was.session.snap.list was.session.snap.chunks work was.taken m) had)))
+        subst KeptThen (sym (made_same next.0.snap.list)) (subst (λ (l : StageList). Kept l next.0.snap.chunks t.cloning.archive) (sym list_is) (subst (λ (c : List Chunk). Kept was.session.snap.list c t.cloning.archive) (sym chunks_is) (subst (Kept was.session.snap.list was.session.snap.chunks) (sym archive_is)
+        (told_map (HoldsStage (made_in d.engine was.session.snap.list) was.session.snap.list was.session.snap.chunks work was.taken (Some a)) (HoldsStage (made_in d.engine was.session.snap.list) was.session.snap.list was.session.snap.chunks work was.taken (Some more)) told (λ m. more_stage (made_in d.engine was.session.snap.list) was.session.snap.list was.session.snap.chunks work was.taken m) had))))
 
     pub archived_left : free_left t ≡ free_left d
     archived_left = ap left_in next.1 ∙ ap (count_by is_free) chunks_is ∙ sym (ap left_in was.in_stage.session)
@@ -188,12 +194,13 @@ module _ (d t : Donor) (limit : ℕ) (reached : Option ℕ) (a : Archived) (stan
       session = next.0;
       taken = was.taken;
       in_stage = record {
+        donor = acts.donor;
         session = next.1;
         own = record { number = ap (λ (s : Session). s.number) next.2 ∙ was.in_stage.own.number; incarnation = ap (λ (s : Session). s.incarnation) next.2 ∙ was.in_stage.own.incarnation; tasks = ap (λ (s : Session). s.tasks) next.2 ∙ was.in_stage.own.tasks; version = ap (λ (s : Session). s.version) next.2 ∙ was.in_stage.own.version };
         settled = subst (λ (c : List Chunk). AreSettled c work) (sym chunks_is) was.in_stage.settled;
         is = acts.taken was.taken was.in_stage.is;
         early = λ low. was.in_stage.early (omega (arith, low, stage_same));
-        disk = told_stays (Kept was.session.snap.list was.session.snap.chunks (Some a)) (Kept next.0.snap.list next.0.snap.chunks t.cloning.archive) d.engine.disk.told t.engine.disk.told (ap is_some told_is) keeps held;
+        disk = told_stays (Kept was.session.snap.list was.session.snap.chunks (Some a)) (KeptThen (made_in t.engine next.0.snap.list)) d.engine.disk.told t.engine.disk.told (ap is_some told_is) keeps held;
         mark = was.in_stage.mark;
         sized = was.in_stage.sized;
       };

@@ -16,6 +16,7 @@ use Rattle.clone_lay.proofs.BlockLemmas.{blocks_are_pages, blocks_more}
 use Rattle.clone_outside.proofs.SpaceLemmas.{get_there}
 use Rattle.clone_recover.specs.Reading.{joined, redo_of}
 use Rattle.clone_recover.proofs.JoinedPageLemmas.{take_front}
+use Rattle.clone_standing.proofs.RedoBytes.{first_bytes}
 use Rattle.clone_request.specs.Waiting.{HoldsRedo}
 
 -- the copy of redo begins
@@ -70,57 +71,6 @@ redo_laid waits redo archived m k within there holds = record {
 
     one_more : (P : ℕ → Type 0) → All P holds.blocks → P k → All P (holds.blocks ++ k ∷ [])
     one_more P all is = All-append P holds.blocks (k ∷ []) all (only P is)
-
-pub redo_same_but : (m : DiskImage) (distance : ℕ) (bytes : List ℕ) → IsSameBut REDO_SPACE m (laid_redo distance bytes m)
-redo_same_but m distance bytes = record { mark = refl; others = λ s other. get_there m REDO_SPACE s _ other }
-
--- bytes, and others behind them
-record Front (bytes whole : List ℕ) : Type 0 where
-  behind : List ℕ
-  is : whole ≡ bytes ++ behind
-
--- the redo pages from one on, and the bytes from its first one on in front of them
-abbrev pages_from : List ℕ → ℕ → ℕ → List Held
-pages_from redo a n = map (λ number. whole (redo_page redo number)) (range_with_len a n)
-
-full : (xs : List ℕ) → 4096 ≤ length xs → filled (take 4096 xs) ≡ take 4096 xs
-full xs le =
-    let none : 4096 - length (take 4096 xs) ≡ 0 = omega (arith, length-take-le 4096 xs le) in
-    ap (λ (n : ℕ). take 4096 xs ++ replicate n 0) none ∙ append-nil (take 4096 xs)
-
-from_page : (redo : List ℕ) (n a : ℕ) → length redo ≤ 4096 * (a + n) → Front (drop (4096 * a) redo) (joined (bytes_of (pages_from redo a n)))
-from_page redo zero a le = record { behind = []; is = sym (ap (λ (xs : List ℕ). xs ++ []) (drop_all (4096 * a) redo (omega (arith, le)))) }
-from_page redo (suc n) a le = at (cases_lt (length xs) 4096) (from_page redo n (a + 1) (omega (arith, le)))
-  where
-    xs : List ℕ
-    xs = drop (4096 * a) redo
-
-    rest : List ℕ
-    rest = joined (bytes_of (pages_from redo (a + 1) n))
-
-    at : (length xs < 4096) ⊎ (4096 ≤ length xs) → Front (drop (4096 * (a + 1)) redo) rest → Front xs (redo_page redo a ++ rest)
-    at (inl low) more = record {
-      behind = replicate (4096 - length (take 4096 xs)) 0 ++ rest;
-      is =
-          append_assoc (take 4096 xs) (replicate (4096 - length (take 4096 xs)) 0) rest
-          ∙ ap (λ (ys : List ℕ). ys ++ (replicate (4096 - length (take 4096 xs)) 0 ++ rest)) (take_all 4096 xs (omega (arith, low)));
-    }
-    at (inr high) more =
-        let next : drop (4096 * (a + 1)) redo ≡ drop 4096 xs =
-        (let e : 4096 * (a + 1) ≡ 4096 * a + 4096 = omega arith in ap (λ (k : ℕ). drop k redo) e ∙ sym (drop-drop 4096 (4096 * a) redo)) in
-        record {
-          behind = more.behind;
-          is =
-              ap (λ (ys : List ℕ). ys ++ rest) (full xs high) ∙ ap (λ (ys : List ℕ). take 4096 xs ++ ys) (more.is ∙ ap (λ (ys : List ℕ). ys ++ more.behind) next)
-              ∙ sym (append_assoc (take 4096 xs) (drop 4096 xs) more.behind) ∙ ap (λ (ys : List ℕ). ys ++ more.behind) (take-append-drop 4096 xs);
-        }
-
--- the first bytes of all redo pages are the redo
-first_bytes : (redo : List ℕ) → take (length redo) (joined (bytes_of (redo_pages redo))) ≡ redo
-first_bytes redo =
-    let bounds = div_ceil_times (length redo) 4096 (omega arith) in
-    let all = from_page redo (pages_for (length redo)) 0 (omega (arith, bounds.0)) in
-    ap (take (length redo)) all.is ∙ take_front redo all.behind (length redo) refl
 
 -- no block waits: all of the redo is archived, and the disk begins with it
 pub redo_whole : (redo : List ℕ) (archived : ℕ) (m : DiskImage) → archived ≤ length redo → HoldsRedo (λ distance. ⊥) redo archived m → (archived ≡ length redo) × (redo_of m (length redo) ≡ redo)

@@ -33,7 +33,8 @@ use Rattle.clone_flush.specs.Calls.{after_begin}
 use Rattle.clone_engine.specs.Steps.{has_begun}
 use Rattle.clone_engine.specs.Serving.{taken_by}
 use Rattle.clone_engine.specs.Taken.{Taken}
-use Rattle.clone_request.specs.Waiting.{Counts, HoldsPages, WaitsForPage}
+use Rattle.clone_standing.specs.Counting.{Counts}
+use Rattle.clone_request.specs.Waiting.{HoldsPages, WaitsForPage}
 use Rattle.clone_request.proofs.WaitLemmas.{first_pages}
 use Rattle.clone_request.proofs.HeldLemmas.{MayCount}
 
@@ -55,7 +56,7 @@ copied_start : (starts : List Standing) (v : Standing) (base : ℕ) (log : List 
 copied_start starts v base log (inl is) = absurd (cc)
 copied_start starts v base log (inr start) = inr start
 
-noted_counts : (same : Bool) (copy : Copy) (v : Standing) → Counts copy v → Counts (cond same (machine.noted copy) copy) v
+pub noted_counts : (same : Bool) (copy : Copy) (v : Standing) → Counts copy v → Counts (cond same (machine.noted copy) copy) v
 noted_counts false copy v counts = counts
 noted_counts true machine.Idle v counts = counts
 noted_counts true (machine.Untracked starts) v counts = inl refl
@@ -85,6 +86,11 @@ pages_begin tracked copies checkpoint m files holds =
     by s n v false noted is (inl w) = absurd w
     by s n v false noted is (inr counts) = inr (subst (λ (c : Copy). Counts (machine.files_ended checkpoint c) v) (sym is.1) (inr (untracked_start is.0 v checkpoint (subst (λ (c : Copy). Counts c v) is.1 counts))))
 
+-- a clone has of no page what the copy of files had
+pub files_calm : (checkpoint : ℕ) (noted : Bool) (copy : Copy) → IsInFiles noted copy → machine.NoFiles (machine.files_ended checkpoint copy)
+files_calm checkpoint true copy is = subst (λ (c : Copy). machine.NoFiles (machine.files_ended checkpoint c)) (sym is) tt
+files_calm checkpoint false copy is = subst (λ (c : Copy). machine.NoFiles (machine.files_ended checkpoint c)) (sym is.1) tt
+
 -- The copy of pages is over.
 pub redo_begin : (start : ℕ) (log : List (List Record)) (copies : Copies) (m : DiskImage) → AreInPages start copies → HoldsPages no_page copies m → HoldsPages no_page (pages_over log copies) m
 redo_begin start log copies m pages holds = holds_counts no_page no_page copies (pages_over log copies) m by holds
@@ -94,23 +100,6 @@ redo_begin start log copies m pages holds = holds_counts no_page no_page copies 
     by s n v (inr counts) =
         let is = pages s n in
         inr (subst (λ (c : Copy). Counts (machine.pages_ended log c) v) (sym is.1) (copied_start is.0 v start log (subst (λ (c : Copy). Counts c v) is.1 counts)))
-
--- A page is noted.
-pub noted_holds : (page : PageName) (waits : ℕ → ℕ → Type 0) (copies : Copies) (m : DiskImage) → HoldsPages waits copies m → HoldsPages waits (with_noted page copies) m
-noted_holds page waits copies m holds = holds_counts waits waits copies (with_noted page copies) m by holds
-  where
-    by : (s n : ℕ) (v : Standing) → waits s n ⊎ Counts (copies s n) v → waits s n ⊎ Counts (with_noted page copies s n) v
-    by s n v (inl w) = inl w
-    by s n v (inr counts) = inr (noted_counts (is_same page (record { space = s; number = n })) (copies s n) v counts)
-
--- A call of the engine is made.
-pub called_holds : (call : EngineCall) (answer : Result EngineAnswer EngineRefusal) (taken : Taken) (waits : ℕ → ℕ → Type 0) (m : DiskImage) → HoldsPages waits taken.copies m → HoldsPages waits (taken_by call answer taken).copies m
-called_holds (call.FlushBegin space page) answer taken waits m holds = by (has_begun answer)
-  where
-    by : (begun : Bool) → HoldsPages waits (after_begin (record { space = space; number = page }) begun taken.copies) m
-    by true = noted_holds (record { space = space; number = page }) waits taken.copies m holds
-    by false = holds
-called_holds call answer taken waits m holds = holds
 
 -- While files or pages are copied, an answer may count.
 pub files_may : (tracked : Option Pages) (copies : Copies) → AreInFiles tracked copies → (space number : ℕ) → MayCount (copies space number)

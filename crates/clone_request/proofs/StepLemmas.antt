@@ -12,7 +12,8 @@ use Rattle.clone_request.specs.declared.requester.StepRefusal.{StepRefusal}
 use Rattle.clone_request.specs.declared.requester.StepRefusal.TheVariants.{RecipientFault, DonorFault, NoMemory}
 use Rattle.clone_request.specs.Advancing.{HasRisen, Lends}
 use Rattle.clone_request.specs.Causes.{step_refusal}
-use Rattle.clone_request.specs.Laying.{KeepsMark, with_laid, with_rooms}
+use Rattle.clone_accepted.specs.Disk.{with_rooms}
+use Rattle.clone_request.specs.Laying.{KeepsMark, with_laid}
 
 -- The mark stays.
 

@@ -1,14 +1,15 @@
 -- A stage that is being copied, as the requester's own calls see it.
-use Rattle.std.specs.Prelude.{ℕ, ◌≡◌, ◌≤◌, ◌<◌, All, count_by, None, Some, option_map, replicate, slice_get}
+use Rattle.std.specs.Prelude.{ℕ, ◌≡◌, ◌≤◌, ◌<◌, All, List, count_by, is_some, None, Some, option_map, replicate, slice_get}
 use Rattle.std.specs.declared.option.Option.{Option}
 use Rattle.std.specs.Option.{ForSome, option_map_or}
 use Rattle.std.specs.FinMap as finite
 use Rattle.clone_base.specs.declared.limits.TheConstants.{LSN_LIMIT}
-use Rattle.clone_outside.specs.Disk.{DiskImage, ForTold, blank}
+use Rattle.clone_outside.specs.Disk.{DiskImage, ForTold, Steps, blank}
 use Rattle.clone_outside.specs.declared.mark.CloneEnd.{CloneEnd}
 use Rattle.clone_outside.specs.declared.mark.Mark.TheVariants.{InProgress}
 use Rattle.clone_lay.specs.Marked.{marked}
-use Rattle.clone_lay.specs.Sized.{PageCounts}
+use Rattle.clone_lay.specs.Sized.{AreSizes, PageCounts}
+use Rattle.clone_accepted.specs.Disk.{with_rooms}
 use Rattle.clone_chunk.specs.declared.chunk.Chunk.TheVariants.{Free, Claimed, Finished}
 use Rattle.clone_chunk.specs.declared.stage.Stage.{Stage}
 use Rattle.clone_chunk.specs.declared.stage.Stage.TheVariants.{FileCopy, PageCopy, RedoCopy, Done}
@@ -27,7 +28,7 @@ use Rattle.clone_engine.specs.Donor.{Donor, known_files}
 use Rattle.clone_engine.specs.Laid.{IsComplete}
 use Rattle.clone_engine.specs.Taken.{IsTaken, Taken}
 use Rattle.clone_request.specs.declared.requester.TheConstants.{SESSION}
-use Rattle.clone_request.specs.Laying.{pairs_of}
+use Rattle.clone_request.specs.Laying.{KeepsMark, pairs_of}
 use Rattle.clone_request.specs.Requester.{IsInStage, IsOwn}
 use Rattle.clone_request.specs.Waiting.{InWork}
 
@@ -63,6 +64,14 @@ pub record IsAllCopied (d : Donor) (told : Option DiskImage) (sizes : PageCounts
     (stage checkpoint : ℕ) (stop : Option plain.Donor) : Type 0 where
   pub copying : IsCopying d told sizes stage checkpoint None stop
   pub finished : All (λ chunk. chunk ≡ Finished) copying.session.snap.chunks
+
+-- a stage is copied, as soon as there is room for these spaces
+pub record WantsRooms (d : Donor) (told : Option DiskImage) (sizes : PageCounts)
+    (spaces : List (ℕ × ℕ)) (stage checkpoint : ℕ) (stop : Option plain.Donor) : Type 0 where
+  pub sized : ForTold told (AreSizes sizes)
+  pub roomed : (now : Option DiskImage) (kept : PageCounts) → is_some now ≡ is_some told
+      → KeepsMark told now → Steps told now (with_rooms spaces) → ForTold now (AreSizes kept)
+      → IsCopying d now kept stage checkpoint None stop
 
 -- a session begins, and nothing is laid yet
 pub record HasBegun (d : Donor) (info : StageInfo) : Type 0 where
@@ -106,6 +115,7 @@ abbrev pub HasAsked : Stage → StageInfo → Donor → Option DiskImage → Pag
 HasAsked FileCopy info d told sizes stop =
     HasBegun d info × (sizes ≡ finite.empty) × (stop ≡ None)
     × ForTold told (λ m. m ≡ marked (InProgress SESSION) blank)
-HasAsked PageCopy info d told sizes stop = IsCopying d told sizes 2 (checkpoint_of info.plan) None stop
+HasAsked PageCopy info d told sizes stop =
+    WantsRooms d told sizes (pairs_of (spaces_of info.plan)) 2 (checkpoint_of info.plan) stop
 HasAsked RedoCopy info d told sizes stop = IsCopying d told sizes 3 (checkpoint_of info.plan) None stop
 HasAsked Done info d told sizes stop = IsDone d told info stop

@@ -2,7 +2,7 @@
 use Rattle.std.specs.Prelude.{ℕ, ◌≡◌, List, [], ◌∷◌, map}
 use Rattle.std.specs.declared.option.Option.{Option}
 use Rattle.clone_outside.specs.Disk.{DiskImage}
-use Rattle.clone_lay.specs.Laid.{laid_page, with_room}
+use Rattle.clone_lay.specs.Laid.{laid_page}
 use Rattle.clone_recover.specs.Restores.{ForStep}
 use Rattle.clone_chunk.specs.declared.spaces.SpaceSize.{SpaceSize}
 use Rattle.clone_page.specs.declared.pages.PageAt.{PageAt}
@@ -11,11 +11,6 @@ use Rattle.clone_engine.specs.Copies.{PageRead}
 -- spaces as pairs, of each its number and how many pages it has
 abbrev pub pairs_of : List SpaceSize → List (ℕ × ℕ)
 pairs_of spaces = map (λ s. (s.space, s.pages)) spaces
-
--- room is made for each of these spaces in turn
-abbrev pub with_rooms : List (ℕ × ℕ) → DiskImage → DiskImage
-with_rooms [] m = m
-with_rooms (space ∷ spaces) m = with_rooms spaces (with_room space.0 space.1 m)
 
 -- the pages of a block, as they were answered
 abbrev pub reads_of : List PageAt → List PageRead

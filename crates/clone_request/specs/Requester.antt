@@ -1,5 +1,5 @@
 -- A requester as contracts see it, and a clone that is under way.
-use Rattle.std.specs.Prelude.{ℕ, ◌≡◌, ◌≤◌, ◌<◌, ◌+◌, ◌-◌, List, [], length, drop, All, None, Some, option_map, refl}
+use Rattle.std.specs.Prelude.{ℕ, ◌≡◌, ◌≤◌, ◌<◌, ◌+◌, ◌-◌, ◌⊎◌, List, [], length, drop, All, None, Some, option_map, refl}
 use Rattle.std.specs.declared.option.Option.{Option}
 use Rattle.std.specs.FinMap as finite
 use Rattle.std.specs.Coded.{Coded, code_by, coded×, coded_ℕ}
@@ -21,10 +21,11 @@ use Rattle.clone_session.specs.declared.limits.TheConstants.{VERSION}
 use Rattle.clone_session.specs.Cloning.{Session}
 use Rattle.clone_session.specs.CloneCauses.{donor_stage}
 use Rattle.clone_engine.specs.Engine.{Engine}
-use Rattle.clone_engine.specs.Donor.{Donor}
+use Rattle.clone_engine.specs.Donor.{Donor, IsDonor, known_files}
+use Rattle.clone_session.specs.Effects.{created_since}
 use Rattle.clone_engine.specs.Taken.{IsTaken, Taken}
 use Rattle.clone_request.specs.declared.requester.TheConstants.{SESSION}
-use Rattle.clone_request.specs.Waiting.{AreSettled, HoldsPages, HoldsRedo, InWork, WaitsForPage, WaitsForRedo}
+use Rattle.clone_request.specs.Waiting.{AreSettled, CountAsMade, HasOnlyListed, HoldsPages, HoldsRedo, InWork, WaitsForPage, WaitsForRedo, WaitsForRoom}
 
 pub record Requester : Type 0 where
   -- how many pages each space has that was made on its disk
@@ -49,10 +50,20 @@ HoldsListed (lists.Redo start end) chunks work (Some at) (Some a) m =
     (redo_from start at) (length a.bytes) m
 HoldsListed list chunks work at a m = pages_in m REDO_SPACE ≡ []
 
--- WHAT IS LAID within a stage: the pages, and the redo
-pub record HoldsStage (list : StageList) (chunks : List Chunk) (work : Option InWork)
-    (taken : Taken) (a : Option Archived) (m : DiskImage) : Type 0 where
-  pub pages : HoldsPages (WaitsForPage list chunks work) taken.copies m
+-- the spaces that were made since the files were listed, as the donor has them by now; from the copy
+-- of pages on none of them waits for room
+abbrev pub made_in : Engine → StageList → List (ℕ × ℕ)
+made_in e (lists.Files spaces) = created_since spaces (known_files e)
+made_in e list = []
+
+-- WHAT IS LAID within a stage: the pages, and the redo. These spaces wait for room.
+pub record HoldsStage (made : List (ℕ × ℕ)) (list : StageList) (chunks : List Chunk)
+    (work : Option InWork) (taken : Taken) (a : Option Archived) (m : DiskImage) : Type 0 where
+  pub pages : HoldsPages
+      (λ space number. WaitsForPage list chunks work space number ⊎ WaitsForRoom made space)
+      taken.copies m
+  pub made_as : CountAsMade list made taken.copies
+  pub listed : HasOnlyListed list m
   pub redo : HoldsListed list chunks work taken.stop a m
 
 -- the requester's session: its number, its first incarnation, one task, and the first version
@@ -66,13 +77,15 @@ pub record IsOwn (s : Session) : Type 0 where
 -- laid stands on the disk, where both disks tell what they hold.
 pub record IsInStage (d : Donor) (s : Session) (work : Option InWork) (taken : Taken)
     (sizes : PageCounts) (told : Option DiskImage) : Type 0 where
+  pub donor : IsDonor d
   pub session : d.cloning.session ≡ Some s
   pub own : IsOwn s
   pub settled : AreSettled s.snap.chunks work
   pub is : IsTaken d taken
   pub early : donor_stage s < 3 → taken.stop ≡ None
   pub disk : ForTold d.engine.disk.told (λ _. ForTold told
-      (HoldsStage s.snap.list s.snap.chunks work taken d.cloning.archive))
+      (HoldsStage (made_in d.engine s.snap.list) s.snap.list s.snap.chunks work taken
+      d.cloning.archive))
   pub mark : ForTold told (λ m. m.mark ≡ (marked (InProgress SESSION) blank).mark)
   pub sized : ForTold told (AreSizes sizes)
 

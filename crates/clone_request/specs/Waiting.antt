@@ -1,20 +1,24 @@
 -- What of a stage isn't laid on a requester's disk yet, and what is.
-use Rattle.std.specs.Prelude.{ℕ, ◌≡◌, ◌≢◌, ◌≤◌, ◌<◌, ◌+◌, ◌*◌, ◌⊎◌, List, [], length, All, Contains, None, Some, slice_get}
+use Rattle.std.specs.Prelude.{ℕ, ◌≡◌, ◌≢◌, ◌≤◌, ◌<◌, ◌+◌, ◌*◌, ◌⊎◌, List, [], length, false, All, Contains, None, Some, slice_get}
 use Rattle.std.specs.declared.option.Option.{Option}
 use Rattle.std.specs.Option.{ForSome}
+use Rattle.std.specs.FinMap as finite
 use Rattle.clone_base.specs.declared.limits.TheConstants.{REDO_SPACE}
 use Rattle.clone_outside.specs.Disk.{DiskImage, pages_in}
 use Rattle.clone_contents.specs.Records.{system_size}
 use Rattle.clone_image.specs.Image.{page_of}
-use Rattle.clone_image.specs.Redone.{Standing, standing_of}
-use Rattle.clone_law.specs.Machine.{Copy, Tracked}
-use Rattle.clone_law.specs.Starts.{HasStart}
+use Rattle.clone_image.specs.Redone.{standing_of}
 use Rattle.clone_buffer.specs.OnePage.{Copies}
 use Rattle.clone_overlay.specs.Images.{redo_space, image_of, IsQuiet}
 use Rattle.clone_lay.specs.declared.laying.TheConstants.{REDO_BLOCK}
 use Rattle.clone_lay.specs.Redo.{laid_blocks, redo_block}
 use Rattle.clone_chunk.specs.declared.chunk.Chunk.{Chunk}
 use Rattle.clone_chunk.specs.declared.chunk.Chunk.TheVariants.{Claimed, Finished}
+use Rattle.clone_law.specs.Machine.{NoFiles}
+use Rattle.clone_snapshot.specs.StageLists as lists
+use Rattle.clone_session.specs.Effects.{is_listed}
+use Rattle.clone_standing.specs.Counting.{Counts}
+use Rattle.clone_standing.specs.Latest.{made_standing}
 use Rattle.clone_snapshot.specs.StageLists.{StageList, Part, PagePart, RedoPart, block_of, pages_of}
 
 -- a chunk in work: so many blocks of it are laid, from its first one on
@@ -59,10 +63,24 @@ AreSettled chunks work =
     (chunk task : ℕ) → slice_get chunks chunk ≡ Some (Claimed task)
     → (w : InWork) × (work ≡ Some w) × (w.chunk ≡ chunk) × (task ≡ 0)
 
--- what stands of a page counts: redo of it may start from there, or the page is tracked and will be
--- copied as it is
-abbrev pub Counts : Copy → Standing → Type 0
-Counts copy standing = (copy ≡ Tracked) ⊎ HasStart copy standing
+-- the page waits for room, since its space was made after the files were listed
+abbrev pub WaitsForRoom : List (ℕ × ℕ) → ℕ → Type 0
+WaitsForRoom made space = (pages : ℕ) × Contains made (space, pages)
+
+-- While files are copied, such a page counts as it stands when there is room for it. From then on a
+-- clone has of no page what the copy of files had.
+abbrev pub CountAsMade : StageList → List (ℕ × ℕ) → Copies → Type 0
+CountAsMade (lists.Files spaces) made copies =
+    (space pages number : ℕ) → Contains made (space, pages)
+    → Counts (copies space number) (made_standing pages number)
+CountAsMade list made copies = (space number : ℕ) → NoFiles (copies space number)
+
+-- while files are copied, the disk has those alone that are listed
+abbrev pub HasOnlyListed : StageList → DiskImage → Type 0
+HasOnlyListed (lists.Files spaces) m =
+    (space : ℕ) → space < redo_space → is_listed space spaces ≡ false
+    → finite.get m.spaces space ≡ None
+HasOnlyListed list m = Unit {0}
 
 -- THE PAGES on a requester's disk: of each page what stands there counts, unless the page waits for
 -- its block. No page is being written, and the system space has no more pages than it may.

@@ -3,6 +3,8 @@
 //!
 //! What stands on its disk of each page counts from the page's block on: redo of the page may start
 //! from it, or the page is tracked and is copied once more.
+//! A page of a table that is made while files are copied counts once there is room for its space,
+//! which is made when the donor lists it with the copy of pages.
 #![tactic(auto)]
 
 mod asking;

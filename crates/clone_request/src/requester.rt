@@ -12,7 +12,8 @@ ghost use Rattle.clone_request.specs.Requester.{IsStopOf, IsUnasked, IsUnderWay}
 ghost use Rattle.clone_request.specs.Advancing.{Completes, HasRisen, Leaves, Lends};
 ghost use Rattle.clone_chunk.specs.Plans.{checkpoint_of, lsn_of};
 ghost use Rattle.clone_request.specs.Copying.{IsDone, IsEndOf};
-ghost use Rattle.clone_request.specs.Laying.{KeepsMark, pairs_of, with_rooms};
+ghost use Rattle.clone_accepted.specs.Disk.{with_rooms};
+ghost use Rattle.clone_request.specs.Laying.{KeepsMark, pairs_of};
 
 use crate::asking::CALLER;
 use clone_base::Counts;
@@ -121,7 +122,8 @@ impl Requester {
     }
 
     /// Copies the next stage: the donor is asked for the session, or told that the stage before is
-    /// copied, and each block is laid at its place. After the last stage the copy is completed, and
+    /// copied, room is made for the spaces that the stage lists, and each block is laid at its place.
+    /// After the last stage the copy is completed, and
     /// the session ends. The floor is what the requester has looked up; each acknowledgement tells
     /// it to the donor.
     ///
@@ -149,15 +151,16 @@ impl Requester {
         let stage = info.plan.stage();
         match stage {
             Stage::Done => return self.complete(donor, disk, &info),
-            Stage::FileCopy => self.make_rooms(disk, info.plan.spaces())?,
-            Stage::PageCopy | Stage::RedoCopy => {}
+            Stage::FileCopy | Stage::PageCopy | Stage::RedoCopy => {
+                self.make_rooms(disk, info.plan.spaces())?;
+            }
         }
         self.copy_stage(alloc, donor, disk, stage.number(), info.plan.checkpoint())?;
         self.stages += 1;
         Ok(Advanced::Ready { stage: self.stages })
     }
 
-    // Makes room for the files of all spaces.
+    // Makes room for the files of these spaces.
     fn make_rooms<R: PageDisk>(&mut self, disk: &mut R, spaces: &[SpaceSize]) -> Result<(), Refusal>
         requires sizes { ForTold (R.state disk.old).told (AreSizes self.old.sizes) }
         ensures ok { OnOk result (Steps (R.state disk.old).told (R.state disk.new).told

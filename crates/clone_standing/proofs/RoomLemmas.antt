@@ -111,7 +111,7 @@ made_beside (space ∷ spaces) m low =
     ∙ ap (λ (o : Option (List Held)). unwrap_or o []) (get_there m space.0 REDO_SPACE (extended space.1 (pages_in m space.0)) (λ same. absurd (omega (arith, low.0.0, same))))
 
 -- a space that isn't listed stays
-rooms_beside : (spaces : List (ℕ × ℕ)) (m : DiskImage) (q : ℕ) → All (λ (t : ℕ × ℕ). t.0 ≢ q) spaces → finite.get (with_rooms spaces m).spaces q ≡ finite.get m.spaces q
+pub rooms_beside : (spaces : List (ℕ × ℕ)) (m : DiskImage) (q : ℕ) → All (λ (t : ℕ × ℕ). t.0 ≢ q) spaces → finite.get (with_rooms spaces m).spaces q ≡ finite.get m.spaces q
 rooms_beside [] m q others = refl
 rooms_beside (space ∷ spaces) m q others =
     rooms_beside spaces (with_room space.0 space.1 m) q (λ i d less. others (suc i) d (omega (arith, less)))

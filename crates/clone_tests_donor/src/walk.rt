@@ -90,7 +90,7 @@ fn walked(rt: &impl Abort, alloc: Global, words: Pcg32, config: Config) -> Resul
 // of the disk failed, and chains and files got longer in each stage.
 #[test]
 fn a_random_walk_with_clones(rt: HostRuntime) -> Result<(), Fail> {
-    let counts = walked(&rt, rt.alloc(), words_from(22, 28), ROOM)?;
+    let counts = walked(&rt, rt.alloc(), words_from(25, 28), ROOM)?;
     assert!(rt; counts.clones >= 3 && counts.dropped > 0);
     assert!(rt; counts.behind > 0 && counts.torn > 0 && counts.open > 0);
     assert!(rt; counts.unread > 0 && counts.unheld > 0);

@@ -1,6 +1,7 @@
 //! Random walks over both ends of a clone: the tasks of a requester and the donor's sides of their
-//! connections take steps by turns, bytes come in pieces, connections are lost, and the donor's
-//! engine goes on. The clone that comes of it is recovered, and has the rows of its position.
+//! connections take steps by turns, bytes come in pieces, connections are lost, the donor's disk
+//! fails now and then, and its engine goes on, also with tables that are new. The clone that comes
+//! of it is recovered, and has the rows of its position.
 
 mod drawn;
 mod engine;
@@ -9,7 +10,7 @@ mod requester;
 mod wire;
 
 use crate::walk::drawn::{below, words_from};
-use crate::walk::engine::{Engine, make_tables};
+use crate::walk::engine::Engine;
 use crate::walk::requester::Requester;
 use crate::walk::wire::{Served, Wire};
 use clone_chunk::CopyStage;
@@ -74,6 +75,10 @@ struct Counts {
     blocks: u64,
     others: u64,
     exits: u64,
+    // faults of the donor's disk that a step of its side met
+    faults: u64,
+    // tables that were made while the session stood
+    made: u64,
 }
 
 // No stage, those in which something is copied, and that in which all was.
@@ -136,13 +141,14 @@ impl Walk {
         copy: Requester,
     ) -> Result<Requester, Fail> {
         let task = self.drawn_task();
-        match below(&mut self.words, 32) {
+        match below(&mut self.words, 33) {
             0..=9 => return self.step_task(rt, copy, task),
             10..=16 => self.serve(donor, task)?,
             17..=25 => self.shift(task)?,
             26 => self.serve_left(donor)?,
             27 => self.cut(task)?,
             28 => self.floor = donor.look(),
+            29 => self.order_fault(donor)?,
             _ => self.call(donor, 1)?,
         }
         Ok(copy)
@@ -193,6 +199,10 @@ impl Walk {
             return Ok(());
         }
         let answer = wire.served.step(self.alloc, donor, &mut wire.given);
+        if matches!(answer, ServeAnswer::DiskFault) {
+            // the donor closes a connection over which its disk failed
+            wire.cut(&mut self.words)?;
+        }
         self.counts.note(task, answer)
     }
 
@@ -237,6 +247,17 @@ impl Walk {
         wire.cut(&mut self.words)
     }
 
+    // Now and then the donor's disk is to fail at one of its next calls.
+    fn order_fault(&mut self, donor: &mut Donor<MemDisk>) -> Result<(), Fail> {
+        if self.cuts >= self.limit || below(&mut self.words, 8) > 0 {
+            return Ok(());
+        }
+        let call = below(&mut self.words, 4) as u64 + 1;
+        self.cuts = self.cuts.saturating_add(1);
+        donor.order(DiskOrder::FailAt { call })?;
+        Ok(())
+    }
+
     // What is under way on the first task's connection comes, and the donor takes it.
     fn finish(&mut self, rt: &impl Abort, donor: &mut Donor<MemDisk>) -> Result<(), Fail> {
         let Some(wire) = self.wires.get_mut(0) else {
@@ -265,6 +286,8 @@ impl Counts {
             blocks: 0,
             others: 0,
             exits: 0,
+            faults: 0,
+            made: 0,
         }
     }
 
@@ -280,7 +303,7 @@ impl Counts {
             }
             ServeAnswer::Refused(_) => count(&mut self.refusals),
             ServeAnswer::Exit => count(&mut self.exits),
-            ServeAnswer::DiskFault => return Err(Fail::from("a fault of the disk")),
+            ServeAnswer::DiskFault => count(&mut self.faults),
             ServeAnswer::Garbled { .. } => return Err(Fail::from("garbled at the donor")),
             ServeAnswer::NoMemory => return Err(Fail::from("no memory")),
             _ => {}
@@ -339,7 +362,7 @@ fn take_clone(
     version: u16,
 ) -> Result<(), Fail> {
     donor.order(DiskOrder::Tear { byte: 0xA5 })?;
-    make_tables(donor)?;
+    walk.engine.make_tables(donor)?;
     walk.call(donor, BEFORE)?;
     let copy = Requester::begin(walk.alloc, tasks, walk.limit, version)?;
     let copy = walk.go(rt, donor, copy)?;
@@ -391,7 +414,9 @@ fn walked(
     let cloned = take_clone(rt, &mut donor, &mut walk, tasks, version);
     let _disk = donor.into_disk();
     cloned?;
-    Ok(walk.counts)
+    let mut counts = walk.counts;
+    counts.made = walk.engine.made;
+    Ok(counts)
 }
 
 // No connection is lost.
@@ -406,15 +431,18 @@ fn a_walk_without_losses(rt: HostRuntime) -> Result<(), Fail> {
     Ok(())
 }
 
-// Connections of one task and of several are lost, and blocks come over all.
+// Connections of one task and of several are lost, the donor's disk fails in a block, tables are made
+// meanwhile, and blocks come over all.
 #[test]
 fn walks_with_losses(rt: HostRuntime) -> Result<(), Fail> {
-    let (mut lost, mut others) = (0, 0);
+    let (mut lost, mut others, mut faults, mut made) = (0, 0, 0, 0);
     for (seed, tasks, version) in [(2, 1, 1), (3, 4, 2), (4, 3, 1), (5, 16, 2)] {
         let counts = walked(&rt, rt.alloc(), seed, tasks, version, 16)?;
         lost = counts.losses.iter().copied().max().unwrap_or(0).max(lost);
         others = counts.others.max(others);
+        faults = counts.faults.max(faults);
+        made = counts.made.max(made);
     }
-    assert!(rt; lost > 0 && others > 0);
+    assert!(rt; lost > 0 && others > 0 && faults > 0 && made > 0);
     Ok(())
 }

@@ -39,8 +39,8 @@ pub use Rattle.clone_buffer.proofs.ImageLemmas.{past_count, still_there}
 pub use Rattle.clone_buffer.specs.Buffered.{Buffered, IsBuffer, Shown, Shows, image_of}
 pub use Rattle.clone_buffer.specs.Dropping.{AreUnpinned, DropsSpace, freed, given_up, is_page_below, without_pages}
 pub use Rattle.clone_buffer.specs.Keeping.{IsKeptPage, Stands}
-pub use Rattle.clone_buffer.specs.OnePage.{Beside, at_rest, bytes_in, engine_with, flight_of, flush_in, frame_of, has_space, is_open, no_copies, oldest_in, standing_in}
-pub use Rattle.clone_buffer.specs.Writing.{Creates, HasFrame, HasMade, IsOnPage, Lengthens, NoFilesOfMade, any_names, changed_at, named_frame, written}
+pub use Rattle.clone_buffer.specs.OnePage.{Beside, Copies, after_create, at_rest, bytes_in, engine_with, flight_of, flush_in, frame_of, has_space, is_open, no_copies, oldest_in, standing_in}
+pub use Rattle.clone_buffer.specs.Writing.{Creates, HasFrame, HasMade, IsOnPage, Lengthens, any_names, changed_at, named_frame, with_made, written}
 pub use Rattle.clone_contents.proofs.FindLemmas.{free_found, key_found, next_on, slot_on}
 pub use Rattle.clone_contents.specs.Contents.{named}
 pub use Rattle.clone_contents.specs.Spaces.{MayDrop, MayGrow, grown}
@@ -75,7 +75,7 @@ pub use Rattle.clone_trx.specs.Calls.{before_change, begin_way, change_at, chang
 pub use Rattle.clone_trx.specs.Holding.{ArePinned, Call, Comes, HasCome, IsRefused, freshens_on, lengthens_on, reads_on, released, starts, times, walks_on}
 pub use Rattle.clone_trx.specs.Placing.{change_call}
 pub use Rattle.clone_trx.specs.Walking.{Follows, IsKeptHeld, MayGoOn}
-pub use Rattle.clone_trx.specs.Ways.{Answers, Carries, Drops, FindsRoom, FindsWanted, Goes, HasRoom, Holds, IsFull, Lacks, Makes, Misses, MissesBy, PinsAtMost, StaysStanding, Takes, Walks, WalksAll, Way, Writes, WritesWithout, arrives, cause_of, chain_page, drops, ends, finds, freshens, held, keeps, lengthens, let_go, let_go_kept, makes, misses, onward, page_in, passes, reads, returns, stops, walks, writes}
+pub use Rattle.clone_trx.specs.Ways.{Answers, Carries, Drops, FindsRoom, FindsWanted, Goes, HasRoom, Holds, IsFull, Lacks, Makes, Misses, MissesBy, PinsAtMost, StaysCreating, StaysStanding, Takes, Walks, WalksAll, Way, Writes, WritesWithout, arrives, cause_of, chain_page, drops, ends, finds, freshens, held, keeps, lengthens, let_go, let_go_kept, makes, misses, onward, page_in, passes, reads, returns, stops, walks, writes}
 pub use Rattle.clone_trx.specs.declared.walk.Course.{Course}
 pub use Rattle.clone_trx.specs.declared.walk.Spot.{Spot}
 pub use Rattle.clone_undo.specs.Changes.{after}

@@ -1,7 +1,7 @@
 -- The mini-transaction that makes a table.
 use Rattle.std.specs.FinMap as finite
 use Rattle.clone_model.specs.History.{Drops}
-use Rattle.clone_trx.proofs.Common.{◌≡◌, ◌≢◌, ◌<◌, ◌≤◌, ℕ, List, length, refl, sym, ap, subst, ◌∙◌, arith, Option, Some, None, Result, nat_cmp, option_map, option_and_then, slice_get, IsTrue, is_some, ◌==◌, eqb-false, page_of-elsewhere, Content, PageName, frame_at, Buffered, IsBuffer, Shown, image_of, Creates, create_cause, TableExists, TooManyTables, EngineRefusal, records_of_create, nat_cmp_total, exact_unsigned, removed_again, Image, page_of, Cause, Commit, Donor, Locks, Opened, created, donor_of, TABLE_LIMIT, whether, IsKept, IsHeld, create_way, number_of_free_entry, system_page, HasNoFresh, makes, Makes, Goes, Holds, Answers, Carries, let_go, page_in}
+use Rattle.clone_trx.proofs.Common.{◌≡◌, ◌≢◌, ◌<◌, ◌≤◌, ℕ, List, length, refl, sym, ap, subst, ◌∙◌, arith, Option, Some, None, Result, nat_cmp, option_map, option_and_then, slice_get, IsTrue, is_some, ◌==◌, eqb-false, page_of-elsewhere, Content, PageName, frame_at, Buffered, IsBuffer, Shown, image_of, Creates, create_cause, TableExists, TooManyTables, EngineRefusal, records_of_create, nat_cmp_total, exact_unsigned, removed_again, Image, page_of, Cause, Commit, Donor, Locks, Opened, created, donor_of, TABLE_LIMIT, whether, IsKept, IsHeld, create_way, number_of_free_entry, system_page, HasNoFresh, makes, Makes, Goes, Holds, Answers, Carries, StaysCreating, StaysStanding, let_go, page_in, DiskImage, after_create, Ok, Err}
 use Rattle.clone_trx.proofs.CauseLemmas.{both_none, is_not, not_equal, passed}
 use Rattle.clone_trx.proofs.PlacedLemmas.{held_frame}
 use Rattle.clone_trx.proofs.SystemPageLemmas.{system_there}
@@ -64,3 +64,9 @@ pub create_answers : {X : Type 0} (d after : Donor) (table buckets : ℕ) (old n
     → Answers (create_cause d table) (create_way table buckets) d after old new result (λ _. after ≡ created table buckets d)
 create_answers d after table buckets old new result none goes does =
     subst (λ (o : Option Cause). Answers o (create_way table buckets) d after old new result (λ _. after ≡ created table buckets d)) (sym none) (goes, does)
+
+-- The system page is held before, and let go after.
+pub stays_creating : {X : Type 0} (table buckets : ℕ) (result : Result X EngineRefusal) (old mid last new : Buffered) (before between after : Option DiskImage) → StaysStanding old mid before between → StaysCreating table buckets result mid last between after → StaysStanding last new after after
+    → StaysCreating table buckets result old new before after
+stays_creating table buckets (Ok x) old mid last new before between after holding creating letting = λ beside st. letting (record beside { copy = after_create table buckets beside.copy }) (creating beside (holding beside st))
+stays_creating table buckets (Err refusal) old mid last new before between after holding creating letting = λ beside st. letting beside (creating beside (holding beside st))

@@ -18,7 +18,7 @@ use Rattle.clone_pool.specs.Pool.{HasNoFrameFor, Fetches, Freshens, with_frame}
 use Rattle.clone_buffer.specs.Buffered.{Buffered, image_of}
 use Rattle.clone_buffer.specs.Writing.{written}
 use Rattle.clone_buffer.specs.Dropping.{without_pages}
-use Rattle.clone_buffer.specs.OnePage.{Beside, NoFilesOf, NoFlightsOf}
+use Rattle.clone_buffer.specs.OnePage.{Beside, NoFilesOf, NoFlightsOf, after_create}
 use Rattle.clone_buffer.specs.Keeping.{Stands}
 use Rattle.clone_plain.specs.Donor.{Donor}
 use Rattle.clone_plain.specs.Effects.{dropped}
@@ -278,12 +278,14 @@ abbrev pub StaysStanding : Buffered → Buffered → Option DiskImage → Option
 StaysStanding old new before after =
     (beside : Beside) → Stands old beside before → Stands new beside after
 
--- so does one that is beside no FILE COPY of a space
-abbrev pub StaysOutsideFiles : ℕ → Buffered → Buffered → Option DiskImage → Option DiskImage
-    → Type 0
-StaysOutsideFiles space old new before after =
-    (beside : Beside) → NoFilesOf space beside.copy → Stands old beside before
-    → Stands new beside after
+-- So does one after a call that is to make a space of so many pages. Where the call was carried
+-- out, a clone has each page of the space as it was made.
+abbrev pub StaysCreating : {X : Type 0} → ℕ → ℕ → Result X EngineRefusal → Buffered → Buffered
+    → Option DiskImage → Option DiskImage → Type 0
+StaysCreating space pages (Ok x) old new before after =
+    (beside : Beside) → Stands old beside before
+    → Stands new (record beside { copy = after_create space pages beside.copy }) after
+StaysCreating space pages (Err refusal) old new before after = StaysStanding old new before after
 
 -- so does one that is beside no FILE COPY of a space and no flush of a page of it
 abbrev pub StaysOutside : ℕ → Buffered → Buffered → Option DiskImage → Option DiskImage → Type 0

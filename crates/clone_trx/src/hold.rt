@@ -11,7 +11,7 @@ ghost use Rattle.clone_buffer.specs.Buffered.{image_of};
 ghost use Rattle.clone_buffer.specs.Keeping.{Stands};
 ghost use Rattle.clone_buffer.specs.OnePage.{Beside};
 ghost use Rattle.clone_buffer.specs.Dropping.{AreUnpinned, DropsSpace, without_pages};
-ghost use Rattle.clone_buffer.specs.Writing.{Creates, HasFrame, HasMade, IsOnPage, Lengthens, NoFilesOfMade, written};
+ghost use Rattle.clone_buffer.specs.Writing.{Creates, HasFrame, HasMade, IsOnPage, Lengthens, with_made, written};
 ghost use Rattle.clone_plain.specs.declared.refusal.EngineRefusal.TheVariants.{Because, NoMemory};
 ghost use Rattle.clone_plain.specs.declared.refusal.Cause.{Cause};
 ghost use Rattle.clone_plain.specs.declared.refusal.Cause.TheVariants.{DiskFault};
@@ -157,8 +157,8 @@ pub fn write_space_held(buffer: &mut Buffer, records: &[Record])
     requires creates { IsTrue buffer.old.right → Creates buffer.old records.now }
     ensures written { buffer.new ≡ written records.now buffer.old }
     ensures stands { (beside : Beside) (told : Option DiskImage)
-        → ForTold told (HasMade records.now) → NoFilesOfMade records.now beside.copy
-        → Stands buffer.old beside told → Stands buffer.new beside told }
+        → Stands buffer.old beside told → ForTold told (HasMade records.now)
+        → Stands buffer.new (with_made records.now beside) told }
 {
     match buffer.write_space(records) {
         Ok(_) => {}

@@ -269,11 +269,9 @@ impl Walk {
     }
 }
 
-// The first cause against a call, if there is one. No table is made or dropped while a session
-// stands.
+// The first cause against a call, if there is one. No table is dropped while a session stands.
 fn check(plain: &Plain, call: Call, session: Option<u64>) -> Result<(), Cause> {
     match (call, session) {
-        (Call::Create(_, _), Some(session)) => Err(Cause::CloneRunning { session }),
         (Call::Drop(table), Some(session)) if plain.tables().contains_key(&table) => {
             Err(Cause::CloneRunning { session })
         }

@@ -24,7 +24,14 @@ pub struct Requester {
 impl Requester {
     /// The copy begins on an empty disk, with room for the spaces of the copy of files.
     pub fn begin(alloc: Global, info: &StageInfo) -> Result<Requester, Fail> {
-        let mut requester = Requester::on_empty_disk(alloc).with_mark(info.session)?;
+        Requester::on_empty_disk(alloc)
+            .with_mark(info.session)?
+            .with_rooms(info)
+    }
+
+    /// Makes room for the spaces that a stage lists.
+    pub fn with_rooms(self, info: &StageInfo) -> Result<Requester, Fail> {
+        let mut requester = self;
         for space in info.plan.spaces() {
             requester = requester.with_room(space.space, space.pages)?;
         }

@@ -94,6 +94,7 @@ fn copy_pages(
     let acked = donor.ack(walk.alloc, caller, 1, 0);
     let info = acked.ok().ok_or("no copy of pages")?;
     assert!(rt; info.plan.stage() == Stage::PageCopy);
+    let requester = requester.with_rooms(&info)?;
     walk.stage = 2;
     walk.go(rt, donor, FAR)?;
     let copy = StageCopy {

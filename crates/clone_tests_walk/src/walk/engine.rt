@@ -16,6 +16,9 @@ const TRANSACTIONS: u32 = 5;
 // So many keys that chains get long.
 const KEYS: u32 = 600;
 
+// So many tables at most.
+const MOST_TABLES: u32 = 9;
+
 // More than the pages that are dirty at once.
 const MOST_DIRTY: u32 = 100;
 
@@ -24,7 +27,10 @@ const MOST_DIRTY: u32 = 100;
 pub struct Engine {
     /// The plain donor.
     pub plain: Plain,
+    /// How many tables were made while a session stood.
+    pub made: u64,
     flights: Vec<(u32, u32)>,
+    tables: u32,
     calls: u64,
     alloc: Global,
 }
@@ -34,7 +40,9 @@ impl Engine {
     pub fn new(alloc: Global) -> Engine {
         Engine {
             plain: Plain::new(alloc),
+            made: 0,
             flights: Vec::new(alloc),
+            tables: 0,
             calls: 0,
             alloc,
         }
@@ -42,21 +50,45 @@ impl Engine {
 
     /// A call that is drawn.
     pub fn call(&mut self, words: &mut Pcg32, donor: &mut Donor<MemDisk>) -> Result<(), Fail> {
-        match below(words, 32) {
-            0 | 1 => self.begin_flush(donor)?,
-            2 | 3 => self.halve(words, donor),
-            4 | 5 => self.land(words, donor),
-            6 => self.make_room(words, donor)?,
-            7 => {
+        match below(words, 64) {
+            0..=3 => self.begin_flush(donor)?,
+            4..=7 => self.halve(words, donor),
+            8..=11 => self.land(words, donor),
+            12 | 13 => self.make_room(words, donor)?,
+            14 => {
                 let _ = donor.archive(below(words, 1_500) as u64)?;
             }
-            8 | 9 | 10 => self.begin(words, donor)?,
-            11..=24 => self.put(words, donor)?,
-            25 | 26 => self.delete(words, donor)?,
-            27 => self.undo(words, donor)?,
+            15 => self.create(words, donor),
+            16..=21 => self.begin(words, donor)?,
+            22..=49 => self.put(words, donor)?,
+            50..=53 => self.delete(words, donor)?,
+            54 | 55 => self.undo(words, donor)?,
             _ => self.commit(words, donor)?,
         }
         Ok(())
+    }
+
+    // Now and then a table more is made, with one to three pages.
+    fn create(&mut self, words: &mut Pcg32, donor: &mut Donor<MemDisk>) {
+        if self.tables >= MOST_TABLES || below(words, 16) > 0 {
+            return;
+        }
+        let number = self.tables.saturating_add(1);
+        let pages = BucketCount::new(below(words, 3).saturating_add(1));
+        let (Some(table), Some(buckets)) = (TableNumber::new(number), pages) else {
+            return;
+        };
+        if donor.create(table, buckets).is_ok() {
+            self.tables = number;
+            if donor.session().is_some() {
+                self.made = self.made.saturating_add(1);
+            }
+        }
+    }
+
+    // One of the tables, or the next.
+    fn drawn_table(&self, words: &mut Pcg32) -> u32 {
+        below(words, self.tables.min(MOST_TABLES) + 1) + 1
     }
 
     fn begin(&mut self, words: &mut Pcg32, donor: &mut Donor<MemDisk>) -> Result<(), Fail> {
@@ -70,7 +102,7 @@ impl Engine {
 
     fn put(&mut self, words: &mut Pcg32, donor: &mut Donor<MemDisk>) -> Result<(), Fail> {
         let trx = below(words, TRANSACTIONS);
-        let table = 1 + below(words, 3);
+        let table = self.drawn_table(words);
         let key = below(words, KEYS) as u64;
         let bytes = [below(words, 256) as u8; 64];
         let length = below(words, 64) as usize;
@@ -84,7 +116,7 @@ impl Engine {
 
     fn delete(&mut self, words: &mut Pcg32, donor: &mut Donor<MemDisk>) -> Result<(), Fail> {
         let trx = below(words, TRANSACTIONS);
-        let table = 1 + below(words, 3);
+        let table = self.drawn_table(words);
         let key = below(words, KEYS) as u64;
         if donor.delete(trx, table, key).is_ok() {
             let value = None;
@@ -165,17 +197,18 @@ impl Engine {
         let _ = donor.checkpoint();
         Ok(())
     }
-}
 
-/// Makes three tables.
-pub fn make_tables(donor: &mut Donor<MemDisk>) -> Result<(), Fail> {
-    for table in 1..4 {
-        let (Some(table), Some(buckets)) = (TableNumber::new(table), BucketCount::new(2)) else {
-            return Err(Fail::from("no table"));
-        };
-        if donor.create(table, buckets).is_err() {
-            return Err(Fail::from("no table"));
+    /// Makes three tables.
+    pub fn make_tables(&mut self, donor: &mut Donor<MemDisk>) -> Result<(), Fail> {
+        for table in 1..4 {
+            let (Some(table), Some(buckets)) = (TableNumber::new(table), BucketCount::new(2)) else {
+                return Err(Fail::from("no table"));
+            };
+            if donor.create(table, buckets).is_err() {
+                return Err(Fail::from("no table"));
+            }
         }
+        self.tables = 3;
+        Ok(())
     }
-    Ok(())
 }

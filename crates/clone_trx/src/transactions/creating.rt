@@ -11,7 +11,7 @@ ghost use Rattle.clone_plain.specs.Effects.{created};
 ghost use Rattle.clone_plain.specs.declared.refusal.Cause.TheVariants.{DiskFault};
 ghost use Rattle.clone_plain.specs.declared.refusal.EngineRefusal.TheVariants.{Because};
 ghost use Rattle.clone_trx.specs.Calls.{create_way, number_of_free_entry, system_page};
-ghost use Rattle.clone_trx.specs.Ways.{Answers, Carries, Makes, StaysOutsideFiles, page_in};
+ghost use Rattle.clone_trx.specs.Ways.{Answers, Carries, Makes, StaysCreating, page_in};
 ghost use Rattle.clone_trx.specs.Kept.{Has, HasNoFresh, Keeps};
 ghost use Rattle.clone_trx.specs.Sound.{IsKept};
 ghost use Rattle.std.specs.FinMap as finite;
@@ -52,7 +52,7 @@ impl Transactions {
             (λ m. with_created m table buckets) }
         ensures same { (result ≡ Err (Because DiskFault) → ⊥)
             → OnErr result ((D.state disk.new).told ≡ (D.state disk.old).told) }
-        ensures stands { StaysOutsideFiles table buffer.old buffer.new
+        ensures stands { StaysCreating table buckets result buffer.old buffer.new
             (D.state disk.old).told (D.state disk.new).told }
     {
         let (table, buckets) = (table.get(), buckets.get());
@@ -101,7 +101,7 @@ impl Transactions {
             (λ m. with_created m table buckets) }
         ensures same { (result ≡ Err (Because DiskFault) → ⊥)
             → OnErr result ((D.state disk.new).told ≡ (D.state disk.old).told) }
-        ensures stands { StaysOutsideFiles table buffer.old buffer.new
+        ensures stands { StaysCreating table buckets result buffer.old buffer.new
             (D.state disk.old).told (D.state disk.new).told }
     {
         buffer.laws();

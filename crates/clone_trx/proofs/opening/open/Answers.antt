@@ -1,5 +1,6 @@
 use Rattle.clone_ring.specs.Window.{end_of}
-use Rattle.clone_trx.proofs.Common.{◌≡◌, ◌+◌, ℕ, List, [], ◌∷◌, Option, slice_get, option_and_then, sym, ap, subst, ◌∙◌, length, nat_cmp, IsTrue, ForTold, Steps, with_created, System, Init, replayed, Buffered, image_of, at_rest, no_copies, Creates, HasMade, NoFilesOfMade, system_page, get-empty, Record, page_of, spelling, opening_records, system_size, Donor, no_donor, IsKept, AreLoose}
+use Rattle.clone_buffer.proofs.SpaceLemmas.{create_calm}
+use Rattle.clone_trx.proofs.Common.{◌≡◌, ◌+◌, ℕ, List, [], ◌∷◌, Option, slice_get, option_and_then, sym, ap, subst, ◌∙◌, length, nat_cmp, IsTrue, ForTold, Steps, with_created, System, Init, replayed, Buffered, image_of, at_rest, no_copies, Creates, HasMade, Stands, Copies, with_made, system_page, get-empty, Record, page_of, spelling, opening_records, system_size, Donor, no_donor, IsKept, AreLoose}
 use Rattle.clone_trx.proofs.Common as common
 use Rattle.clone_trx.proofs.KeptLemmas.{opening_keeps}
 use Rattle.clone_trx.proofs.NewSpaceLemmas.{has_made}
@@ -44,8 +45,10 @@ returns-clause-stands g c = λ _.
     let before = (g.D.PageDisk.state c.args.disk.now).told in
     let after = (g.D.PageDisk.state c.create.new.self).told in
     let step : Steps before after (λ m. with_created m 0 system_size) = c.in-Ok.ensures.takes.done in
-    let made = subst (λ (rs : List Record). ForTold after (HasMade rs)) (sym c.opening.ensures) (has_made before after 0 system_size (Init 0 0 System ∷ []) step) in
-    c.unpin.ensures.stands at_rest after (c.write_space_held.ensures.stands at_rest after made (subst (λ (rs : List Record). NoFilesOfMade rs no_copies) (sym c.opening.ensures) (λ number. tt)) (c.in-Ok-fresh.ensures.stands at_rest after (stands_first c.in_ok-buffer.buffer after c.in_ok-buffer.ensures.log c.in_ok-buffer.ensures.stands)))
+    let made = has_made before after 0 system_size (Init 0 0 System ∷ []) step in
+    let first = c.in-Ok-fresh.ensures.stands at_rest after (stands_first c.in_ok-buffer.buffer after c.in_ok-buffer.ensures.log c.in_ok-buffer.ensures.stands) in
+    let stood = subst (λ (rs : List Record). ForTold after (HasMade rs) → Stands c.write_space_held.new.buffer (with_made rs at_rest) after) c.opening.ensures (c.write_space_held.ensures.stands at_rest after first) made in
+    c.unpin.ensures.stands at_rest after (subst (λ (copies : Copies). Stands c.write_space_held.new.buffer (record at_rest { copy = copies }) after) (create_calm 0 system_size no_copies (λ number. tt)) stood)
 
 pub returns-clause-pool : goal.returns-clause-pool
 returns-clause-pool g c =

@@ -13,4 +13,4 @@ pub returns-clause-stands : goal.returns-clause-stands
 returns-clause-stands c =
     let pool = subst (λ (s : Buffered). IsPool s.pool) c.self.view_is c.laws.ensures in
     let buffer = subst IsBuffer c.self.view_is c.self.invariant in
-    λ beside told calm st on. stands_created c.args.self.now c.append.new.self beside told c.args.records.now c.append.result pool buffer c.append.ensures.spelled c.requires.creates c.append.ensures.written calm on st
+    stands_created c.args.self.now c.append.new.self c.args.records.now c.append.result pool buffer c.append.ensures.spelled c.requires.creates c.append.ensures.written

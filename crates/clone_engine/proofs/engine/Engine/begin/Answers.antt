@@ -16,6 +16,6 @@ returns g c =
     let l = g.D.PageDisk.state b.new.disk in
     let leaves = begin_leaves d.engine.donor b.new.self d.engine.buffer b.new.buffer a.writer a.index b.result is.answer in
     record {
-      acts = acts d b.new.self b.new.buffer l (λ (x : ℕ). answers.Begin x) (call.Begin a.writer a.index) b.result (λ (x : ℕ). Begins d.engine.donor a.writer a.index x b.new.self) 1 (λ answer steps. record { steps = steps; cloning = refl }) (λ answer taken. refl) (λ x does. record { does = does; sees = tt }) (λ _. refl) c.requires.donor c.laws-3.ensures.buffer leaves
+      acts = acts d b.new.self b.new.buffer l (λ (x : ℕ). answers.Begin x) (call.Begin a.writer a.index) b.result (λ (x : ℕ). Begins d.engine.donor a.writer a.index x b.new.self) 1 (λ answer steps. record { steps = steps; cloning = refl }) (λ answer taken. refl) (λ x does. record { does = does; sees = tt; fresh = tt }) (λ _. refl) c.requires.donor c.laws-3.ensures.buffer leaves
           (of_few 1 d.engine (after d b.new.self b.new.buffer l) (omega arith) leaves.grows.log) is.kept is.answer is.reads is.reads.told is.stands;
     }

@@ -15,5 +15,5 @@ returns-clause-acts g c =
     let d = over a.self.now (g.D.PageDisk.state a.disk.now) in
     let l = g.D.PageDisk.state b.new.disk in
     let leaves = commit_leaves d.engine.donor b.new.self d.engine.buffer b.new.buffer a.trx b.result is.answer in
-    acts d b.new.self b.new.buffer l (λ (x : ℕ). answers.Commit x) (call.Commit a.trx) b.result (λ (x : ℕ). Commits d.engine.donor a.trx x b.new.self) 1 (λ answer steps. record { steps = steps; cloning = refl }) (λ answer taken. refl) (λ x does. record { does = does; sees = tt }) (λ _. refl) c.requires.donor c.laws-3.ensures.buffer leaves
+    acts d b.new.self b.new.buffer l (λ (x : ℕ). answers.Commit x) (call.Commit a.trx) b.result (λ (x : ℕ). Commits d.engine.donor a.trx x b.new.self) 1 (λ answer steps. record { steps = steps; cloning = refl }) (λ answer taken. refl) (λ x does. record { does = does; sees = tt; fresh = tt }) (λ _. refl) c.requires.donor c.laws-3.ensures.buffer leaves
     (of_few 1 d.engine (after d b.new.self b.new.buffer l) (omega arith) leaves.grows.log) is.kept is.answer is.reads is.reads.told is.stands

@@ -17,6 +17,6 @@ returns g c =
     let change = delete_of a.table a.key in
     let leaves = change_leaves d.engine.donor b.new.self d.engine.buffer b.new.buffer a.trx 0 change b.result c.laws.ensures.safe is.answer in
     record {
-      acts = acts d b.new.self b.new.buffer l (λ (x : Unit {0}). answers.Delete) (call.Delete a.trx a.table a.key) b.result (λ (x : Unit {0}). Changes d.engine.donor a.trx change b.new.self) 2 (λ answer steps. record { steps = steps; cloning = refl }) (λ answer taken. refl) (λ x does. record { does = does; sees = tt }) (λ _. refl) c.requires.donor c.laws-3.ensures.buffer leaves
+      acts = acts d b.new.self b.new.buffer l (λ (x : Unit {0}). answers.Delete) (call.Delete a.trx a.table a.key) b.result (λ (x : Unit {0}). Changes d.engine.donor a.trx change b.new.self) 2 (λ answer steps. record { steps = steps; cloning = refl }) (λ answer taken. refl) (λ x does. record { does = does; sees = tt; fresh = tt }) (λ _. refl) c.requires.donor c.laws-3.ensures.buffer leaves
           (of_two d.engine (after d b.new.self b.new.buffer l) leaves.grows.log is.between) is.kept is.answer is.reads is.reads.told is.stands;
     }

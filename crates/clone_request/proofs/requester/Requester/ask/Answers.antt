@@ -55,5 +55,5 @@ returns-in-Ok-clause-asks g c told stop way = elim c.if-self-eq0.branch [
       let stages : c.self.inside.stages ≡ c.args.self.now.stages = ap (λ (r : Requester). r.stages) c.self.view_is in
       let copied = way.copied (some_stage c.args.self.now.stages (λ zero. w.if-self-eq0.false (stages ∙ zero))) in
       subst (λ (x : Donor). Asks c.args.self.now d told stop (Ok c.in-Ok.info) x) (sym w.donor-is)
-      (asks_next d t c.in-Ok.info c.args.floor c.args.self.now told stop known.donor known.cloning known.archive known.chunks copied way.stopped (subst (λ (n : ℕ). CloneActs (call.Ack CALLER n c.args.floor) (answer.Ack (Ok c.in-Ok.info)) d t) stages (acked c.self.inside.stages c.args.floor d t w.ack-answer.result c.in-Ok.info is w.ack-answer.ensures.acts)))
+      (asks_next d t c.in-Ok.info c.args.floor c.args.self.now told stop known.donor known.safe known.cloning known.archive known.chunks copied way.stopped (subst (λ (n : ℕ). CloneActs (call.Ack CALLER n c.args.floor) (answer.Ack (Ok c.in-Ok.info)) d t) stages (acked c.self.inside.stages c.args.floor d t w.ack-answer.result c.in-Ok.info is w.ack-answer.ensures.acts)))
 ]

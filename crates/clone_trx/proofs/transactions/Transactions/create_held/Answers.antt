@@ -1,6 +1,6 @@
 use Rattle.clone_space.specs.Entries.{FindsFree}
 use Rattle.clone_space.specs.Records.{entry_record}
-use Rattle.clone_trx.proofs.Common.{◌≡◌, ◌<◌, ℕ, List, [], ◌∷◌, Some, Err, inl, unwrap_or, sym, ap, subst, ◌∙◌, arith, ForTold, Steps, with_created, dictionary, records_of_create, Buffered, image_of, Creates, HasMade, NoFilesOfMade, written, number_of_free_entry, system_page, HasRoom, page_in, Record, page_of, after_records, Donor, created, donor_of, IsKept, IsSafe}
+use Rattle.clone_trx.proofs.Common.{◌≡◌, ◌<◌, ℕ, List, [], ◌∷◌, Some, Err, inl, unwrap_or, sym, ap, subst, ◌∙◌, arith, ForTold, Steps, with_created, dictionary, records_of_create, Buffered, image_of, Creates, HasMade, with_made, Stands, written, number_of_free_entry, system_page, HasRoom, page_in, Record, page_of, after_records, Donor, created, donor_of, IsKept, IsSafe}
 use Rattle.clone_trx.proofs.SafeLemmas.{created_safe}
 use Rattle.clone_trx.proofs.KeptLemmas.{create_keeps}
 use Rattle.clone_trx.proofs.CreateLemmas.{may_create, no_space, creates, donor_again}
@@ -39,8 +39,8 @@ pub returns-in-Err-clause-stands : goal.returns-in-Err-clause-stands
 returns-in-Err-clause-stands g c =
     let safe : IsSafe c.args.self.now = subst IsSafe c.self.view_is c.self.invariant.0 in
     let may = may_create c.args.self.now c.args.table safe.tables.few c.requires.cause in
-    λ beside _. disk_failed c.args.buffer.now c.args.table c.args.buckets c.laws.ensures.buffer (λ right. no_space c.args.self.now (image_of c.args.buffer.now) c.args.table (c.requires.kept right) c.requires.table.0 may.0)
-    (g.D.PageDisk.state c.args.disk.now).told (g.D.PageDisk.state c.create.new.self).told c.in-Err.refusal (λ is. c.in-Err.ensures.takes.failed (ap Err is)) (λ is. c.in-Err.ensures.takes.memory (ap Err is)) beside
+    disk_failed c.args.buffer.now c.args.table c.args.buckets c.laws.ensures.buffer (λ right. no_space c.args.self.now (image_of c.args.buffer.now) c.args.table (c.requires.kept right) c.requires.table.0 may.0)
+    (g.D.PageDisk.state c.args.disk.now).told (g.D.PageDisk.state c.create.new.self).told c.in-Err.refusal (λ is. c.in-Err.ensures.takes.failed (ap Err is)) (λ is. c.in-Err.ensures.takes.memory (ap Err is))
 
 -- Else the table is made.
 
@@ -98,13 +98,12 @@ returns-clause-kept g c =
     (create_keeps lsn entry_number c.args.table c.args.buckets d (image_of old) kept (entry_low 0 (dictionary page) c.least_free.result finds) (has_free d (image_of old) page c.least_free.result kept shown may.1 finds) may.0 may.1 c.requires.table.0 c.requires.table.1 c.requires.buckets.0 c.requires.buckets.1))
 
 pub returns-clause-stands : goal.returns-clause-stands
-returns-clause-stands g c = λ beside calm st.
+returns-clause-stands g c = λ beside st.
     let before = (g.D.PageDisk.state c.args.disk.now).told in
     let after = (g.D.PageDisk.state c.create.new.self).told in
     let safe : IsSafe c.args.self.now = subst IsSafe c.self.view_is c.self.invariant.0 in
     let may = may_create c.args.self.now c.args.table safe.tables.few c.requires.cause in
     let step : Steps before after (λ m. with_created m c.args.table c.args.buckets) = c.in_default.ensures.takes.done in
     let stood = disk_made c.args.buffer.now c.args.table c.args.buckets c.laws.ensures.buffer (λ right. no_space c.args.self.now (image_of c.args.buffer.now) c.args.table (c.requires.kept right) c.requires.table.0 may.0) before after step beside st in
-    c.write_space_held.ensures.stands beside after
-    (subst (λ (rs : List Record). ForTold after (HasMade rs)) (sym (records g c)) (has_made before after c.args.table c.args.buckets (entry_record (number_of_free_entry (page_in c.args.at c.args.buffer.now)) (record { table = c.args.table; buckets = c.args.buckets; pages = c.args.buckets }) ∷ []) step))
-    (subst (λ (rs : List Record). NoFilesOfMade rs beside.copy) (sym (records g c)) calm) stood
+    let made = has_made before after c.args.table c.args.buckets (entry_record (number_of_free_entry (page_in c.args.at c.args.buffer.now)) (record { table = c.args.table; buckets = c.args.buckets; pages = c.args.buckets }) ∷ []) step in
+    subst (λ (rs : List Record). ForTold after (HasMade rs) → Stands c.write_space_held.new.buffer (with_made rs beside) after) (records g c) (c.write_space_held.ensures.stands beside after stood) made
