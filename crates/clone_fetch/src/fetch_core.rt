@@ -12,14 +12,14 @@ use crate::receiving::receive;
 use crate::sending::send;
 use clone_chunk::CopyStage;
 use clone_outside::PageDisk;
-use clone_recipient::Recipient;
+use clone_recipient::Reception;
 use clone_tasks::{Link, Rule};
 use std::alloc::Global;
 use std::marker::Model;
 
 /// A task's side of its connections. Contracts see it as the incarnation in which the task
 /// connected last, or none before it did.
-#[derive(Drop)]
+#[derive(Clone, Copy)]
 pub struct FetchCore {
     made: Option<u32>,
 }
@@ -31,6 +31,8 @@ impl Model for FetchCore {
     ghost Value = { Option ℕ };
 
     ghost view = { λ c. c.made };
+
+    ghost inverse = { λ made. record { made = made } };
 }
 
 impl FetchCore {
@@ -46,56 +48,52 @@ impl FetchCore {
     pub fn step<R: PageDisk>(
         &mut self,
         alloc: Global,
-        recipient: &mut Recipient<R>,
+        reception: &mut Reception,
+        disk: &mut R,
         task: u8,
         link: Link,
         floor: u64,
         received: &mut Vec<u8>,
         sent: &mut Vec<u8>,
     ) -> TaskAnswer
-        requires sizes { KnowsSizes recipient.old.reception (R.state recipient.old.disk) }
-        ensures steps { StepsBy (rule_at self.old recipient.old.reception.table task link)
+        requires sizes { KnowsSizes reception.old (R.state disk.old) }
+        ensures steps { StepsBy (rule_at self.old reception.old.table task link)
             link task floor
-            (requester recipient.old.reception (R.state recipient.old.disk) received.old.items
+            (requester reception.old (R.state disk.old) received.old.items
             sent.old.items)
-            (requester recipient.new.reception (R.state recipient.new.disk) received.new.items
+            (requester reception.new (R.state disk.new) received.new.items
             sent.new.items) result }
         ensures made { self.new
-            ≡ made_by (rule_at self.old recipient.old.reception.table task link)
-            (incarnation_of recipient.old.reception.table) self.old }
+            ≡ made_by (rule_at self.old reception.old.table task link)
+            (incarnation_of reception.old.table) self.old }
         ensures sizes { result ≢ NoMemory
-            → KnowsSizes recipient.new.reception (R.state recipient.new.disk) }
+            → KnowsSizes reception.new (R.state disk.new) }
         ensures works { Alters (result ≡ Ended DiskFault)
-            (R.state recipient.old.disk) (R.state recipient.new.disk) }
+            (R.state disk.old) (R.state disk.new) }
     {
-        let table = recipient.reception.table();
+        let table = reception.table();
         let incarnation = table.incarnation();
         match table.rule(self.made, task, link) {
             Rule::Nothing => TaskAnswer::Idle,
             Rule::Stale => TaskAnswer::Stale,
-            Rule::Receive => receive(alloc, recipient, task, link, received),
-            Rule::Complete => complete(alloc, recipient, sent),
+            Rule::Receive => receive(alloc, reception, disk, task, link, received),
+            Rule::Complete => complete(alloc, reception, disk, sent),
             Rule::Connect => {
                 self.made = Some(incarnation);
-                send(alloc, &mut recipient.reception, task, floor, sent)
+                send(alloc, reception, task, floor, sent)
             }
             Rule::Acknowledge { .. } | Rule::Execute { .. } => {
-                send(alloc, &mut recipient.reception, task, floor, sent)
+                send(alloc, reception, task, floor, sent)
             }
         }
     }
 
     /// The stage that the recipient copies, exactly where the task's next step would send its
     /// acknowledgement. No memory is taken.
-    pub fn ready<R: PageDisk>(
-        &self,
-        recipient: &Recipient<R>,
-        task: u8,
-        link: Link,
-    ) -> Option<CopyStage>
-        ensures { result ≡ ready_of (rule_at self.now recipient.now.reception.table task link) }
+    pub fn ready(&self, reception: &Reception, task: u8, link: Link) -> Option<CopyStage>
+        ensures { result ≡ ready_of (rule_at self.now reception.now.table task link) }
     {
-        match recipient.reception.table().rule(self.made, task, link) {
+        match reception.table().rule(self.made, task, link) {
             Rule::Acknowledge { stage } => Some(stage),
             _ => None,
         }

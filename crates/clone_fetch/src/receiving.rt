@@ -13,7 +13,7 @@ ghost use Rattle.clone_fetch.specs.declared.answer.TaskAnswer.TheVariants.{Ended
 use crate::TaskAnswer;
 use clone_chunk::CloneCause;
 use clone_outside::PageDisk;
-use clone_recipient::{Reception, Recipient, TakeRefusal};
+use clone_recipient::{Reception, TakeRefusal};
 use clone_stream::{StreamRefusal, keep_front, take_frame};
 use clone_tasks::{CloneEnd, Link, LossAnswer};
 use clone_wire::{Frame, Side, encode};
@@ -22,27 +22,28 @@ use std::alloc::Global;
 // What was received is looked at before a loss.
 pub(crate) fn receive<R: PageDisk>(
     alloc: Global,
-    recipient: &mut Recipient<R>,
+    reception: &mut Reception,
+    disk: &mut R,
     task: u8,
     link: Link,
     received: &mut Vec<u8>,
 ) -> TaskAnswer
-    requires running { IsTrue (is_running recipient.old.reception.table) }
-    requires sizes { ForTold (R.state recipient.old.disk).told
-        (AreSizes recipient.old.reception.sizes) }
-    ensures receives { Receives task link recipient.old.reception recipient.new.reception
-        (R.state recipient.old.disk) (R.state recipient.new.disk)
+    requires running { IsTrue (is_running reception.old.table) }
+    requires sizes { ForTold (R.state disk.old).told
+        (AreSizes reception.old.sizes) }
+    ensures receives { Receives task link reception.old reception.new
+        (R.state disk.old) (R.state disk.new)
         received.old.items received.new.items result }
     ensures sizes { result ≢ NoMemory
-        → KnowsSizes recipient.new.reception (R.state recipient.new.disk) }
+        → KnowsSizes reception.new (R.state disk.new) }
     ensures works { Alters (result ≡ Ended DiskFault)
-        (R.state recipient.old.disk) (R.state recipient.new.disk) }
+        (R.state disk.old) (R.state disk.new) }
 {
     match take_frame(alloc, received, Side::Answer) {
-        Ok(Some(frame)) => take(alloc, recipient, task, frame),
-        Ok(None) if is_lost(link) => lose(&mut recipient.reception),
+        Ok(Some(frame)) => take(alloc, reception, disk, task, frame),
+        Ok(None) if is_lost(link) => lose(reception),
         Ok(None) => TaskAnswer::Idle,
-        Err(StreamRefusal::Garbled) => break_off(alloc, &mut recipient.reception, received),
+        Err(StreamRefusal::Garbled) => break_off(alloc, reception, received),
         Err(StreamRefusal::NoMemory) => TaskAnswer::NoMemory,
     }
 }
@@ -50,34 +51,32 @@ pub(crate) fn receive<R: PageDisk>(
 // A frame that came for the task is taken. One that isn't awaited ends the clone.
 fn take<R: PageDisk>(
     alloc: Global,
-    recipient: &mut Recipient<R>,
+    reception: &mut Reception,
+    disk: &mut R,
     task: u8,
     frame: Frame,
 ) -> TaskAnswer
-    requires sizes { ForTold (R.state recipient.old.disk).told
-        (AreSizes recipient.old.reception.sizes) }
-    ensures takes { TakesFrame task frame recipient.old.reception recipient.new.reception
-        (R.state recipient.old.disk) (R.state recipient.new.disk) result }
+    requires sizes { ForTold (R.state disk.old).told
+        (AreSizes reception.old.sizes) }
+    ensures takes { TakesFrame task frame reception.old reception.new
+        (R.state disk.old) (R.state disk.new) result }
     ensures sizes { result ≢ NoMemory
-        → KnowsSizes recipient.new.reception (R.state recipient.new.disk) }
+        → KnowsSizes reception.new (R.state disk.new) }
     ensures works { Alters (result ≡ Ended DiskFault)
-        (R.state recipient.old.disk) (R.state recipient.new.disk) }
+        (R.state disk.old) (R.state disk.new) }
 {
     let refusal = refusal_in(&frame);
-    match recipient
-        .reception
-        .take(alloc, &mut recipient.disk, task, frame)
-    {
+    match reception.take(alloc, disk, task, frame) {
         Ok(took) => match refusal {
             Some(cause) => TaskAnswer::Ended(CloneEnd::Refused { cause }),
             None => TaskAnswer::Took(took),
         },
         Err(TakeRefusal::Unexpected { frame }) => match encode(alloc, &frame) {
-            Ok(text) => break_off(alloc, &mut recipient.reception, &text),
+            Ok(text) => break_off(alloc, reception, &text),
             Err(_) => TaskAnswer::NoMemory,
         },
         Err(TakeRefusal::DiskFault) => {
-            recipient.reception.end(CloneEnd::DiskFault);
+            reception.end(CloneEnd::DiskFault);
             TaskAnswer::Ended(CloneEnd::DiskFault)
         }
         Err(TakeRefusal::NoMemory) => TaskAnswer::NoMemory,

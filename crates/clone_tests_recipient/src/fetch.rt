@@ -8,7 +8,7 @@ use crate::stuck::Stuck;
 use clone_fetch::{FetchCore, TaskAnswer};
 use clone_memdisk::MemDisk;
 use clone_outside::{DiskOrder, PageDisk};
-use clone_recipient::{Reception, Recipient};
+use clone_recipient::Reception;
 use clone_tasks::{CloneEnd, Link};
 use std::alloc::Global;
 use std::process::Abort;
@@ -121,10 +121,11 @@ fn came_of(answer: &TaskAnswer) -> Came {
 #[derive(Drop)]
 struct Fetching {
     core: FetchCore,
-    recipient: Recipient<MemDisk>,
+    reception: Reception,
+    disk: MemDisk,
     received: Vec<u8>,
     sent: Vec<u8>,
-    ghost sized: { KnowsSizes recipient.reception (state_of recipient.disk) },
+    ghost sized: { KnowsSizes reception (state_of disk) },
 }
 
 /// A step of a task: how its connection is, what comes first, what the step comes to, and what it
@@ -152,7 +153,8 @@ impl Fetching {
         let reception = Reception::begin(alloc, &mut disk, 1, 1, limit, 1)?;
         Ok(Fetching {
             core: FetchCore::new(),
-            recipient: Recipient { reception, disk },
+            reception,
+            disk,
             received: Vec::new(alloc),
             sent: Vec::new(alloc),
         })
@@ -174,7 +176,7 @@ impl Fetching {
 
     // Whether the task would send an acknowledgement.
     fn is_ready(&self, link: Link) -> bool {
-        self.core.ready(&self.recipient, 0, link).is_some()
+        self.core.ready(&self.reception, 0, link).is_some()
     }
 
     // One step, after these bytes came.
@@ -186,7 +188,8 @@ impl Fetching {
     ) -> Result<(Fetching, TaskAnswer), Stuck> {
         let Fetching {
             mut core,
-            mut recipient,
+            mut reception,
+            mut disk,
             mut received,
             mut sent,
         } = self;
@@ -196,13 +199,23 @@ impl Fetching {
             Comes::Page => received.extend_from_slice(&[7; 4096])?,
         }
         sent.clear();
-        let answer = core.step(alloc, &mut recipient, 0, link, 7, &mut received, &mut sent);
+        let answer = core.step(
+            alloc,
+            &mut reception,
+            &mut disk,
+            0,
+            link,
+            7,
+            &mut received,
+            &mut sent,
+        );
         if matches!(answer, TaskAnswer::NoMemory) {
             return Err(Stuck);
         }
         let task = Fetching {
             core,
-            recipient,
+            reception,
+            disk,
             received,
             sent,
         };
@@ -293,8 +306,8 @@ fn a_block_in_two_pieces(rt: HostRuntime) -> Result<(), Stuck> {
     let alloc = rt.alloc();
     let task = Fetching::begin(alloc, 0)?.go(&rt, alloc, &ASKING)?;
     let task = task.go(&rt, alloc, &IN_TWO_PIECES)?;
-    let mut recipient = task.recipient;
-    assert!(rt; recipient.disk.pages(1)? == Some(1));
+    let mut disk = task.disk;
+    assert!(rt; disk.pages(1)? == Some(1));
     Ok(())
 }
 
@@ -310,7 +323,7 @@ fn a_refusal(rt: HostRuntime) -> Result<(), Stuck> {
 fn a_fault_of_the_disk(rt: HostRuntime) -> Result<(), Stuck> {
     let alloc = rt.alloc();
     let mut task = Fetching::begin(alloc, 0)?.go(&rt, alloc, &ASKING)?;
-    task.recipient.disk.order(DiskOrder::FailAt { call: 1 })?;
+    task.disk.order(DiskOrder::FailAt { call: 1 })?;
     let _ = task.go(&rt, alloc, &A_FAULT)?;
     Ok(())
 }

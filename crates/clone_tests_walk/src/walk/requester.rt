@@ -7,7 +7,7 @@ use crate::walk::wire::Wire;
 use clone_chunk::CopyStage;
 use clone_fetch::TaskAnswer;
 use clone_memdisk::MemDisk;
-use clone_recipient::{BeginRefusal, Reception, Recipient};
+use clone_recipient::Reception;
 use std::alloc::Global;
 use std::test::Fail;
 
@@ -27,15 +27,10 @@ impl Requester {
         if tasks == 0 || tasks > 16 || limit > 100 || version == 0 || version > 2 {
             return Err(Fail::from("no such clone"));
         }
-        match Recipient::begin(alloc, MemDisk::new(alloc), 1, tasks, limit, version) {
-            Ok(recipient) => {
-                let Recipient { reception, disk } = recipient;
-                Ok(Requester { reception, disk })
-            }
-            Err(refusal) => {
-                let BeginRefusal { cause: _, disk: _ } = refusal;
-                Err(Fail::from("not begun"))
-            }
+        let mut disk = MemDisk::new(alloc);
+        match Reception::begin(alloc, &mut disk, 1, tasks, limit, version) {
+            Ok(reception) => Ok(Requester { reception, disk }),
+            Err(_) => Err(Fail::from("not begun")),
         }
     }
 
@@ -47,19 +42,21 @@ impl Requester {
         task: u8,
         floor: u64,
     ) -> Result<(Requester, TaskAnswer, Option<CopyStage>), Fail> {
-        let Requester { reception, disk } = self;
-        let mut recipient = Recipient { reception, disk };
-        let ready = wire.core.ready(&recipient, task, wire.link);
+        let Requester {
+            mut reception,
+            mut disk,
+        } = self;
+        let ready = wire.core.ready(&reception, task, wire.link);
         let answer = wire.core.step(
             alloc,
-            &mut recipient,
+            &mut reception,
+            &mut disk,
             task,
             wire.link,
             floor,
             &mut wire.received,
             &mut wire.sent,
         );
-        let Recipient { reception, disk } = recipient;
         match answer {
             TaskAnswer::NoMemory => Err(Fail::from("no memory")),
             answer => Ok((Requester { reception, disk }, answer, ready)),

@@ -7,7 +7,7 @@ pub returns-in-Ok-Some-clause-receives : goal.returns-in-Ok-Some-clause-receives
 returns-in-Ok-Some-clause-receives g c =
     let taken = rw c.in-Ok-Some.field-0-is at c.in-Ok-Some.ensures in
     takes c.in-Ok-Some.frame taken.0 taken.1
-    (subst (λ (f : Frame). TakesFrame c.args.task f c.args.recipient.now.reception c.take.new.recipient.reception (g.R.PageDisk.state c.args.recipient.now.disk) (g.R.PageDisk.state c.take.new.recipient.disk) c.take.result)
+    (subst (λ (f : Frame). TakesFrame c.args.task f c.args.reception.now c.take.new.reception (g.R.PageDisk.state c.args.disk.now) (g.R.PageDisk.state c.take.new.disk) c.take.result)
     c.in-Ok-Some.frame-is c.take.ensures.takes)
 
 pub returns-in-Err-Garbled-clause-receives : goal.returns-in-Err-Garbled-clause-receives

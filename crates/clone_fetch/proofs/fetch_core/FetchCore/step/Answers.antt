@@ -17,7 +17,7 @@ returns-in-Complete-clause-steps g c =
 pub returns-in-Connect-clause-steps : goal.returns-in-Connect-clause-steps
 returns-in-Connect-clause-steps g c =
     let which = sym c.in-Connect.is ∙ c.rule.ensures in
-    let is : rule.Connect ≡ rule_at c.args.self.now c.args.recipient.now.reception.table c.args.task c.args.link = rw (c.self.view_is, c.table-table.ensures) at which in
+    let is : rule.Connect ≡ rule_at c.args.self.now c.args.reception.now.table c.args.task c.args.link = rw (c.self.view_is, c.table-table.ensures) at which in
     by_rule rule.Connect _ _ _ _ _ _ _ is (sends_by c.args.self.now rule.Connect c.args.link _ _ _ _ _ is refl c.send.ensures refl refl)
 
 pub returns-in-Acknowledge-clause-steps : goal.returns-in-Acknowledge-clause-steps
@@ -25,10 +25,10 @@ returns-in-Acknowledge-clause-steps g c =
     elim c.in-Acknowledge.is [
       | inl by ↦
           let which = sym by.1 ∙ c.rule.ensures in
-          let is : rule.Acknowledge by.0 ≡ rule_at c.args.self.now c.args.recipient.now.reception.table c.args.task c.args.link = rw (c.self.view_is, c.table-table.ensures) at which in
+          let is : rule.Acknowledge by.0 ≡ rule_at c.args.self.now c.args.reception.now.table c.args.task c.args.link = rw (c.self.view_is, c.table-table.ensures) at which in
           by_rule (rule.Acknowledge by.0) _ _ _ _ _ _ _ is (sends_by c.args.self.now (rule.Acknowledge by.0) c.args.link _ _ _ _ _ is refl c.send-in-Acknowledge.ensures refl refl)
       | inr by ↦
           let which = sym by.1 ∙ c.rule.ensures in
-          let is : rule.Execute by.0 ≡ rule_at c.args.self.now c.args.recipient.now.reception.table c.args.task c.args.link = rw (c.self.view_is, c.table-table.ensures) at which in
+          let is : rule.Execute by.0 ≡ rule_at c.args.self.now c.args.reception.now.table c.args.task c.args.link = rw (c.self.view_is, c.table-table.ensures) at which in
           by_rule (rule.Execute by.0) _ _ _ _ _ _ _ is (sends_by c.args.self.now (rule.Execute by.0) c.args.link _ _ _ _ _ is refl c.send-in-Acknowledge.ensures refl refl)
     ]
