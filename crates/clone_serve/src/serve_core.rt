@@ -49,6 +49,13 @@ impl ServeCore {
         matches!(self.doing, Doing::Over)
     }
 
+    /// What it is doing.
+    pub fn doing(&self) -> Doing
+        ensures { result ≡ self.now }
+    {
+        self.doing
+    }
+
     /// A step begins: it asks for the next call of an EXECUTE, or for that of a command, which is
     /// taken from the bytes that were received.
     pub fn begin_step(&mut self, alloc: Global, received: &mut Vec<u8>) -> ServeTurn
