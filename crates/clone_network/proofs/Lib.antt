@@ -1,0 +1,4 @@
+pub mod EndedLemmas
+pub mod GivingLemmas
+pub mod KeptLemmas
+pub mod StepLemmas
