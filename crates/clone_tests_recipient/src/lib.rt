@@ -5,6 +5,8 @@
 #[cfg(test)]
 mod fetch;
 #[cfg(test)]
+mod partial;
+#[cfg(test)]
 mod recipient;
 #[cfg(test)]
 mod stuck;
