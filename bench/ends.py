@@ -6,7 +6,9 @@ one disk in memory and written to the other; and as many bytes are copied from l
 each way the seconds of processor time above those that making the tables takes, the megabytes a second, and
 how many times the plain copy's time it takes, which is to be at most 3 for the clone; the least of nine runs
 that are taken in turn. Then the millions of instructions of each, counted by valgrind where that is there:
-they are the same on every machine, where the seconds depend on what else runs.
+they are the same on every machine, where the seconds depend on what else runs. At the end the peak memory above
+the plain copy's, over few tables and many: less the donor's ring and pool, which the plain copy has given back,
+it is that of the ends and of what is under way between them, and is to be at most 1 MiB.
 
 Before that a copy that is made while the donor works is recovered, and its rows have to be those of the
 commits before its stop. `bench/ends.py --instructions` leaves out the times. The program that is timed is
@@ -31,6 +33,7 @@ WAYS = {
     "ends": "a clone through both ends",
 }
 TABLES, FEW = 62, 31
+RING, POOL = 8_388_608, 1024 * 4096  # as the program opens its donor
 TIMES = 9
 MOST = 3
 
@@ -58,6 +61,25 @@ def seconds(program, way):
     if status != 0:
         sys.exit(f"{way} ended with {status}")
     return used.ru_utime + used.ru_stime
+
+
+def peak(program, way, tables):
+    """The most memory that a run has at a time, in bytes."""
+    quiet = [(os.POSIX_SPAWN_OPEN, 1, os.devnull, os.O_WRONLY, 0)]
+    child = os.posix_spawn(program, [program, way, str(tables)], os.environ, file_actions=quiet)
+    _, status, used = os.wait4(child, 0)
+    if status != 0:
+        sys.exit(f"{way} ended with {status}")
+    return used.ru_maxrss * 1024
+
+
+def print_memory(program):
+    """Prints what a clone has at most above the plain copy, and how much of that isn't the donor's."""
+    for tables in (FEW // 4, FEW, TABLES):
+        more = peak(program, "ends", tables) - peak(program, "plain", tables)
+        own = more - RING - POOL
+        print(f"over {tables:>2} tables {more / 2**20:>6.2f} MiB above the plain copy, "
+              f"{own / 2**20:>6.2f} MiB without the donor's ring and pool, wanted at most 1: {own <= 2**20}")
 
 
 def instructions(program, way):
@@ -106,6 +128,8 @@ def main(program, *words):
         print("no valgrind is there to count instructions")
     else:
         print_instructions(program, megabytes)
+    print()
+    print_memory(program)
 
 
 main(build(), *sys.argv[1:])
