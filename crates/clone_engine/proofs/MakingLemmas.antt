@@ -1,81 +1,62 @@
 -- A table is made, also while a session stands: the files that it copies stay, and of a page of the
 -- new table a clone has what the page was made as.
-use Rattle.std.proofs.Common.{[], ◌≡◌, ◌≢◌, ◌==◌, ◌<◌, ◌⊎◌, inl, inr, ℕ, Bool, true, false, List, ◌∷◌, length, eq-eqb, eqb-true, refl, sym, ap, subst, ◌∙◌, arith, Option, None, Some, IsTrue, is_some, nat_le, option_map, if◌then◌else◌, ◌≤◌, IsSome, Result, Ok, Err, OnOk, OnErr, ◌+◌, ◌++◌, min, option_and_then, slice_get, IfOk, not, length-append}
+use Rattle.std.proofs.Common.{[], ◌≡◌, ◌≢◌, ◌==◌, ◌⊎◌, inl, inr, ℕ, Bool, true, false, List, ◌∷◌, refl, sym, ap, subst, ◌∙◌, arith, Option, None, Some, IsTrue, is_some, nat_le, if◌then◌else◌, ◌≤◌, IsSome, Result, Ok, Err, OnOk, OnErr, ◌+◌, ◌++◌}
 use Rattle.std.specs.FinMap as finite
 use Rattle.std.proofs.lemmas.Bool.{cases_eq, leb-true, true≢false}
-use Rattle.std.proofs.lemmas.List.{length-map}
-use Rattle.std.specs.Ordering.{nat_cmp}
-use Rattle.clone_outside.specs.Disk.{DiskImage, ForTold, Steps, blank, space_numbers, with_created, IsBeforeOrAfter, with_removed}
-use Rattle.clone_outside.specs.declared.disk.Held.{Held}
-use Rattle.clone_model.specs.Keys.{row_cmp}
-use Rattle.clone_image.specs.Replay.{first_lsn, replayed}
-use Rattle.clone_contents.specs.Records.{opening_records, system_size}
-use Rattle.clone_overlay.specs.Images.{redo_space}
+use Rattle.clone_outside.specs.Disk.{DiskImage, ForTold, Steps, with_created, IsBeforeOrAfter}
 use Rattle.clone_image.proofs.Images.{get-put_same, get-put_other}
-use Rattle.clone_image.specs.Image.{page_count, page_of, Image}
+use Rattle.clone_image.specs.Image.{page_count, page_of}
 use Rattle.clone_image.specs.Redone.{past_end, Standing}
 use Rattle.clone_law.specs.Machine.{Copy, Idle, Untracked, NoFiles}
 use Rattle.clone_law.specs.Rule.{CopyRule}
 use Rattle.clone_buffer.specs.Buffered.{Buffered, IsBuffer, image_of}
-use Rattle.clone_buffer.specs.Keeping.{IsKept, Stands}
-use Rattle.clone_buffer.specs.OnePage.{Beside, at_rest, engine_of, no_copies, Copies, NoFilesOf, NoFlightsOf, after_create}
-use Rattle.clone_flush.specs.Flights.{Files, Flights, HasFiles, StandsFlown, IsFlown, beside_of, beyond, ends_before, HasWriteOf, IsOnDisk, write_of}
-use Rattle.clone_flush.specs.declared.flusher.PageWrite.{PageWrite}
+use Rattle.clone_buffer.specs.Keeping.{Stands}
+use Rattle.clone_buffer.specs.OnePage.{engine_of, no_copies, Copies, NoFilesOf, after_create}
+use Rattle.clone_flush.specs.Flights.{Files, Flights, HasFiles, StandsFlown, IsFlown, beside_of, beyond, ends_before}
 use Rattle.clone_flush.proofs.FlightLemmas.{told_stepped}
-use Rattle.clone_recover.specs.Reading.{AreOfTables, IsOfTable}
-use Rattle.clone_plain.specs.Donor.{Donor, no_donor}
-use Rattle.clone_trx.specs.Kept.{Keeps, IsSafe}
-use Rattle.clone_trx.proofs.Common.{none-some, get-empty, same_Some, get-removed_other, get-removed_same, nat_cmp-IsAntisymmetric, nat_cmp_total, len-without}
+use Rattle.clone_recover.specs.Reading.{IsOfTable}
+use Rattle.clone_plain.specs.Donor.{Donor}
+use Rattle.clone_trx.specs.Kept.{Keeps}
+use Rattle.clone_trx.proofs.Common.{none-some, same_Some, nat_cmp_total}
 use Rattle.clone_outside.specs.DiskCalls.{DiskState, Counts}
-use Rattle.clone_engine.specs.Engine.{AreOfDonor, IsEngine, MakesPages, Engine, LiesIn, StandsBeside}
-use Rattle.clone_engine.specs.Opened.{IsNotEmpty}
-use Rattle.clone_engine.proofs.EngineLemmas.{past_rule, stands_with, is_there, spaced_page, engine, first_files, first_made, past_made, stays_flown, made_flown, right_told, still_engine, made_files, no_table, space_left, space_made, becomes_flown}
-use Rattle.clone_engine.proofs.ToldLemmas.{for_told, either_tells, told_both, told_either, told_if, told_stays}
-use Rattle.clone_archive.specs.Archived.{Archived, kept_from}
-use Rattle.clone_contents.specs.Placed.{WasPlaced}
-use Rattle.clone_contents.proofs.PlacedLemmas.{placed_first}
-use Rattle.clone_flush.specs.Calls.{needed_from, with_file, without_file}
-use Rattle.clone_session.specs.Cloning.{Cloning, Session, IsCloning, IsIdle, IsInSession}
+use Rattle.clone_engine.specs.Engine.{AreOfDonor, IsEngine, MakesPages, Engine, LiesIn}
+use Rattle.clone_engine.proofs.EngineLemmas.{past_rule, stands_with, is_there, spaced_page, engine, past_made, made_flown, right_told, made_files, no_table, space_left, space_made, becomes_flown}
+use Rattle.clone_engine.proofs.ToldLemmas.{either_tells, told_both, told_either, told_stays}
+use Rattle.clone_archive.specs.Archived.{Archived}
+use Rattle.clone_flush.specs.Calls.{with_file}
+use Rattle.clone_session.specs.Cloning.{Cloning}
 use Rattle.clone_engine.specs.Donor as staged
 use Rattle.clone_engine.specs.Donor.{IsDonor, list_of}
-use Rattle.clone_engine.specs.Taken.{IsTaken, IsTakenBy, nothing, Taken, HasStopped, IsTakenIn}
-use Rattle.clone_engine.proofs.MomentLemmas.{can_unarchived, grown}
-use Rattle.clone_engine.proofs.SessionActs.{no_notes, none_is}
+use Rattle.clone_engine.specs.Taken.{IsTakenBy, nothing, Taken, HasStopped, IsTakenIn}
+use Rattle.clone_engine.proofs.MomentLemmas.{grown}
 use Rattle.std.specs.Cmp.{nat_cmp_total}
 use Rattle.std.proofs.lemmas.Map.Lookups.{exact_unsigned}
 use Rattle.clone_base.proofs.OrderedMaps.{removed_again}
 use Rattle.clone_buffer.proofs.LawLemmas.{copy_kept}
 use Rattle.clone_model.specs.declared.line.TheConstants.{MOST_PAGES}
-use Rattle.clone_plain.specs.Causes.{create_cause, drop_cause}
-use Rattle.clone_plain.specs.Effects.{created, dropped}
+use Rattle.clone_plain.specs.Causes.{create_cause}
+use Rattle.clone_plain.specs.Effects.{created}
 use Rattle.clone_plain.specs.declared.refusal.Cause.{Cause}
 use Rattle.clone_plain.specs.declared.refusal.Cause.TheVariants.{NoSuchTrx, NoSuchTable, TableExists, RowLocked, ValueTooLong, UndoFull, SpaceFull, LogFull, PoolFull, TooManyTransactions, TooManyTables, CloneRunning, TableInUse, NotDirty, InFlight, NoFlush, DiskFault}
 use Rattle.clone_plain.specs.declared.refusal.EngineRefusal.{EngineRefusal}
 use Rattle.clone_plain.specs.declared.refusal.EngineRefusal.TheVariants.{Because, NoMemory}
 use Rattle.clone_contents.specs.Contents.{contents_of}
-use Rattle.clone_trx.specs.Calls.{create_way, drop_way, number_of_entry, pages_told}
+use Rattle.clone_trx.specs.Calls.{create_way}
 use Rattle.clone_trx.specs.Sound.{HasSize}
-use Rattle.clone_trx.specs.Ways.{Way, Answers, CarriesDrop, Drops, Goes, StaysOutside, StaysStanding, held, page_in, StaysCreating}
+use Rattle.clone_trx.specs.Ways.{Way, Answers, StaysCreating}
 use Rattle.clone_trx.proofs.CreateLemmas.{no_space}
 use Rattle.std.specs.Prelude.{IsErrOf}
 use Rattle.clone_plain.specs.declared.call.EngineAnswer.{EngineAnswer}
 use Rattle.clone_plain.specs.declared.call.EngineAnswer.TheVariants as answers
-use Rattle.clone_plain.specs.declared.call.EngineCall.{EngineCall}
 use Rattle.clone_plain.specs.declared.call.EngineCall.TheVariants as to_engine
-use Rattle.clone_engine.specs.Growth.{Makes, PagesStay, GoesOn, GrowsBy, KeepsPages, KeepsImage}
-use Rattle.clone_engine.proofs.GoingLemmas.{transacts, goes_to, same_refusal, of_few, like_same, Stays, donor_goes, is_taken, noted_stay, own_goes, stopped_as, taken_grows, image_stays, same_files, same_image}
-use Rattle.clone_engine.proofs.WayLemmas.{create_grows, create_stay, records_stay, Grows, WritesOf, goes_grows, of_tables}
+use Rattle.clone_engine.specs.Growth.{Makes, PagesStay, GrowsBy, KeepsPages, KeepsImage}
+use Rattle.clone_engine.proofs.GoingLemmas.{transacts, of_few, like_same, donor_goes, noted_stay, own_goes, stopped_as, taken_grows, image_stays, same_files, same_image}
+use Rattle.clone_engine.proofs.WayLemmas.{create_grows, create_stay, Grows, of_tables}
 use Rattle.clone_outside.specs.Disk as disk
 use Rattle.clone_mtr.specs.declared.record.Record.{Record}
-use Rattle.clone_space.specs.Records.{records_of_drop, free_record}
-use Rattle.clone_pool.specs.declared.frame.PageName.{PageName}
-use Rattle.clone_buffer.proofs.WrittenLemmas.{replayed-push}
-use Rattle.clone_trx.proofs.CauseLemmas.{both_none, is_not}
 use Rattle.clone_engine.specs.Steps as steps
 use Rattle.clone_engine.specs.Copies.{AreIdle, AreInFiles, AreInPages, AreStopped, IsInFiles, is_noted}
-use Rattle.clone_engine.specs.Acts as act
-use Rattle.clone_engine.specs.Serving.{AnswersCall, taken_by}
-use Rattle.std.specs.Option.{ForSome}
+use Rattle.clone_engine.specs.Serving.{taken_by}
 use Rattle.clone_law.specs.Machine as machine
 use Rattle.clone_track.specs.TrackedPages.{Pages}
 use Rattle.clone_snapshot.specs.StageLists as lists
