@@ -1,0 +1,299 @@
+-- A stage is acknowledged: the session goes on to the next one, and the copy of pages ends at the
+-- stop.
+use Rattle.std.proofs.Common.{◌≡◌, ◌≤◌, ◌∙◌, ◌++◌, ◌∷◌, ◌==◌, ◌&&◌, [], ℕ, Bool, true, false, if◌then◌else◌, List, Option, None, Some, Ok, option_map, is_some, refl, sym, ap, subst, arith, inl, inr}
+use Rattle.std.specs.Prelude.{nat_lt}
+use Rattle.std.specs.List.{AllByRecursion, Contains}
+use Rattle.std.specs.Option.{option_map_or, option_or}
+use Rattle.std.proofs.lemmas.Bool.{cases_lt, eq-eqb, eqb-true, lt-ltb}
+use Rattle.clone_law.specs.Since as since
+use Rattle.clone_archive.specs.Archived.{Archived, archived_of}
+use Rattle.clone_image.specs.Redone.{Standing}
+use Rattle.clone_track.specs.TrackedPages.{listed}
+use Rattle.clone_snapshot.specs.StageLists as lists
+use Rattle.clone_snapshot.specs.StageLists.{StageList, stage_of}
+use Rattle.clone_chunk.specs.Stages.{stage_number}
+use Rattle.clone_chunk.specs.declared.cause.CloneCause.{CloneCause}
+use Rattle.clone_chunk.specs.declared.cause.CloneCause.TheVariants.{FloorAhead, NoSuchSession}
+use Rattle.clone_accepted.specs.Answers.{Stage}
+use Rattle.clone_standing.specs.Latest.{IsLowRoom}
+use Rattle.clone_calls.specs.declared.answer.DonorAnswer.TheVariants as answer
+use Rattle.clone_calls.specs.declared.call.DonorCall.TheVariants as call
+use Rattle.clone_session.specs.declared.caller.Caller.{Caller}
+use Rattle.clone_session.specs.declared.ending.Moment.{Moment}
+use Rattle.clone_session.specs.declared.info.Stop.{Stop}
+use Rattle.clone_session.specs.declared.info.StageInfo.{StageInfo}
+use Rattle.clone_session.specs.Cloning.{Cloning, Session}
+use Rattle.clone_session.specs.CloneCauses.{acknowledgement_cause, chunks_left, donor_stage, floor_ahead, out_of_stage, session_of, stale, whether}
+use Rattle.clone_session.specs.Effects.{Becomes, Tells as TellsInfo, acknowledged, advanced, created_since, files_ended, in_stage, position_of, stopped_at}
+use Rattle.clone_session.proofs.PartLemmas.{stands_as}
+use Rattle.clone_engine.specs.Acts as act
+use Rattle.clone_engine.specs.Engine.{Engine}
+use Rattle.clone_engine.specs.Copying.{moment_of, taken_after, taken_over}
+use Rattle.clone_engine.specs.Donor.{Donor, IsDonor, known_files, list_of}
+use Rattle.clone_engine.specs.Taken.{HasStopped, IsTaken, IsTakenBy, IsTakenIn, Taken}
+use Rattle.clone_engine.proofs.ToldLemmas.{of_told}
+use Rattle.clone_sides.specs.Trace.{Entry, end_of}
+use Rattle.clone_sides.specs.Answered.{answers, to_session, told_by}
+use Rattle.clone_sides.specs.Facts.{CountsEarly, HasMoment, InLists, IsBefore, IsPast, Keeps, Knows, Lists, StandsAt}
+use Rattle.clone_sides.specs.Moment.{StopsAt, own_stop}
+use Rattle.clone_sides.proofs.ActLemmas.{Next, same_session, stands_in, taken_in, told, told_more}
+use Rattle.clone_sides.proofs.CallLemmas.{Tells as SameTold}
+use Rattle.clone_sides.proofs.CountLemmas.{over_counts, stop_counts}
+use Rattle.clone_sides.proofs.KeptLemmas.{as_kept, becomes_kept, grows_same, keeps_stays, kept_of, leaves_becomes, number_is, range_stays, redo_stays}
+use Rattle.clone_sides.proofs.KnownLemmas.{Goes, first_more, knows_goes, moments_stay}
+use Rattle.clone_sides.proofs.LowLemmas.{made_low}
+use Rattle.clone_sides.proofs.OptionLemmas.{same_some, told_disk, two_none}
+use Rattle.clone_sides.proofs.WayLemmas.{IsAcking}
+
+-- THE FLOOR of an acknowledgement that was answered isn't ahead.
+
+both_none : (a b : Option CloneCause) → option_or a b ≡ None → (a ≡ None) × (b ≡ None)
+both_none None b none = (refl, none)
+both_none (Some cause) b none = absurd (let e = none in cc)
+
+acked_floor : (c : Cloning) (caller : Caller) (stage floor position : ℕ) (s : Session) → session_of c caller.session ≡ Some s → acknowledgement_cause c caller stage floor position ≡ None → floor_ahead s stage floor position ≡ None
+acked_floor c caller stage floor position s stands none =
+    let last : Option CloneCause = option_or (chunks_left s stage) (floor_ahead s stage floor position) in
+    let rest : Option CloneCause = option_or (out_of_stage s stage) last in
+    let whole : option_or (stale s caller.incarnation) rest ≡ None =
+    subst (λ (o : Option Session). option_map_or (λ s. option_or (stale s caller.incarnation) (option_or (out_of_stage s stage) (option_or (chunks_left s stage) (floor_ahead s stage floor position)))) o (Some NoSuchSession) ≡ None) stands none in
+    (both_none (chunks_left s stage) (floor_ahead s stage floor position) (both_none (out_of_stage s stage) last (both_none (stale s caller.incarnation) rest whole).1).1).1
+
+floor_within : (s : Session) (stage floor position : ℕ) → stage ≡ 2 → donor_stage s ≡ 2 → floor_ahead s stage floor position ≡ None → floor ≤ position
+floor_within s stage floor position two own none = elim (cases_lt position floor) [
+  | inl above ↦ absurd (let wrong : whether ((2 == 2) && (2 == 2) && true) (FloorAhead floor position) ≡ None =
+      sym (ap (λ (b : Bool). whether ((2 == 2) && (2 == 2) && b) (FloorAhead floor position)) (lt-ltb position floor above))
+      ∙ sym (ap (λ (n : ℕ). whether ((2 == 2) && (n == 2) && nat_lt position floor) (FloorAhead floor position)) own)
+      ∙ sym (ap (λ (n : ℕ). whether ((n == 2) && (donor_stage s == 2) && nat_lt position floor) (FloorAhead floor position)) two) ∙ none in cc)
+  | inr within ↦ within
+]
+
+no_page : (p : ℕ × ℕ) → Contains [] p → ⊥
+no_page p (i, within, none) = omega (arith, within)
+
+module _ (number : ℕ) (d : Donor) (done : List Entry) (v : Donor) (taken : Taken) (e : Entry) (l : Lists) (knows : Knows number (answers number done) v taken l) (moments : HasMoment number d done v taken) (donor : IsDonor e.after)
+    (caller : Caller) (stage floor : ℕ) (info : StageInfo) (acking : IsAcking e.act v e.after caller stage floor info) (here : end_of d done ≡ v) where
+  abbrev t : Donor
+  t = e.after
+
+  abbrev s : Session
+  s = knows.at.session
+
+  abbrev now : Moment
+  now = moment_of v.engine
+
+  abbrev files : List (ℕ × ℕ)
+  files = known_files v.engine
+
+  abbrev Acked : Taken → Type 0
+  Acked news = Next number d done e (to_session number info.session (Stage (told_by info.plan))) news
+
+  session_is : (x : Session) → session_of v.cloning caller.session ≡ Some x → x ≡ s
+  session_is = same_session number d done v taken e l knows moments donor caller.session
+
+  stands_here : v.cloning.session ≡ Some s
+  stands_here = stands_in number d done v taken e l knows moments donor
+
+  list_taken : IsTakenIn v.cloning v.engine.buffer.log taken knows.list
+  list_taken = taken_in number d done v taken e l knows moments donor
+
+  own_number : s.number ≡ number
+  own_number = number_is v.cloning number s knows.at.stands
+
+  told_same : SameTold v.engine t.engine
+  told_same = ap (λ (x : Engine). is_some x.disk.told) acking.acks.settles
+
+  becomes : Becomes t.cloning (acknowledged now files stage s v.cloning)
+  becomes = let did = acking.acks.acknowledges in subst (λ (x : Session). Becomes t.cloning (acknowledged now files stage x v.cloning)) (session_is did.0 did.1) did.2
+
+  tells_info : TellsInfo t.cloning info
+  tells_info = acking.acks.acknowledges.3
+
+  -- it changes nothing
+  stays : Becomes t.cloning v.cloning → IsTaken t taken → Acked taken
+  stays same is = told number d done v taken e l knows moments donor info (leaves_becomes v.cloning t.cloning same) (ap (λ (x : Engine). x.flights.files) acking.acks.settles) is told_same tells_info
+
+  -- the session's stage is over, and this one begins
+  comes : (next : StageList) (m : Lists) (list : StageList) → knows.list ≡ list → StandsAt number t next m → (IsPast next → AllByRecursion IsLowRoom m.made) → (news : Taken) → Goes number v t list next taken news l m → IsTaken t news → HasMoment number d (done ++ e ∷ []) t news → Acked news
+  comes next m list is at low news goes is_taken had = (
+    m,
+    knows_goes number (answers number done) (to_session number info.session (Stage (told_by info.plan))) v t taken news l m knows next (subst (λ (x : StageList). Goes number v t x next taken news l m) (sym is) goes) at is_taken donor (told_same ∙ knows.tells) low
+        (told_more number d done v taken e l knows moments donor info news next m at tells_info),
+    had,
+  )
+
+  -- it stands there
+  stands_at : (next : StageList) (created : List (ℕ × ℕ)) (m : Lists) → kept_of t.cloning ≡ Some (s.number, next, created) → InLists next created t.engine m → Keeps number t.cloning next → StandsAt number t next m
+  stands_at next created m kept in_lists keeps =
+      let k = as_kept t.cloning number next created (kept ∙ ap (λ (n : ℕ). Some (n, next, created)) own_number) in
+      record {
+        session = k.session;
+        stands = k.stands;
+        list_is = k.list_is;
+        in_lists = subst (λ (c : List (ℕ × ℕ)). InLists next c t.engine m) (sym k.created_is) in_lists;
+        keeps = keeps;
+      }
+
+  -- THE COPY OF FILES is over.
+  files_over_now : (spaces : List (ℕ × ℕ)) → knows.list ≡ lists.Files spaces → Becomes t.cloning (files_ended now (created_since spaces files) s v.cloning) → IsTaken t (taken_over v.engine (lists.Files spaces) taken) → Acked (taken_over v.engine (lists.Files spaces) taken)
+  files_over_now spaces is becomes is_taken =
+      let news = taken_over v.engine (lists.Files spaces) taken in
+      let pages = listed v.cloning.tracking.pages in
+      let created = created_since spaces files in
+      let m : Lists = record l { pages = pages } in
+      let in_lists : InLists (lists.Files spaces) s.created v.engine l = subst (λ (x : StageList). InLists x s.created v.engine l) is knows.at.in_lists in
+      let unarchived : v.cloning.archive ≡ None = subst (Keeps number v.cloning) is knows.at.keeps in
+      let made_is : created ≡ l.made = ap (λ (x : List (ℕ × ℕ)). created_since x files) in_lists.0 ∙ sym in_lists.2 in
+      let (disk, there) = told_disk v.engine.disk.told knows.tells in
+      let early : (x y : ℕ) (u : Standing) → CountsEarly l taken.copies x y u → CountsEarly m news.copies x y u = (λ x y u counts. elim counts [
+        | inl c ↦ over_counts v.cloning.tracking.pages taken.copies now.checkpoint x y u (subst (IsTakenIn v.cloning v.engine.buffer.log taken) is list_taken) c
+        | inr h ↦ absurd (no_page (x, y) (subst (λ (ps : List (ℕ × ℕ)). Contains ps (x, y)) in_lists.1 h))
+      ]) in
+      let goes : Goes number v t (lists.Files spaces) (lists.Pages pages) taken news l m = record {
+        past = λ past. absurd past;
+        before = λ soon. (tt, refl);
+        files = refl;
+        pages = λ past. absurd past;
+        made = λ past. refl;
+        bare = λ x y u bare. inr (record { any = bare.any; listed = bare.listed; made = bare.made }, early x y u);
+        early = λ x y u has. early x y u;
+        late = λ past. absurd past;
+        range = λ x y z r. absurd (two_none v.cloning.archive r.archive unarchived r.stands);
+        redo = λ chunk block from bytes f. absurd (two_none v.cloning.archive f.archive unarchived f.stands);
+      } in
+      comes (lists.Pages pages) m (lists.Files spaces) is
+      (stands_at (lists.Pages pages) created m (becomes_kept t.cloning (files_ended now created s v.cloning) becomes) (refl, made_is) (record { start = now.checkpoint; bytes = []; stop = None }, ap (λ (c : Cloning). c.archive) becomes, refl))
+      (λ past. subst (AllByRecursion IsLowRoom) made_is (made_low v.engine knows.donor.engine disk there spaces)) news goes is_taken
+      (moments_stay number d done e v taken news refl (ap (λ (c : Cloning). c.stop) becomes) moments)
+
+  -- THE STOP
+  module _ (pages : List (ℕ × ℕ)) (is : knows.list ≡ lists.Pages pages) (own : stage ≡ stage_number (stage_of (lists.Pages pages))) (a : Archived) (stands : v.cloning.archive ≡ Some a) (unended : a.stop ≡ None)
+      (became : Becomes t.cloning (stopped_at now s a v.cloning)) (is_taken : IsTaken t (taken_over v.engine (lists.Pages pages) taken)) where
+    abbrev news : Taken
+    news = taken_over v.engine (lists.Pages pages) taken
+
+    abbrev next : StageList
+    next = lists.Redo a.start now.end
+
+    abbrev ended : Archived
+    ended = record a { stop = Some now.end }
+
+    abbrev stop : Stop
+    stop = record { session = s.number; position = now.position; drops = now.drops }
+
+    stopped : t.cloning.stop ≡ Some stop
+    stopped = ap (λ (c : Cloning). c.stop) became
+
+    archived : t.cloning.archive ≡ Some ended
+    archived = ap (λ (c : Cloning). c.archive) became
+
+    kept_now : kept_of t.cloning ≡ Some (s.number, next, s.created)
+    kept_now = becomes_kept t.cloning (stopped_at now s a v.cloning) became
+
+    donor_at : donor_stage s ≡ 2
+    donor_at = ap (λ (x : StageList). stage_number (stage_of x)) (knows.at.list_is ∙ is)
+
+    moment : StopsAt number d (done ++ e ∷ []) v.engine stop
+    moment = record {
+      before = done;
+      entry = e;
+      after = [];
+      split = refl;
+      caller = caller;
+      floor = floor;
+      info = info;
+      acknowledges = acking.is ∙ ap (λ (n : ℕ). act.Calls (call.Ack caller n floor) (answer.Ack (Ok info))) own;
+      here = sym (ap (λ (x : Donor). x.engine) here);
+      stops = stopped;
+      own = own_number;
+      commits = refl;
+      drops = refl;
+      reached = floor_within s stage floor now.position own donor_at (subst (λ (x : Session). floor_ahead x stage floor now.position ≡ None) (session_is acking.acks.acknowledges.0 acking.acks.acknowledges.1)
+          (acked_floor v.cloning caller stage floor now.position acking.acks.acknowledges.0 acking.acks.acknowledges.1 acking.none));
+      first = first_more number done e ∙ ap (λ (o : Option Stop). option_or o (own_stop number t.cloning.stop)) (moments.early (knows.unstopped (subst IsBefore (sym is) tt))).0 ∙ ap (own_stop number) stopped
+          ∙ ap (λ (b : Bool). if b then Some stop else None) (eq-eqb s.number number own_number);
+    }
+
+    -- the archive doesn't reach past the end of the log
+    within : archived_of a ≤ now.end
+    within =
+        let k = as_kept t.cloning s.number next s.created kept_now in
+        let list_now : list_of t.cloning ≡ Some next = ap (option_map (λ (x : Session). x.snap.list)) (stands_as t.cloning.session s.number k.session k.stands) ∙ ap (λ (x : StageList). Some x) k.list_is in
+        let (disk, there) = told_disk t.engine.disk.told (told_same ∙ knows.tells) in
+        let has : HasStopped t.cloning t.engine.buffer.log news ended = subst (IsTakenBy t.cloning t.engine.buffer.log news) list_now (of_told (λ _. IsTakenBy t.cloning t.engine.buffer.log news (list_of t.cloning)) t.engine.disk.told disk there is_taken.stage) ended archived in
+        let at_is : has.at ≡ v.engine = same_some news.stop has.at v.engine has.stop refl in
+        let end_is : now.end ≡ since.ends v.engine.buffer.log = (let both : Some now.end ≡ Some (since.ends has.at.buffer.log) = has.end in cc) ∙ ap (λ (x : Engine). since.ends x.buffer.log) at_is in
+        let of_log = knows.donor.redo a stands in
+        omega (arith, of_log.within, end_is)
+
+    not_ended : (b : Archived) → v.cloning.archive ≡ Some b → (end : ℕ) → b.stop ≡ Some end → ⊥
+    not_ended b also end some = two_none a.stop end unended (ap (λ (x : Archived). x.stop) (same_some v.cloning.archive a b stands also) ∙ some)
+
+    goes : Goes number v t (lists.Pages pages) next taken news l l
+    goes = record {
+      past = λ past. tt;
+      before = λ soon. absurd soon;
+      files = refl;
+      pages = λ past. refl;
+      made = λ past. refl;
+      bare = λ x y u bare. inr (bare, early x y u);
+      early = λ x y u has. early x y u;
+      late = λ past x y u c. stop_counts v.engine.buffer.log (taken.copies x y) u c;
+      range = λ x y z r. absurd (not_ended r.archive r.stands y r.end);
+      redo = λ chunk block from bytes f. absurd (not_ended f.archive f.stands f.end f.ended);
+    }
+      where
+        early : (x y : ℕ) (u : Standing) → CountsEarly l taken.copies x y u → CountsEarly l news.copies x y u
+        early x y u (inl c) = inl (stop_counts v.engine.buffer.log (taken.copies x y) u c)
+        early x y u (inr h) = inr h
+
+    stops_now : Acked news
+    stops_now =
+        comes next l (lists.Pages pages) is
+        (stands_at next s.created l kept_now tt
+        (record { archive = ended; stands = archived; start = refl; end = refl; within = within; last = stop; stop = stopped; own = own_number; commits = sym (ap position_of stopped) }))
+        (λ past. knows.low (subst IsPast (sym is) tt)) news goes is_taken
+        (record {
+          late = λ at is_at. (let engine_is : v.engine ≡ at = same_some news.stop v.engine at refl is_at in (stop, stopped, subst (λ (x : Engine). StopsAt number d (done ++ e ∷ []) x stop) engine_is moment));
+          early = λ none. absurd (two_none news.stop v.engine none refl);
+        })
+
+  -- THE COPY OF REDO is over.
+  redo_over_now : (start end : ℕ) → knows.list ≡ lists.Redo start end → Becomes t.cloning (in_stage lists.Nothing s v.cloning) → IsTaken t taken → Acked taken
+  redo_over_now start end is becomes is_taken =
+      let archive = grows_same v.cloning.archive t.cloning.archive (ap (λ (c : Cloning). c.archive) becomes) in
+      let stop : t.cloning.stop ≡ v.cloning.stop = ap (λ (c : Cloning). c.stop) becomes in
+      let goes : Goes number v t (lists.Redo start end) lists.Nothing taken taken l l = record {
+        past = λ past. tt;
+        before = λ soon. absurd soon;
+        files = refl;
+        pages = λ past. refl;
+        made = λ past. refl;
+        bare = λ x y u bare. inr (bare, λ counts. counts);
+        early = λ x y u has counts. counts;
+        late = λ past x y u counts. counts;
+        range = λ x y z. range_stays v.cloning t.cloning archive number x y z stop;
+        redo = redo_stays v.cloning t.cloning archive;
+      } in
+      comes lists.Nothing l (lists.Redo start end) is
+      (stands_at lists.Nothing s.created l (becomes_kept t.cloning (in_stage lists.Nothing s v.cloning) becomes) tt (start, end, keeps_stays v.cloning t.cloning archive number (lists.Redo start end) stop (subst (Keeps number v.cloning) is knows.at.keeps)))
+      (λ past. knows.low (subst IsPast (sym is) tt)) taken goes is_taken
+      (moments_stay number d done e v taken taken refl stop moments)
+
+  over : (list : StageList) → knows.list ≡ list → stage ≡ stage_number (stage_of list) → Becomes t.cloning (advanced now files s list v.cloning) → IsTaken t (taken_over v.engine list taken) → Acked (taken_over v.engine list taken)
+  over (lists.Files spaces) is own became is_taken = files_over_now spaces is became is_taken
+  over (lists.Pages pages) is own became is_taken =
+      let (a, stands, unended) = subst (Keeps number v.cloning) is knows.at.keeps in
+      stops_now pages is own a stands unended (subst (Becomes t.cloning) (ap (λ (o : Option Archived). option_map_or (λ a. stopped_at now s a v.cloning) o v.cloning) stands) became) is_taken
+  over (lists.Redo start end) is own became is_taken = redo_over_now start end is became is_taken
+  over lists.Nothing is own became is_taken = stays became is_taken
+
+  pub acked : IsTaken t (taken_after v stage taken) → Acked (taken_after v stage taken)
+  acked = subst (λ (news : Taken). IsTaken t news → Acked news) (sym taken_is) (by (stage == donor_stage s) refl becomes)
+    where
+      taken_is : taken_after v stage taken ≡ (if stage == donor_stage s then taken_over v.engine s.snap.list taken else taken)
+      taken_is = ap (λ (o : Option Session). option_map_or (λ (x : Session). if stage == donor_stage x then taken_over v.engine x.snap.list taken else taken) o taken) stands_here
+
+      by : (own : Bool) → (stage == donor_stage s) ≡ own → Becomes t.cloning (if own then advanced now files s s.snap.list v.cloning else v.cloning) → IsTaken t (if own then taken_over v.engine s.snap.list taken else taken) → Acked (if own then taken_over v.engine s.snap.list taken else taken)
+      by true own became is_taken = over s.snap.list (sym knows.at.list_is) (eqb-true stage (donor_stage s) own) became is_taken
+      by false own became is_taken = stays became is_taken

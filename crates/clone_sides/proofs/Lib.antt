@@ -1,0 +1,14 @@
+pub mod OptionLemmas
+pub mod KeptLemmas
+pub mod MadeLemmas
+pub mod CountLemmas
+pub mod LowLemmas
+pub mod CallLemmas
+pub mod WayLemmas
+pub mod KnownLemmas
+pub mod GivenLemmas
+pub mod ActLemmas
+pub mod AckLemmas
+pub mod WholeLemmas
+pub mod WalkLemmas
+pub mod MoreLemmas

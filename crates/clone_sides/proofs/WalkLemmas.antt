@@ -1,0 +1,357 @@
+-- A donor's whole run, act by act: what is known of the session of a number.
+use Rattle.std.proofs.Common.{◌≡◌, ◌∙◌, ◌++◌, ◌⊎◌, ◌∷◌, ◌==◌, [], ℕ, Bool, true, false, cond, if◌then◌else◌, List, Option, None, Some, IsSome, option_map, is_some, refl, sym, ap, subst, inl, inr, append_assoc}
+use Rattle.std.specs.Prelude.{nat_le, option_and_then}
+use Rattle.std.specs.FinMap as finite
+use Rattle.std.specs.List.{Contains}
+use Rattle.std.specs.Option.{option_map_or}
+use Rattle.std.proofs.lemmas.Bool.{eqb-true, leb-false, true≢false}
+use Rattle.std.proofs.lemmas.List.{append-nil}
+use Rattle.std.proofs.lemmas.List.Elements.{Contains-append_cases}
+use Rattle.clone_outside.specs.Disk.{DiskImage}
+use Rattle.clone_outside.specs.Mark.{IsEnd}
+use Rattle.clone_outside.specs.declared.mark.CloneEnd.{CloneEnd}
+use Rattle.clone_image.specs.Redone.{Standing as PageStanding, past_end}
+use Rattle.clone_track.specs.TrackedPages.{Pages as Noted}
+use Rattle.clone_law.specs.Machine.{Copy}
+use Rattle.clone_archive.specs.Archived.{Archived}
+use Rattle.clone_snapshot.specs.StageLists as lists
+use Rattle.clone_snapshot.specs.StageLists.{StageList, all_pages, pages_of_space}
+use Rattle.clone_flush.specs.Flights.{ends_before}
+use Rattle.clone_accepted.specs.Answers.{Answer, Item, Moves, Stage, ToldFiles, answer_in}
+use Rattle.clone_accepted.specs.Disk.{laid}
+use Rattle.clone_accepted.specs.Turns.{InTurn}
+use Rattle.clone_accepted.specs.Whole.{IsWhole}
+use Rattle.clone_standing.specs.Counting.{Counts}
+use Rattle.clone_standing.proofs.PlaceLemmas.{in_joined}
+use Rattle.clone_session.specs.declared.caller.Caller.{Caller}
+use Rattle.clone_calls.specs.declared.block.Block.{Block}
+use Rattle.clone_session.specs.declared.caller.Hello.{Hello}
+use Rattle.clone_session.specs.declared.info.StageInfo.{StageInfo}
+use Rattle.clone_session.specs.declared.ending.Moment.{Moment}
+use Rattle.clone_session.specs.declared.info.Stop.{Stop}
+use Rattle.clone_session.specs.Cloning.{Cloning, Session}
+use Rattle.clone_session.specs.CloneCauses.{donor_stage, session_of}
+use Rattle.clone_session.specs.Effects.{acknowledged, advanced, created_since, left, opened, stopped_at}
+use Rattle.clone_session.proofs.PartLemmas.{stands_as}
+use Rattle.clone_engine.specs.Engine.{Engine}
+use Rattle.clone_engine.specs.Acts.{Act, Acts, after_act}
+use Rattle.clone_engine.specs.Copies.{first_copies, first_copy, first_starts, is_noted}
+use Rattle.clone_engine.specs.Copying.{moment_of, taken_after, taken_at, taken_from}
+use Rattle.clone_engine.specs.Donor.{Donor, IsDonor, known_files}
+use Rattle.clone_engine.specs.Taken.{IsTaken, Taken, nothing}
+use Rattle.clone_engine.proofs.TakenPages.{has_entry}
+use Rattle.clone_sides.specs.Trace.{Entry, Runs, end_of}
+use Rattle.clone_sides.specs.Answered.{Again, Gone, IsOpenedOnce, Phase, Standing, Unopened, WereAnswered, answered_by, answers, ends, opens, phase_after, phase_with, said_of, to_session, told_by}
+use Rattle.clone_sides.specs.Facts.{FactOf, HasStop, IsBare, Knows, Lists, StandsAt}
+use Rattle.clone_sides.specs.Moment.{HoldsStop, first_stop, own_stop}
+use Rattle.clone_sides.proofs.AckLemmas.{acked}
+use Rattle.clone_sides.proofs.ActLemmas.{Next, Stays, given, no_more, quiet, told}
+use Rattle.clone_sides.proofs.KeptLemmas.{Kept, as_kept, as_standing, becomes_kept, block_leaves, kept, kept_of, no_session, none_kept, number_in, number_is}
+use Rattle.clone_sides.proofs.KnownLemmas.{answers_more, is_answer, none_more, stop_stays, told_fact}
+use Rattle.clone_sides.proofs.WayLemmas.{Acking, Giving, IsAcking, IsGiving, IsOpening, Leaving, Opening, Quiet, Telling, Way, Went, told_session, went}
+use Rattle.clone_sides.proofs.OptionLemmas.{in_space}
+use Rattle.clone_sides.proofs.WholeLemmas.{holds}
+
+pub record Walked (number : ℕ) (d : Donor) (done : List Entry) (v : Donor) (taken : Taken) : Type 0 where
+  pub here : end_of d done ≡ v
+  pub is : IsTaken v taken
+  pub donor : IsDonor v
+  pub tells : IsSome v.engine.disk.told
+
+-- nothing was answered to it, and it came to no stop
+pub record IsUnopened (number : ℕ) (done : List Entry) (v : Donor) : Type 0 where
+  pub none : session_of v.cloning number ≡ None
+  pub unanswered : answers number done ≡ []
+  pub first : first_stop number done ≡ None
+  pub own : own_stop number v.cloning.stop ≡ None
+
+-- what was known of it when it left
+abbrev pub Stayed : ℕ → Donor → List Entry → Donor → Taken → Type 0
+Stayed number d done v taken = (l : Lists) × Knows number (answers number done) v taken l × HasStop number d done v taken
+
+-- how far the session has come, and what is known
+abbrev pub Covers : ℕ → Donor → List Entry → Donor → Taken → Phase → Type 0
+Covers number d done v taken Unopened = IsUnopened number done v
+Covers number d done v taken Standing = Stays number d done v taken
+Covers number d done v taken Gone = (session_of v.cloning number ≡ None) × ((w : Donor) × (was : Taken) × Stayed number d done w was)
+Covers number d done v taken Again = Unit {0}
+
+-- A SESSION THAT DOESN'T STAND isn't answered.
+
+not_standing : (c : Cloning) (number : ℕ) (s : Session) → c.session ≡ Some s → (s.number == number) ≡ false → session_of c number ≡ None
+not_standing c number s there other = ap (option_and_then (λ (t : Session). if t.number == number then Some t else None)) there ∙ ap (λ (b : Bool). cond b (Some s) None) other
+
+contradicts : (c : Cloning) (number : ℕ) (s : Session) → session_of c number ≡ None → session_of c number ≡ Some s → ⊥
+contradicts c number s none some = let both : None ≡ Some s = sym none ∙ some in cc
+
+-- an acknowledgement leaves the session's number
+advanced_number : (now : Moment) (files : List (ℕ × ℕ)) (s : Session) (list : StageList) (c : Cloning) → c.session ≡ Some s → number_in (advanced now files s list c) ≡ number_in c
+advanced_number now files s list c there = by list ∙ sym (ap (λ (o : Option Session). option_map (λ (k : Kept). k.0) (option_map kept o)) there)
+  where
+    by : (list : StageList) → number_in (advanced now files s list c) ≡ Some s.number
+    by (lists.Files spaces) = refl
+    by (lists.Pages pages) = at c.archive
+      where
+        at : (o : Option Archived) → number_in (option_map_or (λ a. stopped_at now s a c) o c) ≡ Some s.number
+        at None = ap (λ (o : Option Session). option_map (λ (k : Kept). k.0) (option_map kept o)) there
+        at (Some a) = refl
+    by (lists.Redo start end) = refl
+    by lists.Nothing = ap (λ (o : Option Session). option_map (λ (k : Kept). k.0) (option_map kept o)) there
+
+acked_number : (own : Bool) (now : Moment) (files : List (ℕ × ℕ)) (s : Session) (c : Cloning) → c.session ≡ Some s → number_in (if own then advanced now files s s.snap.list c else c) ≡ number_in c
+acked_number true now files s c there = advanced_number now files s s.snap.list c there
+acked_number false now files s c there = refl
+
+-- the stop of another session is none of this one
+other_stop : (number : ℕ) (stop : Stop) → (stop.session ≡ number → ⊥) → own_stop number (Some stop) ≡ None
+other_stop number stop other = by (stop.session == number) refl
+  where
+    by : (b : Bool) → (stop.session == number) ≡ b → (if b then Some stop else None) ≡ None
+    by true is = absurd (other (eqb-true stop.session number is))
+    by false is = refl
+
+acked_stop : (number : ℕ) (own : Bool) (now : Moment) (files : List (ℕ × ℕ)) (s : Session) (c : Cloning) → (s.number ≡ number → ⊥) → own_stop number c.stop ≡ None → own_stop number (if own then advanced now files s s.snap.list c else c).stop ≡ None
+acked_stop number true now files s c other none = by s.snap.list
+  where
+    at : (o : Option Archived) → own_stop number (option_map_or (λ a. stopped_at now s a c) o c).stop ≡ None
+    at None = none
+    at (Some a) = other_stop number (record { session = s.number; position = now.position; drops = now.drops }) other
+
+    by : (list : StageList) → own_stop number (advanced now files s list c).stop ≡ None
+    by (lists.Files spaces) = none
+    by (lists.Pages pages) = at c.archive
+    by (lists.Redo start end) = none
+    by lists.Nothing = none
+acked_stop number false now files s c other none = none
+
+none_to : (number session : ℕ) (answer : Answer) → (session ≡ number → ⊥) → to_session number session answer ≡ []
+none_to number session answer other = by (session == number) refl
+  where
+    by : (b : Bool) → (session == number) ≡ b → (if b then answer ∷ [] else []) ≡ []
+    by true is = absurd (other (eqb-true session number is))
+    by false is = refl
+
+none_number : (c e : Cloning) (number : ℕ) → kept_of e ≡ kept_of c → session_of c number ≡ None → session_of e number ≡ None
+none_number c e number same none = none_kept c e number (ap (option_map (λ (k : Kept). k.0)) same) none
+
+module _ (number : ℕ) (v t : Donor) (none : session_of v.cloning number ≡ None) (a : Act) where
+  abbrev Absent : Type 0
+  Absent = (answered_by number a ≡ []) × (session_of t.cloning number ≡ None) × (own_stop number v.cloning.stop ≡ None → own_stop number t.cloning.stop ≡ None)
+
+  same_stop : t.cloning.stop ≡ v.cloning.stop → own_stop number v.cloning.stop ≡ None → own_stop number t.cloning.stop ≡ None
+  same_stop same own = ap (own_stop number) same ∙ own
+
+  absent_acked : (caller : Caller) (stage floor : ℕ) (info : StageInfo) → IsAcking a v t caller stage floor info → Absent
+  absent_acked caller stage floor info acking =
+      let did = acking.acks.acknowledges in
+      let now = moment_of v.engine in
+      let files = known_files v.engine in
+      let there = stands_as v.cloning.session caller.session did.0 did.1 in
+      let gone = none_kept v.cloning t.cloning number (ap (option_map (λ (k : Kept). k.0)) (becomes_kept t.cloning (acknowledged now files stage did.0 v.cloning) did.2) ∙ acked_number (stage == donor_stage did.0) now files did.0 v.cloning there) none in (
+        ap (answered_by number) acking.is ∙ none_to number info.session (Stage (told_by info.plan)) (λ own. contradicts t.cloning number did.3.0 gone (as_standing t.cloning number did.3.0 did.3.1 (sym (told_session t.cloning info did.3) ∙ own))),
+        gone,
+        λ own. ap (λ (c : Cloning). own_stop number c.stop) did.2 ∙ acked_stop number (stage == donor_stage did.0) now files did.0 v.cloning (λ same. contradicts v.cloning number did.0 none (as_standing v.cloning number did.0 there same)) own,
+      )
+
+  absent_given : (caller : Caller) (stage chunk block : ℕ) (read : Block) (last : Bool) → IsGiving a v t caller stage chunk block read last → Absent
+  absent_given caller stage chunk block read last giving =
+      let g = giving.gives in
+      let left = (block_leaves v.cloning t.cloning caller chunk block last g.answers).0 in (
+        ap (answered_by number) giving.is ∙ none_to number caller.session (said_of stage chunk block read) (λ own. contradicts v.cloning number g.session none (subst (λ (n : ℕ). session_of v.cloning n ≡ Some g.session) own g.stands)),
+        none_number v.cloning t.cloning number left.session none,
+        same_stop left.stop,
+      )
+
+  absent : opens number a ≡ false → Way a v t → Absent
+  absent other (Quiet q) = (q.silent number, none_number v.cloning t.cloning number q.leaves.session none, same_stop q.leaves.stop)
+  absent other (Telling info q) =
+      let gone = none_number v.cloning t.cloning number q.leaves.session none in (
+        q.says number ∙ none_to number info.session (Stage (told_by info.plan)) (λ own. contradicts t.cloning number q.tells.0 gone (as_standing t.cloning number q.tells.0 q.tells.1 (sym (told_session t.cloning info q.tells) ∙ own))),
+        gone,
+        same_stop q.leaves.stop,
+      )
+  absent other (Opening hello info q) =
+      let off : (info.session == number) ≡ false = ap (opens number) (sym q.is) ∙ other in (
+        ap (answered_by number) q.is ∙ ap (λ (b : Bool). if b then Stage (told_by info.plan) ∷ [] else []) off,
+        not_standing t.cloning number q.tells.0 q.tells.1 (ap (λ (n : ℕ). n == number) (sym (told_session t.cloning info q.tells)) ∙ off),
+        same_stop (ap (λ (c : Cloning). c.stop) q.becomes),
+      )
+  absent other (Giving caller stage chunk block read last q) = absent_given caller stage chunk block read last q
+  absent other (Acking caller stage floor info q) = absent_acked caller stage floor info q
+  absent other (Leaving q) = (q.silent number, no_session t.cloning number (becomes_kept t.cloning (left v.cloning) q.becomes), same_stop (ap (λ (c : Cloning). c.stop) q.becomes))
+
+-- A SESSION IS OPENED: each page of the donor's files is to be read, and of others what stands bare
+-- counts.
+
+module _ (e : Engine) (tracked : Option Noted) (made : List (ℕ × ℕ)) (s n : ℕ) (u : PageStanding) (bare : IsBare (record { files = known_files e; pages = []; made = made }) s n u) where
+  abbrev Unread : Copy → Type 0
+  Unread copy = Contains (all_pages (lists.Files (known_files e))) (s, n) ⊎ (Counts copy u ⊎ Contains {X = ℕ × ℕ} [] (s, n))
+
+  first_unread : Unread (first_copies tracked e.flights.files s n)
+  first_unread = by (is_noted tracked s n) (finite.get e.flights.files s) refl
+    where
+      file : (pages : ℕ) → finite.get e.flights.files s ≡ Some pages → (past : Bool) → nat_le pages n ≡ past → Unread (first_copy false (if past then past_end ∷ [] else []))
+      file pages known true past = inr (inl (inr (inl (bare.listed pages (has_entry e.flights.files s pages known)))))
+      file pages known false within = inl (in_joined pages_of_space (known_files e) (s, pages) (s, n) (has_entry e.flights.files s pages known) (in_space s pages n (leb-false pages n within)))
+
+      by : (noted : Bool) (o : Option ℕ) → finite.get e.flights.files s ≡ o → Unread (first_copy noted (first_starts o n))
+      by true o is = inr (inl (inl refl))
+      by false None is = inr (inl (inr (inl bare.any)))
+      by false (Some pages) is = file pages is (ends_before (Some pages) n) refl
+
+module _ (number : ℕ) (d : Donor) (done : List Entry) (v : Donor) (taken : Taken) (walked : Walked number d done v taken) (e : Entry) (acts : Acts e.act v e.after) where
+  abbrev t : Donor
+  t = e.after
+
+  abbrev more : List Entry
+  more = done ++ e ∷ []
+
+  abbrev news : Taken
+  news = after_act e.act v t taken
+
+  taken_now : IsTaken t news
+  taken_now = acts.taken taken walked.is
+
+  abbrev w : Went e.act v t
+  w = went v t e.act acts.does
+
+  -- what is known after an act that said this
+  now : (said : List Answer) (after : Taken) → answered_by number e.act ≡ said → news ≡ after → Next number d done e said after → Stays number d more t news
+  now said after is same (l, knows, moments) =
+      subst (Stays number d more t) (sym same) (l, subst (λ (all : List Answer). Knows number all t after l) (sym (answers_more number done e ∙ ap (λ (x : List Answer). answers number done ++ x) is)) knows, moments)
+
+  -- what was known stays so, while nothing is answered
+  stays_known : answered_by number e.act ≡ [] → (x : Donor) (was : Taken) → Stayed number d done x was → Stayed number d more x was
+  stays_known silent x was (l, knows, moments) = (
+    l,
+    subst (λ (all : List Answer). Knows number all x was l) (sym (answers_more number done e ∙ ap (λ (all : List Answer). answers number done ++ all) silent ∙ append-nil (answers number done))) knows,
+    stop_stays number d done e x x was was refl refl moments,
+  )
+
+  -- THE SESSION IS OPENED
+  opens_now : (hello : Hello) (info : StageInfo) → IsOpening e.act v t hello info → info.session ≡ number → IsUnopened number done v → Stays number d more t news
+  opens_now hello info q own un =
+      let said = to_session number info.session (Stage (told_by info.plan)) in
+      let after = taken_at v t None taken in
+      let list = lists.Files (known_files v.engine) in
+      let l : Lists = record { files = known_files v.engine; pages = []; made = created_since (known_files v.engine) (known_files t.engine) } in
+      let same : news ≡ after = ap (λ (a : Act). after_act a v t taken) q.is ∙ ap (λ (o : Option Session). taken_at v t o taken) q.none in
+      let k = as_kept t.cloning hello.session list [] (becomes_kept t.cloning (opened hello (known_files v.engine) q.in_flight v.cloning) q.becomes) in
+      let both : Some q.tells.0 ≡ Some k.session = sym q.tells.1 ∙ stands_as t.cloning.session hello.session k.session k.stands in
+      let told_is : q.tells.0 ≡ k.session = cc in
+      let asked : hello.session ≡ number = sym (number_is t.cloning hello.session k.session k.stands) ∙ sym (ap (λ (x : Session). x.number) told_is) ∙ sym (told_session t.cloning info q.tells) ∙ own in
+      let at : StandsAt number t list l = record {
+        session = k.session;
+        stands = subst (λ (n : ℕ). session_of t.cloning n ≡ Some k.session) asked k.stands;
+        list_is = k.list_is;
+        in_lists = (refl, refl, refl);
+        keeps = ap (λ (c : Cloning). c.archive) q.becomes;
+      } in
+      let stop : t.cloning.stop ≡ v.cloning.stop = ap (λ (c : Cloning). c.stop) q.becomes in
+      let own_none : own_stop number t.cloning.stop ≡ None = ap (own_stop number) stop ∙ un.own in
+      now said after (ap (answered_by number) q.is) same (
+        l,
+        record {
+          list = list;
+          at = at;
+          is = subst (IsTaken t) same taken_now;
+          donor = acts.donor;
+          tells = ap (λ (x : Engine). is_some x.disk.told) q.same ∙ walked.tells;
+          low = λ past. absurd past;
+          unstopped = λ soon. refl;
+          unread = first_unread v.engine t.cloning.tracking.pages l.made;
+          facts = λ a has. elim (Contains-append_cases (answers number done) said a has) [
+            | inl old ↦ no_more (FactOf number t.cloning list after.copies l) a (subst (λ (x : List Answer). Contains x a) un.unanswered old)
+            | inr new ↦ subst (FactOf number t.cloning list after.copies l) (is_answer number info.session (Stage (told_by info.plan)) a new) (told_fact t number list l info at q.tells)
+          ];
+        },
+        record { late = λ x stopped. absurd (let wrong : None ≡ Some x = stopped in cc); early = λ still. (none_more number done e un.first own_none, own_none) },
+      )
+
+  opened_by : IsUnopened number done v → opens number e.act ≡ true → Way e.act v t → Stays number d more t news
+  opened_by un own (Quiet q) = absurd (true≢false (sym own ∙ q.neither.opens_none number))
+  opened_by un own (Telling info q) =
+      absurd (contradicts t.cloning number q.tells.0 (none_number v.cloning t.cloning number q.leaves.session un.none)
+      (as_standing t.cloning number q.tells.0 q.tells.1 (sym (told_session t.cloning info q.tells) ∙ q.opens_own number own)))
+  opened_by un own (Opening hello info q) = opens_now hello info q (eqb-true info.session number (ap (opens number) (sym q.is) ∙ own)) un
+  opened_by un own (Giving caller stage chunk block read last q) = absurd (true≢false (sym own ∙ ap (opens number) q.is))
+  opened_by un own (Acking caller stage floor info q) = absurd (true≢false (sym own ∙ ap (opens number) q.is))
+  opened_by un own (Leaving q) = absurd (true≢false (sym own ∙ q.opens_none number))
+
+  -- ONE ACT, by how far the session had come
+  unopened : IsUnopened number done v → (b : Bool) → opens number e.act ≡ b → Covers number d more t news (if b then Standing else Unopened)
+  unopened un true is = opened_by un is w.way
+  unopened un false is =
+      let (silent, none, own) = absent number v t un.none e.act is w.way in
+      let still = own un.own in
+      record { none = none; unanswered = answers_more number done e ∙ ap (λ (x : List Answer). x ++ answered_by number e.act) un.unanswered ∙ silent; first = none_more number done e un.first still; own = still }
+
+  gone : Covers number d done v taken Gone → (b : Bool) → opens number e.act ≡ b → Covers number d more t news (if b then Again else Gone)
+  gone known true is = tt
+  gone (none, (x, was, known)) false is = (let away = absent number v t none e.act is w.way in (away.1, (x, was, stays_known away.0 x was known)))
+
+  stands_by : Stays number d done v taken → ends e.act ≡ false → Way e.act v t → Stays number d more t news
+  stands_by (l, knows, moments) still (Quiet q) = now [] news (q.silent number) refl (quiet number d done v taken e l knows moments acts.donor news q.leaves (q.follows knows.at.session (stands_as v.cloning.session number knows.at.session knows.at.stands) taken) taken_now w.tells)
+  stands_by (l, knows, moments) still (Telling info q) = now (to_session number info.session (Stage (told_by info.plan))) taken (q.says number) (q.news taken) (told number d done v taken e l knows moments acts.donor info q.leaves (ap (λ (x : Engine). x.flights.files) q.same) (subst (IsTaken t) (q.news taken) taken_now) w.tells q.tells)
+  stands_by (l, knows, moments) still (Opening hello info q) = absurd (let wrong : None ≡ Some knows.at.session = sym q.none ∙ stands_as v.cloning.session number knows.at.session knows.at.stands in cc)
+  stands_by (l, knows, moments) still (Giving caller stage chunk block read last q) =
+      let same : news ≡ taken_from read taken = ap (λ (a : Act). after_act a v t taken) q.is in
+      now (to_session number caller.session (said_of stage chunk block read)) (taken_from read taken) (ap (answered_by number) q.is) same (given number d done v taken e l knows moments acts.donor caller stage chunk block read last q (subst (IsTaken t) same taken_now) w.tells)
+  stands_by (l, knows, moments) still (Acking caller stage floor info q) =
+      let same : news ≡ taken_after v stage taken = ap (λ (a : Act). after_act a v t taken) q.is in
+      now (to_session number info.session (Stage (told_by info.plan))) (taken_after v stage taken) (ap (answered_by number) q.is) same (acked number d done v taken e l knows moments acts.donor caller stage floor info q walked.here (subst (IsTaken t) same taken_now))
+  stands_by known still (Leaving q) = absurd (true≢false (sym q.ends_it ∙ still))
+
+  left_by : Stays number d done v taken → ends e.act ≡ true → Way e.act v t → Covers number d more t news Gone
+  left_by known over (Quiet q) = absurd (true≢false (sym over ∙ q.neither.ends_none))
+  left_by known over (Telling info q) = absurd (true≢false (sym over ∙ q.ends_none))
+  left_by known over (Opening hello info q) = absurd (true≢false (sym over ∙ ap ends q.is))
+  left_by known over (Giving caller stage chunk block read last q) = absurd (true≢false (sym over ∙ ap ends q.is))
+  left_by known over (Acking caller stage floor info q) = absurd (true≢false (sym over ∙ ap ends q.is))
+  left_by known over (Leaving q) = (no_session t.cloning number (becomes_kept t.cloning (left v.cloning) q.becomes), (v, taken, stays_known (q.silent number) v taken (known.0, known.1, known.2.late)))
+
+  standing : Stays number d done v taken → (b : Bool) → ends e.act ≡ b → Covers number d more t news (if b then Gone else Standing)
+  standing known true is = left_by known is w.way
+  standing known false is = stands_by known is w.way
+
+  covers : (phase : Phase) → Covers number d done v taken phase → Covers number d more t news (phase_with number phase e.act)
+  covers Unopened known = unopened known (opens number e.act) refl
+  covers Standing known = standing known (ends e.act) refl
+  covers Gone known = gone known (opens number e.act) refl
+  covers Again known = tt
+
+  walked_on : end_of d more ≡ t → Walked number d more t news
+  walked_on here = record { here = here; is = taken_now; donor = acts.donor; tells = w.tells ∙ walked.tells }
+
+pub end_more : (d : Donor) (done : List Entry) (e : Entry) → end_of d (done ++ e ∷ []) ≡ e.after
+end_more d [] e = refl
+end_more d (x ∷ xs) e = end_more x.after xs e
+
+-- THE WHOLE RUN
+pub record Walk (number : ℕ) (d : Donor) (trace : List Entry) (phase : Phase) : Type 0 where
+  pub v : Donor
+  pub taken : Taken
+  pub covers_it : Covers number d trace v taken phase
+
+walk : (number : ℕ) (d : Donor) (trace done : List Entry) (v : Donor) (taken : Taken) (phase : Phase) → Walked number d done v taken → Covers number d done v taken phase → Runs v trace → Walk number d (done ++ trace) (phase_after number phase trace)
+walk number d [] done v taken phase walked known run = record { v = v; taken = taken; covers_it = subst (λ (x : List Entry). Covers number d x v taken phase) (sym (append-nil done)) known }
+walk number d (e ∷ es) done v taken phase walked known run =
+    subst (λ (x : List Entry). Walk number d x (phase_after number (phase_with number phase e.act) es)) (append_assoc done (e ∷ []) es)
+    (walk number d es (done ++ e ∷ []) e.after (after_act e.act v e.after taken) (phase_with number phase e.act) (walked_on number d done v taken walked e run.0 (end_more d done e)) (covers number d done v taken walked e run.0 phase known) run.1)
+
+-- THE LAW
+pub moment : (number : ℕ) (d : Donor) (trace : List Entry) (items : List Item) (end : CloneEnd) (m : DiskImage) → IsTaken d nothing → d.cloning.session ≡ None → own_stop number d.cloning.stop ≡ None → IsDonor d → IsSome d.engine.disk.told → Runs d trace → IsOpenedOnce number trace
+    → InTurn 0 items → WereAnswered number trace items → IsWhole items end.checkpoint end.lsn end.position → IsEnd end → m.spaces ≡ finite.empty → HoldsStop number d trace end (laid items m)
+moment number d trace items end m is none unstopped donor tells run once turn answered whole ranges empty =
+    let walked : Walked number d [] d nothing = record { here = refl; is = is; donor = donor; tells = tells } in
+    let start : Covers number d [] d nothing Unopened = record { none = ap (option_and_then (λ (t : Session). if t.number == number then Some t else None)) none; unanswered = refl; first = refl; own = unstopped } in
+    by (phase_after number Unopened trace) refl (walk number d trace [] d nothing Unopened walked start run)
+  where
+    known : (v : Donor) (taken : Taken) → Stayed number d trace v taken → HoldsStop number d trace end (laid items m)
+    known v taken (l, knows, moments) = holds number (answers number trace) v taken l knows items answered turn end.checkpoint end.lsn end.position whole m empty d trace moments end ranges refl refl refl
+
+    by : (phase : Phase) → phase_after number Unopened trace ≡ phase → Walk number d trace phase → HoldsStop number d trace end (laid items m)
+    by Unopened is walked = absurd (no_more (λ a. ⊥) (answer_in (Moves (ToldFiles whole.spaces))) (subst (λ (x : List Answer). Contains x (answer_in (Moves (ToldFiles whole.spaces)))) walked.covers_it.unanswered (answered (Moves (ToldFiles whole.spaces)) whole.files)))
+    by Standing is walked = known walked.v walked.taken (walked.covers_it.0, walked.covers_it.1, walked.covers_it.2.late)
+    by Gone is walked = known walked.covers_it.1.0 walked.covers_it.1.1 walked.covers_it.1.2
+    by Again is walked = absurd (once is)
