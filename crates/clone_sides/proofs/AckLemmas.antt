@@ -23,6 +23,7 @@ use Rattle.clone_session.specs.declared.ending.Moment.{Moment}
 use Rattle.clone_session.specs.declared.info.Stop.{Stop}
 use Rattle.clone_session.specs.declared.info.StageInfo.{StageInfo}
 use Rattle.clone_session.specs.Cloning.{Cloning, Session}
+use Rattle.clone_session.specs.CloneCalls.{Acknowledges}
 use Rattle.clone_session.specs.CloneCauses.{acknowledgement_cause, chunks_left, donor_stage, floor_ahead, out_of_stage, session_of, stale, whether}
 use Rattle.clone_session.specs.Effects.{Becomes, Tells as TellsInfo, acknowledged, advanced, created_since, files_ended, in_stage, position_of, stopped_at}
 use Rattle.clone_session.proofs.PartLemmas.{stands_as}
@@ -35,7 +36,7 @@ use Rattle.clone_engine.proofs.ToldLemmas.{of_told}
 use Rattle.clone_sides.specs.Trace.{Entry, end_of}
 use Rattle.clone_sides.specs.Answered.{answers, to_session, told_by}
 use Rattle.clone_sides.specs.Facts.{CountsEarly, HasMoment, InLists, IsBefore, IsPast, Keeps, Knows, Lists, StandsAt}
-use Rattle.clone_sides.specs.Moment.{StopsAt, own_stop}
+use Rattle.clone_sides.specs.Moment.{StopsAt, first_stop, own_stop}
 use Rattle.clone_sides.proofs.ActLemmas.{Next, same_session, stands_in, taken_in, told, told_more}
 use Rattle.clone_sides.proofs.CallLemmas.{Tells as SameTold}
 use Rattle.clone_sides.proofs.CountLemmas.{over_counts, stop_counts}
@@ -103,11 +104,14 @@ module _ (number : ℕ) (d : Donor) (done : List Entry) (v : Donor) (taken : Tak
   told_same : SameTold v.engine t.engine
   told_same = ap (λ (x : Engine). is_some x.disk.told) acking.acks.settles
 
+  abbrev did : Acknowledges now files caller.session stage v.cloning t.cloning info
+  did = acking.acks.acknowledges
+
   becomes : Becomes t.cloning (acknowledged now files stage s v.cloning)
-  becomes = let did = acking.acks.acknowledges in subst (λ (x : Session). Becomes t.cloning (acknowledged now files stage x v.cloning)) (session_is did.0 did.1) did.2
+  becomes = subst (λ (x : Session). Becomes t.cloning (acknowledged now files stage x v.cloning)) (session_is did.0 did.1) did.2
 
   tells_info : TellsInfo t.cloning info
-  tells_info = acking.acks.acknowledges.3
+  tells_info = did.3
 
   -- it changes nothing
   stays : Becomes t.cloning v.cloning → IsTaken t taken → Acked taken
@@ -193,6 +197,9 @@ module _ (number : ℕ) (d : Donor) (done : List Entry) (v : Donor) (taken : Tak
     donor_at : donor_stage s ≡ 2
     donor_at = ap (λ (x : StageList). stage_number (stage_of x)) (knows.at.list_is ∙ is)
 
+    none_before : first_stop number done ≡ None
+    none_before = (moments.early (knows.unstopped (subst IsBefore (sym is) tt))).0
+
     moment : StopsAt number d (done ++ e ∷ []) v.engine stop
     moment = record {
       before = done;
@@ -200,6 +207,7 @@ module _ (number : ℕ) (d : Donor) (done : List Entry) (v : Donor) (taken : Tak
       after = [];
       split = refl;
       caller = caller;
+      session = sym (number_is v.cloning caller.session did.0 did.1) ∙ ap (λ (x : Session). x.number) (session_is did.0 did.1) ∙ own_number;
       floor = floor;
       info = info;
       acknowledges = acking.is ∙ ap (λ (n : ℕ). act.Calls (call.Ack caller n floor) (answer.Ack (Ok info))) own;
@@ -208,9 +216,9 @@ module _ (number : ℕ) (d : Donor) (done : List Entry) (v : Donor) (taken : Tak
       own = own_number;
       commits = refl;
       drops = refl;
-      reached = floor_within s stage floor now.position own donor_at (subst (λ (x : Session). floor_ahead x stage floor now.position ≡ None) (session_is acking.acks.acknowledges.0 acking.acks.acknowledges.1)
-          (acked_floor v.cloning caller stage floor now.position acking.acks.acknowledges.0 acking.acks.acknowledges.1 acking.none));
-      first = first_more number done e ∙ ap (λ (o : Option Stop). option_or o (own_stop number t.cloning.stop)) (moments.early (knows.unstopped (subst IsBefore (sym is) tt))).0 ∙ ap (own_stop number) stopped
+      reached = floor_within s stage floor now.position own donor_at (subst (λ (x : Session). floor_ahead x stage floor now.position ≡ None) (session_is did.0 did.1) (acked_floor v.cloning caller stage floor now.position did.0 did.1 acking.none));
+      new = none_before;
+      first = first_more number done e ∙ ap (λ (o : Option Stop). option_or o (own_stop number t.cloning.stop)) none_before ∙ ap (own_stop number) stopped
           ∙ ap (λ (b : Bool). if b then Some stop else None) (eq-eqb s.number number own_number);
     }
 

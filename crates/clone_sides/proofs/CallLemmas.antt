@@ -204,9 +204,6 @@ begun_files page f w = by (ends_short page f) refl
     by true is = more (finite.get f.files page.space) refl (and_parts (ends_before (finite.get f.files page.space) page.number) (nat_lt page.number MOST_PAGES) is).0
 
 module _ (page : PageName) (s t : Engine) where
-  abbrev files_kept : State → Type 0
-  files_kept x = KeepsFiles s.flights.files x.flights.files
-
   still : (x : State) → state_of t ≡ x → x.flights.files ≡ s.flights.files → KeepsFiles s.flights.files t.flights.files
   still x is files = same_files s.flights.files t.flights.files (ap (λ (y : State). y.flights.files) is ∙ files)
 

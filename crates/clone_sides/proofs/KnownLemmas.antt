@@ -164,6 +164,7 @@ moment_more number d done e at stop is = record {
   after = is.after ++ e ∷ [];
   split = ap (λ (x : List Entry). x ++ e ∷ []) is.split ∙ append_assoc is.before (is.entry ∷ is.after) (e ∷ []);
   caller = is.caller;
+  session = is.session;
   floor = is.floor;
   info = is.info;
   acknowledges = is.acknowledges;
@@ -173,6 +174,7 @@ moment_more number d done e at stop is = record {
   commits = is.commits;
   drops = is.drops;
   reached = is.reached;
+  new = is.new;
   first = first_more number done e ∙ ap (λ (o : Option Stop). option_or o (own_stop number e.after.cloning.stop)) is.first;
 }
 

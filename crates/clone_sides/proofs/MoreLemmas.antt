@@ -1,7 +1,7 @@
 -- One more act, and one more item; and what became of the history since the stop.
-use Rattle.std.proofs.Common.{◌≡◌, ◌∙◌, ◌++◌, ◌∷◌, [], ℕ, List, length, take, refl, sym, ap, subst, arith, inl, inr, append_assoc}
+use Rattle.std.proofs.Common.{◌≡◌, ◌≤◌, ◌∙◌, ◌++◌, ◌∷◌, [], ℕ, List, length, take, refl, sym, ap, subst, arith, inl, inr, append_assoc}
 use Rattle.std.specs.List.{Contains}
-use Rattle.std.proofs.lemmas.List.{take-append-le, take_all}
+use Rattle.std.proofs.lemmas.List.{length-append, take-append-le, take_all}
 use Rattle.std.proofs.lemmas.List.Elements.{Contains-append_left, Contains-push_cases}
 use Rattle.clone_model.specs.History.{Drops}
 use Rattle.clone_model.specs.declared.change.Commit.{Commit}
@@ -65,6 +65,9 @@ front : {X : Type 0} (xs more all : List X) (n : ℕ) → all ≡ xs ++ more →
 front {X} xs more all n is count =
     ap (λ (k : ℕ). take k all) count ∙ ap (take (length xs)) is ∙ take-append-le (length xs) xs more (omega arith) ∙ take_all (length xs) xs (omega arith)
 
+within : {X : Type 0} (xs more all : List X) (n : ℕ) → all ≡ xs ++ more → n ≡ length xs → n ≤ length all
+within xs more all n is count = omega (arith, ap length is, length-append xs more)
+
 pub gone_on : (number : ℕ) (d : Donor) (trace : List Entry) (at : Engine) (stop : Stop) → Runs d trace → StopsAt number d trace at stop → HasGoneOn stop at.donor (end_of d trace).engine.donor
 gone_on number d trace at stop run stops =
     let rest : List Entry = stops.entry ∷ stops.after in
@@ -73,6 +76,8 @@ gone_on number d trace at stop run stops =
     subst (λ (x : Donor). Lengthens at.donor x.engine.donor) (sym (ap (end_of d) stops.split ∙ rest_end d stops.before rest))
     (subst (λ (x : Engine). Lengthens x.donor (end_of (end_of d stops.before) rest).engine.donor) (sym stops.here) since) in
     record {
+      position = within at.donor.binlog longer.commits (end_of d trace).engine.donor.binlog stop.position longer.binlog stops.commits;
+      dropped = within at.donor.drops longer.dropped (end_of d trace).engine.donor.drops stop.drops longer.drops stops.drops;
       commits = front at.donor.binlog longer.commits (end_of d trace).engine.donor.binlog stop.position longer.binlog stops.commits;
       drops = front at.donor.drops longer.dropped (end_of d trace).engine.donor.drops stop.drops longer.drops stops.drops;
     }

@@ -31,8 +31,8 @@ first_stop number [] = None
 first_stop number (e ∷ es) =
     option_or (own_stop number e.after.cloning.stop) (first_stop number es)
 
--- The session came to its stop by the first acknowledgement of the copy of pages, when the donor's
--- engine was this one. No floor that came with it was ahead.
+-- The session came to its stop, its first one, by an acknowledgement of the copy of pages, when the
+-- donor's engine was this one. The floor that came with it wasn't ahead.
 pub record StopsAt (number : ℕ) (d : Donor) (trace : List Entry) (at : Engine) (stop : Stop)
     : Type 0 where
   pub before : List Entry
@@ -40,6 +40,7 @@ pub record StopsAt (number : ℕ) (d : Donor) (trace : List Entry) (at : Engine)
   pub after : List Entry
   pub split : trace ≡ before ++ entry ∷ after
   pub caller : Caller
+  pub session : caller.session ≡ number
   pub floor : ℕ
   pub info : StageInfo
   pub acknowledges : entry.act ≡ Calls (call.Ack caller 2 floor) (answer.Ack (Ok info))
@@ -49,6 +50,7 @@ pub record StopsAt (number : ℕ) (d : Donor) (trace : List Entry) (at : Engine)
   pub commits : stop.position ≡ length at.donor.binlog
   pub drops : stop.drops ≡ length at.donor.drops
   pub reached : floor ≤ stop.position
+  pub new : first_stop number before ≡ None
   pub first : first_stop number trace ≡ Some stop
 
 -- With the complete mark the disk recovers to the history at the stop.
@@ -63,5 +65,7 @@ pub record HoldsStop (number : ℕ) (d : Donor) (trace : List Entry) (end : Clon
 -- The donor has gone on since the stop: its first commits, as many as there were, are those of
 -- then, and so are its first drops.
 pub record HasGoneOn (stop : Stop) (was now : plain.Donor) : Type 0 where
+  pub position : stop.position ≤ length now.binlog
+  pub dropped : stop.drops ≤ length now.drops
   pub commits : take stop.position now.binlog ≡ was.binlog
   pub drops : take stop.drops now.drops ≡ was.drops
