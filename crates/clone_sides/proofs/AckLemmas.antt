@@ -1,6 +1,6 @@
 -- A stage is acknowledged: the session goes on to the next one, and the copy of pages ends at the
 -- stop.
-use Rattle.std.proofs.Common.{◌≡◌, ◌≤◌, ◌∙◌, ◌++◌, ◌∷◌, ◌==◌, ◌&&◌, [], ℕ, Bool, true, false, if◌then◌else◌, List, Option, None, Some, Ok, option_map, is_some, refl, sym, ap, subst, arith, inl, inr}
+use Rattle.std.proofs.Common.{◌≡◌, ◌≤◌, ◌∙◌, ◌++◌, ◌∷◌, ◌==◌, ◌&&◌, [], ℕ, Bool, true, false, if◌then◌else◌, List, Option, None, Some, Ok, is_some, refl, sym, ap, subst, arith, inl, inr}
 use Rattle.std.specs.Prelude.{nat_lt}
 use Rattle.std.specs.List.{AllByRecursion, Contains}
 use Rattle.std.specs.Option.{option_map_or, option_or}
@@ -25,7 +25,7 @@ use Rattle.clone_session.specs.declared.info.StageInfo.{StageInfo}
 use Rattle.clone_session.specs.Cloning.{Cloning, Session}
 use Rattle.clone_session.specs.CloneCalls.{Acknowledges}
 use Rattle.clone_session.specs.CloneCauses.{acknowledgement_cause, chunks_left, donor_stage, floor_ahead, out_of_stage, session_of, stale, whether}
-use Rattle.clone_session.specs.Effects.{Becomes, Tells as TellsInfo, acknowledged, advanced, created_since, files_ended, in_stage, position_of, stopped_at}
+use Rattle.clone_session.specs.Effects.{Becomes, advanced, created_since, files_ended, in_stage, position_of, stopped_at}
 use Rattle.clone_session.proofs.PartLemmas.{stands_as}
 use Rattle.clone_engine.specs.Acts as act
 use Rattle.clone_engine.specs.Engine.{Engine}
@@ -35,13 +35,13 @@ use Rattle.clone_engine.specs.Taken.{HasStopped, IsTaken, IsTakenBy, IsTakenIn, 
 use Rattle.clone_engine.proofs.ToldLemmas.{of_told}
 use Rattle.clone_sides.specs.Trace.{Entry, end_of}
 use Rattle.clone_sides.specs.Answered.{answers, to_session, told_by}
-use Rattle.clone_sides.specs.Facts.{CountsEarly, HasMoment, InLists, IsBefore, IsPast, Keeps, Knows, Lists, StandsAt}
+use Rattle.clone_sides.specs.Facts.{CountsEarly, HasMoment, InLists, IsBefore, IsPast, Keeps, Kept, Knows, Lists, StandsAt, kept, kept_of}
 use Rattle.clone_sides.specs.Moment.{StopsAt, first_stop, own_stop}
-use Rattle.clone_sides.proofs.ActLemmas.{Next, same_session, stands_in, taken_in, told, told_more}
+use Rattle.clone_sides.proofs.ActLemmas.{Next, taken_in, told, told_more}
 use Rattle.clone_sides.proofs.CallLemmas.{Tells as SameTold}
 use Rattle.clone_sides.proofs.CountLemmas.{over_counts, stop_counts}
-use Rattle.clone_sides.proofs.KeptLemmas.{as_kept, becomes_kept, grows_same, keeps_stays, kept_of, leaves_becomes, number_is, range_stays, redo_stays}
-use Rattle.clone_sides.proofs.KnownLemmas.{Goes, first_more, knows_goes, moments_stay}
+use Rattle.clone_sides.proofs.KeptLemmas.{becomes_kept, grows_same, keeps_stays, leaves_becomes, list_kept, number_is, range_stays, redo_stays, same_kept}
+use Rattle.clone_sides.proofs.KnownLemmas.{Goes, first_more, knows_goes, moments_stay, still_goes}
 use Rattle.clone_sides.proofs.LowLemmas.{made_low}
 use Rattle.clone_sides.proofs.OptionLemmas.{same_some, told_disk, two_none}
 use Rattle.clone_sides.proofs.WayLemmas.{IsAcking}
@@ -77,9 +77,6 @@ module _ (number : ℕ) (d : Donor) (done : List Entry) (v : Donor) (taken : Tak
   abbrev t : Donor
   t = e.after
 
-  abbrev s : Session
-  s = knows.at.session
-
   abbrev now : Moment
   now = moment_of v.engine
 
@@ -89,54 +86,47 @@ module _ (number : ℕ) (d : Donor) (done : List Entry) (v : Donor) (taken : Tak
   abbrev Acked : Taken → Type 0
   Acked news = Next number d done e (to_session number info.session (Stage (told_by info.plan))) news
 
-  session_is : (x : Session) → session_of v.cloning caller.session ≡ Some x → x ≡ s
-  session_is = same_session number d done v taken e l knows moments donor caller.session
+  abbrev did : Acknowledges now files caller.session stage v.cloning t.cloning info
+  did = acking.acks.acknowledges
+
+  -- the session that is acknowledged is the one that stands
+  abbrev s : Session
+  s = did.0
 
   stands_here : v.cloning.session ≡ Some s
-  stands_here = stands_in number d done v taken e l knows moments donor
+  stands_here = stands_as v.cloning.session caller.session s did.1
+
+  kept_is : kept s ≡ (number, knows.list, knows.at.created)
+  kept_is = same_kept v.cloning s (number, knows.list, knows.at.created) stands_here knows.at.stands
+
+  list_is : s.snap.list ≡ knows.list
+  list_is = ap (λ (k : Kept). k.1) kept_is
+
+  own_number : s.number ≡ number
+  own_number = ap (λ (k : Kept). k.0) kept_is
 
   list_taken : IsTakenIn v.cloning v.engine.buffer.log taken knows.list
   list_taken = taken_in number d done v taken e l knows moments donor
 
-  own_number : s.number ≡ number
-  own_number = number_is v.cloning number s knows.at.stands
-
   told_same : SameTold v.engine t.engine
   told_same = ap (λ (x : Engine). is_some x.disk.told) acking.acks.settles
 
-  abbrev did : Acknowledges now files caller.session stage v.cloning t.cloning info
-  did = acking.acks.acknowledges
-
-  becomes : Becomes t.cloning (acknowledged now files stage s v.cloning)
-  becomes = subst (λ (x : Session). Becomes t.cloning (acknowledged now files stage x v.cloning)) (session_is did.0 did.1) did.2
-
-  tells_info : TellsInfo t.cloning info
-  tells_info = did.3
-
   -- it changes nothing
   stays : Becomes t.cloning v.cloning → IsTaken t taken → Acked taken
-  stays same is = told number d done v taken e l knows moments donor info (leaves_becomes v.cloning t.cloning same) (ap (λ (x : Engine). x.flights.files) acking.acks.settles) is told_same tells_info
+  stays same is = told number d done v taken e l knows moments donor info (leaves_becomes v.cloning t.cloning same) (ap (λ (x : Engine). x.flights.files) acking.acks.settles) is told_same did.3
 
   -- the session's stage is over, and this one begins
   comes : (next : StageList) (m : Lists) (list : StageList) → knows.list ≡ list → StandsAt number t next m → (IsPast next → AllByRecursion IsLowRoom m.made) → (news : Taken) → Goes number v t list next taken news l m → IsTaken t news → HasMoment number d (done ++ e ∷ []) t news → Acked news
   comes next m list is at low news goes is_taken had = (
     m,
     knows_goes number (answers number done) (to_session number info.session (Stage (told_by info.plan))) v t taken news l m knows next (subst (λ (x : StageList). Goes number v t x next taken news l m) (sym is) goes) at is_taken donor (told_same ∙ knows.tells) low
-        (told_more number d done v taken e l knows moments donor info news next m at tells_info),
+        (told_more number d done v taken e l knows moments donor info news next m at did.3),
     had,
   )
 
   -- it stands there
   stands_at : (next : StageList) (created : List (ℕ × ℕ)) (m : Lists) → kept_of t.cloning ≡ Some (s.number, next, created) → InLists next created t.engine m → Keeps number t.cloning next → StandsAt number t next m
-  stands_at next created m kept in_lists keeps =
-      let k = as_kept t.cloning number next created (kept ∙ ap (λ (n : ℕ). Some (n, next, created)) own_number) in
-      record {
-        session = k.session;
-        stands = k.stands;
-        list_is = k.list_is;
-        in_lists = subst (λ (c : List (ℕ × ℕ)). InLists next c t.engine m) (sym k.created_is) in_lists;
-        keeps = keeps;
-      }
+  stands_at next created m kept in_lists keeps = record { created = created; stands = kept ∙ ap (λ (n : ℕ). Some (n, next, created)) own_number; in_lists = in_lists; keeps = keeps }
 
   -- THE COPY OF FILES is over.
   files_over_now : (spaces : List (ℕ × ℕ)) → knows.list ≡ lists.Files spaces → Becomes t.cloning (files_ended now (created_since spaces files) s v.cloning) → IsTaken t (taken_over v.engine (lists.Files spaces) taken) → Acked (taken_over v.engine (lists.Files spaces) taken)
@@ -145,7 +135,7 @@ module _ (number : ℕ) (d : Donor) (done : List Entry) (v : Donor) (taken : Tak
       let pages = listed v.cloning.tracking.pages in
       let created = created_since spaces files in
       let m : Lists = record l { pages = pages } in
-      let in_lists : InLists (lists.Files spaces) s.created v.engine l = subst (λ (x : StageList). InLists x s.created v.engine l) is knows.at.in_lists in
+      let in_lists : InLists (lists.Files spaces) knows.at.created v.engine l = subst (λ (x : StageList). InLists x knows.at.created v.engine l) is knows.at.in_lists in
       let unarchived : v.cloning.archive ≡ None = subst (Keeps number v.cloning) is knows.at.keeps in
       let made_is : created ≡ l.made = ap (λ (x : List (ℕ × ℕ)). created_since x files) in_lists.0 ∙ sym in_lists.2 in
       let (disk, there) = told_disk v.engine.disk.told knows.tells in
@@ -195,7 +185,7 @@ module _ (number : ℕ) (d : Donor) (done : List Entry) (v : Donor) (taken : Tak
     kept_now = becomes_kept t.cloning (stopped_at now s a v.cloning) became
 
     donor_at : donor_stage s ≡ 2
-    donor_at = ap (λ (x : StageList). stage_number (stage_of x)) (knows.at.list_is ∙ is)
+    donor_at = ap (λ (x : StageList). stage_number (stage_of x)) (list_is ∙ is)
 
     none_before : first_stop number done ≡ None
     none_before = (moments.early (knows.unstopped (subst IsBefore (sym is) tt))).0
@@ -207,7 +197,7 @@ module _ (number : ℕ) (d : Donor) (done : List Entry) (v : Donor) (taken : Tak
       after = [];
       split = refl;
       caller = caller;
-      session = sym (number_is v.cloning caller.session did.0 did.1) ∙ ap (λ (x : Session). x.number) (session_is did.0 did.1) ∙ own_number;
+      session = sym (number_is v.cloning caller.session s did.1) ∙ own_number;
       floor = floor;
       info = info;
       acknowledges = acking.is ∙ ap (λ (n : ℕ). act.Calls (call.Ack caller n floor) (answer.Ack (Ok info))) own;
@@ -216,7 +206,7 @@ module _ (number : ℕ) (d : Donor) (done : List Entry) (v : Donor) (taken : Tak
       own = own_number;
       commits = refl;
       drops = refl;
-      reached = floor_within s stage floor now.position own donor_at (subst (λ (x : Session). floor_ahead x stage floor now.position ≡ None) (session_is did.0 did.1) (acked_floor v.cloning caller stage floor now.position did.0 did.1 acking.none));
+      reached = floor_within s stage floor now.position own donor_at (acked_floor v.cloning caller stage floor now.position s did.1 acking.none);
       new = none_before;
       first = first_more number done e ∙ ap (λ (o : Option Stop). option_or o (own_stop number t.cloning.stop)) none_before ∙ ap (own_stop number) stopped
           ∙ ap (λ (b : Bool). if b then Some stop else None) (eq-eqb s.number number own_number);
@@ -225,10 +215,8 @@ module _ (number : ℕ) (d : Donor) (done : List Entry) (v : Donor) (taken : Tak
     -- the archive doesn't reach past the end of the log
     within : archived_of a ≤ now.end
     within =
-        let k = as_kept t.cloning s.number next s.created kept_now in
-        let list_now : list_of t.cloning ≡ Some next = ap (option_map (λ (x : Session). x.snap.list)) (stands_as t.cloning.session s.number k.session k.stands) ∙ ap (λ (x : StageList). Some x) k.list_is in
         let (disk, there) = told_disk t.engine.disk.told (told_same ∙ knows.tells) in
-        let has : HasStopped t.cloning t.engine.buffer.log news ended = subst (IsTakenBy t.cloning t.engine.buffer.log news) list_now (of_told (λ _. IsTakenBy t.cloning t.engine.buffer.log news (list_of t.cloning)) t.engine.disk.told disk there is_taken.stage) ended archived in
+        let has : HasStopped t.cloning t.engine.buffer.log news ended = subst (IsTakenBy t.cloning t.engine.buffer.log news) (list_kept t.cloning (s.number, next, s.created) kept_now) (of_told (λ _. IsTakenBy t.cloning t.engine.buffer.log news (list_of t.cloning)) t.engine.disk.told disk there is_taken.stage) ended archived in
         let at_is : has.at ≡ v.engine = same_some news.stop has.at v.engine has.stop refl in
         let end_is : now.end ≡ since.ends v.engine.buffer.log = (let both : Some now.end ≡ Some (since.ends has.at.buffer.log) = has.end in cc) ∙ ap (λ (x : Engine). since.ends x.buffer.log) at_is in
         let of_log = knows.donor.redo a stands in
@@ -238,22 +226,9 @@ module _ (number : ℕ) (d : Donor) (done : List Entry) (v : Donor) (taken : Tak
     not_ended b also end some = two_none a.stop end unended (ap (λ (x : Archived). x.stop) (same_some v.cloning.archive a b stands also) ∙ some)
 
     goes : Goes number v t (lists.Pages pages) next taken news l l
-    goes = record {
-      past = λ past. tt;
-      before = λ soon. absurd soon;
-      files = refl;
-      pages = λ past. refl;
-      made = λ past. refl;
-      bare = λ x y u bare. inr (bare, early x y u);
-      early = λ x y u has. early x y u;
-      late = λ past x y u c. stop_counts v.engine.buffer.log (taken.copies x y) u c;
-      range = λ x y z r. absurd (not_ended r.archive r.stands y r.end);
-      redo = λ chunk block from bytes f. absurd (not_ended f.archive f.stands f.end f.ended);
-    }
-      where
-        early : (x y : ℕ) (u : Standing) → CountsEarly l taken.copies x y u → CountsEarly l news.copies x y u
-        early x y u (inl c) = inl (stop_counts v.engine.buffer.log (taken.copies x y) u c)
-        early x y u (inr h) = inr h
+    goes =
+        still_goes number v t (lists.Pages pages) next taken news l l.made (λ x y u. stop_counts v.engine.buffer.log (taken.copies x y) u) (λ past. tt) (λ soon. absurd soon) (λ past. refl) (λ x y u bare. bare)
+        (λ x y z r. absurd (not_ended r.archive r.stands y r.end)) (λ chunk block from bytes f. absurd (not_ended f.archive f.stands f.end f.ended))
 
     stops_now : Acked news
     stops_now =
@@ -271,18 +246,7 @@ module _ (number : ℕ) (d : Donor) (done : List Entry) (v : Donor) (taken : Tak
   redo_over_now start end is becomes is_taken =
       let archive = grows_same v.cloning.archive t.cloning.archive (ap (λ (c : Cloning). c.archive) becomes) in
       let stop : t.cloning.stop ≡ v.cloning.stop = ap (λ (c : Cloning). c.stop) becomes in
-      let goes : Goes number v t (lists.Redo start end) lists.Nothing taken taken l l = record {
-        past = λ past. tt;
-        before = λ soon. absurd soon;
-        files = refl;
-        pages = λ past. refl;
-        made = λ past. refl;
-        bare = λ x y u bare. inr (bare, λ counts. counts);
-        early = λ x y u has counts. counts;
-        late = λ past x y u counts. counts;
-        range = λ x y z. range_stays v.cloning t.cloning archive number x y z stop;
-        redo = redo_stays v.cloning t.cloning archive;
-      } in
+      let goes = still_goes number v t (lists.Redo start end) lists.Nothing taken taken l l.made (λ x y u counts. counts) (λ past. tt) (λ soon. absurd soon) (λ past. refl) (λ x y u bare. bare) (λ x y z. range_stays v.cloning t.cloning archive number x y z stop) (redo_stays v.cloning t.cloning archive) in
       comes lists.Nothing l (lists.Redo start end) is
       (stands_at lists.Nothing s.created l (becomes_kept t.cloning (in_stage lists.Nothing s v.cloning) becomes) tt (start, end, keeps_stays v.cloning t.cloning archive number (lists.Redo start end) stop (subst (Keeps number v.cloning) is knows.at.keeps)))
       (λ past. knows.low (subst IsPast (sym is) tt)) taken goes is_taken
@@ -297,11 +261,11 @@ module _ (number : ℕ) (d : Donor) (done : List Entry) (v : Donor) (taken : Tak
   over lists.Nothing is own became is_taken = stays became is_taken
 
   pub acked : IsTaken t (taken_after v stage taken) → Acked (taken_after v stage taken)
-  acked = subst (λ (news : Taken). IsTaken t news → Acked news) (sym taken_is) (by (stage == donor_stage s) refl becomes)
+  acked = subst (λ (news : Taken). IsTaken t news → Acked news) (sym taken_is) (by (stage == donor_stage s) refl did.2)
     where
       taken_is : taken_after v stage taken ≡ (if stage == donor_stage s then taken_over v.engine s.snap.list taken else taken)
       taken_is = ap (λ (o : Option Session). option_map_or (λ (x : Session). if stage == donor_stage x then taken_over v.engine x.snap.list taken else taken) o taken) stands_here
 
       by : (own : Bool) → (stage == donor_stage s) ≡ own → Becomes t.cloning (if own then advanced now files s s.snap.list v.cloning else v.cloning) → IsTaken t (if own then taken_over v.engine s.snap.list taken else taken) → Acked (if own then taken_over v.engine s.snap.list taken else taken)
-      by true own became is_taken = over s.snap.list (sym knows.at.list_is) (eqb-true stage (donor_stage s) own) became is_taken
+      by true own became is_taken = over s.snap.list (sym list_is) (eqb-true stage (donor_stage s) own) became is_taken
       by false own became is_taken = stays became is_taken

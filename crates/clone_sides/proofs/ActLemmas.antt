@@ -1,5 +1,5 @@
 -- What is known of a session that stands goes on over each act that leaves it where it is.
-use Rattle.std.proofs.Common.{◌≡◌, ◌∙◌, ◌++◌, ◌∷◌, [], ℕ, Bool, List, Some, option_map, refl, sym, ap, subst, arith, inl, inr}
+use Rattle.std.proofs.Common.{◌≡◌, ◌∙◌, ◌++◌, ◌∷◌, [], ℕ, Bool, List, Some, refl, sym, ap, subst, arith, inl, inr}
 use Rattle.std.specs.List.{All, AllByRecursion, Contains}
 use Rattle.clone_image.specs.Redone.{Standing}
 use Rattle.clone_law.specs.Machine.{NoFiles}
@@ -25,12 +25,12 @@ use Rattle.clone_engine.proofs.GoingLemmas.{same_files}
 use Rattle.clone_engine.proofs.ToldLemmas.{of_told}
 use Rattle.clone_sides.specs.Trace.{Entry}
 use Rattle.clone_sides.specs.Answered.{answers, said_of, to_session, told_by}
-use Rattle.clone_sides.specs.Facts.{CountsEarly, FactOf, HasMoment, InLists, IsBare, IsPast, Keeps, Knows, Lists, StandsAt}
+use Rattle.clone_sides.specs.Facts.{FactOf, HasMoment, HasRange, InLists, IsBare, IsPast, Keeps, Kept, Knows, Lists, StandsAt}
 use Rattle.clone_sides.proofs.CallLemmas.{Tells as SameTold, follows_same}
 use Rattle.clone_sides.proofs.CountLemmas.{block_keeps, block_stop}
 use Rattle.clone_sides.proofs.GivenLemmas.{says}
-use Rattle.clone_sides.proofs.KeptLemmas.{Leaves, as_kept, block_leaves, kept_is, keeps_stays, range_stays, redo_stays}
-use Rattle.clone_sides.proofs.KnownLemmas.{Goes, is_answer, knows_goes, moments_stay, told_fact}
+use Rattle.clone_sides.proofs.KeptLemmas.{Leaves, block_leaves, keeps_stays, list_kept, range_stays, redo_stays, same_kept}
+use Rattle.clone_sides.proofs.KnownLemmas.{Goes, is_answer, knows_goes, moments_stay, still_goes, told_fact}
 use Rattle.clone_sides.proofs.MadeLemmas.{Follows, Makes, Spares, bare_before, lists_by, makes_bare, makes_early, makes_late}
 use Rattle.clone_sides.proofs.OptionLemmas.{told_disk}
 use Rattle.clone_sides.proofs.WayLemmas.{IsGiving}
@@ -47,23 +47,12 @@ module _ (number : ℕ) (v t : Donor) (taken news : Taken) (l : Lists) (leaves :
   abbrev GoesTo : StageList → Lists → Type 0
   GoesTo list m = Goes number v t list list taken news l m
 
+  abbrev range_goes : (x y z : ℕ) → HasRange number v.cloning x y z → HasRange number t.cloning x y z
+  range_goes x y z = range_stays v.cloning t.cloning leaves.archive number x y z leaves.stop
+
   spared_goes : (list : StageList) (made : List (ℕ × ℕ)) → (IsPast list → made ≡ l.made) → ((s n : ℕ) (u : Standing) → IsBare (record l { made = made }) s n u → IsBare l s n u) → Spares v t taken news → GoesTo list (record l { made = made })
-  spared_goes list made same bare spares = record {
-    past = λ past. past;
-    before = λ soon. (soon, spares.stop);
-    files = refl;
-    pages = λ past. refl;
-    made = same;
-    bare = λ s n u is. inr (bare s n u is, early s n u);
-    early = λ s n u has. early s n u;
-    late = λ past. spares.counts;
-    range = λ x y z. range_stays v.cloning t.cloning leaves.archive number x y z leaves.stop;
-    redo = redo_stays v.cloning t.cloning leaves.archive;
-  }
-    where
-      early : (s n : ℕ) (u : Standing) → CountsEarly l taken.copies s n u → CountsEarly (record l { made = made }) news.copies s n u
-      early s n u (inl counts) = inl (spares.counts s n u counts)
-      early s n u (inr has) = inr has
+  spared_goes list made same bare spares =
+      still_goes number v t list list taken news l made spares.counts (λ past. past) (λ soon. (soon, spares.stop)) same bare range_goes (redo_stays v.cloning t.cloning leaves.archive)
 
   makes_goes : (spaces : List (ℕ × ℕ)) → l.made ≡ created_since l.files (known_files v.engine) → All (HasPages v.engine.flights.files) l.files → IsTakenIn v.cloning v.engine.buffer.log taken (lists.Files spaces) → Makes v t taken news → GoesTo (lists.Files spaces) (lists_by t l)
   makes_goes spaces made own are makes = record {
@@ -75,7 +64,7 @@ module _ (number : ℕ) (v t : Donor) (taken news : Taken) (l : Lists) (leaves :
     bare = makes_bare v t taken news makes l own v.cloning.tracking.pages are made;
     early = makes_early v t taken news makes l own v.cloning.tracking.pages are;
     late = λ past. absurd past;
-    range = λ x y z. range_stays v.cloning t.cloning leaves.archive number x y z leaves.stop;
+    range = range_goes;
     redo = redo_stays v.cloning t.cloning leaves.archive;
   }
 
@@ -106,37 +95,30 @@ module _ (number : ℕ) (d : Donor) (done : List Entry) (v : Donor) (taken : Tak
   abbrev t : Donor
   t = e.after
 
-  abbrev pub s : Session
-  s = knows.at.session
+  abbrev k : Kept
+  k = (number, knows.list, knows.at.created)
 
-  pub stands_in : v.cloning.session ≡ Some s
-  stands_in = stands_as v.cloning.session number s knows.at.stands
-
-  pub same_session : (other : ℕ) (x : Session) → session_of v.cloning other ≡ Some x → x ≡ s
-  same_session other x is = let both : Some x ≡ Some s = sym (stands_as v.cloning.session other x is) ∙ stands_in in cc
-
-  list_here : list_of v.cloning ≡ Some knows.list
-  list_here = ap (option_map (λ (x : Session). x.snap.list)) stands_in ∙ ap (λ (x : StageList). Some x) knows.at.list_is
+  -- a session of a call is the one that stands
+  pub same_list : (other : ℕ) (x : Session) → session_of v.cloning other ≡ Some x → x.snap.list ≡ knows.list
+  same_list other x is = ap (λ (y : Kept). y.1) (same_kept v.cloning x k (stands_as v.cloning.session other x is) knows.at.stands)
 
   pub taken_in : IsTakenIn v.cloning v.engine.buffer.log taken knows.list
   taken_in =
       let (m, told) = told_disk v.engine.disk.told knows.tells in
-      subst (IsTakenBy v.cloning v.engine.buffer.log taken) list_here (of_told (λ _. IsTakenBy v.cloning v.engine.buffer.log taken (list_of v.cloning)) v.engine.disk.told m told knows.is.stage)
+      subst (IsTakenBy v.cloning v.engine.buffer.log taken) (list_kept v.cloning k knows.at.stands) (of_told (λ _. IsTakenBy v.cloning v.engine.buffer.log taken (list_of v.cloning)) v.engine.disk.told m told knows.is.stage)
 
   own : CopiesOwn v.engine knows.list
-  own = knows.donor.own knows.list list_here
+  own = knows.donor.own knows.list (list_kept v.cloning k knows.at.stands)
 
   -- the session is left where it is
   pub goes_on : (more : List Answer) (news : Taken) → Leaves v.cloning t.cloning → Follows v t taken news → IsTaken t news → SameTold v.engine t.engine
       → ((m : Lists) → StandsAt number t knows.list m → (a : Answer) → Contains more a → FactOf number t.cloning knows.list news.copies m a) → Next number d done e more news
   goes_on more news leaves follows is tells new =
-      let (m, in_lists, goes) = stays_goes number v t taken news l leaves knows.list s.created knows.at.in_lists knows.at.keeps own taken_in follows in
-      let k = as_kept t.cloning number knows.list s.created (leaves.session ∙ kept_is v.cloning number s knows.at.stands ∙ ap (λ (x : StageList). Some (number, x, s.created)) knows.at.list_is) in
+      let (m, in_lists, goes) = stays_goes number v t taken news l leaves knows.list knows.at.created knows.at.in_lists knows.at.keeps own taken_in follows in
       let at : StandsAt number t knows.list m = record {
-        session = k.session;
-        stands = k.stands;
-        list_is = k.list_is;
-        in_lists = subst (λ (c : List (ℕ × ℕ)). InLists knows.list c t.engine m) (sym k.created_is) in_lists;
+        created = knows.at.created;
+        stands = leaves.session ∙ knows.at.stands;
+        in_lists = in_lists;
         keeps = keeps_stays v.cloning t.cloning leaves.archive number knows.list leaves.stop knows.at.keeps;
       } in (
         m,
@@ -171,15 +153,15 @@ module _ (number : ℕ) (d : Donor) (done : List Entry) (v : Donor) (taken : Tak
       left : Leaves v.cloning t.cloning × (t.cloning.archive ≡ v.cloning.archive)
       left = block_leaves v.cloning t.cloning caller chunk block last g.answers
 
+      list_is : g.session.snap.list ≡ knows.list
+      list_is = same_list caller.session g.session g.stands
+
       at_stage : stage ≡ stage_number (lists.stage_of knows.list)
-      at_stage =
-          stage_is v.cloning caller stage chunk block g.session g.stands giving.none
-          ∙ ap (λ (x : Session). stage_number (lists.stage_of x.snap.list)) (same_session caller.session g.session g.stands) ∙ ap (λ (x : StageList). stage_number (lists.stage_of x)) knows.at.list_is
+      at_stage = stage_is v.cloning caller stage chunk block g.session g.stands giving.none ∙ ap (λ (x : StageList). stage_number (lists.stage_of x)) list_is
 
       fact : (m : Lists) → StandsAt number t knows.list m → FactOf number t.cloning knows.list (taken_from read taken).copies m (said_of stage chunk block read)
       fact m at =
           let (disk, there) = told_disk v.engine.disk.told knows.tells in
-          let made = ap (λ (x : Session). lists.block_of x.snap.list chunk block) (sym (same_session caller.session g.made_of.0.0 g.made_of.0.1)) ∙ g.made_of.0.2 in
-          says v t taken m knows.list at.session.created number t.engine at.in_lists knows.at.keeps knows.donor own taken_in disk there left.1 stage chunk block at_stage g.work read
-          (sym (ap (λ (x : StageList). lists.block_of x chunk block) knows.at.list_is) ∙ made) g.made_of.1
-          (subst (λ (x : StageList). IsBlock x v g.work read) (ap (λ (x : Session). x.snap.list) (same_session caller.session g.session g.stands) ∙ knows.at.list_is) g.read)
+          let made = ap (λ (x : StageList). lists.block_of x chunk block) (sym (same_list caller.session g.made_of.0.0 g.made_of.0.1)) ∙ g.made_of.0.2 in
+          says v t taken m knows.list at.created number t.engine at.in_lists knows.at.keeps knows.donor own taken_in disk there left.1 stage chunk block at_stage g.work read
+          made g.made_of.1 (subst (λ (x : StageList). IsBlock x v g.work read) list_is g.read)

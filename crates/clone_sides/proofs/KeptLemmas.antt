@@ -1,8 +1,8 @@
 -- What an act leaves of a donor's clone: its session, the archive and the last stop.
-use Rattle.std.proofs.Common.{◌≡◌, ◌+◌, ◌≤◌, ◌-◌, ◌∙◌, ◌++◌, [], ◌==◌, ℕ, Bool, true, false, cond, if◌then◌else◌, List, length, Option, None, Some, Ok, option_map, refl, sym, ap, subst, arith}
+use Rattle.std.proofs.Common.{◌≡◌, ◌+◌, ◌≤◌, ◌-◌, ◌∙◌, ◌++◌, [], ◌==◌, ℕ, Bool, true, false, if◌then◌else◌, List, length, Option, None, Some, Ok, option_map, refl, sym, ap, subst, arith}
 use Rattle.std.proofs.lemmas.List.{append-nil, drop-append-le, length-append, length-drop, length-take, take-append-le}
 use Rattle.std.specs.Prelude.{take, drop, option_and_then, unwrap_or}
-use Rattle.std.proofs.lemmas.Bool.{eq-eqb, eqb-true}
+use Rattle.std.proofs.lemmas.Bool.{eqb-true}
 use Rattle.clone_archive.specs.Archived.{Archived, archived_of, next_count, until}
 use Rattle.clone_ring.specs.Window.{Window, end_of}
 use Rattle.clone_snapshot.specs.StageLists.{Files, Nothing, Pages, Redo, StageList, block_of}
@@ -12,18 +12,11 @@ use Rattle.clone_session.specs.CloneCauses.{session_of}
 use Rattle.clone_session.specs.declared.caller.Caller.{Caller}
 use Rattle.clone_session.specs.Effects.{Becomes, finished, position_of}
 use Rattle.clone_session.proofs.PartLemmas.{stands_as}
-use Rattle.clone_sides.specs.Facts.{FactRedo, HasRange, Keeps}
+use Rattle.clone_engine.specs.Donor.{list_of}
+use Rattle.clone_sides.specs.Facts.{FactRedo, HasRange, Keeps, Kept, kept, kept_of}
+use Rattle.clone_sides.proofs.OptionLemmas.{same_some}
 
--- a session's number, what its stage copies, and the spaces that were created
-abbrev pub Kept : Type 0
-Kept = ℕ × StageList × List (ℕ × ℕ)
-
-abbrev pub kept : Session → Kept
-kept s = (s.number, s.snap.list, s.created)
-
-abbrev pub kept_of : Cloning → Option Kept
-kept_of c = option_map kept c.session
-
+-- the number of the session that stands
 abbrev pub number_in : Cloning → Option ℕ
 number_in c = option_map (λ (k : Kept). k.0) (kept_of c)
 
@@ -37,29 +30,22 @@ bare_kept (Some s) = refl
 pub becomes_kept : (new old : Cloning) → Becomes new old → kept_of new ≡ kept_of old
 becomes_kept new old is = sym (bare_kept new.session) ∙ ap (λ (c : Cloning). kept_of c) is ∙ bare_kept old.session
 
--- the session of this number stands, with this list
-pub record IsKept (c : Cloning) (number : ℕ) (list : StageList) (created : List (ℕ × ℕ)) : Type 0 where
-  pub session : Session
-  pub stands : session_of c number ≡ Some session
-  pub list_is : session.snap.list ≡ list
-  pub created_is : session.created ≡ created
+pub same_kept : (c : Cloning) (s : Session) (k : Kept) → c.session ≡ Some s → kept_of c ≡ Some k → kept s ≡ k
+same_kept c s k there is = same_some (kept_of c) (kept s) k (ap (option_map kept) there) is
 
-pub as_standing : (c : Cloning) (number : ℕ) (s : Session) → c.session ≡ Some s → s.number ≡ number → session_of c number ≡ Some s
-as_standing c number s there own = ap (option_and_then (λ (t : Session). if t.number == number then Some t else None)) there ∙ ap (λ (b : Bool). cond b (Some s) None) (eq-eqb s.number number own)
-
-pub as_kept : (c : Cloning) (number : ℕ) (list : StageList) (created : List (ℕ × ℕ)) → kept_of c ≡ Some (number, list, created) → IsKept c number list created
-as_kept c number list created is = by c.session is refl
+pub some_session : (c : Cloning) (k : Kept) → kept_of c ≡ Some k → (s : Session) × (c.session ≡ Some s)
+some_session c k is = by c.session is
   where
-    by : (o : Option Session) → option_map kept o ≡ Some (number, list, created) → c.session ≡ o → IsKept c number list created
-    by None is same = absurd (cc)
-    by (Some s) is same =
-        let both : kept s ≡ (number, list, created) = cc in
-        record {
-          session = s;
-          stands = as_standing c number s same (ap (λ (k : Kept). k.0) both);
-          list_is = ap (λ (k : Kept). k.1) both;
-          created_is = ap (λ (k : Kept). k.2) both;
-        }
+    by : (o : Option Session) → option_map kept o ≡ Some k → (s : Session) × (o ≡ Some s)
+    by None is = absurd (cc)
+    by (Some s) is = (s, refl)
+
+pub list_kept : (c : Cloning) (k : Kept) → kept_of c ≡ Some k → list_of c ≡ Some k.1
+list_kept c k is = by c.session is
+  where
+    by : (o : Option Session) → option_map kept o ≡ Some k → option_map (λ (s : Session). s.snap.list) o ≡ Some k.1
+    by None is = absurd (cc)
+    by (Some s) is = let same : kept s ≡ k = cc in ap (λ (x : Kept). Some x.1) same
 
 pub number_is : (c : Cloning) (number : ℕ) (s : Session) → session_of c number ≡ Some s → s.number ≡ number
 number_is c number s is = by c.session is
@@ -72,31 +58,11 @@ number_is c number s is = by c.session is
         at true same is = let one : t ≡ s = cc in sym (ap (λ (x : Session). x.number) one) ∙ eqb-true t.number number same
         at false same is = absurd (cc)
 
-pub kept_is : (c : Cloning) (number : ℕ) (s : Session) → session_of c number ≡ Some s → kept_of c ≡ Some (number, s.snap.list, s.created)
-kept_is c number s is =
-    ap (option_map kept) (stands_as c.session number s is) ∙ ap (λ (n : ℕ). Some (n, s.snap.list, s.created)) (number_is c number s is)
+pub number_there : (c : Cloning) (s : Session) → c.session ≡ Some s → number_in c ≡ Some s.number
+number_there c s there = ap (λ (o : Option Session). option_map (λ (k : Kept). k.0) (option_map kept o)) there
 
--- no session of this number stands
-pub none_kept : (c e : Cloning) (number : ℕ) → number_in e ≡ number_in c → session_of c number ≡ None → session_of e number ≡ None
-none_kept c e number same none = by c.session e.session same none
-  where
-    by : (o p : Option Session) → option_map (λ (k : Kept). k.0) (option_map kept p) ≡ option_map (λ (k : Kept). k.0) (option_map kept o)
-        → option_and_then (λ (t : Session). if t.number == number then Some t else None) o ≡ None
-        → option_and_then (λ (t : Session). if t.number == number then Some t else None) p ≡ None
-    by o None same none = refl
-    by None (Some t) same none = absurd (cc)
-    by (Some s) (Some t) same none = let one : t.number ≡ s.number = cc in at (s.number == number) refl none
-      where
-        at : (b : Bool) → (s.number == number) ≡ b → (if b then Some s else None) ≡ None → (if t.number == number then Some t else None) ≡ None
-        at true is none = absurd (cc)
-        at false is none = ap (λ (b : Bool). cond b (Some t) None) (ap (λ (n : ℕ). n == number) (let one : t.number ≡ s.number = cc in one) ∙ is)
-
-pub no_session : (c : Cloning) (number : ℕ) → kept_of c ≡ None → session_of c number ≡ None
-no_session c number none = by c.session none
-  where
-    by : (o : Option Session) → option_map kept o ≡ None → option_and_then (λ (t : Session). if t.number == number then Some t else None) o ≡ None
-    by None is = refl
-    by (Some s) is = absurd (cc)
+pub number_stands : (c : Cloning) (number : ℕ) (s : Session) → session_of c number ≡ Some s → number_in c ≡ Some number
+number_stands c number s is = number_there c s (stands_as c.session number s is) ∙ ap (λ (n : ℕ). Some n) (number_is c number s is)
 
 -- an archive has got more bytes, if any, and has come past no end
 pub record GrowsTo (a b : Archived) : Type 0 where

@@ -16,16 +16,15 @@ use Rattle.clone_standing.specs.Counting.{Counts}
 use Rattle.clone_standing.specs.Latest.{IsLowRoom}
 use Rattle.clone_session.specs.declared.info.Stop.{Stop}
 use Rattle.clone_session.specs.declared.info.StageInfo.{StageInfo}
-use Rattle.clone_session.specs.Cloning.{Session}
 use Rattle.clone_session.specs.Effects.{Tells, told_of}
-use Rattle.clone_session.proofs.PartLemmas.{stands_as}
 use Rattle.clone_engine.specs.Engine.{Engine}
 use Rattle.clone_engine.specs.Donor.{Donor, IsDonor}
 use Rattle.clone_engine.specs.Taken.{IsTaken, Taken}
 use Rattle.clone_sides.specs.Trace.{Entry}
 use Rattle.clone_sides.specs.Answered.{answered_by, answers, to_session, told_by}
-use Rattle.clone_sides.specs.Facts.{CountsEarly, FactOf, FactRedo, FactTold, HasMoment, HasRange, HasStop, InLists, IsBare, IsBefore, IsEarly, IsLate, IsPast, Keeps, Knows, Lists, StandsAt, places}
+use Rattle.clone_sides.specs.Facts.{CountsEarly, FactOf, FactRedo, FactTold, HasMoment, HasRange, HasStop, InLists, IsBare, IsBefore, IsEarly, IsLate, IsPast, Keeps, Kept, Knows, Lists, StandsAt, kept, places}
 use Rattle.clone_sides.specs.Moment.{StopsAt, first_stop, own_stop}
+use Rattle.clone_sides.proofs.KeptLemmas.{same_kept}
 
 -- what was taken becomes this, with another list and other pages to copy once more
 pub record Goes (number : ℕ) (v t : Donor) (list next : StageList) (taken news : Taken)
@@ -42,6 +41,27 @@ pub record Goes (number : ℕ) (v t : Donor) (list next : StageList) (taken news
   pub late : IsPast list → (s n : ℕ) (u : Standing) → Counts (taken.copies s n) u → Counts (news.copies s n) u
   pub range : (x y z : ℕ) → HasRange number v.cloning x y z → HasRange number t.cloning x y z
   pub redo : (chunk block from : ℕ) (bytes : List ℕ) → FactRedo v.cloning chunk block from bytes → FactRedo t.cloning chunk block from bytes
+
+-- what counted of each page counts still, and no other page is to be copied once more
+module _ (number : ℕ) (v t : Donor) (list next : StageList) (taken news : Taken) (l : Lists) (made : List (ℕ × ℕ)) (counts : (s n : ℕ) (u : Standing) → Counts (taken.copies s n) u → Counts (news.copies s n) u) where
+  still_early : (s n : ℕ) (u : Standing) → CountsEarly l taken.copies s n u → CountsEarly (record l { made = made }) news.copies s n u
+  still_early s n u (inl c) = inl (counts s n u c)
+  still_early s n u (inr has) = inr has
+
+  pub still_goes : (IsPast list → IsPast next) → (IsBefore next → IsBefore list × (news.stop ≡ taken.stop)) → (IsPast list → made ≡ l.made) → ((s n : ℕ) (u : Standing) → IsBare (record l { made = made }) s n u → IsBare l s n u)
+      → ((x y z : ℕ) → HasRange number v.cloning x y z → HasRange number t.cloning x y z) → ((chunk block from : ℕ) (bytes : List ℕ) → FactRedo v.cloning chunk block from bytes → FactRedo t.cloning chunk block from bytes) → Goes number v t list next taken news l (record l { made = made })
+  still_goes past before same bare range redo = record {
+    past = past;
+    before = before;
+    files = refl;
+    pages = λ past. refl;
+    made = same;
+    bare = λ s n u is. inr (bare s n u is, still_early s n u);
+    early = λ s n u has. still_early s n u;
+    late = λ past. counts;
+    range = range;
+    redo = redo;
+  }
 
 module _ (number : ℕ) (v t : Donor) (list next : StageList) (taken news : Taken) (l m : Lists) (goes : Goes number v t list next taken news l m) where
   all_early : (pages : List PageAt) → AllByRecursion (Contains (all_pages (lists.Files l.files))) (places pages) → AllByRecursion (IsEarly l taken.copies) pages → AllByRecursion (IsEarly m news.copies) pages
@@ -105,16 +125,15 @@ pairs_sizes [] = refl
 pairs_sizes (s ∷ ss) = ap (λ (rest : List (ℕ × ℕ)). s ∷ rest) (pairs_sizes ss)
 
 pub told_fact : (t : Donor) (number : ℕ) (list : StageList) (l : Lists) (info : StageInfo) → StandsAt number t list l → Tells t.cloning info → FactTold number t.cloning list l (told_by info.plan)
-told_fact t number list l info at (x, there, is) =
-    let s : Session = at.session in
-    let both : Some x ≡ Some s = sym there ∙ stands_as t.cloning.session number s at.stands in
-    let same : x ≡ s = cc in
-    let info_is : info ≡ told_of t.cloning s list = is ∙ ap (λ (y : Session). told_of t.cloning y y.snap.list) same ∙ ap (told_of t.cloning s) at.list_is in
-    subst (λ (i : StageInfo). FactTold number t.cloning list l (told_by i.plan)) (sym info_is) (by list at.in_lists at.keeps)
+told_fact t number list l info at (s, there, is) =
+    let same : kept s ≡ (number, list, at.created) = same_kept t.cloning s (number, list, at.created) there at.stands in
+    subst (λ (i : StageInfo). FactTold number t.cloning list l (told_by i.plan)) (sym is)
+    (subst (λ (k : Kept). FactTold number t.cloning k.1 l (told_by (told_of t.cloning s s.snap.list).plan)) same
+    (by s.snap.list (subst (λ (k : Kept). InLists k.1 k.2 t.engine l) (sym same) at.in_lists) (subst (λ (k : Kept). Keeps number t.cloning k.1) (sym same) at.keeps)))
   where
-    by : (list : StageList) → InLists list at.session.created t.engine l → Keeps number t.cloning list → FactTold number t.cloning list l (told_by (told_of t.cloning at.session list).plan)
+    by : (list : StageList) → InLists list s.created t.engine l → Keeps number t.cloning list → FactTold number t.cloning list l (told_by (told_of t.cloning s list).plan)
     by (lists.Files spaces) in_lists keeps = pairs_sizes spaces ∙ in_lists.0
-    by (lists.Pages pages) in_lists keeps = (tt, ap length in_lists.0, pairs_sizes at.session.created ∙ in_lists.1)
+    by (lists.Pages pages) in_lists keeps = (tt, ap length in_lists.0, pairs_sizes s.created ∙ in_lists.1)
     by (lists.Redo start end) in_lists keeps = keeps
     by lists.Nothing in_lists keeps = tt
 

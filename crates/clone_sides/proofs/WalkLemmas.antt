@@ -1,10 +1,10 @@
 -- A donor's whole run, act by act: what is known of the session of a number.
-use Rattle.std.proofs.Common.{◌≡◌, ◌∙◌, ◌++◌, ◌⊎◌, ◌∷◌, ◌==◌, [], ℕ, Bool, true, false, cond, if◌then◌else◌, List, Option, None, Some, IsSome, option_map, is_some, refl, sym, ap, subst, inl, inr, append_assoc}
-use Rattle.std.specs.Prelude.{nat_le, option_and_then}
+use Rattle.std.proofs.Common.{◌≡◌, ◌∙◌, ◌++◌, ◌⊎◌, ◌∷◌, ◌==◌, [], ℕ, Bool, true, false, if◌then◌else◌, List, Option, None, Some, IsSome, option_map, is_some, refl, sym, ap, subst, inl, inr, append_assoc}
+use Rattle.std.specs.Prelude.{nat_le}
 use Rattle.std.specs.FinMap as finite
 use Rattle.std.specs.List.{Contains}
 use Rattle.std.specs.Option.{option_map_or}
-use Rattle.std.proofs.lemmas.Bool.{eqb-true, leb-false, true≢false}
+use Rattle.std.proofs.lemmas.Bool.{eqb-true, leb-false, true≢false, eq-eqb}
 use Rattle.std.proofs.lemmas.List.{append-nil}
 use Rattle.std.proofs.lemmas.List.Elements.{Contains-append_cases}
 use Rattle.clone_outside.specs.Disk.{DiskImage}
@@ -23,15 +23,13 @@ use Rattle.clone_accepted.specs.Turns.{InTurn}
 use Rattle.clone_accepted.specs.Whole.{IsWhole}
 use Rattle.clone_standing.specs.Counting.{Counts}
 use Rattle.clone_standing.proofs.PlaceLemmas.{in_joined}
-use Rattle.clone_session.specs.declared.caller.Caller.{Caller}
-use Rattle.clone_calls.specs.declared.block.Block.{Block}
 use Rattle.clone_session.specs.declared.caller.Hello.{Hello}
 use Rattle.clone_session.specs.declared.info.StageInfo.{StageInfo}
 use Rattle.clone_session.specs.declared.ending.Moment.{Moment}
 use Rattle.clone_session.specs.declared.info.Stop.{Stop}
 use Rattle.clone_session.specs.Cloning.{Cloning, Session}
-use Rattle.clone_session.specs.CloneCauses.{donor_stage, session_of}
-use Rattle.clone_session.specs.Effects.{acknowledged, advanced, created_since, left, opened, stopped_at}
+use Rattle.clone_session.specs.CloneCauses.{donor_stage}
+use Rattle.clone_session.specs.Effects.{acknowledged, advanced, created_since, left, opened, stopped_at, Tells as TellsInfo}
 use Rattle.clone_session.proofs.PartLemmas.{stands_as}
 use Rattle.clone_engine.specs.Engine.{Engine}
 use Rattle.clone_engine.specs.Acts.{Act, Acts, after_act}
@@ -42,14 +40,14 @@ use Rattle.clone_engine.specs.Taken.{IsTaken, Taken, nothing}
 use Rattle.clone_engine.proofs.TakenPages.{has_entry}
 use Rattle.clone_sides.specs.Trace.{Entry, Runs, end_of}
 use Rattle.clone_sides.specs.Answered.{Again, Gone, IsOpenedOnce, Phase, Standing, Unopened, WereAnswered, answered_by, answers, ends, opens, phase_after, phase_with, said_of, to_session, told_by}
-use Rattle.clone_sides.specs.Facts.{FactOf, HasStop, IsBare, Knows, Lists, StandsAt}
+use Rattle.clone_sides.specs.Facts.{FactOf, HasStop, IsBare, Knows, Lists, StandsAt, Kept, kept, kept_of}
 use Rattle.clone_sides.specs.Moment.{HoldsStop, first_stop, own_stop}
 use Rattle.clone_sides.proofs.AckLemmas.{acked}
 use Rattle.clone_sides.proofs.ActLemmas.{Next, Stays, given, no_more, quiet, told}
-use Rattle.clone_sides.proofs.KeptLemmas.{Kept, as_kept, as_standing, becomes_kept, block_leaves, kept, kept_of, no_session, none_kept, number_in, number_is}
+use Rattle.clone_sides.proofs.KeptLemmas.{becomes_kept, block_leaves, number_in, Leaves, number_stands, number_there, some_session}
 use Rattle.clone_sides.proofs.KnownLemmas.{answers_more, is_answer, none_more, stop_stays, told_fact}
-use Rattle.clone_sides.proofs.WayLemmas.{Acking, Giving, IsAcking, IsGiving, IsOpening, Leaving, Opening, Quiet, Telling, Way, Went, told_session, went}
-use Rattle.clone_sides.proofs.OptionLemmas.{in_space}
+use Rattle.clone_sides.proofs.WayLemmas.{Acking, Giving, IsOpening, Leaving, Opening, Quiet, Telling, Way, Went, went, told_number}
+use Rattle.clone_sides.proofs.OptionLemmas.{in_space, same_some, two_none}
 use Rattle.clone_sides.proofs.WholeLemmas.{holds}
 
 pub record Walked (number : ℕ) (d : Donor) (done : List Entry) (v : Donor) (taken : Taken) : Type 0 where
@@ -58,9 +56,13 @@ pub record Walked (number : ℕ) (d : Donor) (done : List Entry) (v : Donor) (ta
   pub donor : IsDonor v
   pub tells : IsSome v.engine.disk.told
 
+-- it doesn't stand
+abbrev pub IsAway : ℕ → Cloning → Type 0
+IsAway number c = number_in c ≡ Some number → ⊥
+
 -- nothing was answered to it, and it came to no stop
 pub record IsUnopened (number : ℕ) (done : List Entry) (v : Donor) : Type 0 where
-  pub none : session_of v.cloning number ≡ None
+  pub none : IsAway number v.cloning
   pub unanswered : answers number done ≡ []
   pub first : first_stop number done ≡ None
   pub own : own_stop number v.cloning.stop ≡ None
@@ -73,34 +75,16 @@ Stayed number d done v taken = (l : Lists) × Knows number (answers number done)
 abbrev pub Covers : ℕ → Donor → List Entry → Donor → Taken → Phase → Type 0
 Covers number d done v taken Unopened = IsUnopened number done v
 Covers number d done v taken Standing = Stays number d done v taken
-Covers number d done v taken Gone = (session_of v.cloning number ≡ None) × ((w : Donor) × (was : Taken) × Stayed number d done w was)
+Covers number d done v taken Gone = IsAway number v.cloning × ((w : Donor) × (was : Taken) × Stayed number d done w was)
 Covers number d done v taken Again = Unit {0}
 
 -- A SESSION THAT DOESN'T STAND isn't answered.
 
-not_standing : (c : Cloning) (number : ℕ) (s : Session) → c.session ≡ Some s → (s.number == number) ≡ false → session_of c number ≡ None
-not_standing c number s there other = ap (option_and_then (λ (t : Session). if t.number == number then Some t else None)) there ∙ ap (λ (b : Bool). cond b (Some s) None) other
+away_kept : (number : ℕ) (c e : Cloning) → number_in e ≡ number_in c → IsAway number c → IsAway number e
+away_kept number c e same away is = away (sym same ∙ is)
 
-contradicts : (c : Cloning) (number : ℕ) (s : Session) → session_of c number ≡ None → session_of c number ≡ Some s → ⊥
-contradicts c number s none some = let both : None ≡ Some s = sym none ∙ some in cc
-
--- an acknowledgement leaves the session's number
-advanced_number : (now : Moment) (files : List (ℕ × ℕ)) (s : Session) (list : StageList) (c : Cloning) → c.session ≡ Some s → number_in (advanced now files s list c) ≡ number_in c
-advanced_number now files s list c there = by list ∙ sym (ap (λ (o : Option Session). option_map (λ (k : Kept). k.0) (option_map kept o)) there)
-  where
-    by : (list : StageList) → number_in (advanced now files s list c) ≡ Some s.number
-    by (lists.Files spaces) = refl
-    by (lists.Pages pages) = at c.archive
-      where
-        at : (o : Option Archived) → number_in (option_map_or (λ a. stopped_at now s a c) o c) ≡ Some s.number
-        at None = ap (λ (o : Option Session). option_map (λ (k : Kept). k.0) (option_map kept o)) there
-        at (Some a) = refl
-    by (lists.Redo start end) = refl
-    by lists.Nothing = ap (λ (o : Option Session). option_map (λ (k : Kept). k.0) (option_map kept o)) there
-
-acked_number : (own : Bool) (now : Moment) (files : List (ℕ × ℕ)) (s : Session) (c : Cloning) → c.session ≡ Some s → number_in (if own then advanced now files s s.snap.list c else c) ≡ number_in c
-acked_number true now files s c there = advanced_number now files s s.snap.list c there
-acked_number false now files s c there = refl
+away_none : (number : ℕ) (c : Cloning) → kept_of c ≡ None → IsAway number c
+away_none number c none is = two_none (number_in c) number (ap (option_map (λ (k : Kept). k.0)) none) is
 
 -- the stop of another session is none of this one
 other_stop : (number : ℕ) (stop : Stop) → (stop.session ≡ number → ⊥) → own_stop number (Some stop) ≡ None
@@ -110,19 +94,27 @@ other_stop number stop other = by (stop.session == number) refl
     by true is = absurd (other (eqb-true stop.session number is))
     by false is = refl
 
-acked_stop : (number : ℕ) (own : Bool) (now : Moment) (files : List (ℕ × ℕ)) (s : Session) (c : Cloning) → (s.number ≡ number → ⊥) → own_stop number c.stop ≡ None → own_stop number (if own then advanced now files s s.snap.list c else c).stop ≡ None
-acked_stop number true now files s c other none = by s.snap.list
-  where
-    at : (o : Option Archived) → own_stop number (option_map_or (λ a. stopped_at now s a c) o c).stop ≡ None
-    at None = none
-    at (Some a) = other_stop number (record { session = s.number; position = now.position; drops = now.drops }) other
+-- an acknowledgement of another session leaves that session's number, and comes to no stop of this
+module _ (number : ℕ) (now : Moment) (files : List (ℕ × ℕ)) (s : Session) (c : Cloning) (there : c.session ≡ Some s) (other : s.number ≡ number → ⊥) where
+  abbrev LeavesOther : Cloning → Type 0
+  LeavesOther e = (number_in e ≡ number_in c) × (own_stop number c.stop ≡ None → own_stop number e.stop ≡ None)
 
-    by : (list : StageList) → own_stop number (advanced now files s list c).stop ≡ None
-    by (lists.Files spaces) = none
-    by (lists.Pages pages) = at c.archive
-    by (lists.Redo start end) = none
-    by lists.Nothing = none
-acked_stop number false now files s c other none = none
+  number_now : Some s.number ≡ number_in c
+  number_now = sym (number_there c s there)
+
+  advanced_other : (list : StageList) → LeavesOther (advanced now files s list c)
+  advanced_other (lists.Files spaces) = (number_now, λ none. none)
+  advanced_other (lists.Pages pages) = by c.archive
+    where
+      by : (o : Option Archived) → LeavesOther (option_map_or (λ a. stopped_at now s a c) o c)
+      by None = (refl, λ none. none)
+      by (Some a) = (number_now, λ none. other_stop number (record { session = s.number; position = now.position; drops = now.drops }) other)
+  advanced_other (lists.Redo start end) = (number_now, λ none. none)
+  advanced_other lists.Nothing = (refl, λ none. none)
+
+  acked_other : (own : Bool) → LeavesOther (if own then advanced now files s s.snap.list c else c)
+  acked_other true = advanced_other s.snap.list
+  acked_other false = (refl, λ none. none)
 
 none_to : (number session : ℕ) (answer : Answer) → (session ≡ number → ⊥) → to_session number session answer ≡ []
 none_to number session answer other = by (session == number) refl
@@ -131,54 +123,51 @@ none_to number session answer other = by (session == number) refl
     by true is = absurd (other (eqb-true session number is))
     by false is = refl
 
-none_number : (c e : Cloning) (number : ℕ) → kept_of e ≡ kept_of c → session_of c number ≡ None → session_of e number ≡ None
-none_number c e number same none = none_kept c e number (ap (option_map (λ (k : Kept). k.0)) same) none
+module _ (number : ℕ) (v t : Donor) (away : IsAway number v.cloning) (a : Act) where
+  abbrev IsOwnNone : Type 0
+  IsOwnNone = own_stop number v.cloning.stop ≡ None → own_stop number t.cloning.stop ≡ None
 
-module _ (number : ℕ) (v t : Donor) (none : session_of v.cloning number ≡ None) (a : Act) where
-  abbrev Absent : Type 0
-  Absent = (answered_by number a ≡ []) × (session_of t.cloning number ≡ None) × (own_stop number v.cloning.stop ≡ None → own_stop number t.cloning.stop ≡ None)
+  pub record Absent : Type 0 where
+    pub silent : answered_by number a ≡ []
+    pub away_still : IsAway number t.cloning
+    pub own_still : own_stop number v.cloning.stop ≡ None → own_stop number t.cloning.stop ≡ None
 
-  same_stop : t.cloning.stop ≡ v.cloning.stop → own_stop number v.cloning.stop ≡ None → own_stop number t.cloning.stop ≡ None
-  same_stop same own = ap (own_stop number) same ∙ own
+  -- it is as before
+  left_away : Leaves v.cloning t.cloning → IsAway number t.cloning × IsOwnNone
+  left_away leaves = (away_kept number v.cloning t.cloning (ap (option_map (λ (k : Kept). k.0)) leaves.session) away, λ own. ap (own_stop number) leaves.stop ∙ own)
 
-  absent_acked : (caller : Caller) (stage floor : ℕ) (info : StageInfo) → IsAcking a v t caller stage floor info → Absent
-  absent_acked caller stage floor info acking =
-      let did = acking.acks.acknowledges in
-      let now = moment_of v.engine in
-      let files = known_files v.engine in
-      let there = stands_as v.cloning.session caller.session did.0 did.1 in
-      let gone = none_kept v.cloning t.cloning number (ap (option_map (λ (k : Kept). k.0)) (becomes_kept t.cloning (acknowledged now files stage did.0 v.cloning) did.2) ∙ acked_number (stage == donor_stage did.0) now files did.0 v.cloning there) none in (
-        ap (answered_by number) acking.is ∙ none_to number info.session (Stage (told_by info.plan)) (λ own. contradicts t.cloning number did.3.0 gone (as_standing t.cloning number did.3.0 did.3.1 (sym (told_session t.cloning info did.3) ∙ own))),
-        gone,
-        λ own. ap (λ (c : Cloning). own_stop number c.stop) did.2 ∙ acked_stop number (stage == donor_stage did.0) now files did.0 v.cloning (λ same. contradicts v.cloning number did.0 none (as_standing v.cloning number did.0 there same)) own,
-      )
-
-  absent_given : (caller : Caller) (stage chunk block : ℕ) (read : Block) (last : Bool) → IsGiving a v t caller stage chunk block read last → Absent
-  absent_given caller stage chunk block read last giving =
-      let g = giving.gives in
-      let left = (block_leaves v.cloning t.cloning caller chunk block last g.answers).0 in (
-        ap (answered_by number) giving.is ∙ none_to number caller.session (said_of stage chunk block read) (λ own. contradicts v.cloning number g.session none (subst (λ (n : ℕ). session_of v.cloning n ≡ Some g.session) own g.stands)),
-        none_number v.cloning t.cloning number left.session none,
-        same_stop left.stop,
-      )
+  -- what is told of a session that isn't this one
+  told_away : (info : StageInfo) → TellsInfo t.cloning info → IsAway number t.cloning → to_session number info.session (Stage (told_by info.plan)) ≡ []
+  told_away info tells gone = none_to number info.session (Stage (told_by info.plan)) (λ same. gone (told_number t.cloning info tells ∙ ap (λ (n : ℕ). Some n) same))
 
   absent : opens number a ≡ false → Way a v t → Absent
-  absent other (Quiet q) = (q.silent number, none_number v.cloning t.cloning number q.leaves.session none, same_stop q.leaves.stop)
-  absent other (Telling info q) =
-      let gone = none_number v.cloning t.cloning number q.leaves.session none in (
-        q.says number ∙ none_to number info.session (Stage (told_by info.plan)) (λ own. contradicts t.cloning number q.tells.0 gone (as_standing t.cloning number q.tells.0 q.tells.1 (sym (told_session t.cloning info q.tells) ∙ own))),
-        gone,
-        same_stop q.leaves.stop,
-      )
+  absent other (Quiet q) = (let left = left_away q.leaves in record { silent = q.silent number; away_still = left.0; own_still = left.1 })
+  absent other (Telling info q) = (let left = left_away q.leaves in record { silent = q.says number ∙ told_away info q.tells left.0; away_still = left.0; own_still = left.1 })
   absent other (Opening hello info q) =
-      let off : (info.session == number) ≡ false = ap (opens number) (sym q.is) ∙ other in (
-        ap (answered_by number) q.is ∙ ap (λ (b : Bool). if b then Stage (told_by info.plan) ∷ [] else []) off,
-        not_standing t.cloning number q.tells.0 q.tells.1 (ap (λ (n : ℕ). n == number) (sym (told_session t.cloning info q.tells)) ∙ off),
-        same_stop (ap (λ (c : Cloning). c.stop) q.becomes),
-      )
-  absent other (Giving caller stage chunk block read last q) = absent_given caller stage chunk block read last q
-  absent other (Acking caller stage floor info q) = absent_acked caller stage floor info q
-  absent other (Leaving q) = (q.silent number, no_session t.cloning number (becomes_kept t.cloning (left v.cloning) q.becomes), same_stop (ap (λ (c : Cloning). c.stop) q.becomes))
+      let off : (info.session == number) ≡ false = ap (opens number) (sym q.is) ∙ other in
+      record {
+        silent = ap (answered_by number) q.is ∙ ap (λ (b : Bool). if b then Stage (told_by info.plan) ∷ [] else []) off;
+        away_still = λ is. true≢false (sym (eq-eqb info.session number (same_some (number_in t.cloning) info.session number (told_number t.cloning info q.tells) is)) ∙ off);
+        own_still = λ own. ap (λ (c : Cloning). own_stop number c.stop) q.becomes ∙ own;
+      }
+  absent other (Giving caller stage chunk block read last q) =
+      let left = left_away (block_leaves v.cloning t.cloning caller chunk block last q.gives.answers).0 in
+      record {
+        silent = ap (answered_by number) q.is ∙ none_to number caller.session (said_of stage chunk block read) (λ same. away (number_stands v.cloning caller.session q.gives.session q.gives.stands ∙ ap (λ (n : ℕ). Some n) same));
+        away_still = left.0;
+        own_still = left.1;
+      }
+  absent other (Acking caller stage floor info q) =
+      let did = q.acks.acknowledges in
+      let there = stands_as v.cloning.session caller.session did.0 did.1 in
+      let left = acked_other number (moment_of v.engine) (known_files v.engine) did.0 v.cloning there (λ same. away (number_there v.cloning did.0 there ∙ ap (λ (n : ℕ). Some n) same)) (stage == donor_stage did.0) in
+      let gone = away_kept number v.cloning t.cloning (ap (option_map (λ (k : Kept). k.0)) (becomes_kept t.cloning (acknowledged (moment_of v.engine) (known_files v.engine) stage did.0 v.cloning) did.2) ∙ left.0) away in
+      record { silent = ap (answered_by number) q.is ∙ told_away info did.3 gone; away_still = gone; own_still = λ own. ap (λ (c : Cloning). own_stop number c.stop) did.2 ∙ left.1 own }
+  absent other (Leaving q) = record {
+    silent = q.silent number;
+    away_still = away_none number t.cloning (becomes_kept t.cloning (left v.cloning) q.becomes);
+    own_still = λ own. ap (λ (c : Cloning). own_stop number c.stop) q.becomes ∙ own;
+  }
 
 -- A SESSION IS OPENED: each page of the donor's files is to be read, and of others what stands bare
 -- counts.
@@ -236,14 +225,11 @@ module _ (number : ℕ) (d : Donor) (done : List Entry) (v : Donor) (taken : Tak
       let list = lists.Files (known_files v.engine) in
       let l : Lists = record { files = known_files v.engine; pages = []; made = created_since (known_files v.engine) (known_files t.engine) } in
       let same : news ≡ after = ap (λ (a : Act). after_act a v t taken) q.is ∙ ap (λ (o : Option Session). taken_at v t o taken) q.none in
-      let k = as_kept t.cloning hello.session list [] (becomes_kept t.cloning (opened hello (known_files v.engine) q.in_flight v.cloning) q.becomes) in
-      let both : Some q.tells.0 ≡ Some k.session = sym q.tells.1 ∙ stands_as t.cloning.session hello.session k.session k.stands in
-      let told_is : q.tells.0 ≡ k.session = cc in
-      let asked : hello.session ≡ number = sym (number_is t.cloning hello.session k.session k.stands) ∙ sym (ap (λ (x : Session). x.number) told_is) ∙ sym (told_session t.cloning info q.tells) ∙ own in
+      let kept_now = becomes_kept t.cloning (opened hello (known_files v.engine) q.in_flight v.cloning) q.becomes in
+      let asked : hello.session ≡ number = same_some (number_in t.cloning) hello.session info.session (ap (option_map (λ (k : Kept). k.0)) kept_now) (told_number t.cloning info q.tells) ∙ own in
       let at : StandsAt number t list l = record {
-        session = k.session;
-        stands = subst (λ (n : ℕ). session_of t.cloning n ≡ Some k.session) asked k.stands;
-        list_is = k.list_is;
+        created = [];
+        stands = kept_now ∙ ap (λ (n : ℕ). Some (n, list, [])) asked;
         in_lists = (refl, refl, refl);
         keeps = ap (λ (c : Cloning). c.archive) q.becomes;
       } in
@@ -271,8 +257,7 @@ module _ (number : ℕ) (d : Donor) (done : List Entry) (v : Donor) (taken : Tak
   opened_by : IsUnopened number done v → opens number e.act ≡ true → Way e.act v t → Stays number d more t news
   opened_by un own (Quiet q) = absurd (true≢false (sym own ∙ q.neither.opens_none number))
   opened_by un own (Telling info q) =
-      absurd (contradicts t.cloning number q.tells.0 (none_number v.cloning t.cloning number q.leaves.session un.none)
-      (as_standing t.cloning number q.tells.0 q.tells.1 (sym (told_session t.cloning info q.tells) ∙ q.opens_own number own)))
+      absurd (un.none (sym (ap (option_map (λ (k : Kept). k.0)) q.leaves.session) ∙ told_number t.cloning info q.tells ∙ ap (λ (n : ℕ). Some n) (q.opens_own number own)))
   opened_by un own (Opening hello info q) = opens_now hello info q (eqb-true info.session number (ap (opens number) (sym q.is) ∙ own)) un
   opened_by un own (Giving caller stage chunk block read last q) = absurd (true≢false (sym own ∙ ap (opens number) q.is))
   opened_by un own (Acking caller stage floor info q) = absurd (true≢false (sym own ∙ ap (opens number) q.is))
@@ -282,18 +267,23 @@ module _ (number : ℕ) (d : Donor) (done : List Entry) (v : Donor) (taken : Tak
   unopened : IsUnopened number done v → (b : Bool) → opens number e.act ≡ b → Covers number d more t news (if b then Standing else Unopened)
   unopened un true is = opened_by un is w.way
   unopened un false is =
-      let (silent, none, own) = absent number v t un.none e.act is w.way in
-      let still = own un.own in
-      record { none = none; unanswered = answers_more number done e ∙ ap (λ (x : List Answer). x ++ answered_by number e.act) un.unanswered ∙ silent; first = none_more number done e un.first still; own = still }
+      let away = absent number v t un.none e.act is w.way in
+      let own = away.own_still un.own in
+      record {
+        none = away.away_still;
+        unanswered = answers_more number done e ∙ ap (λ (x : List Answer). x ++ answered_by number e.act) un.unanswered ∙ away.silent;
+        first = none_more number done e un.first own;
+        own = own;
+      }
 
   gone : Covers number d done v taken Gone → (b : Bool) → opens number e.act ≡ b → Covers number d more t news (if b then Again else Gone)
   gone known true is = tt
-  gone (none, (x, was, known)) false is = (let away = absent number v t none e.act is w.way in (away.1, (x, was, stays_known away.0 x was known)))
+  gone (none, (x, was, known)) false is = (let away = absent number v t none e.act is w.way in (away.away_still, (x, was, stays_known away.silent x was known)))
 
   stands_by : Stays number d done v taken → ends e.act ≡ false → Way e.act v t → Stays number d more t news
-  stands_by (l, knows, moments) still (Quiet q) = now [] news (q.silent number) refl (quiet number d done v taken e l knows moments acts.donor news q.leaves (q.follows knows.at.session (stands_as v.cloning.session number knows.at.session knows.at.stands) taken) taken_now w.tells)
+  stands_by (l, knows, moments) still (Quiet q) = (let here = some_session v.cloning (number, knows.list, knows.at.created) knows.at.stands in now [] news (q.silent number) refl (quiet number d done v taken e l knows moments acts.donor news q.leaves (q.follows here.0 here.1 taken) taken_now w.tells))
   stands_by (l, knows, moments) still (Telling info q) = now (to_session number info.session (Stage (told_by info.plan))) taken (q.says number) (q.news taken) (told number d done v taken e l knows moments acts.donor info q.leaves (ap (λ (x : Engine). x.flights.files) q.same) (subst (IsTaken t) (q.news taken) taken_now) w.tells q.tells)
-  stands_by (l, knows, moments) still (Opening hello info q) = absurd (let wrong : None ≡ Some knows.at.session = sym q.none ∙ stands_as v.cloning.session number knows.at.session knows.at.stands in cc)
+  stands_by (l, knows, moments) still (Opening hello info q) = (let here = some_session v.cloning (number, knows.list, knows.at.created) knows.at.stands in absurd (two_none v.cloning.session here.0 q.none here.1))
   stands_by (l, knows, moments) still (Giving caller stage chunk block read last q) =
       let same : news ≡ taken_from read taken = ap (λ (a : Act). after_act a v t taken) q.is in
       now (to_session number caller.session (said_of stage chunk block read)) (taken_from read taken) (ap (answered_by number) q.is) same (given number d done v taken e l knows moments acts.donor caller stage chunk block read last q (subst (IsTaken t) same taken_now) w.tells)
@@ -308,7 +298,7 @@ module _ (number : ℕ) (d : Donor) (done : List Entry) (v : Donor) (taken : Tak
   left_by known over (Opening hello info q) = absurd (true≢false (sym over ∙ ap ends q.is))
   left_by known over (Giving caller stage chunk block read last q) = absurd (true≢false (sym over ∙ ap ends q.is))
   left_by known over (Acking caller stage floor info q) = absurd (true≢false (sym over ∙ ap ends q.is))
-  left_by known over (Leaving q) = (no_session t.cloning number (becomes_kept t.cloning (left v.cloning) q.becomes), (v, taken, stays_known (q.silent number) v taken (known.0, known.1, known.2.late)))
+  left_by known over (Leaving q) = (away_none number t.cloning (becomes_kept t.cloning (left v.cloning) q.becomes), (v, taken, stays_known (q.silent number) v taken (known.0, known.1, known.2.late)))
 
   standing : Stays number d done v taken → (b : Bool) → ends e.act ≡ b → Covers number d more t news (if b then Gone else Standing)
   standing known true is = left_by known is w.way
@@ -344,7 +334,7 @@ pub moment : (number : ℕ) (d : Donor) (trace : List Entry) (items : List Item)
     → InTurn 0 items → WereAnswered number trace items → IsWhole items end.checkpoint end.lsn end.position → IsEnd end → m.spaces ≡ finite.empty → HoldsStop number d trace end (laid items m)
 moment number d trace items end m is none unstopped donor tells run once turn answered whole ranges empty =
     let walked : Walked number d [] d nothing = record { here = refl; is = is; donor = donor; tells = tells } in
-    let start : Covers number d [] d nothing Unopened = record { none = ap (option_and_then (λ (t : Session). if t.number == number then Some t else None)) none; unanswered = refl; first = refl; own = unstopped } in
+    let start : Covers number d [] d nothing Unopened = record { none = away_none number d.cloning (ap (option_map kept) none); unanswered = refl; first = refl; own = unstopped } in
     by (phase_after number Unopened trace) refl (walk number d trace [] d nothing Unopened walked start run)
   where
     known : (v : Donor) (taken : Taken) → Stayed number d trace v taken → HoldsStop number d trace end (laid items m)

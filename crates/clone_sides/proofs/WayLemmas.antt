@@ -33,7 +33,7 @@ use Rattle.clone_engine.specs.Engine.{Engine}
 use Rattle.clone_engine.specs.Taken.{Taken}
 use Rattle.clone_sides.specs.Answered.{answered_by, ends, opens, to_session, told_by}
 use Rattle.clone_sides.proofs.CallLemmas.{Lengthens, Tells, call_leaves, follows_call, follows_same, leaves_same_donor, lengthens_none}
-use Rattle.clone_sides.proofs.KeptLemmas.{Leaves, leaves_archived, leaves_as, leaves_becomes, leaves_same, leaves_session, session_left}
+use Rattle.clone_sides.proofs.KeptLemmas.{Leaves, leaves_archived, leaves_as, leaves_becomes, leaves_same, leaves_session, session_left, number_in, number_there}
 use Rattle.clone_sides.proofs.MadeLemmas.{Follows}
 
 -- it opens no session, and ends none
@@ -90,8 +90,8 @@ pub data Way (a : Act) (d t : Donor) : Type 0 where
 
 -- WHAT IS TOLD OF THE STAGE is told of the session that stands.
 
-pub told_session : (c : Cloning) (info : StageInfo) → (tells : TellsInfo c info) → info.session ≡ tells.0.number
-told_session c info (s, there, is) = ap (λ (i : StageInfo). i.session) is
+pub told_number : (c : Cloning) (info : StageInfo) → TellsInfo c info → number_in c ≡ Some info.session
+told_number c info (s, there, is) = number_there c s there ∙ ap (λ (i : StageInfo). Some i.session) (sym is)
 
 -- AN ACT, with whether the disk tells and what becomes of the history
 pub record Went (a : Act) (d t : Donor) : Type 0 where

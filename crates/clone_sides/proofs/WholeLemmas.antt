@@ -1,6 +1,6 @@
 -- What a recipient accepted, where each item was answered and all of it is whole, is a complete
 -- clone of what the donor gave.
-use Rattle.std.proofs.Common.{◌≡◌, ◌<◌, ◌≤◌, ◌+◌, ◌*◌, ◌-◌, ◌/◌, ◌%◌, ◌⊎◌, ◌∙◌, ◌∷◌, [], ℕ, zero, suc, List, length, None, Some, option_map, refl, sym, ap, subst, arith, inl, inr}
+use Rattle.std.proofs.Common.{◌≡◌, ◌<◌, ◌≤◌, ◌+◌, ◌*◌, ◌-◌, ◌/◌, ◌%◌, ◌⊎◌, ◌∙◌, ◌∷◌, [], ℕ, zero, suc, List, length, None, Some, refl, sym, ap, subst, arith, inl, inr}
 use Rattle.std.specs.Prelude.{IfSome, false, min, take, drop, unwrap_or, option_and_then, slice_get}
 use Rattle.std.specs.declared.option.Option.{Option}
 use Rattle.std.specs.FinMap as finite
@@ -47,11 +47,10 @@ use Rattle.clone_engine.specs.Taken.{HasStopped, IsTakenBy, IsTakenIn, Taken}
 use Rattle.clone_engine.proofs.MomentLemmas as law
 use Rattle.clone_engine.proofs.ToldLemmas.{of_told}
 use Rattle.clone_flush.specs.Flights.{IsFlown}
-use Rattle.clone_session.specs.Cloning.{Session}
-use Rattle.clone_session.proofs.PartLemmas.{stands_as}
 use Rattle.clone_sides.specs.Trace.{Entry}
 use Rattle.clone_sides.specs.Facts.{CountsEarly, FactOf, FactPages, FactRedo, FactTold, HasStop, HasRange, IsBare, IsEarly, IsLate, Keeps, Knows, Lists, places}
 use Rattle.clone_sides.specs.Moment.{HoldsStop}
+use Rattle.clone_sides.proofs.KeptLemmas.{list_kept}
 use Rattle.clone_sides.proofs.OptionLemmas.{in_space, same_some, told_disk, two_none}
 
 all_items : (P : Item → Type 0) (items : List Item) → ((item : Item) → Contains items item → P item) → AllByRecursion P items
@@ -268,11 +267,8 @@ module _ (number : ℕ) (done : List Answer) (v : Donor) (taken : Taken) (l : Li
   disk = told_disk v.engine.disk.told knows.tells
 
   has : HasStopped v.cloning v.engine.buffer.log taken a
-  has = by list knows.at.keeps (subst (IsTakenBy v.cloning v.engine.buffer.log taken) list_here (of_told (λ _. IsTakenBy v.cloning v.engine.buffer.log taken (list_of v.cloning)) v.engine.disk.told disk.0 disk.1 knows.is.stage))
+  has = by list knows.at.keeps (subst (IsTakenBy v.cloning v.engine.buffer.log taken) (list_kept v.cloning (number, list, knows.at.created) knows.at.stands) (of_told (λ _. IsTakenBy v.cloning v.engine.buffer.log taken (list_of v.cloning)) v.engine.disk.told disk.0 disk.1 knows.is.stage))
     where
-      list_here : list_of v.cloning ≡ Some list
-      list_here = ap (option_map (λ (x : Session). x.snap.list)) (stands_as v.cloning.session number knows.at.session knows.at.stands) ∙ ap (λ (x : StageList). Some x) knows.at.list_is
-
       by : (x : StageList) → Keeps number v.cloning x → IsTakenIn v.cloning v.engine.buffer.log taken x → HasStopped v.cloning v.engine.buffer.log taken a
       by (lists.Files spaces) none are = absurd (two_none v.cloning.archive a none range.stands)
       by (lists.Pages pages) (b, there, unended) are = absurd (two_none b.stop lsn unended (ap (λ (x : Archived). x.stop) (same_some v.cloning.archive b a there range.stands) ∙ range.end))

@@ -1,5 +1,6 @@
 -- What is known of a session from its answers, of the donor alone, at some moment of its run.
-use Rattle.std.specs.Prelude.{ℕ, ◌≡◌, ◌≤◌, ◌+◌, ◌-◌, ◌⊎◌, List, [], length, take, drop, map, Contains, IsSome, None, Some}
+use Rattle.std.specs.Prelude.{ℕ, ◌≡◌, ◌≤◌, ◌+◌, ◌-◌, ◌⊎◌, List, [], length, take, drop, map, Contains, IsSome, None, Some, option_map}
+use Rattle.std.specs.declared.option.Option.{Option}
 use Rattle.std.specs.List.{AllByRecursion}
 use Rattle.clone_image.specs.Redone.{Standing, no_space, past_end, stands}
 use Rattle.clone_law.specs.Touches.{Lax}
@@ -13,7 +14,6 @@ use Rattle.clone_standing.specs.Counting.{Counts}
 use Rattle.clone_standing.specs.Latest.{IsLow, IsLowRoom, made_standing}
 use Rattle.clone_session.specs.declared.info.Stop.{Stop}
 use Rattle.clone_session.specs.Cloning.{Cloning, Session}
-use Rattle.clone_session.specs.CloneCauses.{session_of}
 use Rattle.clone_session.specs.Effects.{created_since, position_of}
 use Rattle.clone_engine.specs.Engine.{Engine}
 use Rattle.clone_engine.specs.Donor.{Donor, IsDonor, known_files}
@@ -126,12 +126,21 @@ FactOf number c list copies l (PageBlock stage chunk block pages) =
 FactOf number c list copies l (RedoBlock chunk block from bytes) =
     FactRedo c chunk block from bytes
 
+-- a session's number, what its stage copies, and the spaces that were created
+abbrev pub Kept : Type 0
+Kept = ℕ × StageList × List (ℕ × ℕ)
+
+abbrev pub kept : Session → Kept
+kept s = (s.number, s.snap.list, s.created)
+
+abbrev pub kept_of : Cloning → Option Kept
+kept_of c = option_map kept c.session
+
 -- where a session has come to
 pub record StandsAt (number : ℕ) (v : Donor) (list : StageList) (l : Lists) : Type 0 where
-  pub session : Session
-  pub stands : session_of v.cloning number ≡ Some session
-  pub list_is : session.snap.list ≡ list
-  pub in_lists : InLists list session.created v.engine l
+  pub created : List (ℕ × ℕ)
+  pub stands : kept_of v.cloning ≡ Some (number, list, created)
+  pub in_lists : InLists list created v.engine l
   pub keeps : Keeps number v.cloning list
 
 -- WHAT IS KNOWN of a session that stands, by what was answered to it
