@@ -35,7 +35,7 @@ use Rattle.clone_engine.specs.Taken.{HasStopped, IsTaken, IsTakenBy, IsTakenIn, 
 use Rattle.clone_engine.proofs.ToldLemmas.{of_told}
 use Rattle.clone_sides.specs.Trace.{Entry, end_of}
 use Rattle.clone_sides.specs.Answered.{answers, to_session, told_by}
-use Rattle.clone_sides.specs.Facts.{CountsEarly, HasMoment, InLists, IsBefore, IsPast, Keeps, Kept, Knows, Lists, StandsAt, kept, kept_of}
+use Rattle.clone_sides.specs.Facts.{CountsEarly, HasMoment, InLists, IsBefore, IsPast, Keeps, Kept, Knows, Lists, ComesTo, kept, kept_of}
 use Rattle.clone_sides.specs.Moment.{StopsAt, first_stop, own_stop}
 use Rattle.clone_sides.proofs.ActLemmas.{Next, taken_in, told, told_more}
 use Rattle.clone_sides.proofs.CallLemmas.{Tells as SameTold}
@@ -89,7 +89,7 @@ module _ (number : ℕ) (d : Donor) (done : List Entry) (v : Donor) (taken : Tak
   abbrev did : Acknowledges now files caller.session stage v.cloning t.cloning info
   did = acking.acks.acknowledges
 
-  -- the session that is acknowledged is the one that stands
+  -- the session that is acknowledged is the open one
   abbrev s : Session
   s = did.0
 
@@ -97,7 +97,7 @@ module _ (number : ℕ) (d : Donor) (done : List Entry) (v : Donor) (taken : Tak
   stands_here = stands_as v.cloning.session caller.session s did.1
 
   kept_is : kept s ≡ (number, knows.list, knows.at.created)
-  kept_is = same_kept v.cloning s (number, knows.list, knows.at.created) stands_here knows.at.stands
+  kept_is = same_kept v.cloning s (number, knows.list, knows.at.created) stands_here knows.at.session
 
   list_is : s.snap.list ≡ knows.list
   list_is = ap (λ (k : Kept). k.1) kept_is
@@ -116,7 +116,7 @@ module _ (number : ℕ) (d : Donor) (done : List Entry) (v : Donor) (taken : Tak
   stays same is = told number d done v taken e l knows moments donor info (leaves_becomes v.cloning t.cloning same) (ap (λ (x : Engine). x.flights.files) acking.acks.settles) is told_same did.3
 
   -- the session's stage is over, and this one begins
-  comes : (next : StageList) (m : Lists) (list : StageList) → knows.list ≡ list → StandsAt number t next m → (IsPast next → AllByRecursion IsLowRoom m.made) → (news : Taken) → Goes number v t list next taken news l m → IsTaken t news → HasMoment number d (done ++ e ∷ []) t news → Acked news
+  comes : (next : StageList) (m : Lists) (list : StageList) → knows.list ≡ list → ComesTo number t next m → (IsPast next → AllByRecursion IsLowRoom m.made) → (news : Taken) → Goes number v t list next taken news l m → IsTaken t news → HasMoment number d (done ++ e ∷ []) t news → Acked news
   comes next m list is at low news goes is_taken had = (
     m,
     knows_goes number (answers number done) (to_session number info.session (Stage (told_by info.plan))) v t taken news l m knows next (subst (λ (x : StageList). Goes number v t x next taken news l m) (sym is) goes) at is_taken donor (told_same ∙ knows.tells) low
@@ -125,8 +125,8 @@ module _ (number : ℕ) (d : Donor) (done : List Entry) (v : Donor) (taken : Tak
   )
 
   -- it stands there
-  stands_at : (next : StageList) (created : List (ℕ × ℕ)) (m : Lists) → kept_of t.cloning ≡ Some (s.number, next, created) → InLists next created t.engine m → Keeps number t.cloning next → StandsAt number t next m
-  stands_at next created m kept in_lists keeps = record { created = created; stands = kept ∙ ap (λ (n : ℕ). Some (n, next, created)) own_number; in_lists = in_lists; keeps = keeps }
+  stands_at : (next : StageList) (created : List (ℕ × ℕ)) (m : Lists) → kept_of t.cloning ≡ Some (s.number, next, created) → InLists next created t.engine m → Keeps number t.cloning next → ComesTo number t next m
+  stands_at next created m kept in_lists keeps = record { created = created; session = kept ∙ ap (λ (n : ℕ). Some (n, next, created)) own_number; in_lists = in_lists; keeps = keeps }
 
   -- THE COPY OF FILES is over.
   files_over_now : (spaces : List (ℕ × ℕ)) → knows.list ≡ lists.Files spaces → Becomes t.cloning (files_ended now (created_since spaces files) s v.cloning) → IsTaken t (taken_over v.engine (lists.Files spaces) taken) → Acked (taken_over v.engine (lists.Files spaces) taken)

@@ -1,4 +1,4 @@
--- What is known of a session that stands goes on over each act that leaves it where it is.
+-- What is known of an open session goes on over each act that leaves it where it is.
 use Rattle.std.proofs.Common.{◌≡◌, ◌∙◌, ◌++◌, ◌∷◌, [], ℕ, Bool, List, Some, refl, sym, ap, subst, arith, inl, inr}
 use Rattle.std.specs.List.{All, AllByRecursion, Contains}
 use Rattle.clone_image.specs.Redone.{Standing}
@@ -25,7 +25,7 @@ use Rattle.clone_engine.proofs.GoingLemmas.{same_files}
 use Rattle.clone_engine.proofs.ToldLemmas.{of_told}
 use Rattle.clone_sides.specs.Trace.{Entry}
 use Rattle.clone_sides.specs.Answered.{answers, said_of, to_session, told_by}
-use Rattle.clone_sides.specs.Facts.{FactOf, HasMoment, HasRange, InLists, IsBare, IsPast, Keeps, Kept, Knows, Lists, StandsAt}
+use Rattle.clone_sides.specs.Facts.{FactOf, HasMoment, HasRange, InLists, IsBare, IsPast, Keeps, Kept, Knows, Lists, ComesTo}
 use Rattle.clone_sides.proofs.CallLemmas.{Tells as SameTold, follows_same}
 use Rattle.clone_sides.proofs.CountLemmas.{block_keeps, block_stop}
 use Rattle.clone_sides.proofs.GivenLemmas.{says}
@@ -83,7 +83,7 @@ module _ (number : ℕ) (v t : Donor) (taken news : Taken) (l : Lists) (leaves :
   stays_goes (lists.Redo start end) created in_lists range own are follows = late_goes (lists.Redo start end) created in_lists (λ s n. subst NoFiles (sym ((are range.archive range.stands).copies s n).1) tt) follows
   stays_goes lists.Nothing created in_lists (start, end, range) own are follows = late_goes lists.Nothing created in_lists (λ s n. subst NoFiles (sym ((are range.archive range.stands).copies s n).1) tt) follows
 
--- THE STATE of a session that stands
+-- THE STATE of an open session
 abbrev pub Stays : ℕ → Donor → List Entry → Donor → Taken → Type 0
 Stays number d done v taken = (l : Lists) × Knows number (answers number done) v taken l × HasMoment number d done v taken
 
@@ -98,26 +98,26 @@ module _ (number : ℕ) (d : Donor) (done : List Entry) (v : Donor) (taken : Tak
   abbrev k : Kept
   k = (number, knows.list, knows.at.created)
 
-  -- a session of a call is the one that stands
+  -- the session of a call is the open one
   pub same_list : (other : ℕ) (x : Session) → session_of v.cloning other ≡ Some x → x.snap.list ≡ knows.list
-  same_list other x is = ap (λ (y : Kept). y.1) (same_kept v.cloning x k (stands_as v.cloning.session other x is) knows.at.stands)
+  same_list other x is = ap (λ (y : Kept). y.1) (same_kept v.cloning x k (stands_as v.cloning.session other x is) knows.at.session)
 
   pub taken_in : IsTakenIn v.cloning v.engine.buffer.log taken knows.list
   taken_in =
       let (m, told) = told_disk v.engine.disk.told knows.tells in
-      subst (IsTakenBy v.cloning v.engine.buffer.log taken) (list_kept v.cloning k knows.at.stands) (of_told (λ _. IsTakenBy v.cloning v.engine.buffer.log taken (list_of v.cloning)) v.engine.disk.told m told knows.is.stage)
+      subst (IsTakenBy v.cloning v.engine.buffer.log taken) (list_kept v.cloning k knows.at.session) (of_told (λ _. IsTakenBy v.cloning v.engine.buffer.log taken (list_of v.cloning)) v.engine.disk.told m told knows.is.stage)
 
   own : CopiesOwn v.engine knows.list
-  own = knows.donor.own knows.list (list_kept v.cloning k knows.at.stands)
+  own = knows.donor.own knows.list (list_kept v.cloning k knows.at.session)
 
   -- the session is left where it is
   pub goes_on : (more : List Answer) (news : Taken) → Leaves v.cloning t.cloning → Follows v t taken news → IsTaken t news → SameTold v.engine t.engine
-      → ((m : Lists) → StandsAt number t knows.list m → (a : Answer) → Contains more a → FactOf number t.cloning knows.list news.copies m a) → Next number d done e more news
+      → ((m : Lists) → ComesTo number t knows.list m → (a : Answer) → Contains more a → FactOf number t.cloning knows.list news.copies m a) → Next number d done e more news
   goes_on more news leaves follows is tells new =
       let (m, in_lists, goes) = stays_goes number v t taken news l leaves knows.list knows.at.created knows.at.in_lists knows.at.keeps own taken_in follows in
-      let at : StandsAt number t knows.list m = record {
+      let at : ComesTo number t knows.list m = record {
         created = knows.at.created;
-        stands = leaves.session ∙ knows.at.stands;
+        session = leaves.session ∙ knows.at.session;
         in_lists = in_lists;
         keeps = keeps_stays v.cloning t.cloning leaves.archive number knows.list leaves.stop knows.at.keeps;
       } in (
@@ -131,7 +131,7 @@ module _ (number : ℕ) (d : Donor) (done : List Entry) (v : Donor) (taken : Tak
   quiet news leaves follows is tells = goes_on [] news leaves follows is tells (λ m at. no_more (λ a. FactOf number t.cloning knows.list news.copies m a))
 
   -- what is told fits
-  pub told_more : (info : StageInfo) (news : Taken) (list : StageList) (m : Lists) → StandsAt number t list m → TellsInfo t.cloning info → (a : Answer) → Contains (to_session number info.session (Stage (told_by info.plan))) a → FactOf number t.cloning list news.copies m a
+  pub told_more : (info : StageInfo) (news : Taken) (list : StageList) (m : Lists) → ComesTo number t list m → TellsInfo t.cloning info → (a : Answer) → Contains (to_session number info.session (Stage (told_by info.plan))) a → FactOf number t.cloning list news.copies m a
   told_more info news list m at tells a has =
       subst (FactOf number t.cloning list news.copies m) (is_answer number info.session (Stage (told_by info.plan)) a has) (told_fact t number list m info at tells)
 
@@ -159,7 +159,7 @@ module _ (number : ℕ) (d : Donor) (done : List Entry) (v : Donor) (taken : Tak
       at_stage : stage ≡ stage_number (lists.stage_of knows.list)
       at_stage = stage_is v.cloning caller stage chunk block g.session g.stands giving.none ∙ ap (λ (x : StageList). stage_number (lists.stage_of x)) list_is
 
-      fact : (m : Lists) → StandsAt number t knows.list m → FactOf number t.cloning knows.list (taken_from read taken).copies m (said_of stage chunk block read)
+      fact : (m : Lists) → ComesTo number t knows.list m → FactOf number t.cloning knows.list (taken_from read taken).copies m (said_of stage chunk block read)
       fact m at =
           let (disk, there) = told_disk v.engine.disk.told knows.tells in
           let made = ap (λ (x : StageList). lists.block_of x chunk block) (sym (same_list caller.session g.made_of.0.0 g.made_of.0.1)) ∙ g.made_of.0.2 in

@@ -1,11 +1,8 @@
 -- What a call of the engine leaves of a donor: its clone, its history, and its files.
-use Rattle.std.proofs.Common.{◌≡◌, ◌++◌, ◌∷◌, [], ◌+◌, ℕ, Bool, true, false, if◌then◌else◌, List, length, Option, None, Some, Result, Ok, Err, is_some, nat_lt, refl, sym, ap, subst, arith, inl, inr, ◌∙◌, ◌⊎◌}
+use Rattle.std.proofs.Common.{◌≡◌, ◌+◌, ℕ, Bool, true, false, if◌then◌else◌, Option, None, Some, Result, Ok, Err, is_some, nat_lt, refl, sym, ap, subst, arith, inl, inr, ◌∙◌, ◌⊎◌}
 use Rattle.std.specs.FinMap as finite
 use Rattle.std.proofs.lemmas.Bool.{and_parts, cases_eq, leb-true, true≢false}
-use Rattle.std.proofs.lemmas.List.{append-nil}
 use Rattle.clone_image.proofs.Images.{get-put_other, get-put_same}
-use Rattle.clone_model.specs.History.{Drops}
-use Rattle.clone_model.specs.declared.change.Commit.{Commit}
 use Rattle.clone_model.specs.declared.line.TheConstants.{MOST_PAGES}
 use Rattle.clone_pool.specs.declared.frame.PageName.{PageName}
 use Rattle.clone_flush.specs.Calls.{Begins, Halves, Lands, State, ends_short, lengthened, new_write, with_write}
@@ -15,8 +12,6 @@ use Rattle.clone_flush.specs.declared.refusal.FlushRefusal.{FlushRefusal}
 use Rattle.clone_flush.specs.declared.refusal.FlushRefusal.TheVariants as flush
 use Rattle.clone_plain.specs.Calls.{Does, cause_of}
 use Rattle.clone_plain.specs.Causes.{drop_cause}
-use Rattle.clone_plain.specs.Donor as plain
-use Rattle.clone_plain.specs.Effects.{Undoes, dropped}
 use Rattle.clone_plain.specs.declared.call.EngineAnswer.{EngineAnswer}
 use Rattle.clone_plain.specs.declared.call.EngineAnswer.TheVariants as answers
 use Rattle.clone_plain.specs.declared.call.EngineCall.{EngineCall}
@@ -24,8 +19,6 @@ use Rattle.clone_plain.specs.declared.call.EngineCall.TheVariants as call
 use Rattle.clone_plain.specs.declared.refusal.Cause.{Cause}
 use Rattle.clone_plain.specs.declared.refusal.EngineRefusal.{EngineRefusal}
 use Rattle.clone_plain.specs.declared.refusal.EngineRefusal.TheVariants as engine
-use Rattle.clone_plain.specs.declared.refusal.Undone.{Undone}
-use Rattle.clone_plain.specs.declared.refusal.Undone.TheVariants.{Ended, Left}
 use Rattle.clone_trx.specs.Calls.{create_way}
 use Rattle.clone_trx.specs.Ways.{Answers, CarriesDrop, Way}
 use Rattle.clone_session.specs.Cloning.{Cloning, Session}
@@ -41,6 +34,7 @@ use Rattle.clone_engine.specs.Taken.{Taken}
 use Rattle.clone_engine.proofs.GoingLemmas.{same_files}
 use Rattle.clone_sides.proofs.CountLemmas.{begun_counts}
 use Rattle.clone_sides.proofs.KeptLemmas.{Leaves, leaves_as, leaves_becomes, leaves_same}
+use Rattle.clone_sides.proofs.HistoryLemmas.{Lengthens, does_lengthens, drop_lengthens, lengthens_none}
 use Rattle.clone_sides.proofs.MadeLemmas.{Follows, Spares}
 
 looks : (s t : Engine) (did : EngineAnswer) → Looks s t did → t ≡ s
@@ -51,96 +45,35 @@ ends : (s t : Engine) (did : EngineAnswer) → Ends s t did → t ≡ s
 ends s t (answers.End lsn) is = is.1
 ends s t did is = absurd is
 
--- WHETHER THE DISK TELLS what it holds
+-- whether the disk tells what it holds
 abbrev pub Tells : Engine → Engine → Type 0
 Tells s t = is_some t.disk.told ≡ is_some s.disk.told
 
-steps_tells : (call : EngineCall) (d : Donor) (e : Engine) (answer : Result EngineAnswer EngineRefusal) → ServesAs call d e answer → Tells d.engine e
-steps_tells (call.Create table buckets) d e answer steps = steps.disk.visits.tells
-steps_tells (call.Drop table) d e answer steps = steps.disk.visits.tells
-steps_tells (call.Begin writer index) d e answer steps = steps.disk.visits.tells
-steps_tells (call.Put trx table key value) d e answer steps = steps.disk.visits.tells
-steps_tells (call.Delete trx table key) d e answer steps = steps.disk.visits.tells
-steps_tells (call.Get trx table key) d e answer steps = steps.disk.visits.tells
-steps_tells (call.UndoOne trx) d e answer steps = steps.disk.visits.tells
-steps_tells (call.Commit trx) d e answer steps = steps.disk.visits.tells
-steps_tells (call.FlushBegin space page) d e answer steps = steps.disk.visits.tells
-steps_tells (call.FlushHalf space page) d e answer steps = steps.disk.visits.tells
-steps_tells (call.FlushLand space page) d e answer steps = steps.disk.visits.tells
-steps_tells call.OldestDirty d e (Ok did) steps = ap (λ (x : Engine). is_some x.disk.told) (looks d.engine e did steps)
-steps_tells call.OldestDirty d e (Err refusal) steps = absurd steps
-steps_tells call.Checkpoint d e (Ok (answers.Checkpoint lsn)) steps = ap (λ (k : DiskState). is_some k.told) steps.disk
-steps_tells call.Checkpoint d e answer steps = absurd steps
-steps_tells call.End d e (Ok did) steps = ap (λ (x : Engine). is_some x.disk.told) (ends d.engine e did steps)
-steps_tells call.End d e (Err refusal) steps = absurd steps
+-- WHAT A STEP LEAVES of an engine
+record StepLeaves (s t : Engine) : Type 0 where
+  tells : Tells s t
+  lengthens : Lengthens s.donor t.donor
 
--- THE HISTORY only gets longer.
-pub record Lengthens (old new : plain.Donor) : Type 0 where
-  pub commits : List Commit
-  pub binlog : new.binlog ≡ old.binlog ++ commits
-  pub dropped : Drops
-  pub drops : new.drops ≡ old.drops ++ dropped
-
-pub lengthens_same : (d e : plain.Donor) → e.binlog ≡ d.binlog → e.drops ≡ d.drops → Lengthens d e
-lengthens_same d e binlog drops = record { commits = []; binlog = binlog ∙ sym (append-nil d.binlog); dropped = []; drops = drops ∙ sym (append-nil d.drops) }
-
-pub lengthens_none : (d e : plain.Donor) → e ≡ d → Lengthens d e
-lengthens_none d e is = lengthens_same d e (ap (λ (x : plain.Donor). x.binlog) is) (ap (λ (x : plain.Donor). x.drops) is)
-
-lengthens_as : (d like e : plain.Donor) → like.binlog ≡ d.binlog → like.drops ≡ d.drops → e ≡ like → Lengthens d e
-lengthens_as d like e binlog drops is = lengthens_same d e (ap (λ (x : plain.Donor). x.binlog) is ∙ binlog) (ap (λ (x : plain.Donor). x.drops) is ∙ drops)
-
-drop_lengthens : (d e : plain.Donor) (table : ℕ) → e ≡ dropped table d → Lengthens d e
-drop_lengthens d e table is = record {
-  commits = [];
-  binlog = ap (λ (x : plain.Donor). x.binlog) is ∙ sym (append-nil d.binlog);
-  dropped = (length d.binlog, table) ∷ [];
-  drops = ap (λ (x : plain.Donor). x.drops) is;
-}
-
-undoes_lengthens : (d e : plain.Donor) (trx : ℕ) (undone : Undone) → Undoes d trx undone e → Lengthens d e
-undoes_lengthens d e trx (Left left) is = lengthens_as d _ e refl refl is.is
-undoes_lengthens d e trx Ended is = lengthens_as d _ e refl refl is.is
-
-does_lengthens : (asked : EngineCall) (did : EngineAnswer) (d e : plain.Donor) → Does d asked did e → Lengthens d e
-does_lengthens (call.Create table buckets) answers.Create d e is = lengthens_as d _ e refl refl is
-does_lengthens (call.Drop table) answers.Drop d e is = drop_lengthens d e table is
-does_lengthens (call.Begin writer index) (answers.Begin trx) d e is = lengthens_as d _ e refl refl is.1
-does_lengthens (call.Put trx table key value) answers.Put d e is = lengthens_as d _ e refl refl is.is
-does_lengthens (call.Delete trx table key) answers.Delete d e is = lengthens_as d _ e refl refl is.is
-does_lengthens (call.Get trx table key) (answers.Get value) d e is = lengthens_none d e is
-does_lengthens (call.UndoOne trx) (answers.UndoOne undone) d e is = undoes_lengthens d e trx undone is
-does_lengthens (call.Commit trx) (answers.Commit position) d e is = record {
-  commits = is.commit ∷ [];
-  binlog = ap (λ (x : plain.Donor). x.binlog) is.is;
-  dropped = [];
-  drops = ap (λ (x : plain.Donor). x.drops) is.is ∙ sym (append-nil d.drops);
-}
-does_lengthens (call.FlushBegin space page) answers.FlushBegin d e is = lengthens_none d e is
-does_lengthens (call.FlushHalf space page) answers.FlushHalf d e is = lengthens_none d e is
-does_lengthens (call.FlushLand space page) answers.FlushLand d e is = lengthens_none d e is
-does_lengthens call.OldestDirty (answers.OldestDirty page) d e is = lengthens_none d e is
-does_lengthens call.Checkpoint (answers.Checkpoint lsn) d e is = lengthens_none d e is
-does_lengthens call.End (answers.End lsn) d e is = lengthens_none d e is
-does_lengthens asked did d e is = absurd is
+step_none : (s t : Engine) → t ≡ s → StepLeaves s t
+step_none s t same = record { tells = ap (λ (e : Engine). is_some e.disk.told) same; lengthens = lengthens_none s.donor t.donor (ap (λ (e : Engine). e.donor) same) }
 
 -- a call that goes its way
-answers_lengthen : (asked : EngineCall) (o : Option Cause) (w : Way) (s t : Engine) (answer : Result EngineAnswer EngineRefusal) → Answers o w s.donor t.donor s.buffer t.buffer answer (Did asked s t) → Lengthens s.donor t.donor
-answers_lengthen asked (Some cause) w s t answer (is, same, rest) = lengthens_none s.donor t.donor same
-answers_lengthen asked None w s t (Ok did) (goes, done) = does_lengthens asked did s.donor t.donor done.does
-answers_lengthen asked None w s t (Err refusal) (goes, same) = lengthens_none s.donor t.donor same
-
-goes_lengthens : (asked : EngineCall) (s t : Engine) (answer : Result EngineAnswer EngineRefusal) → Transacts asked s t answer → Lengthens s.donor t.donor
-goes_lengthens asked s t answer transacts = by answer transacts.goes
+transacts_leave : (asked : EngineCall) (s t : Engine) (answer : Result EngineAnswer EngineRefusal) → Transacts asked s t answer → StepLeaves s t
+transacts_leave asked s t answer transacts = record { tells = transacts.disk.visits.tells; lengthens = by answer transacts.goes }
   where
-    by : (answer : Result EngineAnswer EngineRefusal) → Goes asked s t answer → Lengthens s.donor t.donor
-    by (Ok did) goes = answers_lengthen asked (cause_of s.donor asked) (way_of s.donor asked) s t (Ok did) goes
-    by (Err (engine.Because cause)) goes = answers_lengthen asked (cause_of s.donor asked) (way_of s.donor asked) s t (Err (engine.Because cause)) goes
-    by (Err engine.NoMemory) (inl same) = lengthens_none s.donor t.donor (ap (λ (e : Engine). e.donor) same)
-    by (Err engine.NoMemory) (inr goes) = answers_lengthen asked (cause_of s.donor asked) (way_of s.donor asked) s t (Err engine.NoMemory) goes
+    way : (o : Option Cause) (w : Way) (answer : Result EngineAnswer EngineRefusal) → Answers o w s.donor t.donor s.buffer t.buffer answer (Did asked s t) → Lengthens s.donor t.donor
+    way (Some cause) w answer (is, same, rest) = lengthens_none s.donor t.donor same
+    way None w (Ok did) (goes, done) = does_lengthens asked did s.donor t.donor done.does
+    way None w (Err refusal) (goes, same) = lengthens_none s.donor t.donor same
 
-drops_lengthen : (table : ℕ) (s t : Engine) (answer : Result EngineAnswer EngineRefusal) → steps.Drops table s t answer → Lengthens s.donor t.donor
-drops_lengthen table s t answer drops = by (drop_cause s.donor table) drops.answers
+    by : (answer : Result EngineAnswer EngineRefusal) → Goes asked s t answer → Lengthens s.donor t.donor
+    by (Ok did) goes = way (cause_of s.donor asked) (way_of s.donor asked) (Ok did) goes
+    by (Err (engine.Because cause)) goes = way (cause_of s.donor asked) (way_of s.donor asked) (Err (engine.Because cause)) goes
+    by (Err engine.NoMemory) (inl same) = lengthens_none s.donor t.donor (ap (λ (e : Engine). e.donor) same)
+    by (Err engine.NoMemory) (inr goes) = way (cause_of s.donor asked) (way_of s.donor asked) (Err engine.NoMemory) goes
+
+drops_leave : (table : ℕ) (s t : Engine) (answer : Result EngineAnswer EngineRefusal) → steps.Drops table s t answer → StepLeaves s t
+drops_leave table s t answer drops = record { tells = drops.disk.visits.tells; lengthens = by (drop_cause s.donor table) drops.answers }
   where
     gone : (answer : Result EngineAnswer EngineRefusal) → CarriesDrop table s.donor t.donor s.buffer t.buffer answer → Lengthens s.donor t.donor
     gone (Ok did) is = drop_lengthens s.donor t.donor table is
@@ -152,24 +85,27 @@ drops_lengthen table s t answer drops = by (drop_cause s.donor table) drops.answ
     by None (inl (flies, is, same)) = lengthens_none s.donor t.donor (ap (λ (e : Engine). e.donor) same)
     by None (inr goes) = gone answer goes.donor
 
-steps_lengthen : (asked : EngineCall) (d : Donor) (e : Engine) (answer : Result EngineAnswer EngineRefusal) → ServesAs asked d e answer → Lengthens d.engine.donor e.donor
-steps_lengthen (call.Create table buckets) d e answer is = goes_lengthens (call.Create table buckets) d.engine e answer is
-steps_lengthen (call.Drop table) d e answer is = drops_lengthen table d.engine e answer is
-steps_lengthen (call.Begin writer index) d e answer is = goes_lengthens (call.Begin writer index) d.engine e answer is
-steps_lengthen (call.Put trx table key value) d e answer is = goes_lengthens (call.Put trx table key value) d.engine e answer is
-steps_lengthen (call.Delete trx table key) d e answer is = goes_lengthens (call.Delete trx table key) d.engine e answer is
-steps_lengthen (call.Get trx table key) d e answer is = goes_lengthens (call.Get trx table key) d.engine e answer is
-steps_lengthen (call.UndoOne trx) d e answer is = goes_lengthens (call.UndoOne trx) d.engine e answer is
-steps_lengthen (call.Commit trx) d e answer is = goes_lengthens (call.Commit trx) d.engine e answer is
-steps_lengthen (call.FlushBegin space page) d e answer is = lengthens_none d.engine.donor e.donor is.donor
-steps_lengthen (call.FlushHalf space page) d e answer is = lengthens_none d.engine.donor e.donor is.donor
-steps_lengthen (call.FlushLand space page) d e answer is = lengthens_none d.engine.donor e.donor is.donor
-steps_lengthen call.OldestDirty d e (Ok did) is = lengthens_none d.engine.donor e.donor (ap (λ (x : Engine). x.donor) (looks d.engine e did is))
-steps_lengthen call.OldestDirty d e (Err refusal) is = absurd is
-steps_lengthen call.Checkpoint d e (Ok (answers.Checkpoint lsn)) is = lengthens_none d.engine.donor e.donor is.donor
-steps_lengthen call.Checkpoint d e answer is = absurd is
-steps_lengthen call.End d e (Ok did) is = lengthens_none d.engine.donor e.donor (ap (λ (x : Engine). x.donor) (ends d.engine e did is))
-steps_lengthen call.End d e (Err refusal) is = absurd is
+flushes_leave : (did : EngineAnswer) (s t : Engine) (answer : Result EngineAnswer EngineRefusal) (Flies : Result (Unit {0}) FlushRefusal → Type 0) → steps.Flushes did s t answer Flies → StepLeaves s t
+flushes_leave did s t answer Flies flushes = record { tells = flushes.disk.visits.tells; lengthens = lengthens_none s.donor t.donor flushes.donor }
+
+steps_leave : (asked : EngineCall) (d : Donor) (e : Engine) (answer : Result EngineAnswer EngineRefusal) → ServesAs asked d e answer → StepLeaves d.engine e
+steps_leave (call.Create table buckets) d e answer is = transacts_leave (call.Create table buckets) d.engine e answer is
+steps_leave (call.Drop table) d e answer is = drops_leave table d.engine e answer is
+steps_leave (call.Begin writer index) d e answer is = transacts_leave (call.Begin writer index) d.engine e answer is
+steps_leave (call.Put trx table key value) d e answer is = transacts_leave (call.Put trx table key value) d.engine e answer is
+steps_leave (call.Delete trx table key) d e answer is = transacts_leave (call.Delete trx table key) d.engine e answer is
+steps_leave (call.Get trx table key) d e answer is = transacts_leave (call.Get trx table key) d.engine e answer is
+steps_leave (call.UndoOne trx) d e answer is = transacts_leave (call.UndoOne trx) d.engine e answer is
+steps_leave (call.Commit trx) d e answer is = transacts_leave (call.Commit trx) d.engine e answer is
+steps_leave (call.FlushBegin space page) d e answer is = flushes_leave answers.FlushBegin d.engine e answer _ is
+steps_leave (call.FlushHalf space page) d e answer is = flushes_leave answers.FlushHalf d.engine e answer _ is
+steps_leave (call.FlushLand space page) d e answer is = flushes_leave answers.FlushLand d.engine e answer _ is
+steps_leave call.OldestDirty d e (Ok did) is = step_none d.engine e (looks d.engine e did is)
+steps_leave call.OldestDirty d e (Err refusal) is = absurd is
+steps_leave call.Checkpoint d e (Ok (answers.Checkpoint lsn)) is = record { tells = ap (λ (k : DiskState). is_some k.told) is.disk; lengthens = lengthens_none d.engine.donor e.donor is.donor }
+steps_leave call.Checkpoint d e answer is = absurd is
+steps_leave call.End d e (Ok did) is = step_none d.engine e (ends d.engine e did is)
+steps_leave call.End d e (Err refusal) is = absurd is
 
 -- THE FILES, and what counts of their pages
 
@@ -319,8 +255,8 @@ module _ (d t : Donor) where
   serves_leave : (asked : EngineCall) (answer : Result EngineAnswer EngineRefusal) → Serves asked d t answer → CallLeaves d t
   serves_leave asked answer did = record {
     leaves = leaves_noted asked answer d.cloning t.cloning did.cloning;
-    tells = steps_tells asked d t.engine answer did.steps;
-    lengthens = steps_lengthen asked d t.engine answer did.steps;
+    tells = (steps_leave asked d t.engine answer did.steps).tells;
+    lengthens = (steps_leave asked d t.engine answer did.steps).lengthens;
   }
 
   pub call_leaves : (asked : EngineCall) (answer : Result EngineAnswer EngineRefusal) → AnswersCall asked d t answer → CallLeaves d t

@@ -16,7 +16,7 @@ use Rattle.clone_engine.specs.Donor.{list_of}
 use Rattle.clone_sides.specs.Facts.{FactRedo, HasRange, Keeps, Kept, kept, kept_of}
 use Rattle.clone_sides.proofs.OptionLemmas.{same_some}
 
--- the number of the session that stands
+-- the number of the session that is open
 abbrev pub number_in : Cloning → Option ℕ
 number_in c = option_map (λ (k : Kept). k.0) (kept_of c)
 

@@ -22,7 +22,7 @@ use Rattle.clone_engine.specs.Donor.{Donor, IsDonor}
 use Rattle.clone_engine.specs.Taken.{IsTaken, Taken}
 use Rattle.clone_sides.specs.Trace.{Entry}
 use Rattle.clone_sides.specs.Answered.{answered_by, answers, to_session, told_by}
-use Rattle.clone_sides.specs.Facts.{CountsEarly, FactOf, FactRedo, FactTold, HasMoment, HasRange, HasStop, InLists, IsBare, IsBefore, IsEarly, IsLate, IsPast, Keeps, Kept, Knows, Lists, StandsAt, kept, places}
+use Rattle.clone_sides.specs.Facts.{CountsEarly, FactOf, FactRedo, FactTold, HasMoment, HasRange, HasStop, InLists, IsBare, IsBefore, IsEarly, IsLate, IsPast, Keeps, Kept, Knows, Lists, ComesTo, kept, places}
 use Rattle.clone_sides.specs.Moment.{StopsAt, first_stop, own_stop}
 use Rattle.clone_sides.proofs.KeptLemmas.{same_kept}
 
@@ -102,7 +102,7 @@ module _ (number : ℕ) (done more : List Answer) (v t : Donor) (taken news : Ta
       by (inl counts) = inr counts
       by (inr (was, keep)) = still keep (knows.unread s n u was)
 
-  pub knows_goes : StandsAt number t next m → IsTaken t news → IsDonor t → IsSome t.engine.disk.told → (IsPast next → AllByRecursion IsLowRoom m.made) → ((a : Answer) → Contains more a → FactOf number t.cloning next news.copies m a) → Knows number (done ++ more) t news m
+  pub knows_goes : ComesTo number t next m → IsTaken t news → IsDonor t → IsSome t.engine.disk.told → (IsPast next → AllByRecursion IsLowRoom m.made) → ((a : Answer) → Contains more a → FactOf number t.cloning next news.copies m a) → Knows number (done ++ more) t news m
   knows_goes at is donor tells low new = record {
     list = next;
     at = at;
@@ -124,9 +124,9 @@ pairs_sizes : (spaces : List (ℕ × ℕ)) → pairs_of (sizes_of spaces) ≡ sp
 pairs_sizes [] = refl
 pairs_sizes (s ∷ ss) = ap (λ (rest : List (ℕ × ℕ)). s ∷ rest) (pairs_sizes ss)
 
-pub told_fact : (t : Donor) (number : ℕ) (list : StageList) (l : Lists) (info : StageInfo) → StandsAt number t list l → Tells t.cloning info → FactTold number t.cloning list l (told_by info.plan)
+pub told_fact : (t : Donor) (number : ℕ) (list : StageList) (l : Lists) (info : StageInfo) → ComesTo number t list l → Tells t.cloning info → FactTold number t.cloning list l (told_by info.plan)
 told_fact t number list l info at (s, there, is) =
-    let same : kept s ≡ (number, list, at.created) = same_kept t.cloning s (number, list, at.created) there at.stands in
+    let same : kept s ≡ (number, list, at.created) = same_kept t.cloning s (number, list, at.created) there at.session in
     subst (λ (i : StageInfo). FactTold number t.cloning list l (told_by i.plan)) (sym is)
     (subst (λ (k : Kept). FactTold number t.cloning k.1 l (told_by (told_of t.cloning s s.snap.list).plan)) same
     (by s.snap.list (subst (λ (k : Kept). InLists k.1 k.2 t.engine l) (sym same) at.in_lists) (subst (λ (k : Kept). Keeps number t.cloning k.1) (sym same) at.keeps)))

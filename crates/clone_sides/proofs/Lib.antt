@@ -3,6 +3,7 @@ pub mod KeptLemmas
 pub mod MadeLemmas
 pub mod CountLemmas
 pub mod LowLemmas
+pub mod HistoryLemmas
 pub mod CallLemmas
 pub mod WayLemmas
 pub mod KnownLemmas

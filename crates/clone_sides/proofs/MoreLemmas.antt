@@ -14,7 +14,7 @@ use Rattle.clone_engine.specs.Engine.{Engine}
 use Rattle.clone_sides.specs.Trace.{Entry, Runs, end_of}
 use Rattle.clone_sides.specs.Answered.{Phase, WereAnswered, answered_by, answers, phase_after, phase_with}
 use Rattle.clone_sides.specs.Moment.{HasGoneOn, StopsAt}
-use Rattle.clone_sides.proofs.CallLemmas.{Lengthens, lengthens_none}
+use Rattle.clone_sides.proofs.HistoryLemmas.{Lengthens, lengthens_none}
 use Rattle.clone_sides.proofs.KnownLemmas.{answers_more}
 use Rattle.clone_sides.proofs.WayLemmas.{went}
 

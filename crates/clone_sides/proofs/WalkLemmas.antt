@@ -39,8 +39,8 @@ use Rattle.clone_engine.specs.Donor.{Donor, IsDonor, known_files}
 use Rattle.clone_engine.specs.Taken.{IsTaken, Taken, nothing}
 use Rattle.clone_engine.proofs.TakenPages.{has_entry}
 use Rattle.clone_sides.specs.Trace.{Entry, Runs, end_of}
-use Rattle.clone_sides.specs.Answered.{Again, Gone, IsOpenedOnce, Phase, Standing, Unopened, WereAnswered, answered_by, answers, ends, opens, phase_after, phase_with, said_of, to_session, told_by}
-use Rattle.clone_sides.specs.Facts.{FactOf, HasStop, IsBare, Knows, Lists, StandsAt, Kept, kept, kept_of}
+use Rattle.clone_sides.specs.Answered.{Again, Gone, IsOpenedOnce, Phase, Open, Unopened, WereAnswered, answered_by, answers, ends, opens, phase_after, phase_with, said_of, to_session, told_by}
+use Rattle.clone_sides.specs.Facts.{FactOf, HasStop, IsBare, Knows, Lists, ComesTo, Kept, kept, kept_of}
 use Rattle.clone_sides.specs.Moment.{HoldsStop, first_stop, own_stop}
 use Rattle.clone_sides.proofs.AckLemmas.{acked}
 use Rattle.clone_sides.proofs.ActLemmas.{Next, Stays, given, no_more, quiet, told}
@@ -56,7 +56,7 @@ pub record Walked (number : ℕ) (d : Donor) (done : List Entry) (v : Donor) (ta
   pub donor : IsDonor v
   pub tells : IsSome v.engine.disk.told
 
--- it doesn't stand
+-- it isn't open
 abbrev pub IsAway : ℕ → Cloning → Type 0
 IsAway number c = number_in c ≡ Some number → ⊥
 
@@ -74,11 +74,11 @@ Stayed number d done v taken = (l : Lists) × Knows number (answers number done)
 -- how far the session has come, and what is known
 abbrev pub Covers : ℕ → Donor → List Entry → Donor → Taken → Phase → Type 0
 Covers number d done v taken Unopened = IsUnopened number done v
-Covers number d done v taken Standing = Stays number d done v taken
+Covers number d done v taken Open = Stays number d done v taken
 Covers number d done v taken Gone = IsAway number v.cloning × ((w : Donor) × (was : Taken) × Stayed number d done w was)
 Covers number d done v taken Again = Unit {0}
 
--- A SESSION THAT DOESN'T STAND isn't answered.
+-- A SESSION THAT ISN'T OPEN isn't answered.
 
 away_kept : (number : ℕ) (c e : Cloning) → number_in e ≡ number_in c → IsAway number c → IsAway number e
 away_kept number c e same away is = away (sym same ∙ is)
@@ -227,9 +227,9 @@ module _ (number : ℕ) (d : Donor) (done : List Entry) (v : Donor) (taken : Tak
       let same : news ≡ after = ap (λ (a : Act). after_act a v t taken) q.is ∙ ap (λ (o : Option Session). taken_at v t o taken) q.none in
       let kept_now = becomes_kept t.cloning (opened hello (known_files v.engine) q.in_flight v.cloning) q.becomes in
       let asked : hello.session ≡ number = same_some (number_in t.cloning) hello.session info.session (ap (option_map (λ (k : Kept). k.0)) kept_now) (told_number t.cloning info q.tells) ∙ own in
-      let at : StandsAt number t list l = record {
+      let at : ComesTo number t list l = record {
         created = [];
-        stands = kept_now ∙ ap (λ (n : ℕ). Some (n, list, [])) asked;
+        session = kept_now ∙ ap (λ (n : ℕ). Some (n, list, [])) asked;
         in_lists = (refl, refl, refl);
         keeps = ap (λ (c : Cloning). c.archive) q.becomes;
       } in
@@ -264,7 +264,7 @@ module _ (number : ℕ) (d : Donor) (done : List Entry) (v : Donor) (taken : Tak
   opened_by un own (Leaving q) = absurd (true≢false (sym own ∙ q.opens_none number))
 
   -- ONE ACT, by how far the session had come
-  unopened : IsUnopened number done v → (b : Bool) → opens number e.act ≡ b → Covers number d more t news (if b then Standing else Unopened)
+  unopened : IsUnopened number done v → (b : Bool) → opens number e.act ≡ b → Covers number d more t news (if b then Open else Unopened)
   unopened un true is = opened_by un is w.way
   unopened un false is =
       let away = absent number v t un.none e.act is w.way in
@@ -281,9 +281,9 @@ module _ (number : ℕ) (d : Donor) (done : List Entry) (v : Donor) (taken : Tak
   gone (none, (x, was, known)) false is = (let away = absent number v t none e.act is w.way in (away.away_still, (x, was, stays_known away.silent x was known)))
 
   stands_by : Stays number d done v taken → ends e.act ≡ false → Way e.act v t → Stays number d more t news
-  stands_by (l, knows, moments) still (Quiet q) = (let here = some_session v.cloning (number, knows.list, knows.at.created) knows.at.stands in now [] news (q.silent number) refl (quiet number d done v taken e l knows moments acts.donor news q.leaves (q.follows here.0 here.1 taken) taken_now w.tells))
+  stands_by (l, knows, moments) still (Quiet q) = (let here = some_session v.cloning (number, knows.list, knows.at.created) knows.at.session in now [] news (q.silent number) refl (quiet number d done v taken e l knows moments acts.donor news q.leaves (q.follows here.0 here.1 taken) taken_now w.tells))
   stands_by (l, knows, moments) still (Telling info q) = now (to_session number info.session (Stage (told_by info.plan))) taken (q.says number) (q.news taken) (told number d done v taken e l knows moments acts.donor info q.leaves (ap (λ (x : Engine). x.flights.files) q.same) (subst (IsTaken t) (q.news taken) taken_now) w.tells q.tells)
-  stands_by (l, knows, moments) still (Opening hello info q) = (let here = some_session v.cloning (number, knows.list, knows.at.created) knows.at.stands in absurd (two_none v.cloning.session here.0 q.none here.1))
+  stands_by (l, knows, moments) still (Opening hello info q) = (let here = some_session v.cloning (number, knows.list, knows.at.created) knows.at.session in absurd (two_none v.cloning.session here.0 q.none here.1))
   stands_by (l, knows, moments) still (Giving caller stage chunk block read last q) =
       let same : news ≡ taken_from read taken = ap (λ (a : Act). after_act a v t taken) q.is in
       now (to_session number caller.session (said_of stage chunk block read)) (taken_from read taken) (ap (answered_by number) q.is) same (given number d done v taken e l knows moments acts.donor caller stage chunk block read last q (subst (IsTaken t) same taken_now) w.tells)
@@ -300,13 +300,13 @@ module _ (number : ℕ) (d : Donor) (done : List Entry) (v : Donor) (taken : Tak
   left_by known over (Acking caller stage floor info q) = absurd (true≢false (sym over ∙ ap ends q.is))
   left_by known over (Leaving q) = (away_none number t.cloning (becomes_kept t.cloning (left v.cloning) q.becomes), (v, taken, stays_known (q.silent number) v taken (known.0, known.1, known.2.late)))
 
-  standing : Stays number d done v taken → (b : Bool) → ends e.act ≡ b → Covers number d more t news (if b then Gone else Standing)
+  standing : Stays number d done v taken → (b : Bool) → ends e.act ≡ b → Covers number d more t news (if b then Gone else Open)
   standing known true is = left_by known is w.way
   standing known false is = stands_by known is w.way
 
   covers : (phase : Phase) → Covers number d done v taken phase → Covers number d more t news (phase_with number phase e.act)
   covers Unopened known = unopened known (opens number e.act) refl
-  covers Standing known = standing known (ends e.act) refl
+  covers Open known = standing known (ends e.act) refl
   covers Gone known = gone known (opens number e.act) refl
   covers Again known = tt
 
@@ -342,6 +342,6 @@ moment number d trace items end m is none unstopped donor tells run once turn an
 
     by : (phase : Phase) → phase_after number Unopened trace ≡ phase → Walk number d trace phase → HoldsStop number d trace end (laid items m)
     by Unopened is walked = absurd (no_more (λ a. ⊥) (answer_in (Moves (ToldFiles whole.spaces))) (subst (λ (x : List Answer). Contains x (answer_in (Moves (ToldFiles whole.spaces)))) walked.covers_it.unanswered (answered (Moves (ToldFiles whole.spaces)) whole.files)))
-    by Standing is walked = known walked.v walked.taken (walked.covers_it.0, walked.covers_it.1, walked.covers_it.2.late)
+    by Open is walked = known walked.v walked.taken (walked.covers_it.0, walked.covers_it.1, walked.covers_it.2.late)
     by Gone is walked = known walked.covers_it.1.0 walked.covers_it.1.1 walked.covers_it.1.2
     by Again is walked = absurd (once is)

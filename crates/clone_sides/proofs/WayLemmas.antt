@@ -1,5 +1,5 @@
--- WHAT AN ACT IS to a session: it says nothing to any, it tells the stage of the one that stands, it
--- opens one, it gives a block, it acknowledges a stage, or it ends the one that stands.
+-- WHAT AN ACT IS to sessions: it says nothing to any, it tells the stage of the open one, it opens
+-- one, it gives a block, it acknowledges a stage, or it ends the open one.
 use Rattle.std.proofs.Common.{◌≡◌, [], ℕ, Bool, true, false, List, Option, None, Some, Result, Ok, Err, is_some, refl, sym, ap, subst, ◌∙◌}
 use Rattle.std.proofs.lemmas.Bool.{eqb-true, true≢false}
 use Rattle.std.specs.declared.alloc.AllocError.{AllocError}
@@ -32,8 +32,9 @@ use Rattle.clone_engine.specs.Donor.{Donor, known_files}
 use Rattle.clone_engine.specs.Engine.{Engine}
 use Rattle.clone_engine.specs.Taken.{Taken}
 use Rattle.clone_sides.specs.Answered.{answered_by, ends, opens, to_session, told_by}
-use Rattle.clone_sides.proofs.CallLemmas.{Lengthens, Tells, call_leaves, follows_call, follows_same, leaves_same_donor, lengthens_none}
+use Rattle.clone_sides.proofs.CallLemmas.{Tells, call_leaves, follows_call, follows_same, leaves_same_donor}
 use Rattle.clone_sides.proofs.KeptLemmas.{Leaves, leaves_archived, leaves_as, leaves_becomes, leaves_same, leaves_session, session_left, number_in, number_there}
+use Rattle.clone_sides.proofs.HistoryLemmas.{Lengthens, lengthens_none}
 use Rattle.clone_sides.proofs.MadeLemmas.{Follows}
 
 -- it opens no session, and ends none
@@ -88,7 +89,7 @@ pub data Way (a : Act) (d t : Donor) : Type 0 where
   Acking : (caller : Caller) (stage floor : ℕ) (info : StageInfo) → IsAcking a d t caller stage floor info → Way a d t
   Leaving : IsLeaving a d t → Way a d t
 
--- WHAT IS TOLD OF THE STAGE is told of the session that stands.
+-- WHAT AN ANSWER TELLS is of the session that is open.
 
 pub told_number : (c : Cloning) (info : StageInfo) → TellsInfo c info → number_in c ≡ Some info.session
 told_number c info (s, there, is) = number_there c s there ∙ ap (λ (i : StageInfo). Some i.session) (sym is)

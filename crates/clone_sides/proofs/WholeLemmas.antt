@@ -267,7 +267,7 @@ module _ (number : ℕ) (done : List Answer) (v : Donor) (taken : Taken) (l : Li
   disk = told_disk v.engine.disk.told knows.tells
 
   has : HasStopped v.cloning v.engine.buffer.log taken a
-  has = by list knows.at.keeps (subst (IsTakenBy v.cloning v.engine.buffer.log taken) (list_kept v.cloning (number, list, knows.at.created) knows.at.stands) (of_told (λ _. IsTakenBy v.cloning v.engine.buffer.log taken (list_of v.cloning)) v.engine.disk.told disk.0 disk.1 knows.is.stage))
+  has = by list knows.at.keeps (subst (IsTakenBy v.cloning v.engine.buffer.log taken) (list_kept v.cloning (number, list, knows.at.created) knows.at.session) (of_told (λ _. IsTakenBy v.cloning v.engine.buffer.log taken (list_of v.cloning)) v.engine.disk.told disk.0 disk.1 knows.is.stage))
     where
       by : (x : StageList) → Keeps number v.cloning x → IsTakenIn v.cloning v.engine.buffer.log taken x → HasStopped v.cloning v.engine.buffer.log taken a
       by (lists.Files spaces) none are = absurd (two_none v.cloning.archive a none range.stands)

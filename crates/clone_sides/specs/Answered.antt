@@ -18,7 +18,7 @@ use Rattle.clone_calls.specs.declared.call.DonorCall.TheVariants as call
 use Rattle.clone_engine.specs.Acts.{Act, Calls, Orders}
 use Rattle.clone_sides.specs.Trace.{Entry}
 
--- what is told of a stage
+-- what an answer tells of a stage
 abbrev pub told_by : StagePlan → Told
 told_by (FileCopy chunks spaces) = ToldFiles (pairs_of spaces)
 told_by (PageCopy chunks position spaces) = ToldPages position (pairs_of spaces)
@@ -48,7 +48,7 @@ block_said number (call.ReadBlock caller stage chunk block) (Ok given) =
     to_session number caller.session (said_of stage chunk block given.0)
 block_said number asked read = []
 
--- what an answer says to the session of this number: a stage that is told, or a block
+-- what an answer says to the session of this number: its stage, or a block
 abbrev pub said_by : ℕ → DonorCall → DonorAnswer → List Answer
 said_by number asked (answer.Init told) = stage_said number told
 said_by number asked (answer.Attach told) = stage_said number told
@@ -72,27 +72,27 @@ abbrev pub WereAnswered : ℕ → List Entry → List Item → Type 0
 WereAnswered number trace items =
     (item : Item) → Contains items item → Contains (answers number trace) (answer_in item)
 
--- this session is opened, or begins again while it stands
+-- this session is opened, or begins again while it is open
 abbrev pub opens : ℕ → Act → Bool
 opens number (Calls asked (answer.Init (Ok info))) = info.session == number
 opens number other = false
 
--- the session that stands is gone
+-- the session that is open ends
 abbrev pub ends : Act → Bool
 ends (Calls asked (answer.Exit (Ok gone))) = true
 ends (Calls asked (answer.Abandon (Ok gone))) = true
 ends other = false
 
--- how far a session has come: it wasn't opened yet, it stands, it is gone, or it was opened again
+-- how far a session has come: it wasn't opened yet, it is open, it is gone, or it was opened again
 pub data Phase : Type 0 where
   Unopened : Phase
-  Standing : Phase
+  Open : Phase
   Gone : Phase
   Again : Phase
 
 abbrev pub phase_with : ℕ → Phase → Act → Phase
-phase_with number Unopened act = if opens number act then Standing else Unopened
-phase_with number Standing act = if ends act then Gone else Standing
+phase_with number Unopened act = if opens number act then Open else Unopened
+phase_with number Open act = if ends act then Gone else Open
 phase_with number Gone act = if opens number act then Again else Gone
 phase_with number Again act = Again
 
@@ -100,6 +100,6 @@ abbrev pub phase_after : ℕ → Phase → List Entry → Phase
 phase_after number phase [] = phase
 phase_after number phase (e ∷ es) = phase_after number (phase_with number phase e.act) es
 
--- THE SESSION WAS OPENED ONCE. That it begins again while it stands is no second opening.
+-- THE SESSION WAS OPENED ONCE. That it begins again while it is open is no second opening.
 abbrev pub IsOpenedOnce : ℕ → List Entry → Type 0
 IsOpenedOnce number trace = phase_after number Unopened trace ≢ Again

@@ -28,8 +28,8 @@ pub record Lists : Type 0 where
   pub pages : List (ℕ × ℕ)
   pub made : List (ℕ × ℕ)
 
--- Until the copy of files is over, the spaces that were made are those that the engine has by now;
--- in the copy of pages they are those that the session keeps.
+-- While files are copied, the spaces that were made are those that the engine has now; while pages
+-- are copied they are those that the session keeps.
 abbrev pub InLists : StageList → List (ℕ × ℕ) → Engine → Lists → Type 0
 InLists (lists.Files spaces) created e l =
     (spaces ≡ l.files) × (l.pages ≡ []) × (l.made ≡ created_since l.files (known_files e))
@@ -137,17 +137,17 @@ abbrev pub kept_of : Cloning → Option Kept
 kept_of c = option_map kept c.session
 
 -- where a session has come to
-pub record StandsAt (number : ℕ) (v : Donor) (list : StageList) (l : Lists) : Type 0 where
+pub record ComesTo (number : ℕ) (v : Donor) (list : StageList) (l : Lists) : Type 0 where
   pub created : List (ℕ × ℕ)
-  pub stands : kept_of v.cloning ≡ Some (number, list, created)
+  pub session : kept_of v.cloning ≡ Some (number, list, created)
   pub in_lists : InLists list created v.engine l
   pub keeps : Keeps number v.cloning list
 
--- WHAT IS KNOWN of a session that stands, by what was answered to it
+-- WHAT IS KNOWN of a session that is open, by what was answered to it
 pub record Knows (number : ℕ) (done : List Answer) (v : Donor) (taken : Taken) (l : Lists)
     : Type 0 where
   pub list : StageList
-  pub at : StandsAt number v list l
+  pub at : ComesTo number v list l
   pub is : IsTaken v taken
   pub donor : IsDonor v
   pub tells : IsSome v.engine.disk.told

@@ -62,8 +62,8 @@ pub record HoldsStop (number : ℕ) (d : Donor) (trace : List Entry) (end : Clon
   pub position : end.position ≡ stop.position
   pub holds : HoldsCopy (completed end m) (fold (history at.donor)) end.position
 
--- The donor has gone on since the stop: its first commits, as many as there were, are those of
--- then, and so are its first drops.
+-- The donor has gone on since a stop: its first commits, as many as there were, are those that it
+-- had at the stop, and so are its first drops.
 pub record HasGoneOn (stop : Stop) (was now : plain.Donor) : Type 0 where
   pub position : stop.position ≤ length now.binlog
   pub dropped : stop.drops ≤ length now.drops

@@ -1,5 +1,5 @@
 -- What the frame says that tells an answer is what the answer says.
-use Rattle.std.proofs.Common.{◌≡◌, ◌∙◌, ◌++◌, ◌∷◌, ◌==◌, ◌&&◌, ◌⊎◌, [], ℕ, zero, suc, Bool, true, false, cond, if◌then◌else◌, List, Option, None, Some, Result, Ok, Err, refl, sym, ap, subst, arith, inl, inr, append_assoc}
+use Rattle.std.proofs.Common.{◌≡◌, ◌∙◌, ◌++◌, ◌∷◌, ◌&&◌, ◌⊎◌, [], ℕ, zero, suc, Bool, true, false, if◌then◌else◌, List, Option, None, Some, Result, Ok, Err, refl, sym, ap, subst, arith, inl, inr, append_assoc}
 use Rattle.std.specs.Prelude.{not}
 use Rattle.std.specs.List.{Contains}
 use Rattle.std.proofs.lemmas.Bool.{eq-eqb}
@@ -20,10 +20,9 @@ use Rattle.clone_session.specs.declared.refusal.CloneRefusal.TheVariants.{Becaus
 use Rattle.clone_session.specs.declared.caller.Caller.{Caller}
 use Rattle.clone_session.specs.declared.copying.BlockWork.{BlockWork}
 use Rattle.clone_session.specs.declared.copying.BlockWork.TheVariants as work
-use Rattle.clone_session.specs.Cloning.{Cloning, Session}
+use Rattle.clone_session.specs.Cloning.{Session}
 use Rattle.clone_session.specs.CloneCauses.{session_of}
 use Rattle.clone_session.specs.CloneCalls.{part_of}
-use Rattle.clone_session.proofs.PartLemmas.{stands_as}
 use Rattle.clone_calls.specs.declared.answer.DonorAnswer.{DonorAnswer}
 use Rattle.clone_calls.specs.declared.answer.DonorAnswer.TheVariants as answer
 use Rattle.clone_calls.specs.declared.block.Block.{Block}
