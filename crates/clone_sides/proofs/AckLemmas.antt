@@ -1,10 +1,9 @@
 -- A stage is acknowledged: the session goes on to the next one, and the copy of pages ends at the
 -- stop.
-use Rattle.std.proofs.Common.{◌≡◌, ◌≤◌, ◌∙◌, ◌++◌, ◌∷◌, ◌==◌, ◌&&◌, [], ℕ, Bool, true, false, if◌then◌else◌, List, Option, None, Some, Ok, is_some, refl, sym, ap, subst, arith, inl, inr}
-use Rattle.std.specs.Prelude.{nat_lt}
+use Rattle.std.proofs.Common.{◌≡◌, ◌≤◌, ◌∙◌, ◌++◌, ◌∷◌, ◌==◌, [], ℕ, Bool, true, false, if◌then◌else◌, List, Option, None, Some, is_some, refl, sym, ap, subst, arith, inl, inr}
 use Rattle.std.specs.List.{AllByRecursion, Contains}
-use Rattle.std.specs.Option.{option_map_or, option_or}
-use Rattle.std.proofs.lemmas.Bool.{cases_lt, eq-eqb, eqb-true, lt-ltb}
+use Rattle.std.specs.Option.{option_map_or}
+use Rattle.std.proofs.lemmas.Bool.{eqb-true}
 use Rattle.clone_law.specs.Since as since
 use Rattle.clone_archive.specs.Archived.{Archived, archived_of}
 use Rattle.clone_image.specs.Redone.{Standing}
@@ -12,22 +11,17 @@ use Rattle.clone_track.specs.TrackedPages.{listed}
 use Rattle.clone_snapshot.specs.StageLists as lists
 use Rattle.clone_snapshot.specs.StageLists.{StageList, stage_of}
 use Rattle.clone_chunk.specs.Stages.{stage_number}
-use Rattle.clone_chunk.specs.declared.cause.CloneCause.{CloneCause}
-use Rattle.clone_chunk.specs.declared.cause.CloneCause.TheVariants.{FloorAhead, NoSuchSession}
 use Rattle.clone_accepted.specs.Answers.{Stage}
 use Rattle.clone_standing.specs.Latest.{IsLowRoom}
-use Rattle.clone_calls.specs.declared.answer.DonorAnswer.TheVariants as answer
-use Rattle.clone_calls.specs.declared.call.DonorCall.TheVariants as call
 use Rattle.clone_session.specs.declared.caller.Caller.{Caller}
 use Rattle.clone_session.specs.declared.ending.Moment.{Moment}
 use Rattle.clone_session.specs.declared.info.Stop.{Stop}
 use Rattle.clone_session.specs.declared.info.StageInfo.{StageInfo}
 use Rattle.clone_session.specs.Cloning.{Cloning, Session}
 use Rattle.clone_session.specs.CloneCalls.{Acknowledges}
-use Rattle.clone_session.specs.CloneCauses.{acknowledgement_cause, chunks_left, donor_stage, floor_ahead, out_of_stage, session_of, stale, whether}
+use Rattle.clone_session.specs.CloneCauses.{donor_stage}
 use Rattle.clone_session.specs.Effects.{Becomes, advanced, created_since, files_ended, in_stage, position_of, stopped_at}
 use Rattle.clone_session.proofs.PartLemmas.{stands_as}
-use Rattle.clone_engine.specs.Acts as act
 use Rattle.clone_engine.specs.Engine.{Engine}
 use Rattle.clone_engine.specs.Copying.{moment_of, taken_after, taken_over}
 use Rattle.clone_engine.specs.Donor.{Donor, IsDonor, known_files, list_of}
@@ -36,38 +30,16 @@ use Rattle.clone_engine.proofs.ToldLemmas.{of_told}
 use Rattle.clone_sides.specs.Trace.{Entry, end_of}
 use Rattle.clone_sides.specs.Answered.{answers, to_session, told_by}
 use Rattle.clone_sides.specs.Facts.{CountsEarly, HasMoment, InLists, IsBefore, IsPast, Keeps, Kept, Knows, Lists, ComesTo, kept, kept_of}
-use Rattle.clone_sides.specs.Moment.{StopsAt, first_stop, own_stop}
+use Rattle.clone_sides.specs.Moment.{StopsAt}
 use Rattle.clone_sides.proofs.ActLemmas.{Next, taken_in, told, told_more}
 use Rattle.clone_sides.proofs.CallLemmas.{Tells as SameTold}
 use Rattle.clone_sides.proofs.CountLemmas.{over_counts, stop_counts}
-use Rattle.clone_sides.proofs.KeptLemmas.{becomes_kept, grows_same, keeps_stays, leaves_becomes, list_kept, number_is, range_stays, redo_stays, same_kept}
-use Rattle.clone_sides.proofs.KnownLemmas.{Goes, first_more, knows_goes, moments_stay, still_goes}
+use Rattle.clone_sides.proofs.KeptLemmas.{becomes_kept, grows_same, keeps_stays, leaves_becomes, list_kept, range_stays, redo_stays, same_kept}
+use Rattle.clone_sides.proofs.KnownLemmas.{Goes, knows_goes, moments_stay, still_goes}
 use Rattle.clone_sides.proofs.LowLemmas.{made_low}
 use Rattle.clone_sides.proofs.OptionLemmas.{same_some, told_disk, two_none}
+use Rattle.clone_sides.proofs.StopLemmas.{stops_here}
 use Rattle.clone_sides.proofs.WayLemmas.{IsAcking}
-
--- THE FLOOR of an acknowledgement that was answered isn't ahead.
-
-both_none : (a b : Option CloneCause) → option_or a b ≡ None → (a ≡ None) × (b ≡ None)
-both_none None b none = (refl, none)
-both_none (Some cause) b none = absurd (let e = none in cc)
-
-acked_floor : (c : Cloning) (caller : Caller) (stage floor position : ℕ) (s : Session) → session_of c caller.session ≡ Some s → acknowledgement_cause c caller stage floor position ≡ None → floor_ahead s stage floor position ≡ None
-acked_floor c caller stage floor position s stands none =
-    let last : Option CloneCause = option_or (chunks_left s stage) (floor_ahead s stage floor position) in
-    let rest : Option CloneCause = option_or (out_of_stage s stage) last in
-    let whole : option_or (stale s caller.incarnation) rest ≡ None =
-    subst (λ (o : Option Session). option_map_or (λ s. option_or (stale s caller.incarnation) (option_or (out_of_stage s stage) (option_or (chunks_left s stage) (floor_ahead s stage floor position)))) o (Some NoSuchSession) ≡ None) stands none in
-    (both_none (chunks_left s stage) (floor_ahead s stage floor position) (both_none (out_of_stage s stage) last (both_none (stale s caller.incarnation) rest whole).1).1).1
-
-floor_within : (s : Session) (stage floor position : ℕ) → stage ≡ 2 → donor_stage s ≡ 2 → floor_ahead s stage floor position ≡ None → floor ≤ position
-floor_within s stage floor position two own none = elim (cases_lt position floor) [
-  | inl above ↦ absurd (let wrong : whether ((2 == 2) && (2 == 2) && true) (FloorAhead floor position) ≡ None =
-      sym (ap (λ (b : Bool). whether ((2 == 2) && (2 == 2) && b) (FloorAhead floor position)) (lt-ltb position floor above))
-      ∙ sym (ap (λ (n : ℕ). whether ((2 == 2) && (n == 2) && nat_lt position floor) (FloorAhead floor position)) own)
-      ∙ sym (ap (λ (n : ℕ). whether ((n == 2) && (donor_stage s == 2) && nat_lt position floor) (FloorAhead floor position)) two) ∙ none in cc)
-  | inr within ↦ within
-]
 
 no_page : (p : ℕ × ℕ) → Contains [] p → ⊥
 no_page p (i, within, none) = omega (arith, within)
@@ -184,33 +156,8 @@ module _ (number : ℕ) (d : Donor) (done : List Entry) (v : Donor) (taken : Tak
     kept_now : kept_of t.cloning ≡ Some (s.number, next, s.created)
     kept_now = becomes_kept t.cloning (stopped_at now s a v.cloning) became
 
-    donor_at : donor_stage s ≡ 2
-    donor_at = ap (λ (x : StageList). stage_number (stage_of x)) (list_is ∙ is)
-
-    none_before : first_stop number done ≡ None
-    none_before = (moments.early (knows.unstopped (subst IsBefore (sym is) tt))).0
-
     moment : StopsAt number d (done ++ e ∷ []) v.engine stop
-    moment = record {
-      before = done;
-      entry = e;
-      after = [];
-      split = refl;
-      caller = caller;
-      session = sym (number_is v.cloning caller.session s did.1) ∙ own_number;
-      floor = floor;
-      info = info;
-      acknowledges = acking.is ∙ ap (λ (n : ℕ). act.Calls (call.Ack caller n floor) (answer.Ack (Ok info))) own;
-      here = sym (ap (λ (x : Donor). x.engine) here);
-      stops = stopped;
-      own = own_number;
-      commits = refl;
-      drops = refl;
-      reached = floor_within s stage floor now.position own donor_at (acked_floor v.cloning caller stage floor now.position s did.1 acking.none);
-      new = none_before;
-      first = first_more number done e ∙ ap (λ (o : Option Stop). option_or o (own_stop number t.cloning.stop)) none_before ∙ ap (own_stop number) stopped
-          ∙ ap (λ (b : Bool). if b then Some stop else None) (eq-eqb s.number number own_number);
-    }
+    moment = stops_here number d done v e here (moments.early (knows.unstopped (subst IsBefore (sym is) tt))).0 caller stage floor info acking pages (list_is ∙ is) (own ∙ sym (ap (λ (x : StageList). stage_number (stage_of x)) (list_is ∙ is))) own_number a became
 
     -- the archive doesn't reach past the end of the log
     within : archived_of a ≤ now.end

@@ -1,7 +1,6 @@
 -- What is known of a session goes on, from one act to the next.
-use Rattle.std.proofs.Common.{◌≡◌, ◌∙◌, ◌++◌, ◌∷◌, ◌==◌, ◌⊎◌, [], zero, suc, ℕ, Bool, true, false, if◌then◌else◌, List, length, Option, None, Some, IsSome, refl, sym, ap, subst, arith, inl, inr, append_assoc}
+use Rattle.std.proofs.Common.{◌≡◌, ◌∙◌, ◌++◌, ◌∷◌, ◌==◌, ◌⊎◌, [], zero, suc, ℕ, Bool, true, false, if◌then◌else◌, List, length, None, IsSome, refl, sym, ap, subst, arith, inl, inr, append_assoc}
 use Rattle.std.specs.List.{AllByRecursion, Contains}
-use Rattle.std.specs.Option.{option_or}
 use Rattle.std.proofs.lemmas.List.{append-nil}
 use Rattle.std.proofs.lemmas.List.Elements.{Contains-append_cases, recursion_from_All}
 use Rattle.clone_image.specs.Redone.{Standing, stands}
@@ -14,16 +13,15 @@ use Rattle.clone_snapshot.proofs.EachBlock.{pages_listed}
 use Rattle.clone_accepted.specs.Answers.{Answer, PageBlock, RedoBlock, Stage, Told, ToldDone, ToldFiles, ToldPages, ToldRedo}
 use Rattle.clone_standing.specs.Counting.{Counts}
 use Rattle.clone_standing.specs.Latest.{IsLowRoom}
-use Rattle.clone_session.specs.declared.info.Stop.{Stop}
 use Rattle.clone_session.specs.declared.info.StageInfo.{StageInfo}
 use Rattle.clone_session.specs.Effects.{Tells, told_of}
-use Rattle.clone_engine.specs.Engine.{Engine}
 use Rattle.clone_engine.specs.Donor.{Donor, IsDonor}
 use Rattle.clone_engine.specs.Taken.{IsTaken, Taken}
 use Rattle.clone_sides.specs.Trace.{Entry}
 use Rattle.clone_sides.specs.Answered.{answered_by, answers, to_session, told_by}
 use Rattle.clone_sides.specs.Facts.{CountsEarly, FactOf, FactRedo, FactTold, HasMoment, HasRange, HasStop, InLists, IsBare, IsBefore, IsEarly, IsLate, IsPast, Keeps, Kept, Knows, Lists, ComesTo, kept, places}
-use Rattle.clone_sides.specs.Moment.{StopsAt, first_stop, own_stop}
+use Rattle.clone_sides.specs.Moment.{own_stop}
+use Rattle.clone_sides.proofs.StopLemmas.{moment_more, none_more}
 use Rattle.clone_sides.proofs.KeptLemmas.{same_kept}
 
 -- what was taken becomes this, with another list and other pages to copy once more
@@ -154,48 +152,6 @@ answers_more number [] e = append-nil (answered_by number e.act)
 answers_more number (x ∷ xs) e =
     ap (λ (rest : List Answer). answered_by number x.act ++ rest) (answers_more number xs e)
     ∙ sym (append_assoc (answered_by number x.act) (answers number xs) (answered_by number e.act))
-
--- THE FIRST STOP stays the first.
-
-or_none : (o : Option Stop) → option_or o None ≡ o
-or_none None = refl
-or_none (Some x) = refl
-
-or_later : (a b c : Option Stop) → option_or a (option_or b c) ≡ option_or (option_or a b) c
-or_later None b c = refl
-or_later (Some x) b c = refl
-
-pub first_more : (number : ℕ) (done : List Entry) (e : Entry) → first_stop number (done ++ e ∷ []) ≡ option_or (first_stop number done) (own_stop number e.after.cloning.stop)
-first_more number [] e = or_none (own_stop number e.after.cloning.stop)
-first_more number (x ∷ xs) e =
-    ap (option_or (own_stop number x.after.cloning.stop)) (first_more number xs e)
-    ∙ or_later (own_stop number x.after.cloning.stop) (first_stop number xs) (own_stop number e.after.cloning.stop)
-
--- no stop of the session comes
-pub none_more : (number : ℕ) (done : List Entry) (e : Entry) → first_stop number done ≡ None → own_stop number e.after.cloning.stop ≡ None → first_stop number (done ++ e ∷ []) ≡ None
-none_more number done e first own = first_more number done e ∙ ap (λ (o : Option Stop). option_or o (own_stop number e.after.cloning.stop)) first ∙ own
-
--- the moment of the stop stays in the run
-moment_more : (number : ℕ) (d : Donor) (done : List Entry) (e : Entry) (at : Engine) (stop : Stop) → StopsAt number d done at stop → StopsAt number d (done ++ e ∷ []) at stop
-moment_more number d done e at stop is = record {
-  before = is.before;
-  entry = is.entry;
-  after = is.after ++ e ∷ [];
-  split = ap (λ (x : List Entry). x ++ e ∷ []) is.split ∙ append_assoc is.before (is.entry ∷ is.after) (e ∷ []);
-  caller = is.caller;
-  session = is.session;
-  floor = is.floor;
-  info = is.info;
-  acknowledges = is.acknowledges;
-  here = is.here;
-  stops = is.stops;
-  own = is.own;
-  commits = is.commits;
-  drops = is.drops;
-  reached = is.reached;
-  new = is.new;
-  first = first_more number done e ∙ ap (λ (o : Option Stop). option_or o (own_stop number e.after.cloning.stop)) is.first;
-}
 
 pub stop_stays : (number : ℕ) (d : Donor) (done : List Entry) (e : Entry) (v t : Donor) (taken news : Taken) → news.stop ≡ taken.stop → t.cloning.stop ≡ v.cloning.stop → HasStop number d done v taken → HasStop number d (done ++ e ∷ []) t news
 stop_stays number d done e v t taken news same stop had at is =

@@ -6,6 +6,7 @@ pub mod LowLemmas
 pub mod HistoryLemmas
 pub mod CallLemmas
 pub mod WayLemmas
+pub mod StopLemmas
 pub mod KnownLemmas
 pub mod GivenLemmas
 pub mod ActLemmas

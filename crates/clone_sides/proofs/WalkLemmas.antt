@@ -3,7 +3,6 @@ use Rattle.std.proofs.Common.{◌≡◌, ◌∙◌, ◌++◌, ◌⊎◌, ◌∷�
 use Rattle.std.specs.Prelude.{nat_le}
 use Rattle.std.specs.FinMap as finite
 use Rattle.std.specs.List.{Contains}
-use Rattle.std.specs.Option.{option_map_or}
 use Rattle.std.proofs.lemmas.Bool.{eqb-true, leb-false, true≢false, eq-eqb}
 use Rattle.std.proofs.lemmas.List.{append-nil}
 use Rattle.std.proofs.lemmas.List.Elements.{Contains-append_cases}
@@ -13,7 +12,6 @@ use Rattle.clone_outside.specs.declared.mark.CloneEnd.{CloneEnd}
 use Rattle.clone_image.specs.Redone.{Standing as PageStanding, past_end}
 use Rattle.clone_track.specs.TrackedPages.{Pages as Noted}
 use Rattle.clone_law.specs.Machine.{Copy}
-use Rattle.clone_archive.specs.Archived.{Archived}
 use Rattle.clone_snapshot.specs.StageLists as lists
 use Rattle.clone_snapshot.specs.StageLists.{StageList, all_pages, pages_of_space}
 use Rattle.clone_flush.specs.Flights.{ends_before}
@@ -25,16 +23,14 @@ use Rattle.clone_standing.specs.Counting.{Counts}
 use Rattle.clone_standing.proofs.PlaceLemmas.{in_joined}
 use Rattle.clone_session.specs.declared.caller.Hello.{Hello}
 use Rattle.clone_session.specs.declared.info.StageInfo.{StageInfo}
-use Rattle.clone_session.specs.declared.ending.Moment.{Moment}
 use Rattle.clone_session.specs.declared.info.Stop.{Stop}
 use Rattle.clone_session.specs.Cloning.{Cloning, Session}
-use Rattle.clone_session.specs.CloneCauses.{donor_stage}
-use Rattle.clone_session.specs.Effects.{acknowledged, advanced, created_since, left, opened, stopped_at, Tells as TellsInfo}
+use Rattle.clone_session.specs.Effects.{created_since, left, opened, Tells as TellsInfo}
 use Rattle.clone_session.proofs.PartLemmas.{stands_as}
 use Rattle.clone_engine.specs.Engine.{Engine}
 use Rattle.clone_engine.specs.Acts.{Act, Acts, after_act}
 use Rattle.clone_engine.specs.Copies.{first_copies, first_copy, first_starts, is_noted}
-use Rattle.clone_engine.specs.Copying.{moment_of, taken_after, taken_at, taken_from}
+use Rattle.clone_engine.specs.Copying.{taken_after, taken_at, taken_from}
 use Rattle.clone_engine.specs.Donor.{Donor, IsDonor, known_files}
 use Rattle.clone_engine.specs.Taken.{IsTaken, Taken, nothing}
 use Rattle.clone_engine.proofs.TakenPages.{has_entry}
@@ -45,9 +41,10 @@ use Rattle.clone_sides.specs.Moment.{HoldsStop, first_stop, own_stop}
 use Rattle.clone_sides.proofs.AckLemmas.{acked}
 use Rattle.clone_sides.proofs.ActLemmas.{Next, Stays, given, no_more, quiet, told}
 use Rattle.clone_sides.proofs.KeptLemmas.{becomes_kept, block_leaves, number_in, Leaves, number_stands, number_there, some_session}
-use Rattle.clone_sides.proofs.KnownLemmas.{answers_more, is_answer, none_more, stop_stays, told_fact}
+use Rattle.clone_sides.proofs.KnownLemmas.{answers_more, is_answer, stop_stays, told_fact}
 use Rattle.clone_sides.proofs.WayLemmas.{Acking, Giving, IsOpening, Leaving, Opening, Quiet, Telling, Way, Went, went, told_number}
 use Rattle.clone_sides.proofs.OptionLemmas.{in_space, same_some, two_none}
+use Rattle.clone_sides.proofs.StopLemmas.{Stopping, ack_leaves, end_more, none_more, stop_at}
 use Rattle.clone_sides.proofs.WholeLemmas.{holds}
 
 pub record Walked (number : ℕ) (d : Donor) (done : List Entry) (v : Donor) (taken : Taken) : Type 0 where
@@ -94,28 +91,6 @@ other_stop number stop other = by (stop.session == number) refl
     by true is = absurd (other (eqb-true stop.session number is))
     by false is = refl
 
--- an acknowledgement of another session leaves that session's number, and comes to no stop of this
-module _ (number : ℕ) (now : Moment) (files : List (ℕ × ℕ)) (s : Session) (c : Cloning) (there : c.session ≡ Some s) (other : s.number ≡ number → ⊥) where
-  abbrev LeavesOther : Cloning → Type 0
-  LeavesOther e = (number_in e ≡ number_in c) × (own_stop number c.stop ≡ None → own_stop number e.stop ≡ None)
-
-  number_now : Some s.number ≡ number_in c
-  number_now = sym (number_there c s there)
-
-  advanced_other : (list : StageList) → LeavesOther (advanced now files s list c)
-  advanced_other (lists.Files spaces) = (number_now, λ none. none)
-  advanced_other (lists.Pages pages) = by c.archive
-    where
-      by : (o : Option Archived) → LeavesOther (option_map_or (λ a. stopped_at now s a c) o c)
-      by None = (refl, λ none. none)
-      by (Some a) = (number_now, λ none. other_stop number (record { session = s.number; position = now.position; drops = now.drops }) other)
-  advanced_other (lists.Redo start end) = (number_now, λ none. none)
-  advanced_other lists.Nothing = (refl, λ none. none)
-
-  acked_other : (own : Bool) → LeavesOther (if own then advanced now files s s.snap.list c else c)
-  acked_other true = advanced_other s.snap.list
-  acked_other false = (refl, λ none. none)
-
 none_to : (number session : ℕ) (answer : Answer) → (session ≡ number → ⊥) → to_session number session answer ≡ []
 none_to number session answer other = by (session == number) refl
   where
@@ -140,6 +115,13 @@ module _ (number : ℕ) (v t : Donor) (away : IsAway number v.cloning) (a : Act)
   told_away : (info : StageInfo) → TellsInfo t.cloning info → IsAway number t.cloning → to_session number info.session (Stage (told_by info.plan)) ≡ []
   told_away info tells gone = none_to number info.session (Stage (told_by info.plan)) (λ same. gone (told_number t.cloning info tells ∙ ap (λ (n : ℕ). Some n) same))
 
+  -- another session may come to its stop
+  acked_own : (s : Session) → v.cloning.session ≡ Some s → (stage : ℕ) → (t.cloning.stop ≡ v.cloning.stop) ⊎ Stopping v t s stage → IsOwnNone
+  acked_own s there stage (inl same) own = ap (own_stop number) same ∙ own
+  acked_own s there stage (inr stopping) own =
+      ap (λ (c : Cloning). own_stop number c.stop) stopping.becomes
+      ∙ other_stop number (stop_at v s) (λ same. away (number_there v.cloning s there ∙ ap (λ (n : ℕ). Some n) same))
+
   absent : opens number a ≡ false → Way a v t → Absent
   absent other (Quiet q) = (let left = left_away q.leaves in record { silent = q.silent number; away_still = left.0; own_still = left.1 })
   absent other (Telling info q) = (let left = left_away q.leaves in record { silent = q.says number ∙ told_away info q.tells left.0; away_still = left.0; own_still = left.1 })
@@ -159,10 +141,9 @@ module _ (number : ℕ) (v t : Donor) (away : IsAway number v.cloning) (a : Act)
       }
   absent other (Acking caller stage floor info q) =
       let did = q.acks.acknowledges in
-      let there = stands_as v.cloning.session caller.session did.0 did.1 in
-      let left = acked_other number (moment_of v.engine) (known_files v.engine) did.0 v.cloning there (λ same. away (number_there v.cloning did.0 there ∙ ap (λ (n : ℕ). Some n) same)) (stage == donor_stage did.0) in
-      let gone = away_kept number v.cloning t.cloning (ap (option_map (λ (k : Kept). k.0)) (becomes_kept t.cloning (acknowledged (moment_of v.engine) (known_files v.engine) stage did.0 v.cloning) did.2) ∙ left.0) away in
-      record { silent = ap (answered_by number) q.is ∙ told_away info did.3 gone; away_still = gone; own_still = λ own. ap (λ (c : Cloning). own_stop number c.stop) did.2 ∙ left.1 own }
+      let left = ack_leaves v t caller stage info did in
+      let gone = away_kept number v.cloning t.cloning left.number away in
+      record { silent = ap (answered_by number) q.is ∙ told_away info did.3 gone; away_still = gone; own_still = acked_own did.0 (stands_as v.cloning.session caller.session did.0 did.1) stage left.stop }
   absent other (Leaving q) = record {
     silent = q.silent number;
     away_still = away_none number t.cloning (becomes_kept t.cloning (left v.cloning) q.becomes);
@@ -312,10 +293,6 @@ module _ (number : ℕ) (d : Donor) (done : List Entry) (v : Donor) (taken : Tak
 
   walked_on : end_of d more ≡ t → Walked number d more t news
   walked_on here = record { here = here; is = taken_now; donor = acts.donor; tells = w.tells ∙ walked.tells }
-
-pub end_more : (d : Donor) (done : List Entry) (e : Entry) → end_of d (done ++ e ∷ []) ≡ e.after
-end_more d [] e = refl
-end_more d (x ∷ xs) e = end_more x.after xs e
 
 -- THE WHOLE RUN
 pub record Walk (number : ℕ) (d : Donor) (trace : List Entry) (phase : Phase) : Type 0 where

@@ -1,4 +1,4 @@
-ghost use Rattle.std.specs.Prelude.{◌≡◌, ◌++◌, ◌∷◌, [], ℕ, List, Contains, IsSome, None};
+ghost use Rattle.std.specs.Prelude.{◌≡◌, ◌++◌, ◌∷◌, [], ℕ, List, Contains, IsSome, None, Some};
 ghost use Rattle.std.specs.FinMap as finite;
 ghost use Rattle.std.specs.Option.{option_or};
 ghost use Rattle.clone_outside.specs.Disk.{DiskImage};
@@ -21,7 +21,8 @@ ghost use Rattle.clone_sides.specs.Moment.{HasGoneOn, HoldsStop, StopsAt, first_
 /// A donor's whole run, in which the session was opened once, and what a recipient accepted, in its
 /// turn and whole, each of it an answer that the donor gave to the session in that run: then the
 /// recipient's disk, laid of that over a disk without spaces, recovers to the donor's history at
-/// the stop. The donor's later history begins with that.
+/// the stop. Each stop that a session comes to first is such a moment, and the donor's history goes
+/// on from there.
 pub fn sides_laws()
     ensures moment { (number : ℕ) (d : Donor) (trace : List Entry) (items : List Item)
         (end : CloneEnd) (m : DiskImage) → IsTaken d nothing → d.cloning.session ≡ None
@@ -29,6 +30,9 @@ pub fn sides_laws()
         → Runs d trace → IsOpenedOnce number trace → InTurn 0 items
         → WereAnswered number trace items → IsWhole items end.checkpoint end.lsn end.position
         → IsEnd end → m.spaces ≡ finite.empty → HoldsStop number d trace end (laid items m) }
+    ensures stops { (number : ℕ) (d : Donor) (trace : List Entry) (stop : Stop)
+        → own_stop number d.cloning.stop ≡ None → Runs d trace
+        → first_stop number trace ≡ Some stop → (at : Engine) × StopsAt number d trace at stop }
     ensures gone_on { (number : ℕ) (d : Donor) (trace : List Entry) (at : Engine) (stop : Stop)
         → Runs d trace → StopsAt number d trace at stop
         → HasGoneOn stop at.donor (end_of d trace).engine.donor }

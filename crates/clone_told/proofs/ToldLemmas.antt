@@ -53,7 +53,7 @@ use Rattle.clone_sides.specs.Trace.{Entry, Runs, end_of}
 use Rattle.clone_sides.proofs.GivenLemmas.{some_pages}
 use Rattle.clone_sides.proofs.KnownLemmas.{answers_more}
 use Rattle.clone_sides.proofs.MoreLemmas.{runs_more}
-use Rattle.clone_sides.proofs.WalkLemmas.{end_more}
+use Rattle.clone_sides.proofs.StopLemmas.{end_more}
 use Rattle.clone_told.specs.Told.{GoesOnBy, IsOf, IsTold, called, gives, said_in}
 
 none_in : {X : Type 0} (P : Type 0) (x : X) → Contains [] x → P

@@ -1,6 +1,6 @@
-use Rattle.clone_sides.proofs.KnownLemmas.{answers_more, first_more}
+use Rattle.clone_sides.proofs.KnownLemmas.{answers_more}
 use Rattle.clone_sides.proofs.MoreLemmas.{answered_still, answered_too, phase_more, runs_more}
-use Rattle.clone_sides.proofs.WalkLemmas.{end_more}
+use Rattle.clone_sides.proofs.StopLemmas.{end_more, first_more}
 use Rattle.clone_sides.proofs.laws.step_laws.Goals as goal
 
 pub returns-clause-runs : goal.returns-clause-runs
