@@ -76,8 +76,8 @@ gone_on number d trace at stop run stops =
     subst (λ (x : Donor). Lengthens at.donor x.engine.donor) (sym (ap (end_of d) stops.split ∙ rest_end d stops.before rest))
     (subst (λ (x : Engine). Lengthens x.donor (end_of (end_of d stops.before) rest).engine.donor) (sym stops.here) since) in
     record {
-      position = within at.donor.binlog longer.commits (end_of d trace).engine.donor.binlog stop.position longer.binlog stops.commits;
-      dropped = within at.donor.drops longer.dropped (end_of d trace).engine.donor.drops stop.drops longer.drops stops.drops;
-      commits = front at.donor.binlog longer.commits (end_of d trace).engine.donor.binlog stop.position longer.binlog stops.commits;
-      drops = front at.donor.drops longer.dropped (end_of d trace).engine.donor.drops stop.drops longer.drops stops.drops;
+      position = within at.donor.binlog longer.commits (end_of d trace).engine.donor.binlog stop.position longer.binlog stops.is.commits;
+      dropped = within at.donor.drops longer.dropped (end_of d trace).engine.donor.drops stop.drops longer.drops stops.is.drops;
+      commits = front at.donor.binlog longer.commits (end_of d trace).engine.donor.binlog stop.position longer.binlog stops.is.commits;
+      drops = front at.donor.drops longer.dropped (end_of d trace).engine.donor.drops stop.drops longer.drops stops.is.drops;
     }

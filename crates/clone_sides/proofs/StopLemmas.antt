@@ -64,17 +64,10 @@ moment_more number d done e at stop is = record {
   entry = is.entry;
   after = is.after ++ e ∷ [];
   split = ap (λ (x : List Entry). x ++ e ∷ []) is.split ∙ append_assoc is.before (is.entry ∷ is.after) (e ∷ []);
-  caller = is.caller;
-  session = is.session;
-  floor = is.floor;
-  info = is.info;
-  acknowledges = is.acknowledges;
   here = is.here;
+  acknowledges = is.acknowledges;
+  is = is.is;
   stops = is.stops;
-  own = is.own;
-  commits = is.commits;
-  drops = is.drops;
-  reached = is.reached;
   new = is.new;
   first = first_more number done e ∙ ap (λ (o : Option Stop). option_or o (own_stop number e.after.cloning.stop)) is.first;
 }
@@ -184,17 +177,17 @@ module _ (number : ℕ) (d : Donor) (done : List Entry) (v : Donor) (e : Entry) 
           entry = e;
           after = [];
           split = refl;
-          caller = caller;
-          session = sym (number_is v.cloning caller.session did.0 did.1) ∙ own_number;
-          floor = floor;
-          info = info;
-          acknowledges = acking.is ∙ ap (λ (n : ℕ). act.Calls (call.Ack caller n floor) (answer.Ack (Ok info))) at_two;
           here = sym (ap (λ (x : Donor). x.engine) here);
+          acknowledges = record {
+            caller = caller;
+            session = sym (number_is v.cloning caller.session did.0 did.1) ∙ own_number;
+            floor = floor;
+            reached = floor_within did.0 stage floor now.position at_two donor_at (acked_floor v.cloning caller stage floor now.position did.0 did.1 acking.none);
+            info = info;
+            is = acking.is ∙ ap (λ (n : ℕ). act.Calls (call.Ack caller n floor) (answer.Ack (Ok info))) at_two;
+          };
+          is = record { session = own_number; commits = refl; drops = refl };
           stops = stopped;
-          own = own_number;
-          commits = refl;
-          drops = refl;
-          reached = floor_within did.0 stage floor now.position at_two donor_at (acked_floor v.cloning caller stage floor now.position did.0 did.1 acking.none);
           new = none;
           first = first_more number done e ∙ ap (λ (o : Option Stop). option_or o (own_stop number t.cloning.stop)) none ∙ ap (own_stop number) stopped ∙ ap (λ (b : Bool). if b then Some stop_now else None) (eq-eqb did.0.number number own_number);
         }

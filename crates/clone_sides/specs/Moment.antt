@@ -15,7 +15,7 @@ use Rattle.clone_session.specs.declared.info.Stop.{Stop}
 use Rattle.clone_session.specs.declared.info.StageInfo.{StageInfo}
 use Rattle.clone_calls.specs.declared.answer.DonorAnswer.TheVariants as answer
 use Rattle.clone_calls.specs.declared.call.DonorCall.TheVariants as call
-use Rattle.clone_engine.specs.Acts.{Calls}
+use Rattle.clone_engine.specs.Acts.{Act, Calls}
 use Rattle.clone_engine.specs.Engine.{Engine}
 use Rattle.clone_engine.specs.Donor.{Donor}
 use Rattle.clone_sides.specs.Trace.{Entry, end_of}
@@ -31,25 +31,33 @@ first_stop number [] = None
 first_stop number (e ∷ es) =
     option_or (own_stop number e.after.cloning.stop) (first_stop number es)
 
--- The session came to its stop, its first one, by an acknowledgement of the copy of pages, when the
--- donor's engine was this one. The floor that came with it wasn't ahead.
+-- the session's copy of pages is acknowledged, with a floor that isn't past this position
+pub record AcknowledgesPages (number position : ℕ) (act : Act) : Type 0 where
+  pub caller : Caller
+  pub session : caller.session ≡ number
+  pub floor : ℕ
+  pub reached : floor ≤ position
+  pub info : StageInfo
+  pub is : act ≡ Calls (call.Ack caller 2 floor) (answer.Ack (Ok info))
+
+-- a stop of the session, with as many commits and drops as this engine has
+pub record IsStopOf (number : ℕ) (at : Engine) (stop : Stop) : Type 0 where
+  pub session : stop.session ≡ number
+  pub commits : stop.position ≡ length at.donor.binlog
+  pub drops : stop.drops ≡ length at.donor.drops
+
+-- THE STOP: the session came to it, and had come to none before, by an acknowledgement of the copy
+-- of pages, when the donor's engine was this one.
 pub record StopsAt (number : ℕ) (d : Donor) (trace : List Entry) (at : Engine) (stop : Stop)
     : Type 0 where
   pub before : List Entry
   pub entry : Entry
   pub after : List Entry
   pub split : trace ≡ before ++ entry ∷ after
-  pub caller : Caller
-  pub session : caller.session ≡ number
-  pub floor : ℕ
-  pub info : StageInfo
-  pub acknowledges : entry.act ≡ Calls (call.Ack caller 2 floor) (answer.Ack (Ok info))
   pub here : at ≡ (end_of d before).engine
+  pub acknowledges : AcknowledgesPages number stop.position entry.act
+  pub is : IsStopOf number at stop
   pub stops : entry.after.cloning.stop ≡ Some stop
-  pub own : stop.session ≡ number
-  pub commits : stop.position ≡ length at.donor.binlog
-  pub drops : stop.drops ≡ length at.donor.drops
-  pub reached : floor ≤ stop.position
   pub new : first_stop number before ≡ None
   pub first : first_stop number trace ≡ Some stop
 
