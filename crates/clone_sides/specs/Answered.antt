@@ -1,5 +1,6 @@
 -- What a donor answered to a session over a run, and when the session was opened.
 use Rattle.std.specs.Prelude.{ℕ, ◌≢◌, ◌==◌, Bool, true, false, List, [], ◌∷◌, ◌++◌, Contains, map, Result, Ok, Err, if◌then◌else◌}
+use Rattle.std.specs.Option.{option_map_or}
 use Rattle.clone_chunk.specs.declared.plan.StagePlan.{StagePlan}
 use Rattle.clone_chunk.specs.declared.plan.StagePlan.TheVariants.{FileCopy, PageCopy, RedoCopy, Done}
 use Rattle.clone_lay.specs.Laid as lay
@@ -8,6 +9,7 @@ use Rattle.clone_page.specs.declared.pages.PageAt.{PageAt}
 use Rattle.clone_accepted.specs.Answers.{Answer, Item, PageBlock, RedoBlock, Stage, Told, ToldDone, ToldFiles, ToldPages, ToldRedo, answer_in}
 use Rattle.clone_session.specs.declared.info.StageInfo.{StageInfo}
 use Rattle.clone_session.specs.declared.refusal.CloneRefusal.{CloneRefusal}
+use Rattle.clone_calls.specs.Answering.{block_in, stage_in}
 use Rattle.clone_calls.specs.declared.answer.DonorAnswer.{DonorAnswer}
 use Rattle.clone_calls.specs.declared.answer.DonorAnswer.TheVariants as answer
 use Rattle.clone_calls.specs.declared.block.Block.{Block}
@@ -50,13 +52,9 @@ block_said number asked read = []
 
 -- what an answer says to the session of this number: its stage, or a block
 abbrev pub said_by : ℕ → DonorCall → DonorAnswer → List Answer
-said_by number asked (answer.Init told) = stage_said number told
-said_by number asked (answer.Attach told) = stage_said number told
-said_by number asked (answer.Reinit told) = stage_said number told
-said_by number asked (answer.ReinitBlocks told) = stage_said number told
-said_by number asked (answer.Ack told) = stage_said number told
-said_by number asked (answer.ReadBlock read) = block_said number asked read
-said_by number asked given = []
+said_by number asked given =
+    option_map_or (stage_said number) (stage_in given)
+    (option_map_or (block_said number asked) (block_in given) [])
 
 abbrev pub answered_by : ℕ → Act → List Answer
 answered_by number (Calls asked given) = said_by number asked given
