@@ -9,7 +9,7 @@ use clone_donor::Donor;
 use clone_engine::OpenRefusal;
 use clone_fetch::TaskAnswer;
 use clone_memdisk::MemDisk;
-use clone_model::{BucketCount, Config, TableNumber};
+use clone_model::{BucketCount, Config, TableNumber, Value};
 use clone_network::{DonorStep, Network};
 use clone_recipient::Reception;
 use clone_recover::{open_rows, recover};
@@ -379,7 +379,7 @@ impl World {
             let Some(number) = world.copying.network.next_open(from) else {
                 break;
             };
-            let number = number as u32;
+            let number = u32::try_from(number)?;
             let _ = world.serve(alloc, donor, number)?;
             from = number.saturating_add(1);
         }
@@ -437,14 +437,19 @@ fn go(
 
 // The row of table 1 that has this key and one byte, and no other.
 fn expect_row(rt: &impl Abort, alloc: Global, world: World) -> Result<(), Fail> {
-    let mut disk = world.copying.disk;
+    let World { copying, ended: _ } = world;
+    let Copying {
+        reception: _,
+        mut disk,
+        network: _,
+        floor: _,
+    } = copying;
     let recovered = recover(alloc, &mut disk)?;
     assert_eq!(rt; (recovered.lsn, recovered.position), (8_573, 1));
     let rows = open_rows(alloc, &mut disk)?;
-    match rows.as_slice() {
-        [(1, 1, value)] => assert!(rt; value.bytes() == [0xaa].as_slice()),
-        _ => assert!(rt; false),
-    }
+    let value = Value::new(&[0xaa]).ok_or("no value")?;
+    let wanted = vec![in alloc; (1, 1, value)]?;
+    assert!(rt; rows.as_slice() == wanted.as_slice());
     Ok(())
 }
 
