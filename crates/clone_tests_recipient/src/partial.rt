@@ -43,14 +43,6 @@ fn many_pages(alloc: Global) -> Frame {
 
 // The first block of a chunk. Which pages it has the recipient can't know.
 fn first_block(alloc: Global, chunk: u32) -> Result<Frame, AllocError> {
-    let mut pages = Vec::new(alloc);
-    for number in 0..8 {
-        pages.push(PageAt {
-            space: 1,
-            number,
-            page: Page::from_bytes(&[7; 4096]),
-        })?;
-    }
     Ok(Frame::Pages {
         attempt: Attempt {
             session: 1,
@@ -59,8 +51,25 @@ fn first_block(alloc: Global, chunk: u32) -> Result<Frame, AllocError> {
         stage: PageStage::PageCopy,
         chunk,
         block: 0,
-        pages: Pages::new(pages),
+        pages: Pages::new(vec![in alloc;
+            page(0),
+            page(1),
+            page(2),
+            page(3),
+            page(4),
+            page(5),
+            page(6),
+            page(7),
+        ]?),
     })
+}
+
+fn page(number: u32) -> PageAt {
+    PageAt {
+        space: 1,
+        number,
+        page: Page::from_bytes(&[7; 4096]),
+    }
 }
 
 /// A clone, and the disk that it is laid on.
@@ -111,8 +120,12 @@ fn more_partial_chunks_than_are_told(rt: HostRuntime) -> Result<(), Stuck> {
         mut reception,
         disk: _,
     } = copied;
+    if !reception.table().is_running() {
+        return Err(Stuck);
+    }
     assert!(rt; matches!(reception.lost(1), LossAnswer::Again { losses: 1 }));
-    match reception.next_send(alloc, 0, 0)? {
+    let sent = reception.next_send(alloc, 0, 0)?;
+    match &sent {
         Some(Frame::Reinit2 { taken, .. }) => {
             let told = taken.partials().as_slice();
             assert!(rt; told.len() == TOLD);
