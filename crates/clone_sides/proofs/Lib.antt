@@ -14,3 +14,4 @@ pub mod AckLemmas
 pub mod WholeLemmas
 pub mod WalkLemmas
 pub mod MoreLemmas
+pub mod NumberLemmas

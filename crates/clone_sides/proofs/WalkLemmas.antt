@@ -80,7 +80,7 @@ Covers number d done v taken Again = Unit {0}
 away_kept : (number : ℕ) (c e : Cloning) → number_in e ≡ number_in c → IsAway number c → IsAway number e
 away_kept number c e same away is = away (sym same ∙ is)
 
-away_none : (number : ℕ) (c : Cloning) → kept_of c ≡ None → IsAway number c
+pub away_none : (number : ℕ) (c : Cloning) → kept_of c ≡ None → IsAway number c
 away_none number c none is = two_none (number_in c) number (ap (option_map (λ (k : Kept). k.0)) none) is
 
 -- the stop of another session is none of this one
@@ -122,7 +122,7 @@ module _ (number : ℕ) (v t : Donor) (away : IsAway number v.cloning) (a : Act)
       ap (λ (c : Cloning). own_stop number c.stop) stopping.becomes
       ∙ other_stop number (stop_at v s) (λ same. away (number_there v.cloning s there ∙ ap (λ (n : ℕ). Some n) same))
 
-  absent : opens number a ≡ false → Way a v t → Absent
+  pub absent : opens number a ≡ false → Way a v t → Absent
   absent other (Quiet q) = (let left = left_away q.leaves in record { silent = q.silent number; away_still = left.0; own_still = left.1 })
   absent other (Telling info q) = (let left = left_away q.leaves in record { silent = q.says number ∙ told_away info q.tells left.0; away_still = left.0; own_still = left.1 })
   absent other (Opening hello info q) =
