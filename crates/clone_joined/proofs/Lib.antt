@@ -1,0 +1,12 @@
+pub mod CarriedLemmas
+pub mod RunLemmas
+pub mod AskedLemmas
+pub mod GivenLemmas
+pub mod ConnectionLemmas
+pub mod NetworkLemmas
+pub mod SentLemmas
+pub mod TakenLemmas
+pub mod TaskLemmas
+pub mod JoinedLemmas
+pub mod EndingLemmas
+pub mod ClonedLemmas

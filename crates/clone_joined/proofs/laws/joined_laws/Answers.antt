@@ -1,0 +1,28 @@
+use Rattle.clone_joined.proofs.ClonedLemmas.{joined_completes}
+use Rattle.clone_joined.proofs.JoinedLemmas.{joined_acts, joined_begins, joined_cuts, joined_donor, joined_task}
+use Rattle.clone_joined.proofs.RunLemmas.{run_begins, run_comes}
+use Rattle.clone_joined.proofs.laws.joined_laws.Goals as goal
+
+pub returns-clause-fresh : goal.returns-clause-fresh
+returns-clause-fresh c = run_begins
+
+pub returns-clause-comes : goal.returns-clause-comes
+returns-clause-comes c = run_comes
+
+pub returns-clause-begins : goal.returns-clause-begins
+returns-clause-begins c = joined_begins
+
+pub returns-clause-acts : goal.returns-clause-acts
+returns-clause-acts c number d t act r told n = joined_acts number r told d t act n
+
+pub returns-clause-cuts : goal.returns-clause-cuts
+returns-clause-cuts c number d r told n connection to_donor to_task = joined_cuts number r told d n connection to_donor to_task
+
+pub returns-clause-donor : goal.returns-clause-donor
+returns-clause-donor c number d t r told n m connection answer = joined_donor number r told d t n m connection answer
+
+pub returns-clause-task : goal.returns-clause-task
+returns-clause-task c = joined_task
+
+pub returns-clause-completes : goal.returns-clause-completes
+returns-clause-completes c = joined_completes

@@ -1,0 +1,3 @@
+pub mod Runs
+pub mod Carried
+pub mod Joined
