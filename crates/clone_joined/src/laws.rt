@@ -19,10 +19,11 @@ ghost use Rattle.clone_told.specs.Told.{gives};
 ghost use Rattle.clone_joined.specs.Joined.{IsCloned, IsJoined};
 ghost use Rattle.clone_joined.specs.Runs.{HasCome, IsFresh, MayAct};
 
-/// A donor comes to its run, and goes on by acts that leave the session. A recipient begins, and
-/// whatever either does then or becomes of a connection, all that the recipient accepts was answered
-/// in the donor's run. So once the clone is complete, the recipient's disk recovers to the donor's
-/// history at the stop.
+/// A donor comes to its run, and goes on by acts that end no session and acknowledge a copy of pages
+/// with this floor alone. A recipient begins, and whatever step either takes then while there is
+/// memory, and whichever connection is cut, all that the recipient accepts was answered in the
+/// donor's run. So once the clone is complete, the recipient's disk recovers to the donor's history
+/// at the stop, where both disks tell what they hold.
 pub fn joined_laws()
     ensures fresh { (number : ℕ) (d : Donor) → IsFresh number d → HasCome number None d }
     ensures comes { (number : ℕ) (floor : Option ℕ) (d t : Donor) (act : Act)
