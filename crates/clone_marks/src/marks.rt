@@ -1,6 +1,6 @@
 //! Each chunk has 1 to 8 blocks, and a mask in which no bit but those of its blocks is set. There
 //! are at most as many chunks as a bitmap may have. `finished` is always how many are finished.
-ghost use Rattle.std.specs.Prelude.{◌≡◌, ◌<◌, ◌≤◌, ◌↔◌, ◌==◌, ◌&&◌, ◌||◌, [], ℕ, length, take};
+ghost use Rattle.std.specs.Prelude.{◌≡◌, ◌<◌, ◌≤◌, ◌↔◌, ◌==◌, ◌&&◌, ◌||◌, [], ℕ, length, take, All};
 ghost use Rattle.std.specs.Prelude.{IfOk, IsTrue};
 ghost use Rattle.std.specs.Int.{div_ceil};
 ghost use Rattle.clone_base.specs.declared.limits.TheConstants.{LSN_LIMIT};
@@ -9,7 +9,7 @@ ghost use Rattle.clone_chunk.specs.declared.bitmap.TheConstants.{MOST_CHUNKS};
 ghost use Rattle.clone_chunk.specs.declared.partials.TheConstants.{MOST_PARTIAL};
 ghost use Rattle.clone_snapshot.specs.StageLists.{Files, Redo, chunk_count};
 ghost use Rattle.clone_snapshot.specs.declared.sizes.TheConstants.{CHUNK_PAGES};
-ghost use Rattle.clone_marks.specs.Blocks.{blocks_of, is_taken, is_left, is_finished_at};
+ghost use Rattle.clone_marks.specs.Blocks.{IsChunk, blocks_of, is_taken, is_left, is_finished_at};
 ghost use Rattle.clone_marks.specs.Blocks.{finished_count, all_finished, partials_of, AreAllTaken};
 ghost use Rattle.clone_marks.specs.Counts.{pairs_of, counted_pages, block_counts, unmarked};
 ghost use Rattle.clone_marks.specs.Forgetting.{forgotten};
@@ -51,6 +51,15 @@ impl Marks {
             chunks: Vec::new(alloc),
             finished: 0,
         }
+    }
+
+    /// What holds of all marks: there are no more chunks than a bitmap shows, with 1 to 8 blocks
+    /// each.
+    pub fn laws(&self)
+        ensures chunks { All IsChunk self.now }
+        ensures few { length self.now ≤ MOST_CHUNKS }
+    {
+        let _finished = self.finished;
     }
 
     /// The chunks of the files of these spaces, none of whose blocks was taken.

@@ -4,7 +4,7 @@ ghost use Rattle.std.specs.Prelude.{◌≡◌, ◌≤◌, ◌<◌, true, IfOk, O
 ghost use Rattle.clone_tasks.specs.Losing.{loss_answer, loss_table};
 ghost use Rattle.clone_tasks.specs.Rules.{sending_rule};
 ghost use Rattle.clone_tasks.specs.Sending.{Sends, after_sending};
-ghost use Rattle.clone_tasks.specs.Tables.{is_running};
+ghost use Rattle.clone_tasks.specs.Tables.{IsBounded, is_running};
 ghost use Rattle.clone_base.specs.declared.limits.TheConstants.{LSN_LIMIT};
 ghost use Rattle.clone_recipient.specs.Receptions.{AreCounted};
 
@@ -72,13 +72,15 @@ impl Reception {
     }
 
     /// What holds of every reception: the chunks of the stage that is copied have as many blocks as
-    /// what was told of it is cut into, and the redo ends where a log may.
+    /// what was told of it is cut into, the redo ends where a log may, and the table of tasks is
+    /// bounded.
     pub fn laws(&self)
+        ensures bounded { IsBounded self.now.table }
         ensures counted { AreCounted self.now.table.phase self.now }
         ensures ordered { self.now.checkpoint ≤ self.now.lsn }
         ensures within { self.now.lsn < LSN_LIMIT }
     {
-        let _pages = self.pages;
+        self.table.laws();
     }
 
     /// The frame that a task sends next, as the table of tasks says. All else stays as it is.

@@ -1,11 +1,12 @@
 -- The tasks of a recipient: where each stands, and what is known of the clone.
 use Rattle.std.specs.Prelude.{ℕ, ◌≡◌, ◌+◌, ◌≤◌, Bool, true, false, List, [], None, slice_set}
-use Rattle.std.specs.Prelude.{slice_index_or, replicate, is_none}
+use Rattle.std.specs.Prelude.{All, length, slice_index_or, replicate, is_none}
 use Rattle.std.specs.List.{list_any}
 use Rattle.std.specs.declared.option.Option.{Option}
 use Rattle.clone_wire.specs.declared.frame.Attempt.{Attempt}
 use Rattle.clone_marks.specs.declared.chunk_marks.ChunkMarks.{ChunkMarks}
-use Rattle.clone_marks.specs.Blocks.{all_finished}
+use Rattle.clone_marks.specs.Blocks.{IsChunk, all_finished}
+use Rattle.clone_chunk.specs.declared.bitmap.TheConstants.{MOST_CHUNKS}
 use Rattle.clone_tasks.specs.declared.end.CloneEnd.{CloneEnd}
 use Rattle.clone_tasks.specs.declared.standing.Phase.{Phase}
 use Rattle.clone_tasks.specs.declared.standing.Phase.TheVariants.{Opening, Copying, Done}
@@ -146,3 +147,10 @@ pub record IsTable (count version limit losses : ℕ) (ended : Option CloneEnd) 
   pub second : version ≤ 2
   pub bounded : limit ≤ MOST_LOSSES
   pub counted : AreLosses limit losses ended
+
+-- what bounds its lists
+pub record IsBounded (t : Table) : Type 0 where
+  pub places : length t.standings ≡ MOST_TASKS
+  pub tasks : t.count ≤ MOST_TASKS
+  pub chunks : All IsChunk t.marks
+  pub few : length t.marks ≤ MOST_CHUNKS

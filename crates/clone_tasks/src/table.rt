@@ -1,10 +1,12 @@
 //! There are 1 to 16 tasks, version 1 or 2 is spoken, and the losses are at most one more than the
 //! limit, and at most the limit while the clone goes on. A task that there isn't stands apart. Only
 //! task 0 may have sent an ACK that awaits its answer, and each chunk is finished then.
-ghost use Rattle.std.specs.Prelude.{◌≡◌, ◌≤◌};
+ghost use Rattle.std.specs.Prelude.{◌≡◌, ◌≤◌, length};
 ghost use Rattle.std.specs.Option.{option_copied};
 ghost use Rattle.clone_base.specs.declared.limits.TheConstants.{MOST_LOSSES};
-ghost use Rattle.clone_tasks.specs.Tables.{begun, incarnation_of, is_running, standing_of};
+ghost use Rattle.clone_base.specs.declared.limits.TheConstants as limits;
+ghost use Rattle.clone_tasks.specs.Tables.{IsBounded, begun, incarnation_of, is_running};
+ghost use Rattle.clone_tasks.specs.Tables.{standing_of};
 
 use crate::{CloneEnd, Phase, Standing};
 use clone_base::MOST_TASKS;
@@ -77,6 +79,15 @@ impl TaskTable {
         }
     }
 
+    /// What holds of every table: it has 16 places for tasks, and its chunks are at most as many as
+    /// a bitmap shows, with 1 to 8 blocks each.
+    pub fn laws(&self)
+        ensures { IsBounded self.now }
+    {
+        has_places(&self.standings);
+        self.marks.laws();
+    }
+
     /// The session's number.
     pub fn session(&self) -> u64
         ensures { result ≡ self.now.session }
@@ -136,3 +147,8 @@ impl TaskTable {
         self.ended.as_ref()
     }
 }
+
+// There is a place for each task that there may be.
+fn has_places(_standings: &[Standing; MOST_TASKS])
+    ensures { length _standings.now ≡ limits.MOST_TASKS }
+{}
