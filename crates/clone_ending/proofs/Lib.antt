@@ -1,0 +1,5 @@
+pub mod BlockLemmas
+pub mod WorkLemmas
+pub mod RuleLemmas
+pub mod TakenLemmas
+pub mod StepLemmas

@@ -1,0 +1,7 @@
+//! How much a clone has left to do, as one number, which each step of a task lowers, so that a loop
+//! of such steps ends.
+#![tactic(auto)]
+
+mod laws;
+
+pub use laws::ending_laws;
