@@ -1,11 +1,19 @@
-ghost use Rattle.std.specs.Prelude.{◌≡◌, ◌≢◌, ◌<◌, ◌≤◌, ℕ};
+ghost use Rattle.std.specs.Prelude.{◌≡◌, ◌≢◌, ◌<◌, ◌≤◌, ℕ, Some, false, slice_get};
 ghost use Rattle.clone_outside.specs.DiskCalls.{DiskState};
 ghost use Rattle.clone_tasks.specs.Tables.{IsBounded};
 ghost use Rattle.clone_recipient.specs.Receptions.{Reception};
 ghost use Rattle.clone_fetch.specs.declared.answer.TaskAnswer.{TaskAnswer};
 ghost use Rattle.clone_fetch.specs.declared.answer.TaskAnswer.TheVariants.{Idle, NoMemory, Stale};
-ghost use Rattle.clone_network.specs.Networks.{Network, StepsTask};
+ghost use Rattle.clone_network.specs.Connections.{cut_at};
+ghost use Rattle.clone_network.specs.Networks.{Network, Seat, StepsDonor, StepsTask, gives_up};
+ghost use Rattle.clone_network.specs.Networks.{on_connected};
+ghost use Rattle.clone_network.specs.declared.donor_step.DonorStep.{DonorStep};
+ghost use Rattle.clone_network.specs.declared.donor_step.DonorStep.TheVariants.{Served};
+ghost use Rattle.clone_serve.specs.declared.turn.ServeAnswer.TheVariants as says;
 ghost use Rattle.clone_ending.specs.Left.{work_left};
+ghost use Rattle.clone_ending.specs.Unread.{donor_left, is_serving_on, seats_left};
+
+use clone_calls::Answers;
 
 /// A step of a task leaves less to do, unless there was nothing to do, the connection was an old
 /// one or there was no memory. A step that finds nothing to do, or an old connection, changes
@@ -23,4 +31,41 @@ pub fn ending_laws()
     ensures memory { (r s : Reception) (d e : DiskState) (n m : Network) (task floor : ℕ)
         → IsBounded r.table → IsBounded s.table → StepsTask task floor r s d e n m NoMemory
         → work_left s.table ≤ work_left r.table }
+{}
+
+/// A step of the donor leaves less on the connections, unless there was nothing to do or it was one
+/// within an EXECUTE; and no step leaves more.
+pub fn unread_laws<A: Answers>()
+    ensures donor { (a b : A) (n m : Network) (number : ℕ) (answer : DonorStep)
+        → is_serving_on n.connections number ≡ false → answer ≢ Served says.Idle
+        → StepsDonor A.gives a b number n m answer → donor_left m < donor_left n }
+    ensures most { (a b : A) (n m : Network) (number : ℕ) (answer : DonorStep)
+        → StepsDonor A.gives a b number n m answer → donor_left m ≤ donor_left n }
+    ensures seats { (a b : A) (n m : Network) (number : ℕ) (answer : DonorStep)
+        → StepsDonor A.gives a b number n m answer → m.seats ≡ n.seats }
+{}
+
+/// A task that finds nothing to do, or an old connection, leaves as much on the connections, and
+/// each task keeps its own.
+pub fn quiet_laws()
+    ensures idle { (r s : Reception) (d e : DiskState) (n m : Network) (task floor : ℕ)
+        → StepsTask task floor r s d e n m Idle → donor_left m ≡ donor_left n }
+    ensures stale { (r s : Reception) (d e : DiskState) (n m : Network) (task floor : ℕ)
+        → StepsTask task floor r s d e n m Stale → donor_left m ≡ donor_left n }
+    ensures idle_seats { (r s : Reception) (d e : DiskState) (n m : Network) (task floor : ℕ)
+        → StepsTask task floor r s d e n m Idle → seats_left m ≡ seats_left n }
+    ensures stale_seats { (r s : Reception) (d e : DiskState) (n m : Network) (task floor : ℕ)
+        → StepsTask task floor r s d e n m Stale → seats_left m ≡ seats_left n }
+{}
+
+/// A connection that is cut leaves no more, and one that its task gives up as much, of which the
+/// task has none then.
+pub fn given_up_laws()
+    ensures cut { (n : Network) (number to_donor to_task : ℕ)
+        → donor_left (on_connected number (cut_at to_donor to_task) n) ≤ donor_left n }
+    ensures unread { (n : Network) (task : ℕ) (seat : Seat)
+        → donor_left (gives_up task seat n) ≡ donor_left n }
+    ensures seats { (n : Network) (task number : ℕ) (seat : Seat)
+        → slice_get n.seats task ≡ Some seat → seat.connection ≡ Some number
+        → seats_left (gives_up task seat n) < seats_left n }
 {}
