@@ -1,4 +1,4 @@
-ghost use Rattle.std.specs.Prelude.{◌≡◌, ◌++◌, OnErr, OnOk};
+ghost use Rattle.std.specs.Prelude.{◌≡◌, OnErr, OnOk, slice_get};
 ghost use Rattle.clone_network.specs.Connections.{cut_at, given_up, is_open, link_over, opened};
 ghost use Rattle.clone_network.specs.Networks.{fed};
 
@@ -62,6 +62,13 @@ impl Connection {
         ensures { result ≡ is_open self.now }
     {
         !self.is_left && !self.end.is_over()
+    }
+
+    /// The first byte that the donor has not read, if there is one: the code of the next command.
+    pub fn first_code(&self) -> Option<u8>
+        ensures { result ≡ slice_get self.now.to_donor 0 }
+    {
+        self.to_donor.first().copied()
     }
 
     // How it looks to its task.
