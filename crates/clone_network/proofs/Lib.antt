@@ -1,3 +1,4 @@
+pub mod CourseLemmas
 pub mod EndedLemmas
 pub mod GivingLemmas
 pub mod KeptLemmas

@@ -5,9 +5,11 @@
 
 mod connection;
 mod donor_step;
+mod laws;
 mod network;
 mod task_step;
 
 pub use connection::Connection;
 pub use donor_step::DonorStep;
+pub use laws::course_laws;
 pub use network::{Network, Seat};
