@@ -15,7 +15,6 @@ use Rattle.clone_wire.specs.Spelling.{spelling}
 use Rattle.clone_tasks.specs.Awaiting.{moves}
 use Rattle.clone_tasks.specs.Losing.{after_loss, is_spent}
 use Rattle.clone_tasks.specs.Rules.{is_stale, rule_at, takes_part}
-use Rattle.clone_tasks.specs.Sending.{after_sending}
 use Rattle.clone_tasks.specs.Tables.{Table, incarnation_of, is_done, is_running}
 use Rattle.clone_tasks.specs.declared.end.CloneEnd.{CloneEnd}
 use Rattle.clone_tasks.specs.declared.end.CloneEnd.TheVariants as end
