@@ -187,6 +187,13 @@ takes_frame looked task got r s before after answer runs (fetch.no_room expected
 
 -- ---- a loss is counted
 
+spent_by : (t u : Table) (losses : ℕ) → is_spent (after_loss t) ≡ true → u.losses ≡ t.losses + 1 → losses ≡ t.losses + 1 → IsSpentBy losses t u
+spent_by t u losses over counted one_more = record {
+  one_more = one_more;
+  counted = counted ∙ sym one_more;
+  too_many = subst (λ (n : ℕ). t.limit < n) (sym one_more) (ltb-true t.limit (t.losses + 1) over);
+}
+
 loses_so : (looked : ℕ) (r s : Reception) (answer : TaskAnswer) → is_running r.table ≡ true → s ≡ with_loss r → answer ≡ loss_says (after_loss r.table) → Course looked r s answer
 loses_so looked r s answer runs lost heard =
     let t = after_loss r.table in
@@ -194,13 +201,7 @@ loses_so looked r s answer runs lost heard =
       | inl over ↦
           let is : s ≡ ended_as (end.Spent t.losses) (record r { table = t }) = rw over at lost in
           let says : answer ≡ told.Ended (end.Spent t.losses) = rw over at heard in
-          ends looked r s (record r { table = t }) answer (end.Spent t.losses) runs refl is says (λ losses spent.
-              let one_more : losses ≡ r.table.losses + 1 = cc in
-              record {
-                one_more = one_more;
-                counted = ap (λ (x : Reception). x.table.losses) is ∙ sym one_more;
-                too_many = subst (λ (n : ℕ). r.table.limit < n) (sym one_more) (ltb-true r.table.limit (r.table.losses + 1) over);
-              })
+          ends looked r s (record r { table = t }) answer (end.Spent t.losses) runs refl is says (λ losses spent. spent_by r.table s.table losses over (ap (λ (x : Reception). x.table.losses) is) (cc))
       | inr more ↦
           let is : s ≡ record r { table = t } = rw more at lost in
           let says : answer ≡ told.Lost t.losses = rw more at heard in
