@@ -6,3 +6,10 @@ pub mod StepLemmas
 pub mod UnreadLemmas
 pub mod QuietLemmas
 pub mod GivenUpLemmas
+pub mod Stepping
+pub mod UnclaimedLemmas
+pub mod ServiceLemmas
+pub mod DonorLemmas
+pub mod BehindLemmas
+pub mod BusyLemmas
+pub mod EndLemmas

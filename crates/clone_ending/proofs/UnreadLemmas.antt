@@ -35,36 +35,36 @@ spelling_some frame = omega (arith, length-append (big_bytes 1 (code_of frame)) 
 
 -- ---- how a step begins
 
-data Begun (received left : List ℕ) (begun : Doing) (t : ServeTurn) : Type 0 where
+pub data Begun (received left : List ℕ) (begun : Doing) (t : ServeTurn) : Type 0 where
   reads : length left < length received → Begun received left begun t
-  waits : left ≡ received → t ≡ turn.Done says.Idle → Begun received left begun t
+  waits : left ≡ received → t ≡ turn.Done says.Idle → is_serving begun ≡ false → Begun received left begun t
   closes : (answer : ServeAnswer) → left ≡ received → t ≡ turn.Done answer → begun ≡ doing.Over → Begun received left begun t
 
-takes_begun : (bound : Option Caller) (received left : List ℕ) (d begun : Doing) (t : ServeTurn) → TakesCommand bound received left d begun t → Begun received left begun t
-takes_begun bound received left d begun (turn.Ask asked) takes =
+takes_begun : (bound : Option Caller) (received left : List ℕ) (d begun : Doing) (t : ServeTurn) → is_serving d ≡ false → TakesCommand bound received left d begun t → Begun received left begun t
+takes_begun bound received left d begun (turn.Ask asked) free takes =
     reads (omega (arith, ap length takes.taken, length-append (spelling takes.command) left, spelling_some takes.command))
-takes_begun bound received left d begun (turn.Done says.Idle) takes = waits takes.2 refl
-takes_begun bound received left d begun (turn.Done (says.Garbled kept)) takes = closes (says.Garbled kept) takes.1 refl takes.2
-takes_begun bound received left d begun (turn.Done says.NoMemory) takes = closes says.NoMemory takes.0 refl takes.1
-takes_begun bound received left d begun (turn.Done other) takes = absurd takes
+takes_begun bound received left d begun (turn.Done says.Idle) free takes = waits takes.2 refl (ap is_serving takes.3 ∙ free)
+takes_begun bound received left d begun (turn.Done (says.Garbled kept)) free takes = closes (says.Garbled kept) takes.1 refl takes.2
+takes_begun bound received left d begun (turn.Done says.NoMemory) free takes = closes says.NoMemory takes.0 refl takes.1
+takes_begun bound received left d begun (turn.Done other) free takes = absurd takes
 
-begins_begun : (d : Doing) (received left : List ℕ) (begun : Doing) (t : ServeTurn) → is_over d ≡ false → is_serving d ≡ false → Begins d received left begun t → Begun received left begun t
-begins_begun doing.New received left begun t on free begins = takes_begun None received left doing.New begun t begins
-begins_begun (doing.Ready caller) received left begun t on free begins = takes_begun (Some caller) received left (doing.Ready caller) begun t begins
+pub begins_begun : (d : Doing) (received left : List ℕ) (begun : Doing) (t : ServeTurn) → is_over d ≡ false → is_serving d ≡ false → Begins d received left begun t → Begun received left begun t
+begins_begun doing.New received left begun t on free begins = takes_begun None received left doing.New begun t refl begins
+begins_begun (doing.Ready caller) received left begun t on free begins = takes_begun (Some caller) received left (doing.Ready caller) begun t refl begins
 begins_begun (doing.Serving run work) received left begun t on free begins = absurd (cc)
 begins_begun doing.Over received left begun t on free begins = absurd (cc)
-begins_begun (doing.Telling caller) received left begun t on free begins = waits begins.1 begins.0
-begins_begun (doing.Starting run) received left begun t on free begins = waits begins.1 begins.0
-begins_begun doing.Leaving received left begun t on free begins = waits begins.1 begins.0
+begins_begun (doing.Telling caller) received left begun t on free begins = waits begins.1 begins.0 (ap is_serving begins.2)
+begins_begun (doing.Starting run) received left begun t on free begins = waits begins.1 begins.0 (ap is_serving begins.2)
+begins_begun doing.Leaving received left begun t on free begins = waits begins.1 begins.0 (ap is_serving begins.2)
 
 begun_most : (received left : List ℕ) (begun : Doing) (t : ServeTurn) → Begun received left begun t → length left ≤ length received
 begun_most received left begun t (reads less) = omega (arith, less)
-begun_most received left begun t (waits same is) = omega (arith, ap length same)
+begun_most received left begun t (waits same is free) = omega (arith, ap length same)
 begun_most received left begun t (closes answer same is over) = omega (arith, ap length same)
 
 begins_most : (d : Doing) (received left : List ℕ) (begun : Doing) (t : ServeTurn) → Begins d received left begun t → length left ≤ length received
-begins_most doing.New received left begun t begins = begun_most received left begun t (takes_begun None received left doing.New begun t begins)
-begins_most (doing.Ready caller) received left begun t begins = begun_most received left begun t (takes_begun (Some caller) received left (doing.Ready caller) begun t begins)
+begins_most doing.New received left begun t begins = begun_most received left begun t (takes_begun None received left doing.New begun t refl begins)
+begins_most (doing.Ready caller) received left begun t begins = begun_most received left begun t (takes_begun (Some caller) received left (doing.Ready caller) begun t refl begins)
 begins_most (doing.Serving run work) received left begun t begins = omega (arith, ap length begins.1)
 begins_most doing.Over received left begun t begins = omega (arith, ap length begins.1)
 begins_most (doing.Telling caller) received left begun t begins = omega (arith, ap length begins.1)
@@ -76,7 +76,7 @@ answer_of other (turn.Ask asked) = other
 answer_of other (turn.Done answer) = answer
 
 -- a step that has its answer at once ends with it
-at_once : (exchanges : List Exchange) (d : Doing) (t : ServeTurn) (given : ServeAnswer) (sent_old sent_new : List ℕ) (after : Doing) (answer : ServeAnswer) → t ≡ turn.Done given → Goes exchanges d t sent_old sent_new after answer → (answer ≡ given) × (after ≡ d)
+pub at_once : (exchanges : List Exchange) (d : Doing) (t : ServeTurn) (given : ServeAnswer) (sent_old sent_new : List ℕ) (after : Doing) (answer : ServeAnswer) → t ≡ turn.Done given → Goes exchanges d t sent_old sent_new after answer → (answer ≡ given) × (after ≡ d)
 at_once [] d t given sent_old sent_new after answer is goes =
     let same : turn.Done answer ≡ turn.Done given = sym goes.0 ∙ is in
     let answers : answer ≡ given = cc in (answers, goes.2)
@@ -99,24 +99,24 @@ end_most at after opens most =
       | inr closed ↦ omega (arith, closed_left after closed)
     ]
 
-end_read : (at after : Connection) → is_open at ≡ true → length after.to_donor < length at.to_donor → end_left after < end_left at
+pub end_read : (at after : Connection) → is_open at ≡ true → length after.to_donor < length at.to_donor → end_left after < end_left at
 end_read at after opens less =
     elim (cases_Bool (is_open after)) [
       | inl on ↦ omega (arith, less, open_left at opens, open_left after on)
       | inr closed ↦ omega (arith, open_left at opens, closed_left after closed)
     ]
 
-end_closed : (at after : Connection) → is_open at ≡ true → is_open after ≡ false → end_left after < end_left at
+pub end_closed : (at after : Connection) → is_open at ≡ true → is_open after ≡ false → end_left after < end_left at
 end_closed at after opens closed = omega (arith, open_left at opens, closed_left after closed)
 
-lost_closed : (after : Connection) → after.found_lost ≡ true → is_open after ≡ false
+pub lost_closed : (after : Connection) → after.found_lost ≡ true → is_open after ≡ false
 lost_closed after lost = rw lost refl
 
 and_false : (a : Bool) → (a && false) ≡ false
 and_false true = refl
 and_false false = refl
 
-over_closed : (after : Connection) → after.doing ≡ doing.Over → is_open after ≡ false
+pub over_closed : (after : Connection) → after.doing ≡ doing.Over → is_open after ≡ false
 over_closed after over = rw over (and_false (not after.found_lost))
 
 pub found : {X : Type 0} (o : Option X) → (o ≡ None) ⊎ ((x : X) × (o ≡ Some x))
@@ -129,13 +129,13 @@ total n number at after here =
     omega (arith, sum, ap end_left (get_or_from_slice_get n.connections number at at here))
 
 module _ {A : Type 0} (gives : A → DonorCall → DonorAnswer → A → Type 0) (a b : A) where
-  unread_is : (at after : Connection) (answer : DonorStep) → (e : StepsEnd gives a b at after answer) → after.to_donor ≡ e.serves.left
+  pub unread_is : (at after : Connection) (answer : DonorStep) → (e : StepsEnd gives a b at after answer) → after.to_donor ≡ e.serves.left
   unread_is at after answer e = ap (λ (x : Connection). x.to_donor) e.is ∙ ap (λ (x : Connection). x.to_donor) e.serves.is
 
-  doing_is : (at after : Connection) (answer : DonorStep) → (e : StepsEnd gives a b at after answer) → after.doing ≡ e.serves.doing
+  pub doing_is : (at after : Connection) (answer : DonorStep) → (e : StepsEnd gives a b at after answer) → after.doing ≡ e.serves.doing
   doing_is at after answer e = ap (λ (x : Connection). x.doing) e.is ∙ ap (λ (x : Connection). x.doing) e.serves.is
 
-  steps_most : (at after : Connection) (answer : DonorStep) → is_open at ≡ true → StepsEnd gives a b at after answer → end_left after ≤ end_left at
+  pub steps_most : (at after : Connection) (answer : DonorStep) → is_open at ≡ true → StepsEnd gives a b at after answer → end_left after ≤ end_left at
   steps_most at after answer opens e =
       let s = e.serves.steps.is in
       let most = begins_most at.doing at.to_donor e.serves.left s.begun s.turn s.begins in
@@ -144,7 +144,7 @@ module _ {A : Type 0} (gives : A → DonorCall → DonorAnswer → A → Type 0)
   ends_less : (at after : Connection) (answer : DonorStep) → is_open at ≡ true → answer ≢ step.Served says.Idle → (e : StepsEnd gives a b at after answer)
       → Begun at.to_donor e.serves.left e.serves.steps.is.begun e.serves.steps.is.turn → end_left after < end_left at
   ends_less at after answer opens busy e (reads less) = end_read at after opens (omega (arith, less, ap length (unread_is at after answer e)))
-  ends_less at after answer opens busy e (waits same is) =
+  ends_less at after answer opens busy e (waits same is free) =
       let s = e.serves.steps.is in
       let idle = (at_once e.serves.steps.exchanges s.begun s.turn says.Idle _ _ e.serves.doing e.says is s.goes).0 in
       elim (cases_Bool (finds_loss at e.says)) [

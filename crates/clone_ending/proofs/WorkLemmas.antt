@@ -77,7 +77,7 @@ some_left t running = rw running refl
 none_left : (t : Table) → is_running t ≡ false → work_left t ≡ 0
 none_left t ended = rw ended refl
 
-weighs : (a b k x y : ℕ) → a < b → x < k → a * k + x < b * k + y
+pub weighs : (a b k x y : ℕ) → a < b → x < k → a * k + x < b * k + y
 weighs a b k x y less within = omega (arith, within, mul-le-mul_right {m = a + 1} {n = b} k (omega arith))
 
 pub ended_less : (old new : Table) → is_running old ≡ true → is_running new ≡ false → work_left new < work_left old

@@ -4,4 +4,4 @@
 
 mod laws;
 
-pub use laws::{ending_laws, given_up_laws, quiet_laws, unread_laws};
+pub use laws::{end_laws, ending_laws, given_up_laws, quiet_laws, service_laws, unread_laws};
