@@ -169,6 +169,8 @@ impl<D: PageDisk> Donor<D> {
         ensures archive { ForSome self.now.cloning.archive IsArchived }
         ensures chunks { ForSome self.now.cloning.session
             (λ s. IsSnap s.snap.list s.snap.chunks s.snap.room) }
+        ensures numbers { ForSome self.now.cloning.session
+            (λ s. length s.snap.chunks < 2 ^ 32) }
     {
         self.engine.laws();
     }

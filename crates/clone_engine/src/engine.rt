@@ -123,6 +123,8 @@ impl Engine {
         ensures archive { ForSome self.now.cloning.archive IsArchived }
         ensures chunks { ForSome self.now.cloning.session
             (λ s. IsSnap s.snap.list s.snap.chunks s.snap.room) }
+        ensures numbers { ForSome self.now.cloning.session
+            (λ s. length s.snap.chunks < 2 ^ 32) }
     {
         self.transactions.laws();
         self.buffer.laws();

@@ -1,7 +1,7 @@
 //! What a donor keeps of the clone that it gives. Pages are tracked exactly while files are copied,
 //! and an archive stands exactly from the copy of pages on. Then the map of chunks has room for a
 //! copy of redo that ends a ring's size after what is archived, so that the stop takes no memory.
-ghost use Rattle.std.specs.Prelude.{◌≡◌, ◌≤◌, None, option_map};
+ghost use Rattle.std.specs.Prelude.{◌≡◌, ◌≤◌, ◌<◌, ◌^◌, None, length, option_map};
 ghost use Rattle.clone_model.specs.declared.config.TheConstants.{MOST_RING};
 ghost use Rattle.std.specs.Option.{ForSome};
 ghost use Rattle.clone_archive.specs.Archived as archived;
@@ -112,10 +112,12 @@ impl Cloning {
         ensures archive { ForSome self.now.archive IsArchived }
         ensures chunks { ForSome self.now.session
             (λ s. IsSnap s.snap.list s.snap.chunks s.snap.room) }
+        ensures numbers { ForSome self.now.session (λ s. length s.snap.chunks < 2 ^ 32) }
     {
         self.archive.laws();
         if let Some(session) = &self.session {
             session.snapshot.laws();
+            let _ = session.snapshot.count();
         }
     }
 }
