@@ -1,6 +1,6 @@
--- What a step of the donor's end asks: a call of a command that was on its way, or the calls of an
--- EXECUTE.
-use Rattle.std.proofs.Common.{ℕ, ◌≡◌, ◌∷◌, [], List, Bool, Option, None, Some, sym, subst, inl, inr, arith}
+-- What a step of the donor's end asks: a call of a command that was on its way, and then calls
+-- within an EXECUTE.
+use Rattle.std.proofs.Common.{ℕ, ◌≡◌, ◌∷◌, [], Bool, true, false, List, Option, None, Some, refl, sym, subst, inl, inr, arith}
 use Rattle.std.specs.Bool.{⊤}
 use Rattle.std.specs.List.{AllByRecursion}
 use Rattle.clone_chunk.specs.Stages.{copy_number}
@@ -11,9 +11,11 @@ use Rattle.clone_wire.specs.declared.frame.Frame.{Frame}
 use Rattle.clone_wire.specs.declared.frame.Frame.TheVariants as frame
 use Rattle.clone_wire.specs.declared.frame.Side.TheVariants as side
 use Rattle.clone_calls.specs.declared.answer.DonorAnswer.{DonorAnswer}
+use Rattle.clone_calls.specs.declared.call.DonorCall.{DonorCall}
+use Rattle.clone_calls.specs.declared.call.DonorCall.TheVariants as call
 use Rattle.clone_serve.specs.Commands.{command_of, first_command, later_command}
 use Rattle.clone_serve.specs.Following.{call_in}
-use Rattle.clone_serve.specs.Serving.{Begins, GoesOn, TakesCommand, turn_after}
+use Rattle.clone_serve.specs.Serving.{Begins, Commands, GoesOn, TakesCommand, turn_after}
 use Rattle.clone_serve.specs.Stepping.{Goes, IsStep}
 use Rattle.clone_serve.specs.Telling.{Exchange}
 use Rattle.clone_serve.specs.declared.after.After.{After}
@@ -28,9 +30,93 @@ use Rattle.clone_serve.specs.declared.turn.ServeAnswer.{ServeAnswer}
 use Rattle.clone_serve.specs.declared.turn.ServeAnswer.TheVariants as says
 use Rattle.clone_serve.specs.declared.turn.ServeTurn.{ServeTurn}
 use Rattle.clone_serve.specs.declared.turn.ServeTurn.TheVariants.{Ask, Done}
+use Rattle.clone_network.specs.Connections.{is_serving}
+use Rattle.clone_engine.specs.Acts.{Calls}
+use Rattle.clone_engine.specs.Answering.{Answered}
+use Rattle.clone_engine.specs.Donor.{Donor}
 use Rattle.clone_joined.specs.Carried.{Carries, MayAsk}
+use Rattle.clone_joined.specs.Runs.{MayAct}
 use Rattle.clone_joined.proofs.CarriedLemmas.{Reads, carries_read}
-use Rattle.clone_joined.proofs.RunLemmas.{MayCall}
+use Rattle.clone_joined.proofs.RunLemmas.{MayCall, call_may}
+
+-- ---- WITHIN AN EXECUTE
+
+abbrev pub IsWithin : DonorCall → Type 0
+IsWithin (call.Kept caller stage chunk) = ⊤
+IsWithin (call.Claim caller stage) = ⊤
+IsWithin (call.ReadBlock caller stage chunk block) = ⊤
+IsWithin (call.Archive limit) = ⊤
+IsWithin other = ⊥
+
+abbrev pub AreWithin : List Exchange → Type 0
+AreWithin exchanges = AllByRecursion (λ (x : Exchange). IsWithin x.0) exchanges
+
+within_is : (run : Execution) (w : Work) → IsWithin (call_in run w)
+within_is run work.Claim = tt
+within_is run (work.Weigh chunk) = tt
+within_is run (work.Read place again) = tt
+within_is run (work.Archive place limit) = tt
+
+abbrev IsWithinTurn : ServeTurn → Type 0
+IsWithinTurn (Ask asked) = IsWithin asked
+IsWithinTurn (Done answer) = ⊤
+
+turn_within : (next : After) → IsWithinTurn (turn_after next)
+turn_within (Asks run w) = within_is run w
+turn_within (Ends d sends answer) = tt
+
+next_within : (d t : Doing) (given : DonorAnswer) (old new : List ℕ) (turn : ServeTurn) → GoesOn d given old new t turn → IsWithinTurn turn
+next_within d t given old new turn (inl (next, is, follows)) = subst IsWithinTurn (sym follows.turns) (turn_within next)
+next_within d t given old new turn (inr fails) = subst IsWithinTurn (sym fails.says) tt
+
+rest_within : (exchanges : List Exchange) (d t : Doing) (turn : ServeTurn) (old new : List ℕ) (answer : ServeAnswer) → Goes exchanges d turn old new t answer → IsWithinTurn turn → AreWithin exchanges
+rest_within [] d t turn old new answer goes within = tt
+rest_within (x ∷ xs) d t turn old new answer (is, (mid, sent, next, on, rest)) within =
+    (subst IsWithinTurn is within, rest_within xs mid t next sent new answer rest (next_within d mid x.1 old sent next on))
+
+-- ---- THE CALL that a step begins with is that of a command, or one within an EXECUTE
+
+pub data BeginsBy (d : Doing) (received left : List ℕ) (begun : Doing) (asked : DonorCall) : Type 0 where
+  commanded : (bound : Option Caller) → is_serving d ≡ false → Commands bound received left begun asked → BeginsBy d received left begun asked
+  inside : IsWithin asked → left ≡ received → BeginsBy d received left begun asked
+
+abbrev TurnsTo : Doing → List ℕ → List ℕ → Doing → ServeTurn → Type 0
+TurnsTo d received left begun (Ask asked) = BeginsBy d received left begun asked
+TurnsTo d received left begun (Done answer) = left ≡ received
+
+taken_turn : (bound : Option Caller) (d : Doing) (received left : List ℕ) (was t : Doing) (turn : ServeTurn) → is_serving d ≡ false → TakesCommand bound received left was t turn → TurnsTo d received left t turn
+taken_turn bound d received left was t (Ask asked) idle takes = commanded bound idle takes
+taken_turn bound d received left was t (Done says.Idle) idle takes = takes.2
+taken_turn bound d received left was t (Done (says.Garbled kept)) idle takes = takes.1
+taken_turn bound d received left was t (Done says.NoMemory) idle takes = takes.0
+taken_turn bound d received left was t (Done other) idle takes = absurd takes
+
+begun_turn : (d : Doing) (received left : List ℕ) (t : Doing) (turn : ServeTurn) → Begins d received left t turn → TurnsTo d received left t turn
+begun_turn doing.New received left t turn begins = taken_turn None doing.New received left doing.New t turn refl begins
+begun_turn (doing.Ready caller) received left t turn begins = taken_turn (Some caller) (doing.Ready caller) received left (doing.Ready caller) t turn refl begins
+begun_turn (doing.Serving run w) received left t turn begins = subst (TurnsTo (doing.Serving run w) received left t) (sym begins.0) (inside (within_is run w) begins.1)
+begun_turn d received left t turn begins = subst (TurnsTo d received left t) (sym begins.0) begins.1
+
+abbrev pub AsksAll : Doing → List ℕ → List ℕ → Doing → List Exchange → Type 0
+AsksAll d received left begun [] = left ≡ received
+AsksAll d received left begun (x ∷ xs) = BeginsBy d received left begun x.0 × AreWithin xs
+
+goes_asks : (d : Doing) (received left : List ℕ) (exchanges : List Exchange) (begun t : Doing) (turn : ServeTurn) (old new : List ℕ) (answer : ServeAnswer) → TurnsTo d received left begun turn → Goes exchanges begun turn old new t answer → AsksAll d received left begun exchanges
+goes_asks d received left [] begun t turn old new answer turns goes = subst (TurnsTo d received left begun) goes.0 turns
+goes_asks d received left (x ∷ xs) begun t turn old new answer turns (is, (mid, sent, next, on, rest)) =
+    (subst (TurnsTo d received left begun) is turns, rest_within xs mid t next sent new answer rest (next_within begun mid x.1 old sent next on))
+
+-- A STEP'S CALLS
+pub step_asks : (exchanges : List Exchange) (d t : Doing) (received left old new : List ℕ) (answer : ServeAnswer) (s : IsStep exchanges d received left old new t answer) → AsksAll d received left s.begun exchanges
+step_asks exchanges d t received left old new answer s =
+    goes_asks d received left exchanges s.begun t s.turn old new answer (begun_turn d received left s.begun s.turn s.begins) s.goes
+
+-- ---- OVER A CONNECTION OF THE NETWORK they are such as the recipient may ask
+
+-- they keep the session, from this donor on
+abbrev pub MayStep : ℕ → Option ℕ → Donor → List Exchange → Type 0
+MayStep number floor d [] = ⊤
+MayStep number floor d (x ∷ xs) = ((t : Donor) → Answered x.0 x.1 d t → MayAct number floor d (Calls x.0 x.1)) × AreWithin xs
 
 module _ (floor : Option ℕ) where
   -- the call of a command
@@ -60,60 +146,26 @@ module _ (floor : Option ℕ) where
   command_may None command may = first_may command
   command_may (Some caller) command may = later_may caller command may
 
-  -- a call within an EXECUTE
-  within_may : (run : Execution) (w : Work) → MayCall floor (call_in run w)
-  within_may run work.Claim = tt
-  within_may run (work.Weigh chunk) = tt
-  within_may run (work.Read place again) = tt
-  within_may run (work.Archive place limit) = tt
+  pub within_may : (asked : DonorCall) → IsWithin asked → MayCall floor asked
+  within_may (call.Kept caller stage chunk) within = tt
+  within_may (call.Claim caller stage) within = tt
+  within_may (call.ReadBlock caller stage chunk block) within = tt
+  within_may (call.Archive limit) within = tt
+  within_may other within = absurd within
 
-  abbrev MayTurn : ServeTurn → Type 0
-  MayTurn (Ask asked) = MayCall floor asked
-  MayTurn (Done answer) = ⊤
-
-  turn_may : (next : After) → MayTurn (turn_after next)
-  turn_may (Asks run w) = within_may run w
-  turn_may (Ends d sends answer) = tt
-
-  next_may : (d t : Doing) (given : DonorAnswer) (old new : List ℕ) (turn : ServeTurn) → GoesOn d given old new t turn → MayTurn turn
-  next_may d t given old new turn (inl (next, is, follows)) = subst MayTurn (sym follows.turns) (turn_may next)
-  next_may d t given old new turn (inr fails) = subst MayTurn (sym fails.says) tt
-
-  abbrev pub MayCallAll : List Exchange → Type 0
-  MayCallAll exchanges = AllByRecursion (λ (x : Exchange). MayCall floor x.0) exchanges
-
-  goes_may : (exchanges : List Exchange) (d t : Doing) (turn : ServeTurn) (old new : List ℕ) (answer : ServeAnswer) → Goes exchanges d turn old new t answer → MayTurn turn → MayCallAll exchanges
-  goes_may [] d t turn old new answer goes may = tt
-  goes_may (x ∷ xs) d t turn old new answer (is, (mid, sent, next, on, rest)) may =
-      (subst MayTurn is may, goes_may xs mid t next sent new answer rest (next_may d mid x.1 old sent next on))
-
-  -- WHAT A STEP BEGINS with, and what is on its way then
+  -- what is on its way then
   module _ (whole : Bool) where
     abbrev Comes : List ℕ → Type 0
     Comes bytes = Carries side.Command (MayAsk floor) whole bytes
 
-    same_left : (received left : List ℕ) → Comes received → left ≡ received → Comes left
-    same_left received left comes same = subst Comes (sym same) comes
-
-    takes_may : (bound : Option Caller) (received left : List ℕ) (d t : Doing) (turn : ServeTurn) → Comes received → TakesCommand bound received left d t turn → MayTurn turn × Comes left
-    takes_may bound received left d t (Ask asked) comes takes =
+    begins_may : (d begun : Doing) (received left : List ℕ) (asked : DonorCall) → Comes received → BeginsBy d received left begun asked → MayCall floor asked × Comes left
+    begins_may d begun received left asked comes (commanded bound idle takes) =
         let read : Reads side.Command (MayAsk floor) whole takes.command left = carries_read side.Command (MayAsk floor) whole received left takes.command comes takes.is takes.taken in
         (subst MayFind takes.asks (command_may bound takes.command read.is), read.rest)
-    takes_may bound received left d t (Done says.Idle) comes takes = (tt, same_left received left comes takes.2)
-    takes_may bound received left d t (Done (says.Garbled kept)) comes takes = (tt, same_left received left comes takes.1)
-    takes_may bound received left d t (Done says.NoMemory) comes takes = (tt, same_left received left comes takes.0)
-    takes_may bound received left d t (Done other) comes takes = absurd takes
+    begins_may d begun received left asked comes (inside is same) = (within_may asked is, subst Comes (sym same) comes)
 
-    stays_may : (received left : List ℕ) (t : Doing) (turn next : ServeTurn) → MayTurn next → Comes received → turn ≡ next → left ≡ received → MayTurn turn × Comes left
-    stays_may received left t turn next may comes is same = (subst MayTurn (sym is) may, same_left received left comes same)
-
-    begins_may : (d : Doing) (received left : List ℕ) (t : Doing) (turn : ServeTurn) → Comes received → Begins d received left t turn → MayTurn turn × Comes left
-    begins_may doing.New received left t turn comes begins = takes_may None received left doing.New t turn comes begins
-    begins_may (doing.Ready caller) received left t turn comes begins = takes_may (Some caller) received left (doing.Ready caller) t turn comes begins
-    begins_may (doing.Serving run w) received left t turn comes begins = stays_may received left t turn (Ask (call_in run w)) (within_may run w) comes begins.0 begins.1
-    begins_may d received left t turn comes begins = stays_may received left t turn (Done says.Idle) tt comes begins.0 begins.1
-
-    pub step_may : (exchanges : List Exchange) (d t : Doing) (received left old new : List ℕ) (answer : ServeAnswer) → Comes received → IsStep exchanges d received left old new t answer → MayCallAll exchanges × Comes left
-    step_may exchanges d t received left old new answer comes s =
-        let (may, rest) = begins_may d received left s.begun s.turn comes s.begins in
-        (goes_may exchanges s.begun t s.turn old new answer s.goes may, rest)
+    pub step_may : (number : ℕ) (v : Donor) (d begun : Doing) (received left : List ℕ) (exchanges : List Exchange) → Comes received → AsksAll d received left begun exchanges → MayStep number floor v exchanges × Comes left
+    step_may number v d begun received left [] comes asks = (tt, subst Comes (sym asks) comes)
+    step_may number v d begun received left (x ∷ xs) comes asks =
+        let (may, rest) = begins_may d begun received left x.0 comes asks.0 in
+        ((λ t does. call_may number floor x.0 x.1 v t does may, asks.1), rest)

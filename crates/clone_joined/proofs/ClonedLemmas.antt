@@ -44,7 +44,7 @@ use Rattle.clone_sides.proofs.WayLemmas.{went}
 use Rattle.clone_joined.specs.Joined.{IsCloned, IsJoined}
 use Rattle.clone_joined.specs.Runs.{HasFloor, HasRun, IsUnended}
 use Rattle.clone_joined.proofs.EndingLemmas.{complete, done_of, ends_by, other}
-use Rattle.clone_joined.proofs.RunLemmas.{run_as}
+use Rattle.clone_joined.proofs.RunLemmas.{Behind, run_as}
 
 -- ---- of the donor's run
 
@@ -61,23 +61,23 @@ owned number (Some x) stop is = by (x.session == number) is
     by false is = absurd (cc)
 
 -- while the session lasts, its stop is the donor's last one
-last_stop : (number : ℕ) (floor : Option ℕ) (trace : List Entry) (d : Donor) (run : HasRun number floor trace d) (stop : Stop) → first_stop number trace ≡ Some stop → d.cloning.stop ≡ Some stop
-last_stop number floor trace d run stop first = by (phase_after number Unopened trace) refl run.unended
+last_stop : (number : ℕ) (floor : Option ℕ) (stop : Option Stop) (trace : List Entry) (d : Donor) (run : HasRun number floor stop trace d) (first : Stop) → first_stop number trace ≡ Some first → d.cloning.stop ≡ Some first
+last_stop number floor stop trace d run first is = by (phase_after number Unopened trace) refl run.unended
   where
-    by : (phase : Phase) → phase_after number Unopened trace ≡ phase → IsUnended phase → d.cloning.stop ≡ Some stop
-    by Unopened is un = absurd (two_none (first_stop number trace) stop (none_stands number run.start trace run.fresh.session run.fresh.stop run.runs is) first)
-    by Open is un =
-        let stands = stop_stands number run.start trace run.fresh.session run.fresh.stop run.runs is in
-        owned number d.cloning.stop stop (sym (ap (λ (x : Donor). own_stop number x.cloning.stop) run.reaches) ∙ sym stands ∙ first)
-    by Gone is un = absurd un
-    by Again is un = absurd un
+    by : (phase : Phase) → phase_after number Unopened trace ≡ phase → IsUnended phase → d.cloning.stop ≡ Some first
+    by Unopened phase un = absurd (two_none (first_stop number trace) first (none_stands number run.start trace run.fresh.session run.fresh.stop run.runs phase) is)
+    by Open phase un =
+        let stands = stop_stands number run.start trace run.fresh.session run.fresh.stop run.runs phase in
+        owned number d.cloning.stop first (sym (ap (λ (x : Donor). own_stop number x.cloning.stop) run.reaches) ∙ sym stands ∙ is)
+    by Gone phase un = absurd un
+    by Again phase un = absurd un
 
 -- ---- THE MOMENT
 
 once : (phase : Phase) → IsUnended phase → phase ≡ Again → ⊥
 once phase un is = subst IsUnended is un
 
-module _ (number : ℕ) (d : Donor) (r : Reception) (told : Option DiskImage) (n : Network) (bounded : number < 2 ^ 64) (j : IsJoined number d r told n) where
+module _ (number : ℕ) (stop : Option Stop) (d : Donor) (r : Reception) (told : Option DiskImage) (n : Network) (bounded : number < 2 ^ 64) (j : IsJoined number stop d r told n) where
   module _ (last : mark.CloneEnd) (is : IsEndOf r last) (done : is_done r.table.phase ≡ true) where
     whole : IsWhole j.items last.checkpoint last.lsn last.position
     whole =
@@ -99,25 +99,27 @@ module _ (number : ℕ) (d : Donor) (r : Reception) (told : Option DiskImage) (n
       abbrev Holds : Engine → Type 0
       Holds at = IsSome d.engine.disk.told → ForTold now (λ m. HoldsCopy m (fold (history at.donor)) position)
 
-      at_stop : (at : Engine) (stop : Stop) → StopsAt number j.run.start j.trace at stop → last.position ≡ stop.position → Holds at → IsCloned number d floor now position
-      at_stop at stop moment_is position_is holds =
-          let run = run_as number r.table.floor floor j.trace d (λ k k_is. kept ∙ k_is) j.run in
-          let here : position ≡ stop.position = same ∙ sym is.position ∙ position_is in
+      at_stop : (at : Engine) (first : Stop) → StopsAt number j.run.start j.trace at first → last.position ≡ first.position → Holds at → IsCloned number stop d floor now position
+      at_stop at first moment_is position_is holds =
+          let run = run_as number r.table.floor floor stop j.trace d (λ k k_is. kept ∙ k_is) j.run in
+          let here : position ≡ first.position = same ∙ sym is.position ∙ position_is in
+          let known : stop ≡ Some first = sym j.run.first ∙ moment_is.first in
           record {
             trace = j.trace;
             run = run;
             at = at;
-            stop = stop;
+            first = first;
+            is = known;
             moment = moment_is;
             position_is = here;
-            reached = subst (HasFloor floor) (sym here) (run.stops stop moment_is.first);
-            last = last_stop number r.table.floor j.trace d j.run stop moment_is.first;
-            gone_on = subst (λ (x : Donor). HasGoneOn stop at.donor x.engine.donor) j.run.reaches (gone_on number j.run.start j.trace at stop j.run.runs moment_is);
+            reached = subst (HasFloor floor) (sym here) (subst (Behind floor) known run.behind);
+            last = last_stop number r.table.floor stop j.trace d j.run first moment_is.first;
+            gone_on = subst (λ (x : Donor). HasGoneOn first at.donor x.engine.donor) j.run.reaches (gone_on number j.run.start j.trace at first j.run.runs moment_is);
             holds = holds;
           }
 
       -- the donor's disk tells what it holds
-      telling : IsSome d.engine.disk.told → Steps told now (marked (marks.Complete last)) → IsCloned number d floor now position
+      telling : IsSome d.engine.disk.told → Steps told now (marked (marks.Complete last)) → IsCloned number stop d floor now position
       telling tells steps =
           let first_tells : IsSome j.run.start.engine.disk.told = sym (told_along j.run.start j.trace j.run.runs) ∙ ap (λ (x : Donor). is_some x.engine.disk.told) j.run.reaches ∙ tells in
           let held : HoldsStop number j.run.start j.trace last (laid j.items j.first) =
@@ -132,21 +134,21 @@ module _ (number : ℕ) (d : Donor) (r : Reception) (told : Option DiskImage) (n
               (subst (λ (x : DiskImage). HoldsCopy (marked (marks.Complete last) x) (fold (history held.at.donor)) last.position) (sym disk) held.holds)
 
       -- it doesn't
-      untold : is_some d.engine.disk.told ≡ false → IsCloned number d floor now position
+      untold : is_some d.engine.disk.told ≡ false → IsCloned number stop d floor now position
       untold none =
-          let (stop, first, at_position) = position_told number j.run.start j.trace j.run.fresh.session j.run.fresh.stop j.run.runs j.items last.checkpoint last.lsn last.position once_open j.answered whole.redo in
-          let (at, stops) = first_stops number j.run.start j.trace stop j.run.fresh.stop j.run.runs first in
-          at_stop at stop stops (sym at_position) (λ some. absurd (true≢false (sym some ∙ none)))
+          let (first, first_is, at_position) = position_told number j.run.start j.trace j.run.fresh.session j.run.fresh.stop j.run.runs j.items last.checkpoint last.lsn last.position once_open j.answered whole.redo in
+          let (at, stops) = first_stops number j.run.start j.trace first j.run.fresh.stop j.run.runs first_is in
+          at_stop at first stops (sym at_position) (λ some. absurd (true≢false (sym some ∙ none)))
 
-      pub cloned : Steps told now (marked (marks.Complete last)) → IsCloned number d floor now position
+      pub cloned : Steps told now (marked (marks.Complete last)) → IsCloned number stop d floor now position
       cloned steps = by (is_some d.engine.disk.told) refl
         where
-          by : (b : Bool) → is_some d.engine.disk.told ≡ b → IsCloned number d floor now position
+          by : (b : Bool) → is_some d.engine.disk.told ≡ b → IsCloned number stop d floor now position
           by true is = telling is steps
           by false is = untold is
 
   -- where a step ended the clone so
-  by_completing : (s : Reception) (now : Option DiskImage) (sent put : List ℕ) (answer : TaskAnswer) (lsn position : ℕ) → is_done r.table.phase ≡ true → answer ≡ complete lsn position → Completes r s told now sent put answer → IsCloned number d s.table.floor now position
+  by_completing : (s : Reception) (now : Option DiskImage) (sent put : List ℕ) (answer : TaskAnswer) (lsn position : ℕ) → is_done r.table.phase ≡ true → answer ≡ complete lsn position → Completes r s told now sent put answer → IsCloned number stop d s.table.floor now position
   by_completing s now sent put answer lsn position done is (fetch.completes last end_is steps ended bytes heard) =
       let both : says.Ended (end.Complete lsn position) ≡ says.Ended (end.Complete r.lsn r.position) = sym is ∙ heard in
       let same : position ≡ r.position = cc in
@@ -156,16 +158,16 @@ module _ (number : ℕ) (d : Donor) (r : Reception) (told : Option DiskImage) (n
   by_completing s now sent put answer lsn position done is (fetch.not_left last end_is steps ended bytes heard) = absurd (other lsn position answer _ (λ e. absurd (cc)) is heard)
 
   by_rule : (s : Reception) (disk after : DiskState) (same : disk.told ≡ told) (made : Option ℕ) (task floor : ℕ) (at : Link) (a b x y : List ℕ) (answer : TaskAnswer) (lsn position : ℕ) → answer ≡ complete lsn position
-      → StepsBy (rule_at made r.table task at) at task floor (requester r disk a b) (requester s after x y) answer → IsCloned number d s.table.floor after.told position
+      → StepsBy (rule_at made r.table task at) at task floor (requester r disk a b) (requester s after x y) answer → IsCloned number stop d s.table.floor after.told position
   by_rule s disk after same made task floor at a b x y answer lsn position is steps =
       let (which, ends) = ends_by lsn position (rule_at made r.table task at) at task floor (requester r disk a b) (requester s after x y) answer is steps in
       by_completing s after.told b y answer lsn position (done_of made r.table task at which) is (subst (λ (o : Option DiskImage). Completes r s o after.told b y answer) same ends)
 
-pub joined_completes : (number : ℕ) (d : Donor) (r s : Reception) (disk after : DiskState) (n m : Network) (task floor lsn position : ℕ) (answer : TaskAnswer) → number < 2 ^ 64 → IsJoined number d r disk.told n
-    → StepsTask task floor r s disk after n m answer → answer ≡ says.Ended (end.Complete lsn position) → IsCloned number d s.table.floor after.told position
-joined_completes number d r s disk after n m task floor lsn position answer bounded j (network.over seat connection at new made sits has here f is) ends =
-    by_rule number d r disk.told n bounded j s disk after refl seat.made task floor (link_over at) at.to_task (sent_behind (not at.cut) at.to_donor) f.received f.sent answer lsn position ends f.steps
-joined_completes number d r s disk after n m task floor lsn position answer bounded j (network.apart seat next connections sits none c is) ends =
-    by_rule number d r disk.told n bounded j s disk after refl seat.made task floor Absent [] [] c.received c.sent answer lsn position ends c.steps
-joined_completes number d r s disk after n m task floor lsn position answer bounded j (network.absent none rests idle) ends = absurd (other lsn position answer says.Idle (λ e. absurd (cc)) ends idle)
-joined_completes number d r s disk after n m task floor lsn position answer bounded j (network.no_room rests heard) ends = absurd (other lsn position answer says.NoMemory (λ e. absurd (cc)) ends heard)
+pub joined_completes : (number : ℕ) (stop : Option Stop) (d : Donor) (r s : Reception) (disk after : DiskState) (n m : Network) (task floor lsn position : ℕ) (answer : TaskAnswer) → number < 2 ^ 64 → IsJoined number stop d r disk.told n
+    → StepsTask task floor r s disk after n m answer → answer ≡ says.Ended (end.Complete lsn position) → IsCloned number stop d s.table.floor after.told position
+joined_completes number stop d r s disk after n m task floor lsn position answer bounded j (network.over seat connection at new made sits has here f is) ends =
+    by_rule number stop d r disk.told n bounded j s disk after refl seat.made task floor (link_over at) at.to_task (sent_behind (not at.cut) at.to_donor) f.received f.sent answer lsn position ends f.steps
+joined_completes number stop d r s disk after n m task floor lsn position answer bounded j (network.apart seat next connections sits none c is) ends =
+    by_rule number stop d r disk.told n bounded j s disk after refl seat.made task floor Absent [] [] c.received c.sent answer lsn position ends c.steps
+joined_completes number stop d r s disk after n m task floor lsn position answer bounded j (network.absent none rests idle) ends = absurd (other lsn position answer says.Idle (λ e. absurd (cc)) ends idle)
+joined_completes number stop d r s disk after n m task floor lsn position answer bounded j (network.no_room rests heard) ends = absurd (other lsn position answer says.NoMemory (λ e. absurd (cc)) ends heard)

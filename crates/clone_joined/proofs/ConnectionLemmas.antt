@@ -5,6 +5,7 @@ use Rattle.std.specs.Prelude.{not}
 use Rattle.std.specs.List.{AllByRecursion, Contains}
 use Rattle.std.proofs.lemmas.List.{append-nil}
 use Rattle.clone_chunk.specs.declared.copy_stage.CopyStage.TheVariants as copy
+use Rattle.clone_session.specs.declared.info.Stop.{Stop}
 use Rattle.clone_wire.specs.declared.frame.Frame.{Frame}
 use Rattle.clone_wire.specs.declared.frame.Frame.TheVariants as frame
 use Rattle.clone_wire.specs.declared.frame.Side.{Side}
@@ -20,10 +21,10 @@ use Rattle.clone_engine.specs.Donor.{Donor}
 use Rattle.clone_sides.specs.Trace.{Entry}
 use Rattle.clone_told.specs.Told.{gives}
 use Rattle.clone_joined.specs.Carried.{Carries, IsCarried, MayAsk, WasSaid}
-use Rattle.clone_joined.specs.Runs.{HasRun}
-use Rattle.clone_joined.proofs.AskedLemmas.{step_may}
+use Rattle.clone_joined.specs.Runs.{HasRun, stop_by}
+use Rattle.clone_joined.proofs.AskedLemmas.{AsksAll, step_asks, step_may}
 use Rattle.clone_joined.proofs.CarriedLemmas.{carries_as, carries_cut, carries_more, carries_none}
-use Rattle.clone_joined.proofs.GivenLemmas.{RunsOn, runs_on, said_still}
+use Rattle.clone_joined.proofs.GivenLemmas.{RunsOn, said_still, step_on}
 use Rattle.clone_joined.proofs.RunLemmas.{StaysSaid}
 
 -- a floor that is known stays known
@@ -52,19 +53,20 @@ all_of (x ∷ xs) each = (each x (0, omega arith, refl), all_of xs (λ y (i, wit
 
 module _ (number : ℕ) (floor : Option ℕ) (trace : List Entry) where
   -- A STEP OF THE DONOR'S END
-  pub record EndStep (t : Donor) (after : Connection) : Type 0 where
+  pub record EndStep (stop : Option Stop) (t : Donor) (after : Connection) : Type 0 where
     pub on : List Entry
-    pub run : HasRun number floor on t
+    pub run : HasRun number floor stop on t
     pub still : StaysSaid number trace on
     pub carried : IsCarried number floor on after
 
-  pub end_step : (d t : Donor) (at after : Connection) (answer : DonorStep) → HasRun number floor trace d → IsCarried number floor trace at → StepsEnd gives d t at after answer → EndStep t after
-  end_step d t at after answer r c e =
+  pub end_step : (stop : Option Stop) (d t : Donor) (at after : Connection) (answer : DonorStep) → HasRun number floor stop trace d → IsCarried number floor trace at → StepsEnd gives d t at after answer → EndStep (stop_by number stop t) t after
+  end_step stop d t at after answer r c e =
       let s = e.serves.steps in
       let reaches : Bool = reaches_task at in
       let old : List ℕ = sent_behind reaches at.to_task in
-      let (may, rest) = step_may floor (not at.cut) s.exchanges at.doing e.serves.doing at.to_donor e.serves.left old e.serves.sent e.says c.to_donor s.is in
-      let more : RunsOn number floor trace s.exchanges t = runs_on number floor trace d s.exchanges t r may s.answers in
+      let asks : AsksAll at.doing at.to_donor e.serves.left s.is.begun s.exchanges = step_asks s.exchanges at.doing e.serves.doing at.to_donor e.serves.left old e.serves.sent e.says s.is in
+      let (may, rest) = step_may floor (not at.cut) number d at.doing s.is.begun at.to_donor e.serves.left s.exchanges c.to_donor asks in
+      let more : RunsOn number floor (stop_by number stop t) trace s.exchanges t = step_on number floor stop trace d s.exchanges t r may s.answers in
       let sends : Sends (frames_for s.exchanges) old e.serves.sent e.says = goes_sends s.exchanges s.is.begun e.serves.doing s.is.turn old e.serves.sent e.says (begun_fits at.doing s.is.begun at.to_donor e.serves.left s.is.turn s.is.begins) s.is.goes in
       let unread : Carries Answer (WasSaid number more.on) reaches at.to_task = carries_as Answer (WasSaid number trace) (WasSaid number more.on) reaches at.to_task (said_still number trace more.on more.still) c.to_task in
       let each : AllByRecursion (WasSaid number more.on) (frames_for s.exchanges) = all_of (frames_for s.exchanges) more.told in

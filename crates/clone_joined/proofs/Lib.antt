@@ -1,8 +1,10 @@
 pub mod CarriedLemmas
+pub mod StandsLemmas
 pub mod RunLemmas
 pub mod AskedLemmas
 pub mod GivenLemmas
 pub mod ConnectionLemmas
+pub mod StrangerLemmas
 pub mod NetworkLemmas
 pub mod SentLemmas
 pub mod TakenLemmas
@@ -10,3 +12,7 @@ pub mod TaskLemmas
 pub mod JoinedLemmas
 pub mod EndingLemmas
 pub mod ClonedLemmas
+pub mod MarkLemmas
+pub mod LeftLemmas
+pub mod LendingLemmas
+pub mod FaultLemmas

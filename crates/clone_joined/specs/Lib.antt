@@ -1,3 +1,5 @@
 pub mod Runs
 pub mod Carried
+pub mod Strangers
 pub mod Joined
+pub mod Lending

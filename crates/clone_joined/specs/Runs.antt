@@ -1,7 +1,9 @@
 -- A DONOR'S RUN over which a session isn't ended, and which acts keep it so.
-use Rattle.std.specs.Prelude.{ℕ, ◌≡◌, ◌≤◌, List, None, Some, Ok, ⊤}
+use Rattle.std.specs.Prelude.{ℕ, ◌≡◌, ◌≤◌, ◌==◌, Bool, false, List, None, Some, Ok, IfSome, ⊤}
 use Rattle.std.specs.declared.option.Option.{Option}
+use Rattle.std.specs.Option.{option_map_or, option_or}
 use Rattle.clone_session.specs.declared.info.Stop.{Stop}
+use Rattle.clone_session.specs.Cloning.{Session}
 use Rattle.clone_calls.specs.declared.answer.DonorAnswer.TheVariants as answer
 use Rattle.clone_calls.specs.declared.call.DonorCall.TheVariants as call
 use Rattle.clone_engine.specs.Acts.{Act, Calls}
@@ -29,24 +31,36 @@ IsUnended Again = ⊥
 abbrev pub HasFloor : Option ℕ → ℕ → Type 0
 HasFloor floor position = (kept : ℕ) × (floor ≡ Some kept) × (kept ≤ position)
 
--- THE RUN, up to this donor. Where the session came to its stop, the floor isn't past that.
-pub record HasRun (number : ℕ) (floor : Option ℕ) (trace : List Entry) (d : Donor) : Type 0 where
+-- THE RUN, up to this donor, with the stop that the session came to first, if it came to one. The
+-- floor isn't past that.
+pub record HasRun (number : ℕ) (floor : Option ℕ) (stop : Option Stop) (trace : List Entry)
+    (d : Donor) : Type 0 where
   pub start : Donor
   pub fresh : IsFresh number start
   pub runs : Runs start trace
   pub reaches : end_of start trace ≡ d
   pub unended : IsUnended (phase_after number Unopened trace)
-  pub stops : (stop : Stop) → first_stop number trace ≡ Some stop → HasFloor floor stop.position
+  pub first : first_stop number trace ≡ stop
+  pub behind : IfSome stop (λ first. HasFloor floor first.position)
 
 -- the donor has come there by such a run
-abbrev pub HasCome : ℕ → Option ℕ → Donor → Type 0
-HasCome number floor d = (trace : List Entry) × HasRun number floor trace d
+abbrev pub HasCome : ℕ → Option ℕ → Option Stop → Donor → Type 0
+HasCome number floor stop d = (trace : List Entry) × HasRun number floor stop trace d
 
--- AN ACT that leaves the session open: it ends none, and acknowledges the copy of pages with this
--- floor alone. A call that is refused may be any.
-abbrev pub MayAct : Option ℕ → Act → Type 0
-MayAct floor (Calls asked (answer.Exit (Ok gone))) = ⊥
-MayAct floor (Calls asked (answer.Abandon (Ok gone))) = ⊥
-MayAct floor (Calls (call.Ack caller stage given) (answer.Ack (Ok info))) =
-    stage ≡ 2 → floor ≡ Some given
-MayAct floor other = ⊤
+-- the first stop of the session, where the donor goes on to this one
+abbrev pub stop_by : ℕ → Option Stop → Donor → Option Stop
+stop_by number stop t = option_or stop (own_stop number t.cloning.stop)
+
+-- the session of this number stands at the donor
+abbrev pub stands : ℕ → Donor → Bool
+stands number d =
+    option_map_or (λ (session : Session). session.number == number) d.cloning.session false
+
+-- AN ACT that keeps the session: where it stands it isn't ended, and its copy of pages is
+-- acknowledged with this floor alone. A call that is refused may be any.
+abbrev pub MayAct : ℕ → Option ℕ → Donor → Act → Type 0
+MayAct number floor d (Calls asked (answer.Exit (Ok gone))) = stands number d ≡ false
+MayAct number floor d (Calls asked (answer.Abandon (Ok gone))) = stands number d ≡ false
+MayAct number floor d (Calls (call.Ack caller stage given) (answer.Ack (Ok info))) =
+    caller.session ≡ number → stage ≡ 2 → floor ≡ Some given
+MayAct number floor d other = ⊤
