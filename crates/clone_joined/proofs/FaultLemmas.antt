@@ -171,14 +171,14 @@ over_now (x ∷ xs) d t turn old new fault goes = absurd (true≢false (sym faul
 calls_rose : (exchanges : List Exchange) (begun last : Doing) (turn : ServeTurn) (old new : List ℕ) (d t : Donor) → faults turn ≡ false → AreOfClone exchanges → Goes exchanges begun turn old new last served.DiskFault → GivesAll gives d exchanges t
     → Rose d.engine.disk.failures t.engine.disk.failures
 calls_rose [] begun last turn old new d t none own goes answers = absurd (true≢false (sym (ap faults goes.0) ∙ none))
-calls_rose (x ∷ xs) begun last turn old new d t none own (is, (mid, sent, next, on, rest)) (u, acts, answers) = by (faults next) refl
+calls_rose (x ∷ xs) begun last turn old new d t none own (is, (mid, sent, next, on, rest)) (u, acts, answers) =
+    by (faults next) refl (λ more. calls_rose xs mid last next sent new u t more own.1 rest answers)
   where
-    by : (b : Bool) → faults next ≡ b → Rose d.engine.disk.failures t.engine.disk.failures
-    by true fault =
+    by : (b : Bool) → faults next ≡ b → (faults next ≡ false → Rose u.engine.disk.failures t.engine.disk.failures) → Rose d.engine.disk.failures t.engine.disk.failures
+    by true fault later =
         let ended : u ≡ t = sym (subst (λ (l : List Exchange). GivesAll gives u l t) (over_now xs mid last next sent new fault rest) answers) in
         subst (λ (v : Donor). Rose d.engine.disk.failures v.engine.disk.failures) ended (unread_rose x.0 x.1 d u (next_unread begun mid x.1 old sent next on fault) acts.does)
-    by false more =
-        rose_wider d.engine.disk.failures u.engine.disk.failures t.engine.disk.failures (call_lends d u x.0 x.1 own.0 acts.does).disk.later (calls_rose xs mid last next sent new u t more own.1 rest answers)
+    by false more later = rose_wider d.engine.disk.failures u.engine.disk.failures t.engine.disk.failures (call_lends d u x.0 x.1 own.0 acts.does).disk.later (later more)
 
 -- what a step serves is its answer, where it finds no loss
 said_served : (lost : Bool) (says : ServeAnswer) (given : ServeAnswer) → said_as lost says ≡ step.Served given → says ≡ given
