@@ -1,6 +1,6 @@
 -- What a step of the donor's end asks: a call of a command that was on its way, and then calls
 -- within an EXECUTE.
-use Rattle.std.proofs.Common.{ℕ, ◌≡◌, ◌∷◌, [], Bool, true, false, List, Option, None, Some, refl, sym, subst, inl, inr, arith}
+use Rattle.std.proofs.Common.{ℕ, ◌≡◌, ◌∷◌, [], Bool, false, List, Option, None, Some, refl, sym, subst, inl, inr, arith}
 use Rattle.std.specs.Bool.{⊤}
 use Rattle.std.specs.List.{AllByRecursion}
 use Rattle.clone_chunk.specs.Stages.{copy_number}

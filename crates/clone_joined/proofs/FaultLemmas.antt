@@ -16,7 +16,6 @@ use Rattle.clone_calls.specs.declared.answer.DonorAnswer.{DonorAnswer}
 use Rattle.clone_calls.specs.declared.answer.DonorAnswer.TheVariants as answer
 use Rattle.clone_calls.specs.declared.block.Block.{Block}
 use Rattle.clone_calls.specs.declared.block.Block.TheVariants as block
-use Rattle.clone_calls.specs.declared.block.BlockRefusal.{BlockRefusal}
 use Rattle.clone_calls.specs.declared.block.BlockRefusal.TheVariants as unread
 use Rattle.clone_calls.specs.declared.call.DonorCall.{DonorCall}
 use Rattle.clone_calls.specs.declared.call.DonorCall.TheVariants as call
@@ -40,10 +39,8 @@ use Rattle.clone_network.specs.Connections.{Connection, StepsEnd, finds_loss, re
 use Rattle.clone_network.specs.declared.donor_step.DonorStep.{DonorStep}
 use Rattle.clone_network.specs.declared.donor_step.DonorStep.TheVariants as step
 use Rattle.clone_engine.specs.Answering.{Answered}
-use Rattle.clone_engine.specs.Copying.{RefusesBlock}
 use Rattle.clone_engine.specs.Donor.{Donor}
 use Rattle.clone_told.specs.Told.{gives}
-use Rattle.clone_joined.specs.Lending.{Lends}
 use Rattle.clone_joined.proofs.LendingLemmas.{AreOfClone, call_lends, end_calls}
 
 -- ---- WHAT FOLLOWS AN ANSWER is a fault of the disk only where a block couldn't be read

@@ -21,7 +21,7 @@ use Rattle.clone_sides.proofs.WayLemmas.{Acking, Giving, Leaving, Opening, Quiet
 use Rattle.clone_told.specs.Told.{called, gives}
 use Rattle.clone_told.proofs.ToldLemmas.{told_now}
 use Rattle.clone_joined.specs.Carried.{WasSaid}
-use Rattle.clone_joined.specs.Runs.{HasRun, MayAct, stop_by}
+use Rattle.clone_joined.specs.Runs.{HasRun, stop_by}
 use Rattle.clone_joined.proofs.AskedLemmas.{AreWithin, IsWithin, MayStep, within_may}
 use Rattle.clone_joined.proofs.RunLemmas.{StaysSaid, call_may, run_on, said_on, stop_here}
 

@@ -1,5 +1,5 @@
 -- However a step of a task ends the clone: the recipient's disk is in progress still, or complete.
-use Rattle.std.proofs.Common.{ℕ, ◌≡◌, ◌∙◌, ◌<◌, ◌^◌, ◌⊎◌, [], List, true, Option, None, Some, MatchOption, refl, sym, ap, subst, inl, inr}
+use Rattle.std.proofs.Common.{ℕ, ◌≡◌, ◌<◌, ◌^◌, ◌⊎◌, [], List, true, Option, None, Some, MatchOption, refl, sym, ap, subst, inl, inr}
 use Rattle.std.specs.Prelude.{not}
 use Rattle.clone_outside.specs.Disk.{DiskImage, ForTold, IsBeforeOrAfter, Steps}
 use Rattle.clone_outside.specs.DiskCalls.{DiskState}
@@ -12,7 +12,6 @@ use Rattle.clone_staged.specs.Holds.{HoldsCopy}
 use Rattle.clone_session.specs.declared.info.Stop.{Stop}
 use Rattle.clone_tasks.specs.Rules.{rule_at}
 use Rattle.clone_tasks.specs.Tables.{is_done}
-use Rattle.clone_tasks.specs.declared.rule.Link.{Link}
 use Rattle.clone_tasks.specs.declared.rule.Link.TheVariants.{Absent}
 use Rattle.clone_tasks.specs.declared.rule.Rule.{Rule}
 use Rattle.clone_tasks.specs.declared.rule.Rule.TheVariants as rule

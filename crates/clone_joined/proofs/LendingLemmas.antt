@@ -1,5 +1,5 @@
 -- What a clone's calls leave of a donor, one by one and over a step of a donor's end.
-use Rattle.std.proofs.Common.{ℕ, ◌≡◌, ◌≤◌, ◌∙◌, ◌++◌, ◌∷◌, [], List, Option, None, Some, Ok, Err, is_some, refl, sym, ap, subst, arith, length, length-append}
+use Rattle.std.proofs.Common.{ℕ, ◌≡◌, ◌∙◌, ◌++◌, ◌∷◌, [], List, Option, None, Some, Ok, Err, is_some, sym, ap, subst, arith, length, length-append}
 use Rattle.std.specs.Bool.{⊤}
 use Rattle.std.specs.List.{AllByRecursion}
 use Rattle.std.specs.Option.{option_or}
@@ -17,7 +17,7 @@ use Rattle.clone_calls.specs.declared.block.BlockRefusal.{BlockRefusal}
 use Rattle.clone_calls.specs.declared.block.BlockRefusal.TheVariants as unread
 use Rattle.clone_calls.specs.declared.call.DonorCall.{DonorCall}
 use Rattle.clone_calls.specs.declared.call.DonorCall.TheVariants as call
-use Rattle.clone_serve.specs.Commands.{command_of, first_command, later_command}
+use Rattle.clone_serve.specs.Commands.{command_of}
 use Rattle.clone_serve.specs.Stepping.{GivesAll}
 use Rattle.clone_serve.specs.Telling.{Exchange}
 use Rattle.clone_serve.specs.declared.commands.Command.{Command}

@@ -1,6 +1,6 @@
 -- While the clone goes on the recipient's disk says so, and a step of a task that doesn't complete it
 -- leaves its mark.
-use Rattle.std.proofs.Common.{ℕ, ◌≡◌, ◌∙◌, ◌∷◌, [], List, Bool, true, false, Option, None, Some, option_map, refl, sym, ap, subst, inl, inr}
+use Rattle.std.proofs.Common.{ℕ, ◌≡◌, ◌∙◌, ◌∷◌, [], List, Bool, true, false, Option, None, Some, option_map, refl, ap}
 use Rattle.clone_outside.specs.Disk.{DiskImage, ForTold}
 use Rattle.clone_outside.specs.DiskCalls.{DiskState}
 use Rattle.clone_accepted.specs.Answers.{Answer, Item, Moves, PageBlock, RedoBlock, Stage, Takes as TakesItem, Told, ToldDone, ToldFiles, ToldPages, ToldRedo}

@@ -4,7 +4,7 @@ use Rattle.std.specs.Bool.{⊤}
 use Rattle.std.specs.Option.{option_map_or}
 use Rattle.std.proofs.lemmas.Bool.{eq-eqb, eqb-true, true≢false}
 use Rattle.clone_session.specs.declared.info.StageInfo.{StageInfo}
-use Rattle.clone_session.specs.Cloning.{Cloning, Session}
+use Rattle.clone_session.specs.Cloning.{Session}
 use Rattle.clone_session.specs.Effects.{Tells as TellsInfo}
 use Rattle.clone_engine.specs.Acts.{Act}
 use Rattle.clone_engine.specs.Donor.{Donor}

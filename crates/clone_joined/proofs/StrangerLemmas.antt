@@ -1,5 +1,5 @@
 -- A step of a stranger's connection, by which nobody acts in the session: the donor's run goes on.
-use Rattle.std.proofs.Common.{ℕ, ◌≡◌, ◌∙◌, ◌==◌, ◌++◌, ◌∷◌, ◌&&◌, ◌||◌, [], List, Bool, true, false, if◌then◌else◌, Option, None, Some, Ok, Err, slice_get, refl, sym, ap, subst, inl, inr}
+use Rattle.std.proofs.Common.{ℕ, ◌≡◌, ◌∙◌, ◌==◌, ◌++◌, ◌∷◌, ◌&&◌, ◌||◌, [], List, Bool, true, false, if◌then◌else◌, Option, None, Some, Ok, slice_get, refl, sym, ap, subst, inl, inr}
 use Rattle.std.specs.Bool.{⊤}
 use Rattle.std.specs.Prelude.{not}
 use Rattle.std.specs.Option.{option_map_or}
@@ -15,7 +15,7 @@ use Rattle.clone_calls.specs.declared.answer.DonorAnswer.TheVariants as answer
 use Rattle.clone_calls.specs.declared.call.DonorCall.TheVariants as call
 use Rattle.clone_serve.specs.Commands.{caller_of, command_of, first_command, hello_of, later_command}
 use Rattle.clone_serve.specs.Following.{after}
-use Rattle.clone_serve.specs.Serving.{Commands, GoesOn, turn_after}
+use Rattle.clone_serve.specs.Serving.{GoesOn, turn_after}
 use Rattle.clone_serve.specs.Stepping.{Goes}
 use Rattle.clone_serve.specs.Telling.{Exchange}
 use Rattle.clone_serve.specs.declared.after.After.{After}
@@ -39,7 +39,7 @@ use Rattle.clone_sides.proofs.OptionLemmas.{same_some}
 use Rattle.clone_told.specs.Told.{gives}
 use Rattle.clone_joined.specs.Runs.{HasCome, HasRun, MayAct, stands, stop_by}
 use Rattle.clone_joined.specs.Strangers.{acts_in, attach_code, attaches, carries_out}
-use Rattle.clone_joined.proofs.AskedLemmas.{AsksAll, BeginsBy, MayStep, commanded, inside, step_asks, within_may}
+use Rattle.clone_joined.proofs.AskedLemmas.{AsksAll, MayStep, commanded, inside, step_asks, within_may}
 use Rattle.clone_joined.proofs.GivenLemmas.{RunsOn, step_on}
 use Rattle.clone_joined.proofs.RunLemmas.{StaysSaid, call_may}
 use Rattle.clone_joined.proofs.StandsLemmas.{stands_in}
@@ -156,7 +156,7 @@ module _ (number : ℕ) (floor : Option ℕ) (d : Donor) where
     by_calls [] begun last turn old new goes asks = tt
     by_calls (x ∷ xs) begun last turn old new (is, (mid, sent, next, on, rest)) (commanded bound idle takes, more) =
         let unless : Unless takes.command begun x.1 = λ other following following_is told.
-            aside takes.command idle takes.taken (went_told begun x.1 following mid last next xs old sent new e.says following_is told on rest) other in
+        aside takes.command idle takes.taken (went_told begun x.1 following mid last next xs old sent new e.says following_is told on rest) other in
         ((λ v does. subst (Keeps takes.command) takes.asks (command_keeps bound takes.command) x.1 v does unless), more)
     by_calls (x ∷ xs) begun last turn old new goes (inside is same, more) =
         ((λ v does. call_may number floor x.0 x.1 d v does (within_may floor x.0 is)), more)

@@ -1,4 +1,3 @@
-use Rattle.std.proofs.Common.{Some}
 use Rattle.clone_joined.proofs.ClonedLemmas.{joined_completes}
 use Rattle.clone_joined.proofs.JoinedLemmas.{joined_acts, joined_begins, joined_cuts, joined_donor, joined_strangers, joined_task}
 use Rattle.clone_joined.proofs.LeftLemmas.{joined_ends}
