@@ -86,10 +86,10 @@ pub fn joined_laws()
         → StepsTask task floor r s disk after n m answer → IsLeft number stop d after.told }
 {}
 
-/// A step of a donor's end leaves the plain donor and what its disk holds, whoever is connected. A
-/// stop that comes by it, or by any act, is one of this moment. The donor's disk is at fault only
-/// where its count of faults rose. So much stays by each call of a clone, and an act of any kind
-/// leaves it open or known what the disk holds.
+/// A step of a donor's end, whoever is connected, leaves the plain donor and what its disk holds. A
+/// stop that comes by it, as by any act, has as many commits and drops as the donor has then. The
+/// step says that the donor's disk failed only where the count of faults rose. One call of a clone
+/// leaves as much, and no act changes whether the disk tells what it holds.
 pub fn end_laws()
     ensures lends { (d t : Donor) (at after : Connection) (says : DonorStep)
         → StepsEnd gives d t at after says → Lends d t }
