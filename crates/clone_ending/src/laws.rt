@@ -85,7 +85,7 @@ pub fn service_laws()
 
 /// A connection that nobody reads any more has less left after each step of the donor's end, as
 /// long as the loop of that goes on.
-pub fn end_laws()
+pub fn lone_end_laws()
     ensures end { (d t : Donor) (at after : Connection) (answer : DonorStep) → IsDonor d
         → IsCloning d.cloning
         → ForSome d.cloning.session (λ s. IsSnap s.snap.list s.snap.chunks s.snap.room)

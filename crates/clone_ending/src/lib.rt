@@ -1,7 +1,7 @@
-//! How much a clone has left to do, as one number, which each step of a task lowers, so that a loop
-//! of such steps ends.
+//! How much a clone, and a donor over its connections, have left to do, each as one number that their
+//! steps lower, so that loops of such steps end.
 #![tactic(auto)]
 
 mod laws;
 
-pub use laws::{end_laws, ending_laws, given_up_laws, quiet_laws, service_laws, unread_laws};
+pub use laws::{ending_laws, given_up_laws, lone_end_laws, quiet_laws, service_laws, unread_laws};

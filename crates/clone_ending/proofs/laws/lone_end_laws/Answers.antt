@@ -1,5 +1,5 @@
 use Rattle.clone_ending.proofs.EndLemmas.{end_step}
-use Rattle.clone_ending.proofs.laws.end_laws.Goals as goal
+use Rattle.clone_ending.proofs.laws.lone_end_laws.Goals as goal
 
 pub returns : goal.returns
 returns c = record { end = end_step }
