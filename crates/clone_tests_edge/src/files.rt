@@ -2,6 +2,7 @@ use clone_base::PAGE_SIZE;
 use clone_outside::{MARK_SIZE, PageDisk, Refusal};
 use clone_real::FileDisk;
 use std::alloc::{AllocError, Global};
+use std::fs::OpenOptions;
 use std::test::Fail;
 use std::{fs, process};
 
@@ -167,6 +168,23 @@ fn files_of_wrong_lengths_are_faults(rt: HostRuntime) -> Result<(), Fail> {
     assert!(rt; fails(&extend(&mut disk, 2, 9)));
     assert!(rt; fails(&mark(&mut disk)));
     assert_eq!(rt; disk.faults(), 3);
+    remove(&rt, path.as_str())
+}
+
+#[test]
+fn a_page_that_is_read_in_part_is_a_fault(rt: HostRuntime) -> Result<(), Fail> {
+    let path = place(&rt, "part")?;
+    let mut disk = FileDisk::new(rt, path.as_str())?;
+    create(&mut disk, 1, 2)?;
+    let file = format!(in rt.alloc(); "{path}/space_1.pages")?;
+    let length = PAGE_SIZE as u64 + 2_048;
+    OpenOptions::new()
+        .write(true)
+        .open(&rt, file.as_str())?
+        .set_len(length)?;
+    assert!(rt; reads(&mut disk, 1, 0, [0, 0])?);
+    assert!(rt; fails(&reads(&mut disk, 1, 1, [0, 0])));
+    assert_eq!(rt; disk.faults(), 1);
     remove(&rt, path.as_str())
 }
 
