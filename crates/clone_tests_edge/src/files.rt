@@ -189,6 +189,30 @@ fn a_page_that_is_read_in_part_is_a_fault(rt: HostRuntime) -> Result<(), Fail> {
 }
 
 #[test]
+fn a_sync_without_its_directory_is_a_fault(rt: HostRuntime) -> Result<(), Fail> {
+    let path = place(&rt, "away")?;
+    let mut disk = FileDisk::new(rt, path.as_str())?;
+    create(&mut disk, 1, 1)?;
+    fs::remove_dir_all(&rt, path.as_str())?;
+    assert!(rt; fails(&sync(&mut disk)));
+    assert!(rt; fails(&sync(&mut disk)));
+    fs::create_dir(&rt, path.as_str())?;
+    sync(&mut disk)?;
+    assert_eq!(rt; disk.faults(), 2);
+    remove(&rt, path.as_str())
+}
+
+#[test]
+fn a_directory_that_the_system_cannot_sync_is_a_fault(rt: HostRuntime) -> Result<(), Fail> {
+    let mut disk = FileDisk::new(rt, "/proc")?;
+    sync(&mut disk)?;
+    assert!(rt; fails(&create(&mut disk, 1, 1)));
+    assert!(rt; fails(&sync(&mut disk)));
+    assert_eq!(rt; disk.faults(), 2);
+    Ok(())
+}
+
+#[test]
 fn a_path_that_is_no_directory_is_a_fault(rt: HostRuntime) -> Result<(), Fail> {
     let path = place(&rt, "file")?;
     let mut disk = FileDisk::new(rt, path.as_str())?;
