@@ -21,7 +21,8 @@ use Rattle.clone_events.specs.Runs.{MakesClean, all_clean, not_flushed, flushed}
 use Rattle.clone_events.specs.BreaksOff.{IsDone}
 use Rattle.clone_events.proofs.RunLemmas.{Events-append}
 use Rattle.clone_engine.specs.Engine.{Engine}
-use Rattle.clone_core.specs.System.{SystemStep, donor_of}
+use Rattle.clone_core.specs.Steps.{SystemStep}
+use Rattle.clone_core.specs.System.{donor_of}
 use Rattle.clone_core.specs.Lines.{State, Answers, BreaksOff}
 use Rattle.clone_core.specs.Called.{Called, SaysCause, CleansAll, StopsCleaning, Cleans}
 use Rattle.clone_core.proofs.LineLemmas.{ChangesNothing, refused_stays}
@@ -50,11 +51,11 @@ clean_begins s few = record { pages = []; count = refl; happened = refl; few = o
 -- one fewer page waits once a page was flushed
 pub fewer_wait : (u v w x t : State) (space page : ℕ) → Did u call.OldestDirty (answers.OldestDirty (Some (space, page))) v → Did v (call.FlushBegin space page) answers.FlushBegin w → Did w (call.FlushHalf space page) answers.FlushHalf x → Did x (call.FlushLand space page) answers.FlushLand t → waiting (frames_of t) + 1 ≡ waiting (frames_of u)
 fewer_wait u v w x t space page looks begins halves lands =
-    let began = begins.step.0.steps.does.1 in
-    let halved = halves.step.0.steps.does.1 in
-    let landed = lands.step.0.steps.does.1 in
+    let began = begins.step.0.does.steps.does.1 in
+    let halved = halves.step.0.does.steps.does.1 in
+    let landed = lands.step.0.does.steps.does.1 in
     one_fewer (frames_of u) (frames_of v) (frames_of w) (frames_of x) (frames_of t) began.0 landed.1 (record { space = space; number = page })
-    (ap (λ (e : Engine). e.buffer.pool.frames) looks.step.0.steps.1)
+    (ap (λ (e : Engine). e.buffer.pool.frames) looks.step.0.does.steps.1)
     (ap (λ (s : flushes.State). s.buffer.pool.frames) began.2)
     (ap (λ (s : flushes.State). s.buffer.pool.frames) halved.3)
     (ap (λ (s : flushes.State). s.buffer.pool.frames) landed.3)
@@ -127,6 +128,7 @@ stops s u v t landed page front rest asked given did NoMemory is split before fa
   donor = failed.donor;
   begun = failed.begun;
   tells = failed.tells;
+  tasks = failed.tasks;
   clone = inl failed.clone;
 }
 
@@ -160,7 +162,7 @@ all_answers : (s t : State) (landed : ℕ) (text : Text) → CleansAll s landed 
 all_answers s t landed text is says =
     let front = flat_map flushed is.pages ++ made call.OldestDirty (Ok (answers.OldestDirty None)) ∷ [] in
     let last = cleaned (length is.pages) in
-    let ends : Happens donor_of SystemStep t last t = record { step = refl; begun = refl; clone = record { now = tt; shows = tt; is = refl }; tells = refl; sees = λ _. tt } in
+    let ends : Happens donor_of SystemStep t last t = record { step = refl; begun = refl; clone = record { now = tt; shows = tt; is = refl }; tells = refl; tasks = refl; sees = λ _. tt } in
     record {
       events = front ++ last ∷ [];
       step = (whole_makes is.pages, Events-append donor_of SystemStep s front (last ∷ []) t t is.happened (t, ends, refl));
@@ -184,6 +186,7 @@ clean_breaks s t landed (Err e) is = record {
   donor = refl;
   begun = refl;
   tells = refl;
+  tasks = refl;
   clone = inl refl;
 }
 
@@ -233,6 +236,7 @@ stopped_breaks s t (Because cause) is =
       donor = stays.donor;
       begun = stays.begun;
       tells = stays.tells;
+      tasks = stays.tasks;
       clone = inl stays.clone;
     }
 stopped_breaks s t NoMemory is = is

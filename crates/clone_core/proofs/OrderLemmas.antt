@@ -1,20 +1,22 @@
 -- Each disk gets the orders of the lines that are for it, and no others.
-use Rattle.std.proofs.Common.{◌≡◌, ◌≤◌, ℕ, List, [], ◌∷◌, ◌++◌, refl, sym, ap, ◌∙◌, subst, arith, Option, None, Some, append_assoc, append-nil, filter_map, flat_map, Ok, Err}
+use Rattle.std.proofs.Common.{◌≡◌, ◌≤◌, ◌+◌, ℕ, zero, suc, List, [], ◌∷◌, ◌++◌, refl, sym, ap, ◌∙◌, subst, arith, Option, None, Some, append_assoc, append-nil, filter_map, flat_map, Ok, Err}
 use Rattle.std.specs.List.{AllByRecursion, cons_option}
 use Rattle.clone_outside.specs.declared.disk.DiskOrder.{DiskOrder}
 use Rattle.clone_script.specs.declared.lines.Line.{Line}
 use Rattle.clone_script.specs.declared.lines.Line.TheVariants as lines
 use Rattle.clone_plain.specs.declared.call.EngineCall.{EngineCall}
-use Rattle.clone_events.specs.Events.{Side, to_donor, to_recipient, Event, made, cleaned, looked, archived, started, stopped, readied, completed, broke, lost, again, showed, incomplete, hidden, damaged, ordered, Events}
+use Rattle.clone_events.specs.Events.{Side, to_donor, to_recipient, Event, made, cleaned, looked, archived, started, unbegun, occupied, acts, readied, sticks, again, showed, incomplete, hidden, damaged, ordered, Events}
 use Rattle.clone_events.specs.Headline.{donor_order, recipient_order}
-use Rattle.clone_events.specs.Runs.{Makes, MakesOne, MakesSet, not_begun, not_changed, set, MakesClean, all_clean, not_flushed, flushed, MakesEvent, GoesOn, at_once, by_stop, MakesClone, Starts, Advances, Finishes, Archives, Looks, ShowsOrNot}
+use Rattle.clone_events.specs.Runs.{Makes, MakesOne, MakesSet, not_begun, not_changed, set, MakesClean, all_clean, not_flushed, flushed, MakesEvent, IsBy, AreOfTasks, AreOfDonor, IsRound, AreRounds, no_round, next_round, GoesOn, MakesClone, Starts, Advances, Finishes, Archives, Looks, ShowsOrNot}
 use Rattle.clone_engine.specs.Disks.{Visits}
 use Rattle.clone_outside.specs.DiskCalls.{DiskState}
 use Rattle.clone_engine.specs.Engine.{Engine}
 use Rattle.clone_engine.specs.Donor as staged
-use Rattle.clone_core.specs.System.{System, SystemStep, VisitsRecipient, CopiesOn, ArchivesTo, donor_of}
+use Rattle.clone_core.specs.Steps.{SystemStep}
+use Rattle.clone_core.specs.System.{System, VisitsRecipient, donor_of}
 use Rattle.clone_core.specs.Lines.{State, Runs}
-use Rattle.clone_core.proofs.StepLemmas.{made_visits, same_visits}
+use Rattle.clone_core.proofs.ActingLemmas.{acts_leave, same_visits}
+use Rattle.clone_core.proofs.StepLemmas.{made_visits}
 
 -- the disk of a side
 abbrev pub disk_of : Side → System → DiskState
@@ -54,14 +56,16 @@ both_get to_recipient s t donor recipient = visits_get to_recipient s t recipien
 same_gets : (side : Side) (s t : System) → t ≡ s → Gets side s t None
 same_gets side s t is = visits_get side s t (same_visits _ _ (ap (disk_of side) is))
 
+-- all but the recipient's disk stays of them
+beside_gets : (side : Side) (s t : System) → t.donor ≡ s.donor → Visits s.recipient t.recipient → Gets side s t None
+beside_gets side s t same visits = both_get side s t (same_visits _ _ (ap (λ (d : staged.Donor). d.engine.disk) same)) visits
+
 recipient_gets : (side : Side) (s t : System) → VisitsRecipient s t → Gets side s t None
-recipient_gets side s t is = both_get side s t (same_visits _ _ (ap (λ (d : staged.Donor). d.engine.disk) is.donor)) is.recipient
+recipient_gets side s t is = beside_gets side s t (ap (λ (w : System). w.donor) is.others) is.recipient
 
-copies_get : (side : Side) (s t : System) → CopiesOn s t → Gets side s t None
-copies_get side s t is = both_get side s t is.donor.disk is.recipient
-
-archives_get : (side : Side) (limit : ℕ) (reached : Option ℕ) (s t : System) → ArchivesTo limit reached s t → Gets side s t None
-archives_get side limit reached s t is = both_get side s t (same_visits _ _ (ap (λ (e : Engine). e.disk) is.archives.1)) (same_visits _ _ is.recipient)
+-- all but the donor stays
+lent_gets : (side : Side) (s t : System) → Visits s.donor.engine.disk t.donor.engine.disk → t ≡ record s { donor = t.donor } → Gets side s t None
+lent_gets side s t visits is = both_get side s t visits (same_visits _ _ (ap (λ (w : System). w.recipient) is))
 
 donor_gets : (side : Side) (s t : System) (order : DiskOrder) → SystemStep s (ordered to_donor order) t → Gets side s t (order_for side to_donor order)
 donor_gets to_donor s t order is = record { later = omega (arith, ap (λ (w : System). w.donor.engine.disk.failures) is); orders = ap (λ (w : System). w.donor.engine.disk.orders) is }
@@ -72,18 +76,18 @@ for_recipient_gets to_donor s t order is = visits_get to_donor s t (same_visits 
 for_recipient_gets to_recipient s t order is = record { later = omega (arith, ap (λ (w : System). w.recipient.failures) is); orders = ap (λ (w : System). w.recipient.orders) is }
 
 pub event_gets : (side : Side) (s : System) (e : Event) (t : System) → SystemStep s e t → Gets side s t (order_in side e)
-event_gets side s (made asked answer) t is = both_get side s t (made_visits s.donor t.donor asked answer is.0) (same_visits _ _ is.1)
+event_gets side s (made asked answer) t is = lent_gets side s t (made_visits s.donor t.donor asked answer is.0) is.1
 event_gets side s (cleaned landed) t is = same_gets side s t is
-event_gets side s (looked position) t is = same_gets side s t is
-event_gets side s (archived limit reached) t is = archives_get side limit reached s t is
-event_gets side s started t is = recipient_gets side s t is
-event_gets side s (stopped at) t is = same_gets side s t is
-event_gets side s (readied stages) t is = copies_get side s t is
-event_gets side s (completed position) t is = copies_get side s t is
-event_gets side s broke t is = copies_get side s t is.0
-event_gets side s lost t is = copies_get side s t is.0
+event_gets side s (looked position) t is = beside_gets side s t (ap (λ (w : System). w.donor) is) (same_visits _ _ (ap (λ (w : System). w.recipient) is))
+event_gets side s (archived limit reached) t is = lent_gets side s t (same_visits _ _ (ap (λ (e : Engine). e.disk) is.0.does.1)) is.1
+event_gets side s started t is = beside_gets side s t (ap (λ (w : System). w.donor) is.is) is.visits
+event_gets side s unbegun t is = beside_gets side s t (ap (λ (w : System). w.donor) is.is) is.visits
+event_gets side s occupied t is = recipient_gets side s t is
+event_gets side s (acts by changes answer) t is = let leaves = acts_leave by s t changes answer is in both_get side s t leaves.lends.disk leaves.recipient
+event_gets side s (readied stage) t is = same_gets side s t is.0
+event_gets side s sticks t is = same_gets side s t is
 event_gets side s (again wish answer) t is = same_gets side s t is
-event_gets side s (showed rows) t is = recipient_gets side s t is
+event_gets side s (showed rows) t is = beside_gets side s t (ap (λ (w : System). w.donor) is.is) is.visits
 event_gets side s incomplete t is = recipient_gets side s t is.0
 event_gets side s hidden t is = recipient_gets side s t is.visits
 event_gets side s (damaged space page why) t is = recipient_gets side s t is.0
@@ -166,13 +170,36 @@ looks_none side e is = refl
 one_none : (side : Side) (Kind : Event → Type 0) (es : List Event) → ((e : Event) → Kind e → order_in side e ≡ None) → MakesEvent Kind es → filter_map (order_in side) es ≡ []
 one_none side Kind es none is = ap (filter_map (order_in side)) is.2 ∙ ap (λ o. cons_option o []) (none is.0 is.1)
 
-goes_none : (side : Side) (Kind : Event → Type 0) (es : List Event) → ((e : Event) → Kind e → order_in side e ≡ None) → GoesOn Kind es → filter_map (order_in side) es ≡ []
-goes_none side Kind es none (at_once e kind is) = ap (filter_map (order_in side)) is ∙ ap (λ o. cons_option o []) (none e kind)
-goes_none side Kind es none (by_stop at e kind is) = ap (filter_map (order_in side)) is ∙ ap (λ o. cons_option o []) (none e kind)
+-- nor is a step of a task or of the donor, or what else a line asks of a clone
+by_none : (side : Side) (line : Line) (e : Event) → IsBy line e → order_in side e ≡ None
+by_none side line (ordered to order) is = absurd is
+by_none side line e is = refl
 
-clone_none : (side : Side) (es : List Event) → MakesClone es → filter_map (order_in side) es ≡ []
-clone_none side es is =
-    ap (filter_map (order_in side)) is.4 ∙ ap (λ o. cons_option o (filter_map (order_in side) is.1)) (starts_none side is.0 is.2) ∙ goes_none side Finishes is.1 (finishes_none side) is.3
+none_append : (side : Side) (xs ys : List Event) → AllByRecursion (NoOrder side) xs → AllByRecursion (NoOrder side) ys → AllByRecursion (NoOrder side) (xs ++ ys)
+none_append side [] ys first second = second
+none_append side (x ∷ xs) ys first second = (first.0, none_append side xs ys first.1 second)
+
+tasks_none : (side : Side) (first count : ℕ) (events : List Event) → AreOfTasks first count events → AllByRecursion (NoOrder side) events
+tasks_none side first zero events is = subst (AllByRecursion (NoOrder side)) (sym is) tt
+tasks_none side first (suc count) [] is = absurd is
+tasks_none side first (suc count) (e ∷ events) is = (by_none side _ e is.0, tasks_none side (first + 1) count events is.1)
+
+donor_none : (side : Side) (least : ℕ) (events : List Event) → AreOfDonor least events → AllByRecursion (NoOrder side) events
+donor_none side least [] is = tt
+donor_none side least (e ∷ events) is = (by_none side _ e is.2, donor_none side (is.0 + 1) events is.3)
+
+round_none : (side : Side) (tasks : ℕ) (events : List Event) → IsRound tasks events → AllByRecursion (NoOrder side) events
+round_none side tasks events is = subst (AllByRecursion (NoOrder side)) (sym is.split) (none_append side is.by_tasks is.by_donor (tasks_none side 0 tasks is.by_tasks is.of_tasks) (donor_none side 0 is.by_donor is.of_donor))
+
+rounds_none : (side : Side) (tasks : ℕ) (events : List Event) → AreRounds tasks events → AllByRecursion (NoOrder side) events
+rounds_none side tasks [] no_round = tt
+rounds_none side tasks events (next_round round rest is are) = none_append side round rest (round_none side tasks round is) (rounds_none side tasks rest are)
+
+goes_none : (side : Side) (tasks : ℕ) (Kind : Event → Type 0) (es : List Event) → ((e : Event) → Kind e → order_in side e ≡ None) → GoesOn tasks Kind es → AllByRecursion (NoOrder side) es
+goes_none side tasks Kind es none is = subst (AllByRecursion (NoOrder side)) (sym is.is) (none_append side is.rounds (is.last ∷ []) (rounds_none side tasks is.rounds is.are) (none is.last is.kind, tt))
+
+clone_none : (side : Side) (tasks : ℕ) (es : List Event) → MakesClone tasks es → AllByRecursion (NoOrder side) es
+clone_none side tasks es is = subst (AllByRecursion (NoOrder side)) (sym is.4) (starts_none side is.0 is.2, goes_none side tasks Finishes is.1 (finishes_none side) is.3)
 
 rows_none : (side : Side) (e : Event) → ShowsOrNot e → order_in side e ≡ None
 rows_none side (ordered to order) is = absurd is
@@ -194,32 +221,39 @@ to_recipient_line : (side : Side) (line : Line) (order : DiskOrder) (es : List E
 to_recipient_line to_donor line order es donor recipient is = ap (filter_map (order_in to_donor)) is ∙ ap (λ o. cons_option o []) (sym donor)
 to_recipient_line to_recipient line order es donor recipient is = ap (filter_map (order_in to_recipient)) is ∙ ap (λ o. cons_option o []) (sym recipient)
 
-line_orders : (side : Side) (next : ℕ → ℕ) (line : Line) (es : List Event) → Makes next line es → OfLine side line es
-line_orders side next (lines.Create table buckets) es is = no_order side _ es refl refl (call_none side _ es is)
-line_orders side next (lines.Drop table) es is = no_order side _ es refl refl (call_none side _ es is)
-line_orders side next (lines.Begin writer) es is = no_order side _ es refl refl (call_none side _ es is)
-line_orders side next (lines.Put trx table key value) es is = no_order side _ es refl refl (call_none side _ es is)
-line_orders side next (lines.Delete trx table key) es is = no_order side _ es refl refl (call_none side _ es is)
-line_orders side next (lines.Get trx table key) es is = no_order side _ es refl refl (call_none side _ es is)
-line_orders side next (lines.Undo trx) es is = no_order side _ es refl refl (call_none side _ es is)
-line_orders side next (lines.Commit trx) es is = no_order side _ es refl refl (call_none side _ es is)
-line_orders side next (lines.Set writer table key value) es is = no_order side _ es refl refl (set_none side writer _ table key value es is)
-line_orders side next (lines.Flush space page) es is = no_order side _ es refl refl (call_none side _ es is)
-line_orders side next (lines.Half space page) es is = no_order side _ es refl refl (call_none side _ es is)
-line_orders side next (lines.Land space page) es is = no_order side _ es refl refl (call_none side _ es is)
-line_orders side next lines.Clean es is = no_order side _ es refl refl (none_in side es (clean_none side es is))
-line_orders side next lines.Checkpoint es is = no_order side _ es refl refl (call_none side _ es is)
-line_orders side next lines.Lsn es is = no_order side _ es refl refl (call_none side _ es is)
-line_orders side next (lines.Tear byte) es is = to_donor_line side _ _ es refl refl is
-line_orders side next (lines.FailDonor number) es is = to_donor_line side _ _ es refl refl is
-line_orders side next (lines.FailRecipient number) es is = to_recipient_line side _ _ es refl refl is
-line_orders side next lines.Start es is = no_order side _ es refl refl (one_none side Starts es (starts_none side) is)
-line_orders side next lines.Advance es is = no_order side _ es refl refl (goes_none side Advances es (advances_none side) is)
-line_orders side next lines.Finish es is = no_order side _ es refl refl (goes_none side Finishes es (finishes_none side) is)
-line_orders side next lines.Look es is = no_order side _ es refl refl (one_none side Looks es (looks_none side) is)
-line_orders side next (lines.Archive bytes) es is = no_order side _ es refl refl (one_none side (Archives bytes) es (archives_none side bytes) is)
-line_orders side next lines.Clone es is = no_order side _ es refl refl (clone_none side es is)
-line_orders side next lines.Rows es is = no_order side _ es refl refl (one_none side ShowsOrNot es (rows_none side) is)
+line_orders : (side : Side) (tasks : ℕ) (next : ℕ → ℕ) (line : Line) (es : List Event) → Makes tasks next line es → OfLine side line es
+line_orders side tasks next (lines.Create table buckets) es is = no_order side _ es refl refl (call_none side _ es is)
+line_orders side tasks next (lines.Drop table) es is = no_order side _ es refl refl (call_none side _ es is)
+line_orders side tasks next (lines.Begin writer) es is = no_order side _ es refl refl (call_none side _ es is)
+line_orders side tasks next (lines.Put trx table key value) es is = no_order side _ es refl refl (call_none side _ es is)
+line_orders side tasks next (lines.Delete trx table key) es is = no_order side _ es refl refl (call_none side _ es is)
+line_orders side tasks next (lines.Get trx table key) es is = no_order side _ es refl refl (call_none side _ es is)
+line_orders side tasks next (lines.Undo trx) es is = no_order side _ es refl refl (call_none side _ es is)
+line_orders side tasks next (lines.Commit trx) es is = no_order side _ es refl refl (call_none side _ es is)
+line_orders side tasks next (lines.Set writer table key value) es is = no_order side _ es refl refl (set_none side writer _ table key value es is)
+line_orders side tasks next (lines.Flush space page) es is = no_order side _ es refl refl (call_none side _ es is)
+line_orders side tasks next (lines.Half space page) es is = no_order side _ es refl refl (call_none side _ es is)
+line_orders side tasks next (lines.Land space page) es is = no_order side _ es refl refl (call_none side _ es is)
+line_orders side tasks next lines.Clean es is = no_order side _ es refl refl (none_in side es (clean_none side es is))
+line_orders side tasks next lines.Checkpoint es is = no_order side _ es refl refl (call_none side _ es is)
+line_orders side tasks next lines.Lsn es is = no_order side _ es refl refl (call_none side _ es is)
+line_orders side tasks next (lines.Tear byte) es is = to_donor_line side _ _ es refl refl is
+line_orders side tasks next (lines.FailDonor number) es is = to_donor_line side _ _ es refl refl is
+line_orders side tasks next (lines.FailRecipient number) es is = to_recipient_line side _ _ es refl refl is
+line_orders side tasks next lines.Start es is = no_order side _ es refl refl (one_none side Starts es (starts_none side) is)
+line_orders side tasks next (lines.Task number) es is = no_order side _ es refl refl (one_none side (IsBy (lines.Task number)) es (by_none side (lines.Task number)) is)
+line_orders side tasks next (lines.Serve connection) es is = no_order side _ es refl refl (one_none side (IsBy (lines.Serve connection)) es (by_none side (lines.Serve connection)) is)
+line_orders side tasks next (lines.Cut connection near far) es is = no_order side _ es refl refl (one_none side (IsBy (lines.Cut connection near far)) es (by_none side (lines.Cut connection near far)) is)
+line_orders side tasks next lines.Status es is = no_order side _ es refl refl (one_none side (IsBy lines.Status) es (by_none side lines.Status) is)
+line_orders side tasks next (lines.Raw bytes) es is = no_order side _ es refl refl (one_none side (IsBy (lines.Raw bytes)) es (by_none side (lines.Raw bytes)) is)
+line_orders side tasks next (lines.Feed connection bytes) es is = no_order side _ es refl refl (one_none side (IsBy (lines.Feed connection bytes)) es (by_none side (lines.Feed connection bytes)) is)
+line_orders side tasks next lines.Abandon es is = no_order side _ es refl refl (one_none side (IsBy lines.Abandon) es (by_none side lines.Abandon) is)
+line_orders side tasks next lines.Advance es is = no_order side _ es refl refl (none_in side es (goes_none side tasks Advances es (advances_none side) is))
+line_orders side tasks next lines.Finish es is = no_order side _ es refl refl (none_in side es (goes_none side tasks Finishes es (finishes_none side) is))
+line_orders side tasks next lines.Look es is = no_order side _ es refl refl (one_none side Looks es (looks_none side) is)
+line_orders side tasks next (lines.Archive bytes) es is = no_order side _ es refl refl (one_none side (Archives bytes) es (archives_none side bytes) is)
+line_orders side tasks next lines.Clone es is = no_order side _ es refl refl (none_in side es (clone_none side tasks es is))
+line_orders side tasks next lines.Rows es is = no_order side _ es refl refl (one_none side ShowsOrNot es (rows_none side) is)
 
 -- THE ORDERS OF A RUN
 pub run_orders : (side : Side) (s : State) (ls : List Line) (events : List (List Event)) (t : State) → Runs s ls events t → (disk_of side t.donor).orders ≡ (disk_of side s.donor).orders ++ filter_map (order_of side) ls
@@ -227,5 +261,5 @@ run_orders side s [] [] t run = ap (λ (w : State). (disk_of side w.donor).order
 run_orders side s [] (es ∷ more) t run = absurd run
 run_orders side s (l ∷ ls) [] t run = absurd run
 run_orders side s (l ∷ ls) (es ∷ more) t run =
-    let first : GetsAll side s run.0 (cons_option (order_of side l) []) = events_get side s es run.0 run.1.1 ∙ ap (λ os. (disk_of side s.donor).orders ++ os) (line_orders side _ l es run.1.0) in
+    let first : GetsAll side s run.0 (cons_option (order_of side l) []) = events_get side s es run.0 run.1.1 ∙ ap (λ os. (disk_of side s.donor).orders ++ os) (line_orders side s.tasks _ l es run.1.0) in
     gets_behind side s run.0 t (order_of side l) (filter_map (order_of side) ls) first (run_orders side run.0 ls more t run.2)

@@ -3,25 +3,26 @@ use Rattle.std.proofs.Common.{◌≡◌, ◌≤◌, ℕ, List, [], ◌∷◌, le
 use Rattle.clone_outside.specs.Causes.{Rose}
 use Rattle.clone_model.specs.declared.config.Config.{Config}
 use Rattle.clone_script.specs.declared.lines.Line.{Line}
+use Rattle.clone_script.specs.declared.terms.Terms.{Terms}
 use Rattle.clone_plain.specs.Donor.{Donor}
 use Rattle.clone_events.specs.BreaksOff as plain
-use Rattle.clone_events.specs.Events.{Side, Event, PlainEvent, Happens}
+use Rattle.clone_events.specs.Events.{Event, PlainEvent, Happens}
 use Rattle.clone_events.specs.Events as plain_events
 use Rattle.clone_events.specs.Headline.{all_events}
 use Rattle.clone_events.specs.Runs as plain_runs
 use Rattle.clone_events.specs.World.{IsWithin, opened}
 use Rattle.clone_events.proofs.ReachedLemmas.{Runs-IsWithin}
 use Rattle.clone_events.proofs.RunLemmas.{Runs-Events, Runs-tells}
-use Rattle.clone_core.specs.System.{SystemStep, donor_of}
+use Rattle.clone_core.specs.Steps.{SystemStep}
+use Rattle.clone_core.specs.System.{donor_of}
 use Rattle.clone_core.specs.Lines.{State, BreaksOff, Events, IsNew, Runs, plain_of}
 use Rattle.clone_core.proofs.StepLemmas.{refines}
-use Rattle.clone_core.proofs.OrderLemmas.{disk_of}
 use Rattle.clone_core.proofs.FaultLemmas.{MetFault, events_met, met_since}
 
 -- ---- the plain donor's part of it
 
 plain_happens : (s : State) (e : Event) (t : State) → Happens donor_of SystemStep s e t → Happens (λ d. d) PlainEvent (plain_of s) e (plain_of t)
-plain_happens s e t is = record { step = refines s.donor t.donor e is.step; begun = is.begun; clone = is.clone; tells = is.tells; sees = is.sees }
+plain_happens s e t is = record { step = refines s.donor t.donor e is.step; begun = is.begun; clone = is.clone; tells = is.tells; tasks = is.tasks; sees = is.sees }
 
 plain_happen : (s : State) (es : List Event) (t : State) → Events s es t → plain_events.Events (λ d. d) PlainEvent (plain_of s) es (plain_of t)
 plain_happen s [] t is = ap plain_of is
@@ -45,6 +46,7 @@ plain_breaks s line t off = record {
   donor = off.donor;
   begun = off.begun;
   tells = off.tells;
+  tasks = off.tasks;
   clone = off.clone;
 }
 
@@ -53,11 +55,11 @@ plain_breaks s line t off = record {
 pub run_tells : (s : State) (lines : List Line) (events : List (List Event)) (t : State) → Runs s lines events t → t.tells ≡ s.tells
 run_tells s lines events t run = Runs-tells donor_of SystemStep s lines events t run
 
-pub run_within : (config : Config) (s : State) (lines : List Line) (events : List (List Event)) (t : State) (n : ℕ) → IsNew config s → Runs s lines events t → length lines ≤ n → IsWithin donor_of n t
-run_within config s lines events t n new run le =
+pub run_within : (config : Config) (terms : Terms) (s : State) (lines : List Line) (events : List (List Event)) (t : State) (n : ℕ) → IsNew config terms s → Runs s lines events t → length lines ≤ n → IsWithin donor_of n t
+run_within config terms s lines events t n new run le =
     let P : State → Type 0 = λ w. Runs w lines events t in
-    let from : Runs (opened s.donor s.tells) lines events t = subst P (λ i. record { donor = s.donor; begun = new.begun i; clone = new.clone i; tells = s.tells }) run in
-    Runs-IsWithin donor_of SystemStep refines s.donor (ap (λ (d : Donor). d.binlog) new.donor.donor) s.tells lines events t n from le
+    let from : Runs (opened s.donor s.tasks s.tells) lines events t = subst P (λ i. record { donor = s.donor; begun = new.begun i; clone = new.clone i; tells = s.tells; tasks = s.tasks }) run in
+    Runs-IsWithin donor_of SystemStep refines s.donor (ap (λ (d : Donor). d.binlog) new.donor.donor) s.tasks s.tells lines events t n from le
 
-pub run_fault : (side : Side) (config : Config) (s : State) (lines : List Line) (events : List (List Event)) (t : State) → IsNew config s → Runs s lines events t → MetFault side t.clone → Rose (disk_of side s.donor).failures (disk_of side t.donor).failures
-run_fault side config s lines events t new run met = met_since side s t new.clone (events_met side s (all_events events) t (Runs-Events donor_of SystemStep s lines events t run) met)
+pub run_fault : (config : Config) (terms : Terms) (s : State) (lines : List Line) (events : List (List Event)) (t : State) → IsNew config terms s → Runs s lines events t → MetFault t.clone → Rose s.donor.recipient.failures t.donor.recipient.failures
+run_fault config terms s lines events t new run met = met_since s t new.clone (events_met s (all_events events) t (Runs-Events donor_of SystemStep s lines events t run) met)

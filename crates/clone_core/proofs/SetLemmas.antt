@@ -16,7 +16,8 @@ use Rattle.clone_events.specs.World.{index_in}
 use Rattle.clone_events.specs.Events.{Event, made, event_text, said, Happens, Events}
 use Rattle.clone_events.specs.Runs.{MakesSet, not_begun, not_changed, set}
 use Rattle.clone_events.specs.BreaksOff.{IsDone}
-use Rattle.clone_core.specs.System.{SystemStep, donor_of}
+use Rattle.clone_core.specs.Steps.{SystemStep}
+use Rattle.clone_core.specs.System.{donor_of}
 use Rattle.clone_core.specs.Lines.{State, Answers, BreaksOff}
 use Rattle.clone_core.specs.Called.{Called, SaysCause, RefusesSet, Sets}
 use Rattle.clone_core.proofs.LineLemmas.{ChangesNothing, breaks_at_once, made_step, refused_stays}
@@ -61,6 +62,7 @@ put_refused s u t writer table key trx value NoMemory begins is = record {
   donor = is.donor;
   begun = is.begun;
   tells = is.tells;
+  tasks = is.tasks;
   clone = inl is.clone;
 }
 
@@ -96,6 +98,7 @@ set_commits s u v t writer table key trx value (Err NoMemory) begins puts is = r
   donor = is.donor;
   begun = is.begun;
   tells = is.tells;
+  tasks = is.tasks;
   clone = inl is.clone;
 }
 
@@ -157,7 +160,7 @@ refused_breaks s t writer table key value (Err (Because cause)) is failed =
     let at = Events-split s is.front (last ∷ []) t is.happened in
     let P : State → Type 0 = λ w. Happens donor_of SystemStep at.0 last w in
     let stays = refused_stays at.0 t is.asked cause (set_nothing writer _ table key value is.front is.asked cause is.makes) (subst P at.2.2 at.2.1) in
-    record { front = is.front; next = last; rest = []; makes = is.makes; carried = is.carried; then = at.0; happened = at.1; donor = stays.donor; begun = stays.begun; tells = stays.tells; clone = inl stays.clone }
+    record { front = is.front; next = last; rest = []; makes = is.makes; carried = is.carried; then = at.0; happened = at.1; donor = stays.donor; begun = stays.begun; tells = stays.tells; tasks = stays.tasks; clone = inl stays.clone }
 refused_breaks s t writer table key value (Err NoMemory) is failed = is
 
 pub set_breaks : {A : Type 0} (s t : State) (writer table key : ℕ) (value : List ℕ) (called : Result ℕ EngineRefusal) (result : Result A AllocError) → Sets s writer table key value called t → OnErr result (IsErr called) → OnErr result (BreaksOff s (lines.Set writer table key value) t)

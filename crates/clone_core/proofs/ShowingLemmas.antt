@@ -1,124 +1,143 @@
 -- What is looked up and what is archived beside a clone, and rows before a clone has ended.
-use Rattle.std.proofs.Common.{◌≡◌, ◌≢◌, ◌⊎◌, inl, inr, ℕ, Bool, length, arith, true, false, refl, sym, ap, ◌∙◌, subst, Option, Some, None, is_some, option_map, Result, Ok, IfOk}
-use Rattle.std.specs.Option.{option_map_or}
+use Rattle.std.proofs.Common.{◌≡◌, ℕ, Bool, length, arith, true, false, refl, sym, ap, ◌∙◌, subst, Option, Some, None, is_none, is_some, Result, Ok, IfOk, nat_cmp}
+use Rattle.std.specs.FinMap as finite
 use Rattle.std.specs.declared.alloc.AllocError.{AllocError}
-use Rattle.clone_plain.specs.Answers.{Text}
-use Rattle.clone_events.specs.World.{Stop, absent, copying, complete}
-use Rattle.clone_events.specs.Events.{looked, archived, incomplete, event_text, Happens}
-use Rattle.clone_session.specs.declared.info.Stop as session
-use Rattle.clone_engine.specs.Engine.{Engine}
-use Rattle.clone_engine.specs.Acts as act
-use Rattle.clone_engine.specs.Answering.{Answered, StaysAside}
+use Rattle.clone_outside.specs.Disk.{DiskImage, ForTold, blank}
+use Rattle.clone_outside.specs.Mark.{mark_bytes}
 use Rattle.clone_calls.specs.declared.answer.DonorAnswer.TheVariants as gives
 use Rattle.clone_calls.specs.declared.call.DonorCall.TheVariants as ask
-use Rattle.clone_engine.specs.Donor as staged
-use Rattle.clone_engine.proofs.ToldLemmas.{for_told}
-use Rattle.clone_lay.specs.Marked.{marked}
-use Rattle.clone_outside.specs.Disk.{DiskImage, ForTold, blank}
-use Rattle.clone_outside.specs.DiskCalls.{DiskState}
-use Rattle.clone_outside.specs.Mark.{mark_bytes}
-use Rattle.clone_outside.specs.declared.mark.Mark.TheVariants.{InProgress}
-use Rattle.clone_plain.specs.Donor as plain
+use Rattle.clone_plain.specs.Answers.{Text}
 use Rattle.clone_recover.specs.Restores.{IsIncomplete, unmarked, under_way}
-use Rattle.clone_request.specs.declared.requester.TheConstants.{SESSION}
-use Rattle.clone_request.specs.Requester.{IsUnderWay, Requester}
-use Rattle.clone_core.specs.System.{SystemStep, donor_of}
-use Rattle.clone_core.specs.Lines.{State}
-use Rattle.clone_core.specs.Called.{Stays}
+use Rattle.clone_tasks.specs.declared.end.CloneEnd as tasks
+use Rattle.clone_engine.specs.Acts as act
+use Rattle.clone_engine.specs.Acts.{CloneActs}
+use Rattle.clone_engine.specs.Answering.{StaysAside}
+use Rattle.clone_engine.specs.Donor as staged
+use Rattle.clone_engine.specs.Engine.{Engine}
+use Rattle.clone_joined.specs.Joined.{IsInProgress}
+use Rattle.clone_events.specs.Events as plain
+use Rattle.clone_events.specs.Events.{looked, archived, incomplete, event_text, Happens}
+use Rattle.clone_core.specs.declared.world.Copying.{Copying}
 use Rattle.clone_core.specs.declared.world.Course.{Course}
 use Rattle.clone_core.specs.declared.world.Course.TheVariants as course
-use Rattle.clone_core.specs.Copied.{progress_of, stop_of}
+use Rattle.clone_core.specs.declared.world.TheConstants.{SESSION}
+use Rattle.clone_core.specs.Copied.{Holds, HoldsEnded, KnowsItsSizes, GoesOn, SaysInProgress, progress_by, progress_of, world_of}
+use Rattle.clone_core.specs.Ending.{is_over}
+use Rattle.clone_core.specs.Steps.{SystemStep}
+use Rattle.clone_core.specs.System.{System, donor_of}
+use Rattle.clone_core.specs.Lines.{State}
+use Rattle.clone_core.specs.Called.{Stays}
+use Rattle.clone_core.proofs.ActingLemmas.{same_visits}
+use Rattle.clone_core.proofs.CallLemmas.{with_donor, IsShown, same_tells}
+use Rattle.clone_core.proofs.HoldsLemmas.{spares}
+use Rattle.clone_core.proofs.KeepLemmas.{for_told}
 use Rattle.clone_core.proofs.LineLemmas.{said_is}
-use Rattle.clone_core.proofs.CallLemmas.{spares, with_donor, IsShown, same_tells}
-use Rattle.clone_core.proofs.AdvanceLemmas.{none_or_some}
-use Rattle.clone_core.proofs.StartLemmas.{Holds, blank_before}
 
--- a clone that wasn't begun, or is under way, isn't complete
-pub unended : (way : Course) → (way ≡ course.Absent) ⊎ ((r : Requester) × (way ≡ course.Copying r)) → progress_of way ≢ complete
-unended way (inl is) whole = let e : absent ≡ complete = sym (ap progress_of is) ∙ whole in cc
-unended way (inr at) whole = let e : copying at.0.stages ≡ complete = sym (ap progress_of at.1) ∙ whole in cc
+-- ---- a clone that hasn't ended
 
--- the recipient's disk has no mark yet, or that of a copy in progress
-marked_incomplete : (m : DiskImage) → m.mark ≡ (marked (InProgress SESSION) blank).mark → IsIncomplete m
-marked_incomplete m is = under_way SESSION is
+-- it wasn't begun, or goes on
+pub data Unended : Course → Type 0 where
+  absent_yet : Unended course.Absent
+  goes : (c : Copying) → is_none c.reception.table.ended ≡ true → Unended (course.Begun c)
+
+unended_by : (c : Copying) (how : Option tasks.CloneEnd) → c.reception.table.ended ≡ how → is_over (progress_by how) ≡ false → Unended (course.Begun c)
+unended_by c None is going = goes c (ap is_none is)
+unended_by c (Some how) is going = absurd (let e : true ≡ false = going in cc)
+
+pub unended : (way : Course) → is_over (progress_of way) ≡ false → Unended way
+unended course.Absent going = absent_yet
+unended course.Unbegun going = absurd (let e : true ≡ false = going in cc)
+unended (course.Begun c) going = unended_by c c.reception.table.ended refl going
+
+-- so it isn't complete
+never_complete : (way : Course) → Unended way → plain.IsComplete (progress_of way) → ⊥
+never_complete course.Absent absent_yet whole = whole
+never_complete course.Unbegun none whole = elim none [ ]
+never_complete (course.Begun c) (goes d running) whole = by c.reception.table.ended running whole
+  where
+    by : (how : Option tasks.CloneEnd) → is_none how ≡ true → plain.IsComplete (progress_by how) → ⊥
+    by None none complete = complete
+    by (Some how) none complete = let e : false ≡ true = none in cc
 
 blank_incomplete : (m : DiskImage) → m ≡ blank → IsIncomplete m
 blank_incomplete m is = unmarked (λ mark ranges has. let e : Some (mark_bytes mark) ≡ None = sym has ∙ ap (λ (x : DiskImage). x.mark) is in cc)
 
-way_incomplete : (d : staged.Donor) (r : Requester) (told : Option DiskImage) (at : Option plain.Donor) → IsUnderWay d r told at → ForTold told IsIncomplete
-way_incomplete d r told at way = elim (none_or_some r.stages) [
-  | inl none ↦ for_told (λ m. m ≡ marked (InProgress SESSION) blank) IsIncomplete told (λ m is. marked_incomplete m (ap (λ (x : DiskImage). x.mark) is)) (way.begun none).0.disk
-  | inr some ↦ for_told (λ m. m.mark ≡ (marked (InProgress SESSION) blank).mark) IsIncomplete told marked_incomplete (way.copied some).in_stage.mark
-]
+-- the recipient's disk has no mark yet, or that of a copy in progress
+unfinished : (s : System) (begun : finite.FinMap nat_cmp ℕ) (disturbed doubted shown : Bool) (way : Course) → s.course ≡ way → Unended way → Holds (world_of s begun disturbed doubted shown) → ForTold s.recipient.told IsIncomplete
+unfinished s begun disturbed doubted shown course.Absent is absent_yet holds = for_told s.recipient.told (λ m. m ≡ blank) IsIncomplete blank_incomplete (holds.keeps.blank_before (ap progress_of is))
+unfinished s begun disturbed doubted shown course.Unbegun is none holds = elim none [ ]
+unfinished s begun disturbed doubted shown (course.Begun c) is (goes d running) holds =
+    for_told s.recipient.told (IsInProgress SESSION) IsIncomplete (λ m marked. under_way SESSION marked) (subst (λ (way : Course). SaysInProgress way s.recipient.told) is holds.marked running)
 
-pub unfinished : (d : staged.Donor) (disk : DiskState) (way : Course) (stop : Option session.Stop) (floor : ℕ) (doubted shown : Bool) → (way ≡ course.Absent) ⊎ ((r : Requester) × (way ≡ course.Copying r)) → Holds d disk way stop floor doubted shown → ForTold disk.told IsIncomplete
-unfinished d disk way stop floor doubted shown (inl is) held = for_told (λ m. m ≡ blank) IsIncomplete disk.told blank_incomplete (blank_before d disk way stop floor doubted shown is held)
-unfinished d disk way stop floor doubted shown (inr at) held =
-    let holds : Holds d disk (course.Copying at.0) stop floor doubted shown = subst (λ (w : Course). Holds d disk w stop floor doubted shown) at.1 held in
-    way_incomplete d at.0 disk.told holds.stands.0.at holds.stands.0.way
-
--- rows of a clone that isn't complete yet
-pub not_ended : (r s : State) → r ≡ s → r.clone.progress ≢ complete → ForTold r.donor.recipient.told IsIncomplete → Happens donor_of SystemStep s incomplete s
-not_ended r s is going_on none =
-    let P : State → Type 0 = λ w. Happens donor_of SystemStep w incomplete w in
+-- rows of a clone that hasn't ended
+pub not_ended : (w : State) (s : System) (begun : finite.FinMap nat_cmp ℕ) (disturbed doubted shown : Bool) → world_of s begun disturbed doubted shown ≡ w → is_over (progress_of s.course) ≡ false → Holds (world_of s begun disturbed doubted shown) → Happens donor_of SystemStep w incomplete w
+not_ended w s begun disturbed doubted shown is going holds =
+    let P : State → Type 0 = λ v. Happens donor_of SystemStep v incomplete v in
+    let none = unended s.course going in
     subst P is (record {
-      step = (record { donor = refl; recipient = record { later = omega arith; orders = refl; tells = refl } }, none);
+      step = (record { others = refl; recipient = same_visits s.recipient s.recipient refl }, unfinished s begun disturbed doubted shown s.course refl none holds);
       begun = refl;
-      clone = record { now = tt; shows = λ _ whole. going_on whole; is = refl };
+      clone = record { now = tt; shows = λ _ whole. never_complete s.course none whole; is = refl };
       tells = refl;
+      tasks = refl;
       sees = λ _. tt;
     })
 
 -- ---- the requester looks
 
--- the clone with this floor
-abbrev pub at_floor : State → ℕ → State
-at_floor s floor = record s { clone = record s.clone { floor = floor } }
+module _ (s : System) (position : ℕ) where
+  looked_sizes : (way : Course) → KnowsItsSizes s way → KnowsItsSizes (record s { looked = position }) way
+  looked_sizes course.Absent is = tt
+  looked_sizes course.Unbegun is = tt
+  looked_sizes (course.Begun c) is = is
 
--- whether there is a stop
-none_found : (found : Option session.Stop) → is_some found ≡ false → option_map stop_of found ≡ None
-none_found None is = refl
-none_found (Some stop) is = absurd (let e : true ≡ false = is in cc)
+  looked_goes : (way : Course) → GoesOn s way → GoesOn (record s { looked = position }) way
+  looked_goes course.Absent is = is
+  looked_goes course.Unbegun is = tt
+  looked_goes (course.Begun c) is = is
 
-one_found : (found : Option session.Stop) → is_some found ≡ true → (stop : Stop) × (option_map stop_of found ≡ Some stop)
-one_found None is = absurd (let e : false ≡ true = is in cc)
-one_found (Some stop) is = (stop_of stop, refl)
+  pub look_holds : (begun : finite.FinMap nat_cmp ℕ) (disturbed doubted shown : Bool) → position ≡ length (donor_of s).binlog → Holds (world_of s begun disturbed doubted shown) → Holds (world_of (record s { looked = position }) begun disturbed doubted shown)
+  look_holds begun disturbed doubted shown at holds = record {
+    terms = holds.terms;
+    looked = omega (arith, at);
+    unstopped = holds.unstopped;
+    sizes = looked_sizes s.course holds.sizes;
+    marked = holds.marked;
+    goes_on = λ honest. looked_goes s.course (holds.goes_on honest);
+    steady = holds.steady;
+    keeps = record {
+      blank_before = holds.keeps.blank_before;
+      commits = holds.keeps.commits;
+      drops = holds.keeps.drops;
+      holds = λ ended sure.
+          for_told s.recipient.told (HoldsEnded (donor_of s) (world_of s begun disturbed doubted shown).clone) (HoldsEnded (donor_of s) (world_of (record s { looked = position }) begun disturbed doubted shown).clone)
+          (λ m is. record { whole = is.whole; other = is.other; shown = is.shown }) (holds.keeps.holds ended (record { told = sure.told; honest = sure.honest; steady = sure.steady }));
+    };
+  }
 
--- before the stop what is looked up is the floor
-pub looked_before : (r s : State) (found : Option session.Stop) (position : ℕ) → r ≡ s → r.clone.stop ≡ option_map stop_of found → is_some found ≡ false → position ≡ length (donor_of r.donor).binlog → Happens donor_of SystemStep s (looked position) (at_floor r position)
-looked_before r s found position is has unfound at =
-    let none : r.clone.stop ≡ None = has ∙ none_found found unfound in
-    subst (λ (w : State). Happens donor_of SystemStep w (looked position) (at_floor r position)) is (record {
-      step = refl;
-      begun = refl;
-      clone = record { now = at; shows = omega (arith, at); is = ap (λ (o : Option Stop). record r.clone { floor = option_map_or (λ (stop : Stop). r.clone.floor) o position }) (sym none) };
-      tells = refl;
-      sees = λ _. tt;
-    })
-
--- and after it nothing changes
-pub looked_behind : (r s : State) (found : Option session.Stop) (position : ℕ) → r ≡ s → r.clone.stop ≡ option_map stop_of found → is_some found ≡ true → position ≡ length (donor_of r.donor).binlog → Happens donor_of SystemStep s (looked position) s
-looked_behind r s found position is has there at =
-    let one = one_found found there in
-    let stopped : r.clone.stop ≡ Some one.0 = has ∙ one.1 in
-    subst (λ (w : State). Happens donor_of SystemStep w (looked position) w) is (record {
-      step = refl;
-      begun = refl;
-      clone = record { now = at; shows = omega (arith, at); is = ap (λ (o : Option Stop). record r.clone { floor = option_map_or (λ (stop : Stop). r.clone.floor) o position }) (sym stopped) };
-      tells = refl;
-      sees = λ _. tt;
-    })
+  pub looks : (w : State) (begun : finite.FinMap nat_cmp ℕ) (disturbed doubted shown : Bool) → world_of s begun disturbed doubted shown ≡ w → position ≡ length (donor_of s).binlog
+      → Happens donor_of SystemStep w (looked position) (world_of (record s { looked = position }) begun disturbed doubted shown)
+  looks w begun disturbed doubted shown is at =
+      subst (λ (v : State). Happens donor_of SystemStep v (looked position) (world_of (record s { looked = position }) begun disturbed doubted shown)) is (record {
+        step = refl;
+        begun = refl;
+        clone = record { now = at; shows = omega (arith, at); is = refl };
+        tells = refl;
+        tasks = refl;
+        sees = λ _. tt;
+      })
 
 -- ---- the donor archives
 
-pub archives : (r s : State) (t : staged.Donor) (limit : ℕ) (reached : Option ℕ) → r ≡ s → IsShown r → Answered (ask.Archive limit) (gives.Archive (Ok reached)) r.donor.donor t → Happens donor_of SystemStep s (archived limit reached) (with_donor r t r.begun)
-archives r s t limit reached is shown does =
-    let spared = spares (act.Calls (ask.Archive limit) (gives.Archive (Ok reached))) r.donor.donor t tt does in
+pub archives : (r s : State) (t : staged.Donor) (limit : ℕ) (reached : Option ℕ) → r ≡ s → IsShown r → CloneActs (ask.Archive limit) (gives.Archive (Ok reached)) r.donor.donor t → Happens donor_of SystemStep s (archived limit reached) (with_donor r t r.begun)
+archives r s t limit reached is shown acts =
+    let spared = spares (act.Calls (ask.Archive limit) (gives.Archive (Ok reached))) r.donor.donor t tt acts.does in
     subst (λ (w : State). Happens donor_of SystemStep w (archived limit reached) (with_donor r t r.begun)) is (record {
-      step = record { archives = does; recipient = refl };
+      step = (acts, refl);
       begun = refl;
       clone = record { now = tt; shows = tt; is = refl };
       tells = same_tells r t shown spared.tells;
+      tasks = refl;
       sees = λ _. tt;
     })
 
@@ -131,4 +150,4 @@ archived_said {A} bytes limit reached came result said is same says =
 -- there was no memory for it
 pub not_archived : (r s : State) (t : staged.Donor) → r ≡ s → IsShown r → StaysAside r.donor.donor t → Stays s (with_donor r t r.begun)
 not_archived r s t is shown does =
-    subst (λ (w : State). Stays w (with_donor r t r.begun)) is (record { donor = ap (λ (e : Engine). e.donor) does.1; begun = refl; tells = same_tells r t shown (ap (λ (e : Engine). is_some e.disk.told) does.1); clone = refl })
+    subst (λ (w : State). Stays w (with_donor r t r.begun)) is (record { donor = ap (λ (e : Engine). e.donor) does.1; begun = refl; tells = same_tells r t shown (ap (λ (e : Engine). is_some e.disk.told) does.1); tasks = refl; clone = refl })

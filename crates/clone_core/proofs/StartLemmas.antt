@@ -1,144 +1,219 @@
--- A clone begins, or a fault ends it at once: what happens, and what the recipient's disk holds then.
-use Rattle.std.proofs.Common.{◌≡◌, [], ◌∷◌, ◌&&◌, ◌⊎◌, inl, inr, ℕ, Bool, true, false, refl, sym, ap, ◌∙◌, subst, arith, Option, Some, None, is_some}
+-- A clone begins, or a fault ends it at once: what happens, and what holds of the world then.
+use Rattle.std.proofs.Common.{◌≡◌, [], ◌∷◌, ◌&&◌, ◌⊎◌, inl, inr, ℕ, Bool, true, false, refl, sym, ap, ◌∙◌, subst, Option, Some, None, is_some}
 use Rattle.std.specs.FinMap as finite
 use Rattle.std.specs.Ordering.{nat_cmp}
 use Rattle.std.proofs.lemmas.Option.{same_Some}
 use Rattle.clone_outside.specs.Causes.{Rose}
-use Rattle.clone_outside.specs.Disk.{DiskImage, ForTold, IsBeforeOrAfter, blank}
+use Rattle.clone_outside.specs.Disk.{DiskImage, ForTold, IsBeforeOrAfter, Steps, blank}
+use Rattle.clone_outside.specs.DiskCalls.{Alters, DiskState}
 use Rattle.clone_outside.specs.declared.mark.Mark.TheVariants.{InProgress}
 use Rattle.clone_lay.specs.Marked.{marked}
+use Rattle.clone_lay.specs.Sized.{AreSizes}
+use Rattle.clone_recipient.specs.Receptions.{IsNotEmpty, begun}
+use Rattle.clone_tasks.specs.declared.end.CloneEnd.{CloneEnd}
+use Rattle.clone_network.specs.Networks.{unconnected}
 use Rattle.clone_engine.specs.Disks.{Visits}
-use Rattle.clone_outside.specs.DiskCalls.{DiskState}
-use Rattle.clone_events.specs.World.{absent, copying, HasEnded}
-use Rattle.clone_events.specs.Events.{to_begin, started, broke, again, idle, Happens}
-use Rattle.clone_session.specs.declared.info.Stop as session
-use Rattle.clone_engine.specs.Donor as staged
-use Rattle.clone_request.specs.Advancing.{Lends}
-use Rattle.clone_request.specs.declared.requester.TheConstants.{SESSION}
-use Rattle.clone_request.specs.Requester.{IsUnasked, IsUnderWay, Requester}
-use Rattle.clone_core.specs.System.{SystemStep, donor_of}
-use Rattle.clone_core.specs.Lines.{State}
-use Rattle.clone_core.specs.Called.{StaysUntold}
-use Rattle.clone_core.specs.Copied.{HoldsClone, HoldsEnded, clone_of, progress_of}
+use Rattle.clone_joined.specs.Joined.{IsInProgress}
+use Rattle.clone_joined.specs.Runs.{HasCome}
+use Rattle.clone_joined.proofs.JoinedLemmas.{joined_begins}
+use Rattle.clone_events.specs.World.{absent, broken, copying, over, HasEnded}
+use Rattle.clone_events.specs.Events.{to_begin, started, unbegun, occupied, again, idle}
+use Rattle.clone_core.specs.declared.world.Copying.{Copying}
 use Rattle.clone_core.specs.declared.world.Course.{Course}
 use Rattle.clone_core.specs.declared.world.Course.TheVariants as course
+use Rattle.clone_core.specs.declared.world.TheConstants.{SESSION}
+use Rattle.clone_core.specs.System.{System, donor_of, tell}
+use Rattle.clone_core.specs.Lines.{Happens, State}
+use Rattle.clone_core.specs.CloneEvents.{EndsUntold}
+use Rattle.clone_core.specs.Copied.{GoesOn, Holds, HoldsEnded, KnowsItsSizes, SaysInProgress, floor_of, progress_by, progress_of, world_of}
 
--- a world by its parts
-abbrev pub world_of : staged.Donor → DiskState → finite.FinMap nat_cmp ℕ → Course → Option session.Stop → ℕ → Bool → Bool → State
-world_of d disk begun way stop floor doubted shown = record {
-  donor = record { donor = d; recipient = disk };
-  begun = begun;
-  clone = clone_of way stop floor doubted shown;
-  tells = is_some d.engine.disk.told && is_some disk.told;
-}
+pub alters_visits : {Faulty : Type 0} (old new : DiskState) → Alters Faulty old new → Visits old new
+alters_visits old new alters = record { later = alters.later; orders = alters.orders; tells = alters.tells }
 
--- what holds of its clone
-abbrev pub Holds : staged.Donor → DiskState → Course → Option session.Stop → ℕ → Bool → Bool → Type 0
-Holds d disk way stop floor doubted shown =
-    HoldsClone d (is_some d.engine.disk.told && is_some disk.told) (clone_of way stop floor doubted shown) disk.told way
-
-pub lends_same : (d : staged.Donor) → Lends d d
-lends_same d = record { donor = refl; told = refl; disk = record { later = omega arith; orders = refl; tells = refl } }
-
-pub not_both : {b : Bool} → b ≡ false → b ≡ true → ⊥
+not_both : {b : Bool} → b ≡ false → b ≡ true → ⊥
 not_both is other = let e : true ≡ false = sym other ∙ is in cc
 
+progress_begun : (o : Option CloneEnd) → progress_by o ≡ absent → ⊥
+progress_begun None none = let e = none in cc
+progress_begun (Some how) none = let e = none in cc
+
+course_begun : (c : Course) → (c ≡ course.Absent → ⊥) → progress_of c ≡ absent → ⊥
+course_begun course.Absent not none = not refl
+course_begun course.Unbegun not none = let e = none in cc
+course_begun (course.Begun k) not none = progress_begun k.reception.table.ended none
+
 -- one began before
-pub started_earlier : (r s : State) (way : Course) → r ≡ s → r.clone.progress ≡ progress_of way → (way ≡ course.Absent → ⊥) → Happens donor_of SystemStep s (again to_begin idle) s
-started_earlier r s way is has before = record { step = refl; begun = refl; clone = record { now = tt; shows = (begun way before (ap (λ (w : State). w.clone.progress) is) has, refl); is = refl }; tells = refl; sees = λ _. tt }
-  where
-    begun : (w : Course) → (w ≡ course.Absent → ⊥) → r.clone.progress ≡ s.clone.progress → r.clone.progress ≡ progress_of w → s.clone.progress ≡ absent → ⊥
-    begun course.Absent not same of none = not refl
-    begun (course.Copying r) not same of none = let e = sym of ∙ same ∙ none in cc
-    begun (course.Complete position) not same of none = let e = sym of ∙ same ∙ none in cc
-    begun course.Broken not same of none = let e = sym of ∙ same ∙ none in cc
-    begun course.Spent not same of none = let e = sym of ∙ same ∙ none in cc
+pub started_before : (c : Course) (s : State) → s.clone.progress ≡ progress_of c → (c ≡ course.Absent → ⊥) → Happens s (again to_begin idle) s
+started_before c s has before = record { step = refl; begun = refl; clone = record { now = tt; shows = (λ none. course_begun c before (sym has ∙ none), refl); is = refl }; tells = refl; tasks = refl; sees = λ _. tt }
 
--- where none began the disk is blank
-pub blank_before : (d : staged.Donor) (disk : DiskState) (way : Course) (stop : Option session.Stop) (floor : ℕ) (doubted shown : Bool) → way ≡ course.Absent → Holds d disk way stop floor doubted shown → ForTold disk.told (λ m. m ≡ blank)
-blank_before d disk way stop floor doubted shown is held =
-    let holds : Holds d disk course.Absent stop floor doubted shown = subst (λ (w : Course). Holds d disk w stop floor doubted shown) is held in
-    holds.stands.1
+-- there was no memory for the connections
+pub nothing_begun : (s : State) → EndsUntold (λ events. events ≡ unbegun ∷ []) s s
+nothing_begun s = ([], unbegun ∷ [], refl, record { donor = refl; begun = refl; tells = refl; tasks = refl; clone = refl })
 
-module _ (d : staged.Donor) (old new : DiskState) (begun : finite.FinMap nat_cmp ℕ) (way : Course) (stop : Option session.Stop) (floor : ℕ) (doubted shown : Bool) (none : way ≡ course.Absent) (visits : Visits old new) (held : Holds d old way stop floor doubted shown) where
+-- A world in which no clone was begun, and the recipient's disk is asked.
+module _ (s : System) (counts : finite.FinMap nat_cmp ℕ) (disturbed doubted shown : Bool) (new : DiskState) (none : s.course ≡ course.Absent) (visits : Visits s.recipient new) where
   abbrev before : State
-  before = world_of d old begun way stop floor doubted shown
+  before = world_of s counts disturbed doubted shown
 
   abbrev after : Course → State
-  after next = world_of d new begun next stop floor doubted shown
+  after next = world_of (record s { recipient = new; course = next }) counts disturbed doubted shown
 
-  abbrev holds : Holds d old course.Absent stop floor doubted shown
-  holds = subst (λ (w : Course). Holds d old w stop floor doubted shown) none held
+  absent_before : before.clone.progress ≡ absent
+  absent_before = ap progress_of none
 
-  tells_same : (is_some d.engine.disk.told && is_some new.told) ≡ (is_some d.engine.disk.told && is_some old.told)
-  tells_same = ap (λ b. is_some d.engine.disk.told && b) visits.tells
+  tells_same : (is_some s.donor.engine.disk.told && is_some new.told) ≡ tell s
+  tells_same = ap (λ b. is_some s.donor.engine.disk.told && b) visits.tells
 
-  -- no stage is copied yet
-  pub starts : (s : State) (r : Requester) → before ≡ s → r.stages ≡ 0 → Happens donor_of SystemStep s started (after (course.Copying r))
-  starts s r is zero =
-      subst (λ (w : State). Happens donor_of SystemStep w started (after (course.Copying r))) is
-      (record {
-        step = record { donor = refl; recipient = visits };
-        begun = refl;
-        clone = record { now = tt; shows = ap progress_of none; is = ap (λ (n : ℕ). record before.clone { progress = copying n }) zero };
-        tells = tells_same;
-        sees = λ _. tt;
-      })
-
-  pub starts_holds : (r : Requester) → ((u : staged.Donor) → IsUnasked u → IsUnderWay u r new.told None) → Holds d new (course.Copying r) stop floor doubted shown
-  starts_holds r goes = record {
-    commits = holds.commits;
-    drops = holds.drops;
-    floor = holds.floor;
-    reached = holds.reached;
-    at_stop = tt;
-    stands = (record { at = None; way = goes d holds.stands.0; is = holds.stands.2; was = λ at is. absurd (let e = is in cc) }, holds.stands.3, holds.stands.4);
-  }
+  no_floor : None ≡ before.clone.floor
+  no_floor = sym (ap floor_of none)
 
   unended : HasEnded before.clone.progress → ⊥
-  unended ended = subst HasEnded (ap progress_of none) ended
+  unended ended = subst HasEnded absent_before ended
 
-  -- a fault came in the way, or memory ran out
-  pub breaks : (s : State) → before ≡ s → Rose old.failures new.failures → Happens donor_of SystemStep s broke (after course.Broken)
-  breaks s is rose =
-      subst (λ (w : State). Happens donor_of SystemStep w broke (after course.Broken)) is
+  -- ---- it begins
+
+  abbrev as_begun : Copying
+  as_begun = record { reception = begun SESSION s.terms.tasks s.terms.limit s.terms.version; network = unconnected s.terms.tasks }
+
+  begun_happens : Steps s.recipient.told new.told (marked (InProgress SESSION)) → Happens before started (after (course.Begun as_begun))
+  begun_happens marks = record {
+    step = record { absent = none; visits = visits; marks = marks; is = refl };
+    begun = refl;
+    clone = record { now = tt; shows = absent_before; is = ap (λ (floor : Option ℕ). record before.clone { progress = copying; floor = floor }) no_floor };
+    tells = tells_same;
+    tasks = refl;
+    sees = λ _. tt;
+  }
+
+  pub starts : (r : State) (k : Copying) → before ≡ r → k ≡ as_begun → Steps s.recipient.told new.told (marked (InProgress SESSION)) → Happens r started (after (course.Begun k))
+  starts r k is same marks =
+      subst (λ (w : State). Happens w started (after (course.Begun k))) is
+      (subst (λ (c : Copying). Happens before started (after (course.Begun c))) (sym same) (begun_happens marks))
+
+  module _ (held : Holds before) where
+    pub blank_before : ForTold s.recipient.told (λ m. m ≡ blank)
+    blank_before = held.keeps.blank_before absent_before
+
+    -- a disk that gets the mark has it
+    has_mark : (o p : Option DiskImage) → Steps o p (marked (InProgress SESSION)) → ForTold p (IsInProgress SESSION)
+    has_mark o None is = tt
+    has_mark None (Some n) is = absurd (let e = is in cc)
+    has_mark (Some m) (Some n) is = ap (λ (x : DiskImage). x.mark) (same_Some n (marked (InProgress SESSION) m) is)
+
+    begun_holds : Steps s.recipient.told new.told (marked (InProgress SESSION)) → ForTold new.told (AreSizes as_begun.reception.sizes) → Holds (after (course.Begun as_begun))
+    begun_holds marks sizes = record {
+      terms = held.terms;
+      looked = held.looked;
+      unstopped = held.unstopped;
+      sizes = λ running. sizes;
+      marked = λ running. has_mark s.recipient.told new.told marks;
+      goes_on = λ honest running.
+          let come : HasCome SESSION None s.stop s.donor = subst (GoesOn s) none (held.goes_on honest) in
+          joined_begins SESSION s.terms.tasks s.terms.limit s.terms.version s.terms.tasks s.stop s.donor s.recipient.told new.told come blank_before marks;
+      steady = λ going. held.steady unended;
+      keeps = record { blank_before = λ is. absurd (let e = is in cc); commits = held.keeps.commits; drops = held.keeps.drops; holds = λ ended sure. absurd ended };
+    }
+
+    pub starts_holds : (k : Copying) → k ≡ as_begun → Steps s.recipient.told new.told (marked (InProgress SESSION)) → ForTold new.told (AreSizes k.reception.sizes) → Holds (after (course.Begun k))
+    starts_holds k same marks sizes =
+        subst (λ (c : Copying). Holds (after (course.Begun c))) (sym same)
+        (begun_holds marks (subst (λ (c : Copying). ForTold new.told (AreSizes c.reception.sizes)) same sizes))
+
+    -- ---- a fault ended it, or memory ran out
+
+    -- the disk is blank still, or has the mark of a copy in progress
+    partial_ended : (m n : DiskImage) → m ≡ blank → (n ≡ m) ⊎ (n ≡ marked (InProgress SESSION) m) → HoldsEnded (donor_of s) (after course.Unbegun).clone n
+    partial_ended m n empty is = record {
+      whole = λ complete. absurd complete;
+      other = inl (elim is [
+        | inl same ↦ inl (ap (λ (x : DiskImage). x.mark) (same ∙ empty))
+        | inr begins ↦ inr (ap (λ (x : DiskImage). x.mark) begins)
+      ]);
+      shown = λ is_shown. absurd (not_both (held.steady unended).1 is_shown);
+    }
+
+    told_either : (o p : Option DiskImage) → ForTold o (λ m. m ≡ blank) → IsBeforeOrAfter o p (marked (InProgress SESSION)) → ForTold p (HoldsEnded (donor_of s) (after course.Unbegun).clone)
+    told_either o None empty is = tt
+    told_either None (Some n) empty (inl same) = absurd (let e = same in cc)
+    told_either None (Some n) empty (inr begins) = absurd (let e = begins in cc)
+    told_either (Some m) (Some n) empty (inl same) = partial_ended m n empty (inl (same_Some n m same))
+    told_either (Some m) (Some n) empty (inr begins) = partial_ended m n empty (inr (same_Some n (marked (InProgress SESSION) m) begins))
+
+    pub breaks_holds : IsBeforeOrAfter s.recipient.told new.told (marked (InProgress SESSION)) → Holds (after course.Unbegun)
+    breaks_holds partial = record {
+      terms = held.terms;
+      looked = held.looked;
+      unstopped = held.unstopped;
+      sizes = tt;
+      marked = tt;
+      goes_on = λ honest. tt;
+      steady = λ going. absurd (going tt);
+      keeps = record {
+        blank_before = λ is. absurd (let e = is in cc);
+        commits = held.keeps.commits;
+        drops = held.keeps.drops;
+        holds = λ ended sure. told_either s.recipient.told new.told blank_before partial;
+      };
+    }
+
+    -- ---- somebody has written to the disk
+
+    not_told : (o : Option DiskImage) → ForTold o (λ m. m ≡ blank) → ForTold o IsNotEmpty → is_some o ≡ true → ⊥
+    not_told None empty not is = let e = is in cc
+    not_told (Some m) empty not is = elim not [
+      | inl spaces ↦ spaces (ap (λ (x : DiskImage). x.spaces) empty)
+      | inr mark ↦ mark (ap (λ (x : DiskImage). x.mark) empty)
+    ]
+
+    told_too : (a b : Bool) → (a && b) ≡ true → b ≡ true
+    told_too true b is = is
+    told_too false b is = let e = is in cc
+
+    pub occupies : (r : State) → before ≡ r → ForTold s.recipient.told IsNotEmpty → Happens r occupied (after s.course)
+    occupies r is not =
+        subst (λ (w : State). Happens w occupied (after s.course)) is
+        (record {
+          step = record { others = refl; recipient = visits };
+          begun = refl;
+          clone = record { now = tt; shows = (absent_before, λ tells. not_told s.recipient.told blank_before not (told_too (is_some s.donor.engine.disk.told) (is_some s.recipient.told) tells)); is = refl };
+          tells = tells_same;
+          tasks = refl;
+          sees = λ _. tt;
+        })
+
+    pub occupied_holds : new.told ≡ s.recipient.told → Holds (after s.course)
+    occupied_holds same = record {
+      terms = held.terms;
+      looked = held.looked;
+      unstopped = held.unstopped;
+      sizes = subst (λ (c : Course). KnowsItsSizes (record s { recipient = new; course = s.course }) c) (sym none) tt;
+      marked = subst (λ (c : Course). SaysInProgress c new.told) (sym none) tt;
+      goes_on = λ honest. subst (GoesOn (record s { recipient = new; course = s.course })) (sym none) (subst (GoesOn s) none (held.goes_on honest));
+      steady = held.steady;
+      keeps = record {
+        blank_before = λ is. subst (λ (o : Option DiskImage). ForTold o (λ m. m ≡ blank)) (sym same) blank_before;
+        commits = held.keeps.commits;
+        drops = held.keeps.drops;
+        holds = λ ended sure. absurd (unended ended);
+      };
+    }
+
+  unbegun_is : (after course.Unbegun).clone ≡ record before.clone { progress = over broken }
+  unbegun_is = ap (λ (floor : Option ℕ). record before.clone { progress = over broken; floor = floor }) no_floor
+
+  pub breaks : (r : State) → before ≡ r → Rose s.recipient.failures new.failures → Happens r unbegun (after course.Unbegun)
+  breaks r is rose =
+      subst (λ (w : State). Happens w unbegun (after course.Unbegun)) is
       (record {
-        step = (record { donor = lends_same d; recipient = visits }, rose);
+        step = record { absent = none; visits = visits; rose = rose; is = refl };
         begun = refl;
-        clone = record { now = tt; shows = unended; is = refl };
+        clone = record { now = tt; shows = absent_before; is = unbegun_is };
         tells = tells_same;
+        tasks = refl;
         sees = λ _. tt;
       })
 
-  pub breaks_untold : (s : State) → before ≡ s → StaysUntold s (broke ∷ []) (after course.Broken)
-  breaks_untold s is =
-      subst (λ (w : State). StaysUntold w (broke ∷ []) (after course.Broken)) is
-      (record { donor = refl; begun = refl; tells = tells_same; clone = (record { now = tt; shows = unended; is = refl }, refl) })
-
-  -- the disk is blank still, or has the mark of a copy in progress
-  partial_ended : (m n : DiskImage) → m ≡ blank → (n ≡ m) ⊎ (n ≡ marked (InProgress SESSION) m) → HoldsEnded d.engine.donor (after course.Broken).clone n
-  partial_ended m n empty is = record {
-    whole = λ complete. absurd (let e = complete in cc);
-    broken = inl (elim is [
-      | inl same ↦ inl (ap (λ (x : DiskImage). x.mark) (same ∙ empty))
-      | inr begun ↦ inr (ap (λ (x : DiskImage). x.mark) begun)
-    ]);
-    shown = λ is_shown. absurd (not_both holds.stands.4 is_shown);
-  }
-
-  told_either : (o p : Option DiskImage) → ForTold o (λ m. m ≡ blank) → IsBeforeOrAfter o p (marked (InProgress SESSION)) → ForTold p (HoldsEnded d.engine.donor (after course.Broken).clone)
-  told_either o None empty is = tt
-  told_either None (Some n) empty (inl same) = absurd (let e = same in cc)
-  told_either None (Some n) empty (inr begun) = absurd (let e = begun in cc)
-  told_either (Some m) (Some n) empty (inl same) = partial_ended m n empty (inl (same_Some n m same))
-  told_either (Some m) (Some n) empty (inr begun) = partial_ended m n empty (inr (same_Some n (marked (InProgress SESSION) m) begun))
-
-  pub breaks_holds : IsBeforeOrAfter old.told new.told (marked (InProgress SESSION)) → Holds d new course.Broken stop floor doubted shown
-  breaks_holds partial = record {
-    commits = holds.commits;
-    drops = holds.drops;
-    floor = holds.floor;
-    reached = holds.reached;
-    at_stop = tt;
-    stands = λ sure. told_either old.told new.told holds.stands.1 partial;
-  }
+  pub breaks_untold : (r : State) → before ≡ r → EndsUntold (λ events. events ≡ unbegun ∷ []) r (after course.Unbegun)
+  breaks_untold r is =
+      subst (λ (w : State). EndsUntold (λ events. events ≡ unbegun ∷ []) w (after course.Unbegun)) is
+      (unbegun ∷ [], [], refl, record { donor = refl; begun = refl; tells = tells_same; tasks = refl; clone = (record { now = tt; shows = absent_before; is = refl }, unbegun_is) })

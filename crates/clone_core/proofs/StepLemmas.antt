@@ -1,6 +1,6 @@
 -- A step of a donor and the disk of a recipient is one of the plain donor, and its disks stay
 -- theirs.
-use Rattle.std.proofs.Common.{◌==◌, ◌≡◌, ◌-◌, ◌⊎◌, inl, inr, ℕ, List, Bool, true, false, nat_le, not, unwrap_or, if◌then◌else◌, refl, sym, ap, ◌∙◌, subst, arith, Option, None, Some, is_some, Result, Ok, Err, nat_cmp}
+use Rattle.std.proofs.Common.{◌==◌, ◌≡◌, ◌-◌, ◌⊎◌, inl, inr, ℕ, List, Bool, true, false, nat_le, not, unwrap_or, if◌then◌else◌, refl, sym, ap, ◌∙◌, subst, Option, None, Some, Result, Ok, Err, nat_cmp}
 use Rattle.std.specs.FinMap as finite
 use Rattle.std.specs.Option.{option_map, option_or}
 use Rattle.clone_model.specs.declared.change.Change.{Change}
@@ -21,8 +21,7 @@ use Rattle.clone_plain.specs.declared.call.EngineAnswer.{EngineAnswer}
 use Rattle.clone_plain.specs.declared.call.EngineAnswer.TheVariants as answers
 use Rattle.clone_plain.specs.declared.call.EngineCall.{EngineCall}
 use Rattle.clone_plain.specs.declared.call.EngineCall.TheVariants as call
-use Rattle.clone_events.specs.Events.{to_donor, to_recipient, Event, made, cleaned, looked, archived, started, stopped, readied, completed, broke, lost, again, showed, incomplete, hidden, damaged, ordered, counted, PlainEvent, Sees}
-use Rattle.clone_trx.proofs.CauseLemmas.{both_none}
+use Rattle.clone_events.specs.Events.{to_donor, to_recipient, Event, made, cleaned, looked, archived, started, unbegun, occupied, acts, readied, sticks, again, showed, incomplete, hidden, damaged, ordered, counted, PlainEvent, Sees}
 use Rattle.clone_trx.proofs.WalkLemmas.{walk_missed}
 use Rattle.clone_trx.specs.Ways.{Way, reads, walks, stops, writes, freshens, lengthens, makes, drops, ends, CarriesDrop, Goes, Writes, Misses, Answers, held, page_in}
 use Rattle.clone_trx.specs.Ways as ways
@@ -34,14 +33,15 @@ use Rattle.clone_flush.specs.declared.refusal.FlushRefusal.TheVariants as flush
 use Rattle.clone_pool.specs.declared.pool.FetchRefusal.{FetchRefusal}
 use Rattle.clone_pool.specs.declared.pool.FetchRefusal.TheVariants as fetch
 use Rattle.clone_engine.specs.Disks.{Visits}
-use Rattle.clone_outside.specs.DiskCalls.{DiskState}
 use Rattle.clone_engine.specs.Engine.{Engine}
 use Rattle.clone_engine.specs.Steps as steps
 use Rattle.clone_engine.specs.Steps.{AnswersDrop, Looks, Ends, Flushes, Transacts, Did, way_of, refusal_of}
 use Rattle.clone_session.specs.Cloning.{Session}
 use Rattle.clone_engine.specs.Donor as staged
 use Rattle.clone_engine.specs.Serving.{AnswersCall, Drops, Serves, ServesAs}
-use Rattle.clone_core.specs.System.{System, SystemStep, CallStep, donor_of}
+use Rattle.clone_core.specs.Steps.{SystemStep}
+use Rattle.clone_core.specs.System.{System, CallStep, donor_of}
+use Rattle.clone_core.proofs.ActingLemmas.{acts_leave, same_visits}
 
 -- whatever is read, the way stops for a cause below alone
 abbrev pub StopsBelow : Way → Type 0
@@ -301,55 +301,45 @@ pub served : (asked : EngineCall) (d t : staged.Donor) (answer : Result EngineAn
 served (call.Drop table) d t answer is = kept d.cloning.session table d t answer is
 served asked d t answer is = inl is
 
-done_refines : (d t : staged.Donor) (asked : EngineCall) (did : EngineAnswer) → AnswersCall asked d t (Ok did) → PlainStep d.engine.donor asked (Ok did) t.engine.donor
+pub done_refines : (d t : staged.Donor) (asked : EngineCall) (did : EngineAnswer) → AnswersCall asked d t (Ok did) → PlainStep d.engine.donor asked (Ok did) t.engine.donor
 done_refines d t asked did is = elim (served asked d t (Ok did) is) [
   | inl serves ↦ served_done d t.engine asked did serves.steps
   | inr running ↦ absurd (not_ok running.refused)
 ]
 
-refused_refines : (d t : staged.Donor) (asked : EngineCall) (cause : Cause) → AnswersCall asked d t (Err (Because cause)) → PlainStep d.engine.donor asked (Err cause) t.engine.donor
+pub refused_refines : (d t : staged.Donor) (asked : EngineCall) (cause : Cause) → AnswersCall asked d t (Err (Because cause)) → PlainStep d.engine.donor asked (Err cause) t.engine.donor
 refused_refines d t asked cause is = elim (served asked d t (Err (Because cause)) is) [
   | inl serves ↦ served_refused d t.engine asked cause serves.steps
   | inr running ↦ (subst (IsRefused d.engine.donor asked) (sym (same_because running.refused)) running.plain, after_same d.engine.donor asked cause t.engine.donor (ap (λ (x : staged.Donor). x.engine.donor) running.same))
 ]
 
 pub made_refines : (d t : staged.Donor) (asked : EngineCall) (answer : Result EngineAnswer Cause) → CallStep d asked answer t → PlainStep d.engine.donor asked answer t.engine.donor
-made_refines d t asked (Ok did) is = done_refines d t asked did is
-made_refines d t asked (Err cause) is = refused_refines d t asked cause is
+made_refines d t asked (Ok did) is = done_refines d t asked did is.does
+made_refines d t asked (Err cause) is = refused_refines d t asked cause is.does
 
 same_donor : (s t : System) → t ≡ s → donor_of t ≡ donor_of s
 same_donor s t is = ap donor_of is
 
-of_donor : (s t : System) → t.donor ≡ s.donor → donor_of t ≡ donor_of s
-of_donor s t is = ap (λ (d : staged.Donor). d.engine.donor) is
-
 pub refines : (s t : System) (e : Event) → SystemStep s e t → PlainEvent (donor_of s) e (donor_of t)
 refines s t (made asked answer) is = made_refines s.donor t.donor asked answer is.0
 refines s t (cleaned landed) is = same_donor s t is
-refines s t (looked position) is = same_donor s t is
-refines s t (archived limit reached) is = ap (λ (e : Engine). e.donor) is.archives.1
-refines s t started is = of_donor s t is.donor
-refines s t (stopped at) is = same_donor s t is
-refines s t (readied stages) is = is.donor.donor
-refines s t (completed position) is = is.donor.donor
-refines s t broke is = is.0.donor.donor
-refines s t lost is = is.0.donor.donor
+refines s t (looked position) is = ap donor_of is
+refines s t (archived limit reached) is = ap (λ (e : Engine). e.donor) is.0.does.1
+refines s t started is = ap donor_of is.is
+refines s t unbegun is = ap donor_of is.is
+refines s t occupied is = ap donor_of is.others
+refines s t (acts by changes answer) is = (acts_leave by s t changes answer is).lends.donor
+refines s t (readied stage) is = same_donor s t is.0
+refines s t sticks is = same_donor s t is
 refines s t (again wish answer) is = same_donor s t is
-refines s t (showed rows) is = of_donor s t is.donor
-refines s t incomplete is = of_donor s t is.0.donor
-refines s t hidden is = of_donor s t is.visits.donor
-refines s t (damaged space page why) is = of_donor s t is.0.donor
+refines s t (showed rows) is = ap donor_of is.is
+refines s t incomplete is = ap donor_of is.0.others
+refines s t hidden is = ap donor_of is.visits.others
+refines s t (damaged space page why) is = ap donor_of is.0.others
 refines s t (ordered to_donor order) is = ap donor_of is
 refines s t (ordered to_recipient order) is = ap donor_of is
 
 -- WHAT A CALL DOES TO THE DONOR'S DISK
-
-pub same_visits : (s t : DiskState) → t ≡ s → Visits s t
-same_visits s t is = record {
-  later = omega (arith, ap (λ (d : DiskState). d.failures) is);
-  orders = ap (λ (d : DiskState). d.orders) is;
-  tells = ap (λ (d : DiskState). is_some d.told) is;
-}
 
 engine_visits : (s t : Engine) → t ≡ s → Visits s.disk t.disk
 engine_visits s t is = same_visits s.disk t.disk (ap (λ (e : Engine). e.disk) is)
@@ -380,8 +370,8 @@ answered_visits asked d t answer is = elim (served asked d t answer is) [
 ]
 
 pub made_visits : (d t : staged.Donor) (asked : EngineCall) (answer : Result EngineAnswer Cause) → CallStep d asked answer t → Visits d.engine.disk t.engine.disk
-made_visits d t asked (Ok did) is = answered_visits asked d t (Ok did) is
-made_visits d t asked (Err cause) is = answered_visits asked d t (Err (Because cause)) is
+made_visits d t asked (Ok did) is = answered_visits asked d t (Ok did) is.does
+made_visits d t asked (Err cause) is = answered_visits asked d t (Err (Because cause)) is.does
 
 -- WHERE MEMORY RAN OUT the plain donor is as before
 

@@ -14,17 +14,18 @@ use Rattle.clone_plain.specs.declared.call.EngineAnswer.TheVariants as answers
 use Rattle.clone_plain.specs.declared.call.EngineCall.{EngineCall}
 use Rattle.clone_plain.specs.declared.call.EngineCall.TheVariants as call
 use Rattle.clone_events.specs.World.{index_in}
-use Rattle.clone_events.specs.Events.{Event, event_text, made, said, Happens}
+use Rattle.clone_events.specs.Events.{Event, event_text, made, said}
 use Rattle.clone_events.specs.Runs.{MakesSet, flushed}
 use Rattle.clone_events.specs.BreaksOff.{IsDone, Becomes}
-use Rattle.clone_core.specs.System.{SystemStep, donor_of}
-use Rattle.clone_core.specs.Lines.{State, Events, BreaksOff}
+use Rattle.clone_core.specs.System.{donor_of}
+use Rattle.clone_core.specs.Lines.{State, Events, Happens, BreaksOff}
 
 -- what the plain donor is stays, and so do the writers' indexes and the clone
 pub record Stays (s t : State) : Type 0 where
   pub donor : donor_of t.donor ≡ donor_of s.donor
   pub begun : t.begun ≡ s.begun
   pub tells : t.tells ≡ s.tells
+  pub tasks : t.tasks ≡ s.tasks
   pub clone : t.clone ≡ s.clone
 
 -- the same, but that the clone became another by these events, which weren't told
@@ -32,14 +33,14 @@ pub record StaysUntold (s : State) (events : List Event) (t : State) : Type 0 wh
   pub donor : donor_of t.donor ≡ donor_of s.donor
   pub begun : t.begun ≡ s.begun
   pub tells : t.tells ≡ s.tells
+  pub tasks : t.tasks ≡ s.tasks
   pub clone : Becomes (donor_of s.donor) s.tells s.clone events t.clone
 
 -- a call of the donor: it was carried out, or refused for a cause, or there was no memory for it
 abbrev pub Called : {X : Type 0} → State → EngineCall → (X → EngineAnswer)
     → Result X EngineRefusal → State → Type 0
-Called s asked did (Ok x) t = Happens donor_of SystemStep s (made asked (Ok (did x))) t
-Called s asked did (Err (Because cause)) t =
-    Happens donor_of SystemStep s (made asked (Err cause)) t
+Called s asked did (Ok x) t = Happens s (made asked (Ok (did x))) t
+Called s asked did (Err (Because cause)) t = Happens s (made asked (Err cause)) t
 Called s asked did (Err NoMemory) t = Stays s t
 
 -- the refusal is for a cause, and this is its text
@@ -99,5 +100,5 @@ Cleans s (Err NoMemory) t = BreaksOff s Clean t
 
 -- one event happened, and its text is the answer
 pub record Notes (s : State) (event : Event) (text : Text) (t : State) : Type 0 where
-  pub happened : Happens donor_of SystemStep s event t
+  pub happened : Happens s event t
   pub is : text ≡ event_text event

@@ -1,44 +1,120 @@
 -- What calls of a clone make happen.
-use Rattle.std.specs.Prelude.{List, [], ◌∷◌, Result, Ok, Err}
+use Rattle.std.specs.Prelude.{◌≡◌, ◌++◌, ◌∷◌, [], Bool, true, false, List, Some, Result, Ok, Err, codes}
 use Rattle.std.specs.declared.alloc.AllocError.{AllocError}
-use Rattle.clone_events.specs.World.{Stop}
-use Rattle.clone_events.specs.Events.{Event, Happens, to_begin, to_go_on, started, stopped, readied, completed, broke, lost, again, idle, complete_text, recipient_fault, spent_text}
-use Rattle.clone_events.specs.Runs.{GoesOn, Starts, Finishes}
-use Rattle.clone_core.specs.declared.happened.Happened.{Happened}
-use Rattle.clone_core.specs.declared.happened.Happened.TheVariants as happened
+use Rattle.clone_script.specs.declared.lines.Line.{Line}
+use Rattle.clone_plain.specs.Answers.{Text}
+use Rattle.clone_events.specs.Events.{Event, Change, acts}
+use Rattle.std.specs.Prelude.{unwrap_or}
+use Rattle.clone_tasks.specs.declared.end.CloneEnd.TheVariants as ends_as
+use Rattle.clone_recipient.specs.Receptions.{Reception}
+use Rattle.clone_network.specs.Connections.{Connection, StepsEnd}
+use Rattle.clone_network.specs.declared.donor_step.DonorStep.{DonorStep}
+use Rattle.clone_network.specs.declared.donor_step.DonorStep.TheVariants as step
+use Rattle.clone_serve.specs.declared.turn.ServeAnswer.TheVariants as served
+use Rattle.clone_engine.specs.Donor.{Donor}
+use Rattle.clone_told.specs.Told.{gives}
+use Rattle.clone_events.specs.Events.{AreNow, ShowsChanges, changed_all, to_begin, started, unbegun, occupied, again, end_text, idle}
+use Rattle.clone_events.specs.World.{Progress, over}
+use Rattle.clone_chunk.specs.Stages.{copy_number}
+use Rattle.std.specs.Fmt.{decimal}
+use Rattle.clone_core.specs.declared.rounds.Came.{Came}
+use Rattle.clone_core.specs.declared.rounds.Came.TheVariants as came
+use Rattle.clone_core.specs.declared.start.Begun.{Begun}
+use Rattle.clone_core.specs.declared.start.Begun.TheVariants as begun
+use Rattle.clone_core.specs.Acting.{ServesStranger, stranger_changes, with_donor}
 use Rattle.clone_core.specs.Called.{StaysUntold}
-use Rattle.clone_core.specs.Lines.{State}
-use Rattle.clone_core.specs.System.{SystemStep, donor_of}
+use Rattle.clone_core.specs.Ending.{is_copying}
+use Rattle.clone_core.specs.System.{IsReady, donor_of}
+use Rattle.clone_core.specs.Lines.{State, Events, Happens}
 
--- the event that happened
-abbrev pub event_of : Happened → Event
-event_of happened.Started = started
-event_of happened.StartedBefore = again to_begin idle
-event_of (happened.Ready stages) = readied stages
-event_of happened.NotStarted = again to_go_on idle
-event_of (happened.Complete position) = completed position
-event_of (happened.CompleteBefore position) = again to_go_on (complete_text position)
-event_of happened.Broken = broke
-event_of happened.BrokenBefore = again to_go_on recipient_fault
-event_of happened.Lost = lost
-event_of happened.LostBefore = again to_go_on spent_text
+-- what a line asks of a connection or of the session was done, and this is its answer
+abbrev pub Acts : Line → State → Text → State → Type 0
+Acts line s text t = (changes : List Change) × Happens s (acts line changes text) t
 
--- memory ran out, and by then these events had happened to the clone
+-- memory ran out in it, and the clone may have become another
+abbrev pub ActsUntold : Line → State → State → Type 0
+ActsUntold line s t = (changes : List Change) × (text : Text)
+    × StaysUntold s (acts line changes text ∷ []) t
+
+-- a clone that goes on ends, as by a fault of the recipient's disk
+abbrev pub ended_at_last : Reception → Reception
+ended_at_last r = record r {
+  table = record r.table { ended = Some (unwrap_or r.table.ended ends_as.DiskFault) };
+}
+
+-- these events happened
+abbrev pub Makes : (List Event → Type 0) → State → State → Type 0
+Makes Are s t = (events : List Event) × Are events × Events s events t
+
+-- memory ran out in them, and by then a front of them had happened to the clone
 abbrev pub EndsUntold : (List Event → Type 0) → State → State → Type 0
-EndsUntold Makes s t = (events : List Event) × Makes events × StaysUntold s events t
+EndsUntold Are s t = (front rest : List Event) × Are (front ++ rest) × StaysUntold s front t
 
--- a clone began, or not, or there was no memory, which ended it
-abbrev pub Begins : State → Result Happened AllocError → State → Type 0
-Begins s (Ok h) t = Starts (event_of h) × Happens donor_of SystemStep s (event_of h) t
-Begins s (Err e) t = StaysUntold s (broke ∷ []) t
+-- ---- strangers
 
--- a clone came to this event; it may have come to its stop before that
-pub data Comes (s : State) (event : Event) (t : State) : Type 0 where
-  at_once : Happens donor_of SystemStep s event t → Comes s event t
-  by_stop : (at : Stop) (u : State) → Happens donor_of SystemStep s (stopped at) u
-      → Happens donor_of SystemStep u event t → Comes s event t
+-- these changes were made of the clone, and all else of the world that isn't a donor's or a disk's
+-- stays
+pub record Changes (changes : List Change) (s t : State) : Type 0 where
+  pub begun : t.begun ≡ s.begun
+  pub tells : t.tells ≡ s.tells
+  pub tasks : t.tasks ≡ s.tasks
+  pub plain : donor_of t.donor ≡ donor_of s.donor
+  pub now : AreNow (donor_of s.donor) changes
+  pub shows : ShowsChanges (donor_of s.donor) s.clone changes
+  pub clone : t.clone ≡ changed_all changes s.clone
 
--- a clone came to an event of a kind, or there was no memory, which ended it
-abbrev pub MakesHappen : (Event → Type 0) → State → Result Happened AllocError → State → Type 0
-MakesHappen Kind s (Ok h) t = Kind (event_of h) × Comes s (event_of h) t
-MakesHappen Kind s (Err e) t = EndsUntold (GoesOn Finishes) s t
+-- there was no memory for a step
+abbrev pub is_starved : DonorStep → Bool
+is_starved (step.Served served.NoMemory) = true
+is_starved other = false
+
+-- one step of the donor on a stranger's connection
+pub record StepsStranger (s : State) (at : Connection) (t : State) (after : Connection)
+    (says : DonorStep) : Type 0 where
+  pub donor : Donor
+  pub steps : StepsEnd gives s.donor.donor donor at after says
+  pub is : t.donor ≡ with_donor donor s.donor
+  pub changed : Changes (stranger_changes at says s.donor donor) s t
+
+-- all of them
+pub record ServesAll (s : State) (at : Connection) (t : State) (how : DonorStep) : Type 0 where
+  pub changes : List Change
+  pub serves : ServesStranger at s.donor t.donor changes how
+  pub changed : Changes changes s t
+
+-- some of them, and then memory ran out
+abbrev pub ServesSome : State → State → Type 0
+ServesSome s t = (changes : List Change) × Changes changes s t
+
+-- ---- a clone begins
+
+abbrev pub started_as : Begun → Event
+started_as begun.Now = started
+started_as begun.Before = again to_begin idle
+started_as begun.Fault = unbegun
+started_as begun.Occupied = occupied
+
+-- it does, or it doesn't, or there was no memory, which may have ended it
+abbrev pub Begins : State → Result Begun AllocError → State → Type 0
+Begins s (Ok h) t = Happens s (started_as h) t
+Begins s (Err e) t = EndsUntold (λ events. events ≡ unbegun ∷ []) s t
+
+-- ---- rounds
+
+-- rounds have come to their end so, in a line that stops where a stage is to be acknowledged, or in
+-- one that doesn't
+abbrev pub CameTo : Bool → Came → State → Type 0
+CameTo stops came.Still t = is_copying t.clone.progress ≡ false
+CameTo stops (came.Ready stage) t = (stops ≡ true) × IsReady t.donor.course (copy_number stage)
+    × (is_copying t.clone.progress ≡ true)
+CameTo stops came.Stuck t = is_copying t.clone.progress ≡ true
+
+-- how a clone stands that doesn't go on
+abbrev pub still_answer : Progress → Text
+still_answer (over how) = end_text how
+still_answer other = idle
+
+abbrev pub came_answer : Came → Progress → Text
+came_answer came.Still p = still_answer p
+came_answer (came.Ready stage) p = codes "ready " ++ decimal (copy_number stage)
+came_answer came.Stuck p = codes "stuck"

@@ -1,8 +1,11 @@
 pub mod System
+pub mod Acting
+pub mod Steps
 pub mod Lines
 pub mod Codes
 pub mod Called
 pub mod Copied
 pub mod Showing
 pub mod CloneEvents
+pub mod Left
 pub mod Ending

@@ -8,9 +8,9 @@ use Rattle.clone_recover.specs.Restores.{Answers}
 use Rattle.clone_recover.specs.declared.recovery.Recovered.{Recovered}
 use Rattle.clone_recover.specs.declared.refusal.RecoverRefusal.{RecoverRefusal}
 use Rattle.clone_recover.specs.declared.refusal.RecoverRefusal.TheVariants.{Incomplete, Damaged, DiskFault, NoMemory}
-use Rattle.clone_events.specs.Events.{Happens, showed, incomplete, hidden, damaged}
-use Rattle.clone_core.specs.System.{SystemStep, donor_of, why_text}
-use Rattle.clone_core.specs.Lines.{State}
+use Rattle.clone_events.specs.Events.{showed, incomplete, hidden, damaged}
+use Rattle.clone_core.specs.System.{why_text}
+use Rattle.clone_core.specs.Lines.{State, Happens}
 use Rattle.clone_core.specs.Called.{StaysUntold}
 
 -- a disk is recovered, and these are its rows
@@ -24,13 +24,13 @@ pub record ShowsRecovered (old new : DiskImage) (list : List Row) : Type 0 where
 pub record ShowsList (s : State) (list : List Row) (t : State) : Type 0 where
   pub rows : Rows
   pub is : list ≡ rows_in rows
-  pub happened : Happens donor_of SystemStep s (showed rows) t
+  pub happened : Happens s (showed rows) t
 
 -- rows, by what came of reading them
 abbrev pub Reads : State → Result (Vec Row Global) RecoverRefusal → State → Type 0
 Reads s (Ok list) t = ShowsList s list.items t
-Reads s (Err Incomplete) t = Happens donor_of SystemStep s incomplete t
+Reads s (Err Incomplete) t = Happens s incomplete t
 Reads s (Err (Damaged space page why)) t =
-    Happens donor_of SystemStep s (damaged space page (why_text why)) t
-Reads s (Err DiskFault) t = Happens donor_of SystemStep s hidden t
+    Happens s (damaged space page (why_text why)) t
+Reads s (Err DiskFault) t = Happens s hidden t
 Reads s (Err NoMemory) t = StaysUntold s (hidden ∷ []) t

@@ -1,9 +1,13 @@
--- A donor and the disk of a recipient, and what an event does to them.
-use Rattle.std.specs.Prelude.{ℕ, ◌≡◌, ◌&&◌, is_some, Bool, Result, Ok, Err, codes}
+-- A donor, the disk of a recipient and the clone between them, and what single calls do to them.
+use Rattle.std.specs.Prelude.{ℕ, ◌≡◌, ◌&&◌, is_some, Bool, true, Some, Result, Ok, Err, codes}
+use Rattle.std.specs.Option.{option_map}
 use Rattle.std.specs.declared.option.Option.{Option}
 use Rattle.clone_outside.specs.Causes.{Rose}
-use Rattle.clone_outside.specs.Disk.{ForTold}
-use Rattle.clone_recover.specs.Restores.{IsCause, IsIncomplete}
+use Rattle.clone_outside.specs.Disk.{ForTold, Steps}
+use Rattle.clone_outside.specs.DiskCalls.{DiskState}
+use Rattle.clone_outside.specs.declared.mark.Mark.TheVariants.{InProgress}
+use Rattle.clone_lay.specs.Marked.{marked}
+use Rattle.clone_recover.specs.Restores.{IsCause}
 use Rattle.clone_recover.specs.declared.refusal.Why.{Why}
 use Rattle.clone_recover.specs.declared.refusal.Why.TheVariants.{Header, Redo, Dictionary, Undo, Chain}
 use Rattle.clone_recover.specs.declared.refusal.RecoverRefusal.TheVariants.{Damaged}
@@ -15,17 +19,27 @@ use Rattle.clone_plain.specs.declared.refusal.Cause.{Cause}
 use Rattle.clone_plain.specs.declared.refusal.EngineRefusal.TheVariants.{Because}
 use Rattle.clone_calls.specs.declared.answer.DonorAnswer.TheVariants as answer
 use Rattle.clone_calls.specs.declared.call.DonorCall.TheVariants as call
-use Rattle.clone_events.specs.Events.{to_donor, to_recipient, Event, made, cleaned, looked, archived, started, stopped, readied, completed, broke, lost, again, showed, incomplete, hidden, damaged, ordered}
-use Rattle.clone_engine.specs.Disks.{Visits, with_order}
-use Rattle.clone_outside.specs.DiskCalls.{DiskState}
-use Rattle.clone_engine.specs.Answering.{Answered}
+use Rattle.clone_chunk.specs.Stages.{copy_number}
+use Rattle.clone_script.specs.declared.terms.Terms.{Terms}
+use Rattle.clone_session.specs.declared.info.Stop as session
+use Rattle.clone_recipient.specs.Receptions.{begun}
+use Rattle.clone_network.specs.Networks.{ready_in, unconnected}
+use Rattle.clone_engine.specs.Disks.{Visits}
 use Rattle.clone_engine.specs.Donor as staged
-use Rattle.clone_engine.specs.Serving.{AnswersCall}
-use Rattle.clone_request.specs.Advancing.{Lends}
+use Rattle.clone_engine.specs.Acts.{CloneActs, EngineActs}
+use Rattle.clone_core.specs.declared.world.Course.{Course}
+use Rattle.clone_core.specs.declared.world.Course.TheVariants as course
+use Rattle.clone_core.specs.declared.world.TheConstants.{SESSION}
 
+-- The course has what the recipient knows of the clone and the connections of its tasks; the stop
+-- is the first of its session; what was looked up is the floor of an acknowledgement.
 pub record System : Type 0 where
   pub donor : staged.Donor
   pub recipient : DiskState
+  pub terms : Terms
+  pub course : Course
+  pub stop : Option session.Stop
+  pub looked : ℕ
 
 abbrev pub donor_of : System → Donor
 donor_of s = s.donor.engine.donor
@@ -34,9 +48,9 @@ donor_of s = s.donor.engine.donor
 abbrev pub tell : System → Bool
 tell s = is_some s.donor.engine.disk.told && is_some s.recipient.told
 
--- the donor stays, and the recipient's disk is asked or written
+-- the recipient's disk is asked or written, and all else stays
 pub record VisitsRecipient (s t : System) : Type 0 where
-  pub donor : t.donor ≡ s.donor
+  pub others : t ≡ record s { recipient = t.recipient }
   pub recipient : Visits s.recipient t.recipient
 
 -- the same, and the recipient's disk failed
@@ -61,46 +75,53 @@ pub record FindsDamage (s : DiskState) (space page : ℕ) (text : Text) : Type 0
 -- a call that was made on the donor: it was carried out, or refused for a cause
 abbrev pub CallStep : staged.Donor → EngineCall → Result EngineAnswer Cause → staged.Donor
     → Type 0
-CallStep d asked (Ok given) t = AnswersCall asked d t (Ok given)
-CallStep d asked (Err cause) t = AnswersCall asked d t (Err (Because cause))
-
--- A clone goes on: the plain donor and what its disk holds stay, and the recipient's disk is
--- written.
-pub record CopiesOn (s t : System) : Type 0 where
-  pub donor : Lends s.donor t.donor
-  pub recipient : Visits s.recipient t.recipient
+CallStep d asked (Ok given) t = EngineActs asked (Ok given) d t
+CallStep d asked (Err cause) t = EngineActs asked (Err (Because cause)) d t
 
 -- the log is archived up to there, or there is no archive
-pub record ArchivesTo (limit : ℕ) (reached : Option ℕ) (s t : System) : Type 0 where
-  pub archives : Answered (call.Archive limit) (answer.Archive (Ok reached)) s.donor t.donor
-  pub recipient : t.recipient ≡ s.recipient
+abbrev pub ArchivesTo : ℕ → Option ℕ → staged.Donor → staged.Donor → Type 0
+ArchivesTo limit reached d t = CloneActs (call.Archive limit) (answer.Archive (Ok reached)) d t
 
--- AN EVENT, in a donor and the disk of a recipient. A clone goes on by calls of both, and its stop
--- is a moment of the step in which it lies; what is told of it again asks nothing; and rows recover
--- the recipient's disk.
-abbrev pub SystemStep : System → Event → System → Type 0
-SystemStep s (made asked given) t =
-    CallStep s.donor asked given t.donor × (t.recipient ≡ s.recipient)
-SystemStep s (cleaned landed) t = t ≡ s
-SystemStep s (looked position) t = t ≡ s
-SystemStep s (archived limit reached) t = ArchivesTo limit reached s t
-SystemStep s started t = VisitsRecipient s t
-SystemStep s (stopped at) t = t ≡ s
-SystemStep s (readied stages) t = CopiesOn s t
-SystemStep s (completed position) t = CopiesOn s t
-SystemStep s broke t = CopiesOn s t × Rose s.recipient.failures t.recipient.failures
-SystemStep s lost t =
-    CopiesOn s t × Rose s.donor.engine.disk.failures t.donor.engine.disk.failures
-SystemStep s (again wish text) t = t ≡ s
-SystemStep s (showed rows) t = VisitsRecipient s t
-SystemStep s incomplete t = VisitsRecipient s t × ForTold s.recipient.told IsIncomplete
-SystemStep s hidden t = FailsRecipient s t
-SystemStep s (damaged space page why) t =
-    VisitsRecipient s t × FindsDamage s.recipient space page why
-SystemStep s (ordered to_donor order) t = t ≡ record s {
-  donor = record s.donor {
-    engine = record s.donor.engine { disk = with_order order s.donor.engine.disk };
-  };
-}
-SystemStep s (ordered to_recipient order) t =
-    t ≡ record s { recipient = with_order order s.recipient }
+-- the donor is another, and all else stays
+abbrev pub OnDonor : (staged.Donor → staged.Donor → Type 0) → System → System → Type 0
+OnDonor Does s t = Does s.donor t.donor × (t ≡ record s { donor = t.donor })
+
+-- A CLONE BEGINS: the recipient's disk was empty and gets the mark of a copy in progress.
+pub record Starts (s t : System) : Type 0 where
+  pub absent : s.course ≡ course.Absent
+  pub visits : Visits s.recipient t.recipient
+  pub marks : Steps s.recipient.told t.recipient.told (marked (InProgress SESSION))
+  pub is : t ≡ record s {
+    recipient = t.recipient;
+    course = course.Begun (record {
+      reception = begun SESSION s.terms.tasks s.terms.limit s.terms.version;
+      network = unconnected s.terms.tasks;
+    });
+  }
+
+-- the recipient's disk fails as it begins, which ends it
+pub record FailsToStart (s t : System) : Type 0 where
+  pub absent : s.course ≡ course.Absent
+  pub visits : Visits s.recipient t.recipient
+  pub rose : Rose s.recipient.failures t.recipient.failures
+  pub is : t ≡ record s { recipient = t.recipient; course = course.Unbegun }
+
+-- the rows of a clone were shown, which its status tells
+abbrev pub recovered_course : Course → Course
+recovered_course (course.Begun c) = course.Begun (record c {
+  reception = record c.reception { recovered = true };
+})
+recovered_course other = other
+
+pub record ShowsRows (s t : System) : Type 0 where
+  pub visits : Visits s.recipient t.recipient
+  pub is : t ≡ record s {
+    recipient = t.recipient;
+    course = recovered_course s.course;
+  }
+
+-- THE STAGE of this number is to be acknowledged by the next step of task 0.
+abbrev pub IsReady : Course → ℕ → Type 0
+IsReady (course.Begun c) stage =
+    option_map copy_number (ready_in c.network c.reception.table) ≡ Some stage
+IsReady other stage = ⊥

@@ -134,6 +134,7 @@ impl<D: PageDisk, R: PageDisk> World<D, R> {
         ensures { Called self.old call.OldestDirty (λ page. answers.OldestDirty page) (Ok result)
             self.new }
     {
+        self.donor.laws();
         self.donor.oldest_dirty()
     }
 
@@ -149,6 +150,7 @@ impl<D: PageDisk, R: PageDisk> World<D, R> {
     pub(crate) fn end(&mut self) -> u64
         ensures { Called self.old call.End (λ lsn. answers.End lsn) (Ok result) self.new }
     {
+        self.donor.laws();
         self.donor.end()
     }
 }

@@ -1,17 +1,19 @@
-//! The world that a script acts on: a donor, the disk of a recipient, the clone that it takes, and
-//! what each line does to them.
+//! The world that a script acts on: a donor, the disk of a recipient, the clone that it takes over
+//! its connections, and what each line does to them.
 #![tactic(auto)]
 
 mod begun;
 mod calls;
-mod cloning;
-mod happened;
+mod connections;
 mod laws;
 mod lines;
+mod rounds;
 mod rows;
 mod showing;
+mod start;
+mod strangers;
 mod texts;
 mod world;
 
 pub use laws::run_laws;
-pub use world::{Ending, World};
+pub use world::{Copying, Course, Ending, World};

@@ -17,16 +17,14 @@ use std::alloc::{AllocError, Global};
 
 // What the requester looks up, what the donor archives, and the rows of the clone.
 impl<D: PageDisk, R: PageDisk> World<D, R> {
-    // Looks up how many commits there are. Before the stop that is the floor of the clone.
+    // Looks up how many commits there are. That is the floor of an acknowledgement that comes later.
     pub(crate) fn look_line(&mut self, alloc: Global) -> Result<String, AllocError>
         ensures ok { IfOk result (λ text. Answers self.old lines.Look (string_bytes text)
             self.new) }
         ensures err { OnErr result (BreaksOff self.old lines.Look self.new) }
     {
         let position = self.donor.look();
-        if self.stop.is_none() {
-            self.floor = position;
-        }
+        self.looked = position;
         format!(in alloc; "position {position}")
     }
 
@@ -48,11 +46,10 @@ impl<D: PageDisk, R: PageDisk> World<D, R> {
             self.new) }
         ensures err { OnErr result (BreaksOff self.old lines.Rows self.new) }
     {
-        match self.course {
-            Course::Absent | Course::Copying(_) => String::from_str(alloc, "incomplete"),
-            Course::Complete { position: _ } | Course::Broken | Course::Spent => {
-                self.show_rows(alloc)
-            }
+        if self.course.has_ended() {
+            self.show_rows(alloc)
+        } else {
+            String::from_str(alloc, "incomplete")
         }
     }
 
@@ -82,11 +79,16 @@ impl<D: PageDisk, R: PageDisk> World<D, R> {
         holds_laws();
         let read = recovered_rows(alloc, &mut self.recipient);
         match &read {
-            Ok(_) => self.shown = true,
+            Ok(_) => {
+                self.is_shown = true;
+                if let Course::Begun(copying) = &mut self.course {
+                    copying.reception.note_recovered();
+                }
+            }
             Err(RecoverRefusal::Incomplete) => {}
             Err(RecoverRefusal::Damaged { .. }) => {}
-            Err(RecoverRefusal::DiskFault) => self.doubted = true,
-            Err(RecoverRefusal::NoMemory) => self.doubted = true,
+            Err(RecoverRefusal::DiskFault) => self.is_doubted = true,
+            Err(RecoverRefusal::NoMemory) => self.is_doubted = true,
         }
         read
     }

@@ -8,7 +8,7 @@ ghost use Rattle.clone_plain.specs.Donor as plain;
 ghost use Rattle.clone_plain.specs.Causes.{least_unused};
 ghost use Rattle.clone_plain.specs.Effects.{Undoes};
 ghost use Rattle.clone_plain.specs.Answers.{undone_answer, rows_answer, value_answer};
-ghost use Rattle.clone_events.specs.Events.{complete_text, damaged, event_text, recipient_fault};
+ghost use Rattle.clone_events.specs.Events.{damaged, event_text, recipient_fault};
 ghost use Rattle.clone_core.specs.System.{why_text};
 ghost use Rattle.clone_core.specs.Called.{SaysCause};
 
@@ -123,13 +123,6 @@ pub fn rows_shown(alloc: Global, rows: &[(u32, u64, Value)]) -> Result<String, A
     let last = format!(in alloc; "rows {count}")?;
     text.push_str(last.as_str())?;
     Ok(text)
-}
-
-/// The answer of a `clone` that is complete at a position.
-pub fn complete_text(alloc: Global, position: u64) -> Result<String, AllocError>
-    ensures { IfOk result (λ text. string_bytes text ≡ complete_text position) }
-{
-    format!(in alloc; "complete position {position}")
 }
 
 /// The answer of a line in which the recipient's disk failed.

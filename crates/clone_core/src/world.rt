@@ -1,46 +1,95 @@
-//! The world between two lines of a script. The stop of a clone is that of its session, within the
-//! donor's history, and so is the floor, which is not past the stop. Until a clone is begun the
-//! recipient's disk is blank; a complete clone is complete at its stop. What the recipient's disk
-//! holds, where that is told, is what the course of the clone says.
-ghost use Rattle.std.specs.Prelude.{◌≡◌, ◌^◌, ◌-◌, IfOk, None, OnErr, option_map};
+//! The world between two lines of a script. The first stop of the clone's session is kept, and both
+//! it and what was looked up are within the donor's history. Until a clone is begun the recipient's
+//! disk is blank, and while it goes on that disk says so. Where nobody but its tasks had a hand in
+//! it, donor, recipient and all that is on its way between them are joined while the clone goes on,
+//! and what the recipient's disk holds once it has ended is known, where that is told.
+ghost use Rattle.std.specs.Prelude.{◌≡◌, ◌^◌, ◌-◌, ◌≤◌, IfOk, None, OnErr, option_map, is_some};
 ghost use Rattle.std.specs.String.{string_bytes};
 ghost use Rattle.clone_outside.specs.Disk.{ForTold, blank};
 ghost use Rattle.clone_outside.specs.declared.disk.DiskOrder.TheVariants as order;
 ghost use Rattle.clone_model.specs.declared.config.Config.{Config};
+ghost use Rattle.clone_script.specs.Given.{IsTerms};
 ghost use Rattle.clone_events.specs.World.{IsWithin};
+ghost use Rattle.clone_engine.specs.Donor.{IsDonor};
 ghost use Rattle.clone_engine.specs.Opened.{IsOpened};
 ghost use Rattle.clone_engine.specs.Taken.{IsTaken, nothing};
 ghost use Rattle.clone_core.specs.System.{donor_of};
 ghost use Rattle.clone_core.specs.Lines.{Answers, BreaksOff, IsNew};
-ghost use Rattle.clone_core.specs.Copied.{KeepsClone, stop_of};
-ghost use Rattle.clone_core.specs.Ending.{ending_of};
+ghost use Rattle.clone_core.specs.Acting.{stop_of};
+ghost use Rattle.clone_sides.specs.Moment.{own_stop};
+ghost use Rattle.std.specs.Option.{option_or};
+ghost use Rattle.clone_core.specs.declared.world.TheConstants.{SESSION};
+ghost use Rattle.clone_core.specs.Copied.{KeepsClone, progress_of};
+ghost use Rattle.clone_core.specs.Ending.{ending_of, is_copying, is_over, rows_ending};
 
 use crate::begun::Begun;
 use clone_donor::Donor;
+use clone_joined::joined_laws;
 use clone_model::{Binlog, Drops};
+use clone_network::Network;
 use clone_outside::{DiskOrder, PageDisk};
-use clone_request::{Requester, keeping_laws};
-use clone_script::Line;
+use clone_recipient::Reception;
+use clone_script::{Line, Terms};
 use clone_session::Stop;
+use clone_tasks::CloneEnd;
 use std::alloc::{AllocError, Global};
 use std::marker::Model;
+
+/// The number of the clone's session.
+pub const SESSION: u64 = 1;
+
+/// A clone that was begun.
+#[derive(Drop)]
+pub struct Copying {
+    /// What the recipient knows of it.
+    pub(crate) reception: Reception,
+    /// The connections of its tasks.
+    pub(crate) network: Network,
+}
 
 /// How far a clone has come.
 #[derive(Drop)]
 pub enum Course {
     /// It wasn't begun.
     Absent,
-    /// It is under way.
-    Copying(Requester),
-    /// It is complete.
-    Complete {
-        /// How many commits there were at its stop.
-        position: u64,
-    },
-    /// A fault of the recipient's disk ended it, or memory ran out.
-    Broken,
-    /// A fault of the donor's disk ended it, while a block was read.
-    Spent,
+    /// The recipient's disk failed as it was begun.
+    Unbegun,
+    /// It was begun.
+    Begun(Copying),
+}
+
+impl Course {
+    // Whether a clone goes on.
+    pub(crate) fn goes_on(&self) -> bool
+        ensures { result ≡ is_copying (progress_of self.now) }
+    {
+        match self {
+            Course::Begun(copying) => copying.reception.table().is_running(),
+            Course::Absent | Course::Unbegun => false,
+        }
+    }
+
+    // Whether a clone has ended.
+    pub(crate) fn has_ended(&self) -> bool
+        ensures { result ≡ is_over (progress_of self.now) }
+    {
+        match self {
+            Course::Begun(copying) => !copying.reception.table().is_running(),
+            Course::Unbegun => true,
+            Course::Absent => false,
+        }
+    }
+}
+
+// The first stop of the clone's session: the one that was kept, or else the donor's last, if it is
+// of that session.
+pub(crate) fn first_stop(kept: Option<Stop>, last: Option<Stop>) -> Option<Stop>
+    ensures { result ≡ option_or kept (own_stop SESSION last) }
+{
+    match (kept, last) {
+        (None, Some(stop)) if stop.session == SESSION => Some(stop),
+        _ => kept,
+    }
 }
 
 /// How a clone ended, as far as a run tells by its status.
@@ -50,8 +99,12 @@ pub enum Ending {
     Well,
     /// A fault of the recipient's disk did.
     RecipientFault,
-    /// A fault of the donor's disk ended it.
+    /// There were more losses than the limit.
     RestartsSpent,
+    /// The recipient got bytes that are no frame, or out of turn.
+    Garbled,
+    /// The donor refused.
+    Refused,
 }
 
 /// A donor, the disk of a recipient, how many transactions each writer has begun, and the clone
@@ -59,64 +112,76 @@ pub enum Ending {
 pub struct World<D: PageDisk, R: PageDisk> {
     pub(crate) donor: Donor<D>,
     pub(crate) recipient: R,
+    pub(crate) terms: Terms,
     pub(crate) begun: Begun,
     pub(crate) course: Course,
     pub(crate) stop: Option<Stop>,
-    pub(crate) floor: u64,
-    pub(crate) doubted: bool,
-    pub(crate) shown: bool,
+    pub(crate) looked: u64,
+    pub(crate) is_disturbed: bool,
+    pub(crate) is_doubted: bool,
+    pub(crate) is_shown: bool,
 }
 
 impl<D: PageDisk, R: PageDisk> Model for World<D, R> {
     ghost use Rattle.std.specs.Coded.{codes};
-    ghost use Rattle.std.specs.Prelude.{is_some, ◌&&◌};
     ghost use Rattle.clone_track.specs.TrackedPages.{tracked_pages_code};
     ghost use Rattle.clone_engine.specs.Codes.{disk_code, engine_code};
+    ghost use Rattle.clone_recipient.specs.Receptions.{sizes_code};
     ghost use Rattle.clone_core.specs.Codes.{begun_code};
     ghost use Rattle.clone_core.specs.Lines.{State};
-    ghost use Rattle.clone_core.specs.Copied.{HoldsClone, clone_of};
+    ghost use Rattle.clone_core.specs.Copied.{Holds, world_of};
 
     ghost Value = { State };
 
-    ghost coded = { Prim.hlevel (codes, begun_code, disk_code, engine_code, tracked_pages_code) };
+    ghost coded = { Prim.hlevel
+        (codes, begun_code, disk_code, engine_code, tracked_pages_code, sizes_code) };
 
-    ghost view = { λ w. record {
-      donor = record {
-        donor = w.donor;
-        recipient = R.state w.recipient;
-      };
-      begun = w.begun;
-      clone = clone_of w.course w.stop w.floor w.doubted w.shown;
-      tells = is_some w.donor.engine.disk.told && is_some (R.state w.recipient).told;
-    } };
+    ghost view = { λ w. world_of (record {
+      donor = w.donor;
+      recipient = R.state w.recipient;
+      terms = w.terms;
+      course = w.course;
+      stop = w.stop;
+      looked = w.looked;
+    }) w.begun w.is_disturbed w.is_doubted w.is_shown };
 
-    ghost invariant = { λ w. HoldsClone w.donor
-        (is_some w.donor.engine.disk.told && is_some (R.state w.recipient).told)
-        (clone_of w.course w.stop w.floor w.doubted w.shown)
-        (R.state w.recipient).told w.course };
+    ghost invariant = { λ w. Holds (world_of (record {
+      donor = w.donor;
+      recipient = R.state w.recipient;
+      terms = w.terms;
+      course = w.course;
+      stop = w.stop;
+      looked = w.looked;
+    }) w.begun w.is_disturbed w.is_doubted w.is_shown) };
 }
 
 impl<D: PageDisk, R: PageDisk> World<D, R> {
-    /// A donor of which nothing was asked, and the empty disk of a recipient.
-    pub fn new(alloc: Global, donor: Donor<D>, recipient: R) -> World<D, R>
+    /// A donor of which nothing was asked, and the empty disk of a recipient, with the terms on
+    /// which a clone is taken.
+    pub fn new(alloc: Global, donor: Donor<D>, recipient: R, terms: Terms) -> World<D, R>
         requires taken { IsTaken donor nothing }
         requires idle { donor.cloning.session ≡ None }
         requires stop { donor.cloning.stop ≡ None }
         requires blank { ForTold (R.state recipient).told (λ m. m ≡ blank) }
-        ensures new { (config : Config) → IsOpened config donor.engine → IsNew config result }
+        requires terms { IsTerms terms }
+        ensures new { (config : Config) → IsOpened config donor.engine
+            → IsNew config terms result }
         ensures donor { result.donor.donor ≡ donor }
         ensures recipient { result.donor.recipient ≡ R.state recipient }
     {
-        keeping_laws();
+        joined_laws();
+        donor.laws();
         World {
             donor,
             recipient,
+            terms,
             begun: Begun::new(alloc),
             course: Course::Absent,
             stop: None,
-            floor: 0,
-            doubted: false,
-            shown: false,
+            looked: 0,
+            is_disturbed: false,
+            is_doubted: false,
+            is_shown: false,
         }
     }
 
@@ -127,25 +192,26 @@ impl<D: PageDisk, R: PageDisk> World<D, R> {
         self.donor.binlog()
     }
 
-    /// How the clone ended, by the first that holds: a fault of the donor's disk ended it, or one
-    /// of the recipient's ended it or came in the way of its rows.
+    /// How the clone ended: well, unless it ended otherwise than complete, or a fault of the
+    /// recipient's disk came in the way of its rows.
     pub fn ending(&self) -> Ending
         ensures { result ≡ ending_of self.now.clone }
     {
-        match self.course {
-            Course::Spent => Ending::RestartsSpent,
-            Course::Broken => Ending::RecipientFault,
-            Course::Absent | Course::Copying(_) | Course::Complete { position: _ } => {
-                if self.doubted {
-                    Ending::RecipientFault
-                } else {
-                    Ending::Well
-                }
-            }
+        match &self.course {
+            Course::Absent => rows_ending(self.is_doubted),
+            Course::Unbegun => Ending::RecipientFault,
+            Course::Begun(copying) => match copying.reception.table().ended() {
+                Some(CloneEnd::Spent { .. }) => Ending::RestartsSpent,
+                Some(CloneEnd::Garbled { .. }) => Ending::Garbled,
+                Some(CloneEnd::Refused { .. }) => Ending::Refused,
+                Some(CloneEnd::DiskFault) => Ending::RecipientFault,
+                Some(CloneEnd::Complete { .. }) | None => rows_ending(self.is_doubted),
+            },
         }
     }
 
-    /// The stop of the clone, if it has come to that: how many commits and drops there were.
+    /// The first stop of the clone's session, if it has come to one: how many commits and drops
+    /// there were.
     pub fn stop(&self) -> Option<Stop>
         ensures { option_map stop_of result ≡ self.now.clone.stop }
     {
@@ -161,12 +227,14 @@ impl<D: PageDisk, R: PageDisk> World<D, R> {
         let World {
             donor,
             recipient,
+            terms: _,
             begun: _,
             course: _,
             stop: _,
-            floor: _,
-            doubted: _,
-            shown: _,
+            looked: _,
+            is_disturbed: _,
+            is_doubted: _,
+            is_shown: _,
         } = self;
         let (disk, drops) = donor.into_disk();
         (disk, recipient, drops)
@@ -217,13 +285,36 @@ impl<D: PageDisk, R: PageDisk> World<D, R> {
             Line::FailDonor { call } => self.donor_order_line(alloc, fail_at(*call)),
             Line::FailRecipient { call } => self.recipient_order_line(alloc, fail_at(*call)),
             Line::Start => self.start_line(alloc),
+            Line::Task { task } => self.task_line(alloc, *task),
+            Line::Serve { connection } => self.serve_line(alloc, *connection),
+            Line::Cut {
+                connection,
+                to_donor,
+                to_task,
+            } => self.cut_line(alloc, *connection, *to_donor, *to_task),
             Line::Advance => self.advance_line(alloc),
             Line::Finish => self.finish_line(alloc),
             Line::Look => self.look_line(alloc),
             Line::Archive { bytes } => self.archive_line(alloc, *bytes),
+            Line::Status => self.status_line(alloc),
+            Line::Raw { bytes } => self.raw_line(alloc, bytes.bytes()),
+            Line::Feed { connection, bytes } => self.feed_line(alloc, *connection, bytes.bytes()),
+            Line::Abandon => self.abandon_line(alloc),
             Line::Clone => self.clone_line(alloc),
             Line::Rows => self.rows_line(alloc),
         }
+    }
+}
+
+// How a clone ended that no fault ended: a fault of the recipient's disk came in the way of its
+// rows, or none did.
+fn rows_ending(is_doubted: bool) -> Ending
+    ensures { result ≡ rows_ending is_doubted }
+{
+    if is_doubted {
+        Ending::RecipientFault
+    } else {
+        Ending::Well
     }
 }
 

@@ -7,7 +7,6 @@ pub use Rattle.std.specs.List.{cons_option, range_with_len, AllByRecursion}
 pub use Rattle.std.specs.Ordering.{eq_by_cmp}
 pub use Rattle.clone_base.proofs.MapEntries.{get-set_same}
 pub use Rattle.clone_model.specs.History.{Drops, Rows, fold, history_of}
-pub use Rattle.clone_model.specs.declared.change.Change.{Change}
 pub use Rattle.clone_model.specs.declared.change.Commit.{Commit}
 pub use Rattle.clone_script.specs.declared.lines.Line.{Line}
 pub use Rattle.clone_plain.specs.Calls.{PlainStep, AfterRefusal, Does}
@@ -15,8 +14,8 @@ pub use Rattle.clone_plain.specs.declared.call.EngineAnswer.{EngineAnswer}
 pub use Rattle.clone_plain.specs.declared.call.EngineCall.{EngineCall}
 pub use Rattle.clone_plain.specs.Donor.{Donor, no_donor}
 pub use Rattle.clone_plain.specs.Effects.{begun, with_change, Changes, Undoes, put_of}
-pub use Rattle.clone_events.specs.Events.{Event, made, looked, stopped, showed, ordered, Events, PlainEvent, Happens, Shows, clone_after, counted, said}
+pub use Rattle.clone_events.specs.Events.{Event, made, looked, acts, stops, ends, Change, showed, ordered, ShowsChange, ShowsChanges, ShowsIn, changed_by, changed_in, changed_all, ComesToStop, Events, PlainEvent, Happens, Shows, clone_after, counted, said}
 pub use Rattle.clone_events.specs.Headline.{committed_at, AreCommits, MakesDrops, AreDrops, IsSet, AreSets, ShowsStop, all_events}
-pub use Rattle.clone_events.specs.Runs.{MakesSet, Runs, not_begun, not_changed, set, MakesClean, all_clean, not_flushed, flushed, Starts, Finishes, Advances, GoesOn, at_once, by_stop, MakesClone, LineStep, Makes, MakesOne, output}
-pub use Rattle.clone_events.specs.World.{World, Stop, Clone, opened, index_in, IsWithin, before_stop}
+pub use Rattle.clone_events.specs.Runs.{MakesSet, Runs, not_begun, not_changed, set, MakesClean, all_clean, not_flushed, flushed, Starts, Finishes, Advances, GoesOn, IsBy, AreOfTasks, AreOfDonor, IsRound, AreRounds, no_round, next_round, MakesClone, LineStep, Makes, MakesOne, output}
+pub use Rattle.clone_events.specs.World.{World, Stop, Clone, Progress, absent, copying, over, opened, index_in, IsWithin, before_stop}
 pub use Rattle.clone_plain.specs.declared.refusal.Cause.{Cause}

@@ -1,7 +1,7 @@
 -- A line makes one event, or it is a `set`, or none of its events commits or begins, as those of
 -- `clean` and of `clone`.
-use Rattle.std.proofs.Common.{◌≡◌, ℕ, List, [], ◌∷◌, ◌++◌, refl, sym, subst, ◌∙◌, append_assoc, None, Ok, Err, flat_map, nat_cmp}
-use Rattle.clone_events.proofs.Common.{AllByRecursion, FinMap, Line, Cause, EngineCall, Event, made, stopped, ordered, counted, committed_at, Makes, MakesOne, MakesSet, MakesClean, all_clean, not_flushed, flushed, Starts, Finishes, Advances, GoesOn, at_once, by_stop, MakesClone}
+use Rattle.std.proofs.Common.{◌≡◌, ℕ, zero, suc, ◌+◌, List, [], ◌∷◌, ◌++◌, refl, sym, subst, ◌∙◌, append_assoc, None, Ok, Err, flat_map, nat_cmp}
+use Rattle.clone_events.proofs.Common.{AllByRecursion, FinMap, Line, Cause, EngineCall, Event, made, acts, ordered, counted, committed_at, Makes, MakesOne, MakesSet, MakesClean, all_clean, not_flushed, flushed, Starts, Finishes, Advances, GoesOn, IsBy, AreOfTasks, AreOfDonor, IsRound, AreRounds, no_round, next_round, MakesClone}
 use Rattle.clone_plain.specs.declared.call.EngineCall.TheVariants as call
 use Rattle.clone_script.specs.declared.lines.Line.TheVariants as lines
 
@@ -60,36 +60,67 @@ advances_quiet : (e : Event) → Advances e → IsQuiet e
 advances_quiet (made asked answer) is = absurd is
 advances_quiet e is = is_quiet e refl (λ begun. refl)
 
-goes_quiet : (Kind : Event → Type 0) (events : List Event) → ((e : Event) → Kind e → IsQuiet e) → GoesOn Kind events → AllByRecursion IsQuiet events
-goes_quiet Kind events are (at_once e kind is) = subst (AllByRecursion IsQuiet) (sym is) (are e kind, tt)
-goes_quiet Kind events are (by_stop at e kind is) = subst (AllByRecursion IsQuiet) (sym is) (is_quiet (stopped at) refl (λ begun. refl), (are e kind, tt))
+-- nor are steps of tasks and of the donor
+by_quiet : (line : Line) (e : Event) → IsBy line e → IsQuiet e
+by_quiet line (acts by changes answer) is = is_quiet _ refl (λ begun. refl)
+by_quiet line e is = absurd is
 
-clone_quiet : (events : List Event) → MakesClone events → AllByRecursion IsQuiet events
-clone_quiet events is = subst (AllByRecursion IsQuiet) (sym is.4) (starts_quiet is.0 is.2, goes_quiet Finishes is.1 finishes_quiet is.3)
+quiet_append : (xs ys : List Event) → AllByRecursion IsQuiet xs → AllByRecursion IsQuiet ys → AllByRecursion IsQuiet (xs ++ ys)
+quiet_append [] ys first second = second
+quiet_append (x ∷ xs) ys first second = (first.0, quiet_append xs ys first.1 second)
 
-pub shape : (next : ℕ → ℕ) (line : Line) (events : List Event) → Makes next line events → Shape events
-shape next (lines.Create table buckets) events is = call_shape _ events is
-shape next (lines.Drop table) events is = call_shape _ events is
-shape next (lines.Begin writer) events is = call_shape _ events is
-shape next (lines.Put trx table key value) events is = call_shape _ events is
-shape next (lines.Delete trx table key) events is = call_shape _ events is
-shape next (lines.Get trx table key) events is = call_shape _ events is
-shape next (lines.Undo trx) events is = call_shape _ events is
-shape next (lines.Commit trx) events is = call_shape _ events is
-shape next (lines.Flush space page) events is = call_shape _ events is
-shape next (lines.Half space page) events is = call_shape _ events is
-shape next (lines.Land space page) events is = call_shape _ events is
-shape next lines.Checkpoint events is = call_shape _ events is
-shape next lines.Lsn events is = call_shape _ events is
-shape next (lines.Set writer table key value) events is = sets writer (next writer) table key value is
-shape next lines.Clean events is = quiet (clean_quiet events is)
-shape next (lines.Tear byte) events is = one (ordered _ _) is
-shape next (lines.FailDonor call) events is = one (ordered _ _) is
-shape next (lines.FailRecipient call) events is = one (ordered _ _) is
-shape next lines.Start events is = one is.0 is.2
-shape next lines.Advance events is = quiet (goes_quiet Advances events advances_quiet is)
-shape next lines.Finish events is = quiet (goes_quiet Finishes events finishes_quiet is)
-shape next lines.Look events is = one is.0 is.2
-shape next (lines.Archive bytes) events is = one is.0 is.2
-shape next lines.Clone events is = quiet (clone_quiet events is)
-shape next lines.Rows events is = one is.0 is.2
+tasks_quiet : (first count : ℕ) (events : List Event) → AreOfTasks first count events → AllByRecursion IsQuiet events
+tasks_quiet first zero events is = subst (AllByRecursion IsQuiet) (sym is) tt
+tasks_quiet first (suc count) [] is = absurd is
+tasks_quiet first (suc count) (e ∷ events) is = (by_quiet _ e is.0, tasks_quiet (first + 1) count events is.1)
+
+donor_quiet : (least : ℕ) (events : List Event) → AreOfDonor least events → AllByRecursion IsQuiet events
+donor_quiet least [] is = tt
+donor_quiet least (e ∷ events) is = (by_quiet _ e is.2, donor_quiet (is.0 + 1) events is.3)
+
+round_quiet : (tasks : ℕ) (events : List Event) → IsRound tasks events → AllByRecursion IsQuiet events
+round_quiet tasks events is = subst (AllByRecursion IsQuiet) (sym is.split) (quiet_append is.by_tasks is.by_donor (tasks_quiet 0 tasks is.by_tasks is.of_tasks) (donor_quiet 0 is.by_donor is.of_donor))
+
+rounds_quiet : (tasks : ℕ) (events : List Event) → AreRounds tasks events → AllByRecursion IsQuiet events
+rounds_quiet tasks [] no_round = tt
+rounds_quiet tasks events (next_round round rest is are) = quiet_append round rest (round_quiet tasks round is) (rounds_quiet tasks rest are)
+
+goes_quiet : (tasks : ℕ) (Kind : Event → Type 0) (events : List Event) → ((e : Event) → Kind e → IsQuiet e) → GoesOn tasks Kind events → AllByRecursion IsQuiet events
+goes_quiet tasks Kind events are is = subst (AllByRecursion IsQuiet) (sym is.is) (quiet_append is.rounds (is.last ∷ []) (rounds_quiet tasks is.rounds is.are) (are is.last is.kind, tt))
+
+clone_quiet : (tasks : ℕ) (events : List Event) → MakesClone tasks events → AllByRecursion IsQuiet events
+clone_quiet tasks events is = subst (AllByRecursion IsQuiet) (sym is.4) (starts_quiet is.0 is.2, goes_quiet tasks Finishes is.1 finishes_quiet is.3)
+
+pub shape : (tasks : ℕ) (next : ℕ → ℕ) (line : Line) (events : List Event) → Makes tasks next line events → Shape events
+shape tasks next (lines.Create table buckets) events is = call_shape _ events is
+shape tasks next (lines.Drop table) events is = call_shape _ events is
+shape tasks next (lines.Begin writer) events is = call_shape _ events is
+shape tasks next (lines.Put trx table key value) events is = call_shape _ events is
+shape tasks next (lines.Delete trx table key) events is = call_shape _ events is
+shape tasks next (lines.Get trx table key) events is = call_shape _ events is
+shape tasks next (lines.Undo trx) events is = call_shape _ events is
+shape tasks next (lines.Commit trx) events is = call_shape _ events is
+shape tasks next (lines.Flush space page) events is = call_shape _ events is
+shape tasks next (lines.Half space page) events is = call_shape _ events is
+shape tasks next (lines.Land space page) events is = call_shape _ events is
+shape tasks next lines.Checkpoint events is = call_shape _ events is
+shape tasks next lines.Lsn events is = call_shape _ events is
+shape tasks next (lines.Set writer table key value) events is = sets writer (next writer) table key value is
+shape tasks next lines.Clean events is = quiet (clean_quiet events is)
+shape tasks next (lines.Tear byte) events is = one (ordered _ _) is
+shape tasks next (lines.FailDonor call) events is = one (ordered _ _) is
+shape tasks next (lines.FailRecipient call) events is = one (ordered _ _) is
+shape tasks next lines.Start events is = one is.0 is.2
+shape tasks next (lines.Task task) events is = one is.0 is.2
+shape tasks next (lines.Serve connection) events is = one is.0 is.2
+shape tasks next (lines.Cut connection near far) events is = one is.0 is.2
+shape tasks next lines.Status events is = one is.0 is.2
+shape tasks next (lines.Raw bytes) events is = one is.0 is.2
+shape tasks next (lines.Feed connection bytes) events is = one is.0 is.2
+shape tasks next lines.Abandon events is = one is.0 is.2
+shape tasks next lines.Advance events is = quiet (goes_quiet tasks Advances events advances_quiet is)
+shape tasks next lines.Finish events is = quiet (goes_quiet tasks Finishes events finishes_quiet is)
+shape tasks next lines.Look events is = one is.0 is.2
+shape tasks next (lines.Archive bytes) events is = one is.0 is.2
+shape tasks next lines.Clone events is = quiet (clone_quiet tasks events is)
+shape tasks next lines.Rows events is = one is.0 is.2

@@ -98,7 +98,7 @@ module _ {D : Type 0} (plain : D → Donor) (Step : D → Event → D → Type 0
   -- a line reaches one further at most
   line_reaches : (n : ℕ) (s : World D) (line : Line) (events : List Event) (t : World D) → LineStep plain Step s line events t → IsWithin plain n s → IsWithin plain (n + 1) t
   line_reaches n s line events t is within =
-      let form = shape _ line events is.0 in
+      let form = shape s.tasks _ line events is.0 in
       let added = events_add plain Step refines s events t is.1 in
       let few : length added.more ≤ 1 = omega (arith, shape_commits events form, ap length added.positions, length-range_with_len (length (plain s.donor).binlog + 1) (length added.more)) in
       record { commits = omega (arith, few, within.commits, ap length added.binlog, length-append (plain s.donor).binlog added.more); transactions = begins_within n s.begun t.begun within.transactions (shape_begins s events t form is.1) }
@@ -114,8 +114,8 @@ module _ {D : Type 0} (plain : D → Donor) (Step : D → Event → D → Type 0
   run_reaches n s (l ∷ lines) (es ∷ more) t run within = wider (n + 1 + length lines) _ t (omega arith) (run_reaches (n + 1) run.0 lines more t run.2 (line_reaches n s l es run.0 run.1 within))
 
   -- A run from the beginning reaches the number of its lines, and so each greater number.
-  pub Runs-IsWithin : (first : D) → (plain first).binlog ≡ [] → (tells : Bool) (lines : List Line) (events : List (List Event)) (t : World D) (n : ℕ) → Runs plain Step (opened first tells) lines events t → length lines ≤ n → IsWithin plain n t
-  Runs-IsWithin first none tells lines events t n run le =
+  pub Runs-IsWithin : (first : D) → (plain first).binlog ≡ [] → (tasks : ℕ) (tells : Bool) (lines : List Line) (events : List (List Event)) (t : World D) (n : ℕ) → Runs plain Step (opened first tasks tells) lines events t → length lines ≤ n → IsWithin plain n t
+  Runs-IsWithin first none tasks tells lines events t n run le =
       let index : Option ℕ → ℕ = λ o. unwrap_or o 0 in
-      let at : (q : ℕ) → index_in (opened first tells).begun q ≤ 0 = λ q. omega (arith, ap index (get-empty nat_cmp q)) in
-      wider (0 + length lines) n t (omega arith) (run_reaches 0 (opened first tells) lines events t run (record { commits = omega (arith, ap length none); transactions = at }))
+      let at : (q : ℕ) → index_in (opened first tasks tells).begun q ≤ 0 = λ q. omega (arith, ap index (get-empty nat_cmp q)) in
+      wider (0 + length lines) n t (omega arith) (run_reaches 0 (opened first tasks tells) lines events t run (record { commits = omega (arith, ap length none); transactions = at }))

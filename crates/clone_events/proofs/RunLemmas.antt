@@ -34,6 +34,14 @@ module _ {D : Type 0} (plain : D → Donor) (Step : D → Event → D → Type 0
   pub Runs-tells : (s : World D) (lines : List Line) (events : List (List Event)) (t : World D) → Runs plain Step s lines events t → t.tells ≡ s.tells
   Runs-tells s lines events t run = Events-tells s (flat_map (λ es. es) events) t (Runs-Events s lines events t run)
 
+  -- and so does the number of tasks
+  Events-tasks : (s : World D) (es : List Event) (t : World D) → Events plain Step s es t → t.tasks ≡ s.tasks
+  Events-tasks s [] t is = ap (λ (w : World D). w.tasks) (sym is)
+  Events-tasks s (e ∷ es) t is = Events-tasks is.0 es t is.2 ∙ is.1.tasks
+
+  pub Runs-tasks : (s : World D) (lines : List Line) (events : List (List Event)) (t : World D) → Runs plain Step s lines events t → t.tasks ≡ s.tasks
+  Runs-tasks s lines events t run = Events-tasks s (flat_map (λ es. es) events) t (Runs-Events s lines events t run)
+
 pub output-push : (events : List (List Event)) (es : List Event) → output events ++ ended (said es) ≡ output (events ++ es ∷ [])
 output-push [] es = sym (append-nil (ended (said es)))
 output-push (x ∷ more) es = append_assoc (ended (said x)) (output more) (ended (said es)) ∙ ap (λ xs. ended (said x) ++ xs) (output-push more es)

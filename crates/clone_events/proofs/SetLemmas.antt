@@ -1,8 +1,9 @@
 -- The commit of a `set` is of its writer, and has its one change.
 use Rattle.std.proofs.Common.{◌≡◌, ℕ, ◌+◌, ◌-◌, ◌<◌, List, [], ◌∷◌, ◌++◌, length, sym, ap, ◌∙◌, subst, arith, length-append, append_assoc, Some, Result, Ok, slice_get, filter_map}
-use Rattle.clone_events.proofs.Common.{nat_cmp_total, nat_cmp-IsAntisymmetric, get-set_same, same_Some, slice_get-get_or, Change, Commit, Line, Donor, begun, put_of, with_change, Changes, EngineCall, EngineAnswer, Cause, PlainStep, World, Event, made, PlainEvent, Happens, Events, MakesSet, not_begun, not_changed, set, Runs, committed_at, IsSet, AreSets}
+use Rattle.clone_events.proofs.Common.{nat_cmp_total, nat_cmp-IsAntisymmetric, get-set_same, same_Some, slice_get-get_or, Commit, Line, Donor, begun, put_of, with_change, Changes, EngineCall, EngineAnswer, Cause, PlainStep, World, Event, made, PlainEvent, Happens, Events, MakesSet, not_begun, not_changed, set, Runs, committed_at, IsSet, AreSets}
 use Rattle.clone_plain.specs.declared.call.EngineAnswer.TheVariants as answers
 use Rattle.clone_plain.specs.declared.call.EngineCall.TheVariants as call
+use Rattle.clone_model.specs.declared.change.Change.{Change}
 use Rattle.std.specs.FinMap as finite
 use Rattle.std.proofs.Math.Seq.{get_or-append_seam}
 use Rattle.clone_script.specs.declared.lines.Line.TheVariants as lines

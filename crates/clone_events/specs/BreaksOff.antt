@@ -19,10 +19,10 @@ Becomes d tells old [] new = new ≡ old
 Becomes d tells old (e ∷ es) new =
     Clones d tells old e (clone_after e old) × Becomes d tells (clone_after e old) es new
 
--- the clone is as it was, or became another by events of the line that weren't told
-abbrev pub BecomesUntold : (ℕ → ℕ) → Line → Donor → Bool → Clone → Clone → Type 0
-BecomesUntold next line d tells old new =
-    (new ≡ old) ⊎ ((es : List Event) × Makes next line es × Becomes d tells old es new)
+-- the clone is as it was, or became another by a front of the line's events, which weren't told
+abbrev pub BecomesUntold : ℕ → (ℕ → ℕ) → Line → Donor → Bool → Clone → Clone → Type 0
+BecomesUntold tasks next line d tells old new = (new ≡ old) ⊎ ((front rest : List Event)
+    × Makes tasks next line (front ++ rest) × Becomes d tells old front new)
 
 module _ {D : Type 0} (plain : D → Donor) (Step : D → Event → D → Type 0) where
   -- A front of the line's calls was carried out, and against none of these was there a cause. What
@@ -31,12 +31,13 @@ module _ {D : Type 0} (plain : D → Donor) (Step : D → Event → D → Type 0
     pub front : List Event
     pub next : Event
     pub rest : List Event
-    pub makes : Makes (index_in s.begun) line (front ++ next ∷ rest)
+    pub makes : Makes s.tasks (index_in s.begun) line (front ++ next ∷ rest)
     pub carried : AllByRecursion IsDone front
     pub then : World D
     pub happened : Events plain Step s front then
     pub donor : plain t.donor ≡ plain then.donor
     pub begun : t.begun ≡ then.begun
     pub tells : t.tells ≡ then.tells
-    pub clone : BecomesUntold (index_in s.begun) line (plain then.donor) then.tells then.clone
-        t.clone
+    pub tasks : t.tasks ≡ then.tasks
+    pub clone : BecomesUntold s.tasks (index_in s.begun) line (plain then.donor) then.tells
+        then.clone t.clone

@@ -9,6 +9,8 @@ use Rattle.std.specs.FinMap as finite
 use Rattle.std.specs.Ordering.{nat_cmp}
 use Rattle.clone_outside.specs.declared.disk.DiskOrder.{DiskOrder}
 use Rattle.clone_model.specs.History.{Rows, fold, rows_in}
+use Rattle.clone_model.specs.Texts.{value_text}
+use Rattle.clone_script.specs.declared.lines.Line.{Line}
 use Rattle.clone_plain.specs.Donor.{Donor}
 use Rattle.clone_plain.specs.Effects.{Gets}
 use Rattle.clone_plain.specs.Calls.{PlainStep}
@@ -18,7 +20,7 @@ use Rattle.clone_plain.specs.declared.call.EngineCall.{EngineCall}
 use Rattle.clone_plain.specs.declared.call.EngineCall.TheVariants as call
 use Rattle.clone_plain.specs.declared.refusal.Cause.{Cause}
 use Rattle.clone_plain.specs.Answers.{Text, called_text, rows_answer}
-use Rattle.clone_events.specs.World.{World, Stop, Progress, absent, copying, complete, broken, spent, Clone, IsUnderWay, HasEnded, IsSure, index_in, stop_now, before_stop, with_floor}
+use Rattle.clone_events.specs.World.{World, Stop, End, complete, broken, spent, garbled, refused, Progress, absent, copying, over, Clone, IsHonest, IsUnderWay, HasEnded, IsSure, index_in, stop_now, before_stop}
 
 -- the two sides of a clone
 pub data Side : Type 0 where
@@ -29,6 +31,18 @@ pub data Side : Type 0 where
 pub data Wish : Type 0 where
   to_begin : Wish
   to_go_on : Wish
+
+-- what a step of a task or of the donor, or a stranger's doing, changes of a clone
+pub data Change : Type 0 where
+  -- its session comes to its first stop
+  stops : (at : Stop) → Change
+  -- the first acknowledgement of the copy of pages is sent
+  acknowledges : Change
+  -- bytes come to a task that the donor didn't send, a stranger acts in the session, or the session
+  -- is abandoned
+  disturbs : Change
+  -- the clone ends
+  ends : End → Change
 
 pub data Event : Type 0 where
   -- a call of the donor, with its answer
@@ -41,15 +55,16 @@ pub data Event : Type 0 where
   archived : (limit : ℕ) (reached : Option ℕ) → Event
   -- a clone begins
   started : Event
-  -- the clone comes to its stop
-  stopped : (at : Stop) → Event
-  -- so many stages of the clone are copied
-  readied : (stages : ℕ) → Event
-  -- the clone is complete at this position
-  completed : (position : ℕ) → Event
-  -- the clone ends by a fault of the recipient's disk, or by one of the donor's
-  broke : Event
-  lost : Event
+  -- a fault of the recipient's disk ends it as it begins
+  unbegun : Event
+  -- none begins, for somebody has written to the recipient's disk
+  occupied : Event
+  -- What this line asks of a connection or of the session is done: a step of a task or of the
+  -- donor, a cut, bytes that come, the status. It changes this of the clone, and answers so.
+  acts : (by : Line) (changes : List Change) (answer : Text) → Event
+  -- after rounds of steps this stage is to be acknowledged next, or nothing can be done any more
+  readied : (stage : ℕ) → Event
+  sticks : Event
   -- nothing happens to the clone: how it stands is told again
   again : Wish → (answer : Text) → Event
   -- the clone's rows are shown
@@ -72,11 +87,15 @@ recipient_fault = codes "recipient disk fault"
 abbrev pub complete_text : ℕ → Text
 complete_text position = codes "complete position " ++ decimal position
 
--- one loss is one too many
-abbrev pub spent_text : Text
-spent_text = codes "restarts spent 1"
+-- how a clone ended
+abbrev pub end_text : End → Text
+end_text (complete position) = complete_text position
+end_text broken = recipient_fault
+end_text (spent losses) = codes "restarts spent " ++ decimal losses
+end_text (garbled bytes) = codes "garbled " ++ value_text bytes
+end_text (refused cause) = codes "clone " ++ cause
 
--- the answer that an event gives a line, whose last it is; a stop is never the last
+-- the answer that an event gives a line, whose last it is
 abbrev pub event_text : Event → Text
 event_text (made asked answer) = called_text answer
 event_text (cleaned landed) = codes "cleaned " ++ decimal landed
@@ -84,11 +103,11 @@ event_text (looked position) = codes "position " ++ decimal position
 event_text (archived limit (Some lsn)) = codes "archived " ++ decimal lsn
 event_text (archived limit None) = idle
 event_text started = codes "started"
-event_text (stopped at) = []
-event_text (readied stages) = codes "ready " ++ decimal stages
-event_text (completed position) = complete_text position
-event_text broke = recipient_fault
-event_text lost = spent_text
+event_text unbegun = recipient_fault
+event_text occupied = idle
+event_text (acts by changes answer) = answer
+event_text (readied stage) = codes "ready " ++ decimal stage
+event_text sticks = codes "stuck"
 event_text (again wish answer) = answer
 event_text (showed rows) = rows_answer (rows_in rows)
 event_text incomplete = codes "incomplete"
@@ -109,53 +128,89 @@ counted (made (call.Begin writer index) (Ok (answers.Begin trx))) begun =
     finite.insert begun writer (index_in begun writer + 1)
 counted event begun = begun
 
--- WHAT A CLONE BECOMES by an event
+-- WHAT A CLONE BECOMES by a change
+abbrev pub changed_by : Change → Clone → Clone
+changed_by (stops at) clone = record clone { stop = Some at }
+changed_by acknowledges clone = record clone { floor = Some clone.looked }
+changed_by disturbs clone = record clone { disturbed = true }
+changed_by (ends how) clone = record clone { progress = over how }
+
+-- of a clone that has ended the stop alone matters, which its session may come to later
+abbrev pub changed_in : Progress → Change → Clone → Clone
+changed_in (over how) (stops at) clone = changed_by (stops at) clone
+changed_in (over how) change clone = clone
+changed_in progress change clone = changed_by change clone
+
+abbrev pub changed_all : List Change → Clone → Clone
+changed_all [] clone = clone
+changed_all (change ∷ changes) clone =
+    changed_all changes (changed_in clone.progress change clone)
+
+-- and by an event
 abbrev pub clone_after : Event → Clone → Clone
-clone_after (looked position) clone = with_floor position clone
-clone_after started clone = record clone { progress = copying 0 }
-clone_after (stopped at) clone = record clone { stop = Some at }
-clone_after (readied stages) clone = record clone { progress = copying stages }
-clone_after (completed position) clone = record clone { progress = complete }
-clone_after broke clone = record clone { progress = broken }
-clone_after lost clone = record clone { progress = spent }
+clone_after (looked position) clone = record clone { looked = position }
+clone_after started clone = record clone { progress = copying }
+clone_after unbegun clone = record clone { progress = over broken }
+clone_after (acts by changes answer) clone = changed_all changes clone
 clone_after (showed rows) clone = record clone { shown = true }
 clone_after hidden clone = record clone { doubted = true }
 clone_after event clone = clone
 
 -- how a clone stands where it doesn't go on
-abbrev pub StandsStill : Progress → Option Stop → Text → Type 0
-StandsStill absent stop answer = answer ≡ idle
-StandsStill (copying stages) stop answer = ⊥
-StandsStill complete stop answer =
-    MatchOption stop ⊥ (λ (at : Stop). answer ≡ complete_text at.position)
-StandsStill broken stop answer = answer ≡ recipient_fault
-StandsStill spent stop answer = answer ≡ spent_text
+abbrev pub StandsStill : Progress → Text → Type 0
+StandsStill absent answer = answer ≡ idle
+StandsStill copying answer = ⊥
+StandsStill (over how) answer = answer ≡ end_text how
 
 abbrev pub IsToldAgain : Wish → Clone → Text → Type 0
 IsToldAgain to_begin clone answer = (clone.progress ≢ absent) × (answer ≡ idle)
-IsToldAgain to_go_on clone answer = StandsStill clone.progress clone.stop answer
+IsToldAgain to_go_on clone answer = StandsStill clone.progress answer
 
--- a clone that is under way comes to its only stop, which isn't before what was looked up
+-- The session comes to its first stop.
 pub record ComesToStop (d : Donor) (clone : Clone) (at : Stop) : Type 0 where
-  pub under_way : IsUnderWay clone.progress
   pub first : clone.stop ≡ None
   pub commits : at.position ≤ length d.binlog
   pub drops : at.drops ≤ length d.drops
-  pub floor : clone.floor ≤ at.position
 
--- one stage more is copied; with the third, and not before, the clone has its stop
-pub record CopiesStage (clone : Clone) (stages : ℕ) : Type 0 where
-  pub before : ℕ
-  pub copied : clone.progress ≡ copying before
-  pub next : stages ≡ before + 1
-  pub most : stages ≤ 3
-  pub stop : is_some clone.stop ≡ (stages == 3)
+-- what was looked up ahead of the first acknowledgement is known, and isn't past this position
+abbrev pub HasReached : Clone → ℕ → Type 0
+HasReached clone position = MatchOption clone.floor ⊥ (λ floor. floor ≤ position)
 
--- the clone is complete at its stop, which isn't before what was looked up
+-- The clone is complete at its stop.
 pub record Completes (clone : Clone) (position : ℕ) : Type 0 where
-  pub under_way : IsUnderWay clone.progress
   pub stop : MatchOption clone.stop ⊥ (λ (at : Stop). position ≡ at.position)
-  pub floor : clone.floor ≤ position
+  pub floor : HasReached clone position
+
+abbrev pub ShowsEnd : Clone → End → Type 0
+ShowsEnd clone (complete position) = IsHonest clone → Completes clone position
+ShowsEnd clone how = Unit {0}
+
+-- What a change shows of a clone that hasn't ended. Where its connections are honest, its stop
+-- isn't before what was looked up ahead of the first acknowledgement.
+abbrev pub ShowsChange : Donor → Clone → Change → Type 0
+ShowsChange d clone (stops at) =
+    ComesToStop d clone at × (IsHonest clone → HasReached clone at.position)
+ShowsChange d clone acknowledges = clone.floor ≡ None
+ShowsChange d clone (ends how) = IsUnderWay clone.progress × ShowsEnd clone how
+ShowsChange d clone disturbs = Unit {0}
+
+-- a clone that has ended doesn't end again
+abbrev pub ShowsIn : Progress → Donor → Clone → Change → Type 0
+ShowsIn (over how) d clone (ends other) = ⊥
+ShowsIn (over how) d clone (stops at) = ComesToStop d clone at
+ShowsIn (over how) d clone change = Unit {0}
+ShowsIn progress d clone change = ShowsChange d clone change
+
+abbrev pub ShowsChanges : Donor → Clone → List Change → Type 0
+ShowsChanges d clone [] = Unit {0}
+ShowsChanges d clone (change ∷ changes) = ShowsIn clone.progress d clone change
+    × ShowsChanges d (changed_in clone.progress change clone) changes
+
+-- a step that ends the clone answers how
+abbrev pub TellsEnd : List Change → Text → Type 0
+TellsEnd [] answer = Unit {0}
+TellsEnd (ends how ∷ changes) answer = answer ≡ end_text how
+TellsEnd (change ∷ changes) answer = TellsEnd changes answer
 
 -- the rows of a clone that has ended are those of the history before its stop, where that is known
 pub record ShowsRows (d : Donor) (tells : Bool) (clone : Clone) (rows : Rows) : Type 0 where
@@ -163,29 +218,41 @@ pub record ShowsRows (d : Donor) (tells : Bool) (clone : Clone) (rows : Rows) : 
   pub are : IsSure tells clone
       → MatchOption clone.stop ⊥ (λ (at : Stop). rows ≡ fold (before_stop at d))
 
+-- the clone is complete
+abbrev pub IsComplete : Progress → Type 0
+IsComplete (over (complete position)) = Unit {0}
+IsComplete progress = ⊥
+
 -- WHAT AN EVENT SHOWS of a clone, by the history of a donor: that of the moment of the event, and
 -- each longer one. Where it is known what the clone's rows are, no damage is found on the
 -- recipient's disk, and a complete clone isn't found incomplete.
 abbrev pub Shows : Donor → Bool → Clone → Event → Type 0
 Shows d tells clone (looked position) = position ≤ length d.binlog
 Shows d tells clone started = clone.progress ≡ absent
-Shows d tells clone (stopped at) = ComesToStop d clone at
-Shows d tells clone (readied stages) = CopiesStage clone stages
-Shows d tells clone (completed position) = Completes clone position
-Shows d tells clone broke = HasEnded clone.progress → ⊥
-Shows d tells clone lost = IsUnderWay clone.progress
+Shows d tells clone unbegun = clone.progress ≡ absent
+Shows d tells clone occupied = (clone.progress ≡ absent) × (tells ≡ true → ⊥)
+Shows d tells clone (acts by changes answer) =
+    ShowsChanges d clone changes × TellsEnd changes answer
+Shows d tells clone (readied stage) = IsUnderWay clone.progress
+Shows d tells clone sticks = IsUnderWay clone.progress
 Shows d tells clone (again wish answer) = IsToldAgain wish clone answer
 Shows d tells clone (showed rows) = ShowsRows d tells clone rows
-Shows d tells clone incomplete = IsSure tells clone → clone.progress ≢ complete
+Shows d tells clone incomplete = IsSure tells clone → IsComplete clone.progress → ⊥
 Shows d tells clone hidden = HasEnded clone.progress
 Shows d tells clone (damaged space page why) =
     HasEnded clone.progress × (IsSure tells clone → ⊥)
 Shows d tells clone event = Unit {0}
 
--- what is looked up is how many commits there are, and a stop is the moment that stands
+-- a stop is the moment that stands
+abbrev pub AreNow : Donor → List Change → Type 0
+AreNow d [] = Unit {0}
+AreNow d (stops at ∷ changes) = (at ≡ stop_now d) × AreNow d changes
+AreNow d (change ∷ changes) = AreNow d changes
+
+-- and what is looked up is how many commits there are
 abbrev pub IsNow : Donor → Event → Type 0
 IsNow d (looked position) = position ≡ length d.binlog
-IsNow d (stopped at) = at ≡ stop_now d
+IsNow d (acts by changes answer) = AreNow d changes
 IsNow d event = Unit {0}
 
 -- what an event does to the clone of a donor
@@ -212,6 +279,7 @@ module _ {D : Type 0} (plain : D → Donor) (Step : D → Event → D → Type 0
     pub begun : t.begun ≡ counted e s.begun
     pub clone : Clones (plain s.donor) s.tells s.clone e t.clone
     pub tells : t.tells ≡ s.tells
+    pub tasks : t.tasks ≡ s.tasks
     pub sees : s.tells ≡ true → Sees (plain s.donor) e
 
   -- events happen one after the other

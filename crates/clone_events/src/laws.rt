@@ -13,30 +13,34 @@ ghost use Rattle.clone_events.specs.World.{World, IsWithin, no_clone, opened};
 /// tell what they hold stays.
 pub fn run_laws()
     ensures commits { (lines : List Line) (events : List (List Event)) (t : World Donor)
-        → (tells : Bool)
-        → Runs (λ d. d) PlainEvent (opened no_donor tells) lines events t
+        → (tasks : ℕ) (tells : Bool)
+        → Runs (λ d. d) PlainEvent (opened no_donor tasks tells) lines events t
         → AreCommits (all_events events) t.donor.binlog }
     ensures drops { (lines : List Line) (events : List (List Event)) (t : World Donor)
-        → (tells : Bool)
-        → Runs (λ d. d) PlainEvent (opened no_donor tells) lines events t
+        → (tasks : ℕ) (tells : Bool)
+        → Runs (λ d. d) PlainEvent (opened no_donor tasks tells) lines events t
         → AreDrops 0 (all_events events) t.donor.drops }
     ensures sets { (lines : List Line) (events : List (List Event)) (t : World Donor)
-        → (tells : Bool)
-        → Runs (λ d. d) PlainEvent (opened no_donor tells) lines events t
+        → (tasks : ℕ) (tells : Bool)
+        → Runs (λ d. d) PlainEvent (opened no_donor tasks tells) lines events t
         → AreSets lines events t.donor.binlog }
     ensures stop { (lines : List Line) (events : List (List Event)) (t : World Donor)
-        → (tells : Bool)
-        → Runs (λ d. d) PlainEvent (opened no_donor tells) lines events t
+        → (tasks : ℕ) (tells : Bool)
+        → Runs (λ d. d) PlainEvent (opened no_donor tasks tells) lines events t
         → ShowsStop t.donor tells no_clone (all_events events) }
     ensures within { (lines : List Line) (events : List (List Event)) (t : World Donor) (n : ℕ)
-        → (tells : Bool)
-        → Runs (λ d. d) PlainEvent (opened no_donor tells) lines events t
+        → (tasks : ℕ) (tells : Bool)
+        → Runs (λ d. d) PlainEvent (opened no_donor tasks tells) lines events t
         → length lines ≤ n
         → IsWithin (λ d. d) n t }
     ensures tells { (lines : List Line) (events : List (List Event)) (t : World Donor)
-        → (tells : Bool)
-        → Runs (λ d. d) PlainEvent (opened no_donor tells) lines events t
+        → (tasks : ℕ) (tells : Bool)
+        → Runs (λ d. d) PlainEvent (opened no_donor tasks tells) lines events t
         → t.tells ≡ tells }
+    ensures tasks { (lines : List Line) (events : List (List Event)) (t : World Donor)
+        → (tasks : ℕ) (tells : Bool)
+        → Runs (λ d. d) PlainEvent (opened no_donor tasks tells) lines events t
+        → t.tasks ≡ tasks }
 {}
 
 /// Runs join: what one run leaves, another may start from.

@@ -3,13 +3,13 @@ use Rattle.std.proofs.Common.{◌≡◌, ℕ, List, [], ◌∷◌, ◌++◌, Opt
 use Rattle.std.specs.Prelude.{codes}
 use Rattle.clone_script.specs.Lines.{line_text, IsInRange}
 use Rattle.clone_script.specs.declared.lines.Line.{Line}
-use Rattle.clone_script.specs.declared.lines.Line.TheVariants.{Drop, Put, Delete, Get, Set, Start}
+use Rattle.clone_script.specs.declared.lines.Line.TheVariants.{Drop, Put, Delete, Get, Serve, Set, Start, Status}
 use Rattle.clone_script.specs.Fields.{IsRowField, IsRowWithValue, row_text, row_with_value_text}
 use Rattle.clone_script.specs.declared.fields.RowField.{RowField}
 use Rattle.clone_script.specs.Reading.{Parses, ParsesLine}
 
 -- the first byte of a text
-abbrev first_of : List ℕ → ℕ
+abbrev pub first_of : List ℕ → ℕ
 first_of [] = 0
 first_of (b ∷ text) = b
 
@@ -37,6 +37,8 @@ Parses-put fields read h = made_line IsRowWithValue row_with_value_text (λ x. P
 fields-set : (fields : List ℕ) (l : Line) → IsInRange l → codes "set " ++ fields ≡ line_text l → (x : RowField × List ℕ) × IsRowWithValue x × (fields ≡ row_with_value_text x) × (l ≡ Set x.0.number x.0.table x.0.key x.1)
 fields-set fields (Set writer table key value) r e = ((record { number = writer; table = table; key = key }, value), ((r.0, r.1, r.2), r.3), ap (drop 4) e, refl)
 fields-set fields Start r e = absurd (omega (arith, ap (λ t. first_of (drop 1 t)) e))
+fields-set fields Status r e = absurd (omega (arith, ap (λ t. first_of (drop 1 t)) e))
+fields-set fields (Serve connection) r e = absurd (omega (arith, ap (λ t. first_of (drop 2 t)) e))
 fields-set fields l r e = absurd (omega (arith, ap first_of e))
 
 pub Parses-set : (fields : List ℕ) (read : Option (RowField × List ℕ)) → Parses IsRowWithValue row_with_value_text fields read → ParsesLine (codes "set " ++ fields) (option_map (λ x. Set x.0.number x.0.table x.0.key x.1) read)

@@ -1,11 +1,13 @@
 -- The lines of a script. Each line has exactly one text.
-use Rattle.std.specs.Prelude.{ℕ, ◌<◌, ◌≤◌, ◌^◌, List, ◌++◌, codes}
+use Rattle.std.specs.Prelude.{ℕ, ◌<◌, ◌≤◌, ◌^◌, List, ◌++◌, length, codes}
 use Rattle.std.specs.Fmt.{decimal}
 use Rattle.clone_model.specs.Texts.{value_text}
 use Rattle.clone_model.specs.Ranges.{IsTable, IsPageName, IsCall, IsScriptValue}
+use Rattle.clone_base.specs.declared.limits.TheConstants.{MOST_TASKS}
+use Rattle.clone_model.specs.Reading.{IsValue}
 use Rattle.clone_model.specs.declared.line.TheConstants.{MOST_BUCKETS}
 use Rattle.clone_script.specs.declared.lines.Line.{Line}
-use Rattle.clone_script.specs.declared.lines.Line.TheVariants.{Create, Drop, Begin, Put, Delete, Get, Undo, Commit, Set, Flush, Half, Land, Clean, Checkpoint, Lsn, Tear, FailDonor, FailRecipient, Start, Advance, Finish, Look, Archive, Clone, Rows}
+use Rattle.clone_script.specs.declared.lines.Line.TheVariants.{Create, Drop, Begin, Put, Delete, Get, Undo, Commit, Set, Flush, Half, Land, Clean, Checkpoint, Lsn, Tear, FailDonor, FailRecipient, Start, Task, Serve, Cut, Status, Raw, Feed, Abandon, Advance, Finish, Look, Archive, Clone, Rows}
 
 abbrev pub line_text : Line → List ℕ
 line_text (Create table buckets) = codes "create " ++ decimal table ++ codes " " ++ decimal buckets
@@ -33,12 +35,26 @@ line_text (Tear byte) = codes "tear " ++ decimal byte
 line_text (FailDonor call) = codes "fail donor " ++ decimal call
 line_text (FailRecipient call) = codes "fail recipient " ++ decimal call
 line_text Start = codes "start"
+line_text (Task task) = codes "task " ++ decimal task
+line_text (Serve connection) = codes "serve " ++ decimal connection
+line_text (Cut connection to_donor to_task) =
+    codes "cut " ++ decimal connection ++ codes " " ++ decimal to_donor ++ codes " "
+    ++ decimal to_task
+line_text Status = codes "status"
+line_text (Raw bytes) = codes "raw " ++ value_text bytes
+line_text (Feed connection bytes) =
+    codes "feed " ++ decimal connection ++ codes " " ++ value_text bytes
+line_text Abandon = codes "abandon"
 line_text Advance = codes "advance"
 line_text Finish = codes "finish"
 line_text Look = codes "look"
 line_text (Archive bytes) = codes "archive " ++ decimal bytes
 line_text Clone = codes "clone"
 line_text Rows = codes "rows"
+
+-- one byte at least, and no more than a row's value has
+abbrev pub AreSomeBytes : List ℕ → Type 0
+AreSomeBytes bytes = (1 ≤ length bytes) × IsValue bytes
 
 -- each number of the line is in its range, and so is its value
 abbrev pub IsInRange : Line → Type 0
@@ -63,6 +79,14 @@ IsInRange (Tear byte) = byte < 256
 IsInRange (FailDonor call) = IsCall call
 IsInRange (FailRecipient call) = IsCall call
 IsInRange Start = Unit {0}
+IsInRange (Task task) = task < MOST_TASKS
+IsInRange (Serve connection) = connection < 2 ^ 32
+IsInRange (Cut connection to_donor to_task) =
+    (connection < 2 ^ 32) × (to_donor < 2 ^ 32) × (to_task < 2 ^ 32)
+IsInRange Status = Unit {0}
+IsInRange (Raw bytes) = AreSomeBytes bytes
+IsInRange (Feed connection bytes) = (connection < 2 ^ 32) × AreSomeBytes bytes
+IsInRange Abandon = Unit {0}
 IsInRange Advance = Unit {0}
 IsInRange Finish = Unit {0}
 IsInRange Look = Unit {0}

@@ -2,17 +2,18 @@
 use Rattle.std.specs.Prelude.{ℕ, ◌≡◌, List, Option, Some, IfSome, Result, Ok, Err, Bool, true, false, ⊤}
 use Rattle.clone_script.specs.Lines.{line_text, IsInRange}
 use Rattle.clone_script.specs.declared.lines.Line.{Line}
-use Rattle.clone_script.specs.declared.lines.Line.TheVariants.{Create, Drop, Begin, Put, Delete, Get, Undo, Commit, Set, Clean, Checkpoint, Lsn, Start, Advance, Finish, Look, Clone, Rows}
+use Rattle.clone_script.specs.declared.lines.Line.TheVariants.{Create, Drop, Begin, Put, Delete, Get, Undo, Commit, Set, Clean, Checkpoint, Lsn, Start, Advance, Finish, Look, Status, Abandon, Task, Serve, Cut, Raw, Feed, Clone, Rows}
 use Rattle.clone_script.specs.Given.{Given}
-use Rattle.clone_script.specs.Script.{IsScript, IsFirstBad, Gives, GivesSize}
+use Rattle.clone_script.specs.Script.{IsScript, IsFirstBad, IsHeadInRange, Gives, GivesSize}
 use Rattle.clone_script.specs.declared.head.HeadLine.{HeadLine}
+use Rattle.clone_script.specs.declared.head.HeadLine.TheVariants.{Pool, Ring}
 use Rattle.clone_script.specs.declared.read.Script.{Script}
 use Rattle.clone_script.specs.declared.read.ReadRefusal.{ReadRefusal}
 use Rattle.clone_script.specs.declared.read.ReadRefusal.TheVariants.{BadLine, NoMemory}
 
 -- the script, or the number of its first bad line. Want of memory is free.
 abbrev pub Reads : List ℕ → Result Script ReadRefusal → Type 0
-Reads bytes (Ok script) = IsScript bytes script.config script.lines.items
+Reads bytes (Ok script) = IsScript bytes script.config script.terms script.lines.items
 Reads bytes (Err (BadLine number)) = IsFirstBad bytes number
 Reads bytes (Err NoMemory) = ⊤
 
@@ -49,6 +50,12 @@ IsOfDisk (Commit trx) = ⊥
 IsOfDisk (Set writer table key value) = ⊥
 IsOfDisk l = IsInRange l
 
+-- a head line of the clone
+abbrev pub IsOfClone : HeadLine → Type 0
+IsOfClone (Pool frames) = ⊥
+IsOfClone (Ring bytes) = ⊥
+IsOfClone h = IsHeadInRange h
+
 -- a line without fields
 abbrev pub IsBare : Line → Type 0
 IsBare Clean = Unit {0}
@@ -58,6 +65,17 @@ IsBare Start = Unit {0}
 IsBare Advance = Unit {0}
 IsBare Finish = Unit {0}
 IsBare Look = Unit {0}
+IsBare Status = Unit {0}
+IsBare Abandon = Unit {0}
 IsBare Clone = Unit {0}
 IsBare Rows = Unit {0}
 IsBare l = ⊥
+
+-- a line of a connection, or one without fields
+abbrev pub IsOfConnection : Line → Type 0
+IsOfConnection (Task task) = IsInRange (Task task)
+IsOfConnection (Serve connection) = IsInRange (Serve connection)
+IsOfConnection (Cut connection to_donor to_task) = IsInRange (Cut connection to_donor to_task)
+IsOfConnection (Raw bytes) = IsInRange (Raw bytes)
+IsOfConnection (Feed connection bytes) = IsInRange (Feed connection bytes)
+IsOfConnection l = IsBare l

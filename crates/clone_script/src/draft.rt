@@ -1,13 +1,14 @@
-//! What a script has given so far: its lines in their order, and the sizes of pool and ring. A
-//! size that is given is one that a pool or a ring may have.
+//! What a script has given so far: its lines in their order, the sizes of pool and ring, and how
+//! its clone is taken. Each number that is given is in its range.
 ghost use Rattle.std.specs.Prelude.{◌≡◌, ◌↔◌, IfOk, IsTrue};
 ghost use Rattle.clone_model.specs.Config.{IsConfig};
-ghost use Rattle.clone_script.specs.Given.{nothing, config_of};
+ghost use Rattle.clone_script.specs.Given.{IsTerms, config_of, nothing, terms_of};
 ghost use Rattle.clone_script.specs.Script.{IsPassed, IsHeadInRange};
 ghost use Rattle.clone_script.specs.Reading.{Takes, TakesSize};
 
 use crate::head::{HeadLine, parse_head};
 use crate::line::parse_line;
+use crate::terms::{Terms, USUAL_LIMIT, USUAL_TASKS, USUAL_VERSION};
 use crate::{Line, Script};
 use clone_model::Config;
 use std::alloc::{AllocError, Global};
@@ -18,19 +19,30 @@ use std::marker::Model;
 pub struct Draft {
     pool: Option<u32>,
     ring: Option<u64>,
+    version: Option<u16>,
+    tasks: Option<u8>,
+    limit: Option<u32>,
     lines: Vec<Line>,
 }
 
 impl Model for Draft {
     ghost use Rattle.std.specs.Prelude.{IfSome};
     ghost use Rattle.clone_model.specs.Config.{IsPoolSize, IsRingSize};
-    ghost use Rattle.clone_script.specs.Given.{Given};
+    ghost use Rattle.clone_script.specs.Given.{Given, IsLimit, IsTaskCount, IsVersion};
 
     ghost Value = { Given };
 
-    ghost view = { λ d. record { pool = d.pool; ring = d.ring; lines = d.lines.items } };
+    ghost view = { λ d. record {
+      pool = d.pool;
+      ring = d.ring;
+      version = d.version;
+      tasks = d.tasks;
+      limit = d.limit;
+      lines = d.lines.items;
+    } };
 
-    ghost invariant = { λ d. IfSome d.pool IsPoolSize × IfSome d.ring IsRingSize };
+    ghost invariant = { λ d. IfSome d.pool IsPoolSize × IfSome d.ring IsRingSize
+        × IfSome d.version IsVersion × IfSome d.tasks IsTaskCount × IfSome d.limit IsLimit };
 }
 
 impl Draft {
@@ -41,6 +53,9 @@ impl Draft {
         Draft {
             pool: None,
             ring: None,
+            version: None,
+            tasks: None,
+            limit: None,
             lines: Vec::new(alloc),
         }
     }
@@ -73,6 +88,11 @@ impl Draft {
         match head {
             HeadLine::Pool { frames } if self.pool.is_none() => self.pool = Some(frames),
             HeadLine::Ring { bytes } if self.ring.is_none() => self.ring = Some(bytes),
+            HeadLine::Version { version } if self.version.is_none() => {
+                self.version = Some(version);
+            }
+            HeadLine::Tasks { tasks } if self.tasks.is_none() => self.tasks = Some(tasks),
+            HeadLine::Limit { losses } if self.limit.is_none() => self.limit = Some(losses),
             _ => return false,
         }
         true
@@ -83,12 +103,19 @@ impl Draft {
         ensures config { result.config ≡ config_of self }
         ensures lines { result.lines.items ≡ self.lines }
         ensures sizes { IsConfig result.config }
+        ensures terms { result.terms ≡ terms_of self }
+        ensures fit { IsTerms result.terms }
     {
         let usual = Config::usual();
         Script {
             config: Config {
                 pool: self.pool.unwrap_or(usual.pool),
                 ring: self.ring.unwrap_or(usual.ring),
+            },
+            terms: Terms {
+                version: self.version.unwrap_or(USUAL_VERSION),
+                tasks: self.tasks.unwrap_or(USUAL_TASKS),
+                limit: self.limit.unwrap_or(USUAL_LIMIT),
             },
             lines: self.lines,
         }

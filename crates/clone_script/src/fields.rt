@@ -5,12 +5,18 @@ ghost use Rattle.clone_model.specs.Config.{IsPoolSize, IsRingSize};
 ghost use Rattle.clone_model.specs.Ranges.{IsCall, IsTable};
 ghost use Rattle.clone_model.specs.declared.line.TheConstants.{HIGHEST_TABLE, MOST_BUCKETS, MOST_PAGES};
 ghost use Rattle.clone_script.specs.Fields.{IsRowField, IsRowWithValue, row_text, row_with_value_text};
+ghost use Rattle.clone_base.specs.declared.limits.TheConstants.{MOST_TASKS};
+ghost use Rattle.clone_model.specs.Texts.{value_text};
+ghost use Rattle.clone_script.specs.Given.{IsLimit, IsTaskCount, IsVersion};
+ghost use Rattle.clone_script.specs.Lines.{AreSomeBytes};
 ghost use Rattle.clone_script.specs.Reading.{Parses};
 ghost use Rattle.clone_script.specs.declared.fields.RowField.{RowField};
 
+use clone_base::{MOST_LOSSES, MOST_TASKS};
 use clone_model::{
     BucketCount, HIGHEST_TABLE, LEAST_POOL, LEAST_RING, MOST_CALLS, MOST_PAGES, MOST_POOL,
-    MOST_RING, ScriptValue, TableNumber, as_u32, leading_number, number_of, script_value_of,
+    MOST_RING, ScriptValue, TableNumber, Value, as_u32, leading_number, number_of, script_value_of,
+    value_of,
 };
 use std::alloc::{AllocError, Global};
 
@@ -162,4 +168,59 @@ pub fn ring_size(text: &[u8]) -> Option<u64>
 {
     let bytes = number_of(text)?;
     (LEAST_RING..=MOST_RING).contains(&bytes).then_some(bytes)
+}
+
+/// The version of the wire that the whole text shows.
+pub fn version_of(text: &[u8]) -> Option<u16>
+    ensures { Parses IsVersion decimal text.now result }
+{
+    match number_of(text)? {
+        1 => Some(1),
+        2 => Some(2),
+        _ => None,
+    }
+}
+
+/// The number of tasks that the whole text shows.
+pub fn task_count(text: &[u8]) -> Option<u8>
+    ensures { Parses IsTaskCount decimal text.now result }
+{
+    let number = number_of(text)?;
+    if number == 0 || number > MOST_TASKS as u64 {
+        return None;
+    }
+    Some(number as u8)
+}
+
+/// The number of a task that the whole text shows.
+pub fn task_number(text: &[u8]) -> Option<u8>
+    ensures { Parses (λ n. n < MOST_TASKS) decimal text.now result }
+{
+    let number = number_of(text)?;
+    if number >= MOST_TASKS as u64 {
+        return None;
+    }
+    Some(number as u8)
+}
+
+/// The number of losses that the whole text shows.
+pub fn loss_limit(text: &[u8]) -> Option<u32>
+    ensures { Parses IsLimit decimal text.now result }
+{
+    let number = number_of(text)?;
+    if number > MOST_LOSSES as u64 {
+        return None;
+    }
+    Some(number as u32)
+}
+
+/// The bytes that the whole text shows, one at least and 64 at most.
+pub fn some_bytes(text: &[u8]) -> Option<Value>
+    ensures { Parses AreSomeBytes value_text text.now result }
+{
+    let value = value_of(text)?;
+    if value.bytes().is_empty() {
+        return None;
+    }
+    Some(value)
 }

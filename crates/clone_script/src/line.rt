@@ -1,13 +1,13 @@
 ghost use Rattle.std.specs.Prelude.{◌++◌, IfOk, codes};
 ghost use Rattle.clone_script.specs.Lines.{line_text};
-ghost use Rattle.clone_script.specs.Reading.{Parses, ParsesLine, IsOfDisk, IsBare};
+ghost use Rattle.clone_script.specs.Reading.{Parses, ParsesLine, IsOfConnection, IsOfDisk, IsBare};
 
 use crate::Line;
 use crate::fields::{
     bucket_count, byte_of, call_of, page_number, read_row, read_row_with_value, small_number,
-    space_number, table_number, table_of,
+    some_bytes, space_number, table_number, table_of, task_number,
 };
-use clone_model::{leading_number, number_of};
+use clone_model::{as_u32, leading_number, number_of};
 use std::alloc::{AllocError, Global};
 
 /// The line that has this text.
@@ -69,6 +69,28 @@ fn disk_line(text: &[u8]) -> Option<Line>
     if let Some(field) = text.strip_prefix(b"archive ") {
         return archive(field);
     }
+    connection_line(text)
+}
+
+/// The line of a connection that has this text, or the one without fields.
+fn connection_line(text: &[u8]) -> Option<Line>
+    ensures { Parses IsOfConnection line_text text.now result }
+{
+    if let Some(field) = text.strip_prefix(b"task ") {
+        return task(field);
+    }
+    if let Some(field) = text.strip_prefix(b"serve ") {
+        return serve(field);
+    }
+    if let Some(fields) = text.strip_prefix(b"cut ") {
+        return cut(fields);
+    }
+    if let Some(field) = text.strip_prefix(b"raw ") {
+        return raw(field);
+    }
+    if let Some(fields) = text.strip_prefix(b"feed ") {
+        return feed(fields);
+    }
     bare_line(text)
 }
 
@@ -96,6 +118,12 @@ fn bare_line(text: &[u8]) -> Option<Line>
     }
     if text == b"look".as_slice() {
         return Some(Line::Look);
+    }
+    if text == b"status".as_slice() {
+        return Some(Line::Status);
+    }
+    if text == b"abandon".as_slice() {
+        return Some(Line::Abandon);
     }
     if text == b"clone".as_slice() {
         return Some(Line::Clone);
@@ -266,4 +294,52 @@ fn archive(field: &[u8]) -> Option<Line>
 {
     let bytes = small_number(field)?;
     Some(Line::Archive { bytes })
+}
+
+/// The `task` with this field: the number of a task.
+fn task(field: &[u8]) -> Option<Line>
+    ensures { ParsesLine (codes "task " ++ field.now) result }
+{
+    let task = task_number(field)?;
+    Some(Line::Task { task })
+}
+
+/// The `serve` with this field: a connection.
+fn serve(field: &[u8]) -> Option<Line>
+    ensures { ParsesLine (codes "serve " ++ field.now) result }
+{
+    let connection = small_number(field)?;
+    Some(Line::Serve { connection })
+}
+
+/// The `cut` with these fields: a connection, and two numbers of bytes.
+fn cut(fields: &[u8]) -> Option<Line>
+    ensures { ParsesLine (codes "cut " ++ fields.now) result }
+{
+    let (connection, rest) = leading_number(fields)?;
+    let (to_donor, to_task) = leading_number(rest)?;
+    Some(Line::Cut {
+        connection: as_u32(connection)?,
+        to_donor: as_u32(to_donor)?,
+        to_task: small_number(to_task)?,
+    })
+}
+
+/// The `raw` with this field: bytes.
+fn raw(field: &[u8]) -> Option<Line>
+    ensures { ParsesLine (codes "raw " ++ field.now) result }
+{
+    let bytes = some_bytes(field)?;
+    Some(Line::Raw { bytes })
+}
+
+/// The `feed` with these fields: a connection and bytes.
+fn feed(fields: &[u8]) -> Option<Line>
+    ensures { ParsesLine (codes "feed " ++ fields.now) result }
+{
+    let (connection, bytes) = leading_number(fields)?;
+    Some(Line::Feed {
+        connection: as_u32(connection)?,
+        bytes: some_bytes(bytes)?,
+    })
 }

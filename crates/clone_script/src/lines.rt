@@ -1,4 +1,4 @@
-use clone_model::{BucketCount, ScriptValue, TableNumber};
+use clone_model::{BucketCount, ScriptValue, TableNumber, Value};
 
 /// A line of a script.
 #[derive(Debug, PartialEq, Eq, Drop)]
@@ -114,9 +114,29 @@ pub enum Line {
     },
     /// `start`: a clone begins.
     Start,
-    /// `advance`: the next stage of the clone is copied, or the clone is completed.
+    /// `task K`: a step of task K.
+    Task {
+        /// The number of the task.
+        task: u8,
+    },
+    /// `serve C`: a step of the donor on connection C.
+    Serve {
+        /// The number of the connection.
+        connection: u32,
+    },
+    /// `cut C A B`: connection C is cut. Of what isn't read A bytes are kept towards the donor, and
+    /// B towards the task.
+    Cut {
+        /// The number of the connection.
+        connection: u32,
+        /// How many bytes are kept towards the donor.
+        to_donor: u32,
+        /// How many bytes are kept towards the task.
+        to_task: u32,
+    },
+    /// `advance`: rounds of steps, until a stage is to be acknowledged or the clone has ended.
     Advance,
-    /// `finish`: the clone is brought to its end.
+    /// `finish`: rounds of steps, until the clone has ended.
     Finish,
     /// `look`: the requester looks up how many commits there are.
     Look,
@@ -125,6 +145,22 @@ pub enum Line {
         /// How many bytes.
         bytes: u32,
     },
+    /// `status`: how far the clone is.
+    Status,
+    /// `raw HEX`: a stranger sends these bytes to the donor, on a connection of its own.
+    Raw {
+        /// The bytes.
+        bytes: Value,
+    },
+    /// `feed C HEX`: these bytes come to the task on connection C.
+    Feed {
+        /// The number of the connection.
+        connection: u32,
+        /// The bytes.
+        bytes: Value,
+    },
+    /// `abandon`: the donor gives its session up.
+    Abandon,
     /// `clone`: a clone begins, and is brought to its end.
     Clone,
     /// `rows`: the rows of the clone are shown.

@@ -1,11 +1,12 @@
 ghost use Rattle.std.specs.Prelude.{◌≡◌, IfOk};
 ghost use Rattle.clone_model.specs.Config.{IsConfig};
+ghost use Rattle.clone_script.specs.Given.{IsTerms};
 ghost use Rattle.clone_script.specs.Reading.{Reads};
 ghost use Rattle.clone_script.specs.declared.read.ReadRefusal.TheVariants.{NoMemory};
 
-use crate::Line;
 use crate::draft::Draft;
 use crate::split::first_text;
+use crate::{Line, Terms};
 use clone_model::Config;
 use std::alloc::{AllocError, AllocFailed, Global};
 
@@ -17,6 +18,8 @@ pub const LONGEST_SCRIPT: usize = 1_048_576;
 pub struct Script {
     /// How large the donor's pool and its ring are.
     pub config: Config,
+    /// How the clone is taken.
+    pub terms: Terms,
     /// The lines, in order.
     pub lines: Vec<Line>,
 }
@@ -52,6 +55,7 @@ impl<T: Drop> From<AllocFailed<T>> for ReadRefusal {
 pub fn read_script(alloc: Global, bytes: &[u8]) -> Result<Script, ReadRefusal>
     ensures read { Reads bytes.now result }
     ensures sizes { IfOk result (λ script. IsConfig script.config) }
+    ensures terms { IfOk result (λ script. IsTerms script.terms) }
 {
     let mut draft = Draft::new(alloc);
     let mut rest = bytes;

@@ -52,6 +52,23 @@ fn push_line(text: &mut String, line: &Line) -> Result<(), AllocError>
         Line::FailDonor { call } => write!(text, "fail donor {call}"),
         Line::FailRecipient { call } => write!(text, "fail recipient {call}"),
         Line::Start => text.push_str("start"),
+        Line::Task { task } => write!(text, "task {task}"),
+        Line::Serve { connection } => write!(text, "serve {connection}"),
+        Line::Cut {
+            connection,
+            to_donor,
+            to_task,
+        } => write!(text, "cut {connection} {to_donor} {to_task}"),
+        Line::Status => text.push_str("status"),
+        Line::Raw { bytes } => {
+            text.push_str("raw ")?;
+            push_value(text, bytes.bytes())
+        }
+        Line::Feed { connection, bytes } => {
+            write!(text, "feed {connection} ")?;
+            push_value(text, bytes.bytes())
+        }
+        Line::Abandon => text.push_str("abandon"),
         Line::Advance => text.push_str("advance"),
         Line::Finish => text.push_str("finish"),
         Line::Look => text.push_str("look"),

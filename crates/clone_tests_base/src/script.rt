@@ -1,4 +1,6 @@
-use clone_script::{ReadRefusal, line_text, read_script};
+use clone_script::{ReadRefusal, Script, line_text, read_script};
+use std::alloc::{AllocError, Global};
+use std::process::Abort;
 
 /// A line of each kind, with the least and the greatest of its numbers.
 const LINES: &str = "\
@@ -36,6 +38,18 @@ fail donor 1000000
 fail recipient 1
 fail recipient 1000000
 start
+task 0
+task 15
+serve 0
+serve 4294967295
+cut 0 0 0
+cut 4294967295 4294967295 4294967295
+status
+raw 00
+raw 0123456789abcdef
+feed 0 00
+feed 4294967295 0123456789abcdef
+abandon
 advance
 finish
 look
@@ -168,27 +182,37 @@ ring 65535
 ring 16777217
 ring 18446744073709617152";
 
-#[test]
-fn lines_read_back(rt: HostRuntime) -> Result<(), ReadRefusal> {
-    let script = read_script(rt.alloc(), LINES.as_bytes())?;
-    let mut text = String::new(rt.alloc());
+// The lines of a script, each as its text.
+fn text_of(alloc: Global, script: &Script) -> Result<String, AllocError> {
+    let mut text = String::new(alloc);
     for line in &script.lines {
-        text.push_str(line_text(rt.alloc(), line)?.as_str())?;
+        text.push_str(line_text(alloc, line)?.as_str())?;
         text.push('\n')?;
     }
-    assert!(rt; text.as_str() == LINES);
-    Ok(())
+    Ok(text)
 }
 
 #[test]
-fn bad_lines(rt: HostRuntime) {
-    for text in BAD.lines() {
-        let read = read_script(rt.alloc(), text.as_bytes());
+fn lines_read_back(rt: HostRuntime) -> Result<(), ReadRefusal> {
+    let script = read_script(rt.alloc(), LINES.as_bytes())?;
+    assert!(rt; text_of(rt.alloc(), &script)?.as_str() == LINES);
+    Ok(())
+}
+
+// Each of these texts is a bad line.
+fn are_bad(rt: &impl Abort, alloc: Global, texts: &str) {
+    for text in texts.lines() {
+        let read = read_script(alloc, text.as_bytes());
         assert!(rt;
             matches!(read, Err(ReadRefusal::BadLine { line: 1 })),
             "{text}"
         );
     }
+}
+
+#[test]
+fn bad_lines(rt: HostRuntime) {
+    are_bad(&rt, rt.alloc(), BAD);
 }
 
 #[test]
@@ -202,5 +226,227 @@ fn sizes_of_the_head(rt: HostRuntime) -> Result<(), ReadRefusal> {
     )?;
     assert!(rt; given.config.pool == 99 && given.config.ring == 99_999);
     assert!(rt; given.lines.len() == 2);
+    Ok(())
+}
+
+#[test]
+fn usual_terms(rt: HostRuntime) -> Result<(), ReadRefusal> {
+    let terms = read_script(rt.alloc(), b"rows\n")?.terms;
+    assert!(rt; terms.version == 1 && terms.tasks == 1 && terms.limit == 16);
+    Ok(())
+}
+
+#[test]
+fn head_lines_in_any_order(rt: HostRuntime) -> Result<(), ReadRefusal> {
+    let bytes = b"limit 3\n# terms\nring 99999\ntasks 2\n\npool 99\nversion 2\nstart\n";
+    let script = read_script(rt.alloc(), bytes)?;
+    assert!(rt; script.config.pool == 99 && script.config.ring == 99_999);
+    assert!(rt; script.terms.version == 2 && script.terms.tasks == 2 && script.terms.limit == 3);
+    assert!(rt; script.lines.len() == 1);
+    Ok(())
+}
+
+// The head line is bad where one of its kind or a line stands before it.
+fn stands_first_and_once(rt: &impl Abort, alloc: Global, head: &str) -> Result<(), AllocError> {
+    for before in [head, "look"] {
+        let text = format!(in alloc; "{before}\n{head}\n")?;
+        let read = read_script(alloc, text.as_bytes());
+        assert!(rt;
+            matches!(read, Err(ReadRefusal::BadLine { line: 2 })),
+            "{text}"
+        );
+    }
+    Ok(())
+}
+
+const BAD_VERSIONS: &str = "\
+version
+version\u{20}
+version 0
+version 3
+version 01
+version -1
+version 1 1
+version 65537";
+
+#[test]
+fn a_version_is_1_or_2(rt: HostRuntime) -> Result<(), ReadRefusal> {
+    let alloc = rt.alloc();
+    assert!(rt; read_script(alloc, b"version 1")?.terms.version == 1);
+    assert!(rt; read_script(alloc, b"version 2")?.terms.version == 2);
+    are_bad(&rt, alloc, BAD_VERSIONS);
+    stands_first_and_once(&rt, alloc, "version 2")?;
+    Ok(())
+}
+
+const BAD_TASKS: &str = "\
+tasks
+tasks\u{20}
+tasks 0
+tasks 17
+tasks 02
+tasks 2 2
+tasks 257";
+
+#[test]
+fn tasks_are_1_to_16(rt: HostRuntime) -> Result<(), ReadRefusal> {
+    let alloc = rt.alloc();
+    assert!(rt; read_script(alloc, b"tasks 1")?.terms.tasks == 1);
+    assert!(rt; read_script(alloc, b"tasks 16")?.terms.tasks == 16);
+    are_bad(&rt, alloc, BAD_TASKS);
+    stands_first_and_once(&rt, alloc, "tasks 2")?;
+    Ok(())
+}
+
+const BAD_LIMITS: &str = "\
+limit
+limit\u{20}
+limit 101
+limit 00
+limit 3 3
+limit 4294967296";
+
+#[test]
+fn a_limit_is_0_to_100(rt: HostRuntime) -> Result<(), ReadRefusal> {
+    let alloc = rt.alloc();
+    assert!(rt; read_script(alloc, b"limit 0")?.terms.limit == 0);
+    assert!(rt; read_script(alloc, b"limit 100")?.terms.limit == 100);
+    are_bad(&rt, alloc, BAD_LIMITS);
+    stands_first_and_once(&rt, alloc, "limit 3")?;
+    Ok(())
+}
+
+// Each of these texts is the text of one line.
+fn are_lines(rt: &impl Abort, alloc: Global, texts: &str) -> Result<(), ReadRefusal> {
+    let script = read_script(alloc, texts.as_bytes())?;
+    assert!(rt; text_of(alloc, &script)?.as_str() == texts, "{texts}");
+    Ok(())
+}
+
+const BAD_TASK: &str = "\
+task
+task\u{20}
+task 16
+task 00
+task 0 0
+task 256";
+
+#[test]
+fn a_task_is_below_16(rt: HostRuntime) -> Result<(), ReadRefusal> {
+    are_lines(&rt, rt.alloc(), "task 0\ntask 15\n")?;
+    are_bad(&rt, rt.alloc(), BAD_TASK);
+    Ok(())
+}
+
+const BAD_SERVE: &str = "\
+serve
+serve\u{20}
+serve 00
+serve 0 0
+serve 4294967296";
+
+#[test]
+fn a_served_connection_has_32_bits(rt: HostRuntime) -> Result<(), ReadRefusal> {
+    are_lines(&rt, rt.alloc(), "serve 0\nserve 4294967295\n")?;
+    are_bad(&rt, rt.alloc(), BAD_SERVE);
+    Ok(())
+}
+
+const CUTS: &str = "\
+cut 0 0 0
+cut 4294967295 0 0
+cut 0 4294967295 0
+cut 0 0 4294967295
+";
+
+const BAD_CUTS: &str = "\
+cut
+cut 0
+cut 0 0
+cut 0 0 0 0
+cut 0 0 00
+cut 0  0 0
+cut 4294967296 0 0
+cut 0 4294967296 0
+cut 0 0 4294967296";
+
+#[test]
+fn a_cut_has_three_numbers_of_32_bits(rt: HostRuntime) -> Result<(), ReadRefusal> {
+    are_lines(&rt, rt.alloc(), CUTS)?;
+    are_bad(&rt, rt.alloc(), BAD_CUTS);
+    Ok(())
+}
+
+#[test]
+fn a_status_has_no_field(rt: HostRuntime) -> Result<(), ReadRefusal> {
+    are_lines(&rt, rt.alloc(), "status\n")?;
+    are_bad(&rt, rt.alloc(), "status 1\nstatus\u{20}\nStatus");
+    Ok(())
+}
+
+#[test]
+fn an_abandon_has_no_field(rt: HostRuntime) -> Result<(), ReadRefusal> {
+    are_lines(&rt, rt.alloc(), "abandon\n")?;
+    are_bad(&rt, rt.alloc(), "abandon 1\nabandon\u{20}\nabandoned");
+    Ok(())
+}
+
+// These words, and behind them so many bytes.
+fn with_bytes(alloc: Global, words: &str, count: usize) -> Result<String, AllocError> {
+    let mut text = String::from_str(alloc, words)?;
+    for _ in 0..count {
+        text.push_str("5a")?;
+    }
+    Ok(text)
+}
+
+// Behind these words 64 bytes may stand, and 65 may not.
+fn take_64_bytes(rt: &impl Abort, alloc: Global, words: &str) -> Result<(), ReadRefusal> {
+    let mut most = with_bytes(alloc, words, 64)?;
+    most.push('\n')?;
+    are_lines(rt, alloc, most.as_str())?;
+    let more = with_bytes(alloc, words, 65)?;
+    are_bad(rt, alloc, more.as_str());
+    Ok(())
+}
+
+const BAD_RAW: &str = "\
+raw
+raw\u{20}
+raw -
+raw 0
+raw 000
+raw 0A
+raw 0g
+raw 00 00
+raw 0 00";
+
+#[test]
+fn raw_bytes_are_1_to_64(rt: HostRuntime) -> Result<(), ReadRefusal> {
+    are_lines(&rt, rt.alloc(), "raw 00\nraw ff\n")?;
+    take_64_bytes(&rt, rt.alloc(), "raw ")?;
+    are_bad(&rt, rt.alloc(), BAD_RAW);
+    Ok(())
+}
+
+const BAD_FEEDS: &str = "\
+feed
+feed 0
+feed 0\u{20}
+feed 00
+feed 0 -
+feed 0 0
+feed 0 000
+feed 0 0A
+feed 0 0g
+feed 0 00 00
+feed 00 00
+feed 4294967296 00";
+
+#[test]
+fn fed_bytes_are_1_to_64(rt: HostRuntime) -> Result<(), ReadRefusal> {
+    are_lines(&rt, rt.alloc(), "feed 0 00\nfeed 4294967295 ff\n")?;
+    take_64_bytes(&rt, rt.alloc(), "feed 0 ")?;
+    are_bad(&rt, rt.alloc(), BAD_FEEDS);
     Ok(())
 }

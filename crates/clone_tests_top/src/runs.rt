@@ -1,5 +1,7 @@
 use clone_memdisk::MemDisk;
+use clone_model::rows_text;
 use clone_outside::{MemSink, MemSource, Refusal, Sink};
+use clone_recover::{RecoverRefusal, open_rows, recover};
 use clone_top::clone_main;
 use std::alloc::{AllocError, Global};
 use std::process::Abort;
@@ -54,6 +56,42 @@ fn run_over(
         donor: ended.donor,
         recipient: ended.recipient,
     })
+}
+
+// A run of the script over these disks.
+fn run_on(
+    alloc: Global,
+    script: &str,
+    donor: MemDisk,
+    recipient: MemDisk,
+) -> Result<Ran, AllocError> {
+    let mut source = source_of(alloc, script.as_bytes())?;
+    let sinks = (MemSink::new(alloc), MemSink::new(alloc));
+    run_over(alloc, &["steps"], &mut source, sinks, (donor, recipient))
+}
+
+// The recipient's disk recovers to these rows, or has no clone.
+fn expect_rows(
+    rt: &impl Abort,
+    alloc: Global,
+    ran: Ran,
+    rows: Option<&str>,
+) -> Result<(), AllocError> {
+    let mut disk = ran.recipient;
+    let recovered = recover(alloc, &mut disk);
+    let Some(rows) = rows else {
+        assert_eq!(rt; recovered, Err(RecoverRefusal::Incomplete));
+        return Ok(());
+    };
+    assert!(rt; recovered.is_ok());
+    match open_rows(alloc, &mut disk) {
+        Ok(found) => {
+            let text = rows_text(alloc, &found)?;
+            assert_eq!(rt; text.as_str(), rows);
+        }
+        Err(_) => assert!(rt; false),
+    }
+    Ok(())
 }
 
 fn source_of(alloc: Global, script: &[u8]) -> Result<MemSource, AllocError> {
@@ -189,4 +227,5 @@ fn writes_the_same_byte_by_byte(rt: HostRuntime) -> Result<(), Fail> {
     Ok(())
 }
 
+mod connections;
 mod disks;

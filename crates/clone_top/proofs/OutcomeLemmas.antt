@@ -9,17 +9,19 @@ use Rattle.clone_model.specs.History.{fold}
 use Rattle.clone_model.specs.Texts.{ended}
 use Rattle.clone_model.specs.declared.config.Config.{Config}
 use Rattle.clone_script.specs.declared.lines.Line.{Line}
+use Rattle.clone_script.specs.declared.terms.Terms.{Terms}
 use Rattle.clone_plain.specs.Answers.{Text}
 use Rattle.clone_plain.specs.Donor.{Donor, no_donor}
 use Rattle.clone_events.specs.BreaksOff as plain_off
-use Rattle.clone_events.specs.Events.{Event, PlainEvent, recipient_fault}
+use Rattle.clone_events.specs.Events.{Event, IsComplete, PlainEvent, recipient_fault}
 use Rattle.clone_events.specs.Headline.{AreCommits, AreDrops, AreSets, ShowsStop, all_events, donor_order, recipient_order}
 use Rattle.clone_events.specs.Runs as plain_runs
-use Rattle.clone_events.specs.World.{World, Stop, Progress, absent, copying, complete, broken, spent, Clone, HasEnded, IsSure, before_stop, no_clone, opened}
+use Rattle.clone_events.specs.World.{World, Stop, Progress, absent, copying, over, Clone, HasEnded, IsSure, before_stop, no_clone, opened}
 use Rattle.clone_events.proofs.RunLemmas.{Events-tells}
 use Rattle.clone_engine.proofs.ToldLemmas.{for_told}
 use Rattle.clone_engine.specs.Disks.{Visits}
-use Rattle.clone_core.specs.System.{SystemStep, donor_of}
+use Rattle.clone_core.specs.Steps.{SystemStep}
+use Rattle.clone_core.specs.System.{donor_of}
 use Rattle.clone_core.specs.Lines.{State, BreaksOff, IsNew, Runs, plain_of}
 use Rattle.clone_core.specs.Copied.{HoldsEnded, HoldsStop, KeepsClone}
 use Rattle.clone_core.specs.Ending.{ending_of}
@@ -29,17 +31,18 @@ use Rattle.clone_top.specs.declared.reading.Unread.TheVariants as unread
 use Rattle.clone_top.specs.declared.run.Unready.{Unready}
 use Rattle.clone_top.specs.declared.run.Unready.TheVariants as unready
 use Rattle.clone_top.specs.declared.status.Status.{Status}
-use Rattle.clone_top.specs.declared.status.Status.TheVariants.{Done, Memory, Usage, BadLine, SourceFault, SinkFault, DonorFault, RecipientFault, RestartsSpent, NotEmpty, TooLong}
+use Rattle.clone_top.specs.declared.status.Status.TheVariants.{Done, Memory, Usage, BadLine, SourceFault, SinkFault, DonorFault, RecipientFault, RestartsSpent, Garbled, Refused, NotEmpty, TooLong}
 use Rattle.clone_top.specs.Carrying.{AnsweredAll, Finished, Leaves, behind, within, Stopped, in_lines, in_binlog}
 use Rattle.clone_top.specs.Causes.{EndsBy, Hinders, IsAlone, OpensAtMost, said, silent}
 use Rattle.clone_top.specs.Ended.{EndsLines}
 use Rattle.clone_top.specs.Ends.{AreEmpty, Disks, End, Ends, IsRead, Streams, steps, tell}
-use Rattle.clone_top.specs.Headline.{HasClone, HasCompleted, Headline, IsWhole, LeavesPlain, Run, Writes, WritesAll, WritesSome}
+use Rattle.clone_top.specs.Headline.{HasClone, HasCompleted, HasCloneAt, Headline, IsWhole, LeavesPlain, Run, Writes, WritesAll, WritesSome}
 use Rattle.clone_top.specs.Headline as headline
 use Rattle.clone_top.specs.Looking.{IsUnread, IsUnready}
 use Rattle.clone_top.specs.Main.{Outcome, StepsOutcome, no_command, commanded}
 use Rattle.clone_top.specs.Saying.{Says, SaysUnread, SaysUnready}
 use Rattle.clone_top.specs.Status.{number_of}
+use Rattle.clone_top.proofs.EndLemmas.{IsAtStop, ends_at_stop, left_at_stop}
 
 -- ---- no line was begun
 
@@ -70,43 +73,49 @@ not_read words old new given back (unread.BadLine line) status number is same al
 not_read words old new given back unread.Memory status number is same alone says = commanded steps is status number (unsaid status old new given back (untouched given back.disks same) alone says.0 says.1)
 
 -- its lines weren't begun
-pub not_begun : (config : Config) (lines : List Line) (old new : Streams) (given : Disks) (back : Ends) (why : Unready) (status : Status) → IsRead old.source new.source config lines → IsUnready given back.disks why → IsAlone old new back → SaysUnready why status old.out new.out → StepsOutcome status old new given back
-not_begun config lines old new given back unready.DonorFault status read is alone says = hindered DonorFault status (codes "donor disk fault") old new given back ((config, lines, read), is, refl) alone says
-not_begun config lines old new given back unready.RecipientFault status read is alone says = hindered RecipientFault status recipient_fault old new given back ((config, lines, read), is.0, is.1, refl) alone says
-not_begun config lines old new given back unready.NotEmpty status read is alone says = hindered NotEmpty status (codes "not empty") old new given back ((config, lines, read), is.0, is.1, refl) alone says
-not_begun config lines old new given back unready.Memory status read is alone says = unsaid status old new given back is alone says.0 says.1
+pub not_begun : (config : Config) (terms : Terms) (lines : List Line) (old new : Streams) (given : Disks) (back : Ends) (why : Unready) (status : Status) → IsRead old.source new.source config terms lines → IsUnready given back.disks why → IsAlone old new back → SaysUnready why status old.out new.out → StepsOutcome status old new given back
+not_begun config terms lines old new given back unready.DonorFault status read is alone says = hindered DonorFault status (codes "donor disk fault") old new given back ((config, terms, lines, read), is, refl) alone says
+not_begun config terms lines old new given back unready.RecipientFault status read is alone says = hindered RecipientFault status recipient_fault old new given back ((config, terms, lines, read), is.0, is.1, refl) alone says
+not_begun config terms lines old new given back unready.NotEmpty status read is alone says = hindered NotEmpty status (codes "not empty") old new given back ((config, terms, lines, read), is.0, is.1, refl) alone says
+not_begun config terms lines old new given back unready.Memory status read is alone says = unsaid status old new given back is alone says.0 says.1
 
 -- ---- the recipient's disk
 
-held_clone : (d : Donor) (stop : Option Stop) (m : DiskImage) → MatchOption stop ⊥ (λ (s : Stop). HoldsStop d s m) → MatchOption stop ⊥ (λ (s : Stop). HasClone m (fold (before_stop s d)) s.position)
-held_clone d None m holds = holds
-held_clone d (Some s) m holds = record { marked = holds.marked; recovers = holds.recovers }
+has_clone_at : (d : Donor) (stop : Option Stop) (m : DiskImage) (position : ℕ) → MatchOption stop ⊥ (λ (s : Stop). position ≡ s.position) → MatchOption stop ⊥ (λ (s : Stop). HoldsStop d s m) → MatchOption stop ⊥ (HasCloneAt d m position)
+has_clone_at d None m position at holds = holds
+has_clone_at d (Some s) m position at holds =
+    let has : HasClone m (fold (before_stop s d)) s.position = record { marked = holds.marked; recovers = holds.recovers } in
+    record { after = sym at; has = subst (HasClone m (fold (before_stop s d))) (sym at) has }
 
-completed : (d : Donor) (clone : Clone) (m : DiskImage) → HoldsEnded d clone m → HasCompleted d clone m
-completed d clone m is = record { whole = λ complete. held_clone d clone.stop m (is.whole complete); shown = λ _ shown. is.shown shown }
+completed : (d : Donor) (tells : Bool) (clone : Clone) (m : DiskImage) → IsAtStop clone → IsSure tells clone → HoldsEnded d clone m → HasCompleted d clone m
+completed d tells clone m at sure is = record {
+  whole = λ position ended. has_clone_at d clone.stop m position (at position ended sure.honest) (is.whole (subst IsComplete (sym ended) tt));
+  shown = λ _ _ shown. is.shown shown;
+}
 
 told_any : (told : Option DiskImage) (P : DiskImage → Type 0) → ((m : DiskImage) → P m) → ForTold told P
 told_any None P to = tt
 told_any (Some m) P to = to m
 
-uncompleted : (d : Donor) (clone : Clone) (m : DiskImage) → (clone.progress ≡ complete → ⊥) → HasCompleted d clone m
-uncompleted d clone m not = record { whole = λ is. absurd (not is); shown = λ is _. absurd (not is) }
+uncompleted : (d : Donor) (clone : Clone) (told : Option DiskImage) → (HasEnded clone.progress → ⊥) → ForTold told (HasCompleted d clone)
+uncompleted d clone told goes_on = told_any told (HasCompleted d clone) (λ m. record {
+  whole = λ position is. absurd (goes_on (subst HasEnded (sym is) tt));
+  shown = λ position is _. absurd (goes_on (subst HasEnded (sym is) tt));
+})
 
-keeps_completed : (d : Donor) (tells : Bool) (clone : Clone) (told : Option DiskImage) → KeepsClone d tells clone told → IsSure tells clone → ForTold told (HasCompleted d clone)
-keeps_completed d tells clone told keeps sure = by clone.progress refl
+keeps_completed : (d : Donor) (tells : Bool) (clone : Clone) (told : Option DiskImage) → KeepsClone d tells clone told → IsAtStop clone → IsSure tells clone → ForTold told (HasCompleted d clone)
+keeps_completed d tells clone told keeps at sure = by clone.progress refl
   where
     by : (p : Progress) → clone.progress ≡ p → ForTold told (HasCompleted d clone)
-    by complete is = for_told (HoldsEnded d clone) (HasCompleted d clone) told (λ m. completed d clone m) (keeps.holds (subst HasEnded (sym is) tt) sure)
-    by absent is = told_any told (HasCompleted d clone) (λ m. uncompleted d clone m (λ other. let e : absent ≡ complete = sym is ∙ other in cc))
-    by (copying stages) is = told_any told (HasCompleted d clone) (λ m. uncompleted d clone m (λ other. let e : copying stages ≡ complete = sym is ∙ other in cc))
-    by broken is = told_any told (HasCompleted d clone) (λ m. uncompleted d clone m (λ other. let e : broken ≡ complete = sym is ∙ other in cc))
-    by spent is = told_any told (HasCompleted d clone) (λ m. uncompleted d clone m (λ other. let e : spent ≡ complete = sym is ∙ other in cc))
+    by (over how) is = for_told (HoldsEnded d clone) (HasCompleted d clone) told (λ m. completed d tells clone m at sure) (keeps.holds (subst HasEnded (sym is) tt) sure)
+    by absent is = uncompleted d clone told (λ ended. subst HasEnded is ended)
+    by copying is = uncompleted d clone told (λ ended. subst HasEnded is ended)
 
 -- ---- the lines
 
 -- a world was begun over the disks
-pub record Began (config : Config) (given : Disks) (first : State) : Type 0 where
-  pub new : IsNew config first
+pub record Began (config : Config) (terms : Terms) (given : Disks) (first : State) : Type 0 where
+  pub new : IsNew config terms first
   pub empty : AreEmpty given
   pub donor : Visits given.donor first.donor.donor.engine.disk
   pub recipient : Visits given.recipient first.donor.recipient
@@ -130,34 +139,33 @@ pub record LawsFrom (first : State) : Type 0 where
   pub recipient_orders : (lines : List Line) (events : List (List Event)) (t : State) → Runs first lines events t → t.donor.recipient.orders ≡ first.donor.recipient.orders ++ filter_map recipient_order lines
   pub tells : (lines : List Line) (events : List (List Event)) (t : State) → Runs first lines events t → t.tells ≡ first.tells
   pub recipient_fault : (lines : List Line) (events : List (List Event)) (t : State) → Runs first lines events t → ending_of t.clone ≡ ending.RecipientFault → Rose first.donor.recipient.failures t.donor.recipient.failures
-  pub donor_fault : (lines : List Line) (events : List (List Event)) (t : State) → Runs first lines events t → ending_of t.clone ≡ ending.RestartsSpent → Rose first.donor.donor.engine.disk.failures t.donor.donor.engine.disk.failures
 
 -- and of each run of the plain donor
 pub record PlainLaws : Type 0 where
-  pub commits : (lines : List Line) (events : List (List Event)) (t : World Donor) (tells : Bool) → PlainRuns (opened no_donor tells) lines events t → AreCommits (all_events events) t.donor.binlog
-  pub drops : (lines : List Line) (events : List (List Event)) (t : World Donor) (tells : Bool) → PlainRuns (opened no_donor tells) lines events t → AreDrops 0 (all_events events) t.donor.drops
-  pub sets : (lines : List Line) (events : List (List Event)) (t : World Donor) (tells : Bool) → PlainRuns (opened no_donor tells) lines events t → AreSets lines events t.donor.binlog
-  pub stop : (lines : List Line) (events : List (List Event)) (t : World Donor) (tells : Bool) → PlainRuns (opened no_donor tells) lines events t → ShowsStop t.donor tells no_clone (all_events events)
+  pub commits : (lines : List Line) (events : List (List Event)) (t : World Donor) (tasks : ℕ) (tells : Bool) → PlainRuns (opened no_donor tasks tells) lines events t → AreCommits (all_events events) t.donor.binlog
+  pub drops : (lines : List Line) (events : List (List Event)) (t : World Donor) (tasks : ℕ) (tells : Bool) → PlainRuns (opened no_donor tasks tells) lines events t → AreDrops 0 (all_events events) t.donor.drops
+  pub sets : (lines : List Line) (events : List (List Event)) (t : World Donor) (tasks : ℕ) (tells : Bool) → PlainRuns (opened no_donor tasks tells) lines events t → AreSets lines events t.donor.binlog
+  pub stop : (lines : List Line) (events : List (List Event)) (t : World Donor) (tasks : ℕ) (tells : Bool) → PlainRuns (opened no_donor tasks tells) lines events t → ShowsStop t.donor tells no_clone (all_events events)
 
 -- a count that rose since a disk was asked rose since before
 rose_before : (old asked final : ℕ) → old ≤ asked → Rose asked final → Rose old final
 rose_before old asked final later rose = omega (arith, later, rose)
 
-module _ (old new : Streams) (given : Disks) (back : Ends) (config : Config) (lines : List Line) (first left : State)
-    (read : IsRead old.source new.source config lines) (began : Began config given first) (laws : LawsFrom first) (plains : PlainLaws) (gives : GivesBack back left) where
+module _ (old new : Streams) (given : Disks) (back : Ends) (config : Config) (terms : Terms) (lines : List Line) (first left : State)
+    (read : IsRead old.source new.source config terms lines) (began : Began config terms given first) (laws : LawsFrom first) (plains : PlainLaws) (gives : GivesBack back left) where
   -- both disks tell what they hold, or not, as before
   tells_first : first.tells ≡ tell given
   tells_first = began.new.tells ∙ ap (λ x. x && is_some first.donor.recipient.told) began.donor.tells ∙ ap (λ x. is_some given.donor.told && x) began.recipient.tells
 
-  begins : plain_of first ≡ opened no_donor (tell given)
-  begins = λ i. record { donor = began.new.donor.donor i; begun = began.new.begun i; clone = began.new.clone i; tells = tells_first i }
+  begins : plain_of first ≡ opened no_donor terms.tasks (tell given)
+  begins = λ i. record { donor = began.new.donor.donor i; begun = began.new.begun i; clone = began.new.clone i; tells = tells_first i; tasks = began.new.tasks i }
 
   -- how far the lines came
   abbrev run_of : ℕ → List (List Event) → State → Run
-  run_of count events final = record { config = config; lines = lines; count = count; events = events; final = plain_of final; left = plain_of left }
+  run_of count events final = record { config = config; terms = terms; lines = lines; count = count; events = events; final = plain_of final; left = plain_of left }
 
   module _ (count : ℕ) (events : List (List Event)) (final : State) (run : Runs first (take count lines) events final) (leaves : Leaves lines count final left) where
-    happened : PlainRuns (opened no_donor (tell given)) (take count lines) events (plain_of final)
+    happened : PlainRuns (opened no_donor terms.tasks (tell given)) (take count lines) events (plain_of final)
     happened = subst (λ (w : World Donor). PlainRuns w (take count lines) events (plain_of final)) begins (laws.plain (take count lines) events final run)
 
     tells_left : Leaves lines count final left → left.tells ≡ final.tells
@@ -170,6 +178,13 @@ module _ (old new : Streams) (given : Disks) (back : Ends) (config : Config) (li
         let Q : Option DiskImage → Type 0 = KeepsClone (donor_of left.donor) (tell given) left.clone in
         subst Q (sym (ap (λ (d : DiskState). d.told) gives.recipient)) (subst P (tells_left leaves ∙ laws.tells (take count lines) events final run ∙ tells_first) gives.clone)
 
+    leaves_plain : Leaves lines count final left → LeavesPlain (run_of count events final)
+    leaves_plain (behind is) = headline.behind (ap plain_of is)
+    leaves_plain (within line at off) = headline.within line at (laws.breaks final line left off)
+
+    at_stop : IsAtStop left.clone
+    at_stop = left_at_stop (run_of count events final) (leaves_plain leaves) (ends_at_stop terms.tasks (tell given) (take count lines) events (plain_of final) happened)
+
     came : (status : Status) → Writes status (run_of count events final) old new → EndsBy status (run_of count events final) old new → StepsOutcome status old new given back
     came status writes ended = record {
       run = Some (run_of count events final);
@@ -178,13 +193,13 @@ module _ (old new : Streams) (given : Disks) (back : Ends) (config : Config) (li
         empty = began.empty;
         happened = happened;
         writes = writes;
-        commits = plains.commits (take count lines) events (plain_of final) (tell given) happened;
-        sets = plains.sets (take count lines) events (plain_of final) (tell given) happened;
-        dropped = plains.drops (take count lines) events (plain_of final) (tell given) happened;
-        shows = plains.stop (take count lines) events (plain_of final) (tell given) happened;
+        commits = plains.commits (take count lines) events (plain_of final) terms.tasks (tell given) happened;
+        sets = plains.sets (take count lines) events (plain_of final) terms.tasks (tell given) happened;
+        dropped = plains.drops (take count lines) events (plain_of final) terms.tasks (tell given) happened;
+        shows = plains.stop (take count lines) events (plain_of final) terms.tasks (tell given) happened;
         drops = gives.drops;
         stop = gives.stop;
-        disk = keeps_completed (donor_of left.donor) (tell given) left.clone back.disks.recipient.told keeps;
+        disk = keeps_completed (donor_of left.donor) (tell given) left.clone back.disks.recipient.told keeps at_stop;
       };
       causes = record {
         first = first;
@@ -203,14 +218,9 @@ module _ (old new : Streams) (given : Disks) (back : Ends) (config : Config) (li
         donor_orders = laws.donor_orders (take count lines) events final run ∙ ap (λ orders. orders ++ filter_map donor_order (take count lines)) began.donor.orders;
         recipient_orders = laws.recipient_orders (take count lines) events final run ∙ ap (λ orders. orders ++ filter_map recipient_order (take count lines)) began.recipient.orders;
         recipient_fault = λ is. rose_before given.recipient.failures first.donor.recipient.failures final.donor.recipient.failures began.recipient.later (laws.recipient_fault (take count lines) events final run is);
-        donor_fault = λ is. rose_before given.donor.failures first.donor.donor.engine.disk.failures final.donor.donor.engine.disk.failures began.donor.later (laws.donor_fault (take count lines) events final run is);
         ended = ended;
       };
     }
-
-    leaves_plain : Leaves lines count final left → LeavesPlain (run_of count events final)
-    leaves_plain (behind is) = headline.behind (ap plain_of is)
-    leaves_plain (within line at off) = headline.within line at (laws.breaks final line left off)
 
   all_lines : take (length lines) lines ≡ lines
   all_lines = take_all (length lines) lines (omega arith)
@@ -237,6 +247,8 @@ module _ (old new : Streams) (given : Disks) (back : Ends) (config : Config) (li
   ran Done is = finished Done is.0 (λ w. w) is.1
   ran RecipientFault is = finished RecipientFault is.0 (λ w. w) is.1
   ran RestartsSpent is = finished RestartsSpent is.0 (λ w. w) is.1
+  ran Garbled is = finished Garbled is.0 (λ w. w) is.1
+  ran Refused is = finished Refused is.0 (λ w. w) is.1
   ran Memory is = stopped Memory is (λ run w. w) (λ run. tt)
   ran SinkFault is = stopped SinkFault is.1 (λ run w. w) (λ run. is.0)
   ran Usage is = absurd is

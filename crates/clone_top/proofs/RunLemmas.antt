@@ -13,7 +13,8 @@ use Rattle.clone_script.specs.declared.lines.Line.{Line}
 use Rattle.clone_events.specs.Events.{Event, said}
 use Rattle.clone_events.specs.Runs.{output}
 use Rattle.clone_events.proofs.RunLemmas.{output-push, Runs-push}
-use Rattle.clone_core.specs.System.{SystemStep, donor_of}
+use Rattle.clone_core.specs.Steps.{SystemStep}
+use Rattle.clone_core.specs.System.{donor_of}
 use Rattle.clone_core.specs.Lines.{State, Runs}
 use Rattle.clone_top.specs.Carrying.{Answered, AnsweredAll, AnsweredSome, Finished, StoppedAtLine, behind, behind_it, in_it, within}
 

@@ -8,6 +8,7 @@ use Rattle.clone_outside.specs.DiskCalls.{DiskState}
 use Rattle.clone_model.specs.Texts.{ended}
 use Rattle.clone_model.specs.declared.config.Config.{Config}
 use Rattle.clone_script.specs.declared.lines.Line.{Line}
+use Rattle.clone_script.specs.declared.terms.Terms.{Terms}
 use Rattle.clone_script.specs.Script.{IsFirstBad}
 use Rattle.clone_plain.specs.Answers.{Text}
 use Rattle.clone_events.specs.Events.{recipient_fault}
@@ -23,7 +24,7 @@ use Rattle.clone_top.specs.Headline.{Run, carried}
 use Rattle.clone_top.specs.Carrying.{Leaves}
 use Rattle.clone_top.specs.Saying.{Says}
 use Rattle.clone_top.specs.declared.status.Status.{Status}
-use Rattle.clone_top.specs.declared.status.Status.TheVariants.{Done, Memory, BadLine, SourceFault, SinkFault, DonorFault, RecipientFault, RestartsSpent, NotEmpty, TooLong}
+use Rattle.clone_top.specs.declared.status.Status.TheVariants.{Done, Memory, BadLine, SourceFault, SinkFault, DonorFault, RecipientFault, RestartsSpent, Garbled, Refused, NotEmpty, TooLong}
 
 -- a disk was asked and wasn't written: it tells what it told, and got no order
 pub record Looks (before after : DiskState) : Type 0 where
@@ -34,7 +35,8 @@ pub record Looks (before after : DiskState) : Type 0 where
 -- the script of the source
 abbrev pub HasScript : Streams → Streams → Type 0
 HasScript old new =
-    (config : Config) × (lines : List Line) × IsRead old.source new.source config lines
+    (config : Config) × (terms : Terms) × (lines : List Line)
+    × IsRead old.source new.source config terms lines
 
 -- The donor's disk failed at its first look, before any at the recipient's; or in opening, after
 -- looks at both, by which both were empty.
@@ -79,8 +81,8 @@ Hinders NotEmpty old new given back text =
     HasScript old new × LooksAtBoth given back × WereNotEmpty given × (text ≡ codes "not empty")
 Hinders status old new given back text = ⊥
 
--- No line was begun: why is said, alone, or as far as memory and the sink allowed; or memory ran out
--- before anything was said. No donor tells of drops or of a stop then.
+-- No line was begun: why is said, alone, or as far as memory and the sink allowed; or memory ran
+-- out before anything was said. No donor tells of drops or of a stop then.
 pub data HasNotBegun (status : Status) (old new : Streams) (given : Disks) (ends : Ends)
     : Type 0 where
   said : (due : Status) (text : Text) → Hinders due old new given ends.disks text
@@ -99,23 +101,26 @@ abbrev pub EndsBy : Status → Run → Streams → Streams → Type 0
 EndsBy Done run old new = ending_of run.final.clone ≡ ending.Well
 EndsBy RecipientFault run old new = ending_of run.final.clone ≡ ending.RecipientFault
 EndsBy RestartsSpent run old new = ending_of run.final.clone ≡ ending.RestartsSpent
+EndsBy Garbled run old new = ending_of run.final.clone ≡ ending.Garbled
+EndsBy Refused run old new = ending_of run.final.clone ≡ ending.Refused
 EndsBy Memory run old new = Unit {0}
 EndsBy SinkFault run old new =
     Rose old.out.faults new.out.faults ⊎ Rose old.binlog.faults new.binlog.faults
 EndsBy status run old new = ⊥
 
--- THE LINES OVER THE ENGINE, which opened with the sizes of the script: each event is a step of the
--- donor with its pages, its log and its disk, and of the recipient's disk; the plain donor and the
--- clone of the run are theirs, and the disks that come back. Each disk got the orders of the lines
--- that are for it, and a fault by which the clone ended is in the count of its disk. What the
--- recipient's disk holds is kept however the clone stands: it is never found damaged, or incomplete
--- where the clone is complete.
+-- THE LINES OVER THE ENGINE, which opened with the sizes of the script, and over a recipient that
+-- clones it on the script's terms: each event is a step of the donor with its pages, its log and
+-- its disk, of the recipient with its disk, and of the connections between them; the plain donor
+-- and the clone of the run are theirs, and the disks that come back. Each disk got the orders of
+-- the lines that are for it, and a fault of the recipient's disk by which the clone ended is in
+-- that disk's count. What the recipient's disk holds is kept however the clone stands: where that
+-- is known, it is never found damaged, or incomplete where the clone is complete.
 pub record RunsOver (status : Status) (run : Run) (old new : Streams) (given : Disks) (ends : Ends)
     : Type 0 where
   pub first : State
   pub final : State
   pub left : State
-  pub opened : IsNew run.config first
+  pub opened : IsNew run.config run.terms first
   pub donor : Visits given.donor first.donor.donor.engine.disk
   pub recipient : Visits given.recipient first.donor.recipient
   pub happened : Runs first (carried run) run.events final
@@ -131,6 +136,4 @@ pub record RunsOver (status : Status) (run : Run) (old new : Streams) (given : D
       ≡ given.recipient.orders ++ filter_map recipient_order (carried run)
   pub recipient_fault : ending_of run.final.clone ≡ ending.RecipientFault
       → Rose given.recipient.failures final.donor.recipient.failures
-  pub donor_fault : ending_of run.final.clone ≡ ending.RestartsSpent
-      → Rose given.donor.failures final.donor.donor.engine.disk.failures
   pub ended : EndsBy status run old new

@@ -7,6 +7,7 @@ use Rattle.clone_outside.specs.DiskCalls.{DiskState}
 use Rattle.clone_model.specs.History.{Drops}
 use Rattle.clone_model.specs.declared.config.Config.{Config}
 use Rattle.clone_script.specs.declared.lines.Line.{Line}
+use Rattle.clone_script.specs.declared.terms.Terms.{Terms}
 use Rattle.clone_script.specs.Script.{IsScript}
 use Rattle.clone_script.specs.declared.read.TheConstants.{LONGEST_SCRIPT}
 use Rattle.clone_events.specs.World.{Stop}
@@ -78,7 +79,8 @@ pub record GaveTooMuch (before after : End) (script : List ℕ) : Type 0 where
   pub long : LONGEST_SCRIPT < length script
 
 -- the source gave a script
-pub record IsRead (before after : End) (config : Config) (lines : List Line) : Type 0 where
+pub record IsRead (before after : End) (config : Config) (terms : Terms) (lines : List Line)
+    : Type 0 where
   pub script : List ℕ
   pub gave : GaveAll before after script
-  pub read : IsScript script config lines
+  pub read : IsScript script config terms lines

@@ -7,23 +7,25 @@ use Rattle.clone_model.specs.History.{Rows, fold}
 use Rattle.clone_model.specs.Texts.{binlog_text}
 use Rattle.clone_model.specs.declared.config.Config.{Config}
 use Rattle.clone_script.specs.declared.lines.Line.{Line}
+use Rattle.clone_script.specs.declared.terms.Terms.{Terms}
 use Rattle.clone_plain.specs.Donor.{Donor, no_donor}
 use Rattle.clone_events.specs.Events.{Event, PlainEvent}
 use Rattle.clone_events.specs.Runs.{Runs, output}
 use Rattle.clone_events.specs.BreaksOff.{BreaksOff}
-use Rattle.clone_events.specs.World.{World, Clone, Stop, IsSure, complete, no_clone, opened, before_stop}
+use Rattle.clone_events.specs.World.{World, Clone, Stop, IsSure, complete, over, no_clone, opened, before_stop}
 use Rattle.clone_events.specs.Headline.{AreCommits, AreDrops, AreSets, ShowsStop, all_events}
 use Rattle.clone_recover.specs.Restores.{Answers, IsRecoveredDisk}
 use Rattle.clone_recover.specs.declared.recovery.Recovered.{Recovered}
 use Rattle.clone_staged.specs.Holds.{EndsAt, IsLeftBy}
 use Rattle.clone_top.specs.Ends.{Streams, Disks, Ends, IsRead, AreEmpty, tell}
 use Rattle.clone_top.specs.declared.status.Status.{Status}
-use Rattle.clone_top.specs.declared.status.Status.TheVariants.{Done, Memory, SinkFault, RecipientFault, RestartsSpent}
+use Rattle.clone_top.specs.declared.status.Status.TheVariants.{Done, Memory, SinkFault, RecipientFault, RestartsSpent, Garbled, Refused}
 
 -- How far a run came: of the lines of a script so many were carried out, with these events. Then
 -- the plain donor and its clone stood so; and so they are left.
 pub record Run : Type 0 where
   pub config : Config
+  pub terms : Terms
   pub lines : List Line
   pub count : ℕ
   pub events : List (List Event)
@@ -65,6 +67,8 @@ abbrev pub Writes : Status → Run → Streams → Streams → Type 0
 Writes Done run old new = WritesAll run old new
 Writes RecipientFault run old new = WritesAll run old new
 Writes RestartsSpent run old new = WritesAll run old new
+Writes Garbled run old new = WritesAll run old new
+Writes Refused run old new = WritesAll run old new
 Writes Memory run old new = WritesSome run old new
 Writes SinkFault run old new = WritesSome run old new
 Writes status run old new = ⊥
@@ -76,27 +80,38 @@ pub record HasClone (m : DiskImage) (rows : Rows) (position : ℕ) : Type 0 wher
   pub recovers : (n : DiskImage) (numbers : Recovered) → numbers.position < 2 ^ 64
       → Answers m n numbers → IsLeftBy n numbers rows position
 
--- The disk of a complete clone has the clone at its stop, recovered where its rows were shown.
+-- The stop is after so many commits, and the disk has a clone of the history before it.
+pub record HasCloneAt (d : Donor) (m : DiskImage) (position : ℕ) (at : Stop) : Type 0 where
+  pub after : at.position ≡ position
+  pub has : HasClone m (fold (before_stop at d)) position
+
+-- The stop of a clone that is complete is where it is complete, and the disk has the clone of that
+-- stop, recovered where its rows were shown.
 pub record HasCompleted (d : Donor) (clone : Clone) (m : DiskImage) : Type 0 where
-  pub whole : clone.progress ≡ complete → MatchOption clone.stop ⊥
-      (λ (at : Stop). HasClone m (fold (before_stop at d)) at.position)
-  pub shown : clone.progress ≡ complete → clone.shown ≡ true → IsRecoveredDisk m
+  pub whole : (position : ℕ) → clone.progress ≡ over (complete position)
+      → MatchOption clone.stop ⊥ (HasCloneAt d m position)
+  pub shown : (position : ℕ) → clone.progress ≡ over (complete position)
+      → clone.shown ≡ true → IsRecoveredDisk m
 
 -- The source gave a script, and both disks were empty. Its lines, as far as they were carried out,
 -- are a run of the plain donor, and what was written is their answers, and the commits of that run:
 -- one for each position that was answered, in order, that of a `set` with its one change. The drops
 -- are those that were answered, each after the commits before it, and maybe those in which the
 -- disk failed. Where a clone is complete at position n, that is at least what was looked up before
--- its stop; the rows shown after it are, in ascending order, exactly those that the first n
--- commits leave, with the tables dropped before it, and nothing of a transaction that was open
--- then; and the recipient's disk that comes back holds a complete clone at n, which recovers to
--- these rows whenever it is recovered.
+-- its first acknowledgement of the copy of pages; the rows shown after it are, in ascending order,
+-- exactly those that the first n commits leave, with the tables dropped before it, and nothing of a
+-- transaction that was open then; and the recipient's disk that comes back holds a complete clone
+-- at n, which recovers to these rows whenever it is recovered.
+--
+-- Where bytes came to a task that the donor didn't send, a stranger acted in the session, or it was
+-- abandoned before the clone's end, nothing is claimed of n, of rows and of the disk, and all else
+-- stands.
 pub record Headline (status : Status) (run : Run) (old new : Streams) (given : Disks) (ends : Ends)
     : Type 0 where
-  pub read : IsRead old.source new.source run.config run.lines
+  pub read : IsRead old.source new.source run.config run.terms run.lines
   pub empty : AreEmpty given
-  pub happened : Runs (λ d. d) PlainEvent (opened no_donor (tell given)) (carried run) run.events
-      run.final
+  pub happened : Runs (λ d. d) PlainEvent (opened no_donor run.terms.tasks (tell given))
+      (carried run) run.events run.final
   pub writes : Writes status run old new
   pub commits : AreCommits (all_events run.events) run.final.donor.binlog
   pub sets : AreSets (carried run) run.events run.final.donor.binlog

@@ -5,7 +5,7 @@ use Rattle.clone_outside.specs.declared.Refusal.TheVariants.{Fault, NoMemory}
 use Rattle.clone_core.specs.declared.world.Ending.{Ending}
 use Rattle.clone_core.specs.declared.world.Ending.TheVariants as ending
 use Rattle.clone_top.specs.declared.status.Status.{Status}
-use Rattle.clone_top.specs.declared.status.Status.TheVariants.{Done, Memory, Usage, BadLine, SourceFault, SinkFault, DonorFault, RecipientFault, RestartsSpent, NotEmpty, TooLong}
+use Rattle.clone_top.specs.declared.status.Status.TheVariants.{Done, Memory, Usage, BadLine, SourceFault, SinkFault, DonorFault, RecipientFault, RestartsSpent, Garbled, Refused, NotEmpty, TooLong}
 
 abbrev pub number_of : Status → ℕ
 number_of Done = 0
@@ -18,7 +18,9 @@ number_of DonorFault = 6
 number_of RecipientFault = 7
 number_of RestartsSpent = 8
 number_of NotEmpty = 9
+number_of Garbled = 10
 number_of TooLong = 15
+number_of Refused = 16
 
 -- the status of a run that a refusal of a sink or of memory ended
 abbrev pub status_of : Refusal → Status
@@ -30,3 +32,5 @@ abbrev pub status_by : Ending → Status
 status_by ending.Well = Done
 status_by ending.RecipientFault = RecipientFault
 status_by ending.RestartsSpent = RestartsSpent
+status_by ending.Garbled = Garbled
+status_by ending.Refused = Refused

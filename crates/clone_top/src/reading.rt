@@ -1,6 +1,7 @@
 ghost use Rattle.std.specs.Prelude.{◌≡◌, ◌↔◌, IfErr, IfOk, IsTrue, OnOk, codes, map};
 ghost use Rattle.std.specs.String.{string_bytes};
 ghost use Rattle.clone_model.specs.Config.{IsConfig};
+ghost use Rattle.clone_script.specs.Given.{IsTerms};
 ghost use Rattle.clone_top.specs.Looking.{IsUnread};
 ghost use Rattle.clone_top.specs.Ends.{IsCommand, IsRead, end_of, steps};
 ghost use Rattle.clone_top.specs.Stops.{StopsAtFailure};
@@ -37,9 +38,11 @@ pub fn read_words<S: Source>(
     ensures command { OnOk result (IsCommand (map (λ w. string_bytes w) words.now) steps) }
     ensures read { IfOk result (λ script. IsRead
         (end_of (S.left source.old) (S.failures source.old))
-        (end_of (S.left source.new) (S.failures source.new)) script.config script.lines.items) }
+        (end_of (S.left source.new) (S.failures source.new))
+        script.config script.terms script.lines.items) }
     ensures source { StopsAtFailure S.left S.failures source.old source.new }
     ensures config { IfOk result (λ script. IsConfig script.config) }
+    ensures terms { IfOk result (λ script. IsTerms script.terms) }
     ensures unread { IfErr result (λ unread. IsUnread (map (λ w. string_bytes w) words.now)
         (end_of (S.left source.old) (S.failures source.old))
         (end_of (S.left source.new) (S.failures source.new)) unread) }

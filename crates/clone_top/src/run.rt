@@ -5,9 +5,12 @@ ghost use Rattle.clone_outside.specs.Causes.{HasCause, Rose};
 ghost use Rattle.clone_outside.specs.DiskCalls.{Reads};
 ghost use Rattle.clone_engine.specs.Disks.{Visits};
 ghost use Rattle.clone_model.specs.Config.{IsConfig};
+ghost use Rattle.clone_model.specs.declared.config.Config.{Config};
 ghost use Rattle.clone_model.specs.Texts.{ended};
+ghost use Rattle.clone_script.specs.Given.{IsTerms};
+ghost use Rattle.clone_script.specs.declared.terms.Terms.{Terms};
 ghost use Rattle.clone_events.specs.World.{IsWithin};
-ghost use Rattle.clone_core.specs.Copied.{stop_of};
+ghost use Rattle.clone_core.specs.Acting.{stop_of};
 ghost use Rattle.clone_core.specs.System.{donor_of};
 ghost use Rattle.clone_core.specs.Lines.{IsNew};
 ghost use Rattle.clone_top.specs.Carrying.{Answered, AnsweredAll, AnsweredSome, Finished, Stopped, StoppedAtLine};
@@ -25,7 +28,7 @@ use clone_core::{World, run_laws};
 use clone_donor::Donor;
 use clone_engine::{OpenCause, OpenRefusal, is_empty};
 use clone_events::run_laws as plain_laws;
-use clone_model::{Config, Drops, binlog_text};
+use clone_model::{Drops, binlog_text};
 use clone_outside::{PageDisk, Refusal, Sink, Source, write_all};
 use clone_script::{Line, Script};
 use clone_session::Stop;
@@ -51,7 +54,7 @@ impl<D: PageDisk, R: PageDisk> Model for Ended<D, R> {
     ghost use Rattle.std.specs.Coded.{codes};
     ghost use Rattle.std.specs.Prelude.{option_map};
     ghost use Rattle.clone_engine.specs.Codes.{disk_code};
-    ghost use Rattle.clone_core.specs.Copied.{stop_of};
+    ghost use Rattle.clone_core.specs.Acting.{stop_of};
     ghost use Rattle.clone_top.specs.Ends.{Ends, disks, ends};
 
     ghost Value = { Ends };
@@ -148,8 +151,9 @@ fn run_script<K: Sink, B: Sink, D: PageDisk, R: PageDisk>(
     recipient: R,
 ) -> Left<D, R>
     requires config { IsConfig script.now.config }
+    requires terms { IsTerms script.now.terms }
     ensures { (number : ℕ) (before after : End)
-        → IsRead before after script.now.config script.now.lines.items
+        → IsRead before after script.now.config script.now.terms script.now.lines.items
         → StepsOutcome result.status
         (streams before (end_of (K.taken out.old) (K.failures out.old))
         (end_of (B.taken binlog.old) (B.failures binlog.old)))
@@ -159,7 +163,7 @@ fn run_script<K: Sink, B: Sink, D: PageDisk, R: PageDisk>(
         (ends number (disks (D.state result.donor) (R.state result.recipient)) result.drops.list
         (option_map stop_of result.stop)) }
 {
-    let mut world = match begin(alloc, script.config, donor, recipient) {
+    let mut world = match begin(alloc, script, donor, recipient) {
         Ok(world) => world,
         Err(
             Unbegun {
@@ -195,12 +199,13 @@ fn run_script<K: Sink, B: Sink, D: PageDisk, R: PageDisk>(
 /// Looks whether both disks are empty, and opens a donor over the one.
 fn begin<D: PageDisk, R: PageDisk>(
     alloc: Global,
-    config: Config,
+    script: &Script,
     donor: D,
     recipient: R,
 ) -> Result<World<D, R>, Unbegun<D, R>>
-    requires { IsConfig config }
-    ensures new { IfOk result (IsNew config) }
+    requires config { IsConfig script.now.config }
+    requires terms { IsTerms script.now.terms }
+    ensures new { IfOk result (IsNew script.now.config script.now.terms) }
     ensures empty { OnOk result (AreEmpty (disks (D.state donor) (R.state recipient))) }
     ensures donor { IfOk result
         (λ world. Visits (D.state donor) world.donor.donor.engine.disk) }
@@ -218,8 +223,8 @@ fn begin<D: PageDisk, R: PageDisk>(
             recipient,
         });
     }
-    match Donor::open(alloc, donor, config) {
-        Ok(donor) => Ok(World::new(alloc, donor, recipient)),
+    match Donor::open(alloc, donor, script.config) {
+        Ok(donor) => Ok(World::new(alloc, donor, recipient, script.terms)),
         Err(OpenRefusal { cause, disk }) => Err(Unbegun {
             why: Unready::from(cause),
             donor: disk,
@@ -268,7 +273,7 @@ fn run_lines<K: Sink, B: Sink, D: PageDisk, R: PageDisk>(
     binlog: &mut B,
     world: &mut World<D, R>,
 ) -> Status
-    requires new { (config : Config) × IsNew config world.old }
+    requires new { (config : Config) × (terms : Terms) × IsNew config terms world.old }
     ensures { EndsLines lines.now world.old world.new
         (end_of (K.taken out.old) (K.failures out.old))
         (end_of (K.taken out.new) (K.failures out.new))
@@ -289,7 +294,7 @@ fn write_lines<K: Sink, B: Sink, D: PageDisk, R: PageDisk>(
     binlog: &mut B,
     world: &mut World<D, R>,
 ) -> Result<(), Refusal>
-    requires new { (config : Config) × IsNew config world.old }
+    requires new { (config : Config) × (terms : Terms) × IsNew config terms world.old }
     ensures ok { OnOk result (Finished lines.now world.old world.new
         (K.taken out.old) (K.taken out.new) (B.taken binlog.old) (B.taken binlog.new)) }
     ensures err { OnErr result (Stopped lines.now world.old world.new
@@ -309,7 +314,7 @@ fn carry_out<K: Sink, D: PageDisk, R: PageDisk>(
     out: &mut K,
     world: &mut World<D, R>,
 ) -> Result<(), Refusal>
-    requires { (config : Config) × IsNew config world.old }
+    requires { (config : Config) × (terms : Terms) × IsNew config terms world.old }
     ensures ok { OnOk result
         (AnsweredAll lines.now world.old world.new (K.taken out.old) (K.taken out.new)) }
     ensures err { OnErr result

@@ -24,8 +24,12 @@ pub enum Status {
     /// The recipient's disk failed before the first line, ended the clone, or came in the way of
     /// its rows.
     RecipientFault,
-    /// The donor's disk failed while a block of the clone was read, which ended the clone.
+    /// There were more losses than the limit, which ended the clone.
     RestartsSpent,
+    /// The recipient got bytes that are no frame, or out of turn, which ended the clone.
+    Garbled,
+    /// The donor refused a command of the clone, which ended the clone.
+    Refused,
     /// A disk held a space or a mark before the first line.
     NotEmpty,
     /// The script has more than 1,048,576 bytes.
@@ -48,7 +52,9 @@ impl Status {
             Status::RecipientFault => 7,
             Status::RestartsSpent => 8,
             Status::NotEmpty => 9,
+            Status::Garbled => 10,
             Status::TooLong => 15,
+            Status::Refused => 16,
         }
     }
 }
@@ -74,6 +80,8 @@ impl From<Ending> for Status {
             Ending::Well => Status::Done,
             Ending::RecipientFault => Status::RecipientFault,
             Ending::RestartsSpent => Status::RestartsSpent,
+            Ending::Garbled => Status::Garbled,
+            Ending::Refused => Status::Refused,
         }
     }
 }

@@ -1,25 +1,11 @@
 //! Runs over disks that aren't empty or that fail, and the lines that write pages.
 
-use super::{PLAINEST, Ran, run_over, source_of};
+use super::{PLAINEST, expect_rows, run_on};
 use clone_memdisk::MemDisk;
-use clone_model::rows_text;
-use clone_outside::{DiskOrder, MARK_SIZE, MemSink, PageDisk};
-use clone_recover::{RecoverRefusal, open_rows, recover};
+use clone_outside::{DiskOrder, MARK_SIZE, PageDisk};
 use std::alloc::{AllocError, Global};
 use std::process::Abort;
 use std::test::Fail;
-
-// A run of the script over these disks.
-fn run_on(
-    alloc: Global,
-    script: &str,
-    donor: MemDisk,
-    recipient: MemDisk,
-) -> Result<Ran, AllocError> {
-    let mut source = source_of(alloc, script.as_bytes())?;
-    let sinks = (MemSink::new(alloc), MemSink::new(alloc));
-    run_over(alloc, &["steps"], &mut source, sinks, (donor, recipient))
-}
 
 /// What stands against a run on one of its disks.
 #[derive(Clone, Copy)]
@@ -150,30 +136,6 @@ fn carries_out_lines_of_disks(rt: HostRuntime) -> Result<(), Fail> {
         let ran = run_on(rt.alloc(), script, donor, recipient)?;
         ran.expect(&rt, status, out, binlog);
         expect_rows(&rt, rt.alloc(), ran, rows)?;
-    }
-    Ok(())
-}
-
-// The recipient's disk recovers to these rows, or has no clone.
-fn expect_rows(
-    rt: &impl Abort,
-    alloc: Global,
-    ran: Ran,
-    rows: Option<&str>,
-) -> Result<(), AllocError> {
-    let mut disk = ran.recipient;
-    let recovered = recover(alloc, &mut disk);
-    let Some(rows) = rows else {
-        assert_eq!(rt; recovered, Err(RecoverRefusal::Incomplete));
-        return Ok(());
-    };
-    assert!(rt; recovered.is_ok());
-    match open_rows(alloc, &mut disk) {
-        Ok(found) => {
-            let text = rows_text(alloc, &found)?;
-            assert_eq!(rt; text.as_str(), rows);
-        }
-        Err(_) => assert!(rt; false),
     }
     Ok(())
 }

@@ -1,5 +1,5 @@
 use Rattle.clone_events.specs.Events.{to_donor, to_recipient}
-use Rattle.clone_core.proofs.FaultLemmas.{donor_met, recipient_met}
+use Rattle.clone_core.proofs.FaultLemmas.{recipient_met}
 use Rattle.clone_core.proofs.OrderLemmas.{run_orders}
 use Rattle.clone_core.proofs.RunLemmas.{plain_breaks, plain_run, run_fault, run_tells, run_within}
 use Rattle.clone_core.proofs.laws.run_laws.Goals as goal
@@ -23,7 +23,4 @@ pub returns-clause-tells : goal.returns-clause-tells
 returns-clause-tells c = run_tells
 
 pub returns-clause-recipient_fault : goal.returns-clause-recipient_fault
-returns-clause-recipient_fault c config s lines events t new run is = run_fault to_recipient config s lines events t new run (recipient_met t.clone is)
-
-pub returns-clause-donor_fault : goal.returns-clause-donor_fault
-returns-clause-donor_fault c config s lines events t new run is = run_fault to_donor config s lines events t new run (donor_met t.clone is)
+returns-clause-recipient_fault c config terms s lines events t new run is = run_fault config terms s lines events t new run (recipient_met t.clone is)

@@ -9,7 +9,7 @@ loop-line-init g c = (begun c.args.lines.now _ _, omega arith)
 pub carry_one-requires : goal.carry_one-requires
 carry_one-requires g c =
     let few : length (take c.loop-line.line-index c.args.lines.now) ≤ 2 ^ 63 - 1 = omega (arith, length-take c.loop-line.line-index c.args.lines.now) in
-    c.run_laws.ensures.within _ _ _ _ _ _ c.requires.1 c.loop-line.invariant.0.run few
+    c.run_laws.ensures.within _ _ _ _ _ _ _ c.requires.2 c.loop-line.invariant.0.run few
 
 pub returns-in_err-carry_one-clause-err : goal.returns-in_err-carry_one-clause-err
 returns-in_err-carry_one-clause-err g c = on_err _ (stopped _ _ _ _ _ _ _ _ _ c.line-item.is c.loop-line-test.true c.loop-line.invariant.0 c.in_err-carry_one.ensures.err)

@@ -4,7 +4,7 @@ use Rattle.clone_top.proofs.run.run_script.Goals as goal
 
 pub returns-in-Err : goal.returns-in-Err
 returns-in-Err g c = λ number before after read.
-    not_begun _ _ _ _ _ _ c.in-Err.field-0.why _ read c.in-Err.ensures.why record { binlog = refl; drops = c.new.ensures; stop = refl } c.say_unready.ensures
+    not_begun _ _ _ _ _ _ _ c.in-Err.field-0.why _ read c.in-Err.ensures.why record { binlog = refl; drops = c.new.ensures; stop = refl } c.say_unready.ensures
 
 pub returns : goal.returns
 returns g c = λ number before after read.
@@ -16,12 +16,11 @@ returns g c = λ number before after read.
       donor_orders = λ lines events t run. law.donor_orders first lines events t run;
       recipient_orders = λ lines events t run. law.recipient_orders first lines events t run;
       tells = λ lines events t run. law.tells first lines events t run;
-      recipient_fault = λ lines events t run met. law.recipient_fault _ first lines events t c.in-Ok.ensures.new run met;
-      donor_fault = λ lines events t run met. law.donor_fault _ first lines events t c.in-Ok.ensures.new run met;
+      recipient_fault = λ lines events t run met. law.recipient_fault _ _ first lines events t c.in-Ok.ensures.new run met;
     } in
     let plain = c.run_laws-2.ensures in
     let plains : PlainLaws = record { commits = plain.commits; drops = plain.drops; sets = plain.sets; stop = plain.stop } in
     let gave = c.into_disks-donor.ensures in
     let gives : GivesBack _ c.run_lines-status.new.world = record { donor = gave.donor; recipient = gave.recipient; drops = gave.drops; stop = c.stop-stop.ensures; clone = c.laws.ensures } in
-    ran _ _ _ _ _ _ first _ read record { new = c.in-Ok.ensures.new; empty = c.in-Ok.ensures.empty; donor = c.in-Ok.ensures.donor; recipient = c.in-Ok.ensures.recipient } laws plains gives _
+    ran _ _ _ _ _ _ _ first _ read record { new = c.in-Ok.ensures.new; empty = c.in-Ok.ensures.empty; donor = c.in-Ok.ensures.donor; recipient = c.in-Ok.ensures.recipient } laws plains gives _
     (lent _ _ _ _ _ _ _ _ _ c.deref.ensures.value c.run_lines-status.ensures)

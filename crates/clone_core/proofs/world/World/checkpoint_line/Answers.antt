@@ -10,4 +10,4 @@ pub returns-clause-ok : goal.returns-clause-ok
 returns-clause-ok g c = event_answers string_bytes c.args.self.now _ lines.Checkpoint (made call.Checkpoint (Ok (answers.Checkpoint c.checkpoint-lsn.result))) c.format.result (Ok (answers.Checkpoint c.checkpoint-lsn.result), refl) c.checkpoint-lsn.ensures c.format.ensures.ok
 
 pub returns-clause-err : goal.returns-clause-err
-returns-clause-err g c = stays_breaks c.args.self.now _ lines.Checkpoint c.format.result (record { donor = (made_step _ _ _ _ c.checkpoint-lsn.ensures).1; begun = c.checkpoint-lsn.ensures.begun; tells = c.checkpoint-lsn.ensures.tells; clone = c.checkpoint-lsn.ensures.clone.is })
+returns-clause-err g c = stays_breaks c.args.self.now _ lines.Checkpoint c.format.result (record { donor = (made_step _ _ _ _ c.checkpoint-lsn.ensures).1; begun = c.checkpoint-lsn.ensures.begun; tells = c.checkpoint-lsn.ensures.tells; tasks = c.checkpoint-lsn.ensures.tasks; clone = c.checkpoint-lsn.ensures.clone.is })

@@ -10,4 +10,4 @@ pub returns-clause-ok : goal.returns-clause-ok
 returns-clause-ok g c = event_answers string_bytes c.args.self.now _ lines.Lsn (made call.End (Ok (answers.End c.end-lsn.result))) c.format.result (Ok (answers.End c.end-lsn.result), refl) c.end-lsn.ensures c.format.ensures.ok
 
 pub returns-clause-err : goal.returns-clause-err
-returns-clause-err g c = stays_breaks c.args.self.now _ lines.Lsn c.format.result (record { donor = (made_step _ _ _ _ c.end-lsn.ensures).1; begun = c.end-lsn.ensures.begun; tells = c.end-lsn.ensures.tells; clone = c.end-lsn.ensures.clone.is })
+returns-clause-err g c = stays_breaks c.args.self.now _ lines.Lsn c.format.result (record { donor = (made_step _ _ _ _ c.end-lsn.ensures).1; begun = c.end-lsn.ensures.begun; tells = c.end-lsn.ensures.tells; tasks = c.end-lsn.ensures.tasks; clone = c.end-lsn.ensures.clone.is })

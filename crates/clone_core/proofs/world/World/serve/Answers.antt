@@ -1,0 +1,38 @@
+use Rattle.std.proofs.Common.{◌∙◌, ap, Option}
+use Rattle.std.specs.Option.{option_or}
+use Rattle.clone_session.specs.declared.info.Stop.{Stop}
+use Rattle.clone_sides.specs.Moment.{own_stop}
+use Rattle.clone_core.specs.declared.world.TheConstants.{SESSION}
+use Rattle.clone_core.specs.System.{System}
+use Rattle.clone_core.proofs.ServeLemmas.{serve_kept, serve_left, serve_made, serve_untold}
+use Rattle.clone_core.proofs.world.World.serve.Goals as goal
+
+pub invariant_of-self : goal.invariant_of-self
+invariant_of-self g c =
+    let i = c.self.inside in
+    let s : System = record { donor = i.donor; recipient = g.R.PageDisk.state i.recipient; terms = i.terms; course = i.course; stop = i.stop; looked = i.looked } in
+    serve_kept s i.begun i.is_disturbed i.is_doubted i.is_shown c.in-Begun.copying c.in-Begun.is c.args.connection c.step_donor-answer.new.donor c.step_donor-answer.new.self c.step_donor-answer.result c.step_donor-answer.ensures c.self.invariant c.first_stop-self-inside.result (c.first_stop-self-inside.ensures ∙ ap (λ (o : Option Stop). option_or i.stop (own_stop SESSION o)) c.stop.ensures)
+
+pub returns-in-Served-NoMemory-clause-err : goal.returns-in-Served-NoMemory-clause-err
+returns-in-Served-NoMemory-clause-err g c =
+    let i = c.self.inside in
+    let s : System = record { donor = i.donor; recipient = g.R.PageDisk.state i.recipient; terms = i.terms; course = i.course; stop = i.stop; looked = i.looked } in
+    serve_untold s i.begun i.is_disturbed i.is_doubted i.is_shown c.in-Begun.copying c.in-Begun.is c.args.connection c.step_donor-answer.new.donor c.step_donor-answer.new.self c.step_donor-answer.result c.step_donor-answer.ensures c.self.invariant c.first_stop-self-inside.result (c.first_stop-self-inside.ensures ∙ ap (λ (o : Option Stop). option_or i.stop (own_stop SESSION o)) c.stop.ensures) c.args.self.now c.self.view_is
+
+pub invariant_of-self-in-Begun : goal.invariant_of-self-in-Begun
+invariant_of-self-in-Begun g c =
+    let i = c.self.inside in
+    let s : System = record { donor = i.donor; recipient = g.R.PageDisk.state i.recipient; terms = i.terms; course = i.course; stop = i.stop; looked = i.looked } in
+    serve_kept s i.begun i.is_disturbed i.is_doubted i.is_shown c.in-Begun.copying c.in-Begun.is c.args.connection c.step_donor-answer.new.donor c.step_donor-answer.new.self c.step_donor-answer.result c.step_donor-answer.ensures c.self.invariant c.first_stop-self-inside.result (c.first_stop-self-inside.ensures ∙ ap (λ (o : Option Stop). option_or i.stop (own_stop SESSION o)) c.stop.ensures)
+
+pub returns-in-Begun-clause-acts : goal.returns-in-Begun-clause-acts
+returns-in-Begun-clause-acts g c =
+    let i = c.self.inside in
+    let s : System = record { donor = i.donor; recipient = g.R.PageDisk.state i.recipient; terms = i.terms; course = i.course; stop = i.stop; looked = i.looked } in
+    serve_made s i.begun i.is_disturbed i.is_doubted i.is_shown c.in-Begun.copying c.in-Begun.is c.args.connection c.step_donor-answer.new.donor c.step_donor-answer.new.self c.step_donor-answer.result c.step_donor-answer.ensures c.self.invariant c.first_stop-self-inside.result (c.first_stop-self-inside.ensures ∙ ap (λ (o : Option Stop). option_or i.stop (own_stop SESSION o)) c.stop.ensures) c.args.self.now c.self.view_is
+
+pub returns-in-Begun-clause-left : goal.returns-in-Begun-clause-left
+returns-in-Begun-clause-left g c =
+    let i = c.self.inside in
+    let s : System = record { donor = i.donor; recipient = g.R.PageDisk.state i.recipient; terms = i.terms; course = i.course; stop = i.stop; looked = i.looked } in
+    serve_left s i.begun i.is_disturbed i.is_doubted i.is_shown c.in-Begun.copying c.in-Begun.is c.args.connection c.step_donor-answer.new.donor c.step_donor-answer.new.self c.step_donor-answer.result c.step_donor-answer.ensures c.self.invariant c.first_stop-self-inside.result (c.first_stop-self-inside.ensures ∙ ap (λ (o : Option Stop). option_or i.stop (own_stop SESSION o)) c.stop.ensures) c.args.self.now c.self.view_is c.laws.ensures.numbers
