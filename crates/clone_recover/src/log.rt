@@ -197,7 +197,10 @@ impl Log {
     fn foreign(&self) -> RecoverRefusal
         ensures { IsOfRedo result }
     {
-        damaged_redo(self.page_at(first_foreign(self.rest()).unwrap_or(0)))
+        match first_foreign(self.rest()) {
+            Some(at) => damaged_redo(self.page_at(at.start)),
+            None => damaged_redo(self.page_at(0)),
+        }
     }
 
     // The refusal for bytes that begin no mini-transaction. It names the page of the first byte
@@ -210,9 +213,22 @@ impl Log {
             DecodeRefusal::Short => (self.available / PAGE_BYTES) as u32,
             _ => self.broken_page(),
         };
-        match first_foreign(self.rest()) {
+        match self.foreign_at() {
             Some(offset) => damaged_redo(page.min(self.page_at(offset))),
             None => damaged_redo(page),
+        }
+    }
+
+    // Where a record begins that names a space that is no table. A record names one once it is
+    // whole, so one that is itself against the grammar names none.
+    fn foreign_at(&self) -> Option<usize>
+        ensures { IfSome result (λ offset. offset ≤ 2 * PAGE_SIZE) }
+    {
+        let rest = self.rest();
+        let at = first_foreign(rest)?;
+        match decode(&rest[..at.end]) {
+            Err(DecodeRefusal::Short) => Some(at.start),
+            _ => None,
         }
     }
 

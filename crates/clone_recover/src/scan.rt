@@ -7,18 +7,21 @@ ghost use Rattle.clone_recover.specs.Reading.{named_space, IsOfTable};
 use clone_base::REDO_SPACE;
 use clone_mtr::{RecordRef, Records};
 use clone_page::{u16_at, u32_at};
+use std::ops::Range;
 
-/// Where the first record begins that names the redo's space or one behind it. The scan ends at the
-/// first byte that begins no whole record.
-pub fn first_foreign(bytes: &[u8]) -> Option<usize>
-    ensures { IfSome result (λ at. at ≤ length bytes.now) }
+/// The first record that names the redo's space or one behind it. The scan ends at the first byte
+/// that begins no whole record.
+pub fn first_foreign(bytes: &[u8]) -> Option<Range<usize>>
+    ensures ascending { IfSome result (λ at. at.start ≤ at.end) }
+    ensures within { IfSome result (λ at. at.end ≤ length bytes.now) }
 {
     let mut at = 0;
     while let Some(length) = record_length(&bytes[at..]) {
+        let end = at + length;
         if u32_at(bytes, at + 1) >= REDO_SPACE {
-            return Some(at);
+            return Some(at..end);
         }
-        at += length;
+        at = end;
     }
     None
 }
