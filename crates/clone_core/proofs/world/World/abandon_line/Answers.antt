@@ -46,4 +46,4 @@ returns-clause-ok g c =
     standing (subst (λ (w : State). w.donor.donor.cloning.session ≡ Some standing) c.self.view_is is) number numbered c.abandon.new.self (subst (λ (w : State). CloneActs (call.Abandon number) (given.Abandon (Ok tt)) w.donor.donor c.abandon.new.self) c.self.view_is acted)
     (abandon_is s c.abandon.new.self i.begun i.is_disturbed i.is_doubted i.is_shown c.stop.result c.first_stop-self-inside.result c.disturbed-self-inside.result (number == SESSION) c.stop.ensures c.first_stop-self-inside.ensures c.disturbed-self-inside.ensures number acted laws c.self.invariant refl r c.self.view_is)
     (abandon_made s c.abandon.new.self i.begun i.is_disturbed i.is_doubted i.is_shown c.stop.result c.first_stop-self-inside.result c.disturbed-self-inside.result (number == SESSION) c.stop.ensures c.first_stop-self-inside.ensures c.disturbed-self-inside.ensures number acted laws c.self.invariant refl r c.self.view_is)
-    string_bytes (Ok c.in_ok-text.text) c.in_ok-text.ensures
+    string_bytes (Ok c.in_ok-text.text) c.in_ok-text.ensures.ok
