@@ -2,7 +2,8 @@
 # Runs the built program over each case of tests/program, and compares its output, its binlog and its
 # status with the case's files. The last line is 'N passed, M failed'. With the word --built it takes the
 # program as it stands built; without it, `rt` proves and builds it first. Where there is no program then,
-# each case has failed. A case is a folder with some of these files:
+# each case has failed. A folder that is named behind that word holds the cases in the place of tests/program.
+# A case is a folder with some of these files:
 #
 #   words    the words of the command line, one a line; without it they are `steps`
 #   source   what the program reads
@@ -14,7 +15,7 @@
 #   left     how many bytes of the source the program is to leave unread
 
 top=$(cd "$(dirname "$0")/.." && pwd) || exit 1
-cases=$top/tests/program
+cases=${2:-$top/tests/program}
 program=$top/crates/clone_prog/out/clone_prog
 work=$(mktemp -d) || exit 1
 trap 'rm -rf "$work"' EXIT

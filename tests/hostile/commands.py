@@ -1,0 +1,146 @@
+"""Commands that a stranger gives the donor, one field wrong each, or out of turn. Its clone goes on."""
+
+from scripts import *
+
+JOINED = hello()
+LONG_BITMAP = b"\xff" * 22
+
+# The name, what a stranger sends, and what the donor makes of it. 'garbled' has the bytes that are told.
+BEFORE_A_SESSION = [
+    (b"\0", "garbled 00"),
+    (b"\x08" + bytes(range(40)), "garbled 08" + bytes(range(15)).hex()),
+    (stage(FILES), "garbled " + stage(FILES)[:16].hex()),
+    (b"\x14", "garbled 14"),
+    (b"\xff\xff", "garbled ffff"),
+    (b"\1", "lost"),
+    (hello()[:-1], "lost"),
+    (execute(1), "garbled 040000000101"),
+    (b"\4", "garbled 04"),
+    (execute(1) + ack(1), "garbled 040000000101"),
+    (ack(1), "garbled " + ack(1).hex()),
+    (leave(), "garbled 0600000000"),
+    (changed(hello(), 4, b"\x13"), "garbled 0100000013" + hello()[5:16].hex()),
+    (b"\1\0\0\0\x15", "garbled 0100000015"),
+    (b"\1\0\0\1", "garbled 01000001"),
+    (hello(flag=2), "garbled " + hello(flag=2)[:16].hex()),
+    (hello(flag=2)[:12], "garbled " + hello(flag=2)[:12].hex()),
+    (hello(flag=2)[:11], "lost"),
+    (hello(version=0), "refused C2 0"),
+    (hello(version=3), "refused C2 3"),
+    (hello(version=65_535), "refused C2 65535"),
+    (hello(size=0), "refused C3 0"),
+    (hello(size=2**32 - 1), "refused C3 4294967295"),
+    (hello(flag=1), "refused C4"),
+    (hello(tasks=0), "refused C5 0"),
+    (hello(tasks=17), "refused C5 17"),
+    (hello(tasks=255), "refused C5 255"),
+    (hello(version=9, size=9, flag=1, tasks=99), "refused C2 9"),
+    (hello(size=9, flag=1, tasks=99), "refused C3 9"),
+    (hello(flag=1, tasks=99), "refused C4"),
+    (attach(), "refused C6"),
+    (attach()[:-1], "lost"),
+    (changed(attach(), 4, b"\x0e"), "garbled 020000000e" + attach()[5:16].hex()),
+    (reinit(1, 0, b""), "refused C6"),
+    (reinit(0, 0, b""), "garbled " + reinit(0, 0, b"")[:16].hex()),
+    (reinit(4, 0, b""), "garbled " + reinit(4, 0, b"")[:16].hex()),
+    (reinit(4, 0, b"")[:18], "garbled " + reinit(4, 0, b"")[:16].hex()),
+    (reinit(4, 0, b"")[:17], "lost"),
+    (reinit(1, 6, b"\x3f"), "refused C6"),
+    (reinit(1, 6, b"\x40"), "garbled " + reinit(1, 6, b"\x40")[:16].hex()),
+    (reinit(1, 6, b"\x80"), "garbled " + reinit(1, 6, b"\x80")[:16].hex()),
+    (reinit(1, 8, b"\xff"), "refused C6"),
+    (reinit(1, 9, b"\xff\1"), "refused C6"),
+    (reinit(1, 9, b"\xff\2"), "garbled " + reinit(1, 9, b"\xff\2")[:16].hex()),
+    (reinit(1, 9, b"\xff"), "garbled " + reinit(1, 9, b"\xff")[:16].hex()),
+    (reinit(1, 0, b"\0"), "garbled " + reinit(1, 0, b"\0")[:16].hex()),
+    (reinit(1, 176, LONG_BITMAP), "refused C6"),
+    (reinit(1, 169, LONG_BITMAP), "garbled " + reinit(1, 169, LONG_BITMAP)[:16].hex()),
+    (reinit(1, 2**23, b""), "garbled " + reinit(1, 2**23, b"")[:16].hex()),
+    (b"\3" + number(17 + 2**20, 4) + reinit(1, 2**23, b"")[5:], "lost"),
+    (b"\3" + number(18 + 2**20, 4), "garbled 0300100012"),
+    (reinit_blocks(1, 6, b"\0", [(0, 1)]), "refused C6"),
+    (reinit_blocks(1, 6, b"\0", [(0, 254)]), "refused C6"),
+    (reinit_blocks(1, 6, b"\0", [(0, 0)]), "garbled " + reinit_blocks(1, 6, b"\0", [(0, 0)])[:16].hex()),
+    (reinit_blocks(1, 6, b"\0", [(0, 255)]), "garbled " + reinit_blocks(1, 6, b"\0", [(0, 255)])[:16].hex()),
+    (reinit_blocks(1, 6, b"\1", [(0, 1)]), "garbled " + reinit_blocks(1, 6, b"\1", [(0, 1)])[:16].hex()),
+    (reinit_blocks(1, 6, b"\0", [(1, 1), (0, 1)]), "garbled "
+     + reinit_blocks(1, 6, b"\0", [(1, 1), (0, 1)])[:16].hex()),
+    (reinit_blocks(1, 6, b"\0", [(1, 1), (1, 2)]), "garbled "
+     + reinit_blocks(1, 6, b"\0", [(1, 1), (1, 2)])[:16].hex()),
+    (reinit_blocks(1, 6, b"\0", [(9, 1), (2**32 - 1, 128)]), "refused C6"),
+    (reinit_blocks(1, 6, b"\0", [(0, 1)], length=0), "garbled "
+     + reinit_blocks(1, 6, b"\0", [(0, 1)], length=0)[:16].hex()),
+    (reinit_blocks(1, 6, b"\0", [(0, 1)], length=2), "garbled "
+     + reinit_blocks(1, 6, b"\0", [(0, 1)], length=2)[:16].hex()),
+    (reinit_blocks(0, 6, b"\0", []), "garbled " + reinit_blocks(0, 6, b"\0", [])[:16].hex()),
+]
+
+# The same of a stranger who has opened session 9.
+IN_A_SESSION = [
+    (JOINED, "refused C7 1"),
+    (hello(incarnation=0), "refused C7 1"),
+    (hello(session=8), "refused C1 9"),
+    (attach(), "lost"),
+    (attach(task=1), "refused C5 1"),
+    (attach(task=255), "refused C5 255"),
+    (attach(session=0), "refused C6"),
+    (attach(session=2**64 - 1), "refused C6"),
+    (attach(incarnation=0), "refused C7 1"),
+    (attach(incarnation=2), "refused C7 1"),
+    (attach() + attach(), "garbled " + attach()[:16].hex()),
+    (attach() + b"\2", "garbled 02"),
+    (attach() + hello(), "garbled " + hello()[:16].hex()),
+    (attach() + reinit(1, 0, b""), "garbled " + reinit(1, 0, b"")[:16].hex()),
+    (attach() + b"\7\0", "garbled 0700"),
+    (attach() + b"\x10", "garbled 10"),
+    (attach() + execute(0), "garbled 040000000100"),
+    (attach() + execute(4), "garbled 040000000104"),
+    (attach() + changed(execute(1), 4, b"\2"), "garbled 040000000201"),
+    (attach() + ack(0), "garbled " + ack(0).hex()),
+    (attach() + ack(4), "garbled " + ack(4).hex()),
+    (attach() + ack(1)[:-1], "lost"),
+    (attach() + changed(leave(), 4, b"\1"), "garbled 0600000001"),
+    (attach() + execute(2), "refused C8 1 2"),
+    (attach() + execute(3), "refused C8 1 3"),
+    (attach() + ack(1), "refused C9 6"),
+    (attach() + ack(2), "refused C8 1 2"),
+    (attach() + ack(3), "refused C8 1 3"),
+    (reinit(2, 0, b""), "refused C8 1 2"),
+    (reinit(3, 0, b""), "refused C8 1 3"),
+    (reinit(1, 0, b"", incarnation=1), "refused C7 1"),
+    (reinit(1, 0, b"", incarnation=0), "refused C7 1"),
+    (reinit(1, 0, b"", session=8), "refused C6"),
+    (reinit_blocks(1, 6, b"\0", []), "refused C2 2"),
+    (reinit_blocks(1, 6, b"\0", [], incarnation=1), "refused C7 1"),
+    (reinit(1, 6, b"\x3e", incarnation=2), "lost"),
+    (attach(), "refused C7 2"),
+    (attach(incarnation=2) + ack(1), "refused C9 1"),
+    (reinit(1, 99, bytes(13), incarnation=7), "lost"),
+    (attach(incarnation=7) + ack(1), "refused C9 6"),
+    (reinit(1, 6, b"\x3f", incarnation=2**32 - 1), "lost"),
+    (reinit(1, 0, b"", incarnation=2**32 - 1), "refused C7 4294967295"),
+    (attach(incarnation=2**32 - 1) + ack(1), "lost"),
+    (attach(incarnation=2**32 - 1) + ack(1), "lost"),
+    (hello(incarnation=2**32 - 1), "refused C7 4294967295"),
+    (attach(incarnation=2**32 - 1) + leave(), "exit"),
+    (attach(incarnation=2**32 - 1), "refused C6"),
+]
+
+
+def stranger(script, table):
+    for data, answer in table:
+        script.line(f"raw {data.hex()}", f"end {answer}")
+
+
+def cases():
+    script = Script()
+    script.line("create 1 1", "created")
+    stranger(script, BEFORE_A_SESSION)
+    script.line("clone", "complete position 0")
+    yield "commands-before-a-session", script
+    script = Script()
+    script.line("create 1 1", "created")
+    script.line(f"raw {JOINED.hex()}", "end lost")
+    stranger(script, IN_A_SESSION)
+    script.line("clone", "complete position 0")
+    yield "commands-in-a-session", script
