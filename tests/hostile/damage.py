@@ -48,6 +48,8 @@ WRONG_REDO = [
     ("page-of-the-redo", together(init(TOO_HIGH, 0, 3)), 0),
     ("write-to-the-redo", together(write(TOO_HIGH, 0, 38, b"\0")), 0),
     ("space-behind-the-redo", together(drop(9), write(TOO_HIGH + 1, 0, 38, b"\0")), 5),
+    ("page-of-the-redo-of-a-wrong-kind", together(init(TOO_HIGH, 0, 5)), 10),
+    ("write-to-the-redo-of-nothing", together(write(TOO_HIGH, 0, 38, b"")), 12),
     ("drop-of-the-redo-and-record-0", drop(TOO_HIGH) + b"\0", 0),
 ]
 
