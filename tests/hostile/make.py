@@ -15,6 +15,7 @@ import sys
 import commands
 import cuts
 import damage
+import faults
 import frames
 import lists
 import stages
@@ -33,7 +34,7 @@ def write_case(folder, name, script):
 def main():
     if len(sys.argv) != 2:
         sys.exit("usage: make.py FOLDER")
-    for subject in [frames, stages, damage, lists, commands, cuts]:
+    for subject in [frames, stages, damage, lists, commands, cuts, faults]:
         for name, script in subject.cases():
             write_case(sys.argv[1], name, script)
 
