@@ -19,6 +19,7 @@ import faults
 import frames
 import lists
 import stages
+import strangers
 
 
 def write_case(folder, name, script):
@@ -34,7 +35,7 @@ def write_case(folder, name, script):
 def main():
     if len(sys.argv) != 2:
         sys.exit("usage: make.py FOLDER")
-    for subject in [frames, stages, damage, lists, commands, cuts, faults]:
+    for subject in [frames, stages, damage, lists, commands, strangers, cuts, faults]:
         for name, script in subject.cases():
             write_case(sys.argv[1], name, script)
 

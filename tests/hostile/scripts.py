@@ -41,6 +41,8 @@ class Script:
     def ends(self, answer, status):
         """The step of the task that ends the clone, and what is known of it then."""
         self.line("task 0", answer)
+        self.line("task 0", "idle")
+        self.line("start", "idle")
         self.line("finish", answer)
         self.line("rows", "incomplete")
         self.status = status
