@@ -127,6 +127,34 @@ IN_A_SESSION = [
 ]
 
 
+# The same of a stranger who has opened session 9 in version 2, beside a table with ten pages: chunk 4 has one block,
+# chunk 5 two, and each of the others eight. An acknowledgement tells how many chunks aren't finished.
+IN_VERSION_2 = [
+    (attach() + ack(1), "refused C9 6"),
+    (reinit_blocks(1, 6, b"\0", [], incarnation=1), "refused C7 1"),
+    (reinit_blocks(2, 6, b"\0", []), "refused C8 1 2"),
+    (reinit_blocks(1, 6, b"\0", [], session=8), "refused C6"),
+    (reinit_blocks(1, 6, b"\7", [(4, 1)], incarnation=2) + ack(1), "refused C9 2"),
+    (reinit_blocks(1, 6, b"\7", [(4, 2)], incarnation=3) + ack(1), "refused C9 3"),
+    (reinit_blocks(1, 6, b"\7", [(4, 254)], incarnation=4) + ack(1), "refused C9 3"),
+    (reinit_blocks(1, 6, b"\7", [(5, 1)], incarnation=5) + ack(1), "refused C9 3"),
+    (reinit_blocks(1, 6, b"\7", [(5, 3)], incarnation=6) + ack(1), "refused C9 2"),
+    (reinit_blocks(1, 6, b"\7", [(5, 253)], incarnation=7) + ack(1), "refused C9 3"),
+    (reinit_blocks(1, 0, b"", [(4, 1), (5, 3)], incarnation=8) + ack(1), "refused C9 4"),
+    (reinit_blocks(1, 0, b"", [(6, 1), (2**32 - 1, 3)], incarnation=9) + ack(1), "refused C9 6"),
+    (reinit_blocks(1, 3, b"\7", [(3, 254)], incarnation=10) + ack(1), "refused C9 3"),
+    (reinit(1, 6, b"\x0f", incarnation=11) + ack(1), "refused C9 2"),
+    (reinit(1, 2**16 - 1, b"", incarnation=12), "garbled " + reinit(1, 2**16 - 1, b"", incarnation=12)[:16].hex()),
+    (hello(version=2, incarnation=13), "lost"),
+    (hello(version=1, incarnation=14), "lost"),
+    (reinit_blocks(1, 6, b"\0", [(4, 1)], incarnation=15) + ack(1), "refused C9 5"),
+    (reinit_blocks(1, 6, b"\x0f", [(4, 1), (5, 3)], incarnation=16) + ack(1), "lost"),
+    (hello(version=2, incarnation=17), "refused C8 2 1"),
+    (reinit_blocks(3, 0, b"", [], incarnation=17), "refused C8 2 3"),
+    (reinit_blocks(1, 6, b"\x3f", [], incarnation=17) + leave(), "exit"),
+]
+
+
 def stranger(script, table):
     for data, answer in table:
         script.line(f"raw {data.hex()}", f"end {answer}")
@@ -144,3 +172,9 @@ def cases():
     stranger(script, IN_A_SESSION)
     script.line("clone", "complete position 0")
     yield "commands-in-a-session", script
+    script = Script()
+    script.line("create 1 10", "created")
+    script.line(f"raw {hello(version=2).hex()}", "end lost")
+    stranger(script, IN_VERSION_2)
+    script.line("clone", "complete position 0")
+    yield "commands-in-version-2", script
