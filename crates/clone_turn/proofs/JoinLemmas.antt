@@ -13,7 +13,7 @@ use Rattle.clone_turn.proofs.Steps.{fits_set, home_kept}
 use Rattle.clone_turn.proofs.ReleaseLemmas.{no_ticket}
 
 -- a share at a larger exponent
-raised : (a h m k : ℕ) → h ≤ m → m ≤ k → (a * 2 ^ (m - h)) * 2 ^ (k - m) ≡ a * 2 ^ (k - h)
+pub raised : (a h m k : ℕ) → h ≤ m → m ≤ k → (a * 2 ^ (m - h)) * 2 ^ (k - m) ≡ a * 2 ^ (k - h)
 raised a h m k low high =
     let p : 2 ^ (k - h) ≡ 2 ^ (m - h) * 2 ^ (k - m) = ap (λ n. 2 ^ n) (omega arith) ∙ pow-add 2 (m - h) (k - m) in
     sym (ap (λ n. a * n) p ∙ omega arith)

@@ -8,6 +8,8 @@ pub mod ReleaseLemmas
 pub mod CallLemmas
 pub mod SplitLemmas
 pub mod JoinLemmas
+pub mod SublistLemmas
+pub mod EachLemmas
 pub mod MeldedViewLemmas
 pub mod SettleLemmas
 pub mod SeatLemmas
@@ -17,3 +19,7 @@ pub mod Halves
 pub mod AdderLemmas
 pub mod AdderThreadLemmas
 pub mod TupleThreadLemmas
+pub mod TotalLemmas
+pub mod WorkedLemmas
+pub mod SeatShareLemmas
+pub mod JoinedSeatLemmas

@@ -1,12 +1,14 @@
 -- What two seats have seen, laid over each other.
-use Rattle.std.proofs.Common.{ℕ, zero, suc, ◌≡◌, ◌+◌, ◌<◌, List, [], ◌∷◌, ◌++◌, refl, sym, ap, ◌∙◌, subst, true, false, Bool, cond, ◌||◌, arith}
+use Rattle.std.proofs.Common.{ℕ, zero, suc, ◌≡◌, ◌+◌, ◌<◌, inl, List, [], ◌∷◌, ◌++◌, refl, sym, ap, ◌∙◌, subst, true, false, Bool, cond, ◌||◌, arith}
 use Rattle.std.specs.List.Sorted.{IsPermutation}
 use Rattle.std.proofs.lemmas.List.{append-nil}
 use Rattle.std.proofs.lemmas.List.Sorted.{IsPermutation-refl, IsPermutation-cons, IsPermutation-append_comm, IsPermutation-trans}
 use mathlib.Core.List.{IsPrefix}
 use Rattle.clone_turn.specs.declared.view.Entry.{Entry}
 use Rattle.clone_turn.specs.Runs.{Agree, meld, entries, calls}
+use Rattle.clone_turn.specs.Parts.{IsSublist}
 use Rattle.clone_turn.specs.Rule.{made_at}
+use Rattle.clone_turn.proofs.SublistLemmas.{sublist_more, sublist_same}
 
 head_or : {X : Type 0} → X → List X → X
 head_or d [] = d
@@ -76,3 +78,26 @@ module _ {S C A : Type 0} where
   calls-meld [] ys agree = IsPermutation-refl (calls ys)
   calls-meld (x ∷ xs) [] agree = subst (λ es. IsPermutation es (calls (x ∷ xs))) (sym (append-nil (calls (x ∷ xs)))) (IsPermutation-refl (calls (x ∷ xs)))
   calls-meld (x ∷ xs) (y ∷ ys) agree = own_front x.1 y.1 x.0 y.0 (calls xs) (calls ys) (calls (meld xs ys)) agree.1 agree.0 (calls-meld xs ys agree.2)
+
+module _ {S C A : Type 0} where
+  own_within : (a b : Bool) (e : Entry S C A) (ps rs : List (Entry S C A)) → IsSublist ps rs → IsSublist (cond a (e ∷ ps) ps) (cond (a || b) (e ∷ rs) rs)
+  own_within true b e ps rs within = inl (refl, within)
+  own_within false true e ps rs within = sublist_more e ps rs within
+  own_within false false e ps rs within = within
+
+  other_within : (a b : Bool) (e f : Entry S C A) (qs rs : List (Entry S C A)) → e ≡ f → IsSublist qs rs → IsSublist (cond b (f ∷ qs) qs) (cond (a || b) (e ∷ rs) rs)
+  other_within true true e f qs rs same within = inl (sym same, within)
+  other_within true false e f qs rs same within = sublist_more e qs rs within
+  other_within false true e f qs rs same within = inl (sym same, within)
+  other_within false false e f qs rs same within = within
+
+  -- the calls of each stand in the whole's in their order
+  pub meld_within : (xs ys : List (Entry S C A × Bool)) → IsSublist (calls xs) (calls (meld xs ys))
+  meld_within [] ys = tt
+  meld_within (x ∷ xs) [] = sublist_same (calls (x ∷ xs))
+  meld_within (x ∷ xs) (y ∷ ys) = own_within x.1 y.1 x.0 (calls xs) (calls (meld xs ys)) (meld_within xs ys)
+
+  pub meld_within_other : (xs ys : List (Entry S C A × Bool)) → Agree xs ys → IsSublist (calls ys) (calls (meld xs ys))
+  meld_within_other [] ys agree = sublist_same (calls ys)
+  meld_within_other (x ∷ xs) [] agree = tt
+  meld_within_other (x ∷ xs) (y ∷ ys) agree = other_within x.1 y.1 x.0 y.0 (calls ys) (calls (meld xs ys)) agree.0 (meld_within_other xs ys agree.2)

@@ -5,8 +5,9 @@ use mathlib.Core.List.{IsPrefix}
 use Rattle.atomic_table.specs.Seated.{TableId}
 use Rattle.clone_turn.specs.declared.view.View.{View}
 use Rattle.clone_turn.specs.Runs.{Agree, entries, calls, meld}
+use Rattle.clone_turn.specs.Parts.{IsSublist}
 use Rattle.clone_turn.specs.Rule.{Calls, joined_view}
-use Rattle.clone_turn.proofs.MeldedViewLemmas.{meld_left, meld_right, calls-meld}
+use Rattle.clone_turn.proofs.MeldedViewLemmas.{meld_left, meld_right, meld_within, meld_within_other, calls-meld}
 use Rattle.clone_turn.specs.Seats.{SeatModel, seat_of, MakesCall}
 
 module _ {S C A : Type 0} where
@@ -19,6 +20,7 @@ module _ {S C A : Type 0} where
 
   pub joined_knows : (v w u : View S C A) (p q : SeatModel S C A) (i j : TableId) → seat_of i v ≡ p → seat_of j w ≡ q → Agree v.seen w.seen → u ≡ joined_view v w
       → IsPrefix (entries p.seen) (entries u.seen) × IsPrefix (entries q.seen) (entries u.seen) × IsPermutation (calls p.seen ++ calls q.seen) (calls u.seen)
+      × IsSublist (calls p.seen) (calls u.seen) × IsSublist (calls q.seen) (calls u.seen)
   joined_knows v w u p q i j a b agree is =
       let one : v.seen ≡ p.seen = ap (λ (x : SeatModel S C A). x.seen) a in
       let two : w.seen ≡ q.seen = ap (λ (x : SeatModel S C A). x.seen) b in
@@ -27,4 +29,6 @@ module _ {S C A : Type 0} where
         subst (λ xs. IsPrefix (entries p.seen) (entries xs)) all (meld_left p.seen q.seen),
         subst (λ xs. IsPrefix (entries q.seen) (entries xs)) all (meld_right p.seen q.seen agree'),
         subst (λ xs. IsPermutation (calls p.seen ++ calls q.seen) (calls xs)) all (calls-meld p.seen q.seen agree'),
+        subst (λ xs. IsSublist (calls p.seen) (calls xs)) all (meld_within p.seen q.seen),
+        subst (λ xs. IsSublist (calls q.seen) (calls xs)) all (meld_within_other p.seen q.seen agree'),
       )

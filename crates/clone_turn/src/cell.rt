@@ -4,6 +4,7 @@
 ghost use Rattle.std.specs.Prelude.{◌≡◌, ◌++◌, IfOk, IfErr, IsPermutation};
 ghost use mathlib.Core.List.{IsPrefix};
 ghost use Rattle.clone_turn.specs.Runs.{Agree, calls, entries, end_of};
+ghost use Rattle.clone_turn.specs.Parts.{IsSublist};
 ghost use Rattle.clone_turn.specs.Rule.{Idle};
 ghost use Rattle.clone_turn.specs.Seats.{IsOf, seat_of, first_seat, MakesCall, ClosesAt, left_seat, right_seat, joined_seat};
 
@@ -93,6 +94,8 @@ impl<M: Machine> TurnCell<M> {
         ensures knows_other { IsPrefix (entries other.seen) (entries seat.new.seen) }
         ensures calls { IsPermutation (calls seat.old.seen ++ calls other.seen)
             (calls seat.new.seen) }
+        ensures order { IsSublist (calls seat.old.seen) (calls seat.new.seen) }
+        ensures order_other { IsSublist (calls other.seen) (calls seat.new.seen) }
     {
         self.raw.join(&mut seat.raw, other.into_raw());
     }

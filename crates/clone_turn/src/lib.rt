@@ -9,6 +9,7 @@
 
 mod adder;
 mod cell;
+mod laws;
 mod machine;
 mod pass;
 mod raw;
@@ -17,6 +18,7 @@ mod view;
 
 pub use adder::{Added, Adder, add_by_two, add_often};
 pub use cell::{Seat, TurnCell};
+pub use laws::{close_laws, share_laws, worked_laws};
 pub use machine::Machine;
 pub use pass::Pass;
 pub use view::Entry;
