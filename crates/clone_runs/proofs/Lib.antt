@@ -1,0 +1,11 @@
+mod MemberLemmas
+mod MarkLemmas
+mod PhaseLemmas
+mod KeepingLemmas
+mod SpellingLemmas
+mod EndLemmas
+mod ConnectionLemmas
+mod DeskLemmas
+mod CarriedLemmas
+mod CloneLemmas
+mod ClosedLemmas

@@ -1,0 +1,9 @@
+pub mod Marks
+pub mod Phases
+pub mod Keeping
+pub mod Spellings
+pub mod Ends
+pub mod Connections
+pub mod Desk
+pub mod Carried
+pub mod Clones
