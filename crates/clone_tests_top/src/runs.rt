@@ -114,13 +114,14 @@ enum Failing {
     Binlog,
 }
 
-// The run of a word over a script ends with this status and this output once that call fails.
-fn ends_by_a_fault(
+// The run of a word over a script ends with this status, this output and this binlog where that call
+// fails.
+fn ends_where_it_fails(
     rt: &impl Abort,
     alloc: Global,
     (word, script): (&str, &[u8]),
     (failing, call): (Failing, u64),
-    (status, taken): (u8, &str),
+    (status, taken, commits): (u8, &str, &str),
 ) -> Result<(), Fail> {
     let mut source = source_of(alloc, script)?;
     let mut out = MemSink::new(alloc);
@@ -131,7 +132,8 @@ fn ends_by_a_fault(
         Failing::Binlog => binlog.fail_at(call)?,
     }
     let disks = (MemDisk::new(alloc), MemDisk::new(alloc));
-    run_over(alloc, &[word], &mut source, (out, binlog), disks)?.expect(rt, status, taken, "");
+    let ran = run_over(alloc, &[word], &mut source, (out, binlog), disks)?;
+    ran.expect(rt, status, taken, commits);
     Ok(())
 }
 
@@ -140,38 +142,41 @@ fn ends_by_a_fault(
 fn ends_where_the_source_fails(rt: HostRuntime) -> Result<(), Fail> {
     let script = vec![in rt.alloc(); b'#'; 5_000]?;
     for call in 1..=3 {
-        let fault = (Failing::Source, call);
-        ends_by_a_fault(
-            &rt,
-            rt.alloc(),
-            ("steps", &script),
-            fault,
-            (4, "source fault\n"),
-        )?;
+        let (run, fault) = (("steps", &script[..]), (Failing::Source, call));
+        ends_where_it_fails(&rt, rt.alloc(), run, fault, (4, "source fault\n", ""))?;
     }
     Ok(())
 }
 
-const SINK_FAULTS: [(&str, (Failing, u64), &str); 6] = [
-    ("steps", (Failing::Out, 1), ""),
-    ("steps", (Failing::Out, 2), "created\n"),
-    ("steps", (Failing::Out, 3), "created\ncommitted 1\n"),
+// Each call of the source and of both sinks over the plainest script, with the status and the output
+// where it fails. The last of each is a call that isn't made.
+const FAULTS: [((Failing, u64), u8, &str, &str); 10] = [
+    ((Failing::Source, 1), 4, "source fault\n", ""),
+    ((Failing::Source, 2), 4, "source fault\n", ""),
+    ((Failing::Source, 3), 0, PLAINEST_OUT, PLAINEST_BINLOG),
+    ((Failing::Out, 1), 5, "", ""),
+    ((Failing::Out, 2), 5, "created\n", ""),
+    ((Failing::Out, 3), 5, "created\ncommitted 1\n", ""),
     (
-        "steps",
         (Failing::Out, 4),
+        5,
         "created\ncommitted 1\ncomplete position 1\n",
+        "",
     ),
-    ("stop", (Failing::Out, 1), ""),
-    ("steps", (Failing::Binlog, 1), PLAINEST_OUT),
+    ((Failing::Out, 5), 0, PLAINEST_OUT, PLAINEST_BINLOG),
+    ((Failing::Binlog, 1), 5, PLAINEST_OUT, ""),
+    ((Failing::Binlog, 2), 0, PLAINEST_OUT, PLAINEST_BINLOG),
 ];
 
 #[test]
-fn ends_where_a_sink_fails(rt: HostRuntime) -> Result<(), Fail> {
-    for (word, fault, taken) in SINK_FAULTS {
-        let script = PLAINEST.as_bytes();
-        ends_by_a_fault(&rt, rt.alloc(), (word, script), fault, (5, taken))?;
+fn ends_where_a_call_fails(rt: HostRuntime) -> Result<(), Fail> {
+    let script = PLAINEST.as_bytes();
+    for (fault, status, taken, commits) in FAULTS {
+        let ends = (status, taken, commits);
+        ends_where_it_fails(&rt, rt.alloc(), ("steps", script), fault, ends)?;
     }
-    Ok(())
+    let fault = (Failing::Out, 1);
+    ends_where_it_fails(&rt, rt.alloc(), ("stop", script), fault, (5, "", ""))
 }
 
 // Takes one byte a call.
