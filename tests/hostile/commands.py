@@ -127,8 +127,8 @@ IN_A_SESSION = [
 ]
 
 
-# The same of a stranger who has opened session 9 in version 2, beside a table with ten pages: chunk 4 has one block,
-# chunk 5 two, and each of the others eight. An acknowledgement tells how many chunks aren't finished.
+# The same of a stranger who has opened session 9 in version 2, beside a table with ten pages: chunk 4 has one
+# block, chunk 5 two, and each of the others eight. An acknowledgement tells how many chunks aren't finished.
 IN_VERSION_2 = [
     (attach() + ack(1), "refused C9 6"),
     (reinit_blocks(1, 6, b"\0", [], incarnation=1), "refused C7 1"),
@@ -144,7 +144,7 @@ IN_VERSION_2 = [
     (reinit_blocks(1, 0, b"", [(6, 1), (2**32 - 1, 3)], incarnation=9) + ack(1), "refused C9 6"),
     (reinit_blocks(1, 3, b"\7", [(3, 254)], incarnation=10) + ack(1), "refused C9 3"),
     (reinit(1, 6, b"\x0f", incarnation=11) + ack(1), "refused C9 2"),
-    (reinit(1, 2**16 - 1, b"", incarnation=12), "garbled " + reinit(1, 2**16 - 1, b"", incarnation=12)[:16].hex()),
+    (reinit(1, 9, b"", incarnation=12), "garbled " + reinit(1, 9, b"", incarnation=12)[:16].hex()),
     (hello(version=2, incarnation=13), "lost"),
     (hello(version=1, incarnation=14), "lost"),
     (reinit_blocks(1, 6, b"\0", [(4, 1)], incarnation=15) + ack(1), "refused C9 5"),

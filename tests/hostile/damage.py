@@ -7,8 +7,8 @@ def damaged(space, at, why):
     return f"damaged {space} {at} {why}"
 
 
-# Redo. Each piece is put behind mini-transactions so that its first wrong byte is the last of a page, and then so
-# that it is the first of the next page.
+# Redo. Each piece is put behind mini-transactions so that its first wrong byte is the last of a page, and then
+# so that it is the first of the next page.
 
 TOO_HIGH = REDO_SPACE
 LONG = write(1, 0, 38, bytes(900))

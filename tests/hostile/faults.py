@@ -1,7 +1,7 @@
-"""Calls of the donor's disk that fail in a clone: the connection is closed, and the clone goes on from what it has.
+"""Reads of the donor's disk that fail in a clone: the connection is closed, and the clone goes on from what it has.
 
-The donor's disk is asked for each page that a block of files has, in order, and for nothing else in these clones. The
-files have 257 pages and 4.
+The donor's disk is asked for each page that a block of files has, in order, and for nothing else in these clones.
+The files have 257 pages and 4.
 """
 
 from scripts import *

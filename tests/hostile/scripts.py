@@ -52,7 +52,7 @@ class Script:
         self.ends("garbled " + data[:16].hex(), GARBLED)
 
     def wrong_at(self, data, at):
-        """The byte at this place is the first that no frame has there: the task waits up to it, and not behind it."""
+        """The byte at this place is the first that no frame has there: up to it the task waits, and no longer."""
         self.feed(data[:at])
         self.line("task 0", "idle")
         self.feed(data[at:at + 1])

@@ -1,4 +1,4 @@
-"""Somebody has a hand in a clone that goes on: he acts in its session, gives it up, or adds bytes to its connections."""
+"""Somebody has a hand in a clone: he acts in its session, gives it up, or adds bytes to its connections."""
 
 from scripts import *
 
