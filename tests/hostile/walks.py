@@ -98,6 +98,9 @@ class Walk:
     def made(self):
         for _ in range(self.number(0, 3)):
             self.create()
+        # now and then more redo than a chunk has
+        for _ in range(self.draw.choice([0, 0, 0, 240])):
+            self.set()
         self.lines(self.number(0, 3))
         self.line("start", self.world.start())
         self.lines(self.number(10, 80))
