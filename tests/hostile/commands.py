@@ -1,15 +1,23 @@
-"""Commands that a stranger gives the donor, one field wrong each, or out of turn. Its clone goes on."""
+"""Commands that a stranger gives the donor, each with one field wrong or out of turn, and what it makes of them."""
 
 from scripts import *
 
 JOINED = hello()
 LONG_BITMAP = b"\xff" * 22
+# The longest payload of REINIT2: a bit for each of the most chunks, and the most partial ones.
+MOST_PARTIAL = 21 + 2**20 + 5 * 1616
 
-# The name, what a stranger sends, and what the donor makes of it. 'garbled' has the bytes that are told.
+
+def is_garbled(data, before=b""):
+    """A command that is none, behind what is one, and what the donor makes of it: up to 16 bytes are told."""
+    return before + data, "garbled " + data[:16].hex()
+
+
+# What a stranger sends, and what the donor makes of it.
 BEFORE_A_SESSION = [
     (b"\0", "garbled 00"),
     (b"\x08" + bytes(range(40)), "garbled 08" + bytes(range(15)).hex()),
-    (stage(FILES), "garbled " + stage(FILES)[:16].hex()),
+    is_garbled(stage(FILES)),
     (b"\x14", "garbled 14"),
     (b"\xff\xff", "garbled ffff"),
     (b"\1", "lost"),
@@ -17,13 +25,13 @@ BEFORE_A_SESSION = [
     (execute(1), "garbled 040000000101"),
     (b"\4", "garbled 04"),
     (execute(1) + ack(1), "garbled 040000000101"),
-    (ack(1), "garbled " + ack(1).hex()),
+    is_garbled(ack(1)),
     (leave(), "garbled 0600000000"),
     (changed(hello(), 4, b"\x13"), "garbled 0100000013" + hello()[5:16].hex()),
     (b"\1\0\0\0\x15", "garbled 0100000015"),
     (b"\1\0\0\1", "garbled 01000001"),
-    (hello(flag=2), "garbled " + hello(flag=2)[:16].hex()),
-    (hello(flag=2)[:12], "garbled " + hello(flag=2)[:12].hex()),
+    is_garbled(hello(flag=2)),
+    is_garbled(hello(flag=2)[:12]),
     (hello(flag=2)[:11], "lost"),
     (hello(version=0), "refused C2 0"),
     (hello(version=3), "refused C2 3"),
@@ -41,38 +49,38 @@ BEFORE_A_SESSION = [
     (attach()[:-1], "lost"),
     (changed(attach(), 4, b"\x0e"), "garbled 020000000e" + attach()[5:16].hex()),
     (reinit(1, 0, b""), "refused C6"),
-    (reinit(0, 0, b""), "garbled " + reinit(0, 0, b"")[:16].hex()),
-    (reinit(4, 0, b""), "garbled " + reinit(4, 0, b"")[:16].hex()),
+    is_garbled(reinit(0, 0, b"")),
+    is_garbled(reinit(4, 0, b"")),
     (reinit(4, 0, b"")[:18], "garbled " + reinit(4, 0, b"")[:16].hex()),
     (reinit(4, 0, b"")[:17], "lost"),
     (reinit(1, 6, b"\x3f"), "refused C6"),
-    (reinit(1, 6, b"\x40"), "garbled " + reinit(1, 6, b"\x40")[:16].hex()),
-    (reinit(1, 6, b"\x80"), "garbled " + reinit(1, 6, b"\x80")[:16].hex()),
+    is_garbled(reinit(1, 6, b"\x40")),
+    is_garbled(reinit(1, 6, b"\x80")),
     (reinit(1, 8, b"\xff"), "refused C6"),
     (reinit(1, 9, b"\xff\1"), "refused C6"),
-    (reinit(1, 9, b"\xff\2"), "garbled " + reinit(1, 9, b"\xff\2")[:16].hex()),
-    (reinit(1, 9, b"\xff"), "garbled " + reinit(1, 9, b"\xff")[:16].hex()),
-    (reinit(1, 0, b"\0"), "garbled " + reinit(1, 0, b"\0")[:16].hex()),
+    is_garbled(reinit(1, 9, b"\xff\2")),
+    is_garbled(reinit(1, 9, b"\xff")),
+    is_garbled(reinit(1, 0, b"\0")),
     (reinit(1, 176, LONG_BITMAP), "refused C6"),
-    (reinit(1, 169, LONG_BITMAP), "garbled " + reinit(1, 169, LONG_BITMAP)[:16].hex()),
-    (reinit(1, 2**23, b""), "garbled " + reinit(1, 2**23, b"")[:16].hex()),
+    is_garbled(reinit(1, 169, LONG_BITMAP)),
+    is_garbled(reinit(1, 2**23, b"")),
     (b"\3" + number(17 + 2**20, 4) + reinit(1, 2**23, b"")[5:], "lost"),
     (b"\3" + number(18 + 2**20, 4), "garbled 0300100012"),
     (reinit_blocks(1, 6, b"\0", [(0, 1)]), "refused C6"),
     (reinit_blocks(1, 6, b"\0", [(0, 254)]), "refused C6"),
-    (reinit_blocks(1, 6, b"\0", [(0, 0)]), "garbled " + reinit_blocks(1, 6, b"\0", [(0, 0)])[:16].hex()),
-    (reinit_blocks(1, 6, b"\0", [(0, 255)]), "garbled " + reinit_blocks(1, 6, b"\0", [(0, 255)])[:16].hex()),
-    (reinit_blocks(1, 6, b"\1", [(0, 1)]), "garbled " + reinit_blocks(1, 6, b"\1", [(0, 1)])[:16].hex()),
-    (reinit_blocks(1, 6, b"\0", [(1, 1), (0, 1)]), "garbled "
-     + reinit_blocks(1, 6, b"\0", [(1, 1), (0, 1)])[:16].hex()),
-    (reinit_blocks(1, 6, b"\0", [(1, 1), (1, 2)]), "garbled "
-     + reinit_blocks(1, 6, b"\0", [(1, 1), (1, 2)])[:16].hex()),
+    is_garbled(reinit_blocks(1, 6, b"\0", [(0, 0)])),
+    is_garbled(reinit_blocks(1, 6, b"\0", [(0, 255)])),
+    is_garbled(reinit_blocks(1, 6, b"\1", [(0, 1)])),
+    is_garbled(reinit_blocks(1, 6, b"\0", [(1, 1), (0, 1)])),
+    is_garbled(reinit_blocks(1, 6, b"\0", [(1, 1), (1, 2)])),
     (reinit_blocks(1, 6, b"\0", [(9, 1), (2**32 - 1, 128)]), "refused C6"),
-    (reinit_blocks(1, 6, b"\0", [(0, 1)], length=0), "garbled "
-     + reinit_blocks(1, 6, b"\0", [(0, 1)], length=0)[:16].hex()),
-    (reinit_blocks(1, 6, b"\0", [(0, 1)], length=2), "garbled "
-     + reinit_blocks(1, 6, b"\0", [(0, 1)], length=2)[:16].hex()),
-    (reinit_blocks(0, 6, b"\0", []), "garbled " + reinit_blocks(0, 6, b"\0", [])[:16].hex()),
+    is_garbled(reinit_blocks(1, 6, b"\0", [(0, 1)], length=0)),
+    is_garbled(reinit_blocks(1, 6, b"\0", [(0, 1)], length=2)),
+    is_garbled(reinit_blocks(0, 6, b"\0", [])),
+    is_garbled(b"\7" + number(20, 4)),
+    (b"\7" + number(21, 4), "lost"),
+    (b"\7" + number(MOST_PARTIAL, 4), "lost"),
+    is_garbled(b"\7" + number(MOST_PARTIAL + 1, 4)),
 ]
 
 # The same of a stranger who has opened session 9.
@@ -87,17 +95,17 @@ IN_A_SESSION = [
     (attach(session=2**64 - 1), "refused C6"),
     (attach(incarnation=0), "refused C7 1"),
     (attach(incarnation=2), "refused C7 1"),
-    (attach() + attach(), "garbled " + attach()[:16].hex()),
+    is_garbled(attach(), attach()),
     (attach() + b"\2", "garbled 02"),
-    (attach() + hello(), "garbled " + hello()[:16].hex()),
-    (attach() + reinit(1, 0, b""), "garbled " + reinit(1, 0, b"")[:16].hex()),
+    is_garbled(hello(), attach()),
+    is_garbled(reinit(1, 0, b""), attach()),
     (attach() + b"\7\0", "garbled 0700"),
     (attach() + b"\x10", "garbled 10"),
     (attach() + execute(0), "garbled 040000000100"),
     (attach() + execute(4), "garbled 040000000104"),
     (attach() + changed(execute(1), 4, b"\2"), "garbled 040000000201"),
-    (attach() + ack(0), "garbled " + ack(0).hex()),
-    (attach() + ack(4), "garbled " + ack(4).hex()),
+    is_garbled(ack(0), attach()),
+    is_garbled(ack(4), attach()),
     (attach() + ack(1)[:-1], "lost"),
     (attach() + changed(leave(), 4, b"\1"), "garbled 0600000001"),
     (attach() + execute(2), "refused C8 1 2"),
@@ -144,7 +152,7 @@ IN_VERSION_2 = [
     (reinit_blocks(1, 0, b"", [(6, 1), (2**32 - 1, 3)], incarnation=9) + ack(1), "refused C9 6"),
     (reinit_blocks(1, 3, b"\7", [(3, 254)], incarnation=10) + ack(1), "refused C9 3"),
     (reinit(1, 6, b"\x0f", incarnation=11) + ack(1), "refused C9 2"),
-    (reinit(1, 9, b"", incarnation=12), "garbled " + reinit(1, 9, b"", incarnation=12)[:16].hex()),
+    is_garbled(reinit(1, 9, b"", incarnation=12)),
     (hello(version=2, incarnation=13), "lost"),
     (hello(version=1, incarnation=14), "lost"),
     (reinit_blocks(1, 6, b"\0", [(4, 1)], incarnation=15) + ack(1), "refused C9 5"),
