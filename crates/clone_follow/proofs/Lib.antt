@@ -1,0 +1,9 @@
+pub mod FieldFormats
+pub mod ChangeFormats
+pub mod FrameFormats
+pub mod Decoding
+pub mod Unique
+pub mod ReadLemmas
+pub mod WriteLemmas
+pub mod ReplayLemmas
+pub mod RowLists
