@@ -1,0 +1,6 @@
+//! A donor and a recipient that talk over a network's connections, as the rounds of two ends.
+#![tactic(auto)]
+
+mod laws;
+
+pub use laws::scratch;
