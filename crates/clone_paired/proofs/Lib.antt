@@ -1,2 +1,5 @@
 pub mod UnreadLemmas
 pub mod QuietEnds
+pub mod QuietTasks
+pub mod Lookups
+pub mod Stuck

@@ -112,7 +112,7 @@ ask_does (exchange ∷ more) d asked old new t last of (ask, (mid, sent, turn, g
 
 -- ---- an end that awaits a command
 
-abbrev IsAwaiting : Doing → Type 0
+abbrev pub IsAwaiting : Doing → Type 0
 IsAwaiting New = Unit {0}
 IsAwaiting (Ready caller) = Unit {0}
 IsAwaiting other = ⊥

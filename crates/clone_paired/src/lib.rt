@@ -3,4 +3,4 @@
 
 mod laws;
 
-pub use laws::scratch;
+pub use laws::never_stuck;
