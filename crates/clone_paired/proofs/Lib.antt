@@ -2,4 +2,10 @@ pub mod UnreadLemmas
 pub mod QuietEnds
 pub mod QuietTasks
 pub mod Lookups
+pub mod Linked
 pub mod Stuck
+pub mod Expected
+pub mod FairEnds
+pub mod Begins
+pub mod Changing
+pub mod Cuts

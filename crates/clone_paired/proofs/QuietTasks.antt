@@ -122,7 +122,7 @@ done_phase t Opening standing is = absurd (cc (is))
 done_phase t (Copying stage) standing is = absurd (cc (is))
 done_phase t Done standing is = refl
 
-no_way : (a : Bool) → (a && false) ≡ false
+pub no_way : (a : Bool) → (a && false) ≡ false
 no_way true = refl
 no_way false = refl
 

@@ -46,6 +46,7 @@ use Rattle.clone_paired.specs.Lines.{IsAt, IsLineOf, connection_of, doing_at, is
 use Rattle.clone_paired.specs.Paired.{HasCopied, IsCopying, IsPaired, IsReception, IsTalking}
 use Rattle.clone_paired.specs.Quiet.{EndRests, GoesOn, IsQuiet, TaskRests}
 use Rattle.clone_paired.specs.Seen.{IsSeen}
+use Rattle.clone_paired.proofs.Linked.{Linked, apart_is, linked, none_at, same_connection, unlinked}
 use Rattle.clone_paired.proofs.Lookups.{connection_is, made_is, seat_there}
 use Rattle.clone_paired.proofs.QuietEnds.{Awaits, IsAwaiting, end_awaits}
 use Rattle.clone_paired.proofs.QuietTasks.{IsQuiet as SaysIdle, RestsBy, complete_apart, complete_over, rule_apart, rule_over, steps_rests}
@@ -126,43 +127,14 @@ first_none false b is = refl
 
 module _ {A : Type 0} (gives : A → DonorCall → DonorAnswer → A → Type 0) (a : A) (session : Option Session) (r : Reception) (d : DiskState) (n : Network) (tasks : length n.seats ≡ r.table.count) (running : is_running r.table ≡ true) (quiet : IsQuiet gives a r d n) (on : GoesOn gives a n) where
   module _ (talks : IsTalking session r n) (w : World) (view : IsView talks.known r.table session talks.lines w) where
-    -- ---- a task with its connection
-    record Linked (k : ℕ) : Type 0 where
-      number : ℕ
-      at : Connection
-      l : Line
-      has : connection_of n k ≡ Some number
-      made : made_of n k ≡ Some (incarnation_of r.table)
-      there : slice_get n.connections number ≡ Some at
-      line : talks.lines k ≡ Some l
-      of : IsLineOf session r k at l
-      seat : IsLine talks.known (list_in session) l (w.seats k)
+    abbrev Here : ℕ → Type 0
+    Here k = Linked session r n talks.lines talks.known w k
 
-    seat_of : (k : ℕ) (line : Option Line) → talks.lines k ≡ line → IsSeat talks.known (list_in session) line (w.seats k)
-    seat_of k line is = subst (λ (o : Option Line). IsSeat talks.known (list_in session) o (w.seats k)) is (view.seats k)
-
-    unlinked : (k : ℕ) → talks.lines k ≡ None → (w.seats k).connected ≡ false
-    unlinked k none = ap (λ (s : Seat). s.connected) (seat_of k None none)
-
-    linked_at : (k : ℕ) (connection : Option ℕ) → connection_of n k ≡ connection → IsAt session r n k connection (talks.lines k) → (w.seats k).connected ≡ true → Linked k
-    linked_at k None has at connected = absurd (both_ways (w.seats k).connected (unlinked k at) connected)
-    linked_at k (Some number) has at connected = record {
-      number = number;
-      at = at.1.0;
-      l = at.1.1;
-      has = has;
-      made = at.0;
-      there = at.1.2;
-      line = at.1.3;
-      of = at.1.4;
-      seat = seat_of k (Some at.1.1) at.1.3;
-    }
-
-    linked : (k : ℕ) → (w.seats k).connected ≡ true → Linked k
-    linked k connected = linked_at k (connection_of n k) refl (talks.at k) connected
+    here : (k : ℕ) → (w.seats k).connected ≡ true → Here k
+    here = linked session r n talks.lines talks.known w talks.at view
 
     -- ---- its end
-    module _ (k : ℕ) (x : Linked k) where
+    module _ (k : ℕ) (x : Here k) where
       core_at : core_of (list_in session) (doing_at x.at) ≡ Some (w.seats k).core
       core_at = ap (core_of (list_in session)) (sym x.of.doing) ∙ x.seat.core
 
@@ -195,22 +167,15 @@ module _ {A : Type 0} (gives : A → DonorCall → DonorAnswer → A → Type 0)
 
     -- ---- a task
 
-    apart_is : (k : ℕ) → (connected : Bool) → (w.seats k).connected ≡ connected → is_apart (standing_of r.table k) ≡ not connected
-    apart_is k connected is = twice (is_apart (standing_of r.table k)) connected (sym (view.table.seats k).connected ∙ is)
-      where
-        twice : (a b : Bool) → not a ≡ b → a ≡ not b
-        twice true b e = ap not e
-        twice false b e = ap not e
-
     -- no rule applies, or an answer is awaited that isn't there yet
     data Rested (k : ℕ) : Type 0 where
       idle : Rests w k → Rested k
       waits : Receives w k → (w.seats k).answers ≡ [] → (w.seats k).cut ≡ false → Rested k
 
-    waits_at : (k : ℕ) (x : Linked k) → Receives w k → fetch.is_lost (link_over x.at) ≡ false → BeginsNone ofDonor x.at.to_task → Rested k
+    waits_at : (k : ℕ) (x : Here k) → Receives w k → fetch.is_lost (link_over x.at) ≡ false → BeginsNone ofDonor x.at.to_task → Rested k
     waits_at k x receives up none = waits receives (no_answers talks.known x.l.answers (w.seats k).answers x.seat.answers (holds_partial ofDonor x.at.cut x.l.answers x.at.to_task x.of.answers none)) (x.seat.cut ∙ x.of.cut ∙ sym (link_lost x.at) ∙ up)
 
-    over_rests : (k : ℕ) (x : Linked k) (which : TaskRule) → Applies which w k → RestsBy which (link_over x.at) x.at.to_task → Rested k
+    over_rests : (k : ℕ) (x : Here k) (which : TaskRule) → Applies which w k → RestsBy which (link_over x.at) x.at.to_task → Rested k
     over_rests k x rule.Nothing applied rests = idle applied
     over_rests k x rule.Receive applied rests = waits_at k x applied rests.0 rests.1
     over_rests k x rule.Stale applied rests = absurd applied
@@ -225,41 +190,17 @@ module _ {A : Type 0} (gives : A → DonorCall → DonorAnswer → A → Type 0)
     applied : (k : ℕ) → Applies (sending_rule r.table k) w k
     applied k = applies r.table w k view.table running
 
-    -- where the task has a connection, it is this one
-    same_connection : (k : ℕ) (x : Linked k) (seat : network.Seat) (number : ℕ) (at : Connection) → slice_get n.seats k ≡ Some seat → seat.connection ≡ Some number → slice_get n.connections number ≡ Some at → (at ≡ x.at) × (seat.made ≡ Some (incarnation_of r.table))
-    same_connection k x seat number at has is there =
-        let one : number ≡ x.number = cc (sym is ∙ sym (connection_is n k seat has) ∙ x.has) in
-        (cc (sym there, ap (slice_get n.connections) one, x.there), sym (made_is n k seat has) ∙ x.made)
-
     task_rests : (k floor : ℕ) (answer : TaskAnswer) → SaysIdle answer → k < r.table.count → StepsTask k floor r r d d n n answer → Rested k
-    task_rests k floor answer says small (network.over seat number at after made has is there f next) = at_seat (talks.lines k) refl
-      where
-        x : (w.seats k).connected ≡ true → Linked k
-        x connected = linked k connected
-
-        none_at : talks.lines k ≡ None → ⊥
-        none_at none = none_line (subst (λ (c : Option ℕ). IsAt session r n k c (talks.lines k)) (connection_is n k seat has ∙ is) (talks.at k))
-          where
-            none_line : IsAt session r n k (Some number) (talks.lines k) → ⊥
-            none_line at = cc (sym none ∙ at.1.3)
-
-        rests : (y : Linked k) → (at ≡ y.at) × (seat.made ≡ Some (incarnation_of r.table)) → Rested k
-        rests y same =
-            let by : rule_at seat.made r.table k (link_over at) ≡ sending_rule r.table k = rule_over r.table k (link_over at) seat.made same.1 (link_there at) (apart_is k true y.seat.connected) in
-            let rests : RestsBy (rule_at seat.made r.table k (link_over at)) (link_over at) at.to_task = steps_rests (rule_at seat.made r.table k (link_over at)) (link_over at) k floor (requester r d at.to_task (sent_behind (not at.cut) at.to_donor)) (requester r d f.received f.sent) answer f.steps says in
-            let here : RestsBy (sending_rule r.table k) (link_over y.at) y.at.to_task = subst (λ (c : Connection). RestsBy (sending_rule r.table k) (link_over c) c.to_task) same.0 (subst (λ (t : TaskRule). RestsBy t (link_over at) at.to_task) by rests) in
-            over_rests k y (sending_rule r.table k) (applied k) here
-
-        at_seat : (line : Option Line) → talks.lines k ≡ line → Rested k
-        at_seat None line = absurd (none_at line)
-        at_seat (Some l) line =
-            let y : Linked k = linked k (seat_of k (Some l) line).connected in
-            rests y (same_connection k y seat number at has is there)
+    task_rests k floor answer says small (network.over seat number at after made has is there f next) =
+        let same = same_connection session r n talks.lines talks.known w talks.at view k seat number at has is there in
+        let y : Here k = same.x in
+        let by : rule_at seat.made r.table k (link_over at) ≡ sending_rule r.table k = rule_over r.table k (link_over at) seat.made same.made (link_there at) (apart_is session r n talks.lines talks.known w talks.at view k true y.seat.connected) in
+        let rests : RestsBy (rule_at seat.made r.table k (link_over at)) (link_over at) at.to_task = steps_rests (rule_at seat.made r.table k (link_over at)) (link_over at) k floor (requester r d at.to_task (sent_behind (not at.cut) at.to_donor)) (requester r d f.received f.sent) answer f.steps says in
+        over_rests k y (sending_rule r.table k) (applied k) (subst (λ (c : Connection). RestsBy (sending_rule r.table k) (link_over c) c.to_task) same.at_is (subst (λ (t : TaskRule). RestsBy t (link_over at) at.to_task) by rests))
     task_rests k floor answer says small (network.apart seat after connections has is c next) =
-        let none : talks.lines k ≡ None = subst (λ (o : Option ℕ). IsAt session r n k o (talks.lines k)) (connection_is n k seat has ∙ is) (talks.at k) in
-        let off : (w.seats k).connected ≡ false = unlinked k none in
+        let off : (w.seats k).connected ≡ false = unlinked session r n talks.lines talks.known w talks.at view k (none_at session r n talks.lines talks.known w talks.at view k seat has is) in
         let rests : RestsBy (rule_at seat.made r.table k link.Absent) link.Absent [] = steps_rests (rule_at seat.made r.table k link.Absent) link.Absent k floor (requester r d [] []) (requester r d c.received c.sent) answer c.steps says in
-        apart_rests k (sending_rule r.table k) off (applied k) (subst (λ (t : TaskRule). RestsBy t link.Absent []) (rule_apart r.table k seat.made (apart_is k false off)) rests)
+        apart_rests k (sending_rule r.table k) off (applied k) (subst (λ (t : TaskRule). RestsBy t link.Absent []) (rule_apart r.table k seat.made (apart_is session r n talks.lines talks.known w talks.at view k false off)) rests)
     task_rests k floor answer says small (network.absent none same idle_is) =
         let seat = seat_there n.seats k (subst (λ (c : ℕ). k < c) (sym tasks) small) in
         absurd (cc (sym none ∙ seat.1))
@@ -286,9 +227,9 @@ module _ {A : Type 0} (gives : A → DonorCall → DonorAnswer → A → Type 0)
       completes = λ c. completes_not c (rested 0 some);
       acknowledges = λ c. acknowledges_not c (rested 0 some);
       executes = λ k c. executes_not k c (rested k (small_of k c.linked));
-      serves = λ k c. unserved k (linked k c.linked.connected) c.serving;
-      carries = λ k c. uncarried k (linked k c.linked.connected) c.live c.there;
-      finds = λ k c. unfound k (linked k c.linked.connected) c.live c.cut;
+      serves = λ k c. unserved k (here k c.linked.connected) c.serving;
+      carries = λ k c. uncarried k (here k c.linked.connected) c.live c.there;
+      finds = λ k c. unfound k (here k c.linked.connected) c.live c.cut;
     }
       where
         connects_not : (k : ℕ) → Connects w k → Rested k → ⊥

@@ -6,3 +6,4 @@ pub mod Earlier
 pub mod Seen
 pub mod Paired
 pub mod Quiet
+pub mod Fair

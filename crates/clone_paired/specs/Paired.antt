@@ -13,14 +13,7 @@ use Rattle.clone_view.specs.Views.{Line}
 use Rattle.clone_serve.specs.declared.doing.Doing.TheVariants as doing
 use Rattle.clone_paired.specs.Lines.{AreApart, IsAt, connection_of, made_of}
 use Rattle.clone_paired.specs.Sessions.{HasComeTo, IsSessionOf}
-use Rattle.clone_paired.specs.Earlier.{IsPast}
 use Rattle.clone_paired.specs.Seen.{IsKnown}
-
--- each connection that no task has is of an earlier incarnation
-abbrev pub ArePast : Table → Bool → Network → Type 0
-ArePast t acknowledged n = (number : ℕ) (at : Connection)
-    → slice_get n.connections number ≡ Some at
-    → ((task : ℕ) → connection_of n task ≢ Some number) → IsPast t acknowledged at
 
 -- where a donor's end serves an EXECUTE of a task, the session is there to which it has come
 abbrev pub HaveCome : Option Session → (ℕ → Option Line) → Type 0
@@ -35,13 +28,11 @@ pub record IsTalking (session : Option Session) (r : Reception) (n : Network) : 
   pub at : (task : ℕ) → IsAt session r n task (connection_of n task) (lines task)
   pub apart : AreApart n
   pub come : HaveCome session lines
-  pub acknowledged : Bool
-  pub past : ArePast r.table acknowledged n
   -- until task 0 took a STAGE no more blocks are marked than a loss leaves
   pub few : r.table.joined ≡ false
       → length (partials_of r.table.marks) ≤ kept_in r.table.version
   pub known : ℕ → List ℕ
-  pub rounds : IsKnown r.table session lines acknowledged known
+  pub rounds : IsKnown r.table session n lines known
 
 -- ONCE ALL WAS COPIED task 0 awaits nothing any more.
 pub record HasCopied (r : Reception) (n : Network) : Type 0 where

@@ -1,14 +1,37 @@
-ghost use Rattle.std.specs.Prelude.{◌≡◌, true};
+ghost use Rattle.std.specs.Prelude.{◌≡◌, ◌≤◌, None, true, ℕ};
 ghost use Rattle.std.specs.declared.option.Option.{Option};
 ghost use Rattle.clone_outside.specs.DiskCalls.{DiskState};
 ghost use Rattle.clone_session.specs.Cloning.{Session};
 ghost use Rattle.clone_tasks.specs.Tables.{is_running};
-ghost use Rattle.clone_recipient.specs.Receptions.{Reception};
-ghost use Rattle.clone_network.specs.Networks.{Network};
+ghost use Rattle.clone_tasks.specs.declared.end.CloneEnd.{CloneEnd};
+ghost use Rattle.clone_recipient.specs.Receptions.{Reception, begun};
+ghost use Rattle.clone_network.specs.Connections.{cut_at};
+ghost use Rattle.clone_network.specs.Networks.{Network, StepsTask, on_connected, unconnected};
+ghost use Rattle.clone_fetch.specs.declared.answer.TaskAnswer.TheVariants.{Ended};
+ghost use Rattle.clone_paired.specs.Fair.{EndsFairly};
 ghost use Rattle.clone_paired.specs.Paired.{IsPaired, IsReception};
 ghost use Rattle.clone_paired.specs.Quiet.{GoesOn, IsQuiet};
 
 use clone_calls::Answers;
+
+/// A clone that has just begun is paired with a donor that has no session of it, and stays so while
+/// a connection is cut.
+pub fn paired_laws()
+    ensures begins { (number count limit version : ℕ) → 1 ≤ count
+        → IsPaired None (begun number count limit version) (unconnected count) }
+    ensures cuts { (session : Option Session) (r : Reception) (n : Network)
+        (connection to_donor to_task : ℕ) → IsPaired session r n
+        → IsPaired session r (on_connected connection (cut_at to_donor to_task) n) }
+{}
+
+/// A step of a task ends the clone neither since the donor sent what is garbled, nor since it
+/// refused.
+pub fn ends_fairly()
+    ensures { (session : Option Session) (r s : Reception) (d e : DiskState) (n m : Network)
+        (task floor : ℕ) (how : CloneEnd) → IsReception r → IsPaired session r n
+        → StepsTask task floor r s d e n m (Ended how) → EndsFairly how }
+{}
+
 
 /// A clone that goes on is never stuck: some task finds something to do, or the donor's end of some
 /// connection does, as long as no end rests that serves an EXECUTE.

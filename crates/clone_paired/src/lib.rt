@@ -3,4 +3,4 @@
 
 mod laws;
 
-pub use laws::never_stuck;
+pub use laws::{ends_fairly, never_stuck, paired_laws};
