@@ -9,3 +9,7 @@ pub mod FairEnds
 pub mod Begins
 pub mod Changing
 pub mod Cuts
+pub mod Keeping
+pub mod Transports
+pub mod Sends
+pub mod Connecting
