@@ -13,3 +13,4 @@ pub mod Keeping
 pub mod Transports
 pub mod Sends
 pub mod Connecting
+pub mod TaskSends

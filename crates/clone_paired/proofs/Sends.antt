@@ -139,3 +139,6 @@ module _ (session : Option Session) (r : Reception) (n : Network) (own : IsRecep
 
     pub talks_sent : IsTalking session s m
     talks_sent = talks_on session session r s n talks k number x.at new after has there_at refl (λ j c y other line of. line_as r standings known_floor keeps session j c y of) (some_as (session_as r standings known_floor keeps) session talks.own) talks.few line_new talks.come come_sent talks.known (record { donor = talks.rounds.donor; recipient = talks.rounds.recipient; seen = λ counts agrees. seen_sent counts (talks.rounds.seen counts agrees) })
+
+    pub talks_sent_at : (at : Connection) → slice_get n.connections number ≡ Some at → IsTalking session s (with_connection number (sent_on at next) n)
+    talks_sent_at at there = let same : x.at ≡ at = cc (there_at, there) in subst (λ (c : Connection). IsTalking session s (with_connection number (sent_on c next) n)) same talks_sent

@@ -64,7 +64,7 @@ no_commands frames (x ∷ commands) are none = absurd (cc (are, ap (map command_
 
 -- ---- of a connection's end
 
-link_there : (at : Connection) → is_absent (link_over at) ≡ false
+pub link_there : (at : Connection) → is_absent (link_over at) ≡ false
 link_there at = by (at.cut || not (is_open at))
   where
     by : (b : Bool) → is_absent (if b then link.Lost else link.Up) ≡ false
