@@ -47,7 +47,7 @@ module _ (session : Option Session) (r : Reception) (n : Network) (own : IsRecep
   standings = slice_set r.table.standings k Joining
 
   abbrev s : Reception
-  s = restood r standings r.table.floor
+  s = restood r standings r.table.floor r.table.joined
 
   abbrev new : Connection
   new = opened (spelling next)
@@ -102,11 +102,11 @@ module _ (session : Option Session) (r : Reception) (n : Network) (own : IsRecep
   }
     where
       asked_now : IsAsked s.table k next
-      asked_now = asked_as r standings r.table.floor (λ floor is. is) k next asked
+      asked_now = asked_as r standings r.table.floor r.table.joined (λ floor is. is) k next asked
 
   others_at : (j : ℕ) → j ≢ k → (connection : Option ℕ) → connection_of n j ≡ connection → IsAt session r n j connection (talks.lines j) → IsAt session s m j connection (talks.lines j)
   others_at j other None is h = h
-  others_at j other (Some number) is h = (others_made j other ∙ h.0, (h.1.0, h.1.1, slice_get-pushed_front n.connections new number (had_there j number is) ∙ h.1.2, h.1.3, line_as r standings r.table.floor (λ floor is. is) session j h.1.0 h.1.1 h.1.4))
+  others_at j other (Some number) is h = (others_made j other ∙ h.0, (h.1.0, h.1.1, slice_get-pushed_front n.connections new number (had_there j number is) ∙ h.1.2, h.1.3, line_as r standings r.table.floor r.table.joined (λ floor is. is) session j h.1.0 h.1.1 h.1.4))
 
   at_now : (j : ℕ) → IsAt session s m j (connection_of m j) (put talks.lines k (Some after) j)
   at_now = put_all (λ j y. IsAt session s m j (connection_of m j) y) talks.lines k (Some after) (λ j other. subst (λ (c : Option ℕ). IsAt session s m j c (talks.lines j)) (sym (others_now j other)) (others_at j other (connection_of n j) refl (talks.at j))) (subst (λ (c : Option ℕ). IsAt session s m k c (Some after)) (sym own_now) (made_now, (new, after, slice_get-pushed_last n.connections new (length n.connections) refl, refl, line_new)))
@@ -172,7 +172,7 @@ module _ (session : Option Session) (r : Reception) (n : Network) (own : IsRecep
 
   pub talks_connected : IsTalking session s m
   talks_connected = record {
-    own = some_as (session_as r standings r.table.floor (λ floor is. is)) session talks.own;
+    own = some_as (session_as r standings r.table.floor r.table.joined (λ floor is. is)) session talks.own;
     lines = put talks.lines k (Some after);
     at = at_now;
     apart = apart_now;

@@ -14,3 +14,5 @@ pub mod Transports
 pub mod Sends
 pub mod Connecting
 pub mod TaskSends
+pub mod Reading
+pub mod Marking

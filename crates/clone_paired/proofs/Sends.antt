@@ -74,9 +74,9 @@ sent_bytes at next sent is = by at.cut is
     by true is = refl
     by false is = is
 
-module _ (session : Option Session) (r : Reception) (n : Network) (own : IsReception r) (tasks : length n.seats ≡ r.table.count) (running : is_running r.table ≡ true) (talks : IsTalking session r n) (k floor : ℕ) (which : TaskRule) (rule_is : sending_rule r.table k ≡ which) (next : Frame) (of : IsFrameOf ofTask next) (sent_is : IsSent which r.table k floor next) (command : command_of next ≡ None → ⊥) (standings : List Standing) (known_floor : Option ℕ) (keeps : (kept : ℕ) → r.table.floor ≡ Some kept → known_floor ≡ Some kept) (sets : after_sending which r.table k floor ≡ (restood r standings known_floor).table) (asked : IsAsked (restood r standings known_floor).table k next) where
+module _ (session : Option Session) (r : Reception) (n : Network) (own : IsReception r) (tasks : length n.seats ≡ r.table.count) (running : is_running r.table ≡ true) (talks : IsTalking session r n) (k floor : ℕ) (which : TaskRule) (rule_is : sending_rule r.table k ≡ which) (next : Frame) (of : IsFrameOf ofTask next) (sent_is : IsSent which r.table k floor next) (command : command_of next ≡ None → ⊥) (standings : List Standing) (known_floor : Option ℕ) (keeps : (kept : ℕ) → r.table.floor ≡ Some kept → known_floor ≡ Some kept) (sets : after_sending which r.table k floor ≡ (restood r standings known_floor r.table.joined).table) (asked : IsAsked (restood r standings known_floor r.table.joined).table k next) where
   abbrev s : Reception
-  s = restood r standings known_floor
+  s = restood r standings known_floor r.table.joined
 
   -- ---- over its connection
   module _ (number : ℕ) (has : connection_of n k ≡ Some number) where
@@ -102,7 +102,7 @@ module _ (session : Option Session) (r : Reception) (n : Network) (own : IsRecep
     m = with_connection number new n
 
     old_line : IsLineOf session s k x.at x.l
-    old_line = line_as r standings known_floor keeps session k x.at x.l x.of
+    old_line = line_as r standings known_floor r.table.joined keeps session k x.at x.l x.of
 
     line_new : IsLineOf session s k new after
     line_new = record {
@@ -138,7 +138,7 @@ module _ (session : Option Session) (r : Reception) (n : Network) (own : IsRecep
     come_sent = subst (λ (o : Option Line). IfSome o (λ (l : Line). IfSome session (λ (z : Session). HasComeTo z k l.doing))) x.line (talks.come k)
 
     pub talks_sent : IsTalking session s m
-    talks_sent = talks_on session session r s n talks k number x.at new after has there_at refl (λ j c y other line of. line_as r standings known_floor keeps session j c y of) (some_as (session_as r standings known_floor keeps) session talks.own) talks.few line_new talks.come come_sent talks.known (record { donor = talks.rounds.donor; recipient = talks.rounds.recipient; seen = λ counts agrees. seen_sent counts (talks.rounds.seen counts agrees) })
+    talks_sent = talks_on session session r s n talks k number x.at new after has there_at refl (λ j c y other line of. line_as r standings known_floor r.table.joined keeps session j c y of) (some_as (session_as r standings known_floor r.table.joined keeps) session talks.own) talks.few line_new talks.come come_sent talks.known (record { donor = talks.rounds.donor; recipient = talks.rounds.recipient; seen = λ counts agrees. seen_sent counts (talks.rounds.seen counts agrees) })
 
     pub talks_sent_at : (at : Connection) → slice_get n.connections number ≡ Some at → IsTalking session s (with_connection number (sent_on at next) n)
     talks_sent_at at there = let same : x.at ≡ at = cc (there_at, there) in subst (λ (c : Connection). IsTalking session s (with_connection number (sent_on c next) n)) same talks_sent

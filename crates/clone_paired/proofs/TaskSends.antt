@@ -1,8 +1,9 @@
 -- A step by which a task sends a command, and one by which it does nothing, keep the clone paired.
 use Rattle.std.proofs.Common.{ℕ, zero, suc, ◌≡◌, ◌≢◌, ◌∙◌, ◌⊎◌, ◌<◌, ◌≤◌, List, [], ◌∷◌, ◌++◌, Bool, true, false, if◌then◌else◌, Option, None, Some, length, set, refl, sym, ap, subst, inl, inr, arith, length-set}
-use Rattle.std.specs.Prelude.{slice_get, slice_set, not, ◌==◌}
+use Rattle.std.specs.Prelude.{slice_get, slice_set, nat_lt, not, ◌==◌, ◌&&◌, ◌||◌, IfSome}
 use Rattle.std.specs.Option.{unwrap_or}
-use Rattle.std.proofs.lemmas.Bool.{both_ways, cases_eq}
+use Rattle.std.proofs.lemmas.Bool.{both_ways, cases_eq, ne_eqb}
+use Rattle.std.proofs.lemmas.List.{length-map}
 use Rattle.clone_outside.specs.Disk.{DiskImage}
 use Rattle.clone_outside.specs.DiskCalls.{DiskState}
 use Rattle.clone_chunk.specs.declared.copy_stage.CopyStage.{CopyStage}
@@ -15,9 +16,9 @@ use Rattle.clone_wire.specs.declared.frame.Frame.TheVariants as frame
 use Rattle.clone_wire.specs.declared.frame.Side.TheVariants.{Command as ofTask}
 use Rattle.clone_stream.specs.Streams.{IsFrameOf}
 use Rattle.clone_tasks.specs.Losing.{after_loss, is_spent}
-use Rattle.clone_tasks.specs.Rules.{is_stale, rule_at, sending_rule}
+use Rattle.clone_tasks.specs.Rules.{is_stale, rule_at, rule_of, sending_rule, takes_part}
 use Rattle.clone_tasks.specs.Sending.{IsFirst, IsSent, Opens, Reattaches, after_sending, kept_floor, sent_floor}
-use Rattle.clone_tasks.specs.Tables.{Table, incarnation_of, is_running}
+use Rattle.clone_tasks.specs.Tables.{Table, incarnation_of, is_done, is_running}
 use Rattle.clone_tasks.specs.declared.end.CloneEnd.TheVariants as end
 use Rattle.clone_tasks.specs.declared.rule.Link.{Link}
 use Rattle.clone_tasks.specs.declared.rule.Link.TheVariants as link
@@ -34,18 +35,19 @@ use Rattle.clone_fetch.specs.declared.answer.TaskAnswer.TheVariants as told
 use Rattle.clone_network.specs.Connections.{Connection, link_over, opened, sent_behind, unread_then}
 use Rattle.clone_network.specs.Networks as network
 use Rattle.clone_network.specs.Networks.{Fetches, Network, Seat, StepsTask, with_connection}
+use Rattle.clone_network.proofs.CourseLemmas.{Terms, course}
 use Rattle.clone_rounds.specs.World.{World}
 use Rattle.clone_view.specs.Applying.{Applies}
 use Rattle.clone_view.specs.Frames.{command_of}
 use Rattle.clone_view.proofs.Applying.{applies}
-use Rattle.clone_paired.specs.Lines.{connection_of}
+use Rattle.clone_paired.specs.Lines.{connection_of, made_of}
 use Rattle.clone_paired.specs.Paired.{HasCopied, IsCopying, IsPaired, IsReception, IsTalking}
 use Rattle.clone_paired.specs.Seen.{IsSeen}
 use Rattle.clone_paired.specs.Speaking.{IsAsked}
 use Rattle.clone_paired.proofs.Connecting.{talks_connected}
 use Rattle.clone_paired.proofs.Linked.{Linked, Same, apart_is, none_at, same_connection, unlinked}
-use Rattle.clone_paired.proofs.Lookups.{connection_is}
-use Rattle.clone_paired.proofs.QuietTasks.{rule_apart, rule_over}
+use Rattle.clone_paired.proofs.Lookups.{connection_is, made_is}
+use Rattle.clone_paired.proofs.QuietTasks.{complete_apart, complete_over, no_way, rule_apart, rule_over}
 use Rattle.clone_paired.proofs.Sends.{sent_bytes, sent_on, talks_sent_at}
 use Rattle.clone_paired.proofs.Stuck.{link_there}
 use Rattle.clone_paired.proofs.Transports.{restood}
@@ -221,11 +223,11 @@ module _ (session : Option Session) (r s : Reception) (d e : DiskState) (n m : N
         subst (λ (z : Reception). IsTalking session z m) (sym h.sets) (subst (IsTalking session (with_sent which task floor r)) (sym net_is) t)
 
     by_rule : (which : TaskRule) → sending_rule r.table task ≡ which → Applies which first.rounds task → SendsBy which task floor old now → made ≡ made_by which (incarnation_of r.table) seat.made → IsTalking session s m
-    by_rule (rule.Execute stage) which applied h made_is = ends_so (rule.Execute stage) h made_is (talks_sent_at session r n own tasks running talks task floor (rule.Execute stage) which h.next h.of h.sent (λ none. cc (sym (ap command_of h.sent) ∙ none)) (slice_set r.table.standings task Fetching) r.table.floor (λ kept is. is) refl (subst (IsAsked (restood r (slice_set r.table.standings task Fetching) r.table.floor).table task) (sym h.sent) tt) number task_has at there)
+    by_rule (rule.Execute stage) which applied h made_is = ends_so (rule.Execute stage) h made_is (talks_sent_at session r n own tasks running talks task floor (rule.Execute stage) which h.next h.of h.sent (λ none. cc (sym (ap command_of h.sent) ∙ none)) (slice_set r.table.standings task Fetching) r.table.floor (λ kept is. is) refl (subst (IsAsked (restood r (slice_set r.table.standings task Fetching) r.table.floor r.table.joined).table task) (sym h.sent) tt) number task_has at there)
     by_rule (rule.Acknowledge stage) which applied h made_is = ends_so (rule.Acknowledge stage) h made_is (talks_sent_at session r n own tasks running talks task floor (rule.Acknowledge stage) which h.next h.of h.sent (λ none. cc (sym (ap command_of h.sent) ∙ none)) (slice_set r.table.standings task Acknowledging) (kept_floor stage r.table.floor floor) (ack_keeps floor r.table.floor stage) refl (subst (IsAsked acked.table task) (sym h.sent) (ack_asked acked.table task floor stage r.table.floor refl)) number task_has at there)
       where
         acked : Reception
-        acked = restood r (slice_set r.table.standings task Acknowledging) (kept_floor stage r.table.floor floor)
+        acked = restood r (slice_set r.table.standings task Acknowledging) (kept_floor stage r.table.floor floor) r.table.joined
     by_rule rule.Connect which applied h made_is = absurd (both_ways (first.rounds.seats task).connected applied.absent same.x.seat.connected)
     by_rule other which applied h made_is = absurd h
 
@@ -250,7 +252,7 @@ module _ (session : Option Session) (r s : Reception) (d e : DiskState) (n m : N
     sent_apart = subst (λ (w : TaskRule). SendsBy w task floor empty put) rule_apart_is (steps_send (rule_at seat.made r.table task link.Absent) link.Absent task floor empty put (told.Sent code) c.steps tt)
 
     by_apart : (which : TaskRule) → sending_rule r.table task ≡ which → Applies which first.rounds task → SendsBy which task floor empty put → IsTalking session s m
-    by_apart rule.Connect which applied h =
+    by_apart rule.Connect which there h =
         let opens : IsOpening h.next = opening_of (task == 0) r.table task h.next h.sent in
         let connected = talks_connected session r n own tasks running talks task floor seat has is which h.next h.of h.sent (opening_command h.next opens) (opening_asked r.table task h.next opens h.sent) in
         let made_is : made_by (rule_at seat.made r.table task link.Absent) (incarnation_of r.table) seat.made ≡ Some (incarnation_of r.table) = ap (λ (w : TaskRule). made_by w (incarnation_of r.table) seat.made) (rule_apart_is ∙ which) in
@@ -258,9 +260,90 @@ module _ (session : Option Session) (r s : Reception) (d e : DiskState) (n m : N
         let connections_are : connections ≡ n.connections ++ opened (spelling h.next) ∷ [] = c.connections ∙ ap (λ (b : List ℕ). n.connections ++ opened b ∷ []) h.bytes in
         let net_is : m ≡ record { connections = n.connections ++ opened (spelling h.next) ∷ []; seats = set n.seats task (record { made = Some (incarnation_of r.table); connection = Some (length n.connections) }) } = net ∙ ap (λ (x : Seat). network.with_seat task x (record n { connections = connections })) after_is ∙ ap (λ (cs : List Connection). record { connections = cs; seats = set n.seats task (record { made = Some (incarnation_of r.table); connection = Some (length n.connections) }) }) connections_are in
         subst (λ (z : Reception). IsTalking session z m) (sym h.sets) (subst (IsTalking session (with_sent rule.Connect task floor r)) (sym net_is) connected)
-    by_apart (rule.Execute stage) which applied h = absurd (both_ways (first.rounds.seats task).connected off applied.0.linked.connected)
-    by_apart (rule.Acknowledge stage) which applied h = absurd (both_ways (first.rounds.seats task).connected off (subst (λ (j : ℕ). (first.rounds.seats j).connected ≡ true) (sym applied.0) applied.1.linked.connected))
-    by_apart other which applied h = absurd h
+    by_apart (rule.Execute stage) which there h = absurd (both_ways (first.rounds.seats task).connected off there.0.linked.connected)
+    by_apart (rule.Acknowledge stage) which there h = absurd (both_ways (first.rounds.seats task).connected off (subst (λ (j : ℕ). (first.rounds.seats j).connected ≡ true) (sym there.0) there.1.linked.connected))
+    by_apart other which there h = absurd h
 
     apart_sends : IsTalking session s m
     apart_sends = by_apart (sending_rule r.table task) refl applied sent_apart
+
+-- ---- once all was copied nobody sends anything
+
+abbrev pub IsLast : TaskRule → Type 0
+IsLast rule.Nothing = Unit {0}
+IsLast rule.Stale = Unit {0}
+IsLast rule.Complete = Unit {0}
+IsLast other = ⊥
+
+module _ (r : Reception) (n : Network) (some : 1 ≤ r.table.count) (running : is_running r.table ≡ true) (c : HasCopied r n) (task : ℕ) (seat : Seat) (has : slice_get n.seats task ≡ Some seat) where
+  idle_last : (at : Link) (stale : Bool) → is_stale seat.made (incarnation_of r.table) at ≡ stale → takes_part r.table task ≡ false → IsLast (rule_at seat.made r.table task at)
+  idle_last at true is none = subst IsLast (sym (ap (λ (b : Bool). if b then rule.Stale else rule_of r.table task at) is)) tt
+  idle_last at false is none =
+      let idle : rule_of r.table task at ≡ rule.Nothing = rw none refl in
+      subst IsLast (sym (ap (λ (b : Bool). if b then rule.Stale else rule_of r.table task at) is ∙ idle)) tt
+
+  no_part : task ≢ 0 → takes_part r.table task ≡ false
+  no_part other = rw (c.done, ne_eqb task 0 other) (no_way (nat_lt task r.table.count && is_running r.table))
+
+  pub last_over : (number : ℕ) (at : Link) → seat.connection ≡ Some number → IsLast (rule_at seat.made r.table task at)
+  last_over number at is = by (cases_eq task 0)
+    where
+      own : (connection : Option ℕ) → connection ≡ Some number → IfSome connection (λ number. made_of n 0 ≡ Some (incarnation_of r.table)) → made_of n 0 ≡ Some (incarnation_of r.table)
+      own None is made = absurd (cc (is))
+      own (Some other) is made = made
+
+      by : (task ≡ 0) ⊎ (task ≢ 0) → IsLast (rule_at seat.made r.table task at)
+      by (inr other) = idle_last at (is_stale seat.made (incarnation_of r.table) at) refl (no_part other)
+      by (inl first) =
+          let here : slice_get n.seats 0 ≡ Some seat = ap (slice_get n.seats) (sym first) ∙ has in
+          let made_own : seat.made ≡ Some (incarnation_of r.table) = sym (made_is n 0 seat here) ∙ own (connection_of n 0) (connection_is n 0 seat here ∙ is) c.made in
+          subst IsLast (sym (ap (λ (t : ℕ). rule_at seat.made r.table t at) first ∙ complete_over r.table at seat.made some running c.done c.rests made_own)) tt
+
+  pub last_apart : IsLast (rule_at seat.made r.table task link.Absent)
+  last_apart = by (cases_eq task 0)
+    where
+      by : (task ≡ 0) ⊎ (task ≢ 0) → IsLast (rule_at seat.made r.table task link.Absent)
+      by (inr other) = idle_last link.Absent (is_stale seat.made (incarnation_of r.table) link.Absent) refl (no_part other)
+      by (inl first) = subst IsLast (sym (ap (λ (t : ℕ). rule_at seat.made r.table t link.Absent) first ∙ complete_apart r.table seat.made some running c.done c.rests)) tt
+
+last_silent : (which : TaskRule) (task floor : ℕ) (before later : Requester) → IsLast which → SendsBy which task floor before later → ⊥
+last_silent rule.Nothing task floor before later last sends = sends
+last_silent rule.Stale task floor before later last sends = sends
+last_silent rule.Complete task floor before later last sends = sends
+last_silent other task floor before later last sends = last
+
+sends_phase : (which : TaskRule) (task floor : ℕ) (before later : Requester) → SendsBy which task floor before later → later.reception.table.phase ≡ before.reception.table.phase
+sends_phase rule.Connect task floor before later h = ap (λ (x : Reception). x.table.phase) h.sets
+sends_phase (rule.Acknowledge stage) task floor before later h = ap (λ (x : Reception). x.table.phase) h.sets
+sends_phase (rule.Execute stage) task floor before later h = ap (λ (x : Reception). x.table.phase) h.sets
+sends_phase other task floor before later h = absurd h
+
+-- ---- as many tasks as before
+
+pub seats_long : (r s : Reception) (d e : DiskState) (n m : Network) (task floor : ℕ) (answer : TaskAnswer) → StepsTask task floor r s d e n m answer → length m.seats ≡ length n.seats
+seats_long r s d e n m task floor answer step = by step
+  where
+    after_long : (answer : TaskAnswer) (x : Network) → length (network.after_answer answer x).seats ≡ length x.seats
+    after_long (told.Lost losses) x = length-map x.seats network.vacated
+    after_long other x = refl
+
+    by : StepsTask task floor r s d e n m answer → length m.seats ≡ length n.seats
+    by (network.over seat number at after made has is there f net) = ap (λ (x : Network). length x.seats) net ∙ after_long answer (network.with_seat task (record { made = made; connection = Some number }) (with_connection number after n)) ∙ length-set n.seats task (record { made = made; connection = Some number })
+    by (network.apart seat after connections has is c net) = ap (λ (x : Network). length x.seats) net ∙ after_long answer (network.with_seat task after (record n { connections = connections })) ∙ length-set n.seats task after
+    by (network.absent none rests heard) = ap (λ (x : Network). length x.seats) rests.network
+    by (network.no_room rests heard) = ap (λ (x : Network). length x.seats) rests.network
+
+-- A STEP THAT SENDS
+pub sends_paired : (session : Option Session) (r s : Reception) (d e : DiskState) (n m : Network) (task floor code : ℕ) → IsReception r → IsPaired session r n → is_running r.table ≡ true → StepsTask task floor r s d e n m (told.Sent code) → IsPaired session s m
+sends_paired session r s d e n m task floor code own p running step = record { tasks = seats_long r s d e n m task floor (told.Sent code) step ∙ p.tasks ∙ sym (ap (λ (t : Terms). t.count) (course r s d e n m task floor (told.Sent code) step).terms); goes = by p.goes step }
+  where
+    phase_is : (seat_made : Option ℕ) (at : Link) (old new : Requester) → StepsBy (rule_at seat_made r.table task at) at task floor old new (told.Sent code) → new.reception.table.phase ≡ old.reception.table.phase
+    phase_is seat_made at old new steps = sends_phase (rule_at seat_made r.table task at) task floor old new (steps_send (rule_at seat_made r.table task at) at task floor old new (told.Sent code) steps tt)
+
+    by : IsCopying session r n ⊎ HasCopied r n → StepsTask task floor r s d e n m (told.Sent code) → IsCopying session s m ⊎ HasCopied s m
+    by (inl c) (network.over seat number at after made has is there f net) = inl (record { going = ap is_done (phase_is seat.made (link_over at) (requester r d at.to_task (sent_behind (not at.cut) at.to_donor)) (requester s e f.received f.sent) f.steps) ∙ c.going; talking = over_sends session r s d e n m task floor code own running p.tasks c.talking seat number at after made has is there f net })
+    by (inl c) (network.apart seat after connections has is f net) = inl (record { going = ap is_done (phase_is seat.made link.Absent (requester r d [] []) (requester s e f.received f.sent) f.steps) ∙ c.going; talking = apart_sends session r s d e n m task floor code own running p.tasks c.talking seat after connections has is f net })
+    by (inr c) (network.over seat number at after made has is there f net) = absurd (last_silent (rule_at seat.made r.table task (link_over at)) task floor (requester r d at.to_task (sent_behind (not at.cut) at.to_donor)) (requester s e f.received f.sent) (last_over r n own.table.some running c task seat has number (link_over at) is) (steps_send (rule_at seat.made r.table task (link_over at)) (link_over at) task floor (requester r d at.to_task (sent_behind (not at.cut) at.to_donor)) (requester s e f.received f.sent) (told.Sent code) f.steps tt))
+    by (inr c) (network.apart seat after connections has is f net) = absurd (last_silent (rule_at seat.made r.table task link.Absent) task floor (requester r d [] []) (requester s e f.received f.sent) (last_apart r n own.table.some running c task seat has) (steps_send (rule_at seat.made r.table task link.Absent) link.Absent task floor (requester r d [] []) (requester s e f.received f.sent) (told.Sent code) f.steps tt))
+    by copies (network.absent none rests heard) = absurd (cc (heard))
+    by copies (network.no_room rests heard) = absurd (cc (heard))

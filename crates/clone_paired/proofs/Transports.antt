@@ -72,14 +72,14 @@ module _ (t u : Table) (a b : Bool) (session : u.session ≡ t.session) (version
   pub past_as : (at : Connection) → IsPast t a at → IsPast u b at
   past_as at is = record { held = is.held; binds = binds_as at.doing is.binds; commands = is.commands; unread = is.unread; asked = all_as was_as is.commands is.asked }
 
--- ---- a task stands otherwise, and the floor may be known
+-- ---- a task stands otherwise, and the floor may be known, and that task 0 joined
 
-abbrev pub restood : Reception → List Standing → Option ℕ → Reception
-restood r standings floor = record r { table = record r.table { standings = standings; floor = floor } }
+abbrev pub restood : Reception → List Standing → Option ℕ → Bool → Reception
+restood r standings floor joined = record r { table = record r.table { standings = standings; floor = floor; joined = joined } }
 
-module _ (r : Reception) (standings : List Standing) (floor : Option ℕ) (keeps : (kept : ℕ) → r.table.floor ≡ Some kept → floor ≡ Some kept) where
+module _ (r : Reception) (standings : List Standing) (floor : Option ℕ) (joined : Bool) (keeps : (kept : ℕ) → r.table.floor ≡ Some kept → floor ≡ Some kept) where
   abbrev s : Reception
-  s = restood r standings floor
+  s = restood r standings floor joined
 
   reattaches_as : (first : Bool) (stage : CopyStage) (f : Frame) → Reattaches first stage r.table f → Reattaches first stage s.table f
   reattaches_as true stage f is = (is.0, is.1, record { chunks = is.2.chunks; each = is.2.each })
