@@ -16,3 +16,4 @@ pub mod Connecting
 pub mod TaskSends
 pub mod Reading
 pub mod Marking
+pub mod Advancing

@@ -135,14 +135,14 @@ ack_asked t task floor copy.PageCopy known is = is
 ack_asked t task floor copy.RedoCopy known is = tt
 
 -- the first command of a task is one that it would send, and is one of the rounds
-abbrev IsOpening : Frame → Type 0
+abbrev pub IsOpening : Frame → Type 0
 IsOpening (frame.Init attempt version size compressed tasks) = Unit {0}
 IsOpening (frame.Attach attempt task) = Unit {0}
 IsOpening (frame.Reinit attempt stage finished) = Unit {0}
 IsOpening (frame.Reinit2 attempt stage taken) = Unit {0}
 IsOpening other = ⊥
 
-opening_of : (first : Bool) (t : Table) (task : ℕ) (next : Frame) → IsFirst first t task next → IsOpening next
+pub opening_of : (first : Bool) (t : Table) (task : ℕ) (next : Frame) → IsFirst first t task next → IsOpening next
 opening_of true t task next is = at t.phase is
   where
     reattaches : (first : Bool) (stage : CopyStage) → Reattaches first stage t next → IsOpening next
@@ -162,7 +162,7 @@ opening_asked t task (frame.Reinit attempt stage finished) opens is = is
 opening_asked t task (frame.Reinit2 attempt stage taken) opens is = is
 opening_asked t task other opens is = absurd opens
 
-opening_command : (next : Frame) → IsOpening next → command_of next ≡ None → ⊥
+pub opening_command : (next : Frame) → IsOpening next → command_of next ≡ None → ⊥
 opening_command (frame.Init attempt version size compressed tasks) opens is = cc (is)
 opening_command (frame.Attach attempt other) opens is = cc (is)
 opening_command (frame.Reinit attempt stage finished) opens is = cc (is)
