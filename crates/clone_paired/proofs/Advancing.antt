@@ -166,7 +166,7 @@ module _ (session : Option Session) (r : Reception) (n : Network) (own : IsRecep
     waits : (first.rounds.seats k).awaits ≡ awaited_of (standing_of r.table k)
     waits = (first.view.table.seats k).awaits
 
-    zero_is : k ≡ 0
+    pub zero_is : k ≡ 0
     zero_is = by how
       where
         by : ((k ≡ 0) × (awaited_of (standing_of r.table k) ≡ ForFirst) × (phase_number r.table.phase ≡ 0)) ⊎ ((k ≡ 0) × (awaited_of (standing_of r.table k) ≡ ForStage)) → k ≡ 0
@@ -250,7 +250,7 @@ module _ (session : Option Session) (r : Reception) (n : Network) (own : IsRecep
         by (inl same) = none same y.commands (first.rounds.seats j).commands refl (seat_is j y is).commands
         by (inr other) = others other y.commands
 
-    stage_is : stage_at session ≡ reached
+    pub stage_is : stage_at session ≡ stage_number (plans.stage_of plan)
     stage_is = sym (at_stage (incarnation_of r.table) session first.rounds first.view.donor) ∙ comes.at_is
 
     -- THE RECIPIENT HAS MOVED to the stage, of whose chunks it knows how many blocks they have.

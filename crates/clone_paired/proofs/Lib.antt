@@ -17,3 +17,5 @@ pub mod TaskSends
 pub mod Reading
 pub mod Marking
 pub mod Advancing
+pub mod PageCounts
+pub mod TaskTakes
