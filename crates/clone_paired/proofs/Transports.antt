@@ -27,7 +27,7 @@ use Rattle.clone_network.specs.Networks.{Network}
 use Rattle.clone_view.specs.Tables.{phase_number}
 use Rattle.clone_view.specs.Views.{Line}
 use Rattle.clone_paired.specs.Earlier.{BindsEarlier, IsEarlier, IsPast, WasAsked}
-use Rattle.clone_paired.specs.Lines.{Binds, IsLineOf, caller_of}
+use Rattle.clone_paired.specs.Lines.{Binds, IsLineOf, caller_of, doing_at}
 use Rattle.clone_paired.specs.Seen.{ArePast}
 use Rattle.clone_paired.specs.Sessions.{Copies, IsSessionOf}
 use Rattle.clone_paired.specs.Speaking.{IsAsked, IsGiven}
@@ -70,7 +70,7 @@ module _ (t u : Table) (a b : Bool) (session : u.session ≡ t.session) (version
   binds_as other is = absurd is
 
   pub past_as : (at : Connection) → IsPast t a at → IsPast u b at
-  past_as at is = record { held = is.held; binds = binds_as at.doing is.binds; commands = is.commands; unread = is.unread; asked = all_as was_as is.commands is.asked }
+  past_as at is = record { held = is.held; binds = binds_as (doing_at at) is.binds; commands = is.commands; live = is.live; asked = all_as was_as is.commands is.asked }
 
 -- ---- a task stands otherwise, and the floor may be known, and that task 0 joined
 

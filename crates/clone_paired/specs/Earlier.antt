@@ -10,8 +10,9 @@ use Rattle.clone_session.specs.declared.caller.Caller.{Caller}
 use Rattle.clone_serve.specs.declared.doing.Doing.{Doing}
 use Rattle.clone_serve.specs.declared.doing.Doing.TheVariants as doing
 use Rattle.clone_tasks.specs.Tables.{Table, incarnation_of}
-use Rattle.clone_network.specs.Connections.{Connection}
+use Rattle.clone_network.specs.Connections.{Connection, is_open}
 use Rattle.clone_view.specs.Tables.{phase_number}
+use Rattle.clone_paired.specs.Lines.{doing_at}
 use Rattle.clone_paired.specs.Unread.{Holds}
 
 abbrev pub IsEarlier : Table → Attempt → Type 0
@@ -41,10 +42,10 @@ BindsEarlier t doing.New = ⊤
 BindsEarlier t doing.Over = ⊤
 BindsEarlier t other = ⊥
 
--- A CONNECTION of an earlier incarnation
+-- A CONNECTION of an earlier incarnation. Where the loop of its end goes on, such commands lie unread.
 pub record IsPast (t : Table) (acknowledged : Bool) (at : Connection) : Type 0 where
   pub held : at.held ≡ false
-  pub binds : BindsEarlier t at.doing
+  pub binds : BindsEarlier t (doing_at at)
   pub commands : List Frame
-  pub unread : Holds Command at.cut commands at.to_donor
+  pub live : is_open at ≡ true → Holds Command at.cut commands at.to_donor
   pub asked : AllByRecursion (WasAsked t acknowledged) commands
