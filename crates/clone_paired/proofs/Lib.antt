@@ -19,3 +19,6 @@ pub mod Marking
 pub mod Advancing
 pub mod PageCounts
 pub mod TaskTakes
+pub mod GivingUp
+pub mod Losing
+pub mod TaskLoses

@@ -67,15 +67,15 @@ RestsBy rule.Stale at received = Unit {0}
 RestsBy rule.Receive at received = (fetch.is_lost at ≡ false) × BeginsNone Answer received
 RestsBy other at received = ⊥
 
-heard : {X : Type 0} (answer other : TaskAnswer) → IsQuiet answer → answer ≡ other → (IsQuiet other → ⊥) → X
+pub heard : {X : Type 0} (answer other : TaskAnswer) → IsQuiet answer → answer ≡ other → (IsQuiet other → ⊥) → X
 heard answer other quiet is never = absurd (never (subst IsQuiet is quiet))
 
-puts_loud : {X : Type 0} (which : Rule) (task floor : ℕ) (old new : Reception) (sent put : List ℕ) (answer : TaskAnswer) → PutsOut which task floor old new sent put answer → IsQuiet answer → X
+pub puts_loud : {X : Type 0} (which : Rule) (task floor : ℕ) (old new : Reception) (sent put : List ℕ) (answer : TaskAnswer) → PutsOut which task floor old new sent put answer → IsQuiet answer → X
 puts_loud which task floor old new sent put answer (fetch.puts next of is sets bytes says) quiet = heard answer _ quiet says (λ q. q)
 puts_loud which task floor old new sent put answer (fetch.no_frame sets bytes says) quiet = heard answer _ quiet says (λ q. q)
 puts_loud which task floor old new sent put answer (fetch.no_bytes sets bytes says) quiet = heard answer _ quiet says (λ q. q)
 
-breaks_loud : {X : Type 0} (bytes : List ℕ) (old new : Reception) (answer : TaskAnswer) → Breaks bytes old new answer → IsQuiet answer → X
+pub breaks_loud : {X : Type 0} (bytes : List ℕ) (old new : Reception) (answer : TaskAnswer) → Breaks bytes old new answer → IsQuiet answer → X
 breaks_loud bytes old new answer (fetch.breaks kept is sets says) quiet = heard answer _ quiet says (λ q. q)
 breaks_loud bytes old new answer (fetch.not_kept sets says) quiet = heard answer _ quiet says (λ q. q)
 
@@ -83,13 +83,13 @@ said_loud : (cause : Option CloneCause) (got : Frame) → IsQuiet (says_of cause
 said_loud None got quiet = quiet
 said_loud (Some cause) got quiet = quiet
 
-takes_loud : {X : Type 0} (task : ℕ) (got : Frame) (old new : Reception) (before after : DiskState) (answer : TaskAnswer) → TakesFrame task got old new before after answer → IsQuiet answer → X
+pub takes_loud : {X : Type 0} (task : ℕ) (got : Frame) (old new : Reception) (before after : DiskState) (answer : TaskAnswer) → TakesFrame task got old new before after answer → IsQuiet answer → X
 takes_loud task got old new before after answer (fetch.accepts is takes says) quiet = heard answer _ quiet says (said_loud (refusal_in got) got)
 takes_loud task got old new before after answer (fetch.rejects is broken same) quiet = breaks_loud (spelling got) old new answer broken quiet
 takes_loud task got old new before after answer (fetch.not_laid is keeps sets says) quiet = heard answer _ quiet says (λ q. q)
 takes_loud task got old new before after answer (fetch.no_room is keeps sets says) quiet = heard answer _ quiet says (λ q. q)
 
-loss_loud : (t : Table) (spent : Bool) → IsQuiet (if spent then told.Ended (end.Spent t.losses) else told.Lost t.losses) → ⊥
+pub loss_loud : (t : Table) (spent : Bool) → IsQuiet (if spent then told.Ended (end.Spent t.losses) else told.Lost t.losses) → ⊥
 loss_loud t true quiet = quiet
 loss_loud t false quiet = quiet
 
@@ -100,7 +100,7 @@ receives_rests task at old new before after received left answer (fetch.loses lo
 receives_rests task at old new before after received left answer (fetch.waits up part sets same keeps says) quiet = (up, part.0)
 receives_rests task at old new before after received left answer (fetch.not_read sets same keeps says) quiet = heard answer _ quiet says (λ q. q)
 
-completes_loud : {X : Type 0} (old new : Reception) (told_old now : Option DiskImage) (sent put : List ℕ) (answer : TaskAnswer) → Completes old new told_old now sent put answer → IsQuiet answer → X
+pub completes_loud : {X : Type 0} (old new : Reception) (told_old now : Option DiskImage) (sent put : List ℕ) (answer : TaskAnswer) → Completes old new told_old now sent put answer → IsQuiet answer → X
 completes_loud old new told_old now sent put answer (fetch.completes last is steps sets bytes says) quiet = heard answer _ quiet says (λ q. q)
 completes_loud old new told_old now sent put answer (fetch.not_completed last is steps sets bytes says) quiet = heard answer _ quiet says (λ q. q)
 completes_loud old new told_old now sent put answer (fetch.not_marked last is steps sets bytes says) quiet = heard answer _ quiet says (λ q. q)

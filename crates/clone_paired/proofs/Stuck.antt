@@ -71,7 +71,7 @@ link_there at = by (at.cut || not (is_open at))
     by true = refl
     by false = refl
 
-link_lost : (at : Connection) → fetch.is_lost (link_over at) ≡ is_lost at
+pub link_lost : (at : Connection) → fetch.is_lost (link_over at) ≡ is_lost at
 link_lost at = by (at.cut || not (is_open at))
   where
     by : (b : Bool) → fetch.is_lost (if b then link.Lost else link.Up) ≡ b

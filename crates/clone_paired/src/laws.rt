@@ -1,14 +1,14 @@
-ghost use Rattle.std.specs.Prelude.{◌≡◌, ◌≤◌, None, true, ℕ};
+ghost use Rattle.std.specs.Prelude.{◌≡◌, ◌≢◌, ◌≤◌, None, true, ℕ};
 ghost use Rattle.std.specs.declared.option.Option.{Option};
 ghost use Rattle.clone_outside.specs.DiskCalls.{DiskState};
 ghost use Rattle.clone_session.specs.Cloning.{Session};
 ghost use Rattle.clone_tasks.specs.Tables.{is_running};
 ghost use Rattle.clone_tasks.specs.declared.end.CloneEnd.{CloneEnd};
-ghost use Rattle.clone_recipient.specs.declared.took.Took.{Took as TookFrame};
 ghost use Rattle.clone_recipient.specs.Receptions.{Reception, begun};
 ghost use Rattle.clone_network.specs.Connections.{cut_at};
 ghost use Rattle.clone_network.specs.Networks.{Network, StepsTask, on_connected, unconnected};
-ghost use Rattle.clone_fetch.specs.declared.answer.TaskAnswer.TheVariants.{Ended, Sent, Took};
+ghost use Rattle.clone_fetch.specs.declared.answer.TaskAnswer.{TaskAnswer};
+ghost use Rattle.clone_fetch.specs.declared.answer.TaskAnswer.TheVariants.{Ended, NoMemory};
 ghost use Rattle.clone_paired.specs.Fair.{EndsFairly};
 ghost use Rattle.clone_paired.specs.Paired.{IsPaired, IsReception};
 ghost use Rattle.clone_paired.specs.Quiet.{GoesOn, IsQuiet};
@@ -16,20 +16,19 @@ ghost use Rattle.clone_paired.specs.Quiet.{GoesOn, IsQuiet};
 use clone_calls::Answers;
 
 /// A clone that has just begun is paired with a donor that has no session of it. It stays so while a
-/// connection is cut, and while a task connects, sends a command or takes an answer.
+/// connection is cut, and over each step of a task that doesn't end the clone, as long as there is
+/// memory.
 pub fn paired_laws()
     ensures begins { (number count limit version : ℕ) → 1 ≤ count
         → IsPaired None (begun number count limit version) (unconnected count) }
     ensures cuts { (session : Option Session) (r : Reception) (n : Network)
         (connection to_donor to_task : ℕ) → IsPaired session r n
         → IsPaired session r (on_connected connection (cut_at to_donor to_task) n) }
-    ensures sends { (session : Option Session) (r s : Reception) (d e : DiskState) (n m : Network)
-        (task floor code : ℕ) → IsReception r → IsPaired session r n → is_running r.table ≡ true
-        → StepsTask task floor r s d e n m (Sent code) → IsPaired session s m }
-    ensures takes { (session : Option Session) (r s : Reception) (d e : DiskState) (n m : Network)
-        (task floor : ℕ) (took : TookFrame) → IsReception r → IsReception s → IsPaired session r n
-        → is_running r.table ≡ true → StepsTask task floor r s d e n m (Took took)
-        → IsPaired session s m }
+    ensures task { (session : Option Session) (r s : Reception) (d e : DiskState) (n m : Network)
+        (task floor : ℕ) (answer : TaskAnswer) → IsReception r → IsReception s
+        → IsPaired session r n → is_running r.table ≡ true
+        → StepsTask task floor r s d e n m answer → answer ≢ NoMemory
+        → is_running s.table ≡ true → IsPaired session s m }
 {}
 
 /// A step of a task ends the clone neither since the donor sent what is garbled, nor since it
