@@ -133,7 +133,7 @@ module _ (session : Option Session) (r : Reception) (n : Network) (tasks : lengt
     cut_talks = talks_on session session r r n talks k number x.at new after has there_at refl (λ j c y other line of. of) talks.own talks.few line_cut talks.come come_cut talks.known (record { donor = talks.rounds.donor; recipient = talks.rounds.recipient; seen = λ counts agrees. seen_cut counts (talks.rounds.seen counts agrees) })
 
   -- some task has the connection, or none has
-  has_or : (number k : ℕ) → (connection_of n k ≡ Some number) ⊎ (connection_of n k ≢ Some number)
+  pub has_or : (number k : ℕ) → (connection_of n k ≡ Some number) ⊎ (connection_of n k ≢ Some number)
   has_or number k = by (connection_of n k) refl
     where
       by : (c : Option ℕ) → connection_of n k ≡ c → (connection_of n k ≡ Some number) ⊎ (connection_of n k ≢ Some number)

@@ -22,3 +22,5 @@ pub mod TaskTakes
 pub mod GivingUp
 pub mod Losing
 pub mod TaskLoses
+pub mod EndRests
+pub mod DonorRests

@@ -44,13 +44,13 @@ MayDo None = Unit {0}
 MayDo (Some next) = Does next
 
 -- a command's call is awaited so
-abbrev IsOfCommand : Doing → Type 0
+abbrev pub IsOfCommand : Doing → Type 0
 IsOfCommand (Telling caller) = Unit {0}
 IsOfCommand (Starting run) = Unit {0}
 IsOfCommand Leaving = Unit {0}
 IsOfCommand other = ⊥
 
-abbrev MayAwait : Option CommandCall → Type 0
+abbrev pub MayAwait : Option CommandCall → Type 0
 MayAwait None = Unit {0}
 MayAwait (Some c) = IsOfCommand c.doing
 
@@ -67,7 +67,7 @@ later_of caller (frame.Ack stage floor) = tt
 later_of caller frame.Exit = tt
 later_of caller found = tt
 
-command_does : (bound : Option Caller) (found : Frame) → MayAwait (command_of bound found)
+pub command_does : (bound : Option Caller) (found : Frame) → MayAwait (command_of bound found)
 command_does None found = first_of found
 command_does (Some caller) found = later_of caller found
 
@@ -94,11 +94,11 @@ after_does Leaving given of = left_does (exit_in given)
 after_does d given of = absurd of
 
 -- the step ends as the turn says
-done_ends : (exchanges : List Exchange) (d : Doing) (old new : List ℕ) (t : Doing) (answer last : ServeAnswer) → Goes exchanges d (Done answer) old new t last → last ≡ answer
+pub done_ends : (exchanges : List Exchange) (d : Doing) (old new : List ℕ) (t : Doing) (answer last : ServeAnswer) → Goes exchanges d (Done answer) old new t last → last ≡ answer
 done_ends [] d old new t answer last g = cc (g.0)
 done_ends (exchange ∷ more) d old new t answer last g = absurd (cc (g.0))
 
-ask_does : (exchanges : List Exchange) (d : Doing) (asked : DonorCall) (old new : List ℕ) (t : Doing) (last : ServeAnswer) → IsOfCommand d → Goes exchanges d (Ask asked) old new t last → last ≢ says.Idle
+pub ask_does : (exchanges : List Exchange) (d : Doing) (asked : DonorCall) (old new : List ℕ) (t : Doing) (last : ServeAnswer) → IsOfCommand d → Goes exchanges d (Ask asked) old new t last → last ≢ says.Idle
 ask_does [] d asked old new t last of g = absurd (cc (g.0))
 ask_does (exchange ∷ more) d asked old new t last of (ask, (mid, sent, turn, goes, rest)) = by goes
   where
@@ -124,7 +124,7 @@ takes_idle bound received left old new d begun t (Done (says.Garbled kept)) exch
 takes_idle bound received left old new d begun t (Done says.NoMemory) exchanges takes goes = absurd (cc (done_ends exchanges begun old new t says.NoMemory says.Idle goes))
 takes_idle bound received left old new d begun t (Done other) exchanges takes goes = absurd takes
 
-begins_idle : (d : Doing) (received left old new : List ℕ) (t : Doing) (exchanges : List Exchange) → IsAwaiting d → IsStep exchanges d received left old new t says.Idle → BeginsNone Command received
+pub begins_idle : (d : Doing) (received left old new : List ℕ) (t : Doing) (exchanges : List Exchange) → IsAwaiting d → IsStep exchanges d received left old new t says.Idle → BeginsNone Command received
 begins_idle New received left old new t exchanges awaits s = takes_idle None received left old new New s.begun t s.turn exchanges s.begins s.goes
 begins_idle (Ready caller) received left old new t exchanges awaits s = takes_idle (Some caller) received left old new (Ready caller) s.begun t s.turn exchanges s.begins s.goes
 begins_idle d received left old new t exchanges awaits s = absurd awaits

@@ -58,7 +58,7 @@ no_answers : (counts : ℕ → List ℕ) (frames : List Frame) (answers : List A
 no_answers counts frames [] are none = refl
 no_answers counts frames (x ∷ answers) are none = absurd (cc (are, ap (map (answer_of counts)) none))
 
-no_commands : (frames : List Frame) (commands : List Command) → AreCommands frames commands → frames ≡ [] → commands ≡ []
+pub no_commands : (frames : List Frame) (commands : List Command) → AreCommands frames commands → frames ≡ [] → commands ≡ []
 no_commands frames [] are none = refl
 no_commands frames (x ∷ commands) are none = absurd (cc (are, ap (map command_of) none))
 
@@ -79,14 +79,14 @@ link_lost at = by (at.cut || not (is_open at))
     by false = refl
 
 -- what is told of a connection whose end finds nothing to do
-end_of : {A : Type 0} (gives : A → DonorCall → DonorAnswer → A → Type 0) (a : A) (n : Network) (number : ℕ) (at : Connection) → slice_get n.connections number ≡ Some at → EndRests gives a number n → (after : Connection) × StepsBy (is_open at) gives a a at after (step.Served says.Idle)
+pub end_of : {A : Type 0} (gives : A → DonorCall → DonorAnswer → A → Type 0) (a : A) (n : Network) (number : ℕ) (at : Connection) → slice_get n.connections number ≡ Some at → EndRests gives a number n → (after : Connection) × StepsBy (is_open at) gives a a at after (step.Served says.Idle)
 end_of gives a n number at there rests =
     let s = subst (λ (o : Option Connection). MatchOption o ((a ≡ a) × (n ≡ n) × (step.Served says.Idle ≡ step.Served says.Idle)) (λ (x : Connection). (after : Connection) × StepsBy (is_open x) gives a a x after (step.Served says.Idle) × (n ≡ network.with_connection number after n))) there rests in
     (s.0, s.1)
 
 -- ---- what an end does, by the core that the rounds have of it
 
-serving_core : (list : StageList) (d : Doing) (core : Core) → core_of list d ≡ Some core → IsServing core → is_serving d ≡ true
+pub serving_core : (list : StageList) (d : Doing) (core : Core) → core_of list d ≡ Some core → IsServing core → is_serving d ≡ true
 serving_core list doing.New core is serves = let same : rounds.New ≡ core = cc (is) in absurd (subst IsServing (sym same) serves)
 serving_core list (doing.Ready caller) core is serves = let same : rounds.Ready ≡ core = cc (is) in absurd (subst IsServing (sym same) serves)
 serving_core list (doing.Telling caller) core is serves = absurd (cc (is))
@@ -95,7 +95,7 @@ serving_core list doing.Leaving core is serves = absurd (cc (is))
 serving_core list (doing.Serving run at) core is serves = refl
 serving_core list doing.Over core is serves = let same : rounds.Over ≡ core = cc (is) in absurd (subst IsServing (sym same) serves)
 
-awaiting_core : (list : StageList) (d : Doing) (core : Core) → core_of list d ≡ Some core → IsLive core → is_serving d ≡ false → IsAwaiting d
+pub awaiting_core : (list : StageList) (d : Doing) (core : Core) → core_of list d ≡ Some core → IsLive core → is_serving d ≡ false → IsAwaiting d
 awaiting_core list doing.New core is live idle = tt
 awaiting_core list (doing.Ready caller) core is live idle = tt
 awaiting_core list (doing.Telling caller) core is live idle = absurd (cc (is))
@@ -104,7 +104,7 @@ awaiting_core list doing.Leaving core is live idle = absurd (cc (is))
 awaiting_core list (doing.Serving run at) core is live idle = absurd (cc (idle))
 awaiting_core list doing.Over core is live idle = let same : rounds.Over ≡ core = cc (is) in absurd (subst IsLive (sym same) live)
 
-live_open : (list : StageList) (at : Connection) (core : Core) → core_of list (doing_at at) ≡ Some core → IsLive core → is_open at ≡ true
+pub live_open : (list : StageList) (at : Connection) (core : Core) → core_of list (doing_at at) ≡ Some core → IsLive core → is_open at ≡ true
 live_open list at core is live = by (is_open at) refl
   where
     by : (b : Bool) → is_open at ≡ b → is_open at ≡ true

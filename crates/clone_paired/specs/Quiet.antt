@@ -1,6 +1,6 @@
 -- WHERE NOTHING IS DONE: each task finds nothing to do, and so does the donor's end of each
 -- connection.
-use Rattle.std.specs.Prelude.{ℕ, ◌≡◌, ◌<◌, ◌⊎◌, true, slice_get, Some}
+use Rattle.std.specs.Prelude.{ℕ, ◌≡◌, ◌<◌, ◌⊎◌, true, false, slice_get, Some, ⊤}
 use Rattle.clone_outside.specs.DiskCalls.{DiskState}
 use Rattle.clone_calls.specs.declared.answer.DonorAnswer.{DonorAnswer}
 use Rattle.clone_calls.specs.declared.call.DonorCall.{DonorCall}
@@ -9,7 +9,8 @@ use Rattle.clone_recipient.specs.Receptions.{Reception}
 use Rattle.clone_fetch.specs.declared.answer.TaskAnswer.TheVariants.{Idle, Stale}
 use Rattle.clone_network.specs.Connections.{Connection, is_serving}
 use Rattle.clone_network.specs.Networks.{Network, StepsDonor, StepsTask}
-use Rattle.clone_network.specs.declared.donor_step.DonorStep.TheVariants.{Served}
+use Rattle.clone_network.specs.declared.donor_step.DonorStep.{DonorStep}
+use Rattle.clone_network.specs.declared.donor_step.DonorStep.TheVariants.{Lost, Served}
 
 -- a task's step, made here, finds nothing to do
 abbrev pub TaskRests : ℕ → Reception → DiskState → Network → Type 0
@@ -32,3 +33,14 @@ abbrev pub GoesOn : {A : Type 0} → (A → DonorCall → DonorAnswer → A → 
     → Type 0
 GoesOn gives a n = (number : ℕ) (at : Connection) → slice_get n.connections number ≡ Some at
     → is_serving at.doing ≡ true → EndRests gives a number n → ⊥
+
+-- it doesn't serve one
+abbrev pub ServesNone : Network → ℕ → Type 0
+ServesNone n number = (at : Connection) → slice_get n.connections number ≡ Some at
+    → is_serving at.doing ≡ false
+
+-- an end found nothing to do, or that its connection is lost
+abbrev pub FindsNothing : DonorStep → Type 0
+FindsNothing (Served says.Idle) = ⊤
+FindsNothing Lost = ⊤
+FindsNothing other = ⊥

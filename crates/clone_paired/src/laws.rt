@@ -6,12 +6,13 @@ ghost use Rattle.clone_tasks.specs.Tables.{is_running};
 ghost use Rattle.clone_tasks.specs.declared.end.CloneEnd.{CloneEnd};
 ghost use Rattle.clone_recipient.specs.Receptions.{Reception, begun};
 ghost use Rattle.clone_network.specs.Connections.{cut_at};
-ghost use Rattle.clone_network.specs.Networks.{Network, StepsTask, on_connected, unconnected};
+ghost use Rattle.clone_network.specs.Networks.{Network, StepsDonor, StepsTask, on_connected, unconnected};
+ghost use Rattle.clone_network.specs.declared.donor_step.DonorStep.{DonorStep};
 ghost use Rattle.clone_fetch.specs.declared.answer.TaskAnswer.{TaskAnswer};
 ghost use Rattle.clone_fetch.specs.declared.answer.TaskAnswer.TheVariants.{Ended, NoMemory};
 ghost use Rattle.clone_paired.specs.Fair.{EndsFairly};
 ghost use Rattle.clone_paired.specs.Paired.{IsPaired, IsReception};
-ghost use Rattle.clone_paired.specs.Quiet.{GoesOn, IsQuiet};
+ghost use Rattle.clone_paired.specs.Quiet.{FindsNothing, GoesOn, IsQuiet, ServesNone};
 
 use clone_calls::Answers;
 
@@ -39,6 +40,14 @@ pub fn ends_fairly()
         → StepsTask task floor r s d e n m (Ended how) → EndsFairly how }
 {}
 
+
+/// An end of the donor's that serves no EXECUTE, and finds nothing to do or that its connection is
+/// lost, leaves the donor as it is and the clone paired.
+pub fn rests_laws<A: Answers>()
+    ensures { (a b : A) (session : Option Session) (r : Reception) (n m : Network) (number : ℕ)
+        (answer : DonorStep) → IsPaired session r n → ServesNone n number → FindsNothing answer
+        → StepsDonor A.gives a b number n m answer → (b ≡ a) × IsPaired session r m }
+{}
 
 /// A clone that goes on is never stuck: some task finds something to do, or the donor's end of some
 /// connection does, as long as no end rests that serves an EXECUTE.
