@@ -1,63 +1,54 @@
 -- A task takes a STAGE that moves the recipient to another stage in which something is copied.
-use Rattle.std.proofs.Common.{ℕ, zero, suc, ◌≡◌, ◌≢◌, ◌∙◌, ◌⊎◌, ◌+◌, ◌<◌, ◌≤◌, List, [], ◌∷◌, Bool, true, false, Option, None, Some, length, map, refl, sym, ap, subst, inl, inr, arith}
-use Rattle.std.specs.Prelude.{slice_get, slice_index, ◌==◌, ◌&&◌, IfSome}
+use Rattle.std.proofs.Common.{ℕ, suc, ◌≡◌, ◌≢◌, ◌∙◌, ◌⊎◌, ◌+◌, ◌≤◌, List, [], ◌∷◌, Bool, true, Option, None, Some, length, refl, sym, ap, subst, inl, inr, arith}
+use Rattle.std.specs.Prelude.{slice_get, ◌==◌, IfSome}
 use Rattle.std.specs.List.{AllByRecursion, All}
-use Rattle.std.proofs.lemmas.Bool.{and_parts, both_ways, cases_eq, eqb-true, ne_eqb}
-use Rattle.clone_lay.specs.Sized.{PageCounts}
+use Rattle.std.proofs.lemmas.Bool.{and_parts, cases_eq, eqb-true, ne_eqb}
 use Rattle.clone_chunk.specs.Plans as plans
-use Rattle.clone_chunk.specs.Stages.{copy_number, stage_number}
-use Rattle.clone_chunk.specs.declared.copy_stage.CopyStage.{CopyStage}
+use Rattle.clone_chunk.specs.Stages.{stage_number}
 use Rattle.clone_chunk.specs.declared.copy_stage.CopyStage.TheVariants as copy
 use Rattle.clone_chunk.specs.declared.plan.StagePlan.{StagePlan}
-use Rattle.clone_chunk.specs.declared.plan.StagePlan.TheVariants as plan
 use Rattle.clone_chunk.specs.declared.stage.Stage.{Stage}
 use Rattle.clone_chunk.specs.declared.stage.Stage.TheVariants as stage
 use Rattle.clone_marks.proofs.RunLemmas.{begun_blocks, none_taken}
-use Rattle.clone_marks.specs.Blocks.{IsChunk, blocks_of, partials_of}
-use Rattle.clone_marks.specs.Counts.{block_counts, counted_pages, pairs_of, unmarked}
+use Rattle.clone_marks.specs.Blocks.{IsChunk, blocks_of}
+use Rattle.clone_marks.specs.Counts.{block_counts, unmarked}
 use Rattle.clone_marks.specs.declared.chunk_marks.ChunkMarks.{ChunkMarks}
-use Rattle.clone_snapshot.specs.StageLists.{Files, Pages, Redo, StageList}
 use Rattle.clone_session.specs.Cloning.{Session}
-use Rattle.clone_session.specs.CloneCauses.{donor_stage}
 use Rattle.clone_session.specs.declared.caller.Caller.{Caller}
-use Rattle.clone_serve.specs.declared.doing.Doing.{Doing}
 use Rattle.clone_wire.specs.declared.frame.Attempt.{Attempt}
 use Rattle.clone_wire.specs.declared.frame.Frame.{Frame}
 use Rattle.clone_wire.specs.declared.frame.Frame.TheVariants as frame
 use Rattle.clone_wire.specs.declared.frame.Side.TheVariants.{Answer as ofDonor}
 use Rattle.clone_tasks.specs.Awaiting.{awaits_stage, is_opening, moves, moves_from}
-use Rattle.clone_tasks.specs.Losing.{kept_in}
 use Rattle.clone_tasks.specs.Moves.{begins}
 use Rattle.clone_tasks.specs.Rules.{sending_rule}
 use Rattle.clone_tasks.specs.Sending.{IsFirst}
-use Rattle.clone_tasks.specs.Tables.{AreStandings, MayStand, Table, attempt_of, incarnation_of, is_done, is_running, standing_of}
+use Rattle.clone_tasks.specs.Tables.{MayStand, Table, attempt_of, incarnation_of, is_running, standing_of}
 use Rattle.clone_tasks.specs.declared.rule.Rule.TheVariants.{Receive}
 use Rattle.clone_tasks.specs.declared.standing.Phase.{Phase}
 use Rattle.clone_tasks.specs.declared.standing.Phase.TheVariants.{Opening, Copying, Done}
 use Rattle.clone_tasks.specs.declared.standing.Standing.{Standing}
 use Rattle.clone_tasks.specs.declared.standing.Standing.TheVariants.{Apart, Joining, Ready, Fetching, Served, Acknowledging}
 use Rattle.clone_recipient.specs.Receptions.{Reception}
-use Rattle.clone_recipient.specs.Taking.{moved_by, table_after, with_plan}
 use Rattle.clone_network.specs.Connections.{Connection}
 use Rattle.clone_network.specs.Networks.{Network, with_connection}
-use Rattle.clone_rounds.specs.Awaiting.{Awaits, IsAnswered, IsAt, IsDue, IsNext, MayJoin, Rule, TalkOf}
-use Rattle.clone_rounds.specs.World.{Answer, Awaited, Block, Command, Core, End, ForEnd, ForFirst, ForStage, Nothing, Seat, Stage as StageAnswer, World, put}
+use Rattle.clone_rounds.specs.Awaiting.{IsAnswered, IsAt, IsNext, MayJoin, TalkOf}
+use Rattle.clone_rounds.specs.World.{Answer, Awaited, Block, Command, Core, End, ForEnd, ForFirst, ForStage, Nothing, Stage as StageAnswer, put}
 use Rattle.clone_rounds.proofs.Talks.{heard_of, quiet_of}
-use Rattle.clone_view.specs.Frames.{AreAnswers, AreCommands, answer_of, command_of}
+use Rattle.clone_view.specs.Frames.{AreAnswers, AreCommands, answer_of}
 use Rattle.clone_view.specs.Rows.{places}
 use Rattle.clone_view.specs.Tables.{awaited_of, phase_number}
-use Rattle.clone_view.specs.Views.{Follows, IsLine, IsSeat, IsView, Line, line_read, list_in}
+use Rattle.clone_view.specs.Views.{Follows, IsLine, IsSeat, Line, line_read, list_in}
 use Rattle.clone_view.proofs.ViewSteps.{moved_stage}
 use Rattle.clone_paired.specs.Lines.{Binds, IsLineOf, caller_of, connection_of}
 use Rattle.clone_paired.specs.Paired.{IsReception, IsTalking}
 use Rattle.clone_paired.specs.Seen.{IsCounted, IsSeen, stage_at}
 use Rattle.clone_paired.specs.Sessions.{Copies, IsSessionOf}
-use Rattle.clone_paired.specs.Speaking.{IsAsked, IsGiven, Tells, TellsOf}
+use Rattle.clone_paired.specs.Speaking.{IsAsked, IsGiven}
 use Rattle.clone_paired.specs.Unread.{Holds}
 use Rattle.clone_paired.proofs.Marking.{IsPlain, at_stage}
 use Rattle.clone_paired.proofs.Reading.{front, read_on, talks_read}
 use Rattle.clone_paired.proofs.TaskSends.{IsOpening, opening_of}
-use Rattle.clone_paired.proofs.Transports.{all_as}
 
 -- ---- where no block lies unread
 

@@ -1,5 +1,5 @@
 -- A clone that has just begun is paired with a donor that has no session of it.
-use Rattle.std.proofs.Common.{ℕ, zero, suc, ◌≡◌, ◌∙◌, ◌<◌, ◌≤◌, List, [], ◌∷◌, Bool, true, false, Option, None, Some, get_or, length, replicate, refl, sym, ap, subst, inl, arith}
+use Rattle.std.proofs.Common.{ℕ, zero, suc, ◌≡◌, ◌≤◌, List, [], true, false, Option, None, get_or, replicate, refl, sym, ap, subst, inl, arith}
 use Rattle.std.specs.Prelude.{slice_get}
 use Rattle.std.specs.Option.{option_and_then}
 use Rattle.std.proofs.lemmas.List.{length-replicate}
@@ -10,11 +10,11 @@ use Rattle.clone_tasks.specs.declared.standing.Standing.TheVariants.{Apart}
 use Rattle.clone_recipient.specs.Receptions.{Reception, begun}
 use Rattle.clone_network.specs.Networks as network
 use Rattle.clone_network.specs.Networks.{Network, unconnected}
-use Rattle.clone_rounds.specs.World.{Free, Sides, World, fresh}
+use Rattle.clone_rounds.specs.World.{Free, World, fresh}
 use Rattle.clone_rounds.proofs.Moving.{starts_well}
 use Rattle.clone_view.specs.Rows.{places}
 use Rattle.clone_view.specs.Tables.{IsStanding}
-use Rattle.clone_paired.specs.Lines.{IsAt, connection_of}
+use Rattle.clone_paired.specs.Lines.{IsAt}
 use Rattle.clone_paired.specs.Paired.{IsPaired}
 use Rattle.clone_paired.specs.Seen.{IsSeen}
 

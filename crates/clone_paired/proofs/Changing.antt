@@ -1,11 +1,10 @@
 -- One connection of a task changes, and all else stays.
-use Rattle.std.proofs.Common.{ℕ, ◌≡◌, ◌≢◌, ◌∙◌, ◌⊎◌, ◌<◌, ◌≤◌, List, [], ◌∷◌, Bool, true, false, Option, None, Some, length, set, refl, sym, ap, subst, inl, inr, arith}
+use Rattle.std.proofs.Common.{ℕ, ◌≡◌, ◌≢◌, ◌∙◌, ◌⊎◌, ◌≤◌, List, Bool, false, Option, None, Some, length, refl, sym, ap, subst, inl, inr}
 use Rattle.std.specs.Prelude.{slice_get, IfSome}
 use Rattle.std.proofs.lemmas.Bool.{cases_eq}
 use Rattle.std.proofs.lemmas.Option.{slice_get_within}
 use Rattle.clone_base.proofs.MapEntries.{slice_get-set_other, slice_get-set_same}
 use Rattle.clone_session.specs.Cloning.{Session}
-use Rattle.clone_serve.specs.declared.doing.Doing.{Doing}
 use Rattle.clone_tasks.specs.Tables.{Table, incarnation_of, standing_of}
 use Rattle.clone_tasks.specs.Losing.{kept_in}
 use Rattle.clone_marks.specs.Blocks.{partials_of}
@@ -13,12 +12,12 @@ use Rattle.clone_recipient.specs.Receptions.{Reception}
 use Rattle.clone_network.specs.Connections.{Connection}
 use Rattle.clone_network.specs.Networks.{Network, with_connection}
 use Rattle.clone_rounds.specs.World.{Seat, World, put, with_seat}
-use Rattle.clone_rounds.proofs.Puts.{put_all, put_other, put_same}
+use Rattle.clone_rounds.proofs.Puts.{put_all}
 use Rattle.clone_view.specs.Tables.{IsStanding}
 use Rattle.clone_view.specs.Views.{IsSeat, IsView, Line, list_in}
 use Rattle.clone_view.proofs.ViewSteps.{donor_as, seats_put}
 use Rattle.clone_paired.specs.Earlier.{IsPast}
-use Rattle.clone_paired.specs.Lines.{AreApart, IsAt, IsLineOf, connection_of, made_of}
+use Rattle.clone_paired.specs.Lines.{IsAt, IsLineOf, connection_of, made_of}
 use Rattle.clone_paired.specs.Paired.{HaveCome, IsTalking}
 use Rattle.clone_paired.specs.Seen.{ArePast, IsKnown}
 use Rattle.clone_paired.specs.Sessions.{HasComeTo, IsSessionOf}

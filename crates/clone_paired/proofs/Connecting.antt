@@ -1,41 +1,39 @@
 -- A task connects: the command with which it does is the first on a new connection.
-use Rattle.std.proofs.Common.{ℕ, zero, suc, ◌≡◌, ◌≢◌, ◌∙◌, ◌⊎◌, ◌<◌, ◌≤◌, List, [], ◌∷◌, ◌++◌, Bool, true, false, if◌then◌else◌, Option, None, Some, length, length-append, set, refl, sym, ap, subst, inl, inr, arith}
-use Rattle.std.specs.Prelude.{slice_get, slice_set, not, ◌||◌, ◌==◌, IfSome}
+use Rattle.std.proofs.Common.{ℕ, ◌≡◌, ◌≢◌, ◌∙◌, ◌⊎◌, ◌<◌, ◌≤◌, List, [], ◌∷◌, ◌++◌, Bool, true, false, Option, None, Some, length, length-append, set, refl, sym, ap, subst, inl, inr, arith}
+use Rattle.std.specs.Prelude.{slice_get, slice_set, ◌==◌, IfSome}
 use Rattle.std.specs.Option.{option_and_then}
 use Rattle.std.proofs.lemmas.Bool.{cases_eq, cases_lt}
 use Rattle.std.proofs.lemmas.List.{append-nil}
-use Rattle.std.proofs.lemmas.Option.{slice_get_within, slice_get_past}
+use Rattle.std.proofs.lemmas.Option.{slice_get_within}
 use Rattle.clone_base.proofs.MapEntries.{slice_get-pushed_front, slice_get-pushed_last, slice_get-set_other, slice_get-set_same}
 use Rattle.clone_session.specs.Cloning.{Session}
 use Rattle.clone_wire.specs.Spelling.{spelling}
 use Rattle.clone_wire.specs.declared.frame.Frame.{Frame}
 use Rattle.clone_wire.specs.declared.frame.Side.TheVariants.{Answer as ofDonor, Command as ofTask}
-use Rattle.clone_stream.specs.Streams.{IsFrameOf, spellings}
-use Rattle.clone_serve.specs.declared.doing.Doing.TheVariants as doing
+use Rattle.clone_stream.specs.Streams.{IsFrameOf}
 use Rattle.clone_tasks.specs.Rules.{sending_rule}
-use Rattle.clone_tasks.specs.Sending.{IsFirst, IsSent, after_sending}
+use Rattle.clone_tasks.specs.Sending.{IsFirst, after_sending}
 use Rattle.clone_tasks.specs.Tables.{Table, incarnation_of, is_running}
 use Rattle.clone_tasks.specs.declared.rule.Rule.TheVariants as rule
 use Rattle.clone_tasks.specs.declared.standing.Standing.{Standing}
 use Rattle.clone_tasks.specs.declared.standing.Standing.TheVariants.{Joining}
 use Rattle.clone_recipient.specs.Receptions.{Reception}
-use Rattle.clone_network.specs.Connections.{Connection, is_open, opened}
+use Rattle.clone_network.specs.Connections.{Connection, opened}
 use Rattle.clone_network.specs.Networks.{Network, Seat}
-use Rattle.clone_rounds.specs.World.{World, put}
+use Rattle.clone_rounds.specs.World.{put}
 use Rattle.clone_rounds.proofs.Moving.{kept}
 use Rattle.clone_rounds.proofs.Puts.{put_all}
 use Rattle.clone_view.specs.Frames.{command_of}
 use Rattle.clone_view.specs.Tables.{phase_number}
-use Rattle.clone_view.specs.Views.{Follows, IsView, Line, line_sent}
+use Rattle.clone_view.specs.Views.{Follows, Line, line_sent}
 use Rattle.clone_view.proofs.ViewSteps.{sent}
 use Rattle.clone_paired.specs.Earlier.{IsPast}
-use Rattle.clone_paired.specs.Lines.{AreApart, IsAt, IsLineOf, connection_of, is_lost, made_of}
-use Rattle.clone_paired.specs.Paired.{HaveCome, IsReception, IsTalking}
-use Rattle.clone_paired.specs.Seen.{AreUnsent, ArePast, IsKnown, IsSeen}
-use Rattle.clone_paired.specs.Sessions.{HasComeTo, IsSessionOf}
+use Rattle.clone_paired.specs.Lines.{AreApart, IsAt, IsLineOf, connection_of, made_of}
+use Rattle.clone_paired.specs.Paired.{IsReception, IsTalking}
+use Rattle.clone_paired.specs.Seen.{AreUnsent, ArePast, IsSeen}
+use Rattle.clone_paired.specs.Sessions.{HasComeTo}
 use Rattle.clone_paired.specs.Speaking.{IsAsked}
 use Rattle.clone_paired.specs.Unread.{Holds}
-use Rattle.clone_paired.proofs.Cuts.{had_small}
 use Rattle.clone_paired.proofs.Keeping.{KeepsOwners, acks_as, task_keeps}
 use Rattle.clone_paired.proofs.Lookups.{connection_is, made_is}
 use Rattle.clone_paired.proofs.Sends.{some_as}

@@ -1,5 +1,5 @@
 -- A connection is cut.
-use Rattle.std.proofs.Common.{ℕ, zero, suc, ◌≡◌, ◌≢◌, ◌∙◌, ◌⊎◌, ◌<◌, ◌≤◌, List, [], ◌∷◌, ◌++◌, Bool, true, false, if◌then◌else◌, Option, None, Some, length, map, take, refl, sym, ap, subst, inl, inr, arith}
+use Rattle.std.proofs.Common.{ℕ, zero, suc, ◌≡◌, ◌≢◌, ◌∙◌, ◌⊎◌, ◌<◌, List, [], ◌∷◌, ◌++◌, Bool, true, false, if◌then◌else◌, Option, None, Some, length, map, take, refl, sym, ap, subst, inl, inr, arith}
 use Rattle.std.specs.Prelude.{slice_get, IfSome}
 use Rattle.std.specs.List.{AllByRecursion}
 use Rattle.std.specs.Option.{option_and_then, option_map_or}
@@ -7,26 +7,24 @@ use Rattle.std.proofs.lemmas.Bool.{both_ways, cases_eq}
 use Rattle.clone_session.specs.Cloning.{Session}
 use Rattle.clone_wire.specs.declared.frame.Frame.{Frame}
 use Rattle.clone_wire.specs.declared.frame.Side.TheVariants.{Answer as ofDonor, Command as ofTask}
-use Rattle.clone_tasks.specs.Tables.{incarnation_of, standing_of}
 use Rattle.clone_recipient.specs.Receptions.{Reception}
 use Rattle.clone_network.specs.Connections.{Connection, cut_at, is_open}
 use Rattle.clone_network.specs.Networks as network
 use Rattle.clone_network.specs.Networks.{Network, on_connected, with_connection}
-use Rattle.clone_rounds.specs.World.{Seat, World, IsLinked, put, with_seat}
+use Rattle.clone_rounds.specs.World.{IsLinked, put, with_seat}
 use Rattle.clone_rounds.specs.Steps.{cut_to}
 use Rattle.clone_rounds.proofs.Cutting.{keep_cuts}
 use Rattle.clone_rounds.proofs.Puts.{find_below}
-use Rattle.clone_view.specs.Tables.{IsStanding}
 use Rattle.clone_view.specs.Frames.{AreAnswers, AreCommands, answer_of, command_of}
-use Rattle.clone_view.specs.Views.{IsLine, IsSeat, IsView, Line, list_in}
+use Rattle.clone_view.specs.Views.{IsLine, IsSeat, Line, list_in}
 use Rattle.clone_paired.specs.Lines.{IsLineOf, connection_of}
 use Rattle.clone_paired.specs.Paired.{HasCopied, IsCopying, IsPaired, IsTalking}
-use Rattle.clone_paired.specs.Seen.{ArePast, IsKnown, IsSeen, stage_at}
+use Rattle.clone_paired.specs.Seen.{IsSeen}
 use Rattle.clone_paired.specs.Sessions.{HasComeTo}
 use Rattle.clone_paired.specs.Speaking.{IsAsked, IsGiven}
 use Rattle.clone_paired.specs.Unread.{Holds}
 use Rattle.clone_paired.proofs.Changing.{past_with, talks_on, view_seat}
-use Rattle.clone_paired.proofs.Linked.{Linked, linked_by, seat_of}
+use Rattle.clone_paired.proofs.Linked.{Linked, linked_by}
 use Rattle.clone_paired.proofs.UnreadLemmas.{Fronts, holds_cut}
 
 pub all_front : {X : Type 0} (P : X → Type 0) (xs ys : List X) → AllByRecursion P (xs ++ ys) → AllByRecursion P xs

@@ -1,6 +1,6 @@
 -- The answer at the front of what lies unread for a task is one that the task may take.
-use Rattle.std.proofs.Common.{ℕ, zero, suc, ◌≡◌, ◌≢◌, ◌∙◌, ◌⊎◌, ◌<◌, List, [], ◌∷◌, Bool, true, false, Option, None, Some, map, refl, sym, ap, subst, inl, inr, arith}
-use Rattle.std.specs.Prelude.{slice_get, slice_index, not, nat_lt, ◌||◌, ◌&&◌, ◌==◌}
+use Rattle.std.proofs.Common.{ℕ, zero, suc, ◌≡◌, ◌≢◌, ◌∙◌, ◌⊎◌, ◌<◌, List, [], ◌∷◌, true, false, Option, Some, refl, sym, ap, subst, inl, inr, arith}
+use Rattle.std.specs.Prelude.{slice_index, not, nat_lt, ◌||◌, ◌&&◌, ◌==◌}
 use Rattle.std.specs.List.{AllByRecursion}
 use Rattle.std.proofs.lemmas.Bool.{and_from, cases_eq, eq-eqb, lt-ltb, ne_eqb, or_left, or_right}
 use Rattle.clone_chunk.specs.Plans as plans
@@ -17,7 +17,7 @@ use Rattle.clone_wire.specs.declared.frame.Frame.{Frame}
 use Rattle.clone_wire.specs.declared.frame.Frame.TheVariants as frame
 use Rattle.clone_wire.specs.declared.stage.PageStage.{PageStage}
 use Rattle.clone_wire.specs.declared.stage.PageStage.TheVariants as page
-use Rattle.clone_tasks.specs.Awaiting.{after_copy, awaits_block, awaits_end_of, awaits_stage, fits_stage, is_in, is_present, is_same, next_stage}
+use Rattle.clone_tasks.specs.Awaiting.{awaits_block, awaits_end_of, awaits_stage, fits_stage, is_in, is_present, is_same, next_stage}
 use Rattle.clone_tasks.specs.Tables.{Table, attempt_of, awaits_end, is_done, standing_of}
 use Rattle.clone_tasks.specs.declared.standing.Phase.{Phase}
 use Rattle.clone_tasks.specs.declared.standing.Phase.TheVariants.{Opening, Copying, Done}

@@ -1,6 +1,6 @@
 -- A task's step ends the clone neither since it got what is garbled, nor since it was refused.
-use Rattle.std.proofs.Common.{ℕ, ◌≡◌, ◌≢◌, ◌∙◌, ◌⊎◌, ◌≤◌, List, [], ◌∷◌, ◌++◌, Bool, true, false, if◌then◌else◌, Option, None, Some, length, refl, sym, ap, subst, inl, inr, arith}
-use Rattle.std.specs.Prelude.{slice_get, nat_lt, not, ◌||◌, ◌&&◌, ◌==◌, IfSome}
+use Rattle.std.proofs.Common.{ℕ, ◌≡◌, ◌≢◌, ◌∙◌, ◌⊎◌, ◌≤◌, List, [], ◌++◌, Bool, true, false, if◌then◌else◌, Option, None, Some, refl, sym, ap, subst, inl, inr}
+use Rattle.std.specs.Prelude.{slice_get, nat_lt, not, ◌&&◌, IfSome}
 use Rattle.std.proofs.lemmas.Bool.{both_ways, cases_eq, ne_eqb}
 use Rattle.clone_outside.specs.Disk.{DiskImage}
 use Rattle.clone_outside.specs.DiskCalls.{DiskState}
@@ -13,7 +13,7 @@ use Rattle.clone_wire.specs.declared.frame.Frame.TheVariants as frame
 use Rattle.clone_wire.specs.declared.frame.Side.TheVariants.{Answer}
 use Rattle.clone_stream.specs.Streams.{IsFrameOf}
 use Rattle.clone_tasks.specs.Losing.{after_loss, is_spent}
-use Rattle.clone_tasks.specs.Rules.{is_absent, is_stale, rule_at, rule_of, takes_part}
+use Rattle.clone_tasks.specs.Rules.{is_stale, rule_at, rule_of, takes_part}
 use Rattle.clone_tasks.specs.Tables.{Table, incarnation_of, is_done, is_running}
 use Rattle.clone_tasks.specs.declared.end.CloneEnd.{CloneEnd}
 use Rattle.clone_tasks.specs.declared.end.CloneEnd.TheVariants as end

@@ -1,12 +1,12 @@
 -- Where each task gives its connection up.
-use Rattle.std.proofs.Common.{ℕ, zero, suc, ◌≡◌, ◌≢◌, ◌∙◌, ◌⊎◌, ◌<◌, ◌≤◌, ◌+◌, ◌-◌, List, [], ◌∷◌, ◌++◌, Bool, true, false, if◌then◌else◌, Option, None, Some, length, map, set, refl, sym, ap, subst, inl, inr, arith, length-append}
-use Rattle.std.specs.Prelude.{slice_get, option_map, not, ◌==◌, ◌||◌, ◌&&◌}
+use Rattle.std.proofs.Common.{ℕ, zero, suc, ◌≡◌, ◌≢◌, ◌∙◌, ◌⊎◌, ◌≤◌, ◌+◌, ◌-◌, List, [], ◌∷◌, Bool, true, false, if◌then◌else◌, Option, None, Some, length, map, set, refl, sym, ap, inl, inr, arith, length-append}
+use Rattle.std.specs.Prelude.{slice_get, option_map, ◌==◌, ◌||◌, ◌&&◌}
 use Rattle.std.specs.Option.{option_and_then, option_map_or}
 use Rattle.std.proofs.lemmas.Bool.{both_ways, cases_Bool, cases_eq, eq-eqb, eqb-true, ne_eqb}
 use Rattle.std.proofs.lemmas.Option.{slice_get_within}
 use Rattle.clone_base.proofs.MapEntries.{slice_get-set_other, slice_get-set_same}
 use Rattle.clone_chunk.specs.declared.partials.PartialChunk.{PartialChunk}
-use Rattle.clone_marks.specs.Blocks.{is_finished, is_partial, partial_at, partials_from, partials_of}
+use Rattle.clone_marks.specs.Blocks.{is_partial, partial_at, partials_from, partials_of}
 use Rattle.clone_marks.specs.Forgetting.{emptied, forgotten, kept_after, left_of}
 use Rattle.clone_marks.specs.declared.chunk_marks.ChunkMarks.{ChunkMarks}
 use Rattle.clone_network.specs.Connections.{Connection, given_up}

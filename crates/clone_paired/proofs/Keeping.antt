@@ -1,6 +1,6 @@
 -- What the steps of tasks and of the donor leave in the rounds.
-use Rattle.std.proofs.Common.{ℕ, suc, ◌≡◌, ◌∙◌, ◌⊎◌, ◌<◌, Bool, true, false, refl, sym, ap, inl, inr, arith}
-use Rattle.clone_rounds.specs.World.{Owner, World}
+use Rattle.std.proofs.Common.{ℕ, ◌≡◌, ◌⊎◌, ◌<◌, true, refl, inl, inr, arith}
+use Rattle.clone_rounds.specs.World.{World}
 use Rattle.clone_paired.proofs.Transports.{WasAcknowledged}
 use Rattle.clone_rounds.specs.Steps.{TaskStep, connects, executes, acknowledges, joins, opens, advances, attaches, takes_block, ends, loses}
 use Rattle.clone_rounds.specs.Steps.{DonorStep, meets_here, meets_next, welcomes, starts, agrees, repeats, claims, reads, finishes, fails, finds_loss, refuses, changes, moves}

@@ -22,5 +22,6 @@ pub mod TaskTakes
 pub mod GivingUp
 pub mod Losing
 pub mod TaskLoses
-pub mod EndRests
-pub mod DonorRests
+pub mod EndSteps
+pub mod RestingEnds
+pub mod ReceptionKept

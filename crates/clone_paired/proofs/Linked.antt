@@ -1,5 +1,5 @@
 -- A task that is connected in the rounds has a connection, with its line.
-use Rattle.std.proofs.Common.{ℕ, ◌≡◌, ◌≢◌, ◌∙◌, List, Bool, true, false, Option, None, Some, refl, sym, ap, subst}
+use Rattle.std.proofs.Common.{ℕ, ◌≡◌, ◌∙◌, List, Bool, true, false, Option, None, Some, refl, sym, ap, subst}
 use Rattle.std.specs.Prelude.{slice_get, not}
 use Rattle.std.proofs.lemmas.Bool.{both_ways}
 use Rattle.clone_session.specs.Cloning.{Session}

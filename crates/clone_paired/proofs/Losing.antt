@@ -1,19 +1,16 @@
 -- A task finds a loss that the clone outlasts: each task gives its connection up.
-use Rattle.std.proofs.Common.{ℕ, zero, suc, ◌≡◌, ◌≢◌, ◌∙◌, ◌⊎◌, ◌+◌, ◌<◌, ◌≤◌, List, [], ◌∷◌, Bool, true, false, if◌then◌else◌, Option, None, Some, length, map, refl, sym, ap, subst, inl, inr, arith}
-use Rattle.std.specs.Prelude.{slice_get, option_map, not, ◌==◌, ◌||◌, IfSome}
+use Rattle.std.proofs.Common.{ℕ, ◌≡◌, ◌∙◌, ◌≤◌, List, [], ◌∷◌, Bool, true, false, Option, None, Some, refl, sym, ap, subst, inl, inr, arith}
+use Rattle.std.specs.Prelude.{slice_get, option_map, ◌==◌, IfSome}
 use Rattle.std.specs.List.{AllByRecursion}
 use Rattle.clone_chunk.specs.Stages.{copy_number}
 use Rattle.clone_chunk.specs.declared.copy_stage.CopyStage.{CopyStage}
 use Rattle.clone_chunk.specs.declared.copy_stage.CopyStage.TheVariants as copy
-use Rattle.clone_marks.specs.Blocks.{blocks_of}
 use Rattle.clone_marks.proofs.ForgetLemmas.{forgotten_blocks}
 use Rattle.clone_snapshot.specs.StageLists.{StageList}
 use Rattle.clone_session.specs.Cloning.{Session}
 use Rattle.clone_session.specs.declared.caller.Caller.{Caller}
-use Rattle.clone_wire.specs.Answers.{BeginsNone}
 use Rattle.clone_wire.specs.declared.frame.Frame.{Frame}
 use Rattle.clone_wire.specs.declared.frame.Frame.TheVariants as frame
-use Rattle.clone_wire.specs.declared.frame.Side.TheVariants.{Answer as ofDonor, Command as ofTask}
 use Rattle.clone_serve.specs.declared.doing.Doing.{Doing}
 use Rattle.clone_serve.specs.declared.doing.Doing.TheVariants as doing
 use Rattle.clone_tasks.specs.Losing.{after_loss, is_spent, kept_in}
@@ -34,19 +31,18 @@ use Rattle.clone_view.specs.Frames.{AreCommands, command_of}
 use Rattle.clone_view.specs.Tables.{phase_number}
 use Rattle.clone_view.specs.Views.{list_in}
 use Rattle.clone_view.proofs.ViewSteps.{found_loss}
-use Rattle.clone_paired.specs.Earlier.{BindsEarlier, IsEarlier, IsPast, WasAsked}
-use Rattle.clone_paired.specs.Lines.{Binds, IsAt, caller_of, connection_of, doing_at, is_lost}
+use Rattle.clone_paired.specs.Earlier.{BindsEarlier, IsPast, WasAsked}
+use Rattle.clone_paired.specs.Lines.{Binds, IsAt, caller_of}
 use Rattle.clone_paired.specs.Paired.{IsReception, IsTalking}
-use Rattle.clone_paired.specs.Seen.{AreUnsent, ArePast, IsKnown, IsSeen}
+use Rattle.clone_paired.specs.Seen.{AreUnsent, ArePast, IsSeen}
 use Rattle.clone_paired.specs.Sessions.{Copies, IsSessionOf}
 use Rattle.clone_paired.specs.Speaking.{IsAsked}
-use Rattle.clone_paired.proofs.GivingUp.{all_given, forgotten_few, given_up_if, had_by, has_seat, seat_has, seat_none, vacated_none}
+use Rattle.clone_paired.proofs.GivingUp.{all_given, forgotten_few, given_up_if, has_seat, seat_has, seat_none, vacated_none}
 use Rattle.clone_paired.proofs.Keeping.{KeepsOwners, acks_as, task_keeps}
 use Rattle.clone_paired.proofs.Linked.{Linked, linked_by}
 use Rattle.clone_paired.proofs.Sends.{some_as}
-use Rattle.clone_paired.proofs.TaskSends.{IsOpening, opening_of}
+use Rattle.clone_paired.proofs.TaskSends.{opening_of}
 use Rattle.clone_paired.proofs.Transports.{WasAcknowledged, past_as}
-use Rattle.clone_paired.proofs.UnreadLemmas.{holds_partial}
 
 -- ---- a connection of the present incarnation becomes one of an earlier
 

@@ -1,24 +1,22 @@
 -- A task takes a block.
-use Rattle.std.proofs.Common.{ℕ, zero, suc, ◌≡◌, ◌≢◌, ◌∙◌, ◌⊎◌, ◌+◌, ◌<◌, ◌≤◌, List, [], ◌∷◌, Bool, true, false, Option, None, Some, length, map, refl, sym, ap, subst, inl, inr, arith}
-use Rattle.std.specs.Prelude.{slice_get, slice_index, ◌==◌, ◌&&◌, IfSome}
+use Rattle.std.proofs.Common.{ℕ, ◌≡◌, ◌≢◌, ◌∙◌, ◌⊎◌, ◌<◌, ◌≤◌, List, [], ◌∷◌, Bool, true, false, Option, None, Some, length, refl, sym, ap, subst, inl, inr, arith}
+use Rattle.std.specs.Prelude.{slice_get, slice_index, ◌==◌}
 use Rattle.std.specs.List.{AllByRecursion, All}
-use Rattle.std.proofs.lemmas.Bool.{and_parts, both_ways, cases_eq, cases_Bool, eqb-true, ne_eqb}
+use Rattle.std.proofs.lemmas.Bool.{and_parts, both_ways, cases_eq, eqb-true, ne_eqb}
 use Rattle.clone_lay.specs.Sized.{PageCounts}
 use Rattle.clone_chunk.specs.Stages.{copy_number, copying, stage_number}
 use Rattle.clone_chunk.specs.declared.copy_stage.CopyStage.{CopyStage}
 use Rattle.clone_chunk.specs.declared.copy_stage.CopyStage.TheVariants as copy
 use Rattle.clone_chunk.specs.declared.stage.Stage.{Stage}
-use Rattle.clone_marks.specs.Blocks.{IsChunk, blocks_of, is_left, partials_of}
+use Rattle.clone_marks.specs.Blocks.{IsChunk, blocks_of, is_left}
 use Rattle.clone_marks.specs.declared.chunk_marks.ChunkMarks.{ChunkMarks}
 use Rattle.clone_snapshot.specs.StageLists.{StageList}
 use Rattle.clone_session.specs.Cloning.{Session}
-use Rattle.clone_wire.specs.Stages.{page_number}
 use Rattle.clone_wire.specs.declared.frame.Frame.{Frame}
 use Rattle.clone_wire.specs.declared.frame.Frame.TheVariants as frame
 use Rattle.clone_wire.specs.declared.frame.Side.TheVariants.{Answer as ofDonor}
 use Rattle.clone_wire.specs.declared.stage.PageStage.TheVariants as page
-use Rattle.clone_tasks.specs.Awaiting.{awaits_block, awaits_end_of, is_in, is_same}
-use Rattle.clone_tasks.specs.Moves.{HasTaken}
+use Rattle.clone_tasks.specs.Awaiting.{awaits_block, awaits_end_of, is_in}
 use Rattle.clone_tasks.specs.Rules.{sending_rule}
 use Rattle.clone_tasks.specs.Sending.{IsFirst}
 use Rattle.clone_tasks.specs.Tables.{Table, awaits_end, incarnation_of, is_running, standing_of}
@@ -31,7 +29,7 @@ use Rattle.clone_recipient.specs.Receptions.{Reception}
 use Rattle.clone_recipient.specs.Taking.{HasMarked}
 use Rattle.clone_network.specs.Connections.{Connection}
 use Rattle.clone_network.specs.Networks.{Network, with_connection}
-use Rattle.clone_rounds.specs.Awaiting.{IsAt, Rule, TalkOf}
+use Rattle.clone_rounds.specs.Awaiting.{IsAt, Rule}
 use Rattle.clone_rounds.specs.World.{Block, Command, First, ForEnd, Seat, World, put}
 use Rattle.clone_rounds.proofs.Fitting.{level_of}
 use Rattle.clone_rounds.proofs.Talks.{asked_of}
@@ -41,7 +39,7 @@ use Rattle.clone_view.specs.Rows.{place_of}
 use Rattle.clone_view.specs.Tables.{awaited_of, phase_number}
 use Rattle.clone_view.specs.Views.{Follows, IsLine, IsSeat, IsView, Line, line_read, list_in}
 use Rattle.clone_view.proofs.ViewSteps.{took_block}
-use Rattle.clone_paired.specs.Lines.{Binds, IsLineOf, caller_of, connection_of}
+use Rattle.clone_paired.specs.Lines.{IsLineOf, connection_of}
 use Rattle.clone_paired.specs.Paired.{IsReception, IsTalking}
 use Rattle.clone_paired.specs.Seen.{IsSeen, stage_at}
 use Rattle.clone_paired.specs.Sessions.{Copies, IsSessionOf}
@@ -188,8 +186,8 @@ module _ (session : Option Session) (r : Reception) (n : Network) (own : IsRecep
             let alone : cs ≡ [] = (asked_of first.rounds.sides j (first.rounds.seats j) c cs ((first.rule.seats j).talk (seat_is j y is).connected) here).0 in
             let none : fs ≡ [] = empty fs cs (cc (are)) alone in
             let never : IsPlain j f = λ zero_is opens. (
-                let same : c ≡ First = cc (are, opening_first f opens) in
-                both_ways first.rounds.sides.met ((first.rule.seats j).unmet zero_is (here ∙ ap (λ (x : Command). x ∷ cs) same ∙ ap (λ (x : List Command). First ∷ x) alone)).0 met) in
+            let same : c ≡ First = cc (are, opening_first f opens) in
+            both_ways first.rounds.sides.met ((first.rule.seats j).unmet zero_is (here ∙ ap (λ (x : Command). x ∷ cs) same ∙ ap (λ (x : List Command). First ∷ x) alone)).0 met) in
             (never, subst (AllByRecursion (IsPlain j)) (sym none) tt)
           where
             empty : (fs : List Frame) (cs : List Command) → AreCommands fs cs → cs ≡ [] → fs ≡ []

@@ -4,7 +4,7 @@ use Rattle.std.specs.Int.{div_ceil}
 use Rattle.std.specs.List.{range_with_len}
 use Rattle.std.proofs.lemmas.List.{length-drop, length-take}
 use Rattle.std.proofs.lemmas.Simd.{map-map}
-use Rattle.clone_snapshot.specs.StageLists.{PagePart, Pages, Part, blocks_of, cut, piece}
+use Rattle.clone_snapshot.specs.StageLists.{PagePart, Pages, Part, blocks_of, piece}
 use Rattle.clone_snapshot.proofs.CutLemmas.{length-cut}
 use Rattle.clone_marks.specs.Counts.{block_counts, counted_pages, run_counts}
 use Rattle.clone_marks.proofs.RunLemmas.{counted_counts}

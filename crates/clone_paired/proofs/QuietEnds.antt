@@ -15,7 +15,7 @@ use Rattle.clone_calls.specs.declared.answer.DonorAnswer.{DonorAnswer}
 use Rattle.clone_calls.specs.declared.call.DonorCall.{DonorCall}
 use Rattle.clone_serve.specs.Commands.{command_of, first_command, later_command}
 use Rattle.clone_serve.specs.Following.{after, left, started, told}
-use Rattle.clone_serve.specs.Serving.{Begins, GoesOn, TakesCommand, turn_after}
+use Rattle.clone_serve.specs.Serving.{GoesOn, TakesCommand, turn_after}
 use Rattle.clone_serve.specs.Stepping.{Goes, IsStep}
 use Rattle.clone_serve.specs.Telling.{Exchange}
 use Rattle.clone_serve.specs.declared.after.After.{After}
@@ -29,7 +29,6 @@ use Rattle.clone_serve.specs.declared.turn.ServeAnswer.TheVariants as says
 use Rattle.clone_serve.specs.declared.turn.ServeTurn.{ServeTurn}
 use Rattle.clone_serve.specs.declared.turn.ServeTurn.TheVariants.{Ask, Done}
 use Rattle.clone_network.specs.Connections.{Connection, StepsEnd, finds_loss, is_idle, is_serving, reaches_task, said_as, sent_behind, was_refused}
-use Rattle.clone_network.specs.declared.donor_step.DonorStep.{DonorStep}
 use Rattle.clone_network.specs.declared.donor_step.DonorStep.TheVariants as step
 
 -- ---- after a command is carried out the step isn't idle

@@ -1,6 +1,6 @@
 -- A task that finds nothing to do has no rule, or awaits an answer of which less than one is there.
-use Rattle.std.proofs.Common.{ℕ, ◌≡◌, ◌≢◌, ◌∙◌, ◌≤◌, List, [], ◌++◌, Bool, true, false, Option, None, Some, if◌then◌else◌, refl, sym, ap, subst, arith}
-use Rattle.std.specs.Prelude.{nat_lt, not, ◌||◌, ◌&&◌, ◌==◌}
+use Rattle.std.proofs.Common.{ℕ, ◌≡◌, ◌∙◌, ◌≤◌, List, Bool, true, false, Option, None, Some, if◌then◌else◌, refl, sym, ap, subst, arith}
+use Rattle.std.specs.Prelude.{nat_lt, not, ◌&&◌}
 use Rattle.std.proofs.lemmas.Bool.{le-ltb, lt-ltb, or_right}
 use Rattle.clone_outside.specs.Disk.{DiskImage}
 use Rattle.clone_outside.specs.DiskCalls.{DiskState}

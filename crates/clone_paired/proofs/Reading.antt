@@ -1,10 +1,8 @@
 -- A task takes the frame at the front of what lies unread, and the rounds go on with it.
-use Rattle.std.proofs.Common.{ℕ, zero, suc, ◌≡◌, ◌≢◌, ◌∙◌, ◌⊎◌, ◌+◌, ◌<◌, ◌≤◌, List, [], ◌∷◌, ◌++◌, Bool, true, false, if◌then◌else◌, Option, None, Some, length, set, refl, sym, ap, subst, inl, inr, arith}
-use Rattle.std.specs.Prelude.{slice_get, slice_set, not, ◌==◌, ◌||◌, ◌&&◌, IfSome}
+use Rattle.std.proofs.Common.{ℕ, ◌≡◌, ◌∙◌, ◌+◌, ◌<◌, ◌≤◌, List, ◌∷◌, Bool, true, false, Option, Some, length, refl, sym, ap, subst, inl, arith}
+use Rattle.std.specs.Prelude.{slice_get, slice_set, ◌==◌, ◌||◌, IfSome}
 use Rattle.std.specs.List.{AllByRecursion}
-use Rattle.std.proofs.lemmas.Bool.{and_parts, both_ways, or_cases, or_left}
 use Rattle.clone_chunk.specs.Plans as plans
-use Rattle.clone_chunk.specs.Stages.{copy_number, stage_number}
 use Rattle.clone_chunk.specs.declared.copy_stage.CopyStage.{CopyStage}
 use Rattle.clone_chunk.specs.declared.plan.StagePlan.{StagePlan}
 use Rattle.clone_marks.specs.Blocks.{blocks_of, partials_of}
@@ -13,26 +11,25 @@ use Rattle.clone_wire.specs.declared.frame.Attempt.{Attempt}
 use Rattle.clone_wire.specs.declared.frame.Frame.{Frame}
 use Rattle.clone_wire.specs.declared.frame.Frame.TheVariants as frame
 use Rattle.clone_wire.specs.declared.frame.Side.TheVariants.{Answer as ofDonor}
-use Rattle.clone_tasks.specs.Awaiting.{awaits_end_of, awaits_stage, is_present, moves}
+use Rattle.clone_tasks.specs.Awaiting.{awaits_end_of, awaits_stage, moves}
 use Rattle.clone_tasks.specs.Losing.{kept_in}
 use Rattle.clone_tasks.specs.Moves.{joined_by, served}
 use Rattle.clone_tasks.specs.Rules.{sending_rule}
-use Rattle.clone_tasks.specs.Tables.{Table, incarnation_of, is_running}
+use Rattle.clone_tasks.specs.Tables.{is_running}
 use Rattle.clone_tasks.specs.declared.rule.Rule.TheVariants.{Receive}
 use Rattle.clone_tasks.specs.declared.standing.Standing.TheVariants.{Ready, Served}
-use Rattle.clone_recipient.specs.Expecting.{fits, is_expected}
 use Rattle.clone_recipient.specs.Receptions.{Reception}
 use Rattle.clone_network.specs.Connections.{Connection}
 use Rattle.clone_network.specs.Networks.{Network, with_connection}
-use Rattle.clone_rounds.specs.World.{World, put}
+use Rattle.clone_rounds.specs.World.{put}
 use Rattle.clone_rounds.proofs.Moving.{kept}
 use Rattle.clone_view.specs.Frames.{answer_of}
 use Rattle.clone_view.specs.Tables.{phase_number}
-use Rattle.clone_view.specs.Views.{Follows, HasFront, IsView, Line, line_read}
+use Rattle.clone_view.specs.Views.{Follows, HasFront, Line, line_read}
 use Rattle.clone_view.proofs.ViewSteps.{took_end, took_stage}
 use Rattle.clone_paired.specs.Lines.{IsLineOf, connection_of}
 use Rattle.clone_paired.specs.Paired.{IsReception, IsTalking}
-use Rattle.clone_paired.specs.Seen.{AreUnsent, IsKnown, IsSeen, stage_at}
+use Rattle.clone_paired.specs.Seen.{AreUnsent, IsSeen, stage_at}
 use Rattle.clone_paired.specs.Sessions.{HasComeTo, IsSessionOf}
 use Rattle.clone_paired.specs.Speaking.{IsGiven}
 use Rattle.clone_paired.specs.Unread.{Holds}
@@ -40,7 +37,7 @@ use Rattle.clone_paired.proofs.Changing.{past_with, talks_on}
 use Rattle.clone_paired.proofs.Cuts.{had_small}
 use Rattle.clone_paired.proofs.Keeping.{KeepsOwners, acks_as, task_keeps}
 use Rattle.clone_paired.proofs.Sends.{some_as}
-use Rattle.clone_paired.proofs.Transports.{line_as, past_as, restood, session_as}
+use Rattle.clone_paired.proofs.Transports.{line_as, past_as, session_as}
 
 -- these bytes are left for the task
 abbrev pub read_on : Connection → List ℕ → Connection

@@ -1,39 +1,38 @@
 -- A task sends a command over its connection.
-use Rattle.std.proofs.Common.{ℕ, zero, suc, ◌≡◌, ◌≢◌, ◌∙◌, ◌⊎◌, ◌<◌, ◌≤◌, List, [], ◌∷◌, ◌++◌, Bool, true, false, if◌then◌else◌, Option, None, Some, length, refl, sym, ap, subst, inl, inr, arith}
-use Rattle.std.specs.Prelude.{slice_get, slice_set, not, ◌||◌, IfSome}
+use Rattle.std.proofs.Common.{ℕ, ◌≡◌, ◌∙◌, ◌<◌, List, ◌++◌, Bool, true, false, if◌then◌else◌, Option, None, Some, length, refl, sym, ap, subst, inl, arith}
+use Rattle.std.specs.Prelude.{slice_get, not, ◌||◌, IfSome}
 use Rattle.std.specs.List.{AllByRecursion}
-use Rattle.clone_chunk.specs.declared.copy_stage.CopyStage.{CopyStage}
 use Rattle.clone_session.specs.Cloning.{Session}
 use Rattle.clone_wire.specs.Spelling.{spelling}
 use Rattle.clone_wire.specs.declared.frame.Frame.{Frame}
-use Rattle.clone_wire.specs.declared.frame.Side.TheVariants.{Answer as ofDonor, Command as ofTask}
+use Rattle.clone_wire.specs.declared.frame.Side.TheVariants.{Command as ofTask}
 use Rattle.clone_stream.specs.Streams.{IsFrameOf}
 use Rattle.clone_tasks.specs.Rules.{sending_rule}
 use Rattle.clone_tasks.specs.Sending.{IsSent, after_sending}
-use Rattle.clone_tasks.specs.Tables.{Table, incarnation_of, is_running}
+use Rattle.clone_tasks.specs.Tables.{Table, is_running}
 use Rattle.clone_tasks.specs.declared.rule.Rule.{Rule as TaskRule}
 use Rattle.clone_tasks.specs.declared.standing.Standing.{Standing}
 use Rattle.clone_recipient.specs.Receptions.{Reception}
 use Rattle.clone_network.specs.Connections.{Connection, is_open, sent_behind, unread_then}
 use Rattle.clone_network.specs.Networks.{Network, with_connection}
 use Rattle.clone_rounds.specs.Steps.{sends}
-use Rattle.clone_rounds.specs.World.{World, put}
+use Rattle.clone_rounds.specs.World.{put}
 use Rattle.clone_rounds.proofs.Moving.{kept}
 use Rattle.clone_view.specs.Frames.{command_of}
 use Rattle.clone_view.specs.Tables.{phase_number}
-use Rattle.clone_view.specs.Views.{Follows, IsView, Line, line_sent}
+use Rattle.clone_view.specs.Views.{Follows, Line, line_sent}
 use Rattle.clone_view.proofs.ViewSteps.{sent}
 use Rattle.clone_paired.specs.Lines.{IsLineOf, connection_of, is_lost}
 use Rattle.clone_paired.specs.Paired.{IsReception, IsTalking}
-use Rattle.clone_paired.specs.Seen.{AreUnsent, ArePast, IsKnown, IsSeen}
-use Rattle.clone_paired.specs.Sessions.{HasComeTo, IsSessionOf}
+use Rattle.clone_paired.specs.Seen.{AreUnsent, IsSeen}
+use Rattle.clone_paired.specs.Sessions.{HasComeTo}
 use Rattle.clone_paired.specs.Speaking.{IsAsked}
 use Rattle.clone_paired.specs.Unread.{Holds}
 use Rattle.clone_paired.proofs.Changing.{past_with, talks_on}
 use Rattle.clone_paired.proofs.Cuts.{had_small}
 use Rattle.clone_paired.proofs.Keeping.{KeepsOwners, acks_as, task_keeps}
 use Rattle.clone_paired.proofs.Linked.{Linked, linked_by}
-use Rattle.clone_paired.proofs.Transports.{all_as, all_more, asked_as, given_as, line_as, past_as, restood, session_as}
+use Rattle.clone_paired.proofs.Transports.{all_more, line_as, past_as, restood, session_as}
 use Rattle.clone_paired.proofs.UnreadLemmas.{holds_sent}
 
 pub some_as : {X : Type 0} {P Q : X → Type 0} → ((x : X) → P x → Q x) → (o : Option X) → IfSome o P → IfSome o Q

@@ -1,9 +1,8 @@
 -- While the clone goes on some task or some end of the donor's finds something to do.
-use Rattle.std.proofs.Common.{ℕ, zero, suc, ◌≡◌, ◌≢◌, ◌∙◌, ◌⊎◌, ◌<◌, ◌≤◌, List, [], ◌∷◌, Bool, true, false, Option, None, Some, length, map, if◌then◌else◌, refl, sym, ap, subst, inl, inr, arith}
+use Rattle.std.proofs.Common.{ℕ, ◌≡◌, ◌≢◌, ◌∙◌, ◌⊎◌, ◌<◌, ◌≤◌, List, [], ◌∷◌, Bool, true, false, Option, None, Some, length, map, if◌then◌else◌, refl, sym, ap, subst, inl, inr, arith}
 use Rattle.std.specs.Prelude.{slice_get, not, ◌||◌, MatchOption, IfSome}
-use Rattle.std.proofs.lemmas.Bool.{cases_Bool, both_ways, not-true}
+use Rattle.std.proofs.lemmas.Bool.{both_ways}
 use Rattle.clone_outside.specs.DiskCalls.{DiskState}
-use Rattle.clone_chunk.specs.declared.copy_stage.CopyStage.{CopyStage}
 use Rattle.clone_snapshot.specs.StageLists.{StageList}
 use Rattle.clone_session.specs.Cloning.{Session}
 use Rattle.clone_wire.specs.Answers.{BeginsNone}
@@ -13,13 +12,9 @@ use Rattle.clone_calls.specs.declared.answer.DonorAnswer.{DonorAnswer}
 use Rattle.clone_calls.specs.declared.call.DonorCall.{DonorCall}
 use Rattle.clone_serve.specs.declared.doing.Doing.{Doing}
 use Rattle.clone_serve.specs.declared.doing.Doing.TheVariants as doing
-use Rattle.clone_serve.specs.declared.doing.Execution.{Execution}
-use Rattle.clone_serve.specs.declared.doing.Work.{Work}
-use Rattle.clone_serve.specs.declared.doing.Work.TheVariants as work
 use Rattle.clone_serve.specs.declared.turn.ServeAnswer.TheVariants as says
-use Rattle.clone_tasks.specs.Rules.{is_absent, rule_at, rule_of, sending_rule}
-use Rattle.clone_tasks.specs.Tables.{Table, incarnation_of, is_apart, is_done, is_running, awaits, standing_of}
-use Rattle.clone_tasks.specs.declared.rule.Link.{Link}
+use Rattle.clone_tasks.specs.Rules.{is_absent, rule_at, sending_rule}
+use Rattle.clone_tasks.specs.Tables.{incarnation_of, is_running}
 use Rattle.clone_tasks.specs.declared.rule.Link.TheVariants as link
 use Rattle.clone_tasks.specs.declared.rule.Rule.{Rule as TaskRule}
 use Rattle.clone_tasks.specs.declared.rule.Rule.TheVariants as rule
@@ -39,13 +34,11 @@ use Rattle.clone_rounds.proofs.Stuck.{never_stuck}
 use Rattle.clone_view.specs.Applying.{Applies, Receives, Rests}
 use Rattle.clone_view.specs.Donors.{core_of}
 use Rattle.clone_view.specs.Frames.{AreAnswers, AreCommands, answer_of, command_of}
-use Rattle.clone_view.specs.Tables.{awaited_of}
-use Rattle.clone_view.specs.Views.{IsLine, IsSeat, IsView, Line, list_in}
+use Rattle.clone_view.specs.Views.{IsView, list_in}
 use Rattle.clone_view.proofs.Applying.{applies}
-use Rattle.clone_paired.specs.Lines.{IsAt, IsLineOf, connection_of, doing_at, is_lost, made_of}
+use Rattle.clone_paired.specs.Lines.{connection_of, doing_at, is_lost, made_of}
 use Rattle.clone_paired.specs.Paired.{HasCopied, IsCopying, IsPaired, IsReception, IsTalking}
 use Rattle.clone_paired.specs.Quiet.{EndRests, GoesOn, IsQuiet, TaskRests}
-use Rattle.clone_paired.specs.Seen.{IsSeen}
 use Rattle.clone_paired.proofs.Linked.{Linked, apart_is, linked, none_at, same_connection, unlinked}
 use Rattle.clone_paired.proofs.Lookups.{connection_is, made_is, seat_there}
 use Rattle.clone_paired.proofs.QuietEnds.{Awaits, IsAwaiting, end_awaits}

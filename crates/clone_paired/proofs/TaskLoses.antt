@@ -1,6 +1,6 @@
 -- A step by which a task finds a loss, and one by which it does nothing, keep the clone paired; so
 -- each step does that doesn't end it.
-use Rattle.std.proofs.Common.{ℕ, ◌≡◌, ◌≢◌, ◌∙◌, ◌⊎◌, ◌≤◌, List, [], ◌∷◌, ◌++◌, Bool, true, false, if◌then◌else◌, Option, None, Some, length, set, refl, sym, ap, subst, inl, inr}
+use Rattle.std.proofs.Common.{ℕ, ◌≡◌, ◌≢◌, ◌∙◌, ◌⊎◌, List, [], ◌∷◌, ◌++◌, Bool, true, false, if◌then◌else◌, Option, None, Some, length, set, refl, sym, ap, subst, inl, inr}
 use Rattle.std.specs.Prelude.{slice_get, is_some, not}
 use Rattle.std.proofs.lemmas.Bool.{both_ways}
 use Rattle.clone_outside.specs.Disk.{DiskImage}
@@ -13,7 +13,7 @@ use Rattle.clone_wire.specs.declared.frame.Frame.{Frame}
 use Rattle.clone_wire.specs.declared.frame.Side.TheVariants.{Answer as ofDonor}
 use Rattle.clone_tasks.specs.Losing.{after_loss, counted_table, is_spent}
 use Rattle.clone_tasks.specs.Rules.{rule_at, sending_rule}
-use Rattle.clone_tasks.specs.Tables.{Table, incarnation_of, is_done, is_running}
+use Rattle.clone_tasks.specs.Tables.{Table, incarnation_of, is_running}
 use Rattle.clone_tasks.specs.declared.end.CloneEnd.{CloneEnd}
 use Rattle.clone_tasks.specs.declared.end.CloneEnd.TheVariants as end
 use Rattle.clone_tasks.specs.declared.rule.Link.{Link}

@@ -1,6 +1,6 @@
 -- A step by which a task sends a command, and one by which it does nothing, keep the clone paired.
-use Rattle.std.proofs.Common.{ℕ, zero, suc, ◌≡◌, ◌≢◌, ◌∙◌, ◌⊎◌, ◌<◌, ◌≤◌, List, [], ◌∷◌, ◌++◌, Bool, true, false, if◌then◌else◌, Option, None, Some, length, set, refl, sym, ap, subst, inl, inr, arith, length-set}
-use Rattle.std.specs.Prelude.{slice_get, slice_set, nat_lt, not, ◌==◌, ◌&&◌, ◌||◌, IfSome}
+use Rattle.std.proofs.Common.{ℕ, zero, suc, ◌≡◌, ◌≢◌, ◌∙◌, ◌⊎◌, ◌≤◌, List, [], ◌∷◌, ◌++◌, Bool, true, false, if◌then◌else◌, Option, None, Some, length, set, refl, sym, ap, subst, inl, inr, length-set}
+use Rattle.std.specs.Prelude.{slice_get, slice_set, nat_lt, not, ◌==◌, ◌&&◌, IfSome}
 use Rattle.std.specs.Option.{unwrap_or}
 use Rattle.std.proofs.lemmas.Bool.{both_ways, cases_eq, ne_eqb}
 use Rattle.std.proofs.lemmas.List.{length-map}
@@ -10,14 +10,14 @@ use Rattle.clone_chunk.specs.declared.copy_stage.CopyStage.{CopyStage}
 use Rattle.clone_chunk.specs.declared.copy_stage.CopyStage.TheVariants as copy
 use Rattle.clone_chunk.specs.declared.cause.CloneCause.{CloneCause}
 use Rattle.clone_session.specs.Cloning.{Session}
-use Rattle.clone_wire.specs.Spelling.{code_of, spelling}
+use Rattle.clone_wire.specs.Spelling.{spelling}
 use Rattle.clone_wire.specs.declared.frame.Frame.{Frame}
 use Rattle.clone_wire.specs.declared.frame.Frame.TheVariants as frame
 use Rattle.clone_wire.specs.declared.frame.Side.TheVariants.{Command as ofTask}
 use Rattle.clone_stream.specs.Streams.{IsFrameOf}
 use Rattle.clone_tasks.specs.Losing.{after_loss, is_spent}
 use Rattle.clone_tasks.specs.Rules.{is_stale, rule_at, rule_of, sending_rule, takes_part}
-use Rattle.clone_tasks.specs.Sending.{IsFirst, IsSent, Opens, Reattaches, after_sending, kept_floor, sent_floor}
+use Rattle.clone_tasks.specs.Sending.{IsFirst, IsSent, Opens, Reattaches, kept_floor, sent_floor}
 use Rattle.clone_tasks.specs.Tables.{Table, incarnation_of, is_done, is_running}
 use Rattle.clone_tasks.specs.declared.end.CloneEnd.TheVariants as end
 use Rattle.clone_tasks.specs.declared.rule.Link.{Link}
@@ -26,17 +26,16 @@ use Rattle.clone_tasks.specs.declared.rule.Rule.{Rule as TaskRule}
 use Rattle.clone_tasks.specs.declared.rule.Rule.TheVariants as rule
 use Rattle.clone_tasks.specs.declared.standing.Phase.{Phase}
 use Rattle.clone_tasks.specs.declared.standing.Phase.TheVariants.{Opening, Copying, Done}
-use Rattle.clone_tasks.specs.declared.standing.Standing.TheVariants.{Acknowledging, Fetching, Joining}
+use Rattle.clone_tasks.specs.declared.standing.Standing.TheVariants.{Acknowledging, Fetching}
 use Rattle.clone_recipient.specs.Receptions.{Reception}
 use Rattle.clone_fetch.specs.Fetching as fetch
 use Rattle.clone_fetch.specs.Fetching.{Breaks, Completes, PutsOut, Receives, Requester, StepsBy, TakesFrame, made_by, refusal_in, requester, says_of, with_sent}
 use Rattle.clone_fetch.specs.declared.answer.TaskAnswer.{TaskAnswer}
 use Rattle.clone_fetch.specs.declared.answer.TaskAnswer.TheVariants as told
-use Rattle.clone_network.specs.Connections.{Connection, link_over, opened, sent_behind, unread_then}
+use Rattle.clone_network.specs.Connections.{Connection, link_over, opened, sent_behind}
 use Rattle.clone_network.specs.Networks as network
 use Rattle.clone_network.specs.Networks.{Fetches, Network, Seat, StepsTask, with_connection}
 use Rattle.clone_network.proofs.CourseLemmas.{Terms, course}
-use Rattle.clone_rounds.specs.World.{World}
 use Rattle.clone_view.specs.Applying.{Applies}
 use Rattle.clone_view.specs.Frames.{command_of}
 use Rattle.clone_view.proofs.Applying.{applies}
@@ -45,7 +44,7 @@ use Rattle.clone_paired.specs.Paired.{HasCopied, IsCopying, IsPaired, IsReceptio
 use Rattle.clone_paired.specs.Seen.{IsSeen}
 use Rattle.clone_paired.specs.Speaking.{IsAsked}
 use Rattle.clone_paired.proofs.Connecting.{talks_connected}
-use Rattle.clone_paired.proofs.Linked.{Linked, Same, apart_is, none_at, same_connection, unlinked}
+use Rattle.clone_paired.proofs.Linked.{Same, apart_is, none_at, same_connection, unlinked}
 use Rattle.clone_paired.proofs.Lookups.{connection_is, made_is}
 use Rattle.clone_paired.proofs.QuietTasks.{complete_apart, complete_over, no_way, rule_apart, rule_over}
 use Rattle.clone_paired.proofs.Sends.{sent_bytes, sent_on, talks_sent_at}

@@ -1,20 +1,16 @@
 -- A step by which a task takes an answer keeps the clone paired.
-use Rattle.std.proofs.Common.{ℕ, zero, suc, ◌≡◌, ◌≢◌, ◌∙◌, ◌⊎◌, ◌+◌, ◌<◌, ◌≤◌, List, [], ◌∷◌, ◌++◌, Bool, true, false, if◌then◌else◌, Option, None, Some, get_or, length, map, set, refl, sym, ap, subst, inl, inr, arith}
-use Rattle.std.specs.Prelude.{slice_get, slice_index, not, ◌==◌, ◌&&◌, ◌||◌, IfSome}
-use Rattle.std.specs.List.{All}
-use Rattle.std.proofs.lemmas.Bool.{and_parts, both_ways}
+use Rattle.std.proofs.Common.{ℕ, ◌≡◌, ◌∙◌, ◌⊎◌, List, [], ◌∷◌, ◌++◌, Bool, true, false, if◌then◌else◌, Option, None, Some, get_or, length, map, set, refl, sym, ap, subst, inl, inr}
+use Rattle.std.specs.Prelude.{not, ◌&&◌, IfSome}
+use Rattle.std.proofs.lemmas.Bool.{and_parts}
 use Rattle.clone_outside.specs.Disk.{DiskImage}
 use Rattle.clone_outside.specs.DiskCalls.{DiskState}
 use Rattle.clone_chunk.specs.Plans as plans
-use Rattle.clone_chunk.specs.Stages.{copy_number, stage_number}
-use Rattle.clone_chunk.specs.declared.cause.CloneCause.{CloneCause}
-use Rattle.clone_chunk.specs.declared.copy_stage.CopyStage.{CopyStage}
+use Rattle.clone_chunk.specs.Stages.{stage_number}
 use Rattle.clone_chunk.specs.declared.copy_stage.CopyStage.TheVariants as copy
 use Rattle.clone_chunk.specs.declared.plan.StagePlan.{StagePlan}
 use Rattle.clone_chunk.specs.declared.plan.StagePlan.TheVariants as plan
-use Rattle.clone_marks.specs.Blocks.{IsChunk}
-use Rattle.clone_marks.specs.Counts.{block_counts, counted_pages, pairs_of, unmarked}
-use Rattle.clone_snapshot.specs.StageLists.{Files, Redo, StageList}
+use Rattle.clone_marks.specs.Counts.{block_counts, counted_pages, pairs_of}
+use Rattle.clone_snapshot.specs.StageLists.{Files, Redo}
 use Rattle.clone_session.specs.Cloning.{Session}
 use Rattle.clone_wire.specs.Spelling.{spelling}
 use Rattle.clone_wire.specs.declared.frame.Attempt.{Attempt}
@@ -24,7 +20,6 @@ use Rattle.clone_wire.specs.declared.frame.Side.TheVariants.{Answer as ofDonor}
 use Rattle.clone_stream.specs.Streams.{IsFrameOf}
 use Rattle.clone_tasks.specs.Awaiting.{awaits_block, awaits_end_of, awaits_stage, is_present, moves}
 use Rattle.clone_tasks.specs.Losing.{after_loss, is_spent}
-use Rattle.clone_tasks.specs.Moves.{begins, joined_by, served}
 use Rattle.clone_tasks.specs.Rules.{rule_at, sending_rule}
 use Rattle.clone_tasks.specs.Tables.{Table, awaits, incarnation_of, is_done, is_running, renewed, standing_of}
 use Rattle.clone_tasks.specs.declared.end.CloneEnd.TheVariants as end
@@ -32,7 +27,7 @@ use Rattle.clone_tasks.specs.declared.rule.Link.{Link}
 use Rattle.clone_tasks.specs.declared.rule.Link.TheVariants as link
 use Rattle.clone_tasks.specs.declared.rule.Rule.{Rule as TaskRule}
 use Rattle.clone_tasks.specs.declared.rule.Rule.TheVariants as rule
-use Rattle.clone_tasks.specs.declared.standing.Phase.TheVariants.{Copying, Done}
+use Rattle.clone_tasks.specs.declared.standing.Phase.TheVariants.{Copying}
 use Rattle.clone_tasks.specs.declared.standing.Standing.{Standing}
 use Rattle.clone_tasks.specs.declared.standing.Standing.TheVariants.{Apart, Ready}
 use Rattle.clone_recipient.specs.Expecting.{copied_in, fits, fits_pages, fits_redo, is_expected}
@@ -48,7 +43,6 @@ use Rattle.clone_network.specs.Networks as network
 use Rattle.clone_network.specs.Networks.{Fetches, Network, Seat, StepsTask, with_connection}
 use Rattle.clone_network.proofs.CourseLemmas.{Terms, course}
 use Rattle.clone_rounds.specs.World.{Block}
-use Rattle.clone_view.specs.Frames.{answer_of}
 use Rattle.clone_view.specs.Rows.{place_of}
 use Rattle.clone_paired.specs.Lines.{connection_of, made_of}
 use Rattle.clone_paired.specs.Paired.{HasCopied, IsCopying, IsPaired, IsReception, IsTalking}

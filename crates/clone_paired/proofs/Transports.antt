@@ -1,34 +1,29 @@
 -- What holds of a connection holds still, where a recipient has changed.
-use Rattle.std.proofs.Common.{ℕ, suc, ◌≡◌, ◌≢◌, ◌∙◌, ◌⊎◌, ◌+◌, ◌<◌, ◌≤◌, List, [], ◌∷◌, ◌++◌, Bool, true, false, Option, None, Some, length, refl, sym, ap, subst, inl, inr, arith}
+use Rattle.std.proofs.Common.{ℕ, ◌≡◌, ◌∙◌, ◌⊎◌, ◌<◌, ◌≤◌, List, [], ◌∷◌, ◌++◌, Bool, true, false, Option, Some, sym, arith}
 use Rattle.std.specs.Prelude.{◌==◌}
 use Rattle.std.specs.List.{AllByRecursion}
-use Rattle.clone_chunk.specs.Bitmaps.{Bits}
-use Rattle.clone_chunk.specs.Partials.{Taken}
 use Rattle.clone_chunk.specs.Stages.{copy_number}
 use Rattle.clone_chunk.specs.declared.copy_stage.CopyStage.{CopyStage}
 use Rattle.clone_chunk.specs.declared.copy_stage.CopyStage.TheVariants as copy
 use Rattle.clone_snapshot.specs.StageLists.{StageList}
 use Rattle.clone_session.specs.Cloning.{Session}
-use Rattle.clone_session.specs.declared.caller.Caller.{Caller}
 use Rattle.clone_wire.specs.declared.frame.Attempt.{Attempt}
 use Rattle.clone_wire.specs.declared.frame.Frame.{Frame}
 use Rattle.clone_wire.specs.declared.frame.Frame.TheVariants as frame
 use Rattle.clone_wire.specs.declared.stage.PageStage.TheVariants as page
 use Rattle.clone_serve.specs.declared.doing.Doing.{Doing}
 use Rattle.clone_serve.specs.declared.doing.Doing.TheVariants as doing
-use Rattle.clone_tasks.specs.Sending.{IsFirst, Opens, Reattaches, ShowsFinished, ShowsTaken}
+use Rattle.clone_tasks.specs.Sending.{IsFirst, Opens, Reattaches}
 use Rattle.clone_tasks.specs.Tables.{Table, incarnation_of}
 use Rattle.clone_tasks.specs.declared.standing.Phase.{Phase}
 use Rattle.clone_tasks.specs.declared.standing.Phase.TheVariants.{Opening, Copying, Done}
 use Rattle.clone_tasks.specs.declared.standing.Standing.{Standing}
 use Rattle.clone_recipient.specs.Receptions.{Reception}
 use Rattle.clone_network.specs.Connections.{Connection}
-use Rattle.clone_network.specs.Networks.{Network}
 use Rattle.clone_view.specs.Tables.{phase_number}
 use Rattle.clone_view.specs.Views.{Line}
 use Rattle.clone_paired.specs.Earlier.{BindsEarlier, IsEarlier, IsPast, WasAsked}
 use Rattle.clone_paired.specs.Lines.{Binds, IsLineOf, caller_of, doing_at}
-use Rattle.clone_paired.specs.Seen.{ArePast}
 use Rattle.clone_paired.specs.Sessions.{Copies, IsSessionOf}
 use Rattle.clone_paired.specs.Speaking.{IsAsked, IsGiven}
 

@@ -1,11 +1,11 @@
 -- What lies unread, while a frame more is sent, the next one is read and the connection is cut.
-use Rattle.std.proofs.Common.{ℕ, ◌≡◌, ◌≢◌, ◌∙◌, ◌≤◌, ◌<◌, ◌-◌, ◌⊎◌, zero, suc, List, [], ◌∷◌, ◌++◌, Bool, true, false, take, drop, length, refl, sym, ap, subst, append_assoc, inl, inr, arith, length-append, length-drop}
+use Rattle.std.proofs.Common.{ℕ, ◌≡◌, ◌∙◌, ◌≤◌, ◌-◌, zero, suc, List, [], ◌∷◌, ◌++◌, Bool, true, false, take, drop, length, refl, sym, ap, subst, append_assoc, inl, inr, arith, length-append, length-drop}
 use Rattle.std.proofs.lemmas.Bool.{cases_lt}
-use Rattle.std.proofs.lemmas.List.{append-nil, append_cancel_left, take-append-drop, take-append-le, take_all}
+use Rattle.std.proofs.lemmas.List.{append-nil, take-append-drop, take-append-le, take_all}
 use Rattle.clone_bytes.specs.Fields.{IsBytes}
 use Rattle.clone_bytes.proofs.Numbers.{IsBytes-back}
 use Rattle.clone_chunk.specs.declared.copy_stage.CopyStage.TheVariants.{FileCopy}
-use Rattle.clone_wire.specs.Answers.{BeginsNone, IsLost, Spells}
+use Rattle.clone_wire.specs.Answers.{BeginsNone, IsLost}
 use Rattle.byteorder.specs.Endian.{big_bytes}
 use Rattle.clone_wire.specs.Spelling.{code_of, payload, spelling}
 use Rattle.clone_wire.specs.declared.frame.Frame.{Frame}
@@ -121,11 +121,11 @@ module _ (side : Side) where
   }
   holds_cut n cut (f ∷ frames) bytes h = elim (cases_lt n (length (spelling f))) [
     | inl short ↦ record {
-        kept = [];
-        lost = f ∷ frames;
-        are = refl;
-        holds = record { are = tt; next = f ∷ []; would = (h.are.0, tt); rest = take n (spelling f); part = (drop n (spelling f), omega (arith, short, length-drop n (spelling f)), take-append-drop n (spelling f)); whole = λ is. absurd (cc); is = ap (take n) split ∙ take-append-le n (spelling f) (spellings frames ++ h.rest) (omega (arith, short)) };
-      }
+      kept = [];
+      lost = f ∷ frames;
+      are = refl;
+      holds = record { are = tt; next = f ∷ []; would = (h.are.0, tt); rest = take n (spelling f); part = (drop n (spelling f), omega (arith, short, length-drop n (spelling f)), take-append-drop n (spelling f)); whole = λ is. absurd (cc); is = ap (take n) split ∙ take-append-le n (spelling f) (spellings frames ++ h.rest) (omega (arith, short)) };
+    }
     | inr past ↦ (
         let rest : Holds side cut frames (spellings frames ++ h.rest) = record { are = h.are.1; next = h.next; would = h.would; rest = h.rest; part = h.part; whole = h.whole; is = refl } in
         let more = holds_cut (n - length (spelling f)) cut frames (spellings frames ++ h.rest) rest in

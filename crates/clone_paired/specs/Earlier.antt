@@ -1,12 +1,11 @@
 -- CONNECTIONS OF EARLIER INCARNATIONS, which no task has any more.
-use Rattle.std.specs.Prelude.{ℕ, ◌≡◌, ◌<◌, ◌⊎◌, Bool, true, false, List, ⊤}
+use Rattle.std.specs.Prelude.{◌≡◌, ◌<◌, ◌⊎◌, Bool, true, false, List, ⊤}
 use Rattle.std.specs.List.{AllByRecursion}
 use Rattle.clone_chunk.specs.Stages.{copy_number}
 use Rattle.clone_wire.specs.declared.frame.Attempt.{Attempt}
 use Rattle.clone_wire.specs.declared.frame.Frame.{Frame}
 use Rattle.clone_wire.specs.declared.frame.Frame.TheVariants as frame
 use Rattle.clone_wire.specs.declared.frame.Side.TheVariants.{Command}
-use Rattle.clone_session.specs.declared.caller.Caller.{Caller}
 use Rattle.clone_serve.specs.declared.doing.Doing.{Doing}
 use Rattle.clone_serve.specs.declared.doing.Doing.TheVariants as doing
 use Rattle.clone_tasks.specs.Tables.{Table, incarnation_of}
@@ -42,7 +41,8 @@ BindsEarlier t doing.New = ⊤
 BindsEarlier t doing.Over = ⊤
 BindsEarlier t other = ⊥
 
--- A CONNECTION of an earlier incarnation. Where the loop of its end goes on, such commands lie unread.
+-- A CONNECTION of an earlier incarnation. Where the loop of its end goes on, such commands lie
+-- unread.
 pub record IsPast (t : Table) (acknowledged : Bool) (at : Connection) : Type 0 where
   pub held : at.held ≡ false
   pub binds : BindsEarlier t (doing_at at)

@@ -1,16 +1,15 @@
 -- A DONOR AND A RECIPIENT THAT TALK, while nobody but they and strangers who don't act in their
 -- session say anything: who awaits what of whom is as the rounds have it.
-use Rattle.std.specs.Prelude.{ℕ, ◌≡◌, ◌≢◌, ◌≤◌, ◌⊎◌, Bool, true, false, List, None, Some, length, slice_get, IfSome}
+use Rattle.std.specs.Prelude.{ℕ, ◌≡◌, ◌≤◌, ◌⊎◌, true, false, List, Some, length, IfSome}
 use Rattle.std.specs.declared.option.Option.{Option}
 use Rattle.clone_session.specs.Cloning.{Session}
-use Rattle.clone_tasks.specs.Tables.{Table, AreStandings, IsBounded, IsTable, awaits, incarnation_of, is_done, standing_of}
+use Rattle.clone_tasks.specs.Tables.{AreStandings, IsBounded, IsTable, awaits, incarnation_of}
+use Rattle.clone_tasks.specs.Tables.{is_done, standing_of}
 use Rattle.clone_marks.specs.Blocks.{partials_of}
 use Rattle.clone_tasks.specs.Losing.{kept_in}
 use Rattle.clone_recipient.specs.Receptions.{AreCounted, Reception}
-use Rattle.clone_network.specs.Connections.{Connection}
 use Rattle.clone_network.specs.Networks.{Network}
 use Rattle.clone_view.specs.Views.{Line}
-use Rattle.clone_serve.specs.declared.doing.Doing.TheVariants as doing
 use Rattle.clone_paired.specs.Lines.{AreApart, IsAt, connection_of, made_of}
 use Rattle.clone_paired.specs.Sessions.{HasComeTo, IsSessionOf}
 use Rattle.clone_paired.specs.Seen.{IsKnown}

@@ -1,5 +1,6 @@
 -- A CLONE AS THE ROUNDS, over the blocks that the chunks of each stage have.
-use Rattle.std.specs.Prelude.{ℕ, ◌≡◌, ◌≢◌, ◌<◌, ◌≤◌, Bool, false, List, None, Some, slice_get, slice_index, ⊤}
+use Rattle.std.specs.Prelude.{ℕ, ◌≡◌, ◌≢◌, ◌<◌, ◌≤◌, Bool, false, List, None, Some, slice_get}
+use Rattle.std.specs.Prelude.{slice_index, ⊤}
 use Rattle.std.specs.declared.option.Option.{Option}
 use Rattle.clone_chunk.specs.Chunks.{is_kept}
 use Rattle.clone_chunk.specs.declared.chunk.Chunk.TheVariants.{Claimed}

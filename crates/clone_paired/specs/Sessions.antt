@@ -1,5 +1,5 @@
 -- THE SESSION that the donor has of a clone, by what the recipient knows.
-use Rattle.std.specs.Prelude.{ℕ, ◌≡◌, ◌≢◌, ◌<◌, ◌≤◌, ◌^◌, Bool, true, false, List, [], length, Some, slice_get}
+use Rattle.std.specs.Prelude.{ℕ, ◌≡◌, ◌≢◌, ◌<◌, ◌≤◌, ◌^◌, false, List, length, Some, slice_get}
 use Rattle.std.specs.Prelude.{slice_index, ⊤}
 use Rattle.clone_chunk.specs.Chunks.{is_kept, is_whole}
 use Rattle.clone_chunk.specs.declared.chunk.Chunk.TheVariants.{Claimed, Finished}

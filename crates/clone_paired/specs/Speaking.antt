@@ -1,8 +1,8 @@
 -- WHAT IS SAID between a donor and the tasks of a recipient in the present incarnation.
-use Rattle.std.specs.Prelude.{ℕ, ◌≡◌, ◌<◌, ◌==◌, ◌⊎◌, List, None, Some, true, length, slice_index, ⊤}
+use Rattle.std.specs.Prelude.{ℕ, ◌≡◌, ◌<◌, ◌==◌, List, None, Some, true, length, slice_index, ⊤}
 use Rattle.std.specs.declared.option.Option.{Option}
 use Rattle.clone_chunk.specs.Plans as plans
-use Rattle.clone_chunk.specs.Stages.{copy_number, stage_number}
+use Rattle.clone_chunk.specs.Stages.{stage_number}
 use Rattle.clone_chunk.specs.declared.copy_stage.CopyStage.TheVariants.{PageCopy}
 use Rattle.clone_chunk.specs.declared.plan.StagePlan.{StagePlan}
 use Rattle.clone_chunk.specs.declared.plan.StagePlan.TheVariants as plan

@@ -3,4 +3,4 @@
 
 mod laws;
 
-pub use laws::{ends_fairly, never_stuck, paired_laws, rests_laws};
+pub use laws::{ends_fairly, never_stuck, paired_laws, reception_laws, rests_laws};

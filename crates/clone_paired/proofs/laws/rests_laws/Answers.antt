@@ -1,4 +1,4 @@
-use Rattle.clone_paired.proofs.DonorRests.{rests_paired}
+use Rattle.clone_paired.proofs.RestingEnds.{rests_paired}
 use Rattle.clone_paired.proofs.laws.rests_laws.Goals as goal
 
 pub returns : goal.returns

@@ -1,13 +1,13 @@
 -- Where such an end is one of a task, or one of an earlier incarnation, the clone stays paired.
-use Rattle.std.proofs.Common.{ℕ, ◌≡◌, ◌≢◌, ◌∙◌, ◌⊎◌, ◌<◌, List, [], ◌∷◌, Bool, true, false, if◌then◌else◌, Option, None, Some, length, map, refl, sym, ap, subst, inl, inr}
+use Rattle.std.proofs.Common.{ℕ, ◌≡◌, ◌≢◌, ◌∙◌, ◌⊎◌, ◌<◌, List, [], Bool, true, false, if◌then◌else◌, Option, None, Some, length, refl, sym, ap, subst, inl, inr}
 use Rattle.std.specs.Prelude.{slice_get, not, ◌||◌, ◌&&◌, MatchOption, IfSome}
-use Rattle.std.proofs.lemmas.Bool.{both_ways, cases_eq}
+use Rattle.std.proofs.lemmas.Bool.{cases_eq}
 use Rattle.std.proofs.lemmas.Option.{slice_get_within}
 use Rattle.clone_base.proofs.MapEntries.{slice_get-set_other, slice_get-set_same}
 use Rattle.clone_snapshot.specs.StageLists.{StageList}
 use Rattle.clone_session.specs.Cloning.{Session}
 use Rattle.clone_wire.specs.Answers.{BeginsNone}
-use Rattle.clone_wire.specs.declared.frame.Side.TheVariants.{Answer as ofDonor, Command as ofTask}
+use Rattle.clone_wire.specs.declared.frame.Side.TheVariants.{Command as ofTask}
 use Rattle.clone_calls.specs.declared.answer.DonorAnswer.{DonorAnswer}
 use Rattle.clone_calls.specs.declared.call.DonorCall.{DonorCall}
 use Rattle.clone_serve.specs.declared.doing.Doing.{Doing}
@@ -16,24 +16,24 @@ use Rattle.clone_serve.specs.Serving.{is_over}
 use Rattle.clone_serve.specs.declared.turn.ServeAnswer.TheVariants as says
 use Rattle.clone_tasks.specs.Tables.{Table}
 use Rattle.clone_recipient.specs.Receptions.{Reception}
-use Rattle.clone_network.specs.Connections.{Connection, StepsBy, StepsEnd, is_open, is_serving}
+use Rattle.clone_network.specs.Connections.{Connection, StepsBy, is_open, is_serving}
 use Rattle.clone_network.specs.Networks.{Network, StepsDonor, with_connection}
 use Rattle.clone_network.specs.declared.donor_step.DonorStep.{DonorStep}
 use Rattle.clone_network.specs.declared.donor_step.DonorStep.TheVariants as step
-use Rattle.clone_rounds.specs.World.{Core, IsLinked, IsLive, IsServing, New, Over, Ready, Seat, World, put, with_seat}
+use Rattle.clone_rounds.specs.World.{Core, IsLive, IsServing, New, Over, Ready, Seat, put, with_seat}
 use Rattle.clone_rounds.proofs.Serving.{keep_finds_loss}
 use Rattle.clone_rounds.proofs.Puts.{find_below}
 use Rattle.clone_view.specs.Donors.{core_of}
-use Rattle.clone_view.specs.Views.{IsLine, IsSeat, IsView, Line, line_over, list_in}
-use Rattle.clone_paired.specs.Earlier.{BindsEarlier, IsPast}
-use Rattle.clone_paired.specs.Lines.{IsAt, IsLineOf, connection_of, doing_at, is_lost}
+use Rattle.clone_view.specs.Views.{IsLine, IsSeat, Line, line_over, list_in}
+use Rattle.clone_paired.specs.Earlier.{IsPast}
+use Rattle.clone_paired.specs.Lines.{IsAt, IsLineOf, connection_of}
 use Rattle.clone_paired.specs.Paired.{HasCopied, IsCopying, IsPaired, IsTalking}
 use Rattle.clone_paired.specs.Quiet.{FindsNothing, ServesNone}
-use Rattle.clone_paired.specs.Seen.{ArePast, IsKnown, IsSeen}
+use Rattle.clone_paired.specs.Seen.{ArePast, IsSeen}
 use Rattle.clone_paired.specs.Sessions.{HasComeTo}
 use Rattle.clone_paired.proofs.Changing.{past_with, talks_on, view_seat}
 use Rattle.clone_paired.proofs.Cuts.{had_small, has_or}
-use Rattle.clone_paired.proofs.EndRests.{RestsSo, end_rests}
+use Rattle.clone_paired.proofs.EndSteps.{end_rests}
 use Rattle.clone_paired.proofs.Linked.{Linked, linked_by}
 use Rattle.clone_paired.proofs.QuietEnds.{IsAwaiting}
 use Rattle.clone_paired.proofs.Stuck.{no_commands}

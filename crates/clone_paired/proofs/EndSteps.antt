@@ -1,17 +1,12 @@
 -- A donor's end that serves no EXECUTE, and finds nothing to do or a loss, leaves the clone paired.
-use Rattle.std.proofs.Common.{ℕ, ◌≡◌, ◌≢◌, ◌∙◌, ◌⊎◌, ◌<◌, List, [], ◌∷◌, Bool, true, false, if◌then◌else◌, Option, None, Some, length, map, refl, sym, ap, subst, inl, inr}
-use Rattle.std.specs.Prelude.{slice_get, not, ◌||◌, ◌&&◌, MatchOption, IfSome}
-use Rattle.std.proofs.lemmas.Bool.{both_ways, cases_eq}
-use Rattle.std.proofs.lemmas.Option.{slice_get_within}
-use Rattle.clone_base.proofs.MapEntries.{slice_get-set_other, slice_get-set_same}
-use Rattle.clone_snapshot.specs.StageLists.{StageList}
-use Rattle.clone_session.specs.Cloning.{Session}
+use Rattle.std.proofs.Common.{ℕ, ◌≡◌, ◌∙◌, List, [], ◌∷◌, Bool, true, false, if◌then◌else◌, Option, None, Some, refl, sym, ap, subst}
+use Rattle.std.specs.Prelude.{not, ◌||◌, ◌&&◌}
 use Rattle.clone_session.specs.declared.caller.Caller.{Caller}
 use Rattle.clone_wire.specs.Answers.{BeginsNone}
-use Rattle.clone_wire.specs.declared.frame.Side.TheVariants.{Answer as ofDonor, Command as ofTask}
+use Rattle.clone_wire.specs.declared.frame.Side.TheVariants.{Command as ofTask}
 use Rattle.clone_calls.specs.declared.answer.DonorAnswer.{DonorAnswer}
 use Rattle.clone_calls.specs.declared.call.DonorCall.{DonorCall}
-use Rattle.clone_serve.specs.Serving.{Begins, TakesCommand}
+use Rattle.clone_serve.specs.Serving.{TakesCommand}
 use Rattle.clone_serve.specs.Stepping.{Goes, GivesAll, IsStep}
 use Rattle.clone_serve.specs.Telling.{Exchange}
 use Rattle.clone_serve.specs.declared.doing.Doing.{Doing}
@@ -20,12 +15,8 @@ use Rattle.clone_serve.specs.declared.turn.ServeAnswer.{ServeAnswer}
 use Rattle.clone_serve.specs.declared.turn.ServeAnswer.TheVariants as says
 use Rattle.clone_serve.specs.declared.turn.ServeTurn.{ServeTurn}
 use Rattle.clone_serve.specs.declared.turn.ServeTurn.TheVariants.{Ask, Done}
-use Rattle.clone_tasks.specs.Tables.{Table}
-use Rattle.clone_recipient.specs.Receptions.{Reception}
-use Rattle.clone_network.specs.Connections.{Connection, StepsBy, StepsEnd, finds_loss, is_idle, is_open, is_serving, reaches_task, said_as, sent_behind, unread_then, was_refused}
-use Rattle.clone_network.specs.Networks.{Network, StepsDonor, with_connection}
+use Rattle.clone_network.specs.Connections.{Connection, StepsEnd, finds_loss, is_idle, is_serving, reaches_task, said_as, sent_behind, unread_then, was_refused}
 use Rattle.clone_network.specs.declared.donor_step.DonorStep.{DonorStep}
-use Rattle.clone_network.specs.declared.donor_step.DonorStep.TheVariants as step
 use Rattle.clone_paired.specs.Quiet.{FindsNothing}
 use Rattle.clone_paired.proofs.QuietEnds.{IsAwaiting, MayAwait, ask_does, begins_idle, command_does, done_ends}
 
