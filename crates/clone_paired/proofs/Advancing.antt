@@ -86,7 +86,7 @@ module _ (r s : Reception) (session_is : s.table.session ≡ r.table.session) (l
       never h = opening_of (j == 0) r.table j other h
 
   given_as : (session : Option Session) (f : Frame) → IsNoBlock f → IsGiven session r f → IsGiven session s f
-  given_as session (frame.Stage attempt plan) none is = (is.0 ∙ sym attempt_is, is.1, is.2)
+  given_as session (frame.Stage attempt plan) none is = (is.0 ∙ sym attempt_is, is.1, is.2, is.3)
   given_as session (frame.Pages attempt stage chunk block pages) none is = absurd none
   given_as session (frame.Redo attempt chunk block from bytes) none is = absurd none
   given_as session (frame.End attempt stage) none is = is ∙ sym attempt_is

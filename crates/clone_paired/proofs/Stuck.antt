@@ -138,17 +138,17 @@ module _ {A : Type 0} (gives : A → DonorCall → DonorAnswer → A → Type 0)
       core_open live = ap (λ (b : Bool). core_of (list_in session) (if b then x.at.doing else doing.Over)) (sym (alive live)) ∙ core_at
 
       unserved : IsServing (w.seats k).core → ⊥
-      unserved serves = on x.number x.at x.there (serving_core (list_in session) x.at.doing (w.seats k).core (core_open (serving_live (w.seats k).core serves)) serves) (quiet.ends x.number)
+      unserved serves = on x.number x.at x.there (alive (serving_live (w.seats k).core serves)) (serving_core (list_in session) x.at.doing (w.seats k).core (core_open (serving_live (w.seats k).core serves)) serves) (quiet.ends x.number)
 
-      idle_end : (serves : Bool) → is_serving x.at.doing ≡ serves → is_serving x.at.doing ≡ false
-      idle_end false is = is
-      idle_end true is = absurd (on x.number x.at x.there is (quiet.ends x.number))
+      idle_end : is_open x.at ≡ true → (serves : Bool) → is_serving x.at.doing ≡ serves → is_serving x.at.doing ≡ false
+      idle_end opens false is = is
+      idle_end opens true is = absurd (on x.number x.at x.there opens is (quiet.ends x.number))
 
       end_at : IsLive (w.seats k).core → Awaits x.at
       end_at live =
           let rests = end_of gives a n x.number x.at x.there (quiet.ends x.number) in
           let s = subst (λ (b : Bool). StepsBy b gives a a x.at rests.0 (step.Served says.Idle)) (alive live) rests.1 in
-          end_awaits gives a a x.at rests.0 (awaiting_core (list_in session) x.at.doing (w.seats k).core (core_open live) live (idle_end (is_serving x.at.doing) refl)) s
+          end_awaits gives a a x.at rests.0 (awaiting_core (list_in session) x.at.doing (w.seats k).core (core_open live) live (idle_end (alive live) (is_serving x.at.doing) refl)) s
 
       uncarried : IsLive (w.seats k).core → (w.seats k).commands ≢ [] → ⊥
       uncarried live there = there (no_commands x.l.commands (w.seats k).commands x.seat.commands (holds_partial ofTask x.at.cut x.l.commands x.at.to_donor (x.of.live (alive live)) (end_at live).none))

@@ -7,7 +7,7 @@ use Rattle.clone_calls.specs.declared.call.DonorCall.{DonorCall}
 use Rattle.clone_serve.specs.declared.turn.ServeAnswer.TheVariants as says
 use Rattle.clone_recipient.specs.Receptions.{Reception}
 use Rattle.clone_fetch.specs.declared.answer.TaskAnswer.TheVariants.{Idle, Stale}
-use Rattle.clone_network.specs.Connections.{Connection, is_serving}
+use Rattle.clone_network.specs.Connections.{Connection, is_open, is_serving}
 use Rattle.clone_network.specs.Networks.{Network, StepsDonor, StepsTask}
 use Rattle.clone_network.specs.declared.donor_step.DonorStep.{DonorStep}
 use Rattle.clone_network.specs.declared.donor_step.DonorStep.TheVariants.{Lost, Served}
@@ -28,11 +28,11 @@ pub record IsQuiet {A : Type 0} (gives : A → DonorCall → DonorAnswer → A �
   pub tasks : (task : ℕ) → task < r.table.count → TaskRests task r d n
   pub ends : (number : ℕ) → EndRests gives a number n
 
--- within an EXECUTE a donor's end never rests
+-- within an EXECUTE a donor's end never rests, as long as its loop goes on
 abbrev pub GoesOn : {A : Type 0} → (A → DonorCall → DonorAnswer → A → Type 0) → A → Network
     → Type 0
 GoesOn gives a n = (number : ℕ) (at : Connection) → slice_get n.connections number ≡ Some at
-    → is_serving at.doing ≡ true → EndRests gives a number n → ⊥
+    → is_open at ≡ true → is_serving at.doing ≡ true → EndRests gives a number n → ⊥
 
 -- it doesn't serve one
 abbrev pub ServesNone : Network → ℕ → Type 0

@@ -1,5 +1,5 @@
 -- WHAT IS SAID between a donor and the tasks of a recipient in the present incarnation.
-use Rattle.std.specs.Prelude.{ℕ, ◌≡◌, ◌<◌, ◌==◌, List, None, Some, true, length, slice_index, ⊤}
+use Rattle.std.specs.Prelude.{ℕ, ◌≡◌, ◌<◌, ◌≤◌, ◌==◌, ◌⊎◌, List, None, Some, true, length, slice_index, ⊤}
 use Rattle.std.specs.declared.option.Option.{Option}
 use Rattle.clone_chunk.specs.Plans as plans
 use Rattle.clone_chunk.specs.Stages.{stage_number}
@@ -43,6 +43,11 @@ abbrev pub TellsOf : Option Session → StagePlan → Type 0
 TellsOf None plan = ⊤
 TellsOf (Some s) plan = stage_number (plans.stage_of plan) ≡ donor_stage s → Tells plan s.snap.list
 
+-- it is of no later stage than the session
+abbrev pub IsReached : Option Session → StagePlan → Type 0
+IsReached None plan = ⊤
+IsReached (Some s) plan = stage_number (plans.stage_of plan) ≤ donor_stage s
+
 -- the recipient's stage has such a block
 abbrev pub HasBlock : Table → ℕ → ℕ → Type 0
 HasBlock t chunk block = block < slice_index (blocks_of t.marks) chunk
@@ -52,6 +57,7 @@ HasBlock t chunk block = block < slice_index (blocks_of t.marks) chunk
 abbrev pub IsGiven : Option Session → Reception → Frame → Type 0
 IsGiven session r (frame.Stage attempt plan) =
     (attempt ≡ attempt_of r.table) × (fits plan ≡ true) × TellsOf session plan
+    × IsReached session plan
 IsGiven session r (frame.Pages attempt stage chunk block pages) =
     (attempt ≡ attempt_of r.table) × HasBlock r.table chunk block
     × (fits_pages stage r chunk block pages ≡ true)
