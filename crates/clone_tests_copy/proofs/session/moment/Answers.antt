@@ -3,7 +3,7 @@ use Rattle.std.specs.Option.{ForSome}
 use Rattle.clone_base.specs.declared.limits.TheConstants.{LSN_LIMIT}
 use Rattle.clone_archive.specs.Archived.{Archived, IsArchived, archived_of}
 use Rattle.clone_session.specs.CloneCalls.{IsWithinRing}
-use Rattle.clone_tests_base.proofs.session.moment.Goals as goal
+use Rattle.clone_tests_copy.proofs.session.moment.Goals as goal
 
 -- the log ends where it is archived
 at_end : (archive : Option Archived) (ring end : ℕ) → ForSome archive IsArchived → end ≡ unwrap_or (option_map archived_of archive) 8192 → (end < LSN_LIMIT) × IsWithinRing end ring archive
