@@ -1,5 +1,5 @@
 use Rattle.std.proofs.Common.{◌≡◌, true}
-use Rattle.clone_tests_edge.proofs.links.drain.Given as goal
+use Rattle.clone_tests_links.proofs.links.drain.Given as goal
 
 abbrev pub invariant-loop : goal.invariant-loop
 invariant-loop g l = l.end.is_open ≡ true

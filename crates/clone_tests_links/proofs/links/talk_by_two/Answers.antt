@@ -5,8 +5,8 @@ use Rattle.std.proofs.alloc.Global.TheSendSync.{the_sync as global_sync}
 use Rattle.std.proofs.result.Result.TheSendSync.{the_send as result_send}
 use Rattle.clone_turn.proofs.TupleThreadLemmas.{three_send}
 use Rattle.clone_memlink.proofs.EndThreadLemmas.{end_send}
-use Rattle.clone_tests_edge.proofs.links.Heard.TheSendSync.{the_send as heard_send}
-use Rattle.clone_tests_edge.proofs.links.talk_by_two.Goals as goal
+use Rattle.clone_tests_links.proofs.links.Heard.TheSendSync.{the_send as heard_send}
+use Rattle.clone_tests_links.proofs.links.talk_by_two.Goals as goal
 
 pub join-one-requires-send-A : goal.join-one-requires-send-A
 join-one-requires-send-A g c κs within =

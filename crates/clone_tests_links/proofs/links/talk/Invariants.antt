@@ -1,5 +1,5 @@
 use Rattle.std.proofs.Common.{◌≡◌, true}
-use Rattle.clone_tests_edge.proofs.links.talk.Given as goal
+use Rattle.clone_tests_links.proofs.links.talk.Given as goal
 
 abbrev pub invariant-loop : goal.invariant-loop
 invariant-loop g l =

@@ -1,5 +1,5 @@
 use Rattle.std.proofs.Common.{◌≡◌, true}
-use Rattle.clone_tests_edge.proofs.links.send_all.Given as goal
+use Rattle.clone_tests_links.proofs.links.send_all.Given as goal
 
 abbrev pub invariant-loop-turn : goal.invariant-loop-turn
 invariant-loop-turn g l = l.end.is_open ≡ true

@@ -6,7 +6,7 @@ use Rattle.std.proofs.alloc.Global.TheSendSync.{the_sync as global_sync}
 use Rattle.std.proofs.result.Result.TheSendSync.{the_send as result_send}
 use Rattle.clone_turn.proofs.TupleThreadLemmas.{two_send}
 use Rattle.clone_memlink.proofs.EndThreadLemmas.{end_send}
-use Rattle.clone_tests_edge.proofs.links.send_until_closed.Goals as goal
+use Rattle.clone_tests_links.proofs.links.send_until_closed.Goals as goal
 
 pub join-one-requires-send-A : goal.join-one-requires-send-A
 join-one-requires-send-A g c κs within =
