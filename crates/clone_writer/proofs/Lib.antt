@@ -1,0 +1,5 @@
+pub mod Common
+pub mod Effects
+pub mod Sparing
+pub mod Agreeing
+pub mod Numbers
