@@ -1,4 +1,5 @@
-//! The tests of what a command line asks for and of the workload that it generates.
+//! The tests of what a command line asks for, of the workload that it generates and of a writer of
+//! it.
 //! They stand apart, since a crate with tests is proved twice.
 #![tactic(auto)]
 
@@ -6,3 +7,5 @@
 mod words;
 #[cfg(test)]
 mod workload;
+#[cfg(test)]
+mod writer;

@@ -14,6 +14,7 @@ use Rattle.clone_workload.specs.Transactions.{generated}
 use Rattle.clone_writer.specs.declared.writer.Place.{Place}
 use Rattle.clone_writer.specs.declared.writer.Place.TheVariants.{Before, Within, Undoing}
 
+-- a writer of a workload: what it is to commit, and how far it is
 pub record Writer : Type 0 where
   -- what its transactions are generated from
   pub seed : ℕ
