@@ -9,3 +9,4 @@ mod DeskLemmas
 mod CarriedLemmas
 mod CloneLemmas
 mod ClosedLemmas
+mod ShuffleLemmas

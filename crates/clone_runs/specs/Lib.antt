@@ -7,3 +7,4 @@ pub mod Connections
 pub mod Desk
 pub mod Carried
 pub mod Clones
+pub mod Shuffles

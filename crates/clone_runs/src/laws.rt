@@ -19,6 +19,7 @@ ghost use Rattle.clone_runs.specs.Connections.{AreInOrder, AreMatched, AreOf, Wa
 ghost use Rattle.clone_runs.specs.Connections.{place_of};
 ghost use Rattle.clone_runs.specs.Desk.{DeskAct, DeskRuns, handed, itself, paired};
 ghost use Rattle.clone_runs.specs.Carried.{Carried};
+ghost use Rattle.clone_runs.specs.Shuffles.{IsShuffled};
 ghost use Rattle.clone_runs.specs.Clones.{IsFetchedBy, IsFirst, IsServedBy, IsTask, Reading, Task};
 ghost use Rattle.clone_runs.specs.Clones.{answered_of, stepped_of};
 
@@ -139,4 +140,12 @@ pub fn opened_laws<C, E>()
         → NoneAfter opens leaves made → NoneAfter opens leaves run }
     ensures once { (opens leaves : E → Bool) (run : List E) → NoneAfter opens leaves run
         → IsOpenedOnce opens leaves run }
+{}
+
+/// Where seats were joined one after the other, the run is shuffled from their calls: each call in
+/// turn is the next one of one of the seats.
+pub fn shuffled_laws<M: Machine>()
+    ensures { (v t : SeatModel M.State M.Call M.Answer)
+        (ws : List (SeatModel M.State M.Call M.Answer)) → Joins v ws t
+        → IsShuffled (parts_of (v ∷ ws)) (calls t.seen) }
 {}

@@ -9,5 +9,5 @@ mod laws;
 
 pub use laws::{
     clone_laws, connection_laws, desk_laws, fetched_laws, last_laws, opened_laws, served_laws,
-    settled_laws,
+    settled_laws, shuffled_laws,
 };
