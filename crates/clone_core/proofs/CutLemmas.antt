@@ -27,8 +27,10 @@ use Rattle.clone_core.specs.CloneEvents.{Acts, Changes}
 use Rattle.clone_core.specs.Copied.{GoesOn, Holds, KnowsItsSizes, SaysInProgress, floor_of, progress_by, progress_of, world_of}
 use Rattle.clone_core.specs.Ending.{is_over}
 use Rattle.clone_core.specs.Lines.{State, Happens}
+use Rattle.clone_core.specs.Parts.{OnTerms}
 use Rattle.clone_core.proofs.DonorLemmas as donors
 use Rattle.clone_core.proofs.DonorLemmas.{disturbed_by}
+use Rattle.clone_core.proofs.PartLemmas.{connected_on}
 use Rattle.clone_core.proofs.ServeLemmas.{same_lends, same_stops}
 use Rattle.clone_core.proofs.StrangerLemmas.{not_over, undisturbed, was_honest}
 
@@ -54,7 +56,7 @@ not_connected connection change n is = by (slice_get n.connections connection) i
     by (Some at) none = held at.held at none
 
 -- another network, and somebody may have acted
-module _ (s : System) (begun : finite.FinMap nat_cmp ℕ) (disturbed doubted shown : Bool) (c : Copying) (at : s.course ≡ course_as.Begun c) (n : Network) (acted : Bool) (holds : Holds (world_of s begun disturbed doubted shown))
+module _ (s : System) (begun : finite.FinMap nat_cmp ℕ) (disturbed doubted shown : Bool) (c : Copying) (at : s.course ≡ course_as.Begun c) (n : Network) (acted : Bool) (holds : Holds (world_of s begun disturbed doubted shown)) (on : OnTerms s.terms (course_as.Begun (record { reception = c.reception; network = n })))
     (keeps : acted ≡ false → GoesOn s (course_as.Begun c) → GoesOn s (course_as.Begun (record { reception = c.reception; network = n }))) where
   abbrev w : Course
   w = course_as.Begun (record { reception = c.reception; network = n })
@@ -109,7 +111,7 @@ module _ (s : System) (begun : finite.FinMap nat_cmp ℕ) (disturbed doubted sho
 
   pub holds_next : Holds new
   holds_next = subst (λ (x : System). Holds (world_of x begun flag doubted shown)) moved_is
-      (donors.holds_next s begun disturbed doubted shown s.donor w acted (ap progress_of (sym at)) (ap floor_of (sym at)) (same_lends s.donor s.donor refl) (same_stops s.donor s.donor refl) holds goes
+      (donors.holds_next s begun disturbed doubted shown s.donor w acted (ap progress_of (sym at)) (ap floor_of (sym at)) (same_lends s.donor s.donor refl) (same_stops s.donor s.donor refl) holds goes on
       (subst (KnowsItsSizes s) at holds.sizes) (subst (λ (x : Course). SaysInProgress x s.recipient.told) at holds.marked))
 
 -- ---- a cut
@@ -118,15 +120,18 @@ module _ (s : System) (begun : finite.FinMap nat_cmp ℕ) (disturbed doubted sho
   abbrev cut : Network
   cut = on_connected connection (cut_at to_donor to_task) c.network
 
+  cut_on : OnTerms s.terms (course_as.Begun (record { reception = c.reception; network = cut }))
+  cut_on = connected_on s.terms c.reception connection (cut_at to_donor to_task) c.network (λ x is. is) (subst (OnTerms s.terms) at holds.parts)
+
   cut_keeps : false ≡ false → GoesOn s (course_as.Begun c) → GoesOn s (course_as.Begun (record { reception = c.reception; network = cut }))
   cut_keeps none on = λ runs. joined_cuts SESSION c.reception s.recipient.told s.stop s.donor c.network connection to_donor to_task (on runs)
 
   pub cut_happens : Happens (world_of s begun disturbed doubted shown) (acts (lines.Cut connection to_donor to_task) [] (if is_connected c.network.connections connection then codes "cut" else idle)) (world_of (with_copying c.reception cut s) begun disturbed doubted shown)
-  cut_happens = happens_by s begun disturbed doubted shown c at cut false holds cut_keeps (lines.Cut connection to_donor to_task) _
+  cut_happens = happens_by s begun disturbed doubted shown c at cut false holds cut_on cut_keeps (lines.Cut connection to_donor to_task) _
       (subst (λ (x : Course). OnCopying (ActsCut connection to_donor to_task) x s (with_copying c.reception cut s) [] (if is_connected c.network.connections connection then codes "cut" else idle)) (sym at) (record { is = refl; none = refl; answers = refl }))
 
   pub cut_holds : Holds (world_of (with_copying c.reception cut s) begun disturbed doubted shown)
-  cut_holds = holds_next s begun disturbed doubted shown c at cut false holds cut_keeps
+  cut_holds = holds_next s begun disturbed doubted shown c at cut false holds cut_on cut_keeps
 
   -- as the network's call answers it
   module _ (n : Network) (cuts : n ≡ cut) where
@@ -153,15 +158,18 @@ module _ (s : System) (begun : finite.FinMap nat_cmp ℕ) (disturbed doubted sho
   abbrev after : Bool
   after = disturbed_by there (progress_of s.course) disturbed
 
+  feed_on : OnTerms s.terms (course_as.Begun (record { reception = c.reception; network = more }))
+  feed_on = connected_on s.terms c.reception connection (fed bytes) c.network (λ x is. is) (subst (OnTerms s.terms) at holds.parts)
+
   feed_keeps : there ≡ false → GoesOn s (course_as.Begun c) → GoesOn s (course_as.Begun (record { reception = c.reception; network = more }))
   feed_keeps none on = subst (λ (n : Network). GoesOn s (course_as.Begun (record { reception = c.reception; network = n }))) (sym (not_connected connection (fed bytes) c.network none)) on
 
   pub feed_happens : Happens (world_of s begun disturbed doubted shown) (acts (lines.Feed connection bytes) (disturbing there) (if there then codes "noted" else idle)) (world_of (with_copying c.reception more s) begun after doubted shown)
-  feed_happens = happens_by s begun disturbed doubted shown c at more there holds feed_keeps (lines.Feed connection bytes) _
+  feed_happens = happens_by s begun disturbed doubted shown c at more there holds feed_on feed_keeps (lines.Feed connection bytes) _
       (subst (λ (x : Course). OnCopying (ActsFeed connection bytes) x s (with_copying c.reception more s) (disturbing there) (if there then codes "noted" else idle)) (sym at) (record { is = refl; changed = refl; answers = refl }))
 
   pub feed_holds : Holds (world_of (with_copying c.reception more s) begun after doubted shown)
-  feed_holds = holds_next s begun disturbed doubted shown c at more there holds feed_keeps
+  feed_holds = holds_next s begun disturbed doubted shown c at more there holds feed_on feed_keeps
 
   module _ (n : Network) (feeds : n ≡ more) where
     pub feed_made : (r : State) → world_of s begun disturbed doubted shown ≡ r → (b : Bool) → b ≡ there → Acts (lines.Feed connection bytes) r (if b then codes "noted" else codes "idle") (world_of (with_copying c.reception n s) begun (disturbed_by b (progress_of s.course) disturbed) doubted shown)

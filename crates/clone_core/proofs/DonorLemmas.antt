@@ -27,6 +27,7 @@ use Rattle.clone_core.specs.CloneEvents.{Changes}
 use Rattle.clone_core.specs.Copied.{GoesOn, Holds, KnowsItsSizes, SaysInProgress, floor_of, progress_by, progress_of, world_of}
 use Rattle.clone_core.specs.Ending.{is_over}
 use Rattle.clone_core.specs.Lines.{State}
+use Rattle.clone_core.specs.Parts.{OnTerms}
 use Rattle.clone_core.proofs.KeepLemmas.{AreWithin, StopsOn, first, kept_longer, still}
 
 -- ---- what a change makes of a clone
@@ -209,9 +210,10 @@ module _ (s : System) (begun : finite.FinMap nat_cmp ℕ) (disturbed doubted sho
         by false is = is
 
     -- WHAT HOLDS THEN
-    pub holds_next : KnowsItsSizes next w → SaysInProgress w s.recipient.told → Holds new
-    holds_next sizes marked = record {
+    pub holds_next : OnTerms s.terms w → KnowsItsSizes next w → SaysInProgress w s.recipient.told → Holds new
+    holds_next parts sizes marked = record {
       terms = holds.terms;
+      parts = parts;
       looked = subst (λ (d : plain.Donor). s.looked ≤ length d.binlog) (sym plain_same) holds.looked;
       unstopped = λ none. second_none s.stop own none;
       sizes = sizes;

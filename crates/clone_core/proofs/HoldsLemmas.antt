@@ -115,6 +115,7 @@ act_kept a s t begun counts disturbed doubted shown aside acts holds =
     let within = within_longer d.engine.donor t.engine.donor spared.answered spared.adds clone.stop (holds.keeps.commits, holds.keeps.drops) in
     record {
       terms = holds.terms;
+      parts = holds.parts;
       looked = commits_longer d.engine.donor t.engine.donor spared.answered spared.adds s.looked holds.looked;
       unstopped = λ none. ap (own_stop SESSION) spared.stop ∙ holds.unstopped none;
       sizes = sizes_still s t s.course holds.sizes;

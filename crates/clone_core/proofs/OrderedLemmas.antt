@@ -90,6 +90,7 @@ module _ (s : System) (new : DiskState) (same : new.told ≡ s.recipient.told) w
       let clone = (world_of s begun disturbed doubted shown).clone in
       record {
         terms = holds.terms;
+        parts = holds.parts;
         looked = holds.looked;
         unstopped = holds.unstopped;
         sizes = told_sizes s.course holds.sizes;

@@ -24,12 +24,14 @@ use Rattle.clone_engine.specs.Disks.{Visits}
 use Rattle.clone_events.specs.World.{Stop, Progress, absent, Clone, HasEnded, IsSure, before_stop}
 use Rattle.clone_events.specs.Events.{IsComplete}
 use Rattle.clone_recipient.specs.Receptions.{Reception}
+use Rattle.clone_script.specs.declared.terms.Terms.{Terms}
 use Rattle.clone_core.specs.declared.world.Copying.{Copying}
 use Rattle.clone_core.specs.declared.world.Course.{Course}
 use Rattle.clone_core.specs.declared.world.Course.TheVariants as course
 use Rattle.clone_core.specs.declared.world.TheConstants.{SESSION}
 use Rattle.clone_core.specs.System.{System, donor_of, recovered_course, tell}
 use Rattle.clone_core.specs.Lines.{State}
+use Rattle.clone_core.specs.Parts.{OnTerms}
 use Rattle.clone_core.specs.Showing.{ShowsRecovered, ShowsList, Reads}
 use Rattle.clone_core.specs.Copied.{GoesOn, Holds, HoldsEnded, HoldsStop, IsIncomplete, KnowsItsSizes, SaysInProgress, floor_of, progress_by, progress_of, world_of}
 use Rattle.clone_core.proofs.CallLemmas.{told_is, both_right}
@@ -327,6 +329,13 @@ ended_goes s course.Absent ended = absurd ended
 ended_goes s course.Unbegun ended = tt
 ended_goes s (course.Begun c) ended = λ running. absurd (ended_stopped c.reception.table.ended ended running)
 
+-- rows that are shown change nothing of its terms
+course_on : (terms : Terms) (came : RowsRead) (way : Course) → OnTerms terms way → OnTerms terms (course_by came way)
+course_on terms (Err refusal) way on = on
+course_on terms (Ok list) course.Absent on = tt
+course_on terms (Ok list) course.Unbegun on = tt
+course_on terms (Ok list) (course.Begun c) on = record { count = on.count; limit = on.limit; seats = on.seats; ends = on.ends; few = on.few }
+
 never_absent : (progress : Progress) → HasEnded progress → progress ≡ absent → ⊥
 never_absent progress ended none = subst HasEnded none ended
 
@@ -344,6 +353,7 @@ read_holds again_holds s begun disturbed doubted shown new w way result came is 
     subst (λ (c : Clone). Known (donor_of s) (tells && is_some new.told) c new.told) (sym (clone_noted s begun disturbed doubted shown new came)) known in
     subst (λ (c : Course). Holds (read_world s begun disturbed doubted shown new c came)) (sym goes) (record {
       terms = holds.terms;
+      parts = course_on s.terms came s.course holds.parts;
       looked = holds.looked;
       unstopped = holds.unstopped;
       sizes = ended_sizes (record s { recipient = new; course = course_by came s.course }) (course_by came s.course) behind;

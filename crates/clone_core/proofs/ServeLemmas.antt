@@ -29,6 +29,7 @@ use Rattle.clone_core.specs.Acting.{ActsDonor, OnCopying, donor_changes, stop_ch
 use Rattle.clone_core.specs.CloneEvents.{Changes}
 use Rattle.clone_core.specs.Copied.{GoesOn, Holds, KnowsItsSizes, SaysInProgress, floor_of, progress_of, world_of}
 use Rattle.clone_core.specs.Lines.{State, Happens}
+use Rattle.clone_core.specs.Parts.{OnTerms}
 use Rattle.clone_core.specs.CloneEvents.{Acts, ActsUntold}
 use Rattle.clone_core.specs.Left.{DonorLeaves, donor_left, is_idle, left_for_donor, left_for_tasks, tasks_left}
 use Rattle.clone_ending.specs.Service.{HasNumbers, donor_work}
@@ -36,6 +37,7 @@ use Rattle.clone_ending.proofs.DonorLemmas.{donor_busy, donor_rests}
 use Rattle.clone_joined.specs.Runs.{stop_by}
 use Rattle.std.specs.Option.{ForSome}
 use Rattle.clone_core.proofs.DonorLemmas as donors
+use Rattle.clone_core.proofs.PartLemmas.{donor_on}
 use Rattle.clone_core.proofs.UntoldLemmas.{happened_untold}
 
 -- nothing was asked of the donor
@@ -111,7 +113,7 @@ module _ (s : System) (begun : finite.FinMap nat_cmp ℕ) (disturbed doubted sho
   }
 
   pub holds_next : Holds new
-  holds_next = donors.holds_next s begun disturbed doubted shown t w false same floor lends.0 lends.1 holds goes (subst (KnowsItsSizes s) at holds.sizes) (subst (λ (x : Course). SaysInProgress x s.recipient.told) at holds.marked)
+  holds_next = donors.holds_next s begun disturbed doubted shown t w false same floor lends.0 lends.1 holds goes (donor_on s.terms c.reception s.donor t connection c.network n says steps (subst (OnTerms s.terms) at holds.parts)) (subst (KnowsItsSizes s) at holds.sizes) (subst (λ (x : Course). SaysInProgress x s.recipient.told) at holds.marked)
 
   -- ---- as the calls answer it, with the stop that is noted
   module _ (stop : Option session.Stop) (noted : stop ≡ stop_by SESSION s.stop t) where

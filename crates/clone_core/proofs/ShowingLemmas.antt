@@ -99,6 +99,7 @@ module _ (s : System) (position : ℕ) where
   pub look_holds : (begun : finite.FinMap nat_cmp ℕ) (disturbed doubted shown : Bool) → position ≡ length (donor_of s).binlog → Holds (world_of s begun disturbed doubted shown) → Holds (world_of (record s { looked = position }) begun disturbed doubted shown)
   look_holds begun disturbed doubted shown at holds = record {
     terms = holds.terms;
+    parts = holds.parts;
     looked = omega (arith, at);
     unstopped = holds.unstopped;
     sizes = looked_sizes s.course holds.sizes;

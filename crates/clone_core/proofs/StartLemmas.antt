@@ -26,6 +26,7 @@ use Rattle.clone_core.specs.System.{System, donor_of, tell}
 use Rattle.clone_core.specs.Lines.{Happens, State}
 use Rattle.clone_core.specs.CloneEvents.{EndsUntold}
 use Rattle.clone_core.specs.Copied.{GoesOn, Holds, HoldsEnded, KnowsItsSizes, SaysInProgress, floor_of, progress_by, progress_of, world_of}
+use Rattle.clone_core.proofs.PartLemmas.{begins_on}
 
 pub alters_visits : {Faulty : Type 0} (old new : DiskState) → Alters Faulty old new → Visits old new
 alters_visits old new alters = record { later = alters.later; orders = alters.orders; tells = alters.tells }
@@ -103,6 +104,7 @@ module _ (s : System) (counts : finite.FinMap nat_cmp ℕ) (disturbed doubted sh
     begun_holds : Steps s.recipient.told new.told (marked (InProgress SESSION)) → ForTold new.told (AreSizes as_begun.reception.sizes) → Holds (after (course.Begun as_begun))
     begun_holds marks sizes = record {
       terms = held.terms;
+      parts = begins_on SESSION s.terms held.terms.tasks.1;
       looked = held.looked;
       unstopped = held.unstopped;
       sizes = λ running. sizes;
@@ -142,6 +144,7 @@ module _ (s : System) (counts : finite.FinMap nat_cmp ℕ) (disturbed doubted sh
     pub breaks_holds : IsBeforeOrAfter s.recipient.told new.told (marked (InProgress SESSION)) → Holds (after course.Unbegun)
     breaks_holds partial = record {
       terms = held.terms;
+      parts = tt;
       looked = held.looked;
       unstopped = held.unstopped;
       sizes = tt;
@@ -184,6 +187,7 @@ module _ (s : System) (counts : finite.FinMap nat_cmp ℕ) (disturbed doubted sh
     pub occupied_holds : new.told ≡ s.recipient.told → Holds (after s.course)
     occupied_holds same = record {
       terms = held.terms;
+      parts = held.parts;
       looked = held.looked;
       unstopped = held.unstopped;
       sizes = subst (λ (c : Course). KnowsItsSizes (record s { recipient = new; course = s.course }) c) (sym none) tt;

@@ -81,7 +81,7 @@ module _ (s : System) (begun : finite.FinMap nat_cmp ℕ) (disturbed doubted sho
   changed = donors.changed s begun disturbed doubted shown t s.course acts refl refl lends now holds goes
 
   pub holds_next : Holds new
-  holds_next = donors.holds_next s begun disturbed doubted shown t s.course acts refl refl lends now holds goes holds.sizes holds.marked
+  holds_next = donors.holds_next s begun disturbed doubted shown t s.course acts refl refl lends now holds goes holds.parts holds.sizes holds.marked
 
 -- ---- a stranger's step
 

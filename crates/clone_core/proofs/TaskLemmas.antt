@@ -44,6 +44,7 @@ use Rattle.clone_core.specs.System.{System, donor_of, tell}
 use Rattle.clone_core.specs.Acting.{ActsTask, OnCopying, end_of, stop_of, with_copying}
 use Rattle.clone_core.specs.Copied.{GoesOn, Holds, HoldsEnded, HoldsStop, IsIncomplete, SaysInProgress, floor_of, progress_by, progress_of, world_of}
 use Rattle.clone_core.specs.Lines.{State, Happens}
+use Rattle.clone_core.specs.Parts.{IsOnTerms, OnTerms}
 use Rattle.std.specs.Prelude.{unwrap_or}
 use Rattle.clone_tasks.specs.Tables.{IsBounded}
 use Rattle.clone_network.specs.Courses.{IsFloor}
@@ -59,6 +60,7 @@ use Rattle.clone_core.specs.Left.{TasksLeave, donor_left, is_quiet, left_for_don
 use Rattle.clone_core.proofs.ChangeLemmas as changes
 use Rattle.clone_core.proofs.ChangeLemmas.{EndsNot, Kind, Steps, changes_of, clone_at, kind_of}
 use Rattle.clone_core.proofs.KeepLemmas.{for_told}
+use Rattle.clone_core.proofs.PartLemmas.{copying as copying_as, task_on}
 use Rattle.clone_core.proofs.RestLemmas.{task_marked, task_rests}
 
 running_of : (ended : Option tasks.CloneEnd) → ended ≡ None → is_none ended ≡ true
@@ -283,10 +285,15 @@ module _ (s : System) (begun : finite.FinMap nat_cmp ℕ) (disturbed doubted sho
       was_marked : was ≡ None → ForTold s.recipient.told (IsInProgress SESSION)
       was_marked first = subst (λ (w : Course). SaysInProgress w s.recipient.told) at holds.marked (running_of was first)
 
+  -- the clone stays on its terms
+  on_next : IsOnTerms s.terms (copying_as r n)
+  on_next = task_on s.terms c.reception r s.recipient disk c.network n number s.looked says holds.terms.tasks.1 (subst (OnTerms s.terms) at holds.parts) steps
+
   -- WHAT HOLDS THEN
   pub holds_next : AreCounted c.reception.table.phase c.reception → (says ≡ task.NoMemory → ⊥) → KnowsSizes r disk → Holds new
   holds_next counted memory sizes = record {
     terms = holds.terms;
+    parts = on_next;
     looked = holds.looked;
     unstopped = holds.unstopped;
     sizes = sizes;
@@ -388,6 +395,7 @@ module _ (s : System) (begun : finite.FinMap nat_cmp ℕ) (disturbed doubted sho
     pub holds_starved : Holds starved
     holds_starved = record {
       terms = holds.terms;
+      parts = record { count = on_next.count; limit = on_next.limit; seats = on_next.seats; ends = on_next.ends; few = on_next.few };
       looked = holds.looked;
       unstopped = holds.unstopped;
       sizes = λ runs. absurd (true≢false (sym runs));

@@ -38,6 +38,7 @@ new_holds donor recipient terms begun is taken session stop clear ranges =
     let unstopped = ap (own_stop SESSION) stop in
     record {
       terms = ranges;
+      parts = tt;
       looked = omega arith;
       unstopped = λ _. unstopped;
       sizes = tt;

@@ -21,6 +21,7 @@ use Rattle.clone_events.specs.Events.{IsComplete}
 use Rattle.clone_core.specs.declared.world.Course.{Course}
 use Rattle.clone_core.specs.declared.world.Course.TheVariants as course
 use Rattle.clone_core.specs.declared.world.TheConstants.{SESSION}
+use Rattle.clone_core.specs.Parts.{OnTerms}
 use Rattle.clone_core.specs.System.{System, donor_of, tell}
 use Rattle.clone_core.specs.Acting.{end_of, stop_of}
 use Rattle.clone_core.specs.Lines.{State}
@@ -109,6 +110,7 @@ GoesOn s (course.Begun c) = is_running c.reception.table ≡ true
 
 pub record Holds (s : State) : Type 0 where
   pub terms : IsTerms s.donor.terms
+  pub parts : OnTerms s.donor.terms s.donor.course
   pub looked : s.donor.looked ≤ length (donor_of s.donor).binlog
   pub unstopped : s.donor.stop ≡ None → own_stop SESSION s.donor.donor.cloning.stop ≡ None
   pub sizes : KnowsItsSizes s.donor s.donor.course

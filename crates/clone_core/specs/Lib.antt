@@ -4,6 +4,7 @@ pub mod Steps
 pub mod Lines
 pub mod Codes
 pub mod Called
+pub mod Parts
 pub mod Copied
 pub mod Showing
 pub mod CloneEvents
