@@ -11,6 +11,7 @@ pub mod DonorLemmas
 pub mod EndLemmas
 pub mod FaultLemmas
 pub mod HoldsLemmas
+pub mod IdleLemmas
 pub mod KeepLemmas
 pub mod LeftLemmas
 pub mod LineLemmas
@@ -22,6 +23,7 @@ pub mod OrderedLemmas
 pub mod PartLemmas
 pub mod RecoveredLemmas
 pub mod RestLemmas
+pub mod RestingLemmas
 pub mod RoundLemmas
 pub mod RowsLemmas
 pub mod RunLemmas

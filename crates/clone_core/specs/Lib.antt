@@ -5,6 +5,8 @@ pub mod Lines
 pub mod Codes
 pub mod Called
 pub mod Parts
+pub mod Quiet
+pub mod Idling
 pub mod Copied
 pub mod Showing
 pub mod CloneEvents

@@ -8,6 +8,7 @@ ghost use Rattle.clone_network.specs.declared.donor_step.DonorStep.TheVariants a
 ghost use Rattle.clone_serve.specs.declared.turn.ServeAnswer.TheVariants as served;
 ghost use Rattle.clone_core.specs.Lines.{Answers, BreaksOff};
 ghost use Rattle.clone_core.specs.CloneEvents.{Acts, ActsUntold, ended_at_last};
+ghost use Rattle.clone_core.specs.Idling.{EndIdles, TaskIdles};
 ghost use Rattle.clone_core.specs.Left.{DonorLeaves, TasksLeave, is_idle, is_quiet};
 
 use crate::World;
@@ -37,6 +38,7 @@ impl<D: PageDisk, R: PageDisk> World<D, R> {
         ensures acts { IfOk result (λ says. Acts (lines.Task task) self.old (task_text says)
             self.new) }
         ensures left { IfOk result (λ says. TasksLeave (is_quiet says) self.old self.new) }
+        ensures idles { IfOk result (λ says. TaskIdles (is_quiet says) task self.old self.new) }
         ensures err { OnErr result (ActsUntold (lines.Task task) self.old self.new) }
     {
         if let Course::Begun(copying) = &mut self.course {
@@ -78,10 +80,13 @@ impl<D: PageDisk, R: PageDisk> World<D, R> {
         ensures acts { IfOk result (λ says. Acts (lines.Serve connection) self.old (step_text says)
             self.new) }
         ensures left { IfOk result (λ says. DonorLeaves (is_idle says) self.old self.new) }
+        ensures idles { IfOk result (λ says. EndIdles (is_idle says) connection self.old
+            self.new) }
         ensures err { OnErr result (ActsUntold (lines.Serve connection) self.old self.new) }
     {
         if let Course::Begun(copying) = &mut self.course {
             let network = &mut copying.network;
+            self.donor.laws();
             let answer = network.step_donor(alloc, &mut self.donor, connection);
             self.donor.laws();
             self.stop = first_stop(self.stop, self.donor.stop());

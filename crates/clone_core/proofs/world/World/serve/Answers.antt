@@ -2,8 +2,10 @@ use Rattle.std.proofs.Common.{◌∙◌, ap, Option}
 use Rattle.std.specs.Option.{option_or}
 use Rattle.clone_session.specs.declared.info.Stop.{Stop}
 use Rattle.clone_sides.specs.Moment.{own_stop}
+use Rattle.clone_ending.proofs.BehindLemmas.{archives_all}
 use Rattle.clone_core.specs.declared.world.TheConstants.{SESSION}
 use Rattle.clone_core.specs.System.{System}
+use Rattle.clone_core.proofs.RestingLemmas.{serve_idles}
 use Rattle.clone_core.proofs.ServeLemmas.{serve_kept, serve_left, serve_made, serve_untold}
 use Rattle.clone_core.proofs.world.World.serve.Goals as goal
 
@@ -35,4 +37,12 @@ pub returns-in-Begun-clause-left : goal.returns-in-Begun-clause-left
 returns-in-Begun-clause-left g c =
     let i = c.self.inside in
     let s : System = record { donor = i.donor; recipient = g.R.PageDisk.state i.recipient; terms = i.terms; course = i.course; stop = i.stop; looked = i.looked } in
-    serve_left s i.begun i.is_disturbed i.is_doubted i.is_shown c.in-Begun.copying c.in-Begun.is c.args.connection c.step_donor-answer.new.donor c.step_donor-answer.new.self c.step_donor-answer.result c.step_donor-answer.ensures c.self.invariant c.first_stop-self-inside.result (c.first_stop-self-inside.ensures ∙ ap (λ (o : Option Stop). option_or i.stop (own_stop SESSION o)) c.stop.ensures) c.args.self.now c.self.view_is c.laws.ensures.numbers
+    serve_left s i.begun i.is_disturbed i.is_doubted i.is_shown c.in-Begun.copying c.in-Begun.is c.args.connection c.step_donor-answer.new.donor c.step_donor-answer.new.self c.step_donor-answer.result c.step_donor-answer.ensures c.self.invariant c.first_stop-self-inside.result (c.first_stop-self-inside.ensures ∙ ap (λ (o : Option Stop). option_or i.stop (own_stop SESSION o)) c.stop.ensures) c.args.self.now c.self.view_is c.laws-in-Begun.ensures.numbers
+
+pub returns-in-Begun-clause-idles : goal.returns-in-Begun-clause-idles
+returns-in-Begun-clause-idles g c =
+    let i = c.self.inside in
+    let s : System = record { donor = i.donor; recipient = g.R.PageDisk.state i.recipient; terms = i.terms; course = i.course; stop = i.stop; looked = i.looked } in
+    let l = c.laws.ensures in
+    serve_idles s i.begun i.is_disturbed i.is_doubted i.is_shown c.in-Begun.copying c.in-Begun.is c.args.connection c.step_donor-answer.new.donor c.step_donor-answer.new.self c.step_donor-answer.result c.step_donor-answer.ensures c.self.invariant c.first_stop-self-inside.result (c.first_stop-self-inside.ensures ∙ ap (λ (o : Option Stop). option_or i.stop (own_stop SESSION o)) c.stop.ensures)
+    (record { donor = l.donor; archives = archives_all i.donor.cloning l.cloning l.chunks }) c.args.self.now c.self.view_is

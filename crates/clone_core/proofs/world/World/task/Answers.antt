@@ -4,6 +4,7 @@ use Rattle.clone_recipient.specs.Receptions.{Reception}
 use Rattle.clone_core.specs.Acting.{with_copying}
 use Rattle.clone_core.specs.Copied.{Holds, world_of}
 use Rattle.clone_core.specs.System.{System}
+use Rattle.clone_core.proofs.RestingLemmas.{task_idles}
 use Rattle.clone_core.proofs.TaskLemmas.{holds_next, holds_starved, task_left, task_made, task_untold}
 use Rattle.clone_core.proofs.world.World.task.Goals as goal
 
@@ -38,5 +39,6 @@ returns-in-Begun g c =
     record {
       acts = task_made s i.begun i.is_disturbed i.is_doubted i.is_shown c.in-Begun.copying c.in-Begun.is c.args.task e.new.reception e.new.self (g.R.PageDisk.state e.new.disk) e.result e.ensures.steps e.ensures.works.tells c.self.invariant c.args.self.now c.self.view_is e.ensures.works;
       left = task_left s i.begun i.is_disturbed i.is_doubted i.is_shown c.in-Begun.copying c.in-Begun.is c.args.task e.new.reception e.new.self (g.R.PageDisk.state e.new.disk) e.result e.ensures.steps e.ensures.works.tells c.self.invariant c.args.self.now c.self.view_is c.laws.ensures.bounded c.laws-in-Begun.ensures.bounded c.in_default-answer.not-NoMemory;
+      idles = task_idles s i.begun i.is_disturbed i.is_doubted i.is_shown c.in-Begun.copying c.in-Begun.is c.args.task e.new.reception e.new.self (g.R.PageDisk.state e.new.disk) e.result e.ensures.steps c.args.self.now c.self.view_is;
       err = tt;
     }
