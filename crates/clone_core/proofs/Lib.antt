@@ -25,6 +25,7 @@ pub mod RecoveredLemmas
 pub mod RestLemmas
 pub mod RestingLemmas
 pub mod RoundLemmas
+pub mod RoundsIdle
 pub mod RowsLemmas
 pub mod RunLemmas
 pub mod ServeLemmas

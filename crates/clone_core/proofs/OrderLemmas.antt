@@ -85,7 +85,7 @@ event_gets side s unbegun t is = beside_gets side s t (ap (λ (w : System). w.do
 event_gets side s occupied t is = recipient_gets side s t is
 event_gets side s (acts by changes answer) t is = let leaves = acts_leave by s t changes answer is in both_get side s t leaves.lends.disk leaves.recipient
 event_gets side s (readied stage) t is = same_gets side s t is.0
-event_gets side s sticks t is = same_gets side s t is
+event_gets side s sticks t is = same_gets side s t is.0
 event_gets side s (again wish answer) t is = same_gets side s t is
 event_gets side s (showed rows) t is = beside_gets side s t (ap (λ (w : System). w.donor) is.is) is.visits
 event_gets side s incomplete t is = recipient_gets side s t is.0

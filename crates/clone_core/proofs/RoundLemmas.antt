@@ -9,10 +9,13 @@ use Rattle.clone_events.specs.Runs.{AreOfDonor, AreOfTasks, AreRounds, IsBy, IsR
 use Rattle.clone_core.specs.CloneEvents.{Acts, ActsUntold, EndsUntold, Makes}
 use Rattle.clone_core.specs.declared.rounds.Round.{Round}
 use Rattle.clone_core.specs.declared.rounds.Round.TheVariants as rounds
+use Rattle.clone_core.specs.Idling.{EndIdles, EndsIdle, TaskIdles, TasksIdle}
+use Rattle.clone_core.specs.Quiet.{AreClosed}
 use Rattle.clone_core.specs.Left.{DonorLeaves, RoundLeaves, TasksLeave, donor_left, tasks_left}
 use Rattle.clone_core.specs.Lines.{State}
 use Rattle.clone_core.proofs.ActsLemmas.{IsOfClone}
 use Rattle.clone_core.proofs.LeftLemmas.{donor_rests, donor_then, tasks_rest, tasks_then}
+use Rattle.clone_core.proofs.RoundsIdle.{ends_first, ends_next, tasks_first, tasks_next}
 use Rattle.clone_core.proofs.UntoldLemmas.{Join, OfClone, all_append, makes_as, makes_then, tasks_stay, untold_as, untold_behind}
 
 by_of_clone : (line : Line) (e : Event) → IsBy line e → IsOfClone e
@@ -44,9 +47,10 @@ quiet_tasks first (suc count) = let rest = quiet_tasks (first + 1) count in (act
 pub record TasksDone (s : State) (count : ℕ) (moved : Bool) (u : State) : Type 0 where
   pub made : Makes (AreOfTasks 0 count) s u
   pub left : TasksLeave (not moved) s u
+  pub idle : TasksIdle (not moved) count s u
 
 pub tasks_begin : (s : State) → TasksDone s 0 false s
-tasks_begin s = record { made = ([], refl, refl); left = tasks_rest s }
+tasks_begin s = record { made = ([], refl, refl); left = tasks_rest s; idle = tasks_first s }
 
 task_made : (s u t : State) (task : ℕ) (answer : List ℕ) → Makes (AreOfTasks 0 task) s u → Acts (lines.Task task) u answer t → Makes (AreOfTasks 0 (task + 1)) s t
 task_made s u t task answer made (changes, happens) =
@@ -54,8 +58,8 @@ task_made s u t task answer made (changes, happens) =
     (acts (lines.Task task) changes answer ∷ [], (refl, refl), (t, happens, refl))
 
 -- one more
-pub task_done : (s u t : State) (task : ℕ) (answer : List ℕ) (moved quiet : Bool) → TasksDone s task moved u → Acts (lines.Task task) u answer t → TasksLeave quiet u t → TasksDone s (task + 1) (moved || not quiet) t
-task_done s u t task answer moved quiet done acted left = record { made = task_made s u t task answer done.made acted; left = tasks_then moved quiet s u t done.left left }
+pub task_done : (s u t : State) (task : ℕ) (answer : List ℕ) (moved quiet : Bool) → TasksDone s task moved u → Acts (lines.Task task) u answer t → TasksLeave quiet u t → TaskIdles quiet task u t → TasksDone s (task + 1) (moved || not quiet) t
+task_done s u t task answer moved quiet done acted left idles = record { made = task_made s u t task answer done.made acted; left = tasks_then moved quiet s u t done.left left; idle = tasks_next moved quiet task s u t done.idle idles }
 
 -- memory ran out in the step of this task, and the others would have changed nothing
 pub task_untold : (s u t : State) (task count : ℕ) (moved : Bool) → task < count → TasksDone s task moved u → ActsUntold (lines.Task task) u t → EndsUntold (AreOfTasks 0 count) s t
@@ -104,9 +108,10 @@ pub record DonorDone (s : State) (next : Option ℕ) (moved : Bool) (u : State) 
   pub range : IsNumber next
   pub made : Makes (AreUpTo 0 bound) s u
   pub left : DonorLeaves (not moved) s u
+  pub idle : EndsIdle (not moved) next s u
 
-pub donor_begins : (s : State) (next : Option ℕ) → IsNumber next → DonorDone s next false s
-donor_begins s next range = record { bound = 0; low = all next; range = range; made = ([], omega arith, refl); left = donor_rests s }
+pub donor_begins : (s : State) (next : Option ℕ) → IsNumber next → AreClosed 0 next s.donor.course → DonorDone s next false s
+donor_begins s next range closed = record { bound = 0; low = all next; range = range; made = ([], omega arith, refl); left = donor_rests s; idle = ends_first s next closed }
   where
     all : (o : Option ℕ) → IfSome o (λ connection. 0 ≤ connection)
     all None = tt
@@ -123,13 +128,14 @@ abbrev pub IsBehind : ℕ → Option ℕ → Type 0
 IsBehind connection next = IfSome next (λ number. connection + 1 ≤ number)
 
 -- one more
-pub serve_done : (s u t : State) (connection : ℕ) (next : Option ℕ) (answer : List ℕ) (moved quiet : Bool) → DonorDone s (Some connection) moved u → IsBehind connection next → IsNumber next → Acts (lines.Serve connection) u answer t → DonorLeaves quiet u t → DonorDone s next (moved || not quiet) t
-serve_done s u t connection next answer moved quiet done behind range acted left = record {
+pub serve_done : (s u t : State) (connection : ℕ) (next : Option ℕ) (answer : List ℕ) (moved quiet : Bool) → DonorDone s (Some connection) moved u → IsBehind connection next → IsNumber next → Acts (lines.Serve connection) u answer t → DonorLeaves quiet u t → EndIdles quiet connection u t → AreClosed (connection + 1) next t.donor.course → DonorDone s next (moved || not quiet) t
+serve_done s u t connection next answer moved quiet done behind range acted left idles closed = record {
   bound = connection + 1;
   low = behind;
   range = range;
   made = serve_made s u t done.bound connection answer done.low done.made acted;
   left = donor_then moved quiet s u t done.left left;
+  idle = ends_next moved quiet connection next s u t done.idle idles closed;
 }
 
 pub donor_made : (s u : State) (next : Option ℕ) (moved : Bool) → DonorDone s next moved u → Makes (AreOfDonor 0) s u
@@ -209,6 +215,11 @@ round_ended s u t before ends = rounds_ended s u t before (untold_as (IsRound u.
 pub of_none : {X : Type 0} (o : Option X) (P : Type 0) → ((x : X) → o ≡ Some x → ⊥) → IfNone o P → P
 of_none None P none is = is
 of_none (Some x) P none is = absurd (none x refl)
+
+-- and of those that came to one
+pub of_some : {X : Type 0} (o : Option X) (x : X) (P : X → Type 0) → o ≡ Some x → IfSome o P → P x
+of_some None x P is holds = absurd (let e : None ≡ Some x = is in cc)
+of_some (Some y) x P is holds = (let same : y ≡ x = cc in subst P same holds)
 
 pub is_none : {X : Type 0} (o : Option X) → ((x : X) → o ≡ Some x → ⊥) → o ≡ None
 is_none None none = refl

@@ -1,5 +1,5 @@
 -- What calls of a clone make happen.
-use Rattle.std.specs.Prelude.{◌≡◌, ◌++◌, ◌∷◌, [], Bool, true, false, List, Some, Result, Ok, Err, codes}
+use Rattle.std.specs.Prelude.{◌≡◌, ◌≢◌, ◌++◌, ◌∷◌, [], Bool, true, false, List, None, Some, Result, Ok, Err, codes}
 use Rattle.std.specs.declared.alloc.AllocError.{AllocError}
 use Rattle.clone_script.specs.declared.lines.Line.{Line}
 use Rattle.clone_plain.specs.Answers.{Text}
@@ -19,12 +19,15 @@ use Rattle.clone_chunk.specs.Stages.{copy_number}
 use Rattle.std.specs.Fmt.{decimal}
 use Rattle.clone_core.specs.declared.rounds.Came.{Came}
 use Rattle.clone_core.specs.declared.rounds.Came.TheVariants as came
+use Rattle.clone_core.specs.declared.rounds.Round.{Round}
+use Rattle.clone_core.specs.declared.rounds.Round.TheVariants as round
 use Rattle.clone_core.specs.declared.start.Begun.{Begun}
 use Rattle.clone_core.specs.declared.start.Begun.TheVariants as begun
 use Rattle.clone_core.specs.Acting.{ServesStranger, stranger_changes, with_donor}
 use Rattle.clone_core.specs.Called.{StaysUntold}
 use Rattle.clone_core.specs.Ending.{is_copying}
-use Rattle.clone_core.specs.System.{IsReady, donor_of}
+use Rattle.clone_core.specs.Quiet.{NobodyMoves}
+use Rattle.clone_core.specs.System.{IsReady, donor_of, ready_at}
 use Rattle.clone_core.specs.Lines.{State, Events, Happens}
 
 -- what a line asks of a connection or of the session was done, and this is its answer
@@ -102,12 +105,30 @@ Begins s (Err e) t = EndsUntold (λ events. events ≡ unbegun ∷ []) s t
 -- ---- rounds
 
 -- rounds have come to their end so, in a line that stops where a stage is to be acknowledged, or in
--- one that doesn't
+-- one that doesn't: nothing can be done where nobody has anything to do
 abbrev pub CameTo : Bool → Came → State → Type 0
 CameTo stops came.Still t = is_copying t.clone.progress ≡ false
 CameTo stops (came.Ready stage) t = (stops ≡ true) × IsReady t.donor.course (copy_number stage)
     × (is_copying t.clone.progress ≡ true)
-CameTo stops came.Stuck t = is_copying t.clone.progress ≡ true
+CameTo stops came.Stuck t =
+    (is_copying t.clone.progress ≡ true) × NobodyMoves t.donor t.donor.course
+
+-- no stage is to be acknowledged at which such a line stops
+abbrev pub NoneReady : Bool → State → Type 0
+NoneReady stops t = stops ≡ true → ready_at t.donor.course ≡ None
+
+-- so by a round, which was idle where nothing can be done
+abbrev pub ComesBy : Round → Bool → Came → State → Type 0
+ComesBy r stops came.Still t = CameTo stops came.Still t
+ComesBy r stops (came.Ready stage) t = CameTo stops (came.Ready stage) t
+ComesBy r stops came.Stuck t =
+    (is_copying t.clone.progress ≡ true) × NoneReady stops t × (r ≡ round.Idle)
+
+-- or not by it
+pub record GoesOnFrom (r : Round) (stops : Bool) (t : State) : Type 0 where
+  pub goes : is_copying t.clone.progress ≡ true
+  pub none : NoneReady stops t
+  pub busy : r ≢ round.Idle
 
 -- how a clone stands that doesn't go on
 abbrev pub still_answer : Progress → Text

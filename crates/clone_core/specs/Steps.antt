@@ -5,10 +5,11 @@ use Rattle.clone_recover.specs.Restores.{IsIncomplete}
 use Rattle.clone_engine.specs.Disks.{with_order}
 use Rattle.clone_events.specs.Events.{to_donor, to_recipient, Event, made, cleaned, looked, archived, started, unbegun, occupied, acts, readied, sticks, again, showed, incomplete, hidden, damaged, ordered}
 use Rattle.clone_core.specs.Acting.{ActsStep}
+use Rattle.clone_core.specs.Quiet.{NobodyMoves}
 use Rattle.clone_core.specs.System.{System, ArchivesTo, CallStep, FailsRecipient, FailsToStart, FindsDamage, IsReady, OnDonor, ShowsRows, Starts, VisitsRecipient}
 
--- What is told of a clone again, and that nothing can be done for it, asks nothing; rows recover the
--- recipient's disk.
+-- What is told of a clone again asks nothing; where nothing can be done for it, nobody has anything
+-- to do; rows recover the recipient's disk.
 abbrev pub SystemStep : System → Event → System → Type 0
 SystemStep s (made asked given) t = OnDonor (λ d e. CallStep d asked given e) s t
 SystemStep s (cleaned landed) t = t ≡ s
@@ -19,7 +20,7 @@ SystemStep s unbegun t = FailsToStart s t
 SystemStep s occupied t = VisitsRecipient s t
 SystemStep s (acts by changes answer) t = ActsStep by s t changes answer
 SystemStep s (readied stage) t = (t ≡ s) × IsReady s.course stage
-SystemStep s sticks t = t ≡ s
+SystemStep s sticks t = (t ≡ s) × NobodyMoves s s.course
 SystemStep s (again wish text) t = t ≡ s
 SystemStep s (showed rows) t = ShowsRows s t
 SystemStep s incomplete t = VisitsRecipient s t × ForTold s.recipient.told IsIncomplete

@@ -1,5 +1,5 @@
 -- A donor, the disk of a recipient and the clone between them, and what single calls do to them.
-use Rattle.std.specs.Prelude.{ℕ, ◌≡◌, ◌&&◌, is_some, Bool, true, Some, Result, Ok, Err, codes}
+use Rattle.std.specs.Prelude.{ℕ, ◌≡◌, ◌&&◌, is_some, Bool, true, None, Some, Result, Ok, Err, codes}
 use Rattle.std.specs.Option.{option_map}
 use Rattle.std.specs.declared.option.Option.{Option}
 use Rattle.clone_outside.specs.Causes.{Rose}
@@ -20,6 +20,7 @@ use Rattle.clone_plain.specs.declared.refusal.EngineRefusal.TheVariants.{Because
 use Rattle.clone_calls.specs.declared.answer.DonorAnswer.TheVariants as answer
 use Rattle.clone_calls.specs.declared.call.DonorCall.TheVariants as call
 use Rattle.clone_chunk.specs.Stages.{copy_number}
+use Rattle.clone_chunk.specs.declared.copy_stage.CopyStage.{CopyStage}
 use Rattle.clone_script.specs.declared.terms.Terms.{Terms}
 use Rattle.clone_session.specs.declared.info.Stop as session
 use Rattle.clone_recipient.specs.Receptions.{begun}
@@ -120,8 +121,11 @@ pub record ShowsRows (s t : System) : Type 0 where
     course = recovered_course s.course;
   }
 
+-- the stage that task 0 would acknowledge by its next step, if there is one
+abbrev pub ready_at : Course → Option CopyStage
+ready_at (course.Begun c) = ready_in c.network c.reception.table
+ready_at other = None
+
 -- THE STAGE of this number is to be acknowledged by the next step of task 0.
 abbrev pub IsReady : Course → ℕ → Type 0
-IsReady (course.Begun c) stage =
-    option_map copy_number (ready_in c.network c.reception.table) ≡ Some stage
-IsReady other stage = ⊥
+IsReady w stage = option_map copy_number (ready_at w) ≡ Some stage

@@ -1,18 +1,18 @@
 //! Rounds of steps, which bring a clone to its end: a step of each task, and then one of the donor
 //! on each connection that is open.
-ghost use Rattle.std.specs.Prelude.{◌≡◌, ◌≢◌, ◌<◌, ◌≤◌, ◌+◌, ◌^◌, IfOk, OnErr, OnOk, None, not};
+ghost use Rattle.std.specs.Prelude.{◌≡◌, ◌<◌, ◌≤◌, ◌+◌, ◌^◌, IfOk, OnErr, OnOk, None, not};
 ghost use Rattle.std.specs.Option.{IfNone, IfSome};
 ghost use Rattle.std.specs.String.{string_bytes};
 ghost use Rattle.clone_script.specs.declared.lines.Line.TheVariants as lines;
-ghost use Rattle.clone_chunk.specs.Stages.{copy_number};
 ghost use Rattle.clone_events.specs.Runs.{AreOfDonor, AreOfTasks, AreRounds, IsRound};
-ghost use Rattle.clone_core.specs.declared.rounds.Round.TheVariants.{Idle};
-ghost use Rattle.clone_core.specs.CloneEvents.{CameTo, EndsUntold, Makes};
-ghost use Rattle.clone_core.specs.CloneEvents.{came_answer, still_answer};
+ghost use Rattle.clone_core.specs.CloneEvents.{CameTo, ComesBy, EndsUntold, GoesOnFrom};
+ghost use Rattle.clone_core.specs.CloneEvents.{Makes, came_answer, still_answer};
+ghost use Rattle.clone_core.specs.Idling.{EndsIdle, RoundIdles, TasksIdle};
 ghost use Rattle.clone_core.specs.Left.{DonorLeaves, RoundLeaves, TasksLeave};
 ghost use Rattle.clone_core.specs.Left.{is_idle, is_quiet, tasks_left};
 ghost use Rattle.clone_core.specs.Lines.{Answers, BreaksOff};
-ghost use Rattle.clone_core.specs.System.{IsReady};
+ghost use Rattle.clone_core.specs.Quiet.{AreClosed, tasks_of};
+ghost use Rattle.clone_core.specs.System.{ready_at};
 
 use crate::World;
 use crate::world::Course;
@@ -150,8 +150,8 @@ impl<D: PageDisk, R: PageDisk> World<D, R> {
 
     // How rounds come to their end by this one, if they do.
     fn comes_to(&self, round: Round, stops_when_ready: bool) -> Option<Came>
-        ensures some { IfSome result (λ how. CameTo stops_when_ready how self.now) }
-        ensures none { result ≡ None → round ≢ Idle }
+        ensures some { IfSome result (λ how. ComesBy round stops_when_ready how self.now) }
+        ensures none { result ≡ None → GoesOnFrom round stops_when_ready self.now }
     {
         if !self.course.goes_on() {
             return Some(Came::Still);
@@ -165,7 +165,7 @@ impl<D: PageDisk, R: PageDisk> World<D, R> {
 
     // The stage that the first task would acknowledge by its next step.
     fn ready(&self) -> Option<CopyStage>
-        ensures { IfSome result (λ stage. IsReady self.now.donor.course (copy_number stage)) }
+        ensures { result ≡ ready_at self.now.donor.course }
     {
         match &self.course {
             Course::Begun(copying) => copying.network.ready(&copying.reception),
@@ -177,6 +177,7 @@ impl<D: PageDisk, R: PageDisk> World<D, R> {
     fn round(&mut self, alloc: Global) -> Result<Round, AllocError>
         ensures made { OnOk result (Makes (IsRound self.old.tasks) self.old self.new) }
         ensures left { IfOk result (λ round. RoundLeaves round self.old self.new) }
+        ensures idles { IfOk result (λ round. RoundIdles round self.old self.new) }
         ensures err { OnErr result (EndsUntold (IsRound self.old.tasks) self.old self.new) }
     {
         let by_tasks = self.round_of_tasks(alloc)?;
@@ -194,6 +195,8 @@ impl<D: PageDisk, R: PageDisk> World<D, R> {
     fn round_of_tasks(&mut self, alloc: Global) -> Result<bool, AllocError>
         ensures made { OnOk result (Makes (AreOfTasks 0 self.old.tasks) self.old self.new) }
         ensures left { IfOk result (λ moved. TasksLeave (not moved) self.old self.new) }
+        ensures idle { IfOk result (λ moved. TasksIdle (not moved) (tasks_of self.old.donor.course)
+            self.old self.new) }
         ensures err { OnErr result (EndsUntold (AreOfTasks 0 self.old.tasks) self.old self.new) }
     {
         let mut has_moved = false;
@@ -208,6 +211,7 @@ impl<D: PageDisk, R: PageDisk> World<D, R> {
     fn round_of_donor(&mut self, alloc: Global) -> Result<bool, AllocError>
         ensures made { OnOk result (Makes (AreOfDonor 0) self.old self.new) }
         ensures left { IfOk result (λ moved. DonorLeaves (not moved) self.old self.new) }
+        ensures idle { IfOk result (λ moved. EndsIdle (not moved) None self.old self.new) }
         ensures err { OnErr result (EndsUntold (AreOfDonor 0) self.old self.new) }
     {
         let mut has_moved = false;
@@ -224,7 +228,9 @@ impl<D: PageDisk, R: PageDisk> World<D, R> {
     fn next_after(&self, connection: u32) -> Option<u32>
         ensures behind { IfSome result (λ number. connection + 1 ≤ number) }
         ensures range { IfSome result (λ number. number < 2 ^ 32) }
+        ensures between { AreClosed (connection + 1) result self.now.donor.course }
     {
+        let _ = &self.course;
         match connection.checked_add(1) {
             Some(from) => self.next_open(from),
             None => None,
@@ -235,6 +241,7 @@ impl<D: PageDisk, R: PageDisk> World<D, R> {
     fn next_open(&self, from: u32) -> Option<u32>
         ensures from { IfSome result (λ number. from ≤ number) }
         ensures range { IfSome result (λ number. number < 2 ^ 32) }
+        ensures between { AreClosed from result self.now.donor.course }
     {
         match &self.course {
             Course::Begun(copying) => copying

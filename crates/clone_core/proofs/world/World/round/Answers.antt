@@ -1,5 +1,6 @@
 use Rattle.clone_core.proofs.LeftLemmas.{donor_round, tasks_round}
 use Rattle.clone_core.proofs.RoundLemmas.{donor_ended, round_made, tasks_ended}
+use Rattle.clone_core.proofs.RoundsIdle.{round_idles}
 use Rattle.clone_core.proofs.UntoldLemmas.{on_err}
 use Rattle.clone_core.proofs.world.World.round.Goals as goal
 
@@ -25,3 +26,7 @@ returns-then-by_donor-clause-left g c =
 
 pub returns-clause-made : goal.returns-clause-made
 returns-clause-made g c = round_made c.args.self.now c.round_of_tasks.new.self c.round_of_donor.new.self c.in_ok-by_tasks.ensures.made c.in_ok-by_donor.ensures.made
+
+pub returns-clause-idles : goal.returns-clause-idles
+returns-clause-idles g c =
+    round_idles c.in_ok-by_tasks.by_tasks c.in_ok-by_donor.by_donor c.args.self.now c.round_of_tasks.new.self c.round_of_donor.new.self c.if-by_tasks.false c.if-by_donor.false c.in_ok-by_tasks.ensures.idle c.in_ok-by_donor.ensures.idle

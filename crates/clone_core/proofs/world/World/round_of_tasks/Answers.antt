@@ -1,4 +1,5 @@
 use Rattle.std.proofs.Common.{◌≡◌, ◌<◌, Bool, ap, arith, subst, sym}
+use Rattle.clone_core.specs.Idling.{TaskIdles}
 use Rattle.clone_core.specs.Left.{TasksLeave}
 use Rattle.clone_core.specs.Lines.{State}
 use Rattle.clone_core.proofs.RoundLemmas.{task_done, task_untold}
@@ -17,3 +18,4 @@ loop-task-preserved g c =
     let t = c.task.new.self in
     task_done c.args.self.now u t c.loop-task.task _ c.loop-task.has_moved c.is_quiet.result c.loop-task.invariant c.in_ok-answer.ensures.acts
     (subst (λ (quiet : Bool). TasksLeave quiet u t) (sym c.is_quiet.ensures) c.in_ok-answer.ensures.left)
+    (subst (λ (quiet : Bool). TaskIdles quiet c.loop-task.task u t) (sym c.is_quiet.ensures) c.in_ok-answer.ensures.idles)
