@@ -1,3 +1,4 @@
 pub mod EndLemmas
 pub mod OutcomeLemmas
+pub mod RecoveringLemmas
 pub mod RunLemmas

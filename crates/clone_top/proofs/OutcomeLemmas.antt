@@ -1,5 +1,5 @@
 -- What comes of a run of a script, by how far it came.
-use Rattle.std.proofs.Common.{◌≡◌, ◌≤◌, ℕ, List, ◌++◌, ◌&&◌, Bool, is_some, length, take, refl, sym, ap, ◌∙◌, subst, Option, None, Some, MatchOption, codes, arith, filter_map}
+use Rattle.std.proofs.Common.{◌≡◌, ◌≤◌, ℕ, List, ◌++◌, ◌&&◌, Bool, true, false, is_some, length, take, refl, sym, ap, ◌∙◌, subst, Option, None, Some, MatchOption, codes, arith, filter_map}
 use Rattle.std.proofs.lemmas.List.{take_all}
 use Rattle.std.specs.Fmt.{decimal}
 use Rattle.clone_outside.specs.Causes.{Rose}
@@ -31,16 +31,20 @@ use Rattle.clone_top.specs.declared.reading.Unread.TheVariants as unread
 use Rattle.clone_top.specs.declared.run.Unready.{Unready}
 use Rattle.clone_top.specs.declared.run.Unready.TheVariants as unready
 use Rattle.clone_top.specs.declared.status.Status.{Status}
-use Rattle.clone_top.specs.declared.status.Status.TheVariants.{Done, Memory, Usage, BadLine, SourceFault, SinkFault, DonorFault, RecipientFault, RestartsSpent, Garbled, Refused, NotEmpty, TooLong}
+use Rattle.clone_top.specs.declared.status.Status.TheVariants.{Done, Memory, Usage, BadLine, SourceFault, SinkFault, DonorFault, RecipientFault, RestartsSpent, Garbled, Refused, NotEmpty, Incomplete, Damaged, CompressionRefused, TooLong}
+use Rattle.clone_words.specs.Commands.{IsCommandLine}
+use Rattle.clone_words.specs.declared.command.Command.{Command}
+use Rattle.clone_words.specs.declared.reading.WordsRefusal.{WordsRefusal}
+use Rattle.clone_words.specs.declared.reading.WordsRefusal.TheVariants as words
 use Rattle.clone_top.specs.Carrying.{AnsweredAll, Finished, Leaves, behind, within, Stopped, in_lines, in_binlog}
 use Rattle.clone_top.specs.Causes.{EndsBy, Hinders, IsAlone, OpensAtMost, said, silent}
 use Rattle.clone_top.specs.Ended.{EndsLines}
-use Rattle.clone_top.specs.Ends.{AreEmpty, Disks, End, Ends, IsRead, Streams, steps, tell}
+use Rattle.clone_top.specs.Ends.{AreEmpty, Disks, End, Ends, IsRead, Streams, disks, tell}
 use Rattle.clone_top.specs.Headline.{HasClone, HasCompleted, HasCloneAt, Headline, IsWhole, LeavesPlain, Run, Writes, WritesAll, WritesSome}
 use Rattle.clone_top.specs.Headline as headline
 use Rattle.clone_top.specs.Looking.{IsUnread, IsUnready}
-use Rattle.clone_top.specs.Main.{Outcome, StepsOutcome, no_command, commanded}
-use Rattle.clone_top.specs.Saying.{Says, SaysUnread, SaysUnready}
+use Rattle.clone_top.specs.Main.{IsUntouched, Outcome, OutcomeOf, RunOutcome, StepsOutcome, no_command, no_memory}
+use Rattle.clone_top.specs.Saying.{Says, SaysNoCommand, SaysNoRun, SaysUnread, SaysUnready}
 use Rattle.clone_top.specs.Status.{number_of}
 use Rattle.clone_top.proofs.EndLemmas.{IsAtStop, ends_at_stop, left_at_stop}
 
@@ -60,24 +64,49 @@ untouched given back same = subst (OpensAtMost given) (sym same) (record {
   recipient = record { told = refl; later = omega arith; orders = refl };
 })
 
+-- the disks that come back where no donor was opened
+pub same_disks : (donor donor_back recipient recipient_back : DiskState) → donor_back ≡ donor → recipient_back ≡ recipient → disks donor_back recipient_back ≡ disks donor recipient
+same_disks donor donor_back recipient recipient_back same_donor same_recipient = ap (λ (d : DiskState). disks d recipient_back) same_donor ∙ ap (λ (d : DiskState). disks donor d) same_recipient
+
+-- no command was read
+pub no_command_read : (spoken : List Text) (old new : Streams) (given : Disks) (back : Ends) (refusal : WordsRefusal) (status : Status) → back.status ≡ number_of status → (refusal ≡ words.Usage → IsCommandLine spoken → ⊥) → IsUntouched old new given back → SaysNoCommand refusal status old.out new.out → Outcome spoken old new given back
+no_command_read spoken old new given back words.Usage status number none left says = no_command (none refl) status number (record { untouched = left; says = says })
+no_command_read spoken old new given back words.NoMemory status number none left says = no_memory (number ∙ ap number_of says.0) left says.1
+
+-- there is no run
+pub no_run : (compress : Bool) (due status : Status) (old new : Streams) (given : Disks) (back : Ends) → status ≡ due → IsUntouched old new given back → SaysNoRun compress due old.out new.out → RunOutcome compress status old new given back
+no_run true due status old new given back is left says = record { untouched = left; says = subst (λ (s : Status). Says CompressionRefused s old.out new.out (ended (codes "compression refused"))) (sym is) says }
+no_run false due status old new given back is left says = record { untouched = left; says = subst (λ (s : Status). Says Usage s old.out new.out (ended (codes "usage"))) (sym is) says }
+
 -- no script was read
-pub not_read : (words : List (List ℕ)) (old new : Streams) (given : Disks) (back : Ends) (why : Unread) (status : Status) → back.status ≡ number_of status → IsUnread words old.source new.source why → back.disks ≡ given → IsAlone old new back
-    → SaysUnread why status old.out new.out → Outcome words old new given back
-not_read words old new given back unread.Usage status number is same alone says = no_command is.0 status number (record { source = is.1; disks = same; alone = alone; says = says })
-not_read words old new given back unread.SourceFault status number is same alone says =
-    commanded steps is.0 status number (hindered SourceFault status (codes "source fault") old new given back (is.1, same, refl) alone says)
-not_read words old new given back unread.TooLong status number is same alone says =
-    commanded steps is.0 status number (hindered TooLong status (codes "script too long") old new given back (is.1, is.2, same, refl) alone says)
-not_read words old new given back (unread.BadLine line) status number is same alone says =
-    commanded steps is.0 status number (hindered BadLine status (codes "bad line " ++ decimal line) old new given back (is.1, line, is.2, is.3, same, refl) alone says)
-not_read words old new given back unread.Memory status number is same alone says = commanded steps is status number (unsaid status old new given back (untouched given back.disks same) alone says.0 says.1)
+not_read : (old new : Streams) (given : Disks) (back : Ends) (why : Unread) (status : Status) → IsUnread old.source new.source why → back.disks ≡ given → IsAlone old new back → SaysUnread why status old.out new.out → StepsOutcome status old new given back
+not_read old new given back unread.SourceFault status is same alone says = hindered SourceFault status (codes "source fault") old new given back (is, same, refl) alone says
+not_read old new given back unread.TooLong status is same alone says = hindered TooLong status (codes "script too long") old new given back (is.0, is.1, same, refl) alone says
+not_read old new given back (unread.BadLine line) status is same alone says = hindered BadLine status (codes "bad line " ++ decimal line) old new given back (is.0, line, is.1, is.2, same, refl) alone says
+not_read old new given back unread.Memory status is same alone says = unsaid status old new given back (untouched given back.disks same) alone says.0 says.1
+
+pub left_unread : (old new : Streams) (given : Disks) (back : Ends) (why : Unread) (due status : Status) → status ≡ due → IsUnread old.source new.source why → back.disks ≡ given → IsAlone old new back → SaysUnread why due old.out new.out → StepsOutcome status old new given back
+left_unread old new given back why due status is unread same alone says =
+    let P : Status → Type 0 = λ s. StepsOutcome s old new given back in
+    subst P (sym is) (not_read old new given back why due unread same alone says)
 
 -- its lines weren't begun
-pub not_begun : (config : Config) (terms : Terms) (lines : List Line) (old new : Streams) (given : Disks) (back : Ends) (why : Unready) (status : Status) → IsRead old.source new.source config terms lines → IsUnready given back.disks why → IsAlone old new back → SaysUnready why status old.out new.out → StepsOutcome status old new given back
+not_begun : (config : Config) (terms : Terms) (lines : List Line) (old new : Streams) (given : Disks) (back : Ends) (why : Unready) (status : Status) → IsRead old.source new.source config terms lines → IsUnready given back.disks why → IsAlone old new back → SaysUnready why status old.out new.out → StepsOutcome status old new given back
 not_begun config terms lines old new given back unready.DonorFault status read is alone says = hindered DonorFault status (codes "donor disk fault") old new given back ((config, terms, lines, read), is, refl) alone says
 not_begun config terms lines old new given back unready.RecipientFault status read is alone says = hindered RecipientFault status recipient_fault old new given back ((config, terms, lines, read), is.0, is.1, refl) alone says
 not_begun config terms lines old new given back unready.NotEmpty status read is alone says = hindered NotEmpty status (codes "not empty") old new given back ((config, terms, lines, read), is.0, is.1, refl) alone says
 not_begun config terms lines old new given back unready.Memory status read is alone says = unsaid status old new given back is alone says.0 says.1
+
+pub left_unbegun : (config : Config) (terms : Terms) (lines : List Line) (old new : Streams) (given between : Disks) (back : Ends) (why : Unready) (due status : Status) → status ≡ due → back.disks ≡ between → IsRead old.source new.source config terms lines → IsUnready given between why → IsAlone old new back → SaysUnready why due old.out new.out
+    → StepsOutcome status old new given back
+left_unbegun config terms lines old new given between back why due status is same read unready alone says =
+    let P : Disks → Type 0 = λ d. IsUnready given d why in
+    let Q : Status → Type 0 = λ s. StepsOutcome s old new given back in
+    subst Q (sym is) (not_begun config terms lines old new given back why due read (subst P (sym same) unready) alone says)
+
+-- what comes of the command that was asked for
+pub of_command : (asked known : Command) (status : Status) (old new : Streams) (given : Disks) (back : Ends) → asked ≡ known → OutcomeOf known status old new given back → OutcomeOf asked status old new given back
+of_command asked known status old new given back is = subst (λ (x : Command). OutcomeOf x status old new given back) (sym is)
 
 -- ---- the recipient's disk
 
@@ -256,6 +285,9 @@ module _ (old new : Streams) (given : Disks) (back : Ends) (config : Config) (te
   ran SourceFault is = absurd is
   ran DonorFault is = absurd is
   ran NotEmpty is = absurd is
+  ran Incomplete is = absurd is
+  ran Damaged is = absurd is
+  ran CompressionRefused is = absurd is
   ran TooLong is = absurd is
 
 -- the lines were carried out as they were lent

@@ -1,5 +1,5 @@
 -- What a run is given, and what comes back of it.
-use Rattle.std.specs.Prelude.{ℕ, ◌≡◌, ◌≤◌, ◌<◌, ◌&&◌, is_some, Bool, List, [], ◌∷◌, length, codes}
+use Rattle.std.specs.Prelude.{ℕ, ◌≡◌, ◌≤◌, ◌<◌, ◌&&◌, is_some, Bool, List, length}
 use Rattle.std.specs.declared.option.Option.{Option}
 use Rattle.clone_outside.specs.Bytes.{prepended, IsSpent}
 use Rattle.clone_outside.specs.Disk.{ForTold, blank}
@@ -56,14 +56,6 @@ pub record Ends : Type 0 where
 abbrev pub ends : ℕ → Disks → Drops → Option Stop → Ends
 ends status back drops stop =
     record { status = status; disks = back; drops = drops; stop = stop }
-
--- the commands of the program
-pub data Command : Type 0 where
-  steps : Command
-
--- the words ask for a command
-abbrev pub IsCommand : List (List ℕ) → Command → Type 0
-IsCommand words steps = words ≡ codes "steps" ∷ []
 
 -- the source was read to its end without a failure, and gave no more than a script may have
 pub record GaveAll (before after : End) (script : List ℕ) : Type 0 where

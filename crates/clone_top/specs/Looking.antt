@@ -3,7 +3,7 @@ use Rattle.std.specs.Prelude.{ℕ, ◌≡◌, List}
 use Rattle.clone_outside.specs.Causes.{Rose}
 use Rattle.clone_script.specs.Script.{IsFirstBad}
 use Rattle.clone_top.specs.Causes.{FailsDonor, LooksAtBoth, OpensAtMost, WereNotEmpty}
-use Rattle.clone_top.specs.Ends.{Command, steps, Disks, End, GaveAll, GaveTooMuch, IsCommand}
+use Rattle.clone_top.specs.Ends.{Disks, End, GaveAll, GaveTooMuch}
 use Rattle.clone_engine.specs.declared.opening.OpenCause.{OpenCause}
 use Rattle.clone_engine.specs.declared.opening.OpenCause.TheVariants as opening
 use Rattle.clone_top.specs.declared.reading.Unread.{Unread}
@@ -11,19 +11,14 @@ use Rattle.clone_top.specs.declared.reading.Unread.TheVariants as unread
 use Rattle.clone_top.specs.declared.run.Unready.{Unready}
 use Rattle.clone_top.specs.declared.run.Unready.TheVariants as unready
 
--- Why no script was read, by the words and the source, which stays where no command is asked for.
--- Want of memory is free.
-abbrev pub IsUnread : List (List ℕ) → End → End → Unread → Type 0
-IsUnread words before after unread.Usage =
-    ((command : Command) → IsCommand words command → ⊥) × (after ≡ before)
-IsUnread words before after unread.SourceFault =
-    IsCommand words steps × Rose before.faults after.faults
-IsUnread words before after unread.TooLong =
-    IsCommand words steps × (script : List ℕ) × GaveTooMuch before after script
-IsUnread words before after (unread.BadLine number) =
-    IsCommand words steps × (script : List ℕ) × GaveAll before after script
-    × IsFirstBad script number
-IsUnread words before after unread.Memory = IsCommand words steps
+-- Why no script was read, by the source. Memory may run out at any time.
+abbrev pub IsUnread : End → End → Unread → Type 0
+IsUnread before after unread.SourceFault = Rose before.faults after.faults
+IsUnread before after unread.TooLong =
+    (script : List ℕ) × GaveTooMuch before after script
+IsUnread before after (unread.BadLine number) =
+    (script : List ℕ) × GaveAll before after script × IsFirstBad script number
+IsUnread before after unread.Memory = Unit {0}
 
 -- why the lines aren't begun over disks that were such, and are such now
 abbrev pub IsUnready : Disks → Disks → Unready → Type 0

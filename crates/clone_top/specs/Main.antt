@@ -1,14 +1,21 @@
 -- What a run of the program is: by the command, then by the status.
-use Rattle.std.specs.Prelude.{ℕ, ◌≡◌, List, codes, MatchOption}
+use Rattle.std.specs.Prelude.{◌≡◌, List, Bool, true, false, codes, MatchOption}
 use Rattle.std.specs.declared.option.Option.{Option}
 use Rattle.clone_model.specs.Texts.{ended}
-use Rattle.clone_top.specs.Ends.{Streams, Disks, Ends, Command, steps, IsCommand}
+use Rattle.clone_plain.specs.Answers.{Text}
+use Rattle.clone_dump.specs.Shown.{SaysRecovered, SaysRows}
+use Rattle.clone_engine.specs.Disks.{Visits}
+use Rattle.clone_words.specs.Commands.{IsAskedBy, IsCommandLine}
+use Rattle.clone_words.specs.declared.command.Command.{Command}
+use Rattle.clone_words.specs.declared.command.Command.TheVariants as command
+use Rattle.clone_top.specs.Ends.{Streams, Disks, Ends}
 use Rattle.clone_top.specs.Headline.{Run, Headline}
 use Rattle.clone_top.specs.Causes.{HasNotBegun, IsAlone, RunsOver}
+use Rattle.clone_top.specs.Recovering.{Comes, Showing}
 use Rattle.clone_top.specs.Saying.{Says}
 use Rattle.clone_top.specs.Status.{number_of}
 use Rattle.clone_top.specs.declared.status.Status.{Status}
-use Rattle.clone_top.specs.declared.status.Status.TheVariants.{Usage}
+use Rattle.clone_top.specs.declared.status.Status.TheVariants.{CompressionRefused, Memory, Usage}
 
 -- why a status came: no line was begun, or a run of the lines came so far
 abbrev pub Causes : Status → Option Run → Streams → Streams → Disks → Ends → Type 0
@@ -25,23 +32,52 @@ pub record StepsOutcome (status : Status) (old new : Streams) (given : Disks) (e
   pub headline : MatchOption run (Unit {0}) (λ (r : Run). Headline status r old new given ends)
   pub causes : Causes status run old new given ends
 
--- The words ask for no command: neither the source nor a disk was touched.
-pub record UsageOutcome (status : Status) (old new : Streams) (given : Disks) (ends : Ends)
-    : Type 0 where
+-- The words alone were read: neither the source nor a disk was touched.
+pub record IsUntouched (old new : Streams) (given : Disks) (ends : Ends) : Type 0 where
   pub source : new.source ≡ old.source
   pub disks : ends.disks ≡ given
   pub alone : IsAlone old new ends
-  pub says : Says Usage status old.out new.out (ended (codes "usage"))
+
+-- Nothing was done, and why is said: by the status that is due, and its text
+pub record Refuses (due : Status) (text : Text) (status : Status) (old new : Streams)
+    (given : Disks) (ends : Ends) : Type 0 where
+  pub untouched : IsUntouched old new given ends
+  pub says : Says due status old.out new.out (ended text)
+
+-- A RUN OF `run`: with `--compress` it is refused; without it, no run is there yet.
+abbrev pub RunOutcome : Bool → Status → Streams → Streams → Disks → Ends → Type 0
+RunOutcome true status old new given ends =
+    Refuses CompressionRefused (codes "compression refused") status old new given ends
+RunOutcome false status old new given ends =
+    Refuses Usage (codes "usage") status old new given ends
+
+-- A RUN OVER THE RECIPIENT'S DISK: it is recovered, which a text shows, and nothing else is touched.
+pub record DiskOutcome (Shows : Showing) (status : Status) (old new : Streams) (given : Disks)
+    (ends : Ends) : Type 0 where
+  pub source : new.source ≡ old.source
+  pub donor : ends.disks.donor ≡ given.donor
+  pub recipient : Visits given.recipient ends.disks.recipient
+  pub comes : Comes Shows status given.recipient ends.disks.recipient old.out new.out
+  pub alone : IsAlone old new ends
 
 abbrev pub OutcomeOf : Command → Status → Streams → Streams → Disks → Ends → Type 0
-OutcomeOf steps status old new given ends = StepsOutcome status old new given ends
+OutcomeOf command.Steps status old new given ends = StepsOutcome status old new given ends
+OutcomeOf (command.Run run) status old new given ends =
+    RunOutcome run.compress status old new given ends
+OutcomeOf (command.Recover recover) status old new given ends =
+    DiskOutcome SaysRecovered status old new given ends
+OutcomeOf (command.Dump dump) status old new given ends =
+    DiskOutcome SaysRows status old new given ends
 
--- WHAT COMES OF A RUN, by its command and then by its status
-pub data Outcome (words : List (List ℕ)) (old new : Streams) (given : Disks) (ends : Ends)
+-- WHAT COMES OF A RUN, by its command and then by its status. The words are no command line, or
+-- there was no memory to read them, or they ask for a command.
+pub data Outcome (words : List Text) (old new : Streams) (given : Disks) (ends : Ends)
     : Type 0 where
-  no_command : ((command : Command) → IsCommand words command → ⊥)
+  no_command : (IsCommandLine words → ⊥)
       → (status : Status) → ends.status ≡ number_of status
-      → UsageOutcome status old new given ends → Outcome words old new given ends
-  commanded : (command : Command) → IsCommand words command
+      → Refuses Usage (codes "usage") status old new given ends → Outcome words old new given ends
+  no_memory : ends.status ≡ number_of Memory → IsUntouched old new given ends
+      → new.out.told ≡ old.out.told → Outcome words old new given ends
+  commanded : IsCommandLine words → (command : Command) → IsAskedBy words command
       → (status : Status) → ends.status ≡ number_of status
       → OutcomeOf command status old new given ends → Outcome words old new given ends

@@ -1,10 +1,13 @@
-//! The top call: a script is read from a source, its lines are carried out over the disks of a
-//! donor and of a recipient, and their answers and the binlog go to two sinks.
+//! The top call: what the words of a command line ask for is done over the disks of a donor and of
+//! a recipient. A script is read from a source, and the answers of its lines and the binlog go to
+//! two sinks.
 #![tactic(auto)]
 
 mod read;
 mod reading;
+mod recovering;
 mod run;
+mod saying;
 mod status;
 
 pub use run::{Ended, clone_main};

@@ -1,9 +1,8 @@
-ghost use Rattle.std.specs.Prelude.{◌≡◌, ◌↔◌, IfErr, IfOk, IsTrue, OnOk, codes, map};
-ghost use Rattle.std.specs.String.{string_bytes};
+ghost use Rattle.std.specs.Prelude.{◌≡◌, IfErr, IfOk};
 ghost use Rattle.clone_model.specs.Config.{IsConfig};
 ghost use Rattle.clone_script.specs.Given.{IsTerms};
 ghost use Rattle.clone_top.specs.Looking.{IsUnread};
-ghost use Rattle.clone_top.specs.Ends.{IsCommand, IsRead, end_of, steps};
+ghost use Rattle.clone_top.specs.Ends.{IsRead, end_of};
 ghost use Rattle.clone_top.specs.Stops.{StopsAtFailure};
 
 use crate::read::{ReadStop, read_all};
@@ -14,8 +13,6 @@ use std::alloc::Global;
 /// Why no script is read.
 #[derive(Clone, Copy, Debug, PartialEq, Eq)]
 pub enum Unread {
-    /// The words are no command line.
-    Usage,
     /// The source failed.
     SourceFault,
     /// The source gave more than a script may have.
@@ -29,13 +26,8 @@ pub enum Unread {
     Memory,
 }
 
-/// Reads the script that the words ask for from the source.
-pub fn read_words<S: Source>(
-    alloc: Global,
-    words: &[String],
-    source: &mut S,
-) -> Result<Script, Unread>
-    ensures command { OnOk result (IsCommand (map (λ w. string_bytes w) words.now) steps) }
+/// Reads a script from the source.
+pub fn read_source<S: Source>(alloc: Global, source: &mut S) -> Result<Script, Unread>
     ensures read { IfOk result (λ script. IsRead
         (end_of (S.left source.old) (S.failures source.old))
         (end_of (S.left source.new) (S.failures source.new))
@@ -43,13 +35,10 @@ pub fn read_words<S: Source>(
     ensures source { StopsAtFailure S.left S.failures source.old source.new }
     ensures config { IfOk result (λ script. IsConfig script.config) }
     ensures terms { IfOk result (λ script. IsTerms script.terms) }
-    ensures unread { IfErr result (λ unread. IsUnread (map (λ w. string_bytes w) words.now)
+    ensures unread { IfErr result (λ unread. IsUnread
         (end_of (S.left source.old) (S.failures source.old))
         (end_of (S.left source.new) (S.failures source.new)) unread) }
 {
-    if !is_command(words) {
-        return Err(Unread::Usage);
-    }
     let script = match read_all(alloc, source) {
         Ok(script) => script,
         Err(ReadStop::Memory) => return Err(Unread::Memory),
@@ -61,19 +50,4 @@ pub fn read_words<S: Source>(
         Err(ReadRefusal::NoMemory) => Err(Unread::Memory),
         Err(ReadRefusal::BadLine { line }) => Err(Unread::BadLine { line }),
     }
-}
-
-fn is_command(words: &[String]) -> bool
-    ensures { IsTrue result ↔ IsCommand (map (λ w. string_bytes w) words.now) steps }
-{
-    match words {
-        [word] => is_steps(word.as_str()),
-        _ => false,
-    }
-}
-
-fn is_steps(word: &str) -> bool
-    ensures { IsTrue result ↔ (word.now ≡ codes "steps") }
-{
-    word == "steps"
 }

@@ -1,28 +1,28 @@
-ghost use Rattle.std.specs.Prelude.{◌≡◌, ◌++◌, ◌⊎◌, ◌^◌, ◌-◌, ℕ, Err, List, IfErr, IfOk, OnOk, OnErr, IsErrOf, codes, map, option_map};
-ghost use Rattle.std.specs.Fmt.{decimal};
-ghost use Rattle.std.specs.String.{string_bytes};
+ghost use Rattle.std.specs.Prelude.{◌≡◌, ◌⊎◌, ◌^◌, ◌-◌, ℕ, [], Err, List, None, IfErr, IfOk, OnOk, OnErr, IsErrOf, option_map};
 ghost use Rattle.clone_outside.specs.Causes.{HasCause, Rose};
 ghost use Rattle.clone_outside.specs.DiskCalls.{Reads};
 ghost use Rattle.clone_engine.specs.Disks.{Visits};
 ghost use Rattle.clone_model.specs.Config.{IsConfig};
 ghost use Rattle.clone_model.specs.declared.config.Config.{Config};
-ghost use Rattle.clone_model.specs.Texts.{ended};
+ghost use Rattle.clone_dump.specs.Shown.{SaysRecovered, SaysRows};
 ghost use Rattle.clone_script.specs.Given.{IsTerms};
 ghost use Rattle.clone_script.specs.declared.terms.Terms.{Terms};
 ghost use Rattle.clone_events.specs.World.{IsWithin};
 ghost use Rattle.clone_core.specs.Acting.{stop_of};
 ghost use Rattle.clone_core.specs.System.{donor_of};
 ghost use Rattle.clone_core.specs.Lines.{IsNew};
+ghost use Rattle.clone_words.specs.Commands.{texts};
 ghost use Rattle.clone_top.specs.Carrying.{Answered, AnsweredAll, AnsweredSome, Finished, Stopped, StoppedAtLine};
 ghost use Rattle.clone_top.specs.Causes.{WereNotEmpty};
 ghost use Rattle.clone_top.specs.Ended.{EndsLines};
 ghost use Rattle.clone_top.specs.Ends.{AreEmpty, End, IsRead, disks, end_of, ends, streams};
 ghost use Rattle.clone_top.specs.Looking.{IsUnready};
-ghost use Rattle.clone_top.specs.Main.{Outcome, StepsOutcome};
-ghost use Rattle.clone_top.specs.Saying.{Says, SaysUnread, SaysUnready};
+ghost use Rattle.clone_top.specs.Main.{DiskOutcome, Outcome, OutcomeOf, StepsOutcome};
 ghost use Rattle.clone_top.specs.Stops.{StopsAtFailure};
 
-use crate::reading::{Unread, read_words};
+use crate::reading::read_source;
+use crate::recovering::{say_recovered, say_rows};
+use crate::saying::{say_no_command, say_no_run, say_unread, say_unready};
 use crate::status::Status;
 use clone_core::{World, run_laws};
 use clone_donor::Donor;
@@ -32,6 +32,7 @@ use clone_model::{Drops, binlog_text};
 use clone_outside::{PageDisk, Refusal, Sink, Source, write_all};
 use clone_script::{Line, Script};
 use clone_session::Stop;
+use clone_words::{Command, parse};
 use std::alloc::Global;
 use std::marker::Model;
 
@@ -65,9 +66,9 @@ impl<D: PageDisk, R: PageDisk> Model for Ended<D, R> {
         (option_map stop_of e.stop) };
 }
 
-/// Runs the program: reads the script that the words ask for from the source, carries out its lines
+/// Runs the program by its words. `steps` reads a script from the source, carries out its lines
 /// over a donor on the one disk and a clone on the other, writes their answers to `out` and at the
-/// end the commits to `binlog`.
+/// end the commits to `binlog`. `recover` and `dump` recover the recipient's disk.
 pub fn clone_main<S: Source, K: Sink, B: Sink, D: PageDisk, R: PageDisk>(
     alloc: Global,
     words: &[String],
@@ -77,7 +78,7 @@ pub fn clone_main<S: Source, K: Sink, B: Sink, D: PageDisk, R: PageDisk>(
     donor: D,
     recipient: R,
 ) -> Ended<D, R>
-    ensures outcome { Outcome (map (λ w. string_bytes w) words.now)
+    ensures outcome { Outcome (texts words.now)
         (streams (end_of (S.left source.old) (S.failures source.old))
         (end_of (K.taken out.old) (K.failures out.old))
         (end_of (B.taken binlog.old) (B.failures binlog.old)))
@@ -93,15 +94,9 @@ pub fn clone_main<S: Source, K: Sink, B: Sink, D: PageDisk, R: PageDisk>(
         recipient,
         drops,
         stop,
-    } = match read_words(alloc, words, source) {
-        Ok(script) => run_script(alloc, &script, out, binlog, donor, recipient),
-        Err(unread) => Left {
-            status: say_unread(alloc, out, unread),
-            donor,
-            recipient,
-            drops: Drops::new(alloc),
-            stop: None,
-        },
+    } = match parse(alloc, words) {
+        Ok(command) => obey(alloc, command, source, out, binlog, donor, recipient),
+        Err(refusal) => leave(alloc, say_no_command(out, refusal), donor, recipient),
     };
     Ended {
         status: status.number(),
@@ -119,6 +114,123 @@ struct Left<D, R> {
     recipient: R,
     drops: Drops,
     stop: Option<Stop>,
+}
+
+/// What a run leaves that opened no donor.
+fn leave<D: PageDisk, R: PageDisk>(
+    alloc: Global,
+    status: Status,
+    donor: D,
+    recipient: R,
+) -> Left<D, R>
+    ensures status { result.status ≡ status }
+    ensures donor { D.state result.donor ≡ D.state donor }
+    ensures recipient { R.state result.recipient ≡ R.state recipient }
+    ensures drops { result.drops.list ≡ [] }
+    ensures stop { result.stop ≡ None }
+{
+    Left {
+        status,
+        donor,
+        recipient,
+        drops: Drops::new(alloc),
+        stop: None,
+    }
+}
+
+/// Does what a command line asks for.
+fn obey<S: Source, K: Sink, B: Sink, D: PageDisk, R: PageDisk>(
+    alloc: Global,
+    command: Command<'_>,
+    source: &mut S,
+    out: &mut K,
+    binlog: &mut B,
+    donor: D,
+    recipient: R,
+) -> Left<D, R>
+    ensures outcome { (number : ℕ) → OutcomeOf command.entry result.status
+        (streams (end_of (S.left source.old) (S.failures source.old))
+        (end_of (K.taken out.old) (K.failures out.old))
+        (end_of (B.taken binlog.old) (B.failures binlog.old)))
+        (streams (end_of (S.left source.new) (S.failures source.new))
+        (end_of (K.taken out.new) (K.failures out.new))
+        (end_of (B.taken binlog.new) (B.failures binlog.new)))
+        (disks (D.state donor) (R.state recipient))
+        (ends number (disks (D.state result.donor) (R.state result.recipient)) result.drops.list
+        (option_map stop_of result.stop)) }
+    ensures source { StopsAtFailure S.left S.failures source.old source.new }
+{
+    match command {
+        Command::Steps => run_steps(alloc, source, out, binlog, donor, recipient),
+        Command::Run(run) => leave(alloc, say_no_run(out, run), donor, recipient),
+        Command::Recover(_) => run_recover(alloc, out, donor, recipient),
+        Command::Dump(_) => run_dump(alloc, out, donor, recipient),
+    }
+}
+
+/// Reads a script from the source, and carries it out over two disks.
+fn run_steps<S: Source, K: Sink, B: Sink, D: PageDisk, R: PageDisk>(
+    alloc: Global,
+    source: &mut S,
+    out: &mut K,
+    binlog: &mut B,
+    donor: D,
+    recipient: R,
+) -> Left<D, R>
+    ensures outcome { (number : ℕ) → StepsOutcome result.status
+        (streams (end_of (S.left source.old) (S.failures source.old))
+        (end_of (K.taken out.old) (K.failures out.old))
+        (end_of (B.taken binlog.old) (B.failures binlog.old)))
+        (streams (end_of (S.left source.new) (S.failures source.new))
+        (end_of (K.taken out.new) (K.failures out.new))
+        (end_of (B.taken binlog.new) (B.failures binlog.new)))
+        (disks (D.state donor) (R.state recipient))
+        (ends number (disks (D.state result.donor) (R.state result.recipient)) result.drops.list
+        (option_map stop_of result.stop)) }
+    ensures source { StopsAtFailure S.left S.failures source.old source.new }
+{
+    match read_source(alloc, source) {
+        Ok(script) => run_script(alloc, &script, out, binlog, donor, recipient),
+        Err(unread) => leave(alloc, say_unread(alloc, out, unread), donor, recipient),
+    }
+}
+
+/// Recovers the recipient's disk, and says up to where.
+fn run_recover<K: Sink, D: PageDisk, R: PageDisk>(
+    alloc: Global,
+    out: &mut K,
+    donor: D,
+    recipient: R,
+) -> Left<D, R>
+    ensures { (number : ℕ) (source binlog : End) → DiskOutcome SaysRecovered result.status
+        (streams source (end_of (K.taken out.old) (K.failures out.old)) binlog)
+        (streams source (end_of (K.taken out.new) (K.failures out.new)) binlog)
+        (disks (D.state donor) (R.state recipient))
+        (ends number (disks (D.state result.donor) (R.state result.recipient)) result.drops.list
+        (option_map stop_of result.stop)) }
+{
+    let mut recipient = recipient;
+    let status = say_recovered(alloc, out, &mut recipient);
+    leave(alloc, status, donor, recipient)
+}
+
+/// Recovers the recipient's disk, and writes its rows.
+fn run_dump<K: Sink, D: PageDisk, R: PageDisk>(
+    alloc: Global,
+    out: &mut K,
+    donor: D,
+    recipient: R,
+) -> Left<D, R>
+    ensures { (number : ℕ) (source binlog : End) → DiskOutcome SaysRows result.status
+        (streams source (end_of (K.taken out.old) (K.failures out.old)) binlog)
+        (streams source (end_of (K.taken out.new) (K.failures out.new)) binlog)
+        (disks (D.state donor) (R.state recipient))
+        (ends number (disks (D.state result.donor) (R.state result.recipient)) result.drops.list
+        (option_map stop_of result.stop)) }
+{
+    let mut recipient = recipient;
+    let status = say_rows(alloc, out, &mut recipient);
+    leave(alloc, status, donor, recipient)
 }
 
 /// Why the lines of a script aren't begun.
@@ -172,13 +284,7 @@ fn run_script<K: Sink, B: Sink, D: PageDisk, R: PageDisk>(
                 recipient,
             },
         ) => {
-            return Left {
-                status: say_unready(out, why),
-                donor,
-                recipient,
-                drops: Drops::new(alloc),
-                stop: None,
-            };
+            return leave(alloc, say_unready(out, why), donor, recipient);
         }
     };
     let status = run_lines(alloc, &script.lines, out, binlog, &mut world);
@@ -345,56 +451,6 @@ fn carry_one<K: Sink, D: PageDisk, R: PageDisk>(
     let mut answer = world.event(alloc, line)?;
     answer.push('\n')?;
     write_all(out, answer.as_bytes())
-}
-
-/// Writes a text, and says that the run ended so, or why it was not written.
-fn say<K: Sink>(out: &mut K, text: &str, status: Status) -> Status
-    ensures { Says status result (end_of (K.taken out.old) (K.failures out.old))
-        (end_of (K.taken out.new) (K.failures out.new)) text.now }
-{
-    match write_all(out, text.as_bytes()) {
-        Ok(()) => status,
-        Err(refusal) => Status::from(refusal),
-    }
-}
-
-/// Says why no script was read.
-fn say_unread<K: Sink>(alloc: Global, out: &mut K, unread: Unread) -> Status
-    ensures { SaysUnread unread result (end_of (K.taken out.old) (K.failures out.old))
-        (end_of (K.taken out.new) (K.failures out.new)) }
-{
-    match unread {
-        Unread::Usage => say(out, "usage\n", Status::Usage),
-        Unread::SourceFault => say(out, "source fault\n", Status::SourceFault),
-        Unread::TooLong => say(out, "script too long\n", Status::TooLong),
-        Unread::BadLine { line } => say_bad_line(alloc, out, line),
-        Unread::Memory => Status::Memory,
-    }
-}
-
-/// Says why the lines aren't begun.
-fn say_unready<K: Sink>(out: &mut K, unready: Unready) -> Status
-    ensures { SaysUnready unready result (end_of (K.taken out.old) (K.failures out.old))
-        (end_of (K.taken out.new) (K.failures out.new)) }
-{
-    match unready {
-        Unready::DonorFault => say(out, "donor disk fault\n", Status::DonorFault),
-        Unready::RecipientFault => say(out, "recipient disk fault\n", Status::RecipientFault),
-        Unready::NotEmpty => say(out, "not empty\n", Status::NotEmpty),
-        Unready::Memory => Status::Memory,
-    }
-}
-
-/// Says which line is the first bad one.
-fn say_bad_line<K: Sink>(alloc: Global, out: &mut K, line: u64) -> Status
-    ensures { Says Status.BadLine result (end_of (K.taken out.old) (K.failures out.old))
-        (end_of (K.taken out.new) (K.failures out.new))
-        (ended (codes "bad line " ++ decimal line)) }
-{
-    let Ok(text) = format!(in alloc; "bad line {line}\n") else {
-        return Status::Memory;
-    };
-    say(out, text.as_str(), Status::BadLine)
 }
 
 /// Why a donor that isn't opened keeps the lines from being begun.

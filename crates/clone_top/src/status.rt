@@ -32,6 +32,12 @@ pub enum Status {
     Refused,
     /// A disk held a space or a mark before the first line.
     NotEmpty,
+    /// The recipient's disk has no mark, or that of a clone under way.
+    Incomplete,
+    /// A page of the recipient's disk, or its redo, is against the format.
+    Damaged,
+    /// The words ask for compressed pages, which there aren't.
+    CompressionRefused,
     /// The script has more than 1,048,576 bytes.
     TooLong,
 }
@@ -53,6 +59,9 @@ impl Status {
             Status::RestartsSpent => 8,
             Status::NotEmpty => 9,
             Status::Garbled => 10,
+            Status::Incomplete => 12,
+            Status::Damaged => 13,
+            Status::CompressionRefused => 14,
             Status::TooLong => 15,
             Status::Refused => 16,
         }

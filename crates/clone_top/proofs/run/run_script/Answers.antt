@@ -1,10 +1,12 @@
-use Rattle.std.proofs.Common.{refl}
-use Rattle.clone_top.proofs.OutcomeLemmas.{GivesBack, LawsFrom, PlainLaws, lent, not_begun, ran}
+use Rattle.std.proofs.Common.{refl, ap, option_map}
+use Rattle.clone_core.specs.Acting.{stop_of}
+use Rattle.clone_top.proofs.OutcomeLemmas.{GivesBack, LawsFrom, PlainLaws, left_unbegun, lent, ran, same_disks}
 use Rattle.clone_top.proofs.run.run_script.Goals as goal
 
 pub returns-in-Err : goal.returns-in-Err
 returns-in-Err g c = λ number before after read.
-    not_begun _ _ _ _ _ _ _ c.in-Err.field-0.why _ read c.in-Err.ensures.why record { binlog = refl; drops = c.new.ensures; stop = refl } c.say_unready.ensures
+    let left = c.leave.ensures in
+    left_unbegun _ _ _ _ _ _ _ _ c.in-Err.field-0.why c.say_unready.result _ left.status (same_disks _ _ _ _ left.donor left.recipient) read c.in-Err.ensures.why record { binlog = refl; drops = left.drops; stop = ap (option_map stop_of) left.stop } c.say_unready.ensures
 
 pub returns : goal.returns
 returns g c = λ number before after read.
