@@ -13,13 +13,24 @@ TOP = Path(__file__).resolve().parent.parent
 PROGRAMS = TOP / "bench" / "programs"
 
 
-def own_crate():
-    """The folder of a crate of the bench's own, in a copy of the crates that goes when the bench ends."""
+def rows_of(names):
+    """The rows of crates.txt of the crates that are named, or all where none is."""
+    rows = (TOP / "crates.txt").read_text().splitlines(keepends=True)
+    return [row for row in rows if not names or row.split(":")[0].split(" ")[0] in names]
+
+
+def own_crate(names=()):
+    """The folder of a crate of the bench's own, in a copy that goes when the bench ends, of the crates that are named,
+    or of all where none is."""
     copy = Path(tempfile.mkdtemp())
     atexit.register(shutil.rmtree, copy, ignore_errors=True)
-    shutil.copytree(TOP / "crates", copy / "crates", symlinks=True)
-    for name in ("crates.txt", "HANDLES"):
-        shutil.copy(TOP / name, copy)
+    if names:
+        for name in names:
+            shutil.copytree(TOP / "crates" / name, copy / "crates" / name, symlinks=True)
+    else:
+        shutil.copytree(TOP / "crates", copy / "crates", symlinks=True)
+    (copy / "crates.txt").write_text("".join(rows_of(names)))
+    shutil.copy(TOP / "HANDLES", copy)
     crate = copy / "crates" / "clone_bench"
     (crate / "src").mkdir(parents=True)
     return crate

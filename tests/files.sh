@@ -21,7 +21,8 @@ import sys
 
 import built
 
-shutil.copy(built.program("real", "clone_base clone_outside clone_real"), sys.argv[1])
+names = ["clone_base", "clone_outside", "clone_real"]
+shutil.copy(built.build(built.own_crate(names), "real", " ".join(names)), sys.argv[1])
 PYTHON
 ) || exit 1
 

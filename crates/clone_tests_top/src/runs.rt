@@ -232,5 +232,6 @@ fn writes_the_same_byte_by_byte(rt: HostRuntime) -> Result<(), Fail> {
     Ok(())
 }
 
+mod commands;
 mod connections;
 mod disks;
