@@ -7,3 +7,5 @@ pub mod Seen
 pub mod Paired
 pub mod Quiet
 pub mod Fair
+pub mod Own
+pub mod Calm

@@ -1,6 +1,8 @@
 //! A donor and a recipient that talk over a network's connections, as the rounds of two ends.
 #![tactic(auto)]
 
+mod donor_laws;
 mod laws;
 
+pub use donor_laws::{acts_aside, attaching_ends, ending_ends, free_ends, service_goes_on};
 pub use laws::{ends_fairly, never_stuck, paired_laws, reception_laws, rests_laws};

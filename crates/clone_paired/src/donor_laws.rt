@@ -1,0 +1,75 @@
+ghost use Rattle.std.specs.Prelude.{◌≡◌, ◌≢◌, ℕ, IfSome, Some, false, slice_get, true};
+ghost use Rattle.std.specs.Option.{ForSome};
+ghost use Rattle.clone_snapshot.specs.Snaps.{IsSnap};
+ghost use Rattle.clone_session.specs.Cloning.{IsCloning};
+ghost use Rattle.clone_session.specs.Effects.{Tells};
+ghost use Rattle.clone_session.specs.declared.info.StageInfo.{StageInfo};
+ghost use Rattle.clone_recipient.specs.Expecting.{fits};
+ghost use Rattle.clone_recipient.specs.Receptions.{Reception};
+ghost use Rattle.clone_serve.specs.declared.turn.ServeAnswer.TheVariants.{NoMemory, SentEnd};
+ghost use Rattle.clone_network.specs.Connections.{Connection, StepsEnd, is_open};
+ghost use Rattle.clone_network.specs.Networks.{Network, StepsDonor};
+ghost use Rattle.clone_network.specs.declared.donor_step.DonorStep.{DonorStep};
+ghost use Rattle.clone_network.specs.declared.donor_step.DonorStep.TheVariants.{Served};
+ghost use Rattle.clone_engine.specs.Acts.{Act, Acts};
+ghost use Rattle.clone_engine.specs.Donor.{Donor, IsDonor};
+ghost use Rattle.clone_told.specs.Told.{gives};
+ghost use Rattle.clone_joined.specs.Strangers.{acts_in, attaches};
+ghost use Rattle.clone_paired.specs.Calm.{IsCalm, IsFree, IsInService};
+ghost use Rattle.clone_paired.specs.Lines.{connection_of};
+ghost use Rattle.clone_paired.specs.Own.{ActsAside, own_session};
+ghost use Rattle.clone_paired.specs.Paired.{IsPaired};
+ghost use Rattle.clone_paired.specs.Quiet.{GoesOn};
+ghost use Rattle.clone_paired.specs.Strangers.{IsBetween, ServesOther};
+
+/// An end of a donor that serves an EXECUTE never rests: redo that isn't archived yet is archived
+/// by the step that reads it.
+pub fn service_goes_on()
+    ensures { (d : Donor) (n : Network) → IsDonor d → IsCloning d.cloning
+        → ForSome d.cloning.session (λ s. IsSnap s.snap.list s.snap.chunks s.snap.room)
+        → GoesOn gives d n }
+{}
+
+/// An act of the donor that isn't one of the session leaves it, and so keeps a clone paired.
+pub fn acts_aside()
+    ensures leaves { (number : ℕ) (d t : Donor) (act : Act) → Acts act d t
+        → ActsAside number act → own_session number t.cloning ≡ own_session number d.cloning }
+    ensures pairs { (d t : Donor) (act : Act) (r : Reception) (n : Network) → Acts act d t
+        → ActsAside r.table.session act → IsPaired (own_session r.table.session d.cloning) r n
+        → IsPaired (own_session r.table.session t.cloning) r n }
+{}
+
+/// Outside an EXECUTE a step of a donor's end that leaves the donor keeps a clone paired: where
+/// there is nothing to do, a loss is found, or an EXECUTE is served from now on. On a connection
+/// of an earlier incarnation so does each step by which the session stays, while there is memory.
+pub fn free_ends()
+    ensures calm { (d t : Donor) (r : Reception) (n m : Network) (number : ℕ) (answer : DonorStep)
+        → IsPaired (own_session r.table.session d.cloning) r n
+        → StepsDonor gives d t number n m answer → IsFree n number → IsCalm answer
+        → IsPaired (own_session r.table.session t.cloning) r m }
+    ensures late { (d t : Donor) (r : Reception) (n m : Network) (number : ℕ) (answer : DonorStep)
+        → IsPaired (own_session r.table.session d.cloning) r n
+        → StepsDonor gives d t number n m answer → IsFree n number
+        → ((k : ℕ) → connection_of n k ≢ Some number)
+        → own_session r.table.session t.cloning ≡ own_session r.table.session d.cloning
+        → answer ≢ Served NoMemory → IsPaired (own_session r.table.session t.cloning) r m }
+{}
+
+/// So does each step of an end whose unread bytes begin with ATTACH, where what the donor tells of
+/// its stage is what a recipient may take.
+pub fn attaching_ends()
+    ensures { (d t : Donor) (r : Reception) (n m : Network) (number : ℕ) (answer : DonorStep)
+        → IsPaired (own_session r.table.session d.cloning) r n
+        → StepsDonor gives d t number n m answer → IsFree n number
+        → IfSome (slice_get n.connections number) (λ at. attaches at ≡ true)
+        → ((info : StageInfo) → Tells d.cloning info → fits info.plan ≡ true)
+        → answer ≢ Served NoMemory → IsPaired (own_session r.table.session t.cloning) r m }
+{}
+
+/// So does a step of an end that sends the END of an EXECUTE.
+pub fn ending_ends()
+    ensures { (d t : Donor) (r : Reception) (n m : Network) (number : ℕ)
+        → IsPaired (own_session r.table.session d.cloning) r n
+        → StepsDonor gives d t number n m (Served SentEnd) → IsInService n number
+        → IsPaired (own_session r.table.session t.cloning) r m }
+{}
