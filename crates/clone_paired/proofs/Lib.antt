@@ -44,3 +44,7 @@ pub mod TaskLoses
 pub mod EndSteps
 pub mod RestingEnds
 pub mod ReceptionKept
+pub mod StrangerSteps
+pub mod StrangerCommands
+pub mod StrangerLeaves
+pub mod LateWork

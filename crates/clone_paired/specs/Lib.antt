@@ -9,3 +9,4 @@ pub mod Quiet
 pub mod Fair
 pub mod Own
 pub mod Calm
+pub mod Strangers

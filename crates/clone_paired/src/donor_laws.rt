@@ -73,3 +73,19 @@ pub fn ending_ends()
         → StepsDonor gives d t number n m (Served SentEnd) → IsInService n number
         → IsPaired (own_session r.table.session t.cloning) r m }
 {}
+
+/// A step of a stranger's end, by which nobody acts in the session and which serves no EXECUTE of
+/// it, leaves the session as it was, and serves none of it then. So it keeps a clone paired.
+pub fn strangers_leave()
+    ensures leaves { (number : ℕ) (d t : Donor) (at after : Connection) (says : DonorStep)
+        → StepsEnd gives d t at after says → acts_in number d t at says ≡ false
+        → is_open at ≡ true → IsBetween at.doing → ServesOther number at.doing
+        → (own_session number t.cloning ≡ own_session number d.cloning)
+        × ServesOther number after.doing }
+    ensures pairs { (d t : Donor) (r : Reception) (n : Network) (at after : Connection)
+        (says : DonorStep) → StepsEnd gives d t at after says
+        → acts_in r.table.session d t at says ≡ false → is_open at ≡ true
+        → IsBetween at.doing → ServesOther r.table.session at.doing
+        → IsPaired (own_session r.table.session d.cloning) r n
+        → IsPaired (own_session r.table.session t.cloning) r n }
+{}

@@ -4,5 +4,7 @@
 mod donor_laws;
 mod laws;
 
-pub use donor_laws::{acts_aside, attaching_ends, ending_ends, free_ends, service_goes_on};
+pub use donor_laws::{
+    acts_aside, attaching_ends, ending_ends, free_ends, service_goes_on, strangers_leave,
+};
 pub use laws::{ends_fairly, never_stuck, paired_laws, reception_laws, rests_laws};
