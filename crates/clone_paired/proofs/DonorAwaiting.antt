@@ -127,6 +127,7 @@ module _ {A : Type 0} (gives : A → DonorCall → DonorAnswer → A → Type 0)
   -- a command was read, and its call was answered, but there was no memory
   pub record Tried (bound : Option Caller) : Type 0 where
     pub command : Frame
+    pub of : IsFrameOf ofTask command
     pub left : List ℕ
     pub taken : at.to_donor ≡ spelling command ++ left
     pub asked : DonorCall
@@ -247,7 +248,7 @@ module _ {A : Type 0} (gives : A → DonorCall → DonorAnswer → A → Type 0)
           by (inr fails) =
               let l = done_last xs mid turn sent u Over None says.NoMemory fails.says rest more in
               let says_is : e.says ≡ says.NoMemory = l.3 in
-              unfit (e.answers ∙ (λ i. said_as ((finds e.says ∙ ap (λ (y : ServeAnswer). is_idle y && (at.cut || not at.held)) says_is) i) (says_is i))) (ap (λ (y : Connection). y.doing) after_is ∙ l.2 ∙ fails.doing) (inr (record { command = c.command; left = e.serves.left; taken = c.taken; asked = asked; begun = begun; asks = c.asks; given = x.1; gave = subst (λ (y : A). gives a asked x.1 y) (sym l.0) here }))
+              unfit (e.answers ∙ (λ i. said_as ((finds e.says ∙ ap (λ (y : ServeAnswer). is_idle y && (at.cut || not at.held)) says_is) i) (says_is i))) (ap (λ (y : Connection). y.doing) after_is ∙ l.2 ∙ fails.doing) (inr (record { command = c.command; of = c.is; left = e.serves.left; taken = c.taken; asked = asked; begun = begun; asks = c.asks; given = x.1; gave = subst (λ (y : A). gives a asked x.1 y) (sym l.0) here }))
 
     takes : (begun : Doing) (turn : ServeTurn) → TakesCommand bound at.to_donor e.serves.left at.doing begun turn → (exchanges : List Exchange) → Goes exchanges begun turn old e.serves.sent e.serves.doing e.says → GivesAll gives a exchanges b → Awaited bound
     takes begun (Ask asked) c exchanges goes gave = carried begun asked c exchanges goes gave

@@ -179,7 +179,7 @@ module _ (session : Option Session) (r : Reception) (n : Network) (tasks : lengt
 -- ---- the step
 
 -- the session that stands is the own one
-owned_bare : (number : ℕ) (c : Cloning) (s : Session) → session_of c number ≡ Some s → own_session number c ≡ Some (bare s)
+pub owned_bare : (number : ℕ) (c : Cloning) (s : Session) → session_of c number ≡ Some s → own_session number c ≡ Some (bare s)
 owned_bare number c s is = by c.session is
   where
     at : (full : Session) (b : Bool) → (if b then Some full else None) ≡ Some s → (if b then Some (bare full) else None) ≡ Some (bare s)

@@ -159,6 +159,3 @@ module _ (d t : Donor) (r : Reception) (n : Network) (number : ℕ) (answer : Do
 
 pub donor_calm : (d t : Donor) (r : Reception) (n m : Network) (number : ℕ) (answer : DonorStep) → IsPaired (own_session r.table.session d.cloning) r n → StepsDonor gives d t number n m answer → IsFree n number → IsCalm answer → IsPaired (own_session r.table.session t.cloning) r m
 donor_calm d t r n m number answer paired steps free calm = keeps_paired d t r n number answer IsFreeAt (calm_talks d t r n number answer paired calm) paired m free steps
-
-pub late_calm : (d t : Donor) (r : Reception) (n m : Network) (number : ℕ) (answer : DonorStep) → IsPaired (own_session r.table.session d.cloning) r n → StepsDonor gives d t number n m answer → IsFree n number → ((k : ℕ) → connection_of n k ≢ Some number) → own_session r.table.session t.cloning ≡ own_session r.table.session d.cloning → answer ≢ step.Served says.NoMemory → IsPaired (own_session r.table.session t.cloning) r m
-late_calm d t r n m number answer paired steps free away same fit = keeps_paired d t r n number answer IsFreeAt (λ at after there live free e talks. late_stays d t r n number answer talks away at after there live free e same fit) paired m free steps

@@ -175,7 +175,7 @@ module _ (number : ℕ) where
         exactly_own s (there_of caller.session s did.1.1) (other_of caller.session s other did.1.1) (claimed caller.task chunk s d.cloning) _ refl refl did.1.2.1
     claims_own caller stage other (Err cause) did = same_own d.cloning t.cloning did.1
 
-    unread_own : (caller : Caller) (stage chunk block : ℕ) (why : BlockRefusal) → RefusesBlock caller stage chunk block d t why → Stays
+    pub unread_own : (caller : Caller) (stage chunk block : ℕ) (why : BlockRefusal) → RefusesBlock caller stage chunk block d t why → Stays
     unread_own caller stage chunk block (unread.Clone (Because cause)) did = same_donor did.1
     unread_own caller stage chunk block (unread.Clone NoMemory) did = same_own d.cloning t.cloning did.1
     unread_own caller stage chunk block (unread.Engine (refused.Because cause)) did = same_own d.cloning t.cloning did.3

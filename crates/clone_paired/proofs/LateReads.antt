@@ -99,7 +99,7 @@ binds_live t at live binds = subst (λ (b : Bool). BindsEarlier t (if b then at.
 
 module _ {A : Type 0} (gives : A → DonorCall → DonorAnswer → A → Type 0) (a b : A) (at after : Connection) (answer : DonorStep) (bound : Option Caller) (of : Bound at.doing bound) (live : is_open at ≡ true) where
   -- THE COMMAND was carried out or refused, and the connection is one of an earlier incarnation still.
-  past_carried : (t : Table) (acknowledged : Bool) → Carries gives a b at after answer bound → IsPast t acknowledged at → IsPast t acknowledged after
+  pub past_carried : (t : Table) (acknowledged : Bool) → Carries gives a b at after answer bound → IsPast t acknowledged at → IsPast t acknowledged after
   past_carried t acknowledged c p = subst (IsPast t acknowledged) (sym c.is) (by (holds_read ofTask at.cut p.commands at.to_donor c.left c.command (p.live live) c.of c.taken))
     where
       by : Reads ofTask at.cut p.commands c.command c.left → IsPast t acknowledged (record at { to_donor = c.left; to_task = told_on (reaches_task at) c.sends at.to_task; doing = c.next })

@@ -48,3 +48,10 @@ pub mod StrangerSteps
 pub mod StrangerCommands
 pub mod StrangerLeaves
 pub mod LateWork
+pub mod LateOwner
+pub mod LateChunks
+pub mod LateMoves
+pub mod LateSessions
+pub mod LateCalls
+pub mod LateEnds
+pub mod DonorMemory

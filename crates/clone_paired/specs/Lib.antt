@@ -10,3 +10,4 @@ pub mod Fair
 pub mod Own
 pub mod Calm
 pub mod Strangers
+pub mod Closing

@@ -1,4 +1,4 @@
-ghost use Rattle.std.specs.Prelude.{◌≡◌, ◌≢◌, ℕ, IfSome, Some, false, slice_get, true};
+ghost use Rattle.std.specs.Prelude.{◌≡◌, ◌≢◌, ℕ, IfSome, false, slice_get, true};
 ghost use Rattle.std.specs.Option.{ForSome};
 ghost use Rattle.clone_snapshot.specs.Snaps.{IsSnap};
 ghost use Rattle.clone_session.specs.Cloning.{IsCloning};
@@ -16,7 +16,6 @@ ghost use Rattle.clone_engine.specs.Donor.{Donor, IsDonor};
 ghost use Rattle.clone_told.specs.Told.{gives};
 ghost use Rattle.clone_joined.specs.Strangers.{acts_in, attaches};
 ghost use Rattle.clone_paired.specs.Calm.{IsCalm, IsFree, IsInService};
-ghost use Rattle.clone_paired.specs.Lines.{connection_of};
 ghost use Rattle.clone_paired.specs.Own.{ActsAside, own_session};
 ghost use Rattle.clone_paired.specs.Paired.{IsPaired};
 ghost use Rattle.clone_paired.specs.Quiet.{GoesOn};
@@ -40,19 +39,12 @@ pub fn acts_aside()
 {}
 
 /// Outside an EXECUTE a step of a donor's end that leaves the donor keeps a clone paired: where
-/// there is nothing to do, a loss is found, or an EXECUTE is served from now on. On a connection
-/// of an earlier incarnation so does each step by which the session stays, while there is memory.
+/// there is nothing to do, a loss is found, or an EXECUTE is served from now on.
 pub fn free_ends()
-    ensures calm { (d t : Donor) (r : Reception) (n m : Network) (number : ℕ) (answer : DonorStep)
+    ensures { (d t : Donor) (r : Reception) (n m : Network) (number : ℕ) (answer : DonorStep)
         → IsPaired (own_session r.table.session d.cloning) r n
         → StepsDonor gives d t number n m answer → IsFree n number → IsCalm answer
         → IsPaired (own_session r.table.session t.cloning) r m }
-    ensures late { (d t : Donor) (r : Reception) (n m : Network) (number : ℕ) (answer : DonorStep)
-        → IsPaired (own_session r.table.session d.cloning) r n
-        → StepsDonor gives d t number n m answer → IsFree n number
-        → ((k : ℕ) → connection_of n k ≢ Some number)
-        → own_session r.table.session t.cloning ≡ own_session r.table.session d.cloning
-        → answer ≢ Served NoMemory → IsPaired (own_session r.table.session t.cloning) r m }
 {}
 
 /// So does each step of an end whose unread bytes begin with ATTACH, where what the donor tells of

@@ -1,9 +1,11 @@
 //! A donor and a recipient that talk over a network's connections, as the rounds of two ends.
 #![tactic(auto)]
 
+mod donor_late_laws;
 mod donor_laws;
 mod laws;
 
+pub use donor_late_laws::late_ends;
 pub use donor_laws::{
     acts_aside, attaching_ends, ending_ends, free_ends, service_goes_on, strangers_leave,
 };
