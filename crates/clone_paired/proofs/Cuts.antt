@@ -32,13 +32,13 @@ all_front P [] ys all = tt
 all_front P (x ∷ xs) ys all = (all.0, all_front P xs ys all.1)
 
 -- what is seen of a front is a front of what is seen
-record Splits {A B : Type 0} (f : A → Option B) (front : List A) (seen : List B) : Type 0 where
-  kept : List B
-  lost : List B
-  are : seen ≡ kept ++ lost
-  of : map f front ≡ map Some kept
+pub record Splits {A B : Type 0} (f : A → Option B) (front : List A) (seen : List B) : Type 0 where
+  pub kept : List B
+  pub lost : List B
+  pub are : seen ≡ kept ++ lost
+  pub of : map f front ≡ map Some kept
 
-split_seen : {A B : Type 0} (f : A → Option B) (front lost : List A) (seen : List B) → map f (front ++ lost) ≡ map Some seen → Splits f front seen
+pub split_seen : {A B : Type 0} (f : A → Option B) (front lost : List A) (seen : List B) → map f (front ++ lost) ≡ map Some seen → Splits f front seen
 split_seen f [] lost seen is = record { kept = []; lost = seen; are = refl; of = refl }
 split_seen f (x ∷ front) lost [] is = absurd (cc (is))
 split_seen f (x ∷ front) lost (y ∷ seen) is =

@@ -55,3 +55,5 @@ pub mod LateSessions
 pub mod LateCalls
 pub mod LateEnds
 pub mod DonorMemory
+pub mod DonorMemoryTalks
+pub mod DonorMemoryEnds

@@ -1,4 +1,4 @@
-ghost use Rattle.std.specs.Prelude.{◌≡◌, ◌≢◌, ℕ, IfSome, false, slice_get, true};
+ghost use Rattle.std.specs.Prelude.{◌≡◌, ℕ, IfSome, false, slice_get, true};
 ghost use Rattle.std.specs.Option.{ForSome};
 ghost use Rattle.clone_snapshot.specs.Snaps.{IsSnap};
 ghost use Rattle.clone_session.specs.Cloning.{IsCloning};
@@ -6,7 +6,7 @@ ghost use Rattle.clone_session.specs.Effects.{Tells};
 ghost use Rattle.clone_session.specs.declared.info.StageInfo.{StageInfo};
 ghost use Rattle.clone_recipient.specs.Expecting.{fits};
 ghost use Rattle.clone_recipient.specs.Receptions.{Reception};
-ghost use Rattle.clone_serve.specs.declared.turn.ServeAnswer.TheVariants.{NoMemory, SentEnd};
+ghost use Rattle.clone_serve.specs.declared.turn.ServeAnswer.TheVariants.{SentEnd};
 ghost use Rattle.clone_network.specs.Connections.{Connection, StepsEnd, is_open};
 ghost use Rattle.clone_network.specs.Networks.{Network, StepsDonor};
 ghost use Rattle.clone_network.specs.declared.donor_step.DonorStep.{DonorStep};
@@ -55,7 +55,7 @@ pub fn attaching_ends()
         → StepsDonor gives d t number n m answer → IsFree n number
         → IfSome (slice_get n.connections number) (λ at. attaches at ≡ true)
         → ((info : StageInfo) → Tells d.cloning info → fits info.plan ≡ true)
-        → answer ≢ Served NoMemory → IsPaired (own_session r.table.session t.cloning) r m }
+        → IsPaired (own_session r.table.session t.cloning) r m }
 {}
 
 /// So does a step of an end that sends the END of an EXECUTE.

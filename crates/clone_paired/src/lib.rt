@@ -5,7 +5,7 @@ mod donor_late_laws;
 mod donor_laws;
 mod laws;
 
-pub use donor_late_laws::late_ends;
+pub use donor_late_laws::{closing_ends, late_ends};
 pub use donor_laws::{
     acts_aside, attaching_ends, ending_ends, free_ends, service_goes_on, strangers_leave,
 };
