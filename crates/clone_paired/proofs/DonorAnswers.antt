@@ -1,6 +1,7 @@
 -- A donor's end of a task's connection answers a command by its stage, which stays as it was.
 use Rattle.std.proofs.Common.{ℕ, suc, ◌≡◌, ◌≢◌, ◌∙◌, ◌⊎◌, ◌<◌, ◌≤◌, List, [], ◌∷◌, Bool, true, false, if◌then◌else◌, Option, None, Some, length, refl, sym, ap, subst, inl, inr, arith}
 use Rattle.std.specs.Prelude.{slice_get, IfSome, not, ◌||◌, ◌&&◌}
+use Rattle.std.specs.List.{AllByRecursion}
 use Rattle.clone_session.specs.Cloning.{Cloning, Session}
 use Rattle.clone_session.specs.CloneCauses.{donor_stage}
 use Rattle.clone_session.specs.declared.caller.Caller.{Caller}
@@ -44,7 +45,7 @@ module _ (session : Option Session) (r : Reception) (n : Network) (tasks : lengt
       doing = doing.Ready caller;
     }
 
-    abbrev after : Line
+    abbrev pub after : Line
     after = line_answered here.l (doing.Ready caller) told
 
     live_new : is_open answered_on ≡ true
@@ -57,19 +58,23 @@ module _ (session : Option Session) (r : Reception) (n : Network) (tasks : lengt
     cut_is : here.l.cut ≡ here.at.cut
     cut_is = here.of.cut ∙ lost_live here.at live
 
+    -- the line, by whichever session what lies unread was given
+    pub told_line : (now : Option Session) → AllByRecursion (IsGiven now r) here.l.answers → IsGiven now r told → IsLineOf now r k answered_on after
+    told_line now all given = record {
+      held = here.of.held;
+      cut = cut_is ∙ sym (lost_live answered_on live_new);
+      doing = sym (ap (λ (b : Bool). if b then doing.Ready caller else doing.Over) live_new);
+      binds = caller_is;
+      live = λ is. read.empty;
+      over = λ is. refl;
+      answers = subst (λ (c : Bool). Holds ofDonor here.at.cut (sends c here.l.answers told) answered_on.to_task) (sym cut_is) (told_some here.at.cut here.at.held here.l.answers here.at.to_task told here.of.held of_told here.of.answers);
+      asked = tt;
+      given = all_told (IsGiven now r) here.l.cut here.l.answers told all given;
+    }
+
     module _ (given : IsGiven session r told) where
       of_new : IsLineOf session r k answered_on after
-      of_new = record {
-        held = here.of.held;
-        cut = cut_is ∙ sym (lost_live answered_on live_new);
-        doing = sym (ap (λ (b : Bool). if b then doing.Ready caller else doing.Over) live_new);
-        binds = caller_is;
-        live = λ is. read.empty;
-        over = λ is. refl;
-        answers = subst (λ (c : Bool). Holds ofDonor here.at.cut (sends c here.l.answers told) answered_on.to_task) (sym cut_is) (told_some here.at.cut here.at.held here.l.answers here.at.to_task told here.of.held of_told here.of.answers);
-        asked = tt;
-        given = all_told (IsGiven session r) here.l.cut here.l.answers told here.of.given given;
-      }
+      of_new = told_line session here.of.given given
 
       -- the seat answers so, by a step of the rounds
       answered_turns : (stage : ℕ) (counts : ℕ → List ℕ) (w : World) → Sees session r n tasks talks k number has counts w → answer_of counts told ≡ Some (StageAnswer stage) → DonorStep w (with_seat w k (answering (w.seats k) stage)) → Turns counts (list_in session) w k after

@@ -57,3 +57,5 @@ pub mod LateEnds
 pub mod DonorMemory
 pub mod DonorMemoryTalks
 pub mod DonorMemoryEnds
+pub mod DonorMoves
+pub mod DonorMovesBlocks
