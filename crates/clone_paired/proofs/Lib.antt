@@ -59,3 +59,5 @@ pub mod DonorMemoryTalks
 pub mod DonorMemoryEnds
 pub mod DonorMoves
 pub mod DonorMovesBlocks
+pub mod DonorMovesOn
+pub mod DonorMovesAck
