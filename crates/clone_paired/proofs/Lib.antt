@@ -61,3 +61,7 @@ pub mod DonorMoves
 pub mod DonorMovesBlocks
 pub mod DonorMovesOn
 pub mod DonorMovesAck
+pub mod DonorMeets
+pub mod DonorMeetsMarks
+pub mod DonorOpens
+pub mod DonorMeetsAgain
