@@ -136,7 +136,7 @@ module _ (d t : Donor) (r : Reception) (n : Network) (number : ℕ) (answer : Do
         let b = seen_waits (list_in session) here.at.doing _ (ap (core_of (list_in session)) (sym doing_at) ∙ here.seat.core) free (not_over here.at.found_lost (is_over here.at.doing) live) in
         attach_awaited after live attach b.0 b.1 (awaited gives d t here.at after answer b.0 b.1 live e)
 
-    attach_task : (at after : Connection) → slice_get n.connections number ≡ Some at → is_open at ≡ true → is_serving at.doing ≡ false → attaches at ≡ true → StepsEnd gives d t at after answer → IsTalking now r (with_connection number after n)
+    pub attach_task : (at after : Connection) → slice_get n.connections number ≡ Some at → is_open at ≡ true → is_serving at.doing ≡ false → attaches at ≡ true → StepsEnd gives d t at after answer → IsTalking now r (with_connection number after n)
     attach_task at after there live free attach e =
         let same : here.at ≡ at = cc (there_at session r n tasks talks k number has, there) in
         attach_own after (ap is_open same ∙ live) (ap (λ (c : Connection). is_serving c.doing) same ∙ free) (ap attaches same ∙ attach) (subst (λ (c : Connection). StepsEnd gives d t c after answer) (sym same) e)

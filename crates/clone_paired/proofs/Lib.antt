@@ -65,3 +65,5 @@ pub mod DonorMeets
 pub mod DonorMeetsMarks
 pub mod DonorOpens
 pub mod DonorMeetsAgain
+pub mod DonorMeetsCalls
+pub mod DonorMovesTask

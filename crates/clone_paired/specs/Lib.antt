@@ -11,3 +11,4 @@ pub mod Own
 pub mod Calm
 pub mod Strangers
 pub mod Closing
+pub mod Around
