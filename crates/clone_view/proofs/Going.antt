@@ -1,6 +1,6 @@
 -- What an EXECUTE goes on with: the blocks that are left of its chunk.
 use Rattle.std.proofs.Common.{◌≡◌, ◌≢◌, ◌<◌, ◌≤◌, ◌+◌, ◌-◌, ◌/◌, ◌%◌, ◌^◌, ℕ, zero, suc, true, false, cond, ◌∷◌, Some, sym, ap, ◌∙◌, arith, inl, inr, ◌⊎◌}
-use Rattle.std.specs.Prelude.{nat_lt, min, if◌then◌else◌}
+use Rattle.std.specs.Prelude.{nat_lt, min, ◌==◌, if◌then◌else◌}
 use Rattle.std.specs.Int.{bit_at, trailing_ones, w8}
 use Rattle.std.proofs.lemmas.Bool.{cases_eq, cases_lt, lt-ltb, le-ltb, eq-eqb}
 use Rattle.std.proofs.lemmas.Nat.{shr-shr, shr_le}
@@ -32,7 +32,7 @@ skips first kept from (suc count) next low all = at (cases_eq from next) (λ h. 
 bit_after : (kept from i : ℕ) → bit_at (kept / 2 ^ from) i ≡ bit_at kept (from + i)
 bit_after kept from i = ap (λ n. n % 2) (shr-shr kept from i)
 
-next_is : (kept from : ℕ) → kept < 255 → (from ≤ next_block kept from) × ((i : ℕ) → from ≤ i → i < next_block kept from → is_kept kept i ≡ true)
+pub next_is : (kept from : ℕ) → kept < 255 → (from ≤ next_block kept from) × ((i : ℕ) → from ≤ i → i < next_block kept from → is_kept kept i ≡ true)
 unfolding next_block
 next_is kept from few = at (cases_lt from 8)
   where
@@ -49,6 +49,20 @@ next_is kept from few = at (cases_lt from 8)
     at : (from < 8) ⊎ (8 ≤ from) → (from ≤ cond (nat_lt from 8) (from + trailing_ones w8 (kept / 2 ^ from)) from) × ((i : ℕ) → from ≤ i → i < cond (nat_lt from 8) (from + trailing_ones w8 (kept / 2 ^ from)) from → is_kept kept i ≡ true)
     at (inl low) = rw (lt-ltb from 8 low) (omega arith, each)
     at (inr past) = rw (le-ltb from 8 past) (omega arith, λ i above below. absurd (omega (arith, above, below)))
+
+-- and that block isn't kept
+pub next_unkept : (kept from : ℕ) → kept < 255 → from < 8 → is_kept kept (next_block kept from) ≡ false
+unfolding next_block
+next_unkept kept from few low = rw (lt-ltb from 8 low) here
+  where
+    small : kept / 2 ^ from + 1 < 2 ^ 8
+    small = let less : kept / 2 ^ from ≤ kept = shr_le kept from in omega (arith, less, few)
+
+    clear : bit_at kept (from + trailing_ones w8 (kept / 2 ^ from)) ≡ 0
+    clear = sym (bit_after kept from (trailing_ones w8 (kept / 2 ^ from))) ∙ (bit_at-trailing_ones w8 (kept / 2 ^ from) small).1
+
+    here : is_kept kept (from + trailing_ones w8 (kept / 2 ^ from)) ≡ false
+    here = ap (λ n. n == 1) clear
 
 pub work_begins : (list : StageList) (run : Execution) (i kept : ℕ) → kept < 255 → core_of list (doing.Serving run (work_at i kept 0)) ≡ Some (Serving (copy_number run.stage) (left_from (place_of (block_counts list) i 0) kept 0 (block_count list i)))
 work_begins list run i kept few =

@@ -20,7 +20,7 @@ use Rattle.clone_tasks.specs.Tables.{Table, standing_of, incarnation_of}
 use Rattle.clone_wire.specs.declared.frame.Frame.{Frame}
 use Rattle.clone_rounds.specs.World.{Block, Serving, Owner, Free, Claimed, Sent, Sides, World, put}
 use Rattle.clone_rounds.specs.Awaiting.{Has, Rule}
-use Rattle.clone_rounds.specs.Steps.{after_call, claimed, claiming, block_sent, sending, AreFree, claims, reads}
+use Rattle.clone_rounds.specs.Steps.{after_call, claimed, claiming, block_sent, sending, AreFree, DonorStep, claims, reads}
 use Rattle.clone_rounds.proofs.Claiming.{has_or, claimed_in, claimed_out}
 use Rattle.clone_rounds.proofs.Puts.{put_all, put_cases}
 use Rattle.clone_rounds.proofs.Fitting.{all_fit}
@@ -28,19 +28,19 @@ use Rattle.clone_view.specs.Rows.{place_of, left_from}
 use Rattle.clone_view.specs.Tables.{IsStanding}
 use Rattle.clone_view.specs.Frames.{answer_of}
 use Rattle.clone_view.specs.Donors.{core_of, rest_at, Owns, AreOwned, IsSession, ByChunk}
-use Rattle.clone_view.specs.Views.{Line, IsLine, IsSeat, IsAt, line_served, line_doing, Leads}
+use Rattle.clone_view.specs.Views.{Line, IsLine, IsSeat, IsView, IsAt, line_served, line_doing, Leads}
 use Rattle.clone_view.proofs.Rows.{place_small}
 use Rattle.clone_view.proofs.ViewSteps.{seats_put}
 use Rattle.clone_view.proofs.DonorSteps.{answers_sent, own_line, linked, core_is}
 
 -- ---- places
 
-place_from : (counts : List ℕ) (c d : ℕ) → place_of counts c d ≡ place_of counts c 0 + d
+pub place_from : (counts : List ℕ) (c d : ℕ) → place_of counts c d ≡ place_of counts c 0 + d
 place_from [] c d = omega arith
 place_from (n ∷ counts) zero d = omega arith
 place_from (n ∷ counts) (suc c) d = let rest : place_of counts c d ≡ place_of counts c 0 + d = place_from counts c d in omega (arith, rest)
 
-place_same : (counts : List ℕ) (c d e f : ℕ) → d < slice_index counts c → f < slice_index counts e → place_of counts c d ≡ place_of counts e f → (c ≡ e) × (d ≡ f)
+pub place_same : (counts : List ℕ) (c d e f : ℕ) → d < slice_index counts c → f < slice_index counts e → place_of counts c d ≡ place_of counts e f → (c ≡ e) × (d ≡ f)
 place_same [] c d e f h g same = absurd (omega (arith, h))
 place_same (n ∷ counts) zero d zero f h g same = (refl, same)
 place_same (n ∷ counts) zero d (suc e) f h g same = let less : d < n = h in absurd (omega (arith, less, same))
@@ -49,14 +49,14 @@ place_same (n ∷ counts) (suc c) d (suc e) f h g same = let rest : (c ≡ e) ×
 
 -- ---- the blocks of a chunk that aren't kept
 
-record IsLeft (first kept from count x : ℕ) : Type 0 where
-  block : ℕ
-  low : from ≤ block
-  high : block < from + count
-  place : x ≡ first + block
-  unkept : is_kept kept block ≡ false
+pub record IsLeft (first kept from count x : ℕ) : Type 0 where
+  pub block : ℕ
+  pub low : from ≤ block
+  pub high : block < from + count
+  pub place : x ≡ first + block
+  pub unkept : is_kept kept block ≡ false
 
-has_from : (first kept from count x : ℕ) → Has x (left_from first kept from count) → IsLeft first kept from count x
+pub has_from : (first kept from count x : ℕ) → Has x (left_from first kept from count) → IsLeft first kept from count x
 has_from first kept from zero x h = absurd h
 has_from first kept from (suc count) x h = at (λ g. has_from first kept (from + 1) count x g) (is_kept kept from) refl h
   where
@@ -68,7 +68,7 @@ has_from first kept from (suc count) x h = at (λ g. has_from first kept (from +
     at again false e (inl g) = record { block = from; low = omega arith; high = omega arith; place = g; unkept = e }
     at again false e (inr g) = wider (again g)
 
-in_from : (first kept from count block : ℕ) → from ≤ block → block < from + count → is_kept kept block ≡ false → Has (first + block) (left_from first kept from count)
+pub in_from : (first kept from count block : ℕ) → from ≤ block → block < from + count → is_kept kept block ≡ false → Has (first + block) (left_from first kept from count)
 in_from first kept from zero block low high unkept = absurd (omega (arith, low, high))
 in_from first kept from (suc count) block low high unkept = at (λ h. in_from first kept (from + 1) count block h (omega (arith, high)) unkept) (is_kept kept from) refl (cases_eq block from)
   where
@@ -143,17 +143,20 @@ module _ (counts : ℕ → List ℕ) (t : Table) (s now : Session) (lines : ℕ 
             subst (Owns (is_kept (slice_index s.snap.kept i) j) (slice_get now.snap.chunks i)) (sym e.1) (subst (λ b. Owns b (slice_get now.snap.chunks i) (Sent k)) (sym free) (here (slice_get now.snap.chunks i) (subst (λ c. (slice_get now.snap.chunks c ≡ Some (chunk.Claimed k)) ⊎ (slice_get now.snap.chunks c ≡ Some chunk.Finished)) (sym one.0) done)))
         at (inr e) = subst (Owns (is_kept (slice_index s.snap.kept i) j) (slice_get now.snap.chunks i)) (sym e.1) (old (cases_eq i place.chunk))
 
-    pub block_read : (next : Doing) (frame : Frame) → core_of now.snap.list next ≡ Some (Serving (donor_stage s) (left_from (place_of (block_counts s.snap.list) place.chunk 0) place.kept (place.block + 1) (block_count s.snap.list place.chunk - place.block - 1))) → answer_of counts frame ≡ Some (Block (donor_stage s) (place_of (block_counts s.snap.list) place.chunk place.block)) → Leads counts t now (put lines k (Some (line_served l next frame))) w
-    block_read next frame goes says = (sending w k w.sides.at b rest, reads k b rest (record { linked = linked counts t s lines w k l (doing.Serving run (Read place again)) unread h; core = core_now }) small.0 small.1, record { table = record { some = h.view.table.some; tasks = h.view.table.tasks; limit = h.view.table.limit; losses = h.view.table.losses; stage = h.view.table.stage; joined = h.view.table.joined; chunks = h.view.table.chunks; size = h.view.table.size; taken = h.view.table.taken; seats = put_all (λ j y. IsStanding (standing_of t j) y) w.seats k (block_sent (w.seats k) w.sides.at b rest) (λ j other. h.view.table.seats j) (record { connected = (h.view.table.seats k).connected; awaits = (h.view.table.seats k).awaits; ended = (h.view.table.seats k).ended }) }; donor = session_by t s now w (sending w k w.sides.at b rest) place.chunk h.view.donor by stage_is refl refl refl (λ i j less. rw (by.list, by.kept) (sent_owned i j (subst (λ x. j < block_count x i) by.list less))); seats = seats_put (IsSeat counts now.snap.list) lines w.seats k (Some (line_served l next frame)) (block_sent (w.seats k) w.sides.at b rest) (λ j. subst (λ x. IsSeat counts x (lines j) (w.seats j)) (sym by.list) (h.view.seats j)) line })
+    small : (place_of (block_counts s.snap.list) place.chunk 0 + place.block < w.sides.size w.sides.at) × (w.sides.owner (place_of (block_counts s.snap.list) place.chunk 0 + place.block) ≡ Claimed k)
+    small = ((all_fit w r).blocks k w.sides.at ((place_of (block_counts s.snap.list) place.chunk 0 + place.block) ∷ left_from (place_of (block_counts s.snap.list) place.chunk 0) place.kept (place.block + 1) (block_count s.snap.list place.chunk - place.block - 1)) core_now).each (place_of (block_counts s.snap.list) place.chunk 0 + place.block) (inl refl)
+
+    pub block_step : DonorStep w (sending w k w.sides.at (place_of (block_counts s.snap.list) place.chunk 0 + place.block) (left_from (place_of (block_counts s.snap.list) place.chunk 0) place.kept (place.block + 1) (block_count s.snap.list place.chunk - place.block - 1)))
+    block_step = reads k (place_of (block_counts s.snap.list) place.chunk 0 + place.block) (left_from (place_of (block_counts s.snap.list) place.chunk 0) place.kept (place.block + 1) (block_count s.snap.list place.chunk - place.block - 1)) (record { linked = linked counts t s lines w k l (doing.Serving run (Read place again)) unread h; core = core_now }) small.0 small.1
+
+    pub block_view : (next : Doing) (frame : Frame) → core_of now.snap.list next ≡ Some (Serving (donor_stage s) (left_from (place_of (block_counts s.snap.list) place.chunk 0) place.kept (place.block + 1) (block_count s.snap.list place.chunk - place.block - 1))) → answer_of counts frame ≡ Some (Block (donor_stage s) (place_of (block_counts s.snap.list) place.chunk place.block)) → IsView counts t (Some now) (put lines k (Some (line_served l next frame))) (sending w k w.sides.at (place_of (block_counts s.snap.list) place.chunk 0 + place.block) (left_from (place_of (block_counts s.snap.list) place.chunk 0) place.kept (place.block + 1) (block_count s.snap.list place.chunk - place.block - 1)))
+    block_view next frame goes says = record { table = record { some = h.view.table.some; tasks = h.view.table.tasks; limit = h.view.table.limit; losses = h.view.table.losses; stage = h.view.table.stage; joined = h.view.table.joined; chunks = h.view.table.chunks; size = h.view.table.size; taken = h.view.table.taken; seats = put_all (λ j y. IsStanding (standing_of t j) y) w.seats k (block_sent (w.seats k) w.sides.at b rest) (λ j other. h.view.table.seats j) (record { connected = (h.view.table.seats k).connected; awaits = (h.view.table.seats k).awaits; ended = (h.view.table.seats k).ended }) }; donor = session_by t s now w (sending w k w.sides.at b rest) place.chunk h.view.donor by stage_is refl refl refl (λ i j less. rw (by.list, by.kept) (sent_owned i j (subst (λ x. j < block_count x i) by.list less))); seats = seats_put (IsSeat counts now.snap.list) lines w.seats k (Some (line_served l next frame)) (block_sent (w.seats k) w.sides.at b rest) (λ j. subst (λ x. IsSeat counts x (lines j) (w.seats j)) (sym by.list) (h.view.seats j)) line }
       where
         b : ℕ
         b = place_of (block_counts s.snap.list) place.chunk 0 + place.block
 
         rest : List ℕ
         rest = left_from (place_of (block_counts s.snap.list) place.chunk 0) place.kept (place.block + 1) (block_count s.snap.list place.chunk - place.block - 1)
-
-        small : ((place_of (block_counts s.snap.list) place.chunk 0 + place.block) < w.sides.size w.sides.at) × (w.sides.owner (place_of (block_counts s.snap.list) place.chunk 0 + place.block) ≡ Claimed k)
-        small = ((all_fit w r).blocks k w.sides.at ((place_of (block_counts s.snap.list) place.chunk 0 + place.block) ∷ left_from (place_of (block_counts s.snap.list) place.chunk 0) place.kept (place.block + 1) (block_count s.snap.list place.chunk - place.block - 1)) core_now).each (place_of (block_counts s.snap.list) place.chunk 0 + place.block) (inl refl)
 
         own : IsLine counts s.snap.list l (w.seats k)
         own = own_line counts t s lines w k l (doing.Serving run (Read place again)) unread h
@@ -164,6 +167,9 @@ module _ (counts : ℕ → List ℕ) (t : Table) (s now : Session) (lines : ℕ 
 
         line : IsLine counts now.snap.list (line_served l next frame) (block_sent (w.seats k) w.sides.at (place_of (block_counts s.snap.list) place.chunk 0 + place.block) (left_from (place_of (block_counts s.snap.list) place.chunk 0) place.kept (place.block + 1) (block_count s.snap.list place.chunk - place.block - 1)))
         line = record { connected = own.connected; cut = own.cut; commands = own.commands; answers = rw (own.cut) (answers_sent counts l.cut l.answers (w.seats k).answers frame (Block w.sides.at (place_of (block_counts s.snap.list) place.chunk 0 + place.block)) own.answers (says ∙ ap (λ n. Some (Block n (place_of (block_counts s.snap.list) place.chunk place.block))) (sym h.view.donor.at) ∙ ap (λ p. Some (Block w.sides.at p)) starts_at)); core = rw (own.cut) (after l.cut) }
+
+    pub block_read : (next : Doing) (frame : Frame) → core_of now.snap.list next ≡ Some (Serving (donor_stage s) (left_from (place_of (block_counts s.snap.list) place.chunk 0) place.kept (place.block + 1) (block_count s.snap.list place.chunk - place.block - 1))) → answer_of counts frame ≡ Some (Block (donor_stage s) (place_of (block_counts s.snap.list) place.chunk place.block)) → Leads counts t now (put lines k (Some (line_served l next frame))) w
+    block_read next frame goes says = (sending w k w.sides.at (place_of (block_counts s.snap.list) place.chunk 0 + place.block) (left_from (place_of (block_counts s.snap.list) place.chunk 0) place.kept (place.block + 1) (block_count s.snap.list place.chunk - place.block - 1)), block_step, block_view next frame goes says)
 
 -- ---- A CHUNK IS CLAIMED
 
@@ -208,8 +214,14 @@ module _ (counts : ℕ → List ℕ) (t : Table) (s now : Session) (lines : ℕ 
           subst (Owns (is_kept (slice_index s.snap.kept c) d) (slice_get now.snap.chunks c)) (sym (claimed_in w.sides.owner k (b ∷ bs) (place_of (block_counts s.snap.list) c d) g)) (subst (λ x. Owns x (slice_get now.snap.chunks c) (Claimed k)) (sym (ap (λ x. is_kept (slice_index s.snap.kept x) d) one.0 ∙ one.1)) (subst (λ x. Owns false x (Claimed k)) (sym (ap (slice_get now.snap.chunks) one.0 ∙ took)) (inl refl)))
       at (inr never) = subst (Owns (is_kept (slice_index s.snap.kept c) d) (slice_get now.snap.chunks c)) (sym (claimed_out w.sides.owner k (b ∷ bs) (place_of (block_counts s.snap.list) c d) never)) (others never (cases_eq c i))
 
-  pub chunk_claimed : (next : Doing) → core_of now.snap.list next ≡ Some (Serving (donor_stage s) (b ∷ bs)) → Leads counts t now (put lines k (Some (line_doing l next))) w
-  chunk_claimed next goes = (claiming w k w.sides.at (b ∷ bs), claims k b bs (record { linked = linked counts t s lines w k l (doing.Serving run Claim) unread h; core = core_is counts t s lines w k l (doing.Serving run Claim) unread h (doing.Serving run Claim) (Serving w.sides.at []) refl (ap (λ n. Some (Serving n [])) (same ∙ sym h.view.donor.at)) }) is_free, record { table = record { some = h.view.table.some; tasks = h.view.table.tasks; limit = h.view.table.limit; losses = h.view.table.losses; stage = h.view.table.stage; joined = h.view.table.joined; chunks = h.view.table.chunks; size = h.view.table.size; taken = h.view.table.taken; seats = put_all (λ j y. IsStanding (standing_of t j) y) w.seats k (record (w.seats k) { core = Serving w.sides.at (b ∷ bs) }) (λ j other. h.view.table.seats j) (record { connected = (h.view.table.seats k).connected; awaits = (h.view.table.seats k).awaits; ended = (h.view.table.seats k).ended }) }; donor = session_by t s now w (claiming w k w.sides.at (b ∷ bs)) i h.view.donor by stage_is refl refl refl (λ c d less. rw (by.list, by.kept) (claimed_owned c d (subst (λ x. d < block_count x c) by.list less))); seats = seats_put (IsSeat counts now.snap.list) lines w.seats k (Some (line_doing l next)) (record (w.seats k) { core = Serving w.sides.at (b ∷ bs) }) (λ j. subst (λ x. IsSeat counts x (lines j) (w.seats j)) (sym by.list) (h.view.seats j)) (record { connected = own.connected; cut = own.cut; commands = own.commands; answers = own.answers; core = goes ∙ ap (λ n. Some (Serving n (b ∷ bs))) (sym h.view.donor.at) }) })
+  pub claim_step : DonorStep w (claiming w k w.sides.at (b ∷ bs))
+  claim_step = claims k b bs (record { linked = linked counts t s lines w k l (doing.Serving run Claim) unread h; core = core_is counts t s lines w k l (doing.Serving run Claim) unread h (doing.Serving run Claim) (Serving w.sides.at []) refl (ap (λ n. Some (Serving n [])) (same ∙ sym h.view.donor.at)) }) is_free
+
+  pub claim_view : (next : Doing) → core_of now.snap.list next ≡ Some (Serving (donor_stage s) (b ∷ bs)) → IsView counts t (Some now) (put lines k (Some (line_doing l next))) (claiming w k w.sides.at (b ∷ bs))
+  claim_view next goes = record { table = record { some = h.view.table.some; tasks = h.view.table.tasks; limit = h.view.table.limit; losses = h.view.table.losses; stage = h.view.table.stage; joined = h.view.table.joined; chunks = h.view.table.chunks; size = h.view.table.size; taken = h.view.table.taken; seats = put_all (λ j y. IsStanding (standing_of t j) y) w.seats k (record (w.seats k) { core = Serving w.sides.at (b ∷ bs) }) (λ j other. h.view.table.seats j) (record { connected = (h.view.table.seats k).connected; awaits = (h.view.table.seats k).awaits; ended = (h.view.table.seats k).ended }) }; donor = session_by t s now w (claiming w k w.sides.at (b ∷ bs)) i h.view.donor by stage_is refl refl refl (λ c d less. rw (by.list, by.kept) (claimed_owned c d (subst (λ x. d < block_count x c) by.list less))); seats = seats_put (IsSeat counts now.snap.list) lines w.seats k (Some (line_doing l next)) (record (w.seats k) { core = Serving w.sides.at (b ∷ bs) }) (λ j. subst (λ x. IsSeat counts x (lines j) (w.seats j)) (sym by.list) (h.view.seats j)) (record { connected = own.connected; cut = own.cut; commands = own.commands; answers = own.answers; core = goes ∙ ap (λ n. Some (Serving n (b ∷ bs))) (sym h.view.donor.at) }) }
     where
       own : IsLine counts s.snap.list l (w.seats k)
       own = own_line counts t s lines w k l (doing.Serving run Claim) unread h
+
+  pub chunk_claimed : (next : Doing) → core_of now.snap.list next ≡ Some (Serving (donor_stage s) (b ∷ bs)) → Leads counts t now (put lines k (Some (line_doing l next))) w
+  chunk_claimed next goes = (claiming w k w.sides.at (b ∷ bs), claim_step, claim_view next goes)
