@@ -49,7 +49,7 @@ module _ (session now : Option Session) (r s : Reception) (n : Network) (talks :
         away : own ≢ number
         away one = other (talks.apart task k own is (has ∙ ap (λ x. Some x) (sym one)))
 
-    at_now : IsLineOf now s k new l → (task : ℕ) → IsAt now s m task (connection_of m task) (put talks.lines k (Some l) task)
+    pub at_now : IsLineOf now s k new l → (task : ℕ) → IsAt now s m task (connection_of m task) (put talks.lines k (Some l) task)
     at_now of = put_all (λ j y. IsAt now s m j (connection_of m j) y) talks.lines k (Some l) (λ j other. others_at j other (connection_of n j) refl (talks.at j)) own
       where
         made : (connection : Option ℕ) → connection ≡ Some number → IsAt session r n k connection (talks.lines k) → made_of n k ≡ Some (incarnation_of r.table)

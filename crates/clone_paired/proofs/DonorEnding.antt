@@ -80,7 +80,7 @@ taken_owned (chunk.Claimed task) o some (inr own) = λ e. cc (own, e)
 taken_owned chunk.Finished o some own = own
 
 module _ (s : Session) (w : World) (owned : AreOwned s w.sides.owner) (size : w.sides.size w.sides.at ≡ places (block_counts s.snap.list)) (taken : All IsTaken s.snap.chunks) where
-  blocks_taken : (b : ℕ) → b < w.sides.size w.sides.at → w.sides.owner b ≢ Free
+  pub blocks_taken : (b : ℕ) → b < w.sides.size w.sides.at → w.sides.owner b ≢ Free
   blocks_taken b small = by (is_kept (slice_index s.snap.kept p.chunk) p.block) (slice_get s.snap.chunks p.chunk) refl (subst (λ (i : ℕ). Owns (is_kept (slice_index s.snap.kept p.chunk) p.block) (slice_get s.snap.chunks p.chunk) (w.sides.owner i)) p.place (owned p.chunk p.block (subst (λ (n : ℕ). p.block < n) (counts_at s.snap.list p.chunk) p.there)))
     where
       p : IsPlace (block_counts s.snap.list) b
@@ -91,7 +91,7 @@ module _ (s : Session) (w : World) (owned : AreOwned s w.sides.owner) (size : w.
       by false None e o = absurd o
       by false (Some c) e o = taken_owned c (w.sides.owner b) (chunk_taken s.snap.chunks p.chunk c taken e) o
 
-end_number : (stage : CopyStage) → copy_number (copy_numbered (copy_number stage)) ≡ copy_number stage
+pub end_number : (stage : CopyStage) → copy_number (copy_numbered (copy_number stage)) ≡ copy_number stage
 end_number copy.FileCopy = refl
 end_number copy.PageCopy = refl
 end_number copy.RedoCopy = refl
