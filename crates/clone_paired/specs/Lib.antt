@@ -12,3 +12,4 @@ pub mod Calm
 pub mod Strangers
 pub mod Closing
 pub mod Around
+pub mod Blocks
