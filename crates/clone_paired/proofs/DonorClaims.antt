@@ -1,5 +1,5 @@
 -- A donor's end of a task's connection claims a chunk, of which the first block is to be read then.
-use Rattle.std.proofs.Common.{ℕ, ◌≡◌, ◌≢◌, ◌∙◌, ◌⊎◌, ◌<◌, ◌+◌, ◌-◌, List, [], ◌∷◌, Bool, true, false, if◌then◌else◌, Some, length, refl, sym, ap, subst, inl, inr, arith}
+use Rattle.std.proofs.Common.{ℕ, ◌≡◌, ◌≢◌, ◌∙◌, ◌⊎◌, ◌<◌, ◌+◌, List, [], ◌∷◌, Bool, true, false, if◌then◌else◌, Some, length, refl, sym, ap, subst, inl, inr, arith}
 use Rattle.std.specs.Prelude.{slice_get, slice_index, not, ◌&&◌}
 use Rattle.std.proofs.lemmas.Bool.{both_ways, cases_eq}
 use Rattle.clone_chunk.specs.Chunks.{is_kept}
