@@ -249,13 +249,16 @@ module _ (r : Reception) (n : Network) (tasks : length n.seats ≡ r.table.count
           own_state r.table.session u.cloning t.s t.st v.cloning i (chunk.Claimed k) (ap (λ (c : Cloning). c.session) becomes ∙ (λ j. Some (with_state i (chunk.Claimed (task j)) (full j))))
 
       claim_now : Before v run (Weigh i)
-      claim_now =
-          (now, own_now, record {
-            ascend = subst Ascends (sym own_now) t.ascend;
-            talks = subst (λ (o : Option Session). IsTalking o r (on (at_doing (doing.Serving run (work_at i (slice_index t.s.snap.kept i) 0))))) (sym own_now)
-                (settle (Some t.s) run Claim t.talks now (λ (c : Connection). record c { doing = doing.Serving run (work_at i (slice_index t.s.snap.kept i) 0) })
-                (claims.claimed_talks t.s r c_m tasks t.talks k number has (live_here (Some t.s) run Claim t.talks) run (serving (Some t.s) run Claim t.talks) i free));
-          })
+      claim_now = (
+        now,
+        own_now,
+        record {
+          ascend = subst Ascends (sym own_now) t.ascend;
+          talks = subst (λ (o : Option Session). IsTalking o r (on (at_doing (doing.Serving run (work_at i (slice_index t.s.snap.kept i) 0))))) (sym own_now)
+              (settle (Some t.s) run Claim t.talks now (λ (c : Connection). record c { doing = doing.Serving run (work_at i (slice_index t.s.snap.kept i) 0) })
+              (claims.claimed_talks t.s r c_m tasks t.talks k number has (live_here (Some t.s) run Claim t.talks) run (serving (Some t.s) run Claim t.talks) i free));
+        },
+      )
 
     none_now : v.cloning ≡ u.cloning → (f : Session) → session_of u.cloning run.caller.session ≡ Some f → All IsTaken f.snap.chunks → IsFrameOf ofDonor (end_frame run.caller (copy_number run.stage)) → Then v (Some (end_frame run.caller (copy_number run.stage))) (doing.Ready run.caller) says.SentEnd
     none_now same f at_f taken of_end =
