@@ -19,7 +19,6 @@ ghost use Rattle.clone_paired.specs.Calm.{IsCalm, IsFree, IsInService};
 ghost use Rattle.clone_paired.specs.Own.{ActsAside, own_session};
 ghost use Rattle.clone_paired.specs.Paired.{IsPaired};
 ghost use Rattle.clone_paired.specs.Quiet.{GoesOn};
-ghost use Rattle.clone_paired.specs.Strangers.{IsBetween, ServesOther};
 
 /// An end of a donor that serves an EXECUTE never rests: redo that isn't archived yet is archived
 /// by the step that reads it.
