@@ -28,7 +28,6 @@ use Rattle.clone_paired.proofs.DonorFree.{keeps_paired}
 use Rattle.clone_paired.proofs.DonorServes.{doing_is, session_there}
 use Rattle.clone_paired.proofs.DonorServesEnds.{reading_talks}
 use Rattle.clone_paired.proofs.DonorServesHands.{Before, Talks, Then, at_doing, hands, left_on}
-use Rattle.clone_paired.proofs.DonorServesLate.{past_served}
 use Rattle.clone_paired.proofs.DonorServesSteps.{Ended, goes_sends}
 use Rattle.clone_paired.proofs.DonorTurns.{first, same_network, there_at, x}
 use Rattle.clone_paired.proofs.LateSteps.{late_same}
@@ -115,13 +114,5 @@ module _ (d t : Donor) (r : Reception) (n : Network) (number : ℕ) (answer : Do
     pub served_task : IsTalking now r (with_connection number after n)
     served_task = let some = serving_is at.doing serving in served_by some.0 some.1 some.2
 
-  -- ---- one that no task has
-
-  served_late : (talks : IsTalking session r n) → now ≡ session → ((k : ℕ) → connection_of n k ≢ Some number) → (at after : Connection) → slice_get n.connections number ≡ Some at → is_open at ≡ true → is_serving at.doing ≡ true → StepsEnd gives d t at after answer → IsTalking now r (with_connection number after n)
-  served_late talks same away at after there live serving e = subst (λ (o : Option Session). IsTalking o r (with_connection number after n)) (sym same) (late_same session r n talks number at after there away (λ acknowledged p. past_served r.table acknowledged d t at after answer live serving e p))
-
 pub donor_serves : (d t : Donor) (r : Reception) (n m : Network) (task number : ℕ) (answer : DonorStep) → IsPaired (own_session r.table.session d.cloning) r n → StepsDonor gives d t number n m answer → IsInService n number → connection_of n task ≡ Some number → Ascends (own_session r.table.session d.cloning) → IsPaired (own_session r.table.session t.cloning) r m
 donor_serves d t r n m task number answer paired steps serving has ascend = keeps_paired d t r n number answer IsServingAt (λ at after there live on e talks. served_task d t r n number answer paired.tasks talks ascend task has at after there live on e) paired m serving steps
-
-pub late_serves : (d t : Donor) (r : Reception) (n m : Network) (number : ℕ) (answer : DonorStep) → IsPaired (own_session r.table.session d.cloning) r n → StepsDonor gives d t number n m answer → IsInService n number → ((k : ℕ) → connection_of n k ≢ Some number) → own_session r.table.session t.cloning ≡ own_session r.table.session d.cloning → IsPaired (own_session r.table.session t.cloning) r m
-late_serves d t r n m number answer paired steps serving away same = keeps_paired d t r n number answer IsServingAt (λ at after there live on e talks. served_late d t r n number answer talks same away at after there live on e) paired m serving steps

@@ -43,7 +43,6 @@ pub mod DonorServesFits
 pub mod DonorServesSteps
 pub mod DonorServesAt
 pub mod DonorServesHands
-pub mod DonorServesLate
 pub mod DonorServesAll
 pub mod Reading
 pub mod Marking

@@ -1,21 +1,15 @@
-ghost use Rattle.std.specs.Prelude.{◌≡◌, ℕ, IfSome, false, slice_get, true};
+ghost use Rattle.std.specs.Prelude.{◌≡◌, ℕ, false, true};
 ghost use Rattle.std.specs.Option.{ForSome};
 ghost use Rattle.clone_snapshot.specs.Snaps.{IsSnap};
 ghost use Rattle.clone_session.specs.Cloning.{IsCloning};
-ghost use Rattle.clone_session.specs.Effects.{Tells};
-ghost use Rattle.clone_session.specs.declared.info.StageInfo.{StageInfo};
-ghost use Rattle.clone_recipient.specs.Expecting.{fits};
 ghost use Rattle.clone_recipient.specs.Receptions.{Reception};
-ghost use Rattle.clone_serve.specs.declared.turn.ServeAnswer.TheVariants.{SentEnd};
 ghost use Rattle.clone_network.specs.Connections.{Connection, StepsEnd, is_open};
-ghost use Rattle.clone_network.specs.Networks.{Network, StepsDonor};
+ghost use Rattle.clone_network.specs.Networks.{Network};
 ghost use Rattle.clone_network.specs.declared.donor_step.DonorStep.{DonorStep};
-ghost use Rattle.clone_network.specs.declared.donor_step.DonorStep.TheVariants.{Served};
 ghost use Rattle.clone_engine.specs.Acts.{Act, Acts};
 ghost use Rattle.clone_engine.specs.Donor.{Donor, IsDonor};
 ghost use Rattle.clone_told.specs.Told.{gives};
-ghost use Rattle.clone_joined.specs.Strangers.{acts_in, attaches};
-ghost use Rattle.clone_paired.specs.Calm.{IsCalm, IsFree, IsInService};
+ghost use Rattle.clone_joined.specs.Strangers.{acts_in};
 ghost use Rattle.clone_paired.specs.Own.{ActsAside, own_session};
 ghost use Rattle.clone_paired.specs.Paired.{IsPaired};
 ghost use Rattle.clone_paired.specs.Quiet.{GoesOn};
@@ -35,34 +29,6 @@ pub fn acts_aside()
     ensures pairs { (d t : Donor) (act : Act) (r : Reception) (n : Network) → Acts act d t
         → ActsAside r.table.session act → IsPaired (own_session r.table.session d.cloning) r n
         → IsPaired (own_session r.table.session t.cloning) r n }
-{}
-
-/// Outside an EXECUTE a step of a donor's end that leaves the donor keeps a clone paired: where
-/// there is nothing to do, a loss is found, or an EXECUTE is served from now on.
-pub fn free_ends()
-    ensures { (d t : Donor) (r : Reception) (n m : Network) (number : ℕ) (answer : DonorStep)
-        → IsPaired (own_session r.table.session d.cloning) r n
-        → StepsDonor gives d t number n m answer → IsFree n number → IsCalm answer
-        → IsPaired (own_session r.table.session t.cloning) r m }
-{}
-
-/// So does each step of an end whose unread bytes begin with ATTACH, where what the donor tells of
-/// its stage is what a recipient may take.
-pub fn attaching_ends()
-    ensures { (d t : Donor) (r : Reception) (n m : Network) (number : ℕ) (answer : DonorStep)
-        → IsPaired (own_session r.table.session d.cloning) r n
-        → StepsDonor gives d t number n m answer → IsFree n number
-        → IfSome (slice_get n.connections number) (λ at. attaches at ≡ true)
-        → ((info : StageInfo) → Tells d.cloning info → fits info.plan ≡ true)
-        → IsPaired (own_session r.table.session t.cloning) r m }
-{}
-
-/// So does a step of an end that sends the END of an EXECUTE.
-pub fn ending_ends()
-    ensures { (d t : Donor) (r : Reception) (n m : Network) (number : ℕ)
-        → IsPaired (own_session r.table.session d.cloning) r n
-        → StepsDonor gives d t number n m (Served SentEnd) → IsInService n number
-        → IsPaired (own_session r.table.session t.cloning) r m }
 {}
 
 /// A step of a stranger's end, by which nobody acts in the session and which serves no EXECUTE of

@@ -1,4 +1,4 @@
-ghost use Rattle.std.specs.Prelude.{◌≡◌, ◌≢◌, ℕ, Some};
+ghost use Rattle.std.specs.Prelude.{◌≡◌, ℕ, Some};
 ghost use Rattle.clone_recipient.specs.Receptions.{Reception};
 ghost use Rattle.clone_network.specs.Networks.{Network, StepsDonor};
 ghost use Rattle.clone_network.specs.declared.donor_step.DonorStep.{DonorStep};
@@ -10,21 +10,14 @@ ghost use Rattle.clone_paired.specs.Lines.{connection_of};
 ghost use Rattle.clone_paired.specs.Own.{own_session};
 ghost use Rattle.clone_paired.specs.Paired.{IsPaired};
 
-/// Each step of a donor's end within an EXECUTE keeps a clone paired: a chunk is claimed, redo is
-/// archived, a block is sent, or the END, the disk fails, memory runs out, or a loss is found. The
-/// pages of each block that the session copies ascend. On a connection of an earlier incarnation so
-/// does each step by which the session stays.
+/// Each step of the donor's end of a task's connection within an EXECUTE keeps a clone paired: a
+/// chunk is claimed, redo is archived, a block is sent, or the END, the disk fails, memory runs
+/// out, or a loss is found. The pages of each block that the session copies ascend.
 pub fn serving_ends()
-    ensures present { (d t : Donor) (r : Reception) (n m : Network) (task number : ℕ)
+    ensures { (d t : Donor) (r : Reception) (n m : Network) (task number : ℕ)
         (answer : DonorStep) → IsPaired (own_session r.table.session d.cloning) r n
         → StepsDonor gives d t number n m answer → IsInService n number
         → connection_of n task ≡ Some number
         → Ascends (own_session r.table.session d.cloning)
-        → IsPaired (own_session r.table.session t.cloning) r m }
-    ensures late { (d t : Donor) (r : Reception) (n m : Network) (number : ℕ) (answer : DonorStep)
-        → IsPaired (own_session r.table.session d.cloning) r n
-        → StepsDonor gives d t number n m answer → IsInService n number
-        → ((k : ℕ) → connection_of n k ≢ Some number)
-        → own_session r.table.session t.cloning ≡ own_session r.table.session d.cloning
         → IsPaired (own_session r.table.session t.cloning) r m }
 {}

@@ -8,9 +8,7 @@ mod donor_stages_laws;
 mod laws;
 
 pub use donor_late_laws::{closing_ends, late_ends};
-pub use donor_laws::{
-    acts_aside, attaching_ends, ending_ends, free_ends, service_goes_on, strangers_leave,
-};
+pub use donor_laws::{acts_aside, service_goes_on, strangers_leave};
 pub use donor_serving_laws::serving_ends;
 pub use donor_stages_laws::task_ends;
 pub use laws::{ends_fairly, never_stuck, paired_laws, reception_laws, rests_laws};
