@@ -44,6 +44,7 @@ pub mod DonorServesSteps
 pub mod DonorServesAt
 pub mod DonorServesHands
 pub mod DonorServesAll
+pub mod DonorServesAscend
 pub mod Reading
 pub mod Marking
 pub mod Advancing

@@ -13,6 +13,7 @@ ghost use Rattle.clone_joined.specs.Strangers.{acts_in};
 ghost use Rattle.clone_paired.specs.Own.{ActsAside, own_session};
 ghost use Rattle.clone_paired.specs.Paired.{IsPaired};
 ghost use Rattle.clone_paired.specs.Quiet.{GoesOn};
+ghost use Rattle.clone_paired.specs.Strangers.{IsBetween, ServesOther};
 
 /// An end of a donor that serves an EXECUTE never rests: redo that isn't archived yet is archived
 /// by the step that reads it.

@@ -9,6 +9,6 @@ mod laws;
 
 pub use donor_late_laws::{closing_ends, late_ends};
 pub use donor_laws::{acts_aside, service_goes_on, strangers_leave};
-pub use donor_serving_laws::serving_ends;
+pub use donor_serving_laws::{blocks_ascend, serving_ends};
 pub use donor_stages_laws::task_ends;
 pub use laws::{ends_fairly, never_stuck, paired_laws, reception_laws, rests_laws};
