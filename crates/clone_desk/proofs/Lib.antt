@@ -1,0 +1,3 @@
+mod RecordLemmas
+mod RunLemmas
+mod CallLemmas

@@ -1,0 +1,3 @@
+pub mod Records
+pub mod Desks
+pub mod Steps
