@@ -1,0 +1,9 @@
+pub mod RefusalLemmas
+pub mod AgreeLemmas
+pub mod SetLemmas
+pub mod CountLemmas
+pub mod SlotLemmas
+pub mod LayLemmas
+pub mod ImageLemmas
+pub mod ReadingLemmas
+pub mod IncrementLemmas
