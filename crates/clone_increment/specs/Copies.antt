@@ -30,6 +30,7 @@ abbrev pub is_within : Counted → ℕ × ℕ → Bool
 is_within counts place =
     option_map_or (λ count. nat_lt place.1 count) (finite.get counts place.0) false
 
+-- a copy of files: the sizes of its spaces, and the pages that it keeps
 pub record Copy : Type 0 where
   pub sizes : Counted
   pub pages : PagesByPlace

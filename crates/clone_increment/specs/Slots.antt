@@ -18,6 +18,7 @@ abbrev pub IsRead : Option DiskImage → ℕ → ℕ → Option (List ℕ) → T
 IsRead told space number None = ⊥
 IsRead told space number (Some bytes) = ForTold told (λ m. GivesQuiet m space number bytes)
 
+-- slots by place
 abbrev pub Slots : Type 0
 Slots = BTreeMap (ℕ × ℕ) (Option (List ℕ))
 

@@ -33,12 +33,15 @@ tracked_code =
     code_by (Option Changed × ℕ) (coded× (coded_option changed_code) coded_ℕ)
     (λ t. (t.since, t.number)) (λ p. record { since = p.0; number = p.1 }) (λ _. refl)
 
+-- nothing was written, and no space was made
 abbrev pub no_changes : Changed
 no_changes = record { written = set.empty; made = set.empty }
 
+-- a page was written
 abbrev pub with_written : Changed → ℕ × ℕ → Changed
 with_written changed place = record changed { written = set.insert changed.written place }
 
+-- a space was made
 abbrev pub with_made : Changed → ℕ → Changed
 with_made changed space = record changed { made = set.insert changed.made space }
 
@@ -62,6 +65,7 @@ pub record IsTaken (changed : Changed) (image : DiskImage) (delta : Delta) : Typ
   pub pages : (place : ℕ × ℕ) → finite.get delta.pages place
       ≡ (if set.contains changed.written place then bytes_at image place else None)
 
+-- the same where a copy was made
 abbrev pub IsTakenSince : Option Changed → DiskImage → Delta → Type 0
 IsTakenSince None image delta = ⊥
 IsTakenSince (Some changed) image delta = IsTaken changed image delta
