@@ -63,11 +63,11 @@ module _ {N L X : Type 0} (net : Net N L X) (link : Link L X) where
     pub about : Snapshot L
     pub donor : L
     pub records : t.records ≡ s.records ++ record {
-        task = task;
-        about = about;
-        donor = Waits donor;
-        requester = None;
-      } ∷ []
+      task = task;
+      about = about;
+      donor = Waits donor;
+      requester = None;
+    } ∷ []
     pub named : about.value ≡ end
     pub donor_is : IsNew link (link.name end) Donor donor
     pub end_is : IsNew link (link.name end) Requester end

@@ -66,9 +66,9 @@ where
     ghost keeps_key = { λ s c a t follows. refl };
 
     ghost still_fits = { elim [
-        | call.Pair task ↦ λ s c a t fits follows. tt
-        | call.DonorEnd task ↦ λ s c a t fits follows. tt
-        | call.GiveBack place side end ↦ λ s c a t fits follows.
-            (follows.stay place _ fits.0, fits.1)
+      | call.Pair task ↦ λ s c a t fits follows. tt
+      | call.DonorEnd task ↦ λ s c a t fits follows. tt
+      | call.GiveBack place side end ↦ λ s c a t fits follows.
+          (follows.stay place _ fits.0, fits.1)
     ] };
 }

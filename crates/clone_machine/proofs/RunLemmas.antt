@@ -60,10 +60,10 @@ Begins d after acts =
 begins : (s : SharedDonor) (c : JobCall) (a : JobAnswer) (t : SharedDonor) → Steps s c a t → Begins s.donor t.donor (act_by c a t.donor)
 begins s c a t is = elim (stepped s c a t is) [
   | inl asked ↦ subst (λ (c : JobCall). Begins s.donor t.donor (act_by c a t.donor)) (sym asked.call_is)
-    (subst (λ (a : JobAnswer). Begins s.donor t.donor (act_by (call.Donor asked.asked) a t.donor)) (sym asked.answer_is)
-    (λ rest runs. ((asked.asks.acts, runs), refl)))
+      (subst (λ (a : JobAnswer). Begins s.donor t.donor (act_by (call.Donor asked.asked) a t.donor)) (sym asked.answer_is)
+      (λ rest runs. ((asked.asks.acts, runs), refl)))
   | inr aside ↦ subst (λ (acts : List Entry). Begins s.donor t.donor acts) (sym aside.nothing)
-    (subst (λ (d : Donor). Begins d t.donor []) aside.donor (λ rest runs. (runs, refl)))
+      (subst (λ (d : Donor). Begins d t.donor []) aside.donor (λ rest runs. (runs, refl)))
 ]
 
 pub run_is : (first : SharedDonor) (run : List JobEntry) → IsLegalRun Steps first run

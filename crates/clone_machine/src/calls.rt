@@ -10,9 +10,7 @@ pub enum JobCall {
     /// How many commits there are.
     Look,
     /// A call of the donor.
-    Donor {
-        call: DonorCall,
-    },
+    Donor { call: DonorCall },
 }
 
 /// The answer to a call of a job.

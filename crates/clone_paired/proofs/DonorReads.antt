@@ -149,6 +149,6 @@ module _ (session : Option Session) (r : Reception) (n : Network) (tasks : lengt
             asked = (subst (AllByRecursion (IsAsked r.table k)) all here.of.asked).0;
             empty = subst (λ (f : List Frame). Holds ofTask here.at.cut f left) none reads.holds;
             sees = λ counts u d sees_it says.
-            (let f = front_seen command [] (u.seats k).commands d (subst (λ (l : List Frame). AreCommands l (u.seats k).commands) all sees_it.line.commands) says in
-            (asks_only u k d f.0 sees_it.rule sees_it.line.connected f.1).0);
+                (let f = front_seen command [] (u.seats k).commands d (subst (λ (l : List Frame). AreCommands l (u.seats k).commands) all sees_it.line.commands) says in
+                (asks_only u k d f.0 sees_it.rule sees_it.line.connected f.1).0);
           }

@@ -108,6 +108,7 @@ pub record Repeated (d t : Donor) (number : ℕ) (caller : Caller) (next : Doing
   pub tells : TellsInfo t.cloning info
   pub next_is : next ≡ doing.Ready caller
   pub sends_is : sends ≡ Some (stage_frame info)
+
 own_number : (number stage : ℕ) (now : Moment) (files : List (ℕ × ℕ)) (c e : Cloning) (s : Session) → (stage == donor_stage s) ≡ false → Becomes e (if stage == donor_stage s then advanced now files s s.snap.list c else c) → own_session number e ≡ own_session number c
 own_number number stage now files c e s other becomes = becomes_own number c e (subst (λ (b : Bool). Becomes e (if b then advanced now files s s.snap.list c else c)) other becomes)
 
