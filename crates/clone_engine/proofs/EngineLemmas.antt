@@ -81,17 +81,21 @@ still_known files space pages s known = by (cases_eq s space)
     by (inl same) = subst IsSome (sym (ap (finite.get (finite.insert files space pages)) same ∙ get-put_same files space pages)) refl
     by (inr other) = subst IsSome (sym (get-put_other files space s pages other)) known
 
-still_small : (files : Files) (space pages s n : ℕ) → pages ≤ MOST_PAGES → ((s n : ℕ) → finite.get files s ≡ Some n → n ≤ MOST_PAGES) → finite.get (finite.insert files space pages) s ≡ Some n → n ≤ MOST_PAGES
+-- so many pages may a file have
+abbrev pub IsSize : ℕ → Type 0
+IsSize pages = (1 ≤ pages) × (pages ≤ MOST_PAGES)
+
+still_small : (files : Files) (space pages s n : ℕ) → IsSize pages → ((s n : ℕ) → finite.get files s ≡ Some n → IsSize n) → finite.get (finite.insert files space pages) s ≡ Some n → IsSize n
 still_small files space pages s n most small is = by (cases_eq s space)
   where
-    by : (s ≡ space) ⊎ (s ≢ space) → n ≤ MOST_PAGES
+    by : (s ≡ space) ⊎ (s ≢ space) → IsSize n
     by (inl same) =
         let value = same_Some pages n (sym (get-put_same files space pages) ∙ ap (finite.get (finite.insert files space pages)) (sym same) ∙ is) in
-        omega (arith, most, value)
+        (omega (arith, most.0, value), omega (arith, most.1, value))
     by (inr other) = small s n (sym (get-put_other files space s pages other) ∙ is)
 
 -- a file that is known has other pages
-pub raised_files : (d : Donor) (files : Files) (space pages : ℕ) → IsSome (finite.get files space) → pages ≤ MOST_PAGES → AreOfDonor d files → AreOfDonor d (finite.insert files space pages)
+pub raised_files : (d : Donor) (files : Files) (space pages : ℕ) → IsSome (finite.get files space) → IsSize pages → AreOfDonor d files → AreOfDonor d (finite.insert files space pages)
 raised_files d files space pages known most are = record {
   system = still_known files space pages 0 are.system;
   tables = λ table there. still_known files space pages table (are.tables table there);
@@ -113,7 +117,7 @@ one_more : (m : finite.FinMap nat_cmp ℕ) (k n : ℕ) → finite.get m k ≡ No
 one_more m k n none = grind (arith, finite.len-insert nat_cmp_total m k n, none)
 
 -- a table is made, with its file
-pub made_files : (d : Donor) (files : Files) (table buckets : ℕ) → 1 ≤ table → buckets ≤ MOST_PAGES → finite.get files table ≡ None → AreOfDonor d files → AreOfDonor (created table buckets d) (finite.insert files table buckets)
+pub made_files : (d : Donor) (files : Files) (table buckets : ℕ) → 1 ≤ table → IsSize buckets → finite.get files table ≡ None → AreOfDonor d files → AreOfDonor (created table buckets d) (finite.insert files table buckets)
 made_files d files table buckets low most unknown are = record {
   system = still_known files table buckets 0 are.system;
   tables = λ t there. known t there (cases_eq t table);
@@ -137,7 +141,7 @@ first_files = record {
   tables = λ table there. absurd (let no = subst IsSome (get-empty nat_cmp table) there in cc);
   others = λ s other there. absurd (let no = subst IsSome (get-put_other none 0 s system_size other ∙ get-empty nat_cmp s) there in cc);
   count = one_more none 0 system_size (get-empty nat_cmp 0);
-  sizes = λ s n. still_small none 0 system_size s n (omega (arith)) (λ s n is. absurd (none-some n (sym (get-empty nat_cmp s) ∙ is)));
+  sizes = λ s n. still_small none 0 system_size s n (omega (arith), omega (arith)) (λ s n is. absurd (none-some n (sym (get-empty nat_cmp s) ∙ is)));
 }
   where
     none : Files

@@ -268,7 +268,7 @@ module _ (d : plain.Donor) (old new : flushing.State) (k l : DiskState) (page : 
 
 lengthened_spaces : (d : plain.Donor) (page : PageName) (f : Flights) (t : Bool) → flushing.ends_short page f ≡ t → AreOfDonor d f.files → AreOfDonor d (flushing.lengthened t page f).files
 lengthened_spaces d page f false e are = are
-lengthened_spaces d page f true e are = raised_files d f.files page.space (page.number + 1) (known_is page f e) (let low : page.number < MOST_PAGES = ltb-true page.number MOST_PAGES (and_parts (is_short f.files page.space page.number) (nat_lt page.number MOST_PAGES) e).1 in omega (arith, low)) are
+lengthened_spaces d page f true e are = raised_files d f.files page.space (page.number + 1) (known_is page f e) (let low : page.number < MOST_PAGES = ltb-true page.number MOST_PAGES (and_parts (is_short f.files page.space page.number) (nat_lt page.number MOST_PAGES) e).1 in (omega (arith), omega (arith, low))) are
 
 lengthened_made : (b : Buffered) (page : PageName) (f : Flights) (t : Bool) → IsSome (page_of (image_of b) page.space page.number) → MakesPages f.files b → MakesPages (flushing.lengthened t page f).files b
 lengthened_made b page f false there made = made

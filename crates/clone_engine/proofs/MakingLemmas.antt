@@ -132,7 +132,7 @@ module _ (k l : DiskState) (table buckets : ℕ) {X : Type 0} (result : Result X
 
 -- WHAT A CALL THAT MAKES A TABLE leaves of an engine where the table's file isn't known, by what the
 -- transactions answer
-module _ (d e : Donor) (old new : Buffered) (f : Flights) (k l : DiskState) (table buckets : ℕ) (is : IsEngine (engine d old f k)) (was : IsBuffer old) (buffer : IsBuffer new) (ranges : (1 ≤ table) × (table ≤ 1000000) × (buckets ≤ MOST_PAGES)) (unknown : finite.get f.files table ≡ None) (kept : Keeps e new) where
+module _ (d e : Donor) (old new : Buffered) (f : Flights) (k l : DiskState) (table buckets : ℕ) (is : IsEngine (engine d old f k)) (was : IsBuffer old) (buffer : IsBuffer new) (ranges : (1 ≤ table) × (table ≤ 1000000) × (1 ≤ buckets) × (buckets ≤ MOST_PAGES)) (unknown : finite.get f.files table ≡ None) (kept : Keeps e new) where
   abbrev did : Unit {0} → EngineAnswer
   did x = answers.Create
 
@@ -266,7 +266,7 @@ module _ (d e : Donor) (old new : Buffered) (f : Flights) (k l : DiskState) (tab
       keeps = kept;
       stands = made_stands;
       files = told_stepped (HasFiles f.files) (HasFiles g.files) k.told l.told with_table step (λ m h. space_made m table buckets f.files h) is.files;
-      spaces = subst (λ (x : Donor). AreOfDonor x g.files) (sym becomes) (made_files d f.files table buckets ranges.0 ranges.2 unknown is.spaces);
+      spaces = subst (λ (x : Donor). AreOfDonor x g.files) (sym becomes) (made_files d f.files table buckets ranges.0 (ranges.2, ranges.3) unknown is.spaces);
       within = made_within;
       short = made_short;
       tables = of_tables IsOfTable 1 old new (λ r is. is) (grows done answer stays) is.tables;

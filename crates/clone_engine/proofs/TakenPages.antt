@@ -389,7 +389,7 @@ has_entry files space pages is = found_entry (finite.entries files) space pages 
 pub are_files : (d : Donor) (files : Files) → AreOfDonor d files → IsSafe d → AreFiles (finite.entries files)
 are_files d files is safe =
     let few_chunks : ℕ → ℕ → Type 0 = λ space pages. div_ceil pages CHUNK_PAGES ≤ 1025 in
-    let each = all_entries few_chunks files (λ space pages known. let most = is.sizes space pages known in omega (arith, most)) in
+    let each = all_entries few_chunks files (λ space pages known. let most = (is.sizes space pages known).1 in omega (arith, most)) in
     let sum = sum_by-le (λ space. div_ceil space.1 CHUNK_PAGES) 1025 (finite.entries files) each in
     (omega (arith, sum, is.count, safe.tables.few, finite.len-entries files), omega (arith, is.count, safe.tables.few, finite.len-entries files))
 

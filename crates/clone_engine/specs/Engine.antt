@@ -27,15 +27,16 @@ state_of e = record { buffer = e.buffer; flights = e.flights }
 abbrev pub StandsBeside : Engine → Copies → Type 0
 StandsBeside e copies = StandsFlown e.buffer e.flights copies e.disk.told
 
--- A file is known of the system space and of each table, and of no other space. It has at most as
--- many pages as a space may have.
+-- A file is known of the system space and of each table, and of no other space. It has 1 page to as
+-- many as a space may have.
 pub record AreOfDonor (d : Donor) (files : Files) : Type 0 where
   pub system : IsSome (finite.get files 0)
   pub tables : (table : ℕ) → IsSome (finite.get d.tables table) → IsSome (finite.get files table)
   pub others : (space : ℕ) → space ≢ 0 → IsSome (finite.get files space)
       → IsSome (finite.get d.tables space)
   pub count : finite.len files ≡ finite.len d.tables + 1
-  pub sizes : (space pages : ℕ) → finite.get files space ≡ Some pages → pages ≤ MOST_PAGES
+  pub sizes : (space pages : ℕ) → finite.get files space ≡ Some pages
+      → (1 ≤ pages) × (pages ≤ MOST_PAGES)
 
 -- the page lies within its file, as far as that is known
 pub record LiesIn (files : Files) (space number : ℕ) : Type 0 where

@@ -22,7 +22,7 @@ returns-clause-makes g c =
     let made = c.in_ok-file_made.ensures.ok ∙ (λ i. with_file (c.get-space.ensures.value i) (c.get.ensures.value i) s.flights) in
     let left = c.forget_unmade.ensures ∙ (λ i. left_unmade b.result (c.get-space.ensures.value i) (made i)) ∙ left_flown s.flights a.table a.buckets b.result unknown in
     subst (λ (f : Flights). Makes (call.Create a.table a.buckets) s (engine b.new.self b.new.buffer f l) (answer_of (λ (x : Unit {0}). answers.Create) b.result)) (sym left)
-    (creates s.donor b.new.self s.buffer b.new.buffer s.flights s.disk l a.table a.buckets c.requires.donor.engine c.laws-2.ensures.buffer c.laws-3.ensures.buffer (c.get-space.ensures.low, c.get-space.ensures.high, omega (arith, c.get.ensures.high)) unknown is.kept
+    (creates s.donor b.new.self s.buffer b.new.buffer s.flights s.disk l a.table a.buckets c.requires.donor.engine c.laws-2.ensures.buffer c.laws-3.ensures.buffer (c.get-space.ensures.low, c.get-space.ensures.high, omega (arith, c.get.ensures.low), omega (arith, c.get.ensures.high)) unknown is.kept
     b.result is.answer is.stands (record { made_is = is.made; left = is.left; same = is.same }) is.counts)
 
 pub returns-clause-keeps : goal.returns-clause-keeps
@@ -36,5 +36,5 @@ returns-clause-keeps g c =
     let made = c.in_ok-file_made.ensures.ok ∙ (λ i. with_file (c.get-space.ensures.value i) (c.get.ensures.value i) s.flights) in
     let left = c.forget_unmade.ensures ∙ (λ i. left_unmade b.result (c.get-space.ensures.value i) (made i)) ∙ left_flown s.flights a.table a.buckets b.result unknown in
     subst (λ (f : Flights). KeepsPages s (engine b.new.self b.new.buffer f l)) (sym left)
-    (creates_keep s.donor b.new.self s.buffer b.new.buffer s.flights s.disk l a.table a.buckets c.requires.donor.engine c.laws-2.ensures.buffer c.laws-3.ensures.buffer (c.get-space.ensures.low, c.get-space.ensures.high, omega (arith, c.get.ensures.high)) unknown is.kept
+    (creates_keep s.donor b.new.self s.buffer b.new.buffer s.flights s.disk l a.table a.buckets c.requires.donor.engine c.laws-2.ensures.buffer c.laws-3.ensures.buffer (c.get-space.ensures.low, c.get-space.ensures.high, omega (arith, c.get.ensures.low), omega (arith, c.get.ensures.high)) unknown is.kept
     b.result is.answer is.stands (record { made_is = is.made; left = is.left; same = is.same }))
