@@ -7,3 +7,6 @@ pub mod LayLemmas
 pub mod ImageLemmas
 pub mod ReadingLemmas
 pub mod IncrementLemmas
+pub mod PageCounts
+pub mod DiskPageLemmas
+pub mod NotingLemmas

@@ -62,3 +62,7 @@ pub record IsImageOf (copy : Copy) (image : DiskImage) : Type 0 where
   pub sizes : (space : ℕ) → finite.get copy.sizes space ≡ page_count image space
   pub pages : (place : ℕ × ℕ) → page_at copy place ≡ bytes_at image place
   pub bounded : IsBounded copy.sizes copy.pages
+
+-- every page of the disk is kept, and nothing else
+abbrev pub KeepsAll : Copy → DiskImage → Type 0
+KeepsAll copy image = (place : ℕ × ℕ) → finite.get copy.pages place ≡ bytes_at image place

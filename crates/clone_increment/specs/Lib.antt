@@ -5,3 +5,4 @@ pub mod Readings
 pub mod Increments
 pub mod Tracked
 pub mod Histories
+pub mod Noting

@@ -57,6 +57,13 @@ impl Backup {
         self.pages.get(space, number)
     }
 
+    /// How many pages it keeps.
+    pub fn count(&self) -> usize
+        ensures { result ≡ finite.len self.now.copy.pages }
+    {
+        self.pages.count()
+    }
+
     /// Applies an increment: spaces that were made are emptied, those that aren't listed are
     /// dropped, the others get their sizes, and its pages are laid. After a refusal all is as
     /// before.

@@ -77,6 +77,13 @@ impl Increment {
         self.pages.get(space, number)
     }
 
+    /// How many pages it has.
+    pub fn count(&self) -> usize
+        ensures { result ≡ finite.len self.now.pages }
+    {
+        self.pages.count()
+    }
+
     /// The increment of what changed, as the disk is now.
     pub(crate) fn take<D: PageDisk>(
         alloc: Global,

@@ -16,6 +16,6 @@ mod tracking;
 
 pub use backup::Backup;
 pub use increment::{Increment, merge};
-pub use laws::{increment_laws, merge_laws};
+pub use laws::{increment_laws, merge_laws, note_laws, space_laws, still_laws, write_laws};
 pub use refusal::BackupRefusal;
 pub use tracking::Tracking;

@@ -57,6 +57,13 @@ impl PageMap {
         page_of(&self.slots, space, number)
     }
 
+    /// How many pages there are.
+    pub(crate) fn count(&self) -> usize
+        ensures { result ≡ finite.len self.now }
+    {
+        count_filled(&self.slots)
+    }
+
     /// Reads a page of a disk. After a refusal all is as before.
     pub(crate) fn read<D: PageDisk>(
         &mut self,
@@ -105,6 +112,19 @@ fn has_page(slots: &Slots, place: (u32, u32)) -> bool
         Some(slot) => slot.is_filled(),
         None => false,
     }
+}
+
+// How many slots hold a page.
+fn count_filled(slots: &Slots) -> usize
+    ensures { result ≡ finite.len (kept slots.now.entries) }
+{
+    let mut count = 0;
+    for slot in slots.values() {
+        if slot.is_filled() {
+            count += 1;
+        }
+    }
+    count
 }
 
 // Makes a slot for each of others.

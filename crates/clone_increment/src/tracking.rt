@@ -2,7 +2,7 @@
 ghost use Rattle.std.specs.Prelude.{◌≡◌, ◌<◌, ◌+◌, None, Some, IfOk, IfErr, IsSome, OnErr, OnOk, IsErrOf};
 ghost use Rattle.clone_outside.specs.Disk.{ForTold};
 ghost use Rattle.clone_outside.specs.DiskCalls.{Asks, Reads};
-ghost use Rattle.clone_increment.specs.Copies.{IsImageOf, IsQuiet};
+ghost use Rattle.clone_increment.specs.Copies.{IsImageOf, IsQuiet, KeepsAll};
 ghost use Rattle.clone_increment.specs.Tracked.{IsTakenSince, MayRefuseFull, MayRefuseIncrement, no_changes, noted, noted_made};
 ghost use Rattle.clone_increment.specs.declared.refusal.BackupRefusal.TheVariants.{DiskFault};
 
@@ -80,6 +80,8 @@ impl Tracking {
         ensures err { IfErr result (MayRefuseFull writes) }
         ensures image { IfOk result (λ backup. ForTold (D.state disk.old).told
             (λ m. IsQuiet m → IsImageOf backup.copy m)) }
+        ensures kept { IfOk result (λ backup. ForTold (D.state disk.old).told
+            (λ m. IsQuiet m → KeepsAll backup.copy m)) }
         ensures next { IfOk result (λ backup. backup.next ≡ self.old.number) }
         ensures begun { OnOk result
             (self.new ≡ record self.old { since = Some no_changes }) }
@@ -130,6 +132,8 @@ impl Tracking {
 fn copied<D: PageDisk>(alloc: Global, disk: &mut D, next: u32) -> Result<Backup, Refusal>
     ensures image { IfOk result (λ backup. ForTold (D.state disk.old).told
         (λ m. IsQuiet m → IsImageOf backup.copy m)) }
+    ensures kept { IfOk result (λ backup. ForTold (D.state disk.old).told
+        (λ m. IsQuiet m → KeepsAll backup.copy m)) }
     ensures next { IfOk result (λ backup. backup.next ≡ next) }
     ensures asks { Asks (D.state disk.old) (D.state disk.new) result }
 {
