@@ -1,0 +1,5 @@
+pub mod CallLemmas
+pub mod CauseLemmas
+pub mod CarryLemmas
+pub mod TurnLemmas
+pub mod LoopLemmas

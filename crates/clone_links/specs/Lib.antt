@@ -1,0 +1,4 @@
+pub mod Calling
+pub mod Ending
+pub mod Serving
+pub mod Turning
