@@ -122,7 +122,7 @@ module _ (session : Option Session) (e : Cloning) (r : Reception) (n : Network) 
         let y_is : IsLine talks.known (list_in session) y (world.seats j) = seat_of session r n talks.lines talks.known world talks.at see.view j (Some y) is in
         both_ways (world.seats j).connected ((see.rule.seats j).may.follows other (see.rule.sides.apart apart).0) y_is.connected
 
-    quiet : here.l.answers ≡ []
+    pub quiet : here.l.answers ≡ []
     quiet = none_answered talks.known here.l.answers (world.seats 0).answers see.line.answers asks.quiet
 
     idle : IsServing (world.seats 0).core → ⊥

@@ -1,7 +1,7 @@
 -- A donor's end of task 0's connection carries out INIT, REINIT, REINIT2 or an acknowledgement.
 use Rattle.std.proofs.Common.{ℕ, suc, ◌≡◌, ◌≢◌, ◌∙◌, ◌⊎◌, ◌<◌, ◌≤◌, List, [], ◌++◌, Bool, true, false, Option, None, Some, length, refl, sym, ap, subst, inl, inr, arith}
 use Rattle.std.specs.Prelude.{◌==◌, IfSome}
-use Rattle.std.proofs.lemmas.Bool.{ne_eqb}
+use Rattle.std.proofs.lemmas.Bool.{cases_eq, ne_eqb}
 use Rattle.clone_chunk.specs.Bitmaps.{Bits}
 use Rattle.clone_chunk.specs.Partials.{Taken}
 use Rattle.clone_chunk.specs.Stages.{copy_number, stage_number}
@@ -49,7 +49,7 @@ use Rattle.clone_told.specs.Told.{gives}
 use Rattle.clone_rounds.specs.World.{Acknowledge, Command, First, NoneLeft, World}
 use Rattle.clone_view.specs.Frames as view
 use Rattle.clone_view.specs.Tables.{phase_number}
-use Rattle.clone_paired.specs.Around.{ServesOne}
+use Rattle.clone_paired.specs.Around.{Serves}
 use Rattle.clone_paired.specs.Lines.{caller_of, connection_of}
 use Rattle.clone_paired.specs.Own.{own_session}
 use Rattle.clone_paired.specs.Paired.{IsTalking}
@@ -57,12 +57,13 @@ use Rattle.clone_paired.specs.Seen.{IsCounted, stage_at}
 use Rattle.clone_paired.specs.Sessions.{IsSessionOf}
 use Rattle.clone_paired.proofs.DonorAwaiting.{Bound, Carries, told_on}
 use Rattle.clone_paired.proofs.DonorExecutes.{Present}
-use Rattle.clone_paired.proofs.DonorMeets.{Renewed, chunks_are, copying, earlier, levels, met_talks, unjoined}
+use Rattle.clone_paired.proofs.DonorMeets.{Renewed, chunks_are, copying, earlier, levels, met_talks, quiet, unjoined}
 use Rattle.clone_paired.proofs.DonorMeetsAgain.{Rejoined, Shows, ShowsBlocks, ShowsChunks, blocks_fine, reinit_fine, rejoined_as, rejoined_blocks, renewed_again, shows_blocks, shows_chunks}
 use Rattle.clone_paired.proofs.DonorMovesAck.{Agreed, agree_is_fine, agreed_as, agreed_talks}
 use Rattle.clone_paired.proofs.DonorMovesOn.{own_here}
-use Rattle.clone_paired.proofs.DonorOpens.{IsOpening, MayBegin, Opened, hello, hello_fine, opened_as, opening_is, renewed_by}
+use Rattle.clone_paired.proofs.DonorOpens.{IsOpening, MayBegin, Opened, hello, hello_fine, opened_as, opening_is, renewed_by, turned_as}
 use Rattle.clone_paired.proofs.DonorReads.{HasRead, Stands, bare, has_read, stands}
+use Rattle.clone_paired.proofs.DonorRefuses.{Refuses, refuses}
 use Rattle.clone_paired.proofs.DonorRepeats.{Repeated, caller_is, here_now, repeat_is_fine, repeated, repeated_talks}
 use Rattle.clone_paired.proofs.DonorTurns.{first, sees, x}
 use Rattle.clone_paired.proofs.Linked.{Linked}
@@ -104,7 +105,7 @@ ready_of doing.New bound caller of is = absurd (cc (of, is))
 ready_of (doing.Ready own) bound caller of is = cc (of, is)
 ready_of other bound caller of is = absurd of
 
-module _ (d t : Donor) (r : Reception) (n : Network) (number : ℕ) (answer : DonorStep) (memory : answer ≢ step.Served says.NoMemory) (one : ServesOne r d t) where
+module _ (d t : Donor) (r : Reception) (n : Network) (number : ℕ) (answer : DonorStep) (memory : answer ≢ step.Served says.NoMemory) (one : Serves r d t) where
   abbrev session : Option Session
   session = own_session r.table.session d.cloning
 
@@ -161,18 +162,29 @@ module _ (d t : Donor) (r : Reception) (n : Network) (number : ℕ) (answer : Do
             talks_so caller info sends_is next_is (Some rn.now) rn.is
             (met_talks session t.cloning r n tasks talks number has live new command is_first c.left read caller caller_is rn.now rn.of rn.is info tells (one.fit info tells) (told_is caller info sends_is next_is))
 
-        may_begin : phase_number r.table.phase ≡ 0 → (o : Option Session) → d.cloning.session ≡ o → IfSome o (λ s. s.number ≡ r.table.session) → MayBegin r one.reception o
-        may_begin phase None there alone = tt
-        may_begin phase (Some s) there alone =
-            let own : session ≡ Some (bare s) = own_here r.table.session d.cloning s there alone in
-            (alone, earlier session t.cloning r n tasks talks number has live new command is_first c.left read (bare s) own, first_stage session (bare s) (phase_number r.table.phase) own phase which)
+        may_begin : phase_number r.table.phase ≡ 0 → (s : Session) → d.cloning.session ≡ Some s → s.number ≡ r.table.session → MayBegin r one.reception (Some s)
+        may_begin phase s there same =
+            let own : session ≡ Some (bare s) = own_here r.table.session d.cloning s there same in
+            (same, earlier session t.cloning r n tasks talks number has live new command is_first c.left read (bare s) own, first_stage session (bare s) (phase_number r.table.phase) own phase which)
 
-        opened_talks : (attempt : Attempt) (version size : ℕ) (compressed : Bool) (count : ℕ) → IsOpening r.table attempt version size compressed count → c.asked ≡ call.Init (hello_of attempt version size compressed count) → c.begun ≡ doing.Telling (commands.caller_of attempt 0) → IsTalking now r m
-        opened_talks attempt version size compressed count o asked_is begun_is =
-            let may : MayBegin r one.reception d.cloning.session = may_begin o.phase d.cloning.session refl one.alone in
-            let did : Answered (call.Init (hello r one.reception)) c.given d t = did_of (call.Init (hello r one.reception)) (asked_is ∙ ap call.Init o.hello) in
-            let op : Opened r one.reception d t (commands.caller_of attempt 0) c.next c.sends = opened_as r one.reception d t (commands.caller_of attempt 0) c.next c.sends c.says (hello_fine r one.reception d.cloning may) fit_memory c.given did (follows_of (doing.Telling (commands.caller_of attempt 0)) begun_is) in
-            told_first (commands.caller_of attempt 0) (ap (λ (a : Attempt). commands.caller_of a 0) o.same) (renewed_by r one.reception talks.known d t o.phase talks.rounds.donor talks.own d.cloning.session refl may op.begins) op.info op.tells op.next_is op.sends_is
+        opened_talks : (attempt : Attempt) (version size : ℕ) (compressed : Bool) (count : ℕ) → IsOpening r.table attempt version size compressed count → c.asked ≡ call.Init (hello_of attempt version size compressed count) → c.begun ≡ doing.Telling (commands.caller_of attempt 0) → IsTalking now r m ⊎ Refuses session r n number d t after
+        opened_talks attempt version size compressed count o asked_is begun_is = by d.cloning.session refl
+          where
+            did : Answered (call.Init (hello r one.reception)) c.given d t
+            did = did_of (call.Init (hello r one.reception)) (asked_is ∙ ap call.Init o.hello)
+
+            begins : MayBegin r one.reception d.cloning.session → IsTalking now r m
+            begins may =
+                let op : Opened r one.reception d t (commands.caller_of attempt 0) c.next c.sends = opened_as r one.reception d t (commands.caller_of attempt 0) c.next c.sends c.says (hello_fine r one.reception d.cloning may) fit_memory c.given did (follows_of (doing.Telling (commands.caller_of attempt 0)) begun_is) in
+                told_first (commands.caller_of attempt 0) (ap (λ (a : Attempt). commands.caller_of a 0) o.same) (renewed_by r one.reception talks.known d t o.phase talks.rounds.donor talks.own d.cloning.session refl may op.begins) op.info op.tells op.next_is op.sends_is
+
+            by : (o : Option Session) → d.cloning.session ≡ o → IsTalking now r m ⊎ Refuses session r n number d t after
+            by None there = inl (begins (subst (MayBegin r one.reception) (sym there) tt))
+            by (Some s) there = which (cases_eq s.number r.table.session)
+              where
+                which : (s.number ≡ r.table.session) ⊎ (s.number ≢ r.table.session) → IsTalking now r m ⊎ Refuses session r n number d t after
+                which (inl same) = inl (begins (subst (MayBegin r one.reception) (sym there) (may_begin o.phase s there same)))
+                which (inr other) = inr (refuses session r n tasks talks number has live (quiet session t.cloning r n tasks talks number has live new command is_first c.left read) c.left d t (λ alone. other (subst (λ (z : Option Session). IfSome z (λ (y : Session). y.number ≡ r.table.session)) there alone)) one.reception c.next c.sends c.was (turned_as r one.reception d t (commands.caller_of attempt 0) c.next c.sends c.says s there other fit_memory c.given did (follows_of (doing.Telling (commands.caller_of attempt 0)) begun_is)) after c.is)
 
         -- the session goes on
         few : length (partials_of r.table.marks) ≤ kept_in r.table.version
@@ -241,7 +253,7 @@ module _ (d t : Donor) (r : Reception) (n : Network) (number : ℕ) (answer : Do
             rejoined_talks stage shown.shows.phase taken.finished.bytes taken.partials shown.shows (rejoined_blocks d t (caller_of r.table 0) (copy_number stage) c.next c.sends c.says fit_memory c.given follows taken (with_blocks_fine stage shown.shows.phase shown.second) did)
 
       -- INIT
-      pub init_talks : bound ≡ None → (attempt : Attempt) (version size : ℕ) (compressed : Bool) (count : ℕ) → c.command ≡ frame.Init attempt version size compressed count → c.asked ≡ call.Init (hello_of attempt version size compressed count) → c.begun ≡ doing.Telling (commands.caller_of attempt 0) → IsTalking now r m
+      pub init_talks : bound ≡ None → (attempt : Attempt) (version size : ℕ) (compressed : Bool) (count : ℕ) → c.command ≡ frame.Init attempt version size compressed count → c.asked ≡ call.Init (hello_of attempt version size compressed count) → c.begun ≡ doing.Telling (commands.caller_of attempt 0) → IsTalking now r m ⊎ Refuses session r n number d t after
       init_talks none attempt version size compressed count is asked_is begun_is =
           let new : here.at.doing ≡ doing.New = new_of here.at.doing bound of none in
           let read : HasRead session r n tasks talks 0 number has (frame.Init attempt version size compressed count) c.left = read_of (frame.Init attempt version size compressed count) First refl is in

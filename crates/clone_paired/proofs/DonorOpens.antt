@@ -115,12 +115,21 @@ module _ (r : Reception) (is : IsReception r) where
       ∙ ap (λ (o : Option CloneCause). option_or o (whether (not (donor_stage s == 1)) (StageMismatch (donor_stage s) 1))) (later_is s (incarnation_of r.table) may.1)
       ∙ ap (λ (b : Bool). whether (not b) (StageMismatch (donor_stage s) 1)) (eq-eqb (donor_stage s) 1 may.2)
 
-  pub hello_fine : (c : Cloning) → MayBegin c.session → hello_cause c hello ≡ None
-  hello_fine c may =
+  -- of what the requester says of itself nothing is against it
+  hello_stands : (c : Cloning) → hello_cause c hello ≡ standing_cause c.session hello
+  hello_stands c =
       ap (λ (b : Bool). option_or (whether (not b) (VersionMismatch r.table.version)) (option_or (whether (not (PAGE_SIZE == PAGE_SIZE)) (PageSizeMismatch PAGE_SIZE)) (option_or (whether false CompressionRefused) (option_or (whether ((r.table.count == 0) || nat_lt MOST_TASKS r.table.count) (TasksOutOfRange r.table.count)) (standing_cause c.session hello))))) (version_is r.table.version is.table.first is.table.second)
       ∙ ap (λ (b : Bool). option_or (whether (not b) (PageSizeMismatch PAGE_SIZE)) (option_or (whether false CompressionRefused) (option_or (whether ((r.table.count == 0) || nat_lt MOST_TASKS r.table.count) (TasksOutOfRange r.table.count)) (standing_cause c.session hello)))) (eq-eqb PAGE_SIZE PAGE_SIZE refl)
       ∙ ap (λ (b : Bool). option_or (whether b (TasksOutOfRange r.table.count)) (standing_cause c.session hello)) (tasks_are r.table.count is.table.some is.table.few)
-      ∙ stands_fine c.session may
+
+  pub hello_fine : (c : Cloning) → MayBegin c.session → hello_cause c hello ≡ None
+  hello_fine c may = hello_stands c ∙ stands_fine c.session may
+
+  -- where another session stands that is against it
+  hello_busy : (c : Cloning) (s : Session) → c.session ≡ Some s → s.number ≢ r.table.session → hello_cause c hello ≡ Some (Busy s.number)
+  hello_busy c s there other =
+      hello_stands c ∙ ap (λ (o : Option Session). standing_cause o hello) there
+      ∙ ap (λ (b : Bool). option_or (whether (not b) (Busy s.number)) (option_or (not_later s (incarnation_of r.table)) (whether (not (donor_stage s == 1)) (StageMismatch (donor_stage s) 1)))) (ne_eqb s.number r.table.session other)
 
   -- ---- what the donor answers
 
@@ -136,6 +145,19 @@ module _ (r : Reception) (is : IsReception r) where
   opened_as d t caller next sends spoke fine fit (reply.Init (Err (Because why))) did e = absurd (cc (fine, did.0))
   opened_as d t caller next sends spoke fine fit (reply.Init (Err NoMemory)) did e = absurd (fit (sym (cc (e))))
   opened_as d t caller next sends spoke fine fit given did e = absurd did
+
+  -- so it refuses where another session stands
+  pub record Turned (d t : Donor) (next : Doing) (sends : Option Frame) : Type 0 where
+    pub same : t ≡ d
+    pub next_is : next ≡ doing.Over
+    pub cause : CloneCause
+    pub sends_is : sends ≡ Some (frame.Refused cause)
+
+  pub turned_as : (d t : Donor) (caller : Caller) (next : Doing) (sends : Option Frame) (spoke : ServeAnswer) (s : Session) → d.cloning.session ≡ Some s → s.number ≢ r.table.session → spoke ≢ says.NoMemory → (given : DonorAnswer) → Answered (call.Init hello) given d t → following.after (doing.Telling caller) given ≡ Some (Ends next sends spoke) → Turned d t next sends
+  turned_as d t caller next sends spoke s there other fit (reply.Init (Ok info)) did e = absurd (cc (hello_busy d.cloning s there other, did.0))
+  turned_as d t caller next sends spoke s there other fit (reply.Init (Err (Because why))) did e = record { same = did.1; next_is = sym (cc (e)); cause = why; sends_is = sym (cc (e)) }
+  turned_as d t caller next sends spoke s there other fit (reply.Init (Err NoMemory)) did e = absurd (fit (sym (cc (e))))
+  turned_as d t caller next sends spoke s there other fit given did e = absurd did
 
   -- ---- the session that begins
 

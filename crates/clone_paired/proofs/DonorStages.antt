@@ -22,7 +22,7 @@ use Rattle.clone_paired.specs.Sessions.{IsSessionOf}
 use Rattle.clone_paired.specs.Speaking.{IsGiven, Tells}
 use Rattle.clone_paired.proofs.DonorReads.{bare}
 
-pairs_sizes : (spaces : List (ℕ × ℕ)) → pairs_of (sizes_of spaces) ≡ spaces
+pub pairs_sizes : (spaces : List (ℕ × ℕ)) → pairs_of (sizes_of spaces) ≡ spaces
 pairs_sizes [] = refl
 pairs_sizes (s ∷ spaces) = ap (λ (l : List (ℕ × ℕ)). s ∷ l) (pairs_sizes spaces)
 

@@ -76,6 +76,12 @@ pub mod DonorMovesAck
 pub mod DonorMeets
 pub mod DonorMeetsMarks
 pub mod DonorOpens
+pub mod DonorRefuses
 pub mod DonorMeetsAgain
 pub mod DonorMeetsCalls
 pub mod DonorMovesTask
+pub mod DonorPremisesOrder
+pub mod DonorPremisesFiles
+pub mod DonorPremisesKept
+pub mod DonorPremisesFits
+pub mod DonorPremisesSteps

@@ -13,3 +13,4 @@ pub mod Strangers
 pub mod Closing
 pub mod Around
 pub mod Blocks
+pub mod Order
