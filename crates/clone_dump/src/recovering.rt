@@ -50,8 +50,9 @@ pub fn dump<R: PageDisk>(alloc: Global, disk: &mut R) -> Result<String, RecoverR
     Ok(rows_lines(alloc, &rows)?)
 }
 
-// Recovers a disk, and reads its rows.
-fn recovered_rows<R: PageDisk>(
+/// Recovers a disk, and reads its rows. Where it isn't complete, or damaged, nothing of it has
+/// changed.
+pub fn recovered_rows<R: PageDisk>(
     alloc: Global,
     disk: &mut R,
 ) -> Result<Vec<(u32, u64, Value)>, RecoverRefusal>

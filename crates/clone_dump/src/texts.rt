@@ -22,9 +22,18 @@ pub fn recovered_line(alloc: Global, numbers: Recovered) -> Result<String, Alloc
 pub fn rows_lines(alloc: Global, rows: &[(u32, u64, Value)]) -> Result<String, AllocError>
     ensures { IfOk result (λ text. string_bytes text ≡ ended (rows_answer rows.now)) }
 {
+    let mut text = rows_shown(alloc, rows)?;
+    text.push('\n')?;
+    Ok(text)
+}
+
+/// The same without the last line feed.
+pub fn rows_shown(alloc: Global, rows: &[(u32, u64, Value)]) -> Result<String, AllocError>
+    ensures { IfOk result (λ text. string_bytes text ≡ rows_answer rows.now) }
+{
     let mut text = rows_text(alloc, rows)?;
     let count = rows.len();
-    writeln!(text, "rows {count}")?;
+    write!(text, "rows {count}")?;
     Ok(text)
 }
 
@@ -32,15 +41,24 @@ pub fn rows_lines(alloc: Global, rows: &[(u32, u64, Value)]) -> Result<String, A
 pub fn damage_line(alloc: Global, space: u32, page: u32, why: Why) -> Result<String, AllocError>
     ensures { IfOk result (λ text. string_bytes text ≡ ended (damage_text space page why)) }
 {
+    let mut text = damage_text(alloc, space, page, why)?;
+    text.push('\n')?;
+    Ok(text)
+}
+
+/// The same without its line feed.
+pub fn damage_text(alloc: Global, space: u32, page: u32, why: Why) -> Result<String, AllocError>
+    ensures { IfOk result (λ text. string_bytes text ≡ damage_text space page why) }
+{
     damaged(alloc, space, page, why_word(why))
 }
 
 // The same by the word for it.
 fn damaged(alloc: Global, space: u32, page: u32, word: &str) -> Result<String, AllocError>
-    ensures { IfOk result (λ text. string_bytes text ≡ ended (codes "damaged " ++ decimal space
-        ++ codes " " ++ decimal page ++ codes " " ++ word.now)) }
+    ensures { IfOk result (λ text. string_bytes text ≡ codes "damaged " ++ decimal space
+        ++ codes " " ++ decimal page ++ codes " " ++ word.now) }
 {
-    format!(in alloc; "damaged {space} {page} {word}\n")
+    format!(in alloc; "damaged {space} {page} {word}")
 }
 
 // What is against the format, in a word.
