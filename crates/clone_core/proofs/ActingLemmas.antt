@@ -22,7 +22,7 @@ use Rattle.clone_core.specs.declared.world.Copying.{Copying}
 use Rattle.clone_core.specs.declared.world.Course.{Course}
 use Rattle.clone_core.specs.declared.world.Course.TheVariants as course
 use Rattle.clone_core.specs.System.{System}
-use Rattle.clone_core.specs.Acting.{Abandons, ActsCut, ActsDonor, ActsFeed, ActsStep, ActsTask, OnCopying, ServesStranger, last, goes_on, with_donor}
+use Rattle.clone_core.specs.Acting.{Abandons, ActsCut, ActsDonor, ActsFeed, ActsStep, ActsTask, OnCopying, ServesStranger, last, goes_on, with_donor, with_stranger}
 
 -- a disk that stays is visited
 pub same_visits : (s t : DiskState) → t ≡ s → Visits s t
@@ -74,6 +74,9 @@ leaves_then r s t first second = record {
 donor_leaves : (s : System) (d : Donor) → Lends s.donor d → Leaves s (with_donor d s)
 donor_leaves s d lends = record { lends = lends; recipient = same_visits s.recipient s.recipient refl }
 
+once_leaves : (s : System) (d : Donor) → Lends s.donor d → Leaves s (with_stranger d s)
+once_leaves s d lends = record { lends = lends; recipient = same_visits s.recipient s.recipient refl }
+
 -- ---- steps over the connections of the tasks
 
 on_leave : (Does : Copying → System → System → List Change → Text → Type 0) (way : Course) (s t : System) (changes : List Change) (answer : Text) → ((c : Copying) → Does c s t changes answer → Leaves s t) → OnCopying Does way s t changes answer → Leaves s t
@@ -111,9 +114,9 @@ feed_leaves connection bytes s t changes answer c is = leaves_as s t _ is.is (re
 -- ---- others than the tasks
 
 pub stranger_leaves : (at : Connection) (s t : System) (changes : List Change) (how : DonorStep) → ServesStranger at s t changes how → Leaves s t
-stranger_leaves at s t changes how (last _ after _ _ donor says steps shut is) = leaves_as s t _ is (donor_leaves s donor (end_lends s.donor donor at after says steps))
+stranger_leaves at s t changes how (last _ after _ _ donor says steps shut is) = leaves_as s t _ is (once_leaves s donor (end_lends s.donor donor at after says steps))
 stranger_leaves at s t changes how (goes_on _ after _ _ donor says later rest steps loops more) =
-    leaves_then s (with_donor donor s) t (donor_leaves s donor (end_lends s.donor donor at after says steps)) (stranger_leaves after (with_donor donor s) t rest later more)
+    leaves_then s (with_stranger donor s) t (once_leaves s donor (end_lends s.donor donor at after says steps)) (stranger_leaves after (with_stranger donor s) t rest later more)
 
 abandon_leaves : (o : Option Session) (s t : System) (changes : List Change) (answer : Text) → Abandons o s t changes answer → Leaves s t
 abandon_leaves None s t changes answer is = leaves_same s t is.0

@@ -18,14 +18,14 @@ use Rattle.clone_events.specs.Events.{Change, Event, acts, started, unbegun, occ
 use Rattle.clone_core.specs.declared.world.Course.{Course}
 use Rattle.clone_core.specs.declared.world.Course.TheVariants as course
 use Rattle.clone_core.specs.declared.world.Copying.{Copying}
-use Rattle.clone_core.specs.Acting.{Abandons, ActsCut, ActsDonor, ActsFeed, ActsStep, ActsTask, OnCopying, ServesStranger, goes_on, last, with_donor}
+use Rattle.clone_core.specs.Acting.{Abandons, ActsCut, ActsDonor, ActsFeed, ActsStep, ActsTask, OnCopying, ServesStranger, goes_on, last, with_stranger}
 use Rattle.clone_core.specs.Steps.{SystemStep}
 use Rattle.clone_core.specs.System.{System, donor_of}
 
 -- an event of a clone, of which the plain donor knows nothing
 abbrev pub IsOfClone : Event → Type 0
 IsOfClone (acts by changes answer) = Unit {0}
-IsOfClone started = Unit {0}
+IsOfClone (started alone) = Unit {0}
 IsOfClone unbegun = Unit {0}
 IsOfClone occupied = Unit {0}
 IsOfClone (again wish answer) = Unit {0}
@@ -55,7 +55,7 @@ copying_keeps Does course.Unbegun s t changes answer keeps rests = ap donor_of r
 
 stranger_keeps : (at : Connection) (s t : System) (changes : List Change) (how : DonorStep) → ServesStranger at s t changes how → donor_of t ≡ donor_of s
 stranger_keeps _ _ _ _ _ (last at after s t donor says steps ended is) = ap donor_of is ∙ (end_lends s.donor donor at after says steps).donor
-stranger_keeps _ _ _ _ _ (goes_on at after s t donor says how rest steps is_on serves) = stranger_keeps after (with_donor donor s) t rest how serves ∙ (end_lends s.donor donor at after says steps).donor
+stranger_keeps _ _ _ _ _ (goes_on at after s t donor says how rest steps is_on serves) = stranger_keeps after (with_stranger donor s) t rest how serves ∙ (end_lends s.donor donor at after says steps).donor
 
 abandon_keeps : (standing : Option Session) (s t : System) (changes : List Change) (answer : Text) → Abandons standing s t changes answer → donor_of t ≡ donor_of s
 abandon_keeps None s t changes answer is = ap donor_of is.0
@@ -76,7 +76,7 @@ acts_keep line s t changes answer is = absurd is
 
 pub clone_keeps : (e : Event) (s t : System) → IsOfClone e → SystemStep s e t → donor_of t ≡ donor_of s
 clone_keeps (acts by changes answer) s t of is = acts_keep by s t changes answer is
-clone_keeps started s t of is = ap donor_of is.is
+clone_keeps (started alone) s t of is = ap donor_of is.is
 clone_keeps unbegun s t of is = ap donor_of is.is
 clone_keeps occupied s t of is = ap donor_of is.others
 clone_keeps (again wish answer) s t of is = ap donor_of is

@@ -59,7 +59,7 @@ came_said came.Stuck p = refl
 came_happens : (stops : Bool) (how : Came) (t : State) → CameTo stops how t → Happens t (came_event how t.clone.progress) t
 came_happens stops came.Still t is = record { step = refl; begun = refl; clone = record { now = tt; shows = stands_still t.clone.progress is; is = refl }; tells = refl; tasks = refl; sees = λ _. tt }
 came_happens stops (came.Ready stage) t is = record { step = (refl, is.1); begun = refl; clone = record { now = tt; shows = under_way t.clone.progress is.2; is = refl }; tells = refl; tasks = refl; sees = λ _. tt }
-came_happens stops came.Stuck t is = record { step = (refl, is.1); begun = refl; clone = record { now = tt; shows = under_way t.clone.progress is.0; is = refl }; tells = refl; tasks = refl; sees = λ _. tt }
+came_happens stops came.Stuck t is = record { step = (refl, is.1); begun = refl; clone = record { now = tt; shows = (under_way t.clone.progress is.0, is.2); is = refl }; tells = refl; tasks = refl; sees = λ _. tt }
 
 pub advances : (how : Came) (p : Progress) → Advances (came_event how p)
 advances came.Still p = tt
@@ -108,13 +108,13 @@ module _ (line : Line) (Kind : Event → Type 0) (of : (s : State) (events : Lis
 -- ---- a line by which a clone begins
 
 starts_as : (h : Begun) → Starts (started_as h)
-starts_as begun.Now = tt
+starts_as (begun.Now alone) = tt
 starts_as begun.Before = tt
 starts_as begun.Fault = tt
 starts_as begun.Occupied = tt
 
 begun_of_clone : (h : Begun) → IsOfClone (started_as h)
-begun_of_clone begun.Now = tt
+begun_of_clone (begun.Now alone) = tt
 begun_of_clone begun.Before = tt
 begun_of_clone begun.Fault = tt
 begun_of_clone begun.Occupied = tt

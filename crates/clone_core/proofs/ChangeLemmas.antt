@@ -8,7 +8,7 @@ use Rattle.clone_fetch.specs.declared.answer.TaskAnswer.TheVariants as task
 use Rattle.clone_answers.specs.StepTexts as texts
 use Rattle.clone_network.specs.Courses.{IsFloor, ended_then, first, kept}
 use Rattle.clone_events.specs.World.{Clone, broken}
-use Rattle.clone_events.specs.Events.{AreNow, Change, ShowsChanges, ShowsEnd, TellsEnd, acknowledges, ends, changed_all, end_text, recipient_fault}
+use Rattle.clone_events.specs.Events.{AreNow, Change, EndsFairly, IsFairEnd, ShowsChanges, ShowsEnd, TellsEnd, acknowledges, ends, changed_all, end_text, recipient_fault}
 use Rattle.clone_core.specs.Acting.{end_changes, end_of, floor_changes}
 use Rattle.clone_core.specs.Copied.{progress_by}
 
@@ -133,6 +133,12 @@ module _ (clone : Clone) (says : TaskAnswer) (was now : Option tasks.CloneEnd) (
   tells_end (ended how some goes then floor at) =
       subst (λ (l : List Change). TellsEnd l (texts.task_text says)) (sym some) (ap texts.task_text at ∙ end_said how)
 
+  -- how it ends
+  pub ends_fairly : Kind says was now before after clone.looked → ((how : tasks.CloneEnd) → was ≡ None → says ≡ task.Ended how → IsFairEnd clone (end_of how)) → EndsFairly clone (changes_of says before after)
+  ends_fairly (nothing none same floor) end = subst (EndsFairly clone) (sym none) tt
+  ends_fairly (acknowledged some goes then none floor) end = subst (EndsFairly clone) (sym some) tt
+  ends_fairly (ended how some goes then floor at) end = subst (EndsFairly clone) (sym some) (end how goes at)
+
 -- ---- memory ran out in the step of a clone that goes on
 
 module _ (clone : Clone) (says : TaskAnswer) (before after : Option ℕ) where
@@ -155,6 +161,9 @@ module _ (clone : Clone) (says : TaskAnswer) (before after : Option ℕ) where
 
   pub starved_shows : (d : Donor) → IsFloor clone.looked says before after → ShowsChanges d begun starving
   starved_shows d floor = either (λ l f g. ShowsChanges d (clone_at clone None f) l) (λ f. ((tt, tt), tt)) (refl, ((tt, tt), tt)) floor
+
+  pub starved_fair : (old : Clone) → IsFloor clone.looked says before after → EndsFairly old starving
+  starved_fair old floor = either (λ l f g. EndsFairly old l) (λ f. tt) tt floor
 
   pub starved_tells : IsFloor clone.looked says before after → TellsEnd starving recipient_fault
   starved_tells floor = either (λ l f g. TellsEnd l recipient_fault) (λ f. refl) refl floor

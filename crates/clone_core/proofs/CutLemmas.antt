@@ -16,7 +16,8 @@ use Rattle.clone_sides.specs.Moment.{own_stop}
 use Rattle.clone_joined.specs.Joined.{IsJoined}
 use Rattle.clone_joined.proofs.JoinedLemmas.{joined_cuts}
 use Rattle.clone_events.specs.World.{IsHonest}
-use Rattle.clone_events.specs.Events.{Change, TellsEnd, acts, idle}
+use Rattle.clone_talk.proofs.TaskTalks.{cuts_talk}
+use Rattle.clone_events.specs.Events.{Change, EndsFairly, TellsEnd, acts, idle}
 use Rattle.clone_core.specs.declared.world.Copying.{Copying}
 use Rattle.clone_core.specs.declared.world.Course.{Course}
 use Rattle.clone_core.specs.declared.world.Course.TheVariants as course_as
@@ -24,7 +25,7 @@ use Rattle.clone_core.specs.declared.world.TheConstants.{SESSION}
 use Rattle.clone_core.specs.System.{System}
 use Rattle.clone_core.specs.Acting.{ActsCut, ActsFeed, ActsStep, OnCopying, disturbing, donor_changes, stop_changes, with_copying, with_donor}
 use Rattle.clone_core.specs.CloneEvents.{Acts, Changes}
-use Rattle.clone_core.specs.Copied.{GoesOn, Holds, KnowsItsSizes, SaysInProgress, floor_of, progress_by, progress_of, world_of}
+use Rattle.clone_core.specs.Copied.{GoOnTalking, GoesOn, Holds, KnowsItsSizes, SaysInProgress, floor_of, progress_by, progress_of, world_of}
 use Rattle.clone_core.specs.Ending.{is_over}
 use Rattle.clone_core.specs.Lines.{State, Happens}
 use Rattle.clone_core.specs.Parts.{OnTerms}
@@ -57,7 +58,7 @@ not_connected connection change n is = by (slice_get n.connections connection) i
 
 -- another network, and somebody may have acted
 module _ (s : System) (begun : finite.FinMap nat_cmp ℕ) (disturbed doubted shown : Bool) (c : Copying) (at : s.course ≡ course_as.Begun c) (n : Network) (acted : Bool) (holds : Holds (world_of s begun disturbed doubted shown)) (on : OnTerms s.terms (course_as.Begun (record { reception = c.reception; network = n })))
-    (keeps : acted ≡ false → GoesOn s (course_as.Begun c) → GoesOn s (course_as.Begun (record { reception = c.reception; network = n }))) where
+    (keeps : acted ≡ false → GoesOn s (course_as.Begun c) → GoesOn s (course_as.Begun (record { reception = c.reception; network = n }))) (talk : acted ≡ false → GoOnTalking s (course_as.Begun c) → GoOnTalking s (course_as.Begun (record { reception = c.reception; network = n }))) where
   abbrev w : Course
   w = course_as.Begun (record { reception = c.reception; network = n })
 
@@ -85,8 +86,13 @@ module _ (s : System) (begun : finite.FinMap nat_cmp ℕ) (disturbed doubted sho
       let on = keeps first (subst (GoesOn s) at (holds.goes_on (was_honest acted (progress_of s.course) disturbed honest))) runs in
       subst (λ (o : Option session.Stop). IsJoined SESSION o s.donor c.reception s.recipient.told n) (sym (kept_stop s.stop (own_stop SESSION s.donor.cloning.stop) unmoved)) on
 
+  talks : (world_of moved begun flag doubted shown).tells ≡ true → IsHonest (world_of moved begun flag doubted shown).clone → GoOnTalking moved w
+  talks told honest runs =
+      let first : acted ≡ false = undisturbed acted (progress_of s.course) disturbed (ap (λ (x : Course). is_over (progress_of x)) at ∙ not_over c.reception.table.ended runs) honest in
+      talk first (subst (GoOnTalking s) at (holds.talks told (was_honest acted (progress_of s.course) disturbed honest))) runs
+
   changed : Changes (disturbing acted ++ donor_changes s s.donor) (world_of s begun disturbed doubted shown) (world_of moved begun flag doubted shown)
-  changed = donors.changed s begun disturbed doubted shown s.donor w acted (ap progress_of (sym at)) (ap floor_of (sym at)) (same_lends s.donor s.donor refl) (same_stops s.donor s.donor refl) holds goes
+  changed = donors.changed s begun disturbed doubted shown s.donor w acted false s.alone refl (ap progress_of (sym at)) (ap floor_of (sym at)) (same_lends s.donor s.donor refl) (same_stops s.donor s.donor refl) holds goes
 
   none_more : disturbing acted ++ donor_changes s s.donor ≡ disturbing acted
   none_more = ap (λ (l : List Change). disturbing acted ++ l) (no_stop s.stop (own_stop SESSION s.donor.cloning.stop) unmoved) ∙ append-nil (disturbing acted)
@@ -99,11 +105,15 @@ module _ (s : System) (begun : finite.FinMap nat_cmp ℕ) (disturbed doubted sho
   tells_no_end true text = tt
   tells_no_end false text = tt
 
+  ends_fair : (b : Bool) → EndsFairly (world_of s begun disturbed doubted shown).clone (disturbing b)
+  ends_fair true = tt
+  ends_fair false = tt
+
   pub happens_by : (line : Line) (text : Text) → ActsStep line s next (disturbing acted) text → Happens (world_of s begun disturbed doubted shown) (acts line (disturbing acted) text) new
   happens_by line text step = record {
     step = step;
     begun = refl;
-    clone = record { now = changed_so.now; shows = (changed_so.shows, tells_no_end acted text); is = changed_so.clone };
+    clone = record { now = changed_so.now; shows = (changed_so.shows, tells_no_end acted text, λ told. ends_fair acted); is = changed_so.clone };
     tells = changed_so.tells;
     tasks = refl;
     sees = λ told. tt;
@@ -111,8 +121,8 @@ module _ (s : System) (begun : finite.FinMap nat_cmp ℕ) (disturbed doubted sho
 
   pub holds_next : Holds new
   holds_next = subst (λ (x : System). Holds (world_of x begun flag doubted shown)) moved_is
-      (donors.holds_next s begun disturbed doubted shown s.donor w acted (ap progress_of (sym at)) (ap floor_of (sym at)) (same_lends s.donor s.donor refl) (same_stops s.donor s.donor refl) holds goes on
-      (subst (KnowsItsSizes s) at holds.sizes) (subst (λ (x : Course). SaysInProgress x s.recipient.told) at holds.marked))
+      (donors.holds_next s begun disturbed doubted shown s.donor w acted false s.alone refl (ap progress_of (sym at)) (ap floor_of (sym at)) (same_lends s.donor s.donor refl) (same_stops s.donor s.donor refl) holds goes on
+      (subst (KnowsItsSizes s) at holds.sizes) (subst (λ (x : Course). SaysInProgress x s.recipient.told) at holds.marked) talks)
 
 -- ---- a cut
 
@@ -126,12 +136,15 @@ module _ (s : System) (begun : finite.FinMap nat_cmp ℕ) (disturbed doubted sho
   cut_keeps : false ≡ false → GoesOn s (course_as.Begun c) → GoesOn s (course_as.Begun (record { reception = c.reception; network = cut }))
   cut_keeps none on = λ runs. joined_cuts SESSION c.reception s.recipient.told s.stop s.donor c.network connection to_donor to_task (on runs)
 
+  cut_talks : false ≡ false → GoOnTalking s (course_as.Begun c) → GoOnTalking s (course_as.Begun (record { reception = c.reception; network = cut }))
+  cut_talks none on = λ runs. cuts_talk s.alone s.donor c.reception c.network connection to_donor to_task (on runs)
+
   pub cut_happens : Happens (world_of s begun disturbed doubted shown) (acts (lines.Cut connection to_donor to_task) [] (if is_connected c.network.connections connection then codes "cut" else idle)) (world_of (with_copying c.reception cut s) begun disturbed doubted shown)
-  cut_happens = happens_by s begun disturbed doubted shown c at cut false holds cut_on cut_keeps (lines.Cut connection to_donor to_task) _
+  cut_happens = happens_by s begun disturbed doubted shown c at cut false holds cut_on cut_keeps cut_talks (lines.Cut connection to_donor to_task) _
       (subst (λ (x : Course). OnCopying (ActsCut connection to_donor to_task) x s (with_copying c.reception cut s) [] (if is_connected c.network.connections connection then codes "cut" else idle)) (sym at) (record { is = refl; none = refl; answers = refl }))
 
   pub cut_holds : Holds (world_of (with_copying c.reception cut s) begun disturbed doubted shown)
-  cut_holds = holds_next s begun disturbed doubted shown c at cut false holds cut_on cut_keeps
+  cut_holds = holds_next s begun disturbed doubted shown c at cut false holds cut_on cut_keeps cut_talks
 
   -- as the network's call answers it
   module _ (n : Network) (cuts : n ≡ cut) where
@@ -164,12 +177,15 @@ module _ (s : System) (begun : finite.FinMap nat_cmp ℕ) (disturbed doubted sho
   feed_keeps : there ≡ false → GoesOn s (course_as.Begun c) → GoesOn s (course_as.Begun (record { reception = c.reception; network = more }))
   feed_keeps none on = subst (λ (n : Network). GoesOn s (course_as.Begun (record { reception = c.reception; network = n }))) (sym (not_connected connection (fed bytes) c.network none)) on
 
+  feed_talks : there ≡ false → GoOnTalking s (course_as.Begun c) → GoOnTalking s (course_as.Begun (record { reception = c.reception; network = more }))
+  feed_talks none on = subst (λ (n : Network). GoOnTalking s (course_as.Begun (record { reception = c.reception; network = n }))) (sym (not_connected connection (fed bytes) c.network none)) on
+
   pub feed_happens : Happens (world_of s begun disturbed doubted shown) (acts (lines.Feed connection bytes) (disturbing there) (if there then codes "noted" else idle)) (world_of (with_copying c.reception more s) begun after doubted shown)
-  feed_happens = happens_by s begun disturbed doubted shown c at more there holds feed_on feed_keeps (lines.Feed connection bytes) _
+  feed_happens = happens_by s begun disturbed doubted shown c at more there holds feed_on feed_keeps feed_talks (lines.Feed connection bytes) _
       (subst (λ (x : Course). OnCopying (ActsFeed connection bytes) x s (with_copying c.reception more s) (disturbing there) (if there then codes "noted" else idle)) (sym at) (record { is = refl; changed = refl; answers = refl }))
 
   pub feed_holds : Holds (world_of (with_copying c.reception more s) begun after doubted shown)
-  feed_holds = holds_next s begun disturbed doubted shown c at more there holds feed_on feed_keeps
+  feed_holds = holds_next s begun disturbed doubted shown c at more there holds feed_on feed_keeps feed_talks
 
   module _ (n : Network) (feeds : n ≡ more) where
     pub feed_made : (r : State) → world_of s begun disturbed doubted shown ≡ r → (b : Bool) → b ≡ there → Acts (lines.Feed connection bytes) r (if b then codes "noted" else codes "idle") (world_of (with_copying c.reception n s) begun (disturbed_by b (progress_of s.course) disturbed) doubted shown)

@@ -16,15 +16,15 @@ use Rattle.clone_joined.specs.Joined.{IsJoined}
 use Rattle.clone_joined.specs.Lending.{Lends, StopsNow}
 use Rattle.clone_joined.specs.Runs.{HasCome, HasFloor, stop_by}
 use Rattle.clone_events.specs.World.{Clone, Progress, Stop, absent, copying, over, HasEnded, IsHonest, stop_now}
-use Rattle.clone_events.specs.Events.{AreNow, Change, ComesToStop, HasReached, ShowsChanges, ShowsIn, acknowledges, changed_all, changed_in, disturbs, ends, stops}
+use Rattle.clone_events.specs.Events.{AreNow, Change, ComesToStop, HasReached, ShowsChanges, ShowsIn, acknowledges, changed_all, changed_in, crowds, disturbs, ends, stops}
 use Rattle.clone_events.proofs.BinlogLemmas.{adds_none}
 use Rattle.clone_core.specs.declared.world.Course.{Course}
 use Rattle.clone_core.specs.declared.world.Course.TheVariants as course_as
 use Rattle.clone_core.specs.declared.world.TheConstants.{SESSION}
 use Rattle.clone_core.specs.System.{System, donor_of, tell}
-use Rattle.clone_core.specs.Acting.{disturbing, donor_changes, stop_changes, stop_of, with_donor}
+use Rattle.clone_core.specs.Acting.{crowding, disturbing, donor_changes, stop_changes, stop_of, with_donor}
 use Rattle.clone_core.specs.CloneEvents.{Changes}
-use Rattle.clone_core.specs.Copied.{GoesOn, Holds, KnowsItsSizes, SaysInProgress, floor_of, progress_by, progress_of, world_of}
+use Rattle.clone_core.specs.Copied.{GoOnTalking, GoesOn, Holds, KeepsClone, KnowsItsSizes, SaysInProgress, floor_of, progress_by, progress_of, world_of}
 use Rattle.clone_core.specs.Ending.{is_over}
 use Rattle.clone_core.specs.Lines.{State}
 use Rattle.clone_core.specs.Parts.{OnTerms}
@@ -36,9 +36,9 @@ use Rattle.clone_core.proofs.KeepLemmas.{AreWithin, StopsOn, first, kept_longer,
 abbrev pub disturbed_by : Bool → Progress → Bool → Bool
 disturbed_by acts p disturbed = if acts && not (is_over p) then true else disturbed
 
--- a clone with its stop
-abbrev pub stopped_at : Clone → Bool → Option Stop → Clone
-stopped_at clone disturbed stop = record clone { disturbed = disturbed; stop = stop }
+-- and the donor is alone with it, unless another session stands before it has ended
+abbrev pub alone_in : Bool → Progress → Bool → Bool
+alone_in crowded p alone = if crowded && not (is_over p) then false else alone
 
 module _ (clone : Clone) where
   disturbed_clone : (p : Progress) (acts : Bool) → clone.progress ≡ p → changed_all (disturbing acts) clone ≡ record clone { disturbed = disturbed_by acts p clone.disturbed }
@@ -46,6 +46,12 @@ module _ (clone : Clone) where
   disturbed_clone absent true is = ap (λ (q : Progress). changed_in q disturbs clone) is
   disturbed_clone copying true is = ap (λ (q : Progress). changed_in q disturbs clone) is
   disturbed_clone (over how) true is = ap (λ (q : Progress). changed_in q disturbs clone) is
+
+  crowded_clone : (p : Progress) (crowded : Bool) → clone.progress ≡ p → changed_all (crowding crowded) clone ≡ record clone { alone = alone_in crowded p clone.alone }
+  crowded_clone p false is = refl
+  crowded_clone absent true is = ap (λ (q : Progress). changed_in q crowds clone) is
+  crowded_clone copying true is = ap (λ (q : Progress). changed_in q crowds clone) is
+  crowded_clone (over how) true is = ap (λ (q : Progress). changed_in q crowds clone) is
 
   -- a stop is noted however the clone stands
   noted : (p : Progress) (at : Stop) → changed_in p (stops at) clone ≡ record clone { stop = Some at }
@@ -71,6 +77,7 @@ now_join d [] ys is on = on
 now_join d (stops at ∷ xs) ys is on = (is.0, now_join d xs ys is.1 on)
 now_join d (acknowledges ∷ xs) ys is on = now_join d xs ys is on
 now_join d (disturbs ∷ xs) ys is on = now_join d xs ys is on
+now_join d (crowds ∷ xs) ys is on = now_join d xs ys is on
 now_join d (ends how ∷ xs) ys is on = now_join d xs ys is on
 
 disturbing_now : (d : plain.Donor) (acts : Bool) → AreNow d (disturbing acts)
@@ -86,18 +93,31 @@ disturbing_shows d clone true = (by clone.progress, tt)
     by copying = tt
     by (over how) = tt
 
+crowding_now : (d : plain.Donor) (crowded : Bool) → AreNow d (crowding crowded)
+crowding_now d true = tt
+crowding_now d false = tt
+
+crowding_shows : (d : plain.Donor) (clone : Clone) (crowded : Bool) → ShowsChanges d clone (crowding crowded)
+crowding_shows d clone false = tt
+crowding_shows d clone true = (by clone.progress, tt)
+  where
+    by : (p : Progress) → ShowsIn p d clone crowds
+    by absent = tt
+    by copying = tt
+    by (over how) = tt
+
 stop_is_now : (number : ℕ) (e : Engine) (at : session.Stop) → IsStopOf number e at → stop_of at ≡ stop_now e.donor
 stop_is_now number e at is = λ i. record { position = is.commits i; drops = is.drops i }
 
 -- ---- THE CALL
 
-module _ (s : System) (begun : finite.FinMap nat_cmp ℕ) (disturbed doubted shown : Bool) (t : staged.Donor) (w : Course) (acts : Bool) (same : progress_of w ≡ progress_of s.course) (floor : floor_of w ≡ floor_of s.course)
+module _ (s : System) (begun : finite.FinMap nat_cmp ℕ) (disturbed doubted shown : Bool) (t : staged.Donor) (w : Course) (acts crowded alone : Bool) (alone_is : alone ≡ alone_in crowded (progress_of s.course) s.alone) (same : progress_of w ≡ progress_of s.course) (floor : floor_of w ≡ floor_of s.course)
     (lends : Lends s.donor t) (now : StopsNow SESSION s.donor t) (holds : Holds (world_of s begun disturbed doubted shown)) where
   abbrev old : State
   old = world_of s begun disturbed doubted shown
 
   abbrev next : System
-  next = record (with_donor t s) { course = w }
+  next = record (with_donor t s) { course = w; alone = alone }
 
   abbrev new : State
   new = world_of next begun (disturbed_by acts (progress_of s.course) disturbed) doubted shown
@@ -106,22 +126,33 @@ module _ (s : System) (begun : finite.FinMap nat_cmp ℕ) (disturbed doubted sho
   own = own_stop SESSION t.cloning.stop
 
   abbrev all : List Change
-  all = disturbing acts ++ donor_changes s t
+  all = disturbing acts ++ (crowding crowded ++ donor_changes s t)
 
   told_now : tell next ≡ tell s
   told_now = ap (λ b. b && is_some s.recipient.told) lends.disk.tells
 
-  new_is : new.clone ≡ record old.clone { disturbed = disturbed_by acts (progress_of s.course) disturbed; stop = option_map stop_of (option_or s.stop own) }
-  new_is = λ i. record old.clone { progress = same i; floor = floor i; disturbed = disturbed_by acts (progress_of s.course) disturbed; stop = option_map stop_of (option_or s.stop own) }
+  abbrev touched : Clone
+  touched = record old.clone { disturbed = disturbed_by acts (progress_of s.course) disturbed }
 
   abbrev middle : Clone
-  middle = record old.clone { disturbed = disturbed_by acts (progress_of s.course) disturbed }
+  middle = record touched { alone = alone }
+
+  new_is : new.clone ≡ record middle { stop = option_map stop_of (option_or s.stop own) }
+  new_is = λ i. record middle { progress = same i; floor = floor i; stop = option_map stop_of (option_or s.stop own) }
+
+  middle_is : middle ≡ changed_all (crowding crowded) touched
+  middle_is = (λ i. record touched { alone = alone_is i }) ∙ sym (crowded_clone touched (progress_of s.course) crowded refl)
+
+  touched_is : touched ≡ changed_all (disturbing acts) old.clone
+  touched_is = sym (disturbed_clone old.clone (progress_of s.course) acts refl)
 
   clone_is : new.clone ≡ changed_all all old.clone
   clone_is =
       new_is ∙ sym (stopped_clone middle s.stop own refl)
-      ∙ ap (changed_all (donor_changes s t)) (sym (disturbed_clone old.clone (progress_of s.course) acts refl))
-      ∙ sym (changes_join old.clone (disturbing acts) (donor_changes s t))
+      ∙ ap (changed_all (donor_changes s t)) middle_is
+      ∙ sym (changes_join touched (crowding crowded) (donor_changes s t))
+      ∙ ap (changed_all (crowding crowded ++ donor_changes s t)) touched_is
+      ∙ sym (changes_join old.clone (disturbing acts) (crowding crowded ++ donor_changes s t))
 
   plain_same : donor_of next ≡ donor_of s
   plain_same = lends.donor
@@ -176,9 +207,12 @@ module _ (s : System) (begun : finite.FinMap nat_cmp ℕ) (disturbed doubted sho
       tells = told_now;
       tasks = refl;
       plain = plain_same;
-      now = now_join (donor_of s) (disturbing acts) (donor_changes s t) (disturbing_now (donor_of s) acts) (stop_now_is s.stop own refl refl);
-      shows = shows_join (donor_of s) old.clone (disturbing acts) (donor_changes s t) (disturbing_shows (donor_of s) old.clone acts)
-          (subst (λ (x : Clone). ShowsChanges (donor_of s) x (donor_changes s t)) (sym (disturbed_clone old.clone (progress_of s.course) acts refl)) (shows_stop old.clone.progress refl s.stop own refl refl));
+      now = now_join (donor_of s) (disturbing acts) (crowding crowded ++ donor_changes s t) (disturbing_now (donor_of s) acts)
+          (now_join (donor_of s) (crowding crowded) (donor_changes s t) (crowding_now (donor_of s) crowded) (stop_now_is s.stop own refl refl));
+      shows = shows_join (donor_of s) old.clone (disturbing acts) (crowding crowded ++ donor_changes s t) (disturbing_shows (donor_of s) old.clone acts)
+          (subst (λ (x : Clone). ShowsChanges (donor_of s) x (crowding crowded ++ donor_changes s t)) touched_is
+          (shows_join (donor_of s) touched (crowding crowded) (donor_changes s t) (crowding_shows (donor_of s) touched crowded)
+          (subst (λ (x : Clone). ShowsChanges (donor_of s) x (donor_changes s t)) middle_is (shows_stop old.clone.progress refl s.stop own refl refl))));
       clone = clone_is;
     }
 
@@ -209,22 +243,29 @@ module _ (s : System) (begun : finite.FinMap nat_cmp ℕ) (disturbed doubted sho
         by true is = absurd (true≢false is)
         by false is = is
 
-    -- WHAT HOLDS THEN
-    pub holds_next : OnTerms s.terms w → KnowsItsSizes next w → SaysInProgress w s.recipient.told → Holds new
-    holds_next parts sizes marked = record {
-      terms = holds.terms;
-      parts = parts;
-      looked = subst (λ (d : plain.Donor). s.looked ≤ length d.binlog) (sym plain_same) holds.looked;
-      unstopped = λ none. second_none s.stop own none;
-      sizes = sizes;
-      marked = marked;
-      goes_on = goes;
-      steady = λ going. holds.steady (λ ended. going (subst HasEnded (sym same) ended));
-      keeps = kept_longer (donor_of s) (donor_of next) [] (adds_none (donor_of s) (donor_of next) (ap (λ (d : plain.Donor). d.binlog) plain_same) (ap (λ (d : plain.Donor). d.drops) plain_same))
-          old.tells new.tells told_now old.clone new.clone s.recipient.told same refl refl (honest_before (progress_of s.course) acts) (stop_on s.stop own)
-          (subst (λ (d : plain.Donor). AreWithin d new.clone.stop) (sym plain_same) (within s.stop own refl refl)) holds.keeps;
-    }
+    pub keeps_next : KeepsClone (donor_of next) new.tells new.clone s.recipient.told
+    keeps_next = kept_longer (donor_of s) (donor_of next) [] (adds_none (donor_of s) (donor_of next) (ap (λ (d : plain.Donor). d.binlog) plain_same) (ap (λ (d : plain.Donor). d.drops) plain_same))
+        old.tells new.tells told_now old.clone new.clone s.recipient.told same refl refl (honest_before (progress_of s.course) acts) (stop_on s.stop own)
+        (subst (λ (d : plain.Donor). AreWithin d new.clone.stop) (sym plain_same) (within s.stop own refl refl)) holds.keeps
+
+    pub unstopped_next : next.stop ≡ None → own ≡ None
+    unstopped_next none = second_none s.stop own none
       where
         second_none : (a b : Option session.Stop) → option_or a b ≡ None → b ≡ None
         second_none None b is = is
         second_none (Some x) b is = absurd (let e : Some x ≡ None = is in cc)
+
+    -- WHAT HOLDS THEN
+    pub holds_next : OnTerms s.terms w → KnowsItsSizes next w → SaysInProgress w s.recipient.told → (new.tells ≡ true → IsHonest new.clone → GoOnTalking next w) → Holds new
+    holds_next parts sizes marked talks = record {
+      terms = holds.terms;
+      parts = parts;
+      looked = subst (λ (d : plain.Donor). s.looked ≤ length d.binlog) (sym plain_same) holds.looked;
+      unstopped = unstopped_next;
+      sizes = sizes;
+      marked = marked;
+      goes_on = goes;
+      talks = talks;
+      steady = λ going. holds.steady (λ ended. going (subst HasEnded (sym same) ended));
+      keeps = keeps_next;
+    }

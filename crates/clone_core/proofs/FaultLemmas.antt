@@ -14,14 +14,16 @@ use Rattle.clone_fetch.specs.declared.answer.TaskAnswer.TheVariants as task
 use Rattle.clone_network.specs.Connections.{Connection}
 use Rattle.clone_network.specs.declared.donor_step.DonorStep.{DonorStep}
 use Rattle.clone_sides.specs.Moment.{own_stop}
+use Rattle.clone_joined.specs.Strangers.{acts_in}
+use Rattle.clone_engine.specs.Donor as staged
 use Rattle.clone_events.specs.World.{End, Progress, absent, copying, over, complete, broken, spent, garbled, refused, Clone, no_clone}
-use Rattle.clone_events.specs.Events.{to_recipient, Event, Change, stops, acknowledges, disturbs, ends, acts, started, unbegun, hidden, changed_all, changed_in, Happens, Events}
+use Rattle.clone_events.specs.Events.{to_recipient, Event, Change, stops, acknowledges, disturbs, crowds, ends, acts, started, unbegun, hidden, changed_all, changed_in, Happens, Events}
 use Rattle.clone_core.specs.declared.world.Copying.{Copying}
 use Rattle.clone_core.specs.declared.world.Course.{Course}
 use Rattle.clone_core.specs.declared.world.Course.TheVariants as course
 use Rattle.clone_core.specs.declared.world.Ending.TheVariants.{RecipientFault}
 use Rattle.clone_core.specs.declared.world.TheConstants.{SESSION}
-use Rattle.clone_core.specs.Acting.{Abandons, ActsCut, ActsDonor, ActsFeed, ActsStep, ActsTask, OnCopying, ServesStranger, last, goes_on, disturbing, donor_changes, end_changes, floor_changes, stop_changes, with_donor}
+use Rattle.clone_core.specs.Acting.{Abandons, ActsCut, ActsDonor, ActsFeed, ActsStep, ActsTask, OnCopying, ServesStranger, crowding, last, goes_on, disturbing, donor_changes, end_changes, floor_changes, is_crowded, stop_changes, stranger_changes, with_stranger}
 use Rattle.clone_core.specs.Ending.{ending_by, ending_of}
 use Rattle.clone_core.specs.Steps.{SystemStep}
 use Rattle.clone_core.specs.System.{System, donor_of}
@@ -86,12 +88,15 @@ change_met copying (ends how) clone harmless met = ended_met how clone.progress 
 change_met absent (stops at) clone harmless met = met
 change_met absent acknowledges clone harmless met = met
 change_met absent disturbs clone harmless met = met
+change_met absent crowds clone harmless met = met
 change_met copying (stops at) clone harmless met = met
 change_met copying acknowledges clone harmless met = met
 change_met copying disturbs clone harmless met = met
+change_met copying crowds clone harmless met = met
 change_met (over end) (stops at) clone harmless met = met
 change_met (over end) acknowledges clone harmless met = met
 change_met (over end) disturbs clone harmless met = met
+change_met (over end) crowds clone harmless met = met
 change_met (over end) (ends how) clone harmless met = met
 
 changes_met : (changes : List Change) (clone : Clone) → AreHarmless changes → MetFault (changed_all changes clone) → MetFault clone
@@ -151,11 +156,20 @@ on_rises Does (course.Begun c) s t changes answer rises is = rises c is
 on_rises Does course.Absent s t changes answer rises is = inr (none_harmless changes is.none)
 on_rises Does course.Unbegun s t changes answer rises is = inr (none_harmless changes is.none)
 
+crowding_harmless : (crowded : Bool) → AreHarmless (crowding crowded)
+crowding_harmless true = (tt, tt)
+crowding_harmless false = tt
+
+step_harmless : (at : Connection) (says : DonorStep) (s : System) (d : staged.Donor) → AreHarmless (stranger_changes at says s d)
+step_harmless at says s d =
+    harmless_append (disturbing (acts_in SESSION s.donor d at says)) (crowding (is_crowded d) ++ donor_changes s d) (disturbing_harmless (acts_in SESSION s.donor d at says))
+    (harmless_append (crowding (is_crowded d)) (donor_changes s d) (crowding_harmless (is_crowded d)) (stop_harmless s.stop (own_stop SESSION d.cloning.stop)))
+
 stranger_harmless : (at : Connection) (s t : System) (changes : List Change) (how : DonorStep) → ServesStranger at s t changes how → AreHarmless changes
-stranger_harmless at s t changes how (last _ after _ _ donor says steps shut is) = harmless_append (disturbing _) (donor_changes s donor) (disturbing_harmless _) (stop_harmless s.stop (own_stop SESSION donor.cloning.stop))
+stranger_harmless at s t changes how (last _ after _ _ donor says steps shut is) = step_harmless at says s donor
 stranger_harmless at s t changes how (goes_on _ after _ _ donor says later rest steps loops more) =
-    harmless_append _ rest (harmless_append (disturbing _) (donor_changes s donor) (disturbing_harmless _) (stop_harmless s.stop (own_stop SESSION donor.cloning.stop)))
-    (stranger_harmless after (with_donor donor s) t rest later more)
+    harmless_append _ rest (step_harmless at says s donor)
+    (stranger_harmless after (with_stranger donor s) t rest later more)
 
 abandon_harmless : (o : Option Session) (s t : System) (changes : List Change) (answer : Text) → Abandons o s t changes answer → AreHarmless changes
 abandon_harmless None s t changes answer is = none_harmless changes is.1
@@ -182,7 +196,7 @@ acts_met s by changes answer t is met = elim (acts_rise by s.donor t.donor chang
 ]
 
 event_met : (s : State) (e : Event) (t : State) → Happens donor_of SystemStep s e t → MetFault t.clone → HasMet s t
-event_met s started t is met = met_before s t _ is.clone.is (copying_met s.clone.progress s.clone.doubted) met
+event_met s (started alone) t is met = met_before s t _ is.clone.is (copying_met s.clone.progress s.clone.doubted) met
 event_met s unbegun t is met = inr is.step.rose
 event_met s hidden t is met = inr is.step.rose
 event_met s (acts by changes answer) t is met = acts_met s by changes answer t is met

@@ -1,6 +1,6 @@
 -- WHAT HOLDS OF A WORLD stays over a call of the engine, an archiving and an order to the donor's
 -- disk: the history grows, and the session and its stop stay.
-use Rattle.std.proofs.Common.{◌≡◌, ◌∙◌, ◌&&◌, ℕ, List, [], Bool, refl, ap, subst, Option, Some, None, is_some, Result, Ok, Err, nat_cmp}
+use Rattle.std.proofs.Common.{◌≡◌, ◌∙◌, ◌&&◌, ℕ, List, [], Bool, refl, ap, subst, Option, Some, None, is_some, Result, Ok, Err, nat_cmp, true, sym}
 use Rattle.std.specs.FinMap as finite
 use Rattle.std.specs.Option.{option_or}
 use Rattle.clone_calls.specs.declared.answer.DonorAnswer.TheVariants as gives
@@ -29,6 +29,9 @@ use Rattle.clone_core.specs.declared.world.Course.TheVariants as course
 use Rattle.clone_core.specs.declared.world.TheConstants.{SESSION}
 use Rattle.clone_core.specs.System.{System, tell}
 use Rattle.clone_core.specs.Copied.{GoesOn, Holds, KnowsItsSizes, world_of}
+use Rattle.clone_paired.specs.Own.{ActsAside}
+use Rattle.clone_talk.specs.Talking.{OpensNone}
+use Rattle.clone_core.proofs.TalkLemmas.{act_talks}
 use Rattle.clone_core.proofs.KeepLemmas.{commits_longer, kept_longer, still, within_longer}
 use Rattle.clone_core.proofs.StepLemmas.{answered_visits, answered_wants, done_refines, refused_refines}
 
@@ -38,6 +41,18 @@ IsAside (act.Calls (ask.Engine asked) given) = Unit {0}
 IsAside (act.Calls (ask.Archive limit) given) = Unit {0}
 IsAside (act.Calls asked given) = ⊥
 IsAside act.Orders = Unit {0}
+
+is_aside : (a : Act) → IsAside a → ActsAside SESSION a
+is_aside (act.Calls (ask.Engine asked) given) aside = tt
+is_aside (act.Calls (ask.Archive limit) given) aside = tt
+is_aside (act.Calls asked given) aside = absurd aside
+is_aside act.Orders aside = tt
+
+opens_none : (a : Act) → IsAside a → OpensNone a
+opens_none (act.Calls (ask.Engine asked) given) aside = tt
+opens_none (act.Calls (ask.Archive limit) given) aside = tt
+opens_none (act.Calls asked given) aside = absurd aside
+opens_none act.Orders aside = tt
 
 -- It leaves whether the disk tells what it holds, and the last stop, and adds to the history.
 pub record Spares (d t : staged.Donor) : Type 0 where
@@ -121,6 +136,9 @@ act_kept a s t begun counts disturbed doubted shown aside acts holds =
       sizes = sizes_still s t s.course holds.sizes;
       marked = holds.marked;
       goes_on = λ honest. goes_still a s t aside acts s.course stop (holds.goes_on honest);
+      talks = λ told honest.
+          let was : tell s ≡ true = sym (ap (λ b. b && is_some s.recipient.told) spared.tells) ∙ told in
+          act_talks a s t (is_aside a aside) (opens_none a aside) acts was s.course (holds.goes_on honest) (holds.talks was honest);
       steady = holds.steady;
       keeps = kept_longer d.engine.donor t.engine.donor spared.answered spared.adds (tell s) (tell (record s { donor = t })) (ap (λ b. b && is_some s.recipient.told) spared.tells) clone clone s.recipient.told refl refl refl (λ same. same) still within holds.keeps;
     }

@@ -20,8 +20,8 @@ pub mod LossLemmas
 pub mod NothingLemmas
 pub mod OrderLemmas
 pub mod OrderedLemmas
+pub mod TalkLemmas
 pub mod PartLemmas
-pub mod RecoveredLemmas
 pub mod RestLemmas
 pub mod RestingLemmas
 pub mod RoundLemmas

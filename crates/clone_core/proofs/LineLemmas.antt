@@ -1,5 +1,5 @@
 -- What lines do, by what their calls answered.
-use Rattle.std.proofs.Common.{◌≡◌, ◌≢◌, ℕ, List, [], ◌∷◌, ◌++◌, append-nil, refl, sym, ap, ◌∙◌, subst, Option, None, Bool, Result, Ok, Err, IfOk, OnErr, MatchResult, IsErr, inl, inr, nat_cmp}
+use Rattle.std.proofs.Common.{◌≡◌, ◌≢◌, ℕ, List, [], ◌∷◌, ◌++◌, append-nil, refl, sym, ap, ◌∙◌, subst, Option, None, Bool, true, Result, Ok, Err, IfOk, OnErr, MatchResult, IsErr, inl, inr, nat_cmp}
 use Rattle.std.specs.FinMap as finite
 use Rattle.std.specs.declared.alloc.AllocError.{AllocError}
 use Rattle.clone_script.specs.declared.lines.Line.{Line}
@@ -99,7 +99,7 @@ breaks_at_once s t lines.Lsn stays = call_at_once s t _ call.End (λ es m. m) st
 breaks_at_once s t (lines.Tear byte) stays = at_once s t (lines.Tear byte) (ordered to_donor (orders.Tear byte)) [] refl stays
 breaks_at_once s t (lines.FailDonor number) stays = at_once s t (lines.FailDonor number) (ordered to_donor (orders.FailAt number)) [] refl stays
 breaks_at_once s t (lines.FailRecipient number) stays = at_once s t (lines.FailRecipient number) (ordered to_recipient (orders.FailAt number)) [] refl stays
-breaks_at_once s t lines.Start stays = at_once s t lines.Start started [] (started, tt, refl) stays
+breaks_at_once s t lines.Start stays = at_once s t lines.Start (started true) [] (started true, tt, refl) stays
 breaks_at_once s t (lines.Task number) stays = acts_at_once s t (lines.Task number) (λ es m. m) stays
 breaks_at_once s t (lines.Serve connection) stays = acts_at_once s t (lines.Serve connection) (λ es m. m) stays
 breaks_at_once s t (lines.Cut connection near far) stays = acts_at_once s t (lines.Cut connection near far) (λ es m. m) stays
@@ -111,7 +111,7 @@ breaks_at_once s t lines.Advance stays = at_once s t lines.Advance sticks [] (no
 breaks_at_once s t lines.Finish stays = at_once s t lines.Finish sticks [] (no_rounds s.tasks Finishes tt) stays
 breaks_at_once s t lines.Look stays = at_once s t lines.Look (looked 0) [] (looked 0, tt, refl) stays
 breaks_at_once s t (lines.Archive bytes) stays = at_once s t (lines.Archive bytes) (archived bytes None) [] (archived bytes None, refl, refl) stays
-breaks_at_once s t lines.Clone stays = at_once s t lines.Clone started (sticks ∷ []) (started, sticks ∷ [], tt, no_rounds s.tasks Finishes tt, refl) stays
+breaks_at_once s t lines.Clone stays = at_once s t lines.Clone (started true) (sticks ∷ []) (started true, sticks ∷ [], tt, no_rounds s.tasks Finishes tt, refl) stays
 breaks_at_once s t lines.Rows stays = at_once s t lines.Rows incomplete [] (incomplete, tt, refl) stays
 
 -- whatever the result, an event of the clone happened untold

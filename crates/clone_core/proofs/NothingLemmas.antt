@@ -17,7 +17,7 @@ pub acts_nothing : (s : State) (line : Line) (text : Text) → ActsStep line s.d
 acts_nothing s line text step = record {
   step = step;
   begun = refl;
-  clone = record { now = tt; shows = (tt, tt); is = refl };
+  clone = record { now = tt; shows = (tt, tt, λ told. tt); is = refl };
   tells = refl;
   tasks = refl;
   sees = λ told. tt;

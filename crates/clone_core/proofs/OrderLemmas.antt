@@ -80,7 +80,7 @@ event_gets side s (made asked answer) t is = lent_gets side s t (made_visits s.d
 event_gets side s (cleaned landed) t is = same_gets side s t is
 event_gets side s (looked position) t is = beside_gets side s t (ap (λ (w : System). w.donor) is) (same_visits _ _ (ap (λ (w : System). w.recipient) is))
 event_gets side s (archived limit reached) t is = lent_gets side s t (same_visits _ _ (ap (λ (e : Engine). e.disk) is.0.does.1)) is.1
-event_gets side s started t is = beside_gets side s t (ap (λ (w : System). w.donor) is.is) is.visits
+event_gets side s (started alone) t is = beside_gets side s t (ap (λ (w : System). w.donor) is.is) is.visits
 event_gets side s unbegun t is = beside_gets side s t (ap (λ (w : System). w.donor) is.is) is.visits
 event_gets side s occupied t is = recipient_gets side s t is
 event_gets side s (acts by changes answer) t is = let leaves = acts_leave by s t changes answer is in both_get side s t leaves.lends.disk leaves.recipient

@@ -19,7 +19,7 @@ use Rattle.clone_core.specs.declared.world.TheConstants.{SESSION}
 use Rattle.clone_core.specs.System.{System, donor_of}
 use Rattle.clone_core.specs.Lines.{State}
 use Rattle.clone_core.specs.Called.{Notes}
-use Rattle.clone_core.specs.Copied.{GoesOn, Holds, KeepsClone, KnowsItsSizes, SaysInProgress, world_of}
+use Rattle.clone_core.specs.Copied.{GoOnTalking, GoesOn, Holds, KeepsClone, KnowsItsSizes, SaysInProgress, world_of}
 
 -- the donor over another disk
 abbrev over : staged.Donor → DiskState → staged.Donor
@@ -85,6 +85,11 @@ module _ (s : System) (new : DiskState) (same : new.told ≡ s.recipient.told) w
   told_goes course.Unbegun is = tt
   told_goes (course.Begun c) is = λ running. subst (λ (o : Option DiskImage). IsJoined SESSION s.stop s.donor c.reception o c.network) (sym same) (is running)
 
+  told_talks : (way : Course) → GoOnTalking s way → GoOnTalking (record s { recipient = new }) way
+  told_talks course.Absent is = is
+  told_talks course.Unbegun is = tt
+  told_talks (course.Begun c) is = is
+
   pub recipient_holds : (begun : finite.FinMap nat_cmp ℕ) (disturbed doubted shown : Bool) → Holds (world_of s begun disturbed doubted shown) → Holds (world_of (record s { recipient = new }) begun disturbed doubted shown)
   recipient_holds begun disturbed doubted shown holds =
       let clone = (world_of s begun disturbed doubted shown).clone in
@@ -96,6 +101,7 @@ module _ (s : System) (new : DiskState) (same : new.told ≡ s.recipient.told) w
         sizes = told_sizes s.course holds.sizes;
         marked = subst (SaysInProgress s.course) (sym same) holds.marked;
         goes_on = λ honest. told_goes s.course (holds.goes_on honest);
+        talks = λ told honest. told_talks s.course (holds.talks (ap (λ (o : Option DiskImage). is_some s.donor.engine.disk.told && is_some o) (sym same) ∙ told) honest);
         steady = holds.steady;
         keeps = subst (λ (o : Option DiskImage). KeepsClone (donor_of s) (is_some s.donor.engine.disk.told && is_some o) clone o) (sym same) holds.keeps;
       }

@@ -5,9 +5,11 @@ use Rattle.clone_core.specs.declared.rounds.Came.{Came}
 use Rattle.clone_core.specs.declared.rounds.Came.TheVariants as came
 use Rattle.clone_core.specs.declared.rounds.Round.{Round}
 use Rattle.clone_core.specs.declared.rounds.Round.TheVariants as rounds
-use Rattle.clone_core.specs.CloneEvents.{CameTo, ComesBy}
+use Rattle.clone_core.specs.CloneEvents.{CameTo, ComesBy, NeverSticks}
 use Rattle.clone_core.specs.Idling.{EndIdles, EndsIdle, RoundIdles, TaskIdles, TasksIdle}
 use Rattle.clone_core.specs.Lines.{State}
+use Rattle.clone_events.specs.World.{IsHonest}
+use Rattle.clone_core.specs.Ending.{is_copying}
 use Rattle.clone_core.specs.Quiet.{AreClosed, EndRests, IsBefore, NobodyMoves, TaskRests, tasks_of}
 use Rattle.clone_core.proofs.RestingLemmas.{closed_end, nobody_moves}
 
@@ -78,8 +80,11 @@ nobody_after r s t is idles =
     let all : RoundIdles rounds.Idle s t = subst (λ (x : Round). RoundIdles x s t) is idles in
     subst (λ (x : State). NobodyMoves x.donor x.donor.course) (sym all.0) all.1
 
+never_then : (t : State) → NeverSticks t → is_copying t.clone.progress ≡ true → NobodyMoves t.donor t.donor.course → t.tells ≡ true → IsHonest t.clone → ⊥
+never_then t moves going quiet told honest = moves told honest going quiet
+
 -- where rounds come to their end by this one
-pub comes_so : (r : Round) (stops : Bool) (how : Came) (s t : State) → RoundIdles r s t → ComesBy r stops how t → CameTo stops how t
-comes_so r stops came.Still s t idles comes = comes
-comes_so r stops (came.Ready stage) s t idles comes = comes
-comes_so r stops came.Stuck s t idles comes = (comes.0, nobody_after r s t comes.2 idles)
+pub comes_so : (r : Round) (stops : Bool) (how : Came) (s t : State) → RoundIdles r s t → ComesBy r stops how t → NeverSticks t → CameTo stops how t
+comes_so r stops came.Still s t idles comes moves = comes
+comes_so r stops (came.Ready stage) s t idles comes moves = comes
+comes_so r stops came.Stuck s t idles comes moves = (comes.0, nobody_after r s t comes.2 idles, never_then t moves comes.0 (nobody_after r s t comes.2 idles))

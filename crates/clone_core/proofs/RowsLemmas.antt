@@ -32,8 +32,9 @@ use Rattle.clone_core.specs.declared.world.TheConstants.{SESSION}
 use Rattle.clone_core.specs.System.{System, donor_of, recovered_course, tell}
 use Rattle.clone_core.specs.Lines.{State}
 use Rattle.clone_core.specs.Parts.{OnTerms}
-use Rattle.clone_core.specs.Showing.{ShowsRecovered, ShowsList, Reads}
-use Rattle.clone_core.specs.Copied.{GoesOn, Holds, HoldsEnded, HoldsStop, IsIncomplete, KnowsItsSizes, SaysInProgress, floor_of, progress_by, progress_of, world_of}
+use Rattle.clone_dump.specs.Shown.{ShowsRecovered}
+use Rattle.clone_core.specs.Showing.{ShowsList, Reads}
+use Rattle.clone_core.specs.Copied.{GoOnTalking, GoesOn, Holds, HoldsEnded, HoldsStop, IsIncomplete, KnowsItsSizes, SaysInProgress, floor_of, progress_by, progress_of, world_of}
 use Rattle.clone_core.proofs.CallLemmas.{told_is, both_right}
 
 -- a disk that is recovered holds the same clone as before, and what is listed of it are its rows
@@ -202,6 +203,7 @@ module _ (s : System) (begun : finite.FinMap nat_cmp ℕ) (disturbed doubted sho
     looked = s.looked;
     floor = same_floor came s.course i;
     disturbed = disturbed;
+    alone = s.alone;
     doubted = doubted_by came doubted;
     shown = shown_by came shown;
   }
@@ -329,6 +331,11 @@ ended_goes s course.Absent ended = absurd ended
 ended_goes s course.Unbegun ended = tt
 ended_goes s (course.Begun c) ended = λ running. absurd (ended_stopped c.reception.table.ended ended running)
 
+ended_talks : (s : System) (way : Course) → HasEnded (progress_of way) → GoOnTalking s way
+ended_talks s course.Absent ended = absurd ended
+ended_talks s course.Unbegun ended = tt
+ended_talks s (course.Begun c) ended = λ running. absurd (ended_stopped c.reception.table.ended ended running)
+
 -- rows that are shown change nothing of its terms
 course_on : (terms : Terms) (came : RowsRead) (way : Course) → OnTerms terms way → OnTerms terms (course_by came way)
 course_on terms (Err refusal) way on = on
@@ -359,6 +366,7 @@ read_holds again_holds s begun disturbed doubted shown new w way result came is 
       sizes = ended_sizes (record s { recipient = new; course = course_by came s.course }) (course_by came s.course) behind;
       marked = ended_marked new.told (course_by came s.course) behind;
       goes_on = λ honest. ended_goes (record s { recipient = new; course = course_by came s.course }) (course_by came s.course) behind;
+      talks = λ told honest. ended_talks (record s { recipient = new; course = course_by came s.course }) (course_by came s.course) behind;
       steady = λ not. absurd (not behind);
       keeps = record {
         blank_before = λ none. absurd (never_absent (progress_of (course_by came s.course)) behind none);

@@ -21,7 +21,7 @@ use Rattle.clone_core.specs.declared.world.Copying.{Copying}
 use Rattle.clone_core.specs.declared.world.Course.{Course}
 use Rattle.clone_core.specs.declared.world.Course.TheVariants as course
 use Rattle.clone_core.specs.declared.world.TheConstants.{SESSION}
-use Rattle.clone_core.specs.Copied.{Holds, HoldsEnded, KnowsItsSizes, GoesOn, SaysInProgress, progress_by, progress_of, world_of}
+use Rattle.clone_core.specs.Copied.{Holds, HoldsEnded, KnowsItsSizes, GoOnTalking, GoesOn, SaysInProgress, progress_by, progress_of, world_of}
 use Rattle.clone_core.specs.Ending.{is_over}
 use Rattle.clone_core.specs.Steps.{SystemStep}
 use Rattle.clone_core.specs.System.{System, donor_of}
@@ -96,6 +96,11 @@ module _ (s : System) (position : ℕ) where
   looked_goes course.Unbegun is = tt
   looked_goes (course.Begun c) is = is
 
+  looked_talks : (way : Course) → GoOnTalking s way → GoOnTalking (record s { looked = position }) way
+  looked_talks course.Absent is = is
+  looked_talks course.Unbegun is = tt
+  looked_talks (course.Begun c) is = is
+
   pub look_holds : (begun : finite.FinMap nat_cmp ℕ) (disturbed doubted shown : Bool) → position ≡ length (donor_of s).binlog → Holds (world_of s begun disturbed doubted shown) → Holds (world_of (record s { looked = position }) begun disturbed doubted shown)
   look_holds begun disturbed doubted shown at holds = record {
     terms = holds.terms;
@@ -105,6 +110,7 @@ module _ (s : System) (position : ℕ) where
     sizes = looked_sizes s.course holds.sizes;
     marked = holds.marked;
     goes_on = λ honest. looked_goes s.course (holds.goes_on honest);
+    talks = λ told honest. looked_talks s.course (holds.talks told honest);
     steady = holds.steady;
     keeps = record {
       blank_before = holds.keeps.blank_before;

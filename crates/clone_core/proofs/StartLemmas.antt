@@ -1,5 +1,6 @@
 -- A clone begins, or a fault ends it at once: what happens, and what holds of the world then.
 use Rattle.std.proofs.Common.{◌≡◌, [], ◌∷◌, ◌&&◌, ◌⊎◌, inl, inr, ℕ, Bool, true, false, refl, sym, ap, ◌∙◌, subst, Option, Some, None, is_some}
+use Rattle.std.specs.Prelude.{is_none, not, option_map}
 use Rattle.std.specs.FinMap as finite
 use Rattle.std.specs.Ordering.{nat_cmp}
 use Rattle.std.proofs.lemmas.Option.{same_Some}
@@ -25,7 +26,9 @@ use Rattle.clone_core.specs.declared.world.TheConstants.{SESSION}
 use Rattle.clone_core.specs.System.{System, donor_of, tell}
 use Rattle.clone_core.specs.Lines.{Happens, State}
 use Rattle.clone_core.specs.CloneEvents.{EndsUntold}
-use Rattle.clone_core.specs.Copied.{GoesOn, Holds, HoldsEnded, KnowsItsSizes, SaysInProgress, floor_of, progress_by, progress_of, world_of}
+use Rattle.clone_core.specs.Copied.{GoOnTalking, GoesOn, Holds, HoldsEnded, KnowsItsSizes, SaysInProgress, floor_of, progress_by, progress_of, world_of}
+use Rattle.clone_session.specs.Cloning.{Session}
+use Rattle.clone_talk.proofs.TaskTalks.{begins_talk}
 use Rattle.clone_core.proofs.PartLemmas.{begins_on}
 
 pub alters_visits : {Faulty : Type 0} (old new : DiskState) → Alters Faulty old new → Visits old new
@@ -42,6 +45,17 @@ course_begun : (c : Course) → (c ≡ course.Absent → ⊥) → progress_of c 
 course_begun course.Absent not none = not refl
 course_begun course.Unbegun not none = let e = none in cc
 course_begun (course.Begun k) not none = progress_begun k.reception.table.ended none
+
+-- by the number that is told of it
+pub free_is : (o : Option Session) (result : Bool) (told : Option ℕ) → told ≡ option_map (λ (s : Session). s.number) o → is_some told ≡ not result → result ≡ is_none o
+free_is None true told is answers = refl
+free_is None false told is answers = absurd (let e : false ≡ true = sym (ap is_some is) ∙ answers in cc)
+free_is (Some s) true told is answers = absurd (let e : true ≡ false = sym (ap is_some is) ∙ answers in cc)
+free_is (Some s) false told is answers = refl
+
+none_there : (o : Option Session) → is_none o ≡ true → o ≡ None
+none_there None is = refl
+none_there (Some s) is = absurd (let e : false ≡ true = is in cc)
 
 -- one began before
 pub started_before : (c : Course) (s : State) → s.clone.progress ≡ progress_of c → (c ≡ course.Absent → ⊥) → Happens s (again to_begin idle) s
@@ -76,20 +90,35 @@ module _ (s : System) (counts : finite.FinMap nat_cmp ℕ) (disturbed doubted sh
   abbrev as_begun : Copying
   as_begun = record { reception = begun SESSION s.terms.tasks s.terms.limit s.terms.version; network = unconnected s.terms.tasks }
 
-  begun_happens : Steps s.recipient.told new.told (marked (InProgress SESSION)) → Happens before started (after (course.Begun as_begun))
+  -- the donor has no session yet, or has one
+  abbrev free : Bool
+  free = is_none s.donor.cloning.session
+
+  abbrev begins : State
+  begins = world_of (record s { recipient = new; course = course.Begun as_begun; alone = free }) counts disturbed doubted shown
+
+  begun_happens : Steps s.recipient.told new.told (marked (InProgress SESSION)) → Happens before (started free) begins
   begun_happens marks = record {
-    step = record { absent = none; visits = visits; marks = marks; is = refl };
+    step = record { absent = none; visits = visits; marks = marks; free = refl; is = refl };
     begun = refl;
-    clone = record { now = tt; shows = absent_before; is = ap (λ (floor : Option ℕ). record before.clone { progress = copying; floor = floor }) no_floor };
+    clone = record { now = tt; shows = absent_before; is = ap (λ (floor : Option ℕ). record before.clone { progress = copying; floor = floor; alone = free }) no_floor };
     tells = tells_same;
     tasks = refl;
     sees = λ _. tt;
   }
 
-  pub starts : (r : State) (k : Copying) → before ≡ r → k ≡ as_begun → Steps s.recipient.told new.told (marked (InProgress SESSION)) → Happens r started (after (course.Begun k))
-  starts r k is same marks =
-      subst (λ (w : State). Happens w started (after (course.Begun k))) is
-      (subst (λ (c : Copying). Happens before started (after (course.Begun c))) (sym same) (begun_happens marks))
+  -- as it is begun
+  module _ (k : Copying) (alone : Bool) (same : k ≡ as_begun) (alone_is : alone ≡ free) where
+    abbrev made : State
+    made = world_of (record s { recipient = new; course = course.Begun k; alone = alone }) counts disturbed doubted shown
+
+    made_is : made ≡ begins
+    made_is = λ i. world_of (record s { recipient = new; course = course.Begun (same i); alone = alone_is i }) counts disturbed doubted shown
+
+    pub starts : (r : State) → before ≡ r → Steps s.recipient.told new.told (marked (InProgress SESSION)) → Happens r (started alone) made
+    starts r is marks =
+        subst (λ (w : State). Happens w (started alone) made) is
+        (subst (λ (b : Bool). Happens before (started b) made) (sym alone_is) (subst (λ (w : State). Happens before (started free) w) (sym made_is) (begun_happens marks)))
 
   module _ (held : Holds before) where
     pub blank_before : ForTold s.recipient.told (λ m. m ≡ blank)
@@ -101,7 +130,7 @@ module _ (s : System) (counts : finite.FinMap nat_cmp ℕ) (disturbed doubted sh
     has_mark None (Some n) is = absurd (let e = is in cc)
     has_mark (Some m) (Some n) is = ap (λ (x : DiskImage). x.mark) (same_Some n (marked (InProgress SESSION) m) is)
 
-    begun_holds : Steps s.recipient.told new.told (marked (InProgress SESSION)) → ForTold new.told (AreSizes as_begun.reception.sizes) → Holds (after (course.Begun as_begun))
+    begun_holds : Steps s.recipient.told new.told (marked (InProgress SESSION)) → ForTold new.told (AreSizes as_begun.reception.sizes) → Holds begins
     begun_holds marks sizes = record {
       terms = held.terms;
       parts = begins_on SESSION s.terms held.terms.tasks.1;
@@ -112,13 +141,16 @@ module _ (s : System) (counts : finite.FinMap nat_cmp ℕ) (disturbed doubted sh
       goes_on = λ honest running.
           let come : HasCome SESSION None s.stop s.donor = subst (GoesOn s) none (held.goes_on honest) in
           joined_begins SESSION s.terms.tasks s.terms.limit s.terms.version s.terms.tasks s.stop s.donor s.recipient.told new.told come blank_before marks;
+      talks = λ told honest running.
+          let was = subst (GoOnTalking s) none (held.talks (sym tells_same ∙ told) honest) in
+          begins_talk free SESSION s.terms.tasks s.terms.limit s.terms.version s.donor held.terms.tasks.0 held.terms.tasks.1 held.terms.version.0 held.terms.version.1 held.terms.limit was.0 was.1 (none_there s.donor.cloning.session);
       steady = λ going. held.steady unended;
       keeps = record { blank_before = λ is. absurd (let e = is in cc); commits = held.keeps.commits; drops = held.keeps.drops; holds = λ ended sure. absurd ended };
     }
 
-    pub starts_holds : (k : Copying) → k ≡ as_begun → Steps s.recipient.told new.told (marked (InProgress SESSION)) → ForTold new.told (AreSizes k.reception.sizes) → Holds (after (course.Begun k))
-    starts_holds k same marks sizes =
-        subst (λ (c : Copying). Holds (after (course.Begun c))) (sym same)
+    pub starts_holds : (k : Copying) (alone : Bool) (same : k ≡ as_begun) (alone_is : alone ≡ free) → Steps s.recipient.told new.told (marked (InProgress SESSION)) → ForTold new.told (AreSizes k.reception.sizes) → Holds (made k alone same alone_is)
+    starts_holds k alone same alone_is marks sizes =
+        subst Holds (sym (made_is k alone same alone_is))
         (begun_holds marks (subst (λ (c : Copying). ForTold new.told (AreSizes c.reception.sizes)) same sizes))
 
     -- ---- a fault ended it, or memory ran out
@@ -150,6 +182,7 @@ module _ (s : System) (counts : finite.FinMap nat_cmp ℕ) (disturbed doubted sh
       sizes = tt;
       marked = tt;
       goes_on = λ honest. tt;
+      talks = λ told honest. tt;
       steady = λ going. absurd (going tt);
       keeps = record {
         blank_before = λ is. absurd (let e = is in cc);
@@ -193,6 +226,7 @@ module _ (s : System) (counts : finite.FinMap nat_cmp ℕ) (disturbed doubted sh
       sizes = subst (λ (c : Course). KnowsItsSizes (record s { recipient = new; course = s.course }) c) (sym none) tt;
       marked = subst (λ (c : Course). SaysInProgress c new.told) (sym none) tt;
       goes_on = λ honest. subst (GoesOn (record s { recipient = new; course = s.course })) (sym none) (subst (GoesOn s) none (held.goes_on honest));
+      talks = λ told honest. subst (GoOnTalking (record s { recipient = new; course = s.course })) (sym none) (subst (GoOnTalking s) none (held.talks (sym tells_same ∙ told) honest));
       steady = held.steady;
       keeps = record {
         blank_before = λ is. subst (λ (o : Option DiskImage). ForTold o (λ m. m ≡ blank)) (sym same) blank_before;

@@ -26,7 +26,7 @@ ends_line p = sym (append_assoc _ (codes "RECOVERY" ++ (if p.recovered then code
 pub tells_status : (s : State) (text : Text) → ended text ≡ progress_text (course_progress s.donor.course) → Answers s lines.Status text s
 tells_status s text is = record {
   events = acts lines.Status [] text ∷ [];
-  step = ((acts lines.Status [] text, refl, refl), (s, record { step = record { same = refl; none = refl; is = is }; begun = refl; clone = record { now = tt; shows = (tt, tt); is = refl }; tells = refl; tasks = refl; sees = λ _. tt }, refl));
+  step = ((acts lines.Status [] text, refl, refl), (s, record { step = record { same = refl; none = refl; is = is }; begun = refl; clone = record { now = tt; shows = (tt, tt, λ told. tt); is = refl }; tells = refl; tasks = refl; sees = λ _. tt }, refl));
   is = refl;
 }
 

@@ -35,18 +35,20 @@ use Rattle.clone_joined.proofs.ClonedLemmas.{joined_completes}
 use Rattle.clone_joined.proofs.JoinedLemmas.{joined_task}
 use Rattle.clone_joined.proofs.LeftLemmas.{joined_ends}
 use Rattle.clone_events.specs.World.{Clone, End, Stop, absent, copying, over, HasEnded, IsHonest, IsSure, before_stop}
-use Rattle.clone_events.specs.Events.{Change, Completes, IsComplete, ShowsChanges, ShowsEnd, acts, changed_all}
+use Rattle.clone_events.specs.Events.{Change, Completes, IsComplete, IsFairEnd, ShowsChanges, ShowsEnd, acts, changed_all}
 use Rattle.clone_core.specs.declared.world.Copying.{Copying}
 use Rattle.clone_core.specs.declared.world.Course.{Course}
 use Rattle.clone_core.specs.declared.world.Course.TheVariants as course_as
 use Rattle.clone_core.specs.declared.world.TheConstants.{SESSION}
 use Rattle.clone_core.specs.System.{System, donor_of, tell}
 use Rattle.clone_core.specs.Acting.{ActsTask, OnCopying, end_of, stop_of, with_copying}
-use Rattle.clone_core.specs.Copied.{GoesOn, Holds, HoldsEnded, HoldsStop, IsIncomplete, SaysInProgress, floor_of, progress_by, progress_of, world_of}
+use Rattle.clone_core.specs.Copied.{GoOnTalking, GoesOn, Holds, HoldsEnded, HoldsStop, IsIncomplete, SaysInProgress, floor_of, progress_by, progress_of, world_of}
 use Rattle.clone_core.specs.Lines.{State, Happens}
 use Rattle.clone_core.specs.Parts.{IsOnTerms, OnTerms}
 use Rattle.std.specs.Prelude.{unwrap_or}
 use Rattle.clone_tasks.specs.Tables.{IsBounded}
+use Rattle.clone_talk.specs.Talking.{EndsFairly}
+use Rattle.clone_talk.proofs.TaskTalks.{ends_talk, task_talks}
 use Rattle.clone_network.specs.Courses.{IsFloor}
 use Rattle.clone_ending.specs.Left.{work_left}
 use Rattle.clone_ending.specs.Service.{donor_work}
@@ -200,6 +202,18 @@ module _ (s : System) (begun : finite.FinMap nat_cmp ℕ) (disturbed doubted sho
   acts_so : Alters (says ≡ task.Ended ends_as.DiskFault) s.recipient disk → ActsTask number c s next all_changes (texts.task_text says)
   acts_so works = record { reception = r; network = n; recipient = disk; says = says; steps = steps; works = works; is = refl; changed = refl; answers = refl }
 
+  -- how it ends, over honest connections
+  fair_end : old.tells ≡ true → (how : tasks.CloneEnd) → was ≡ None → says ≡ task.Ended how → IsFairEnd old.clone (end_of how)
+  fair_end told how first heard = by how (λ honest.
+      ends_talk s.alone s.donor c.reception r s.recipient disk c.network n number s.looked how (subst (GoOnTalking s) at (holds.talks told honest) (running_of was first)) (running_of was first) (subst (StepsTask number s.looked c.reception r s.recipient disk c.network n) heard steps))
+    where
+      by : (e : tasks.CloneEnd) → (IsHonest old.clone → EndsFairly s.alone e) → IsFairEnd old.clone (end_of e)
+      by (ends_as.Complete lsn position) is = tt
+      by (ends_as.Spent losses) is = tt
+      by (ends_as.Garbled bytes) is = λ honest. is honest
+      by (ends_as.Refused cause) is = λ honest alone. true≢false (sym alone ∙ is honest)
+      by ends_as.DiskFault is = tt
+
   -- WHAT HAPPENS
   pub happens : Alters (says ≡ task.Ended ends_as.DiskFault) s.recipient disk → Happens old (acts (lines.Task number) all_changes (texts.task_text says)) new
   happens works = record {
@@ -210,6 +224,7 @@ module _ (s : System) (begun : finite.FinMap nat_cmp ℕ) (disturbed doubted sho
       shows = (
         subst (λ (x : Clone). ShowsChanges (donor_of s) x all_changes) (sym old_is) (changes.shows old.clone says was r.table.ended before r.table.floor (donor_of s) kind shows_end),
         changes.tells_end old.clone says was r.table.ended before r.table.floor (donor_of s) kind,
+        λ told. changes.ends_fairly old.clone says was r.table.ended before r.table.floor (donor_of s) kind (fair_end told),
       );
       is = clone_is;
     };
@@ -290,8 +305,8 @@ module _ (s : System) (begun : finite.FinMap nat_cmp ℕ) (disturbed doubted sho
   on_next = task_on s.terms c.reception r s.recipient disk c.network n number s.looked says holds.terms.tasks.1 (subst (OnTerms s.terms) at holds.parts) steps
 
   -- WHAT HOLDS THEN
-  pub holds_next : AreCounted c.reception.table.phase c.reception → (says ≡ task.NoMemory → ⊥) → KnowsSizes r disk → Holds new
-  holds_next counted memory sizes = record {
+  pub holds_next : AreCounted c.reception.table.phase c.reception → IsBounded r.table → AreCounted r.table.phase r → (says ≡ task.NoMemory → ⊥) → KnowsSizes r disk → Holds new
+  holds_next counted bounded counted_then memory sizes = record {
     terms = holds.terms;
     parts = on_next;
     looked = holds.looked;
@@ -300,6 +315,10 @@ module _ (s : System) (begun : finite.FinMap nat_cmp ℕ) (disturbed doubted sho
     marked = marked_next memory;
     goes_on = λ honest runs. joined_task SESSION s.stop s.donor c.reception r s.recipient disk c.network n number s.looked says counted
         (joined honest (running_of was (ran says was r.table.ended (steps_so c.reception r s.recipient disk c.network n number s.looked says steps).ended (none_of r.table.ended runs)))) steps memory runs;
+    talks = λ told honest runs.
+        let first = none_of r.table.ended runs in
+        let going = running_of was (ran says was r.table.ended (steps_so c.reception r s.recipient disk c.network n number s.looked says steps).ended first) in
+        task_talks s.alone s.donor c.reception r s.recipient disk c.network n number s.looked says (subst (GoOnTalking s) at (holds.talks (sym told_now ∙ told) honest) going) going bounded counted_then holds.looked steps memory runs;
     steady = λ goes. holds.steady (λ ended. goes (still_ended was refl ended));
     keeps = record {
       blank_before = λ none. absurd (begun_not r.table.ended none);
@@ -340,7 +359,7 @@ module _ (s : System) (begun : finite.FinMap nat_cmp ℕ) (disturbed doubted sho
       let floor : r.table.floor ≡ before = ap (λ (x : Reception). x.table.floor) rests.0 in
       let ended : Some last ≡ was = ap (λ (e : Option tasks.CloneEnd). Some (unwrap_or e ends_as.DiskFault)) (same_as ∙ is) ∙ sym is in
       let clone : starved.clone ≡ old.clone = ap (λ (e : Option tasks.CloneEnd). clone_at old.clone e r.table.floor) ended ∙ ap (clone_at old.clone was) floor ∙ sym old_is in
-      ([], [], record { donor = refl; begun = refl; tells = told_now; tasks = refl; clone = (record { now = tt; shows = (tt, tt); is = refl }, clone) })
+      ([], [], record { donor = refl; begun = refl; tells = told_now; tasks = refl; clone = (record { now = tt; shows = (tt, tt, λ told. tt); is = refl }, clone) })
   starves None is same_as =
       let ended : Some last ≡ Some ends_as.DiskFault = ap (λ (e : Option tasks.CloneEnd). Some (unwrap_or e ends_as.DiskFault)) (same_as ∙ is) in
       let shape : old.clone ≡ clone_at old.clone None before = old_is ∙ ap (λ (e : Option tasks.CloneEnd). clone_at old.clone e before) is in
@@ -359,6 +378,7 @@ module _ (s : System) (begun : finite.FinMap nat_cmp ℕ) (disturbed doubted sho
               shows = (
                 subst (λ (x : Clone). ShowsChanges (donor_of s) x untold_changes) (sym shape) (changes.starved_shows old.clone says before r.table.floor (donor_of s) floor_is),
                 changes.starved_tells old.clone says before r.table.floor floor_is,
+                λ told. changes.starved_fair old.clone says before r.table.floor old.clone floor_is,
               );
               is = refl;
             },
@@ -401,6 +421,7 @@ module _ (s : System) (begun : finite.FinMap nat_cmp ℕ) (disturbed doubted sho
       sizes = λ runs. absurd (true≢false (sym runs));
       marked = λ runs. absurd (true≢false (sym runs));
       goes_on = λ honest runs. absurd (true≢false (sym runs));
+      talks = λ told honest runs. absurd (true≢false (sym runs));
       steady = λ goes. absurd (goes tt);
       keeps = record {
         blank_before = λ none. absurd (let e : over (end_of last) ≡ absent = none in cc);

@@ -27,7 +27,7 @@ on_err (Err e) P is = is
 
 counted_kept : (e : Event) (begun : finite.FinMap nat_cmp ℕ) → IsOfClone e → counted e begun ≡ begun
 counted_kept (acts by changes answer) begun of = refl
-counted_kept started begun of = refl
+counted_kept (started alone) begun of = refl
 counted_kept unbegun begun of = refl
 counted_kept occupied begun of = refl
 counted_kept (again wish answer) begun of = refl

@@ -20,6 +20,7 @@ use Rattle.clone_core.specs.declared.world.TheConstants.{SESSION}
 use Rattle.clone_core.specs.System.{System}
 use Rattle.clone_core.specs.Copied.{Holds, progress_by, world_of}
 use Rattle.clone_core.specs.Ending.{ending_by, is_copying, is_over}
+use Rattle.clone_core.proofs.TalkLemmas.{no_session}
 
 -- a donor and a recipient that have nothing to do with one another yet
 abbrev pub untouched : staged.Donor → DiskState → Terms → System
@@ -30,6 +31,7 @@ untouched donor recipient terms = record {
   course = course.Absent;
   stop = None;
   looked = 0;
+  alone = true;
 }
 
 pub new_holds : (donor : staged.Donor) (recipient : DiskState) (terms : Terms) (begun : finite.FinMap nat_cmp ℕ) → IsDonor donor → IsTaken donor nothing → donor.cloning.session ≡ None → donor.cloning.stop ≡ None → ForTold recipient.told (λ m. m ≡ blank) → IsTerms terms
@@ -44,6 +46,7 @@ new_holds donor recipient terms begun is taken session stop clear ranges =
       sizes = tt;
       marked = tt;
       goes_on = λ _. run_begins SESSION donor (record { donor = is; taken = taken; session = session; stop = unstopped });
+      talks = λ _ _. no_session (untouched donor recipient terms) session;
       steady = λ _. (refl, refl);
       keeps = record {
         blank_before = λ _. clear;

@@ -1,6 +1,7 @@
 -- WHAT A LINE DOES that asks something of a connection or of the session, what it changes of the
 -- clone, and its answer.
-use Rattle.std.specs.Prelude.{ℕ, ◌≡◌, ◌==◌, ◌++◌, ◌∷◌, [], Bool, true, false, List, None, Some, Ok, codes, if◌then◌else◌}
+use Rattle.std.specs.Prelude.{ℕ, ◌≡◌, ◌==◌, ◌&&◌, ◌++◌, ◌∷◌, [], not, Bool, true, false, List, None, Some, Ok, codes, if◌then◌else◌}
+use Rattle.std.specs.Option.{option_map_or}
 use Rattle.std.specs.declared.option.Option.{Option}
 use Rattle.clone_outside.specs.DiskCalls.{Alters, DiskState}
 use Rattle.clone_model.specs.Texts.{ended}
@@ -35,12 +36,12 @@ use Rattle.clone_told.specs.Told.{gives}
 use Rattle.clone_joined.specs.Runs.{stop_by}
 use Rattle.clone_joined.specs.Strangers.{acts_in}
 use Rattle.clone_events.specs.World.{Stop, End, complete, broken, spent, garbled, refused}
-use Rattle.clone_events.specs.Events.{Change, stops, acknowledges, disturbs, ends, idle}
+use Rattle.clone_events.specs.Events.{Change, stops, acknowledges, disturbs, crowds, ends, idle}
 use Rattle.clone_core.specs.declared.world.Copying.{Copying}
 use Rattle.clone_core.specs.declared.world.Course.{Course}
 use Rattle.clone_core.specs.declared.world.Course.TheVariants as course
 use Rattle.clone_core.specs.declared.world.TheConstants.{SESSION}
-use Rattle.clone_core.specs.System.{System}
+use Rattle.clone_core.specs.System.{System, has_ended}
 
 -- ---- what a step changes of a clone
 
@@ -76,6 +77,11 @@ end_of ends.DiskFault = broken
 abbrev pub end_changes : TaskAnswer → List Change
 end_changes (task.Ended how) = ends (end_of how) ∷ []
 end_changes other = []
+
+-- a stranger's session stands
+abbrev pub crowding : Bool → List Change
+crowding true = crowds ∷ []
+crowding false = []
 
 -- somebody but the tasks has a hand in the clone
 abbrev pub disturbing : Bool → List Change
@@ -144,19 +150,30 @@ OnCopying Does other s t changes answer = Rests s t changes answer
 
 -- ---- strangers
 
+-- a session of another number stands at the donor
+abbrev pub is_crowded : staged.Donor → Bool
+is_crowded d = option_map_or (λ (s : Session). not (s.number == SESSION)) d.cloning.session false
+
+-- the donor is alone with a clone as long as none does before the clone has ended
+abbrev pub alone_after : staged.Donor → System → Bool
+alone_after d s = if is_crowded d && not (has_ended s.course) then false else s.alone
+
+abbrev pub with_stranger : staged.Donor → System → System
+with_stranger d s = record (with_donor d s) { alone = alone_after d s }
+
 -- what a step of a stranger's connection changes
 abbrev pub stranger_changes : Connection → DonorStep → System → staged.Donor → List Change
-stranger_changes at says s d =
-    disturbing (acts_in SESSION s.donor d at says) ++ donor_changes s d
+stranger_changes at says s d = disturbing (acts_in SESSION s.donor d at says)
+    ++ (crowding (is_crowded d) ++ donor_changes s d)
 
 -- A STRANGER'S CONNECTION is served until its loop ends, as its last step says.
 pub data ServesStranger : Connection → System → System → List Change → DonorStep → Type 0 where
   last : (at after : Connection) → (s t : System) → (donor : staged.Donor) → (says : DonorStep)
       → StepsEnd gives s.donor donor at after says → is_open after ≡ false
-      → t ≡ with_donor donor s → ServesStranger at s t (stranger_changes at says s donor) says
+      → t ≡ with_stranger donor s → ServesStranger at s t (stranger_changes at says s donor) says
   goes_on : (at after : Connection) → (s t : System) → (donor : staged.Donor)
       → (says how : DonorStep) → (rest : List Change) → StepsEnd gives s.donor donor at after says
-      → is_open after ≡ true → ServesStranger after (with_donor donor s) t rest how
+      → is_open after ≡ true → ServesStranger after (with_stranger donor s) t rest how
       → ServesStranger at s t (stranger_changes at says s donor ++ rest) how
 
 -- a stranger sends these bytes, and reads no answer

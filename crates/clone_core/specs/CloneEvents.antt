@@ -13,8 +13,8 @@ use Rattle.clone_network.specs.declared.donor_step.DonorStep.TheVariants as step
 use Rattle.clone_serve.specs.declared.turn.ServeAnswer.TheVariants as served
 use Rattle.clone_engine.specs.Donor.{Donor}
 use Rattle.clone_told.specs.Told.{gives}
-use Rattle.clone_events.specs.Events.{AreNow, ShowsChanges, changed_all, to_begin, started, unbegun, occupied, again, end_text, idle}
-use Rattle.clone_events.specs.World.{Progress, over}
+use Rattle.clone_events.specs.Events.{AreNow, ShowsChanges, changed_all, ends, to_begin, started, unbegun, occupied, again, end_text, idle}
+use Rattle.clone_events.specs.World.{IsHonest, Progress, over}
 use Rattle.clone_chunk.specs.Stages.{copy_number}
 use Rattle.std.specs.Fmt.{decimal}
 use Rattle.clone_core.specs.declared.rounds.Came.{Came}
@@ -23,11 +23,13 @@ use Rattle.clone_core.specs.declared.rounds.Round.{Round}
 use Rattle.clone_core.specs.declared.rounds.Round.TheVariants as round
 use Rattle.clone_core.specs.declared.start.Begun.{Begun}
 use Rattle.clone_core.specs.declared.start.Begun.TheVariants as begun
-use Rattle.clone_core.specs.Acting.{ServesStranger, stranger_changes, with_donor}
+use Rattle.clone_core.specs.Acting.{ServesStranger, stranger_changes, with_stranger}
 use Rattle.clone_core.specs.Called.{StaysUntold}
 use Rattle.clone_core.specs.Ending.{is_copying}
 use Rattle.clone_core.specs.Quiet.{NobodyMoves}
-use Rattle.clone_core.specs.System.{IsReady, donor_of, ready_at}
+use Rattle.clone_core.specs.System.{IsReady, donor_of, has_ended, ready_at}
+use Rattle.clone_core.specs.declared.world.TheConstants.{SESSION}
+use Rattle.clone_paired.specs.Strangers.{ServesOther}
 use Rattle.clone_core.specs.Lines.{State, Events, Happens}
 
 -- what a line asks of a connection or of the session was done, and this is its answer
@@ -71,12 +73,17 @@ abbrev pub is_starved : DonorStep → Bool
 is_starved (step.Served served.NoMemory) = true
 is_starved other = false
 
+-- while a clone that has not ended is undisturbed, the connection serves no EXECUTE of its session
+abbrev pub ServesNoClone : State → Connection → Type 0
+ServesNoClone s at = IsHonest s.clone → has_ended s.donor.course ≡ false
+    → ServesOther SESSION at.doing
+
 -- one step of the donor on a stranger's connection
 pub record StepsStranger (s : State) (at : Connection) (t : State) (after : Connection)
     (says : DonorStep) : Type 0 where
   pub donor : Donor
   pub steps : StepsEnd gives s.donor.donor donor at after says
-  pub is : t.donor ≡ with_donor donor s.donor
+  pub is : t.donor ≡ with_stranger donor s.donor
   pub changed : Changes (stranger_changes at says s.donor donor) s t
 
 -- all of them
@@ -85,14 +92,20 @@ pub record ServesAll (s : State) (at : Connection) (t : State) (how : DonorStep)
   pub serves : ServesStranger at s.donor t.donor changes how
   pub changed : Changes changes s t
 
+-- no change is an end
+abbrev pub EndsNone : List Change → Type 0
+EndsNone [] = Unit {0}
+EndsNone (ends how ∷ changes) = ⊥
+EndsNone (change ∷ changes) = EndsNone changes
+
 -- some of them, and then memory ran out
 abbrev pub ServesSome : State → State → Type 0
-ServesSome s t = (changes : List Change) × Changes changes s t
+ServesSome s t = (changes : List Change) × EndsNone changes × Changes changes s t
 
 -- ---- a clone begins
 
 abbrev pub started_as : Begun → Event
-started_as begun.Now = started
+started_as (begun.Now alone) = started alone
 started_as begun.Before = again to_begin idle
 started_as begun.Fault = unbegun
 started_as begun.Occupied = occupied
@@ -112,6 +125,13 @@ CameTo stops (came.Ready stage) t = (stops ≡ true) × IsReady t.donor.course (
     × (is_copying t.clone.progress ≡ true)
 CameTo stops came.Stuck t =
     (is_copying t.clone.progress ≡ true) × NobodyMoves t.donor t.donor.course
+    × (t.tells ≡ true → IsHonest t.clone → ⊥)
+
+-- over honest connections, to a donor whose disk tells what it holds, somebody has something to do
+-- while a clone goes on
+abbrev pub NeverSticks : State → Type 0
+NeverSticks t = t.tells ≡ true → IsHonest t.clone → is_copying t.clone.progress ≡ true
+    → NobodyMoves t.donor t.donor.course → ⊥
 
 -- no stage is to be acknowledged at which such a line stops
 abbrev pub NoneReady : Bool → State → Type 0

@@ -18,6 +18,9 @@ use Rattle.clone_joined.specs.Joined.{IsInProgress, IsJoined}
 use Rattle.clone_joined.specs.Runs.{HasCome}
 use Rattle.clone_events.specs.World.{Stop, broken, Progress, absent, copying, over, Clone, HasEnded, IsHonest, IsSure, before_stop}
 use Rattle.clone_events.specs.Events.{IsComplete}
+use Rattle.clone_paired.specs.Order.{CopiesInOrder}
+use Rattle.clone_paired.specs.Own.{own_session}
+use Rattle.clone_talk.specs.Talking.{Talks}
 use Rattle.clone_core.specs.declared.world.Course.{Course}
 use Rattle.clone_core.specs.declared.world.Course.TheVariants as course
 use Rattle.clone_core.specs.declared.world.TheConstants.{SESSION}
@@ -52,6 +55,7 @@ world_of s begun disturbed doubted shown = record {
     looked = s.looked;
     floor = floor_of s.course;
     disturbed = disturbed;
+    alone = s.alone;
     doubted = doubted;
     shown = shown;
   };
@@ -108,6 +112,15 @@ GoesOn s course.Unbegun = Unit {0}
 GoesOn s (course.Begun c) = is_running c.reception.table ≡ true
     → IsJoined SESSION s.stop s.donor c.reception s.recipient.told c.network
 
+-- and over a donor whose disk tells what it holds, the two talk; until the clone begins the donor
+-- has no session of its number
+abbrev pub GoOnTalking : System → Course → Type 0
+GoOnTalking s course.Absent = CopiesInOrder s.donor.cloning.session
+    × (own_session SESSION s.donor.cloning ≡ None)
+GoOnTalking s course.Unbegun = Unit {0}
+GoOnTalking s (course.Begun c) = is_running c.reception.table ≡ true
+    → Talks s.alone s.donor c.reception c.network
+
 pub record Holds (s : State) : Type 0 where
   pub terms : IsTerms s.donor.terms
   pub parts : OnTerms s.donor.terms s.donor.course
@@ -116,6 +129,7 @@ pub record Holds (s : State) : Type 0 where
   pub sizes : KnowsItsSizes s.donor s.donor.course
   pub marked : SaysInProgress s.donor.course s.donor.recipient.told
   pub goes_on : IsHonest s.clone → GoesOn s.donor s.donor.course
+  pub talks : s.tells ≡ true → IsHonest s.clone → GoOnTalking s.donor s.donor.course
   pub steady : (HasEnded s.clone.progress → ⊥)
       → (s.clone.doubted ≡ false) × (s.clone.shown ≡ false)
   pub keeps : KeepsClone (donor_of s.donor) s.tells s.clone s.donor.recipient.told

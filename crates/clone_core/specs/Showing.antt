@@ -1,24 +1,13 @@
 -- What comes of reading the rows of a recipient's disk.
-use Rattle.std.specs.Prelude.{◌≡◌, ◌<◌, ◌^◌, [], ◌∷◌, List, Vec, Result, Ok, Err}
+use Rattle.std.specs.Prelude.{◌≡◌, [], ◌∷◌, List, Vec, Result, Ok, Err}
 use Rattle.std.specs.declared.alloc.Global.{Global}
-use Rattle.clone_outside.specs.Disk.{DiskImage}
 use Rattle.clone_model.specs.History.{Row, Rows, rows_in}
-use Rattle.clone_recover.specs.Listing.{ListsRows}
-use Rattle.clone_recover.specs.Restores.{Answers}
-use Rattle.clone_recover.specs.declared.recovery.Recovered.{Recovered}
 use Rattle.clone_recover.specs.declared.refusal.RecoverRefusal.{RecoverRefusal}
 use Rattle.clone_recover.specs.declared.refusal.RecoverRefusal.TheVariants.{Incomplete, Damaged, DiskFault, NoMemory}
 use Rattle.clone_events.specs.Events.{showed, incomplete, hidden, damaged}
-use Rattle.clone_core.specs.System.{why_text}
+use Rattle.clone_dump.specs.Shown.{why_text}
 use Rattle.clone_core.specs.Lines.{State, Happens}
 use Rattle.clone_core.specs.Called.{StaysUntold}
-
--- a disk is recovered, and these are its rows
-pub record ShowsRecovered (old new : DiskImage) (list : List Row) : Type 0 where
-  pub numbers : Recovered
-  pub range : numbers.position < 2 ^ 64
-  pub recovers : Answers old new numbers
-  pub lists : ListsRows new list
 
 -- these rows are shown
 pub record ShowsList (s : State) (list : List Row) (t : State) : Type 0 where

@@ -15,7 +15,7 @@ SystemStep s (made asked given) t = OnDonor (λ d e. CallStep d asked given e) s
 SystemStep s (cleaned landed) t = t ≡ s
 SystemStep s (looked position) t = t ≡ record s { looked = position }
 SystemStep s (archived limit reached) t = OnDonor (ArchivesTo limit reached) s t
-SystemStep s started t = Starts s t
+SystemStep s (started alone) t = Starts alone s t
 SystemStep s unbegun t = FailsToStart s t
 SystemStep s occupied t = VisitsRecipient s t
 SystemStep s (acts by changes answer) t = ActsStep by s t changes answer

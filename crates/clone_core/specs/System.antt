@@ -1,5 +1,5 @@
 -- A donor, the disk of a recipient and the clone between them, and what single calls do to them.
-use Rattle.std.specs.Prelude.{ℕ, ◌≡◌, ◌&&◌, is_some, Bool, true, None, Some, Result, Ok, Err, codes}
+use Rattle.std.specs.Prelude.{ℕ, ◌≡◌, ◌&&◌, is_none, is_some, Bool, true, false, None, Some, Result, Ok, Err, codes}
 use Rattle.std.specs.Option.{option_map}
 use Rattle.std.specs.declared.option.Option.{Option}
 use Rattle.clone_outside.specs.Causes.{Rose}
@@ -9,7 +9,7 @@ use Rattle.clone_outside.specs.declared.mark.Mark.TheVariants.{InProgress}
 use Rattle.clone_lay.specs.Marked.{marked}
 use Rattle.clone_recover.specs.Restores.{IsCause}
 use Rattle.clone_recover.specs.declared.refusal.Why.{Why}
-use Rattle.clone_recover.specs.declared.refusal.Why.TheVariants.{Header, Redo, Dictionary, Undo, Chain}
+use Rattle.clone_dump.specs.Shown.{why_text}
 use Rattle.clone_recover.specs.declared.refusal.RecoverRefusal.TheVariants.{Damaged}
 use Rattle.clone_plain.specs.Donor.{Donor}
 use Rattle.clone_plain.specs.Answers.{Text}
@@ -33,7 +33,8 @@ use Rattle.clone_core.specs.declared.world.Course.TheVariants as course
 use Rattle.clone_core.specs.declared.world.TheConstants.{SESSION}
 
 -- The course has what the recipient knows of the clone and the connections of its tasks; the stop
--- is the first of its session; what was looked up is the floor of an acknowledgement.
+-- is the first of its session; what was looked up is the floor of an acknowledgement. The donor is
+-- alone with the clone while no stranger's session has stood at it since the clone began.
 pub record System : Type 0 where
   pub donor : staged.Donor
   pub recipient : DiskState
@@ -41,6 +42,7 @@ pub record System : Type 0 where
   pub course : Course
   pub stop : Option session.Stop
   pub looked : ℕ
+  pub alone : Bool
 
 abbrev pub donor_of : System → Donor
 donor_of s = s.donor.engine.donor
@@ -58,14 +60,6 @@ pub record VisitsRecipient (s t : System) : Type 0 where
 pub record FailsRecipient (s t : System) : Type 0 where
   pub visits : VisitsRecipient s t
   pub rose : Rose s.recipient.failures t.recipient.failures
-
--- what is against the format, in a word
-abbrev pub why_text : Why → Text
-why_text Header = codes "header"
-why_text Redo = codes "redo"
-why_text Dictionary = codes "dictionary"
-why_text Undo = codes "undo"
-why_text Chain = codes "chain"
 
 -- what is named is against the format, where the disk is complete, quiet and told
 pub record FindsDamage (s : DiskState) (space page : ℕ) (text : Text) : Type 0 where
@@ -87,17 +81,20 @@ ArchivesTo limit reached d t = CloneActs (call.Archive limit) (answer.Archive (O
 abbrev pub OnDonor : (staged.Donor → staged.Donor → Type 0) → System → System → Type 0
 OnDonor Does s t = Does s.donor t.donor × (t ≡ record s { donor = t.donor })
 
--- A CLONE BEGINS: the recipient's disk was empty and gets the mark of a copy in progress.
-pub record Starts (s t : System) : Type 0 where
+-- A CLONE BEGINS: the recipient's disk was empty and gets the mark of a copy in progress. The donor
+-- has no session yet, or has one.
+pub record Starts (alone : Bool) (s t : System) : Type 0 where
   pub absent : s.course ≡ course.Absent
   pub visits : Visits s.recipient t.recipient
   pub marks : Steps s.recipient.told t.recipient.told (marked (InProgress SESSION))
+  pub free : alone ≡ is_none s.donor.cloning.session
   pub is : t ≡ record s {
     recipient = t.recipient;
     course = course.Begun (record {
       reception = begun SESSION s.terms.tasks s.terms.limit s.terms.version;
       network = unconnected s.terms.tasks;
     });
+    alone = alone;
   }
 
 -- the recipient's disk fails as it begins, which ends it
@@ -106,6 +103,12 @@ pub record FailsToStart (s t : System) : Type 0 where
   pub visits : Visits s.recipient t.recipient
   pub rose : Rose s.recipient.failures t.recipient.failures
   pub is : t ≡ record s { recipient = t.recipient; course = course.Unbegun }
+
+-- the clone has ended
+abbrev pub has_ended : Course → Bool
+has_ended course.Absent = false
+has_ended course.Unbegun = true
+has_ended (course.Begun c) = is_some c.reception.table.ended
 
 -- the rows of a clone were shown, which its status tells
 abbrev pub recovered_course : Course → Course

@@ -12,6 +12,7 @@ ghost use Rattle.clone_core.specs.Idling.{EndIdles, TaskIdles};
 ghost use Rattle.clone_core.specs.Left.{DonorLeaves, TasksLeave, is_idle, is_quiet};
 
 use crate::World;
+use crate::strangers::is_starved;
 use crate::world::{Copying, Course, first_stop};
 use clone_answers::{step_text, task_text};
 use clone_fetch::TaskAnswer;
@@ -75,7 +76,7 @@ impl<D: PageDisk, R: PageDisk> World<D, R> {
         step_text(alloc, &answer)
     }
 
-    // A step of the donor on a connection.
+    // A step of the donor on a connection. Where memory runs out in it, that ends the clone.
     pub(crate) fn serve(&mut self, alloc: Global, connection: u32) -> Result<DonorStep, AllocError>
         ensures acts { IfOk result (λ says. Acts (lines.Serve connection) self.old (step_text says)
             self.new) }
@@ -85,12 +86,13 @@ impl<D: PageDisk, R: PageDisk> World<D, R> {
         ensures err { OnErr result (ActsUntold (lines.Serve connection) self.old self.new) }
     {
         if let Course::Begun(copying) = &mut self.course {
-            let network = &mut copying.network;
+            let Copying { reception, network } = copying;
             self.donor.laws();
             let answer = network.step_donor(alloc, &mut self.donor, connection);
             self.donor.laws();
             self.stop = first_stop(self.stop, self.donor.stop());
-            if let DonorStep::Served(ServeAnswer::NoMemory) = answer {
+            if is_starved(&answer) {
+                end_running(reception);
                 return Err(AllocError);
             }
             return Ok(answer);

@@ -8,7 +8,6 @@ mod connections;
 mod laws;
 mod lines;
 mod rounds;
-mod rows;
 mod showing;
 mod start;
 mod strangers;

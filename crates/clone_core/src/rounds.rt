@@ -6,7 +6,7 @@ ghost use Rattle.std.specs.String.{string_bytes};
 ghost use Rattle.clone_script.specs.declared.lines.Line.TheVariants as lines;
 ghost use Rattle.clone_events.specs.Runs.{AreOfDonor, AreOfTasks, AreRounds, IsRound};
 ghost use Rattle.clone_core.specs.CloneEvents.{CameTo, ComesBy, EndsUntold, GoesOnFrom};
-ghost use Rattle.clone_core.specs.CloneEvents.{Makes, came_answer, still_answer};
+ghost use Rattle.clone_core.specs.CloneEvents.{Makes, NeverSticks, came_answer, still_answer};
 ghost use Rattle.clone_core.specs.Idling.{EndsIdle, RoundIdles, TasksIdle};
 ghost use Rattle.clone_core.specs.Left.{DonorLeaves, RoundLeaves, TasksLeave};
 ghost use Rattle.clone_core.specs.Left.{is_idle, is_quiet, tasks_left};
@@ -140,12 +140,20 @@ impl<D: PageDisk, R: PageDisk> World<D, R> {
         loop {
             let round = self.round(alloc)?;
             if let Some(came) = self.comes_to(round, stops_when_ready) {
+                self.never_sticks();
                 return Ok(Some(came));
             }
             if let Round::Tasks = round {
                 return Ok(None);
             }
         }
+    }
+
+    // Somebody has something to do while a clone goes on.
+    fn never_sticks(&self)
+        ensures { NeverSticks self.now }
+    {
+        self.donor.laws();
     }
 
     // How rounds come to their end by this one, if they do.

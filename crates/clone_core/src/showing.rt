@@ -6,9 +6,9 @@ ghost use Rattle.clone_core.specs.Lines.{Answers, BreaksOff};
 ghost use Rattle.clone_core.specs.Showing.{Reads};
 
 use crate::World;
-use crate::rows::recovered_rows;
-use crate::texts::{damage_text, recipient_fault, rows_shown};
+use crate::texts::recipient_fault;
 use crate::world::Course;
+use clone_dump::{damage_text, recovered_rows, rows_shown};
 use clone_model::Value;
 use clone_outside::PageDisk;
 use clone_recover::RecoverRefusal;

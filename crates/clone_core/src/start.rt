@@ -16,8 +16,11 @@ use std::alloc::{AllocError, Global};
 /// What came of a wish that a clone begins.
 #[derive(Clone, Copy, Debug, PartialEq, Eq)]
 pub enum Begun {
-    /// One begins.
-    Now,
+    /// One begins, at a donor that has no session yet or has one.
+    Now {
+        /// It has none.
+        is_alone: bool,
+    },
     /// One began before.
     Before,
     /// The recipient's disk failed, which ended it.
@@ -57,7 +60,10 @@ impl<D: PageDisk, R: PageDisk> World<D, R> {
         match begun {
             Ok(reception) => {
                 self.course = Course::Begun(Copying { reception, network });
-                return Ok(Begun::Now);
+                self.is_alone = self.donor.session().is_none();
+                return Ok(Begun::Now {
+                    is_alone: self.is_alone,
+                });
             }
             Err(BeginCause::NotEmpty) => return Ok(Begun::Occupied),
             Err(BeginCause::DiskFault) => {
@@ -77,7 +83,7 @@ fn begun_word(begun: Begun) -> &'static str
     ensures { result.now ≡ event_text (started_as begun) }
 {
     match begun {
-        Begun::Now => "started",
+        Begun::Now { .. } => "started",
         Begun::Before | Begun::Occupied => "idle",
         Begun::Fault => "recipient disk fault",
     }

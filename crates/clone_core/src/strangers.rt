@@ -17,7 +17,11 @@ ghost use Rattle.clone_joined.specs.Strangers as strangers;
 ghost use Rattle.clone_core.specs.Acting as progress;
 ghost use Rattle.clone_core.specs.Copied.{progress_of};
 ghost use Rattle.clone_core.specs.Ending.{is_over};
-ghost use Rattle.clone_core.specs.CloneEvents.{is_starved, ServesAll, ServesSome, StepsStranger};
+ghost use Rattle.clone_core.specs.CloneEvents.{is_starved, ServesAll, ServesNoClone, ServesSome};
+ghost use Rattle.clone_core.specs.CloneEvents.{StepsStranger};
+ghost use Rattle.clone_core.specs.System.{has_ended};
+ghost use Rattle.clone_core.specs.Acting.{is_crowded};
+ghost use Rattle.clone_paired.specs.Strangers.{IsBetween};
 ghost use Rattle.clone_core.specs.Lines.{Answers, BreaksOff};
 
 use crate::World;
@@ -70,7 +74,11 @@ impl<D: PageDisk, R: PageDisk> World<D, R> {
     ) -> Result<DonorStep, AllocError>
         requires open { is_open connection.old ≡ true }
         requires left { connection.old.held ≡ false }
+        requires between { IsBetween connection.old.doing }
+        requires other { ServesNoClone self.old connection.old }
         ensures left { connection.new.held ≡ false }
+        ensures between { is_open connection.new ≡ true → IsBetween connection.new.doing }
+        ensures other { ServesNoClone self.new connection.new }
         ensures less { is_open connection.new ≡ true
             → end_work self.new.donor.donor connection.new
             < end_work self.old.donor.donor connection.old }
@@ -86,6 +94,7 @@ impl<D: PageDisk, R: PageDisk> World<D, R> {
         self.stop = first_stop(self.stop, self.donor.stop());
         let has_acted = has_acted(&how, attaches, stood, has_session(&self.donor));
         self.is_disturbed = disturbed(self.is_disturbed, has_acted, &self.course);
+        self.is_alone = alone(self.is_alone, &self.donor, &self.course);
         if is_starved(&how) {
             return Err(AllocError);
         }
@@ -199,8 +208,27 @@ fn disturbed(was: bool, acts: bool, course: &Course) -> bool
     was
 }
 
+// Whether the donor is alone with a clone, where a stranger's session may stand now. With one that
+// has ended it stays so.
+fn alone<D: PageDisk>(was: bool, donor: &Donor<D>, course: &Course) -> bool
+    ensures { result
+        ≡ (if is_crowded donor.now && not (has_ended course.now) then false else was) }
+{
+    if is_crowded(donor) && !course.has_ended() {
+        return false;
+    }
+    was
+}
+
+// Whether a session of another number than the clone's stands at the donor.
+fn is_crowded<D: PageDisk>(donor: &Donor<D>) -> bool
+    ensures { result ≡ is_crowded donor.now }
+{
+    donor.session().is_some_and(|number| number != SESSION)
+}
+
 // Whether there was no memory for a step.
-fn is_starved(how: &DonorStep) -> bool
+pub(crate) fn is_starved(how: &DonorStep) -> bool
     ensures { result ≡ is_starved how.now }
 {
     matches!(how, DonorStep::Served(ServeAnswer::NoMemory))

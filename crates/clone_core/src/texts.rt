@@ -7,16 +7,14 @@ ghost use Rattle.clone_plain.specs.declared.refusal.Undone.{Undone};
 ghost use Rattle.clone_plain.specs.Donor as plain;
 ghost use Rattle.clone_plain.specs.Causes.{least_unused};
 ghost use Rattle.clone_plain.specs.Effects.{Undoes};
-ghost use Rattle.clone_plain.specs.Answers.{undone_answer, rows_answer, value_answer};
-ghost use Rattle.clone_events.specs.Events.{damaged, event_text, recipient_fault};
-ghost use Rattle.clone_core.specs.System.{why_text};
+ghost use Rattle.clone_plain.specs.Answers.{undone_answer, value_answer};
+ghost use Rattle.clone_events.specs.Events.{recipient_fault};
 ghost use Rattle.clone_core.specs.Called.{SaysCause};
 
 use clone_donor::Donor;
-use clone_model::{Value, push_value, rows_text};
+use clone_model::{Value, push_value};
 use clone_outside::PageDisk;
 use clone_plain::{Cause, EngineRefusal};
-use clone_recover::Why;
 use std::alloc::{AllocError, Global};
 
 /// The answer of a `begin` that isn't refused.
@@ -114,42 +112,9 @@ pub fn value_shown(alloc: Global, value: Option<&Value>) -> Result<String, Alloc
     Ok(text)
 }
 
-/// Rows, each on a line, and then their number.
-pub fn rows_shown(alloc: Global, rows: &[(u32, u64, Value)]) -> Result<String, AllocError>
-    ensures { IfOk result (λ text. string_bytes text ≡ rows_answer rows.now) }
-{
-    let mut text = rows_text(alloc, rows)?;
-    let count = rows.len();
-    let last = format!(in alloc; "rows {count}")?;
-    text.push_str(last.as_str())?;
-    Ok(text)
-}
-
 /// The answer of a line in which the recipient's disk failed.
 pub fn recipient_fault(alloc: Global) -> Result<String, AllocError>
     ensures { IfOk result (λ text. string_bytes text ≡ recipient_fault) }
 {
     String::from_str(alloc, "recipient disk fault")
-}
-
-/// The answer of `rows` where a page, or the redo from a page on, is against the format.
-pub fn damage_text(alloc: Global, space: u32, page: u32, why: Why) -> Result<String, AllocError>
-    ensures { IfOk result (λ text. string_bytes text ≡ event_text (damaged space page
-        (why_text why))) }
-{
-    let word = why_word(why);
-    format!(in alloc; "damaged {space} {page} {word}")
-}
-
-// What is against the format, in a word.
-fn why_word(why: Why) -> &'static str
-    ensures { result.now ≡ why_text why }
-{
-    match why {
-        Why::Header => "header",
-        Why::Redo => "redo",
-        Why::Dictionary => "dictionary",
-        Why::Undo => "undo",
-        Why::Chain => "chain",
-    }
 }

@@ -2,7 +2,8 @@
 //! it and what was looked up are within the donor's history. Until a clone is begun the recipient's
 //! disk is blank, and while it goes on that disk says so. Where nobody but its tasks had a hand in
 //! it, donor, recipient and all that is on its way between them are joined while the clone goes on,
-//! and what the recipient's disk holds once it has ended is known, where that is told.
+//! and what the recipient's disk holds once it has ended is known, where that is told. The two talk
+//! as they should then, whatever other sessions the donor has.
 ghost use Rattle.std.specs.Prelude.{◌≡◌, ◌^◌, ◌-◌, ◌≤◌, IfOk, None, OnErr, option_map, is_some};
 ghost use Rattle.std.specs.String.{string_bytes};
 ghost use Rattle.clone_outside.specs.Disk.{ForTold, blank};
@@ -13,7 +14,7 @@ ghost use Rattle.clone_events.specs.World.{IsWithin};
 ghost use Rattle.clone_engine.specs.Donor.{IsDonor};
 ghost use Rattle.clone_engine.specs.Opened.{IsOpened};
 ghost use Rattle.clone_engine.specs.Taken.{IsTaken, nothing};
-ghost use Rattle.clone_core.specs.System.{donor_of};
+ghost use Rattle.clone_core.specs.System.{donor_of, has_ended};
 ghost use Rattle.clone_core.specs.Lines.{Answers, BreaksOff, IsNew};
 ghost use Rattle.clone_core.specs.Acting.{stop_of};
 ghost use Rattle.clone_sides.specs.Moment.{own_stop};
@@ -71,7 +72,8 @@ impl Course {
 
     // Whether a clone has ended.
     pub(crate) fn has_ended(&self) -> bool
-        ensures { result ≡ is_over (progress_of self.now) }
+        ensures over { result ≡ is_over (progress_of self.now) }
+        ensures ended { result ≡ has_ended self.now }
     {
         match self {
             Course::Begun(copying) => !copying.reception.table().is_running(),
@@ -118,6 +120,7 @@ pub struct World<D: PageDisk, R: PageDisk> {
     pub(crate) stop: Option<Stop>,
     pub(crate) looked: u64,
     pub(crate) is_disturbed: bool,
+    pub(crate) is_alone: bool,
     pub(crate) is_doubted: bool,
     pub(crate) is_shown: bool,
 }
@@ -143,6 +146,7 @@ impl<D: PageDisk, R: PageDisk> Model for World<D, R> {
       course = w.course;
       stop = w.stop;
       looked = w.looked;
+      alone = w.is_alone;
     }) w.begun w.is_disturbed w.is_doubted w.is_shown };
 
     ghost invariant = { λ w. Holds (world_of (record {
@@ -152,6 +156,7 @@ impl<D: PageDisk, R: PageDisk> Model for World<D, R> {
       course = w.course;
       stop = w.stop;
       looked = w.looked;
+      alone = w.is_alone;
     }) w.begun w.is_disturbed w.is_doubted w.is_shown) };
 }
 
@@ -180,6 +185,7 @@ impl<D: PageDisk, R: PageDisk> World<D, R> {
             stop: None,
             looked: 0,
             is_disturbed: false,
+            is_alone: true,
             is_doubted: false,
             is_shown: false,
         }
@@ -233,6 +239,7 @@ impl<D: PageDisk, R: PageDisk> World<D, R> {
             stop: _,
             looked: _,
             is_disturbed: _,
+            is_alone: _,
             is_doubted: _,
             is_shown: _,
         } = self;

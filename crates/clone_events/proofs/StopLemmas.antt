@@ -65,7 +65,7 @@ stop_all d clone (change ∷ changes) is within = stop_all d (changed_in clone.p
 -- what an event shows by a history it shows by each longer one
 shows_longer : (d e : Donor) (answered : List ℕ) (tells : Bool) (clone : Clone) (event : Event) → Adds d e answered → IsStop clone.stop d → Shows d tells clone event → Shows e tells clone event
 shows_longer d e answered tells clone (looked n) added within is = omega (arith, is, ap length added.binlog, length-append d.binlog added.more)
-shows_longer d e answered tells clone (acts by changes answer) added within is = (changes_longer d e answered clone changes added within is.0, is.1)
+shows_longer d e answered tells clone (acts by changes answer) added within is = (changes_longer d e answered clone changes added within is.0, is.1, is.2)
 shows_longer d e answered tells clone (showed rows) added within is = record { ended = is.ended; are = λ sure. shown clone.stop d e answered rows within added (is.are sure) }
 shows_longer d e answered tells clone event added within is = is
 

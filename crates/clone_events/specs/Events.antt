@@ -2,7 +2,7 @@
 -- becomes of its clone, rows that are shown, and orders to disks. The donor, with the disks behind
 -- it, is of a type D; `plain` tells the plain donor that it is, and `Step` what an event does to
 -- it.
-use Rattle.std.specs.Prelude.{ℕ, ◌≡◌, ◌≢◌, ◌≤◌, ◌+◌, ◌==◌, Bool, true, is_some, List, [], ◌∷◌, ◌++◌, length, None, Some, Result, Ok, MatchOption, codes}
+use Rattle.std.specs.Prelude.{ℕ, ◌≡◌, ◌≢◌, ◌≤◌, ◌+◌, ◌==◌, Bool, true, false, is_some, List, [], ◌∷◌, ◌++◌, length, None, Some, Result, Ok, MatchOption, codes}
 use Rattle.std.specs.Fmt.{decimal}
 use Rattle.std.specs.declared.option.Option.{Option}
 use Rattle.std.specs.FinMap as finite
@@ -41,6 +41,8 @@ pub data Change : Type 0 where
   -- bytes come to a task that the donor didn't send, a stranger acts in the session, or the session
   -- is abandoned
   disturbs : Change
+  -- a stranger's session stands at the donor
+  crowds : Change
   -- the clone ends
   ends : End → Change
 
@@ -53,8 +55,8 @@ pub data Event : Type 0 where
   looked : (position : ℕ) → Event
   -- so many bytes of the log at most are archived, up to there, or there is no archive
   archived : (limit : ℕ) (reached : Option ℕ) → Event
-  -- a clone begins
-  started : Event
+  -- a clone begins, at a donor that has no session yet or has one
+  started : (alone : Bool) → Event
   -- a fault of the recipient's disk ends it as it begins
   unbegun : Event
   -- none begins, for somebody has written to the recipient's disk
@@ -102,7 +104,7 @@ event_text (cleaned landed) = codes "cleaned " ++ decimal landed
 event_text (looked position) = codes "position " ++ decimal position
 event_text (archived limit (Some lsn)) = codes "archived " ++ decimal lsn
 event_text (archived limit None) = idle
-event_text started = codes "started"
+event_text (started alone) = codes "started"
 event_text unbegun = recipient_fault
 event_text occupied = idle
 event_text (acts by changes answer) = answer
@@ -133,6 +135,7 @@ abbrev pub changed_by : Change → Clone → Clone
 changed_by (stops at) clone = record clone { stop = Some at }
 changed_by acknowledges clone = record clone { floor = Some clone.looked }
 changed_by disturbs clone = record clone { disturbed = true }
+changed_by crowds clone = record clone { alone = false }
 changed_by (ends how) clone = record clone { progress = over how }
 
 -- of a clone that has ended the stop alone matters, which its session may come to later
@@ -149,7 +152,7 @@ changed_all (change ∷ changes) clone =
 -- and by an event
 abbrev pub clone_after : Event → Clone → Clone
 clone_after (looked position) clone = record clone { looked = position }
-clone_after started clone = record clone { progress = copying }
+clone_after (started alone) clone = record clone { progress = copying; alone = alone }
 clone_after unbegun clone = record clone { progress = over broken }
 clone_after (acts by changes answer) clone = changed_all changes clone
 clone_after (showed rows) clone = record clone { shown = true }
@@ -193,6 +196,7 @@ ShowsChange d clone (stops at) =
 ShowsChange d clone acknowledges = clone.floor ≡ None
 ShowsChange d clone (ends how) = IsUnderWay clone.progress × ShowsEnd clone how
 ShowsChange d clone disturbs = Unit {0}
+ShowsChange d clone crowds = Unit {0}
 
 -- a clone that has ended doesn't end again
 abbrev pub ShowsIn : Progress → Donor → Clone → Change → Type 0
@@ -212,6 +216,18 @@ TellsEnd [] answer = Unit {0}
 TellsEnd (ends how ∷ changes) answer = answer ≡ end_text how
 TellsEnd (change ∷ changes) answer = TellsEnd changes answer
 
+-- Over honest connections the donor sends nothing that ends the clone as garbled, and it refuses
+-- only where another session has stood at it.
+abbrev pub IsFairEnd : Clone → End → Type 0
+IsFairEnd clone (garbled bytes) = IsHonest clone → ⊥
+IsFairEnd clone (refused words) = IsHonest clone → clone.alone ≡ true → ⊥
+IsFairEnd clone how = Unit {0}
+
+abbrev pub EndsFairly : Clone → List Change → Type 0
+EndsFairly clone [] = Unit {0}
+EndsFairly clone (ends how ∷ changes) = IsFairEnd clone how
+EndsFairly clone (change ∷ changes) = EndsFairly clone changes
+
 -- the rows of a clone that has ended are those of the history before its stop, where that is known
 pub record ShowsRows (d : Donor) (tells : Bool) (clone : Clone) (rows : Rows) : Type 0 where
   pub ended : HasEnded clone.progress
@@ -225,16 +241,19 @@ IsComplete progress = ⊥
 
 -- WHAT AN EVENT SHOWS of a clone, by the history of a donor: that of the moment of the event, and
 -- each longer one. Where it is known what the clone's rows are, no damage is found on the
--- recipient's disk, and a complete clone isn't found incomplete.
+-- recipient's disk, and a complete clone isn't found incomplete. Over honest connections there is
+-- always something to do until the clone has ended, and it ends fairly.
 abbrev pub Shows : Donor → Bool → Clone → Event → Type 0
 Shows d tells clone (looked position) = position ≤ length d.binlog
-Shows d tells clone started = clone.progress ≡ absent
+Shows d tells clone (started alone) = clone.progress ≡ absent
 Shows d tells clone unbegun = clone.progress ≡ absent
 Shows d tells clone occupied = (clone.progress ≡ absent) × (tells ≡ true → ⊥)
 Shows d tells clone (acts by changes answer) =
     ShowsChanges d clone changes × TellsEnd changes answer
+    × (tells ≡ true → EndsFairly clone changes)
 Shows d tells clone (readied stage) = IsUnderWay clone.progress
-Shows d tells clone sticks = IsUnderWay clone.progress
+Shows d tells clone sticks =
+    IsUnderWay clone.progress × (tells ≡ true → IsHonest clone → ⊥)
 Shows d tells clone (again wish answer) = IsToldAgain wish clone answer
 Shows d tells clone (showed rows) = ShowsRows d tells clone rows
 Shows d tells clone incomplete = IsSure tells clone → IsComplete clone.progress → ⊥

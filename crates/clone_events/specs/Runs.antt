@@ -52,7 +52,7 @@ pub data MakesClean (events : List Event) : Type 0 where
 
 -- what `start` may make happen
 abbrev pub Starts : Event → Type 0
-Starts started = Unit {0}
+Starts (started alone) = Unit {0}
 Starts unbegun = Unit {0}
 Starts occupied = Unit {0}
 Starts (again to_begin answer) = Unit {0}

@@ -37,15 +37,16 @@ pub data Progress : Type 0 where
 -- A clone: how far it has come; the first stop of its session, once it has come to it; what the
 -- requester looked up last, and what it had looked up before it first acknowledged the copy of
 -- pages; whether anybody but its tasks had a hand in it before it ended: bytes came to a task that
--- the donor didn't send, a stranger acted in its session, or the session was abandoned; whether a
--- fault of the recipient's disk came in the way of its rows since it ended; and whether its rows
--- were shown.
+-- the donor didn't send, a stranger acted in its session, or the session was abandoned; whether no
+-- other session stood at the donor from its beginning to its end; whether a fault of the
+-- recipient's disk came in the way of its rows since it ended; and whether its rows were shown.
 pub record Clone : Type 0 where
   pub progress : Progress
   pub stop : Option Stop
   pub looked : ℕ
   pub floor : Option ℕ
   pub disturbed : Bool
+  pub alone : Bool
   pub doubted : Bool
   pub shown : Bool
 
@@ -57,6 +58,7 @@ no_clone = record {
   looked = 0;
   floor = None;
   disturbed = false;
+  alone = true;
   doubted = false;
   shown = false;
 }

@@ -3,7 +3,7 @@ use Rattle.std.proofs.Common.{◌≡◌, ℕ, List, [], ◌∷◌, refl, sym, su
 use Rattle.clone_script.specs.declared.lines.Line.{Line}
 use Rattle.clone_plain.specs.Donor.{Donor, no_donor}
 use Rattle.clone_events.specs.BreaksOff.{Becomes, BecomesUntold}
-use Rattle.clone_events.specs.Events.{Event, looked, started, unbegun, acts, showed, hidden, Change, stops, acknowledges, disturbs, ends, Clones, Events, PlainEvent, Shows, ShowsChange, ShowsChanges, ShowsIn, changed_all, changed_by, changed_in, clone_after}
+use Rattle.clone_events.specs.Events.{Event, looked, started, unbegun, acts, showed, hidden, Change, stops, acknowledges, disturbs, crowds, ends, Clones, Events, PlainEvent, Shows, ShowsChange, ShowsChanges, ShowsIn, changed_all, changed_by, changed_in, clone_after}
 use Rattle.clone_events.specs.Runs.{Runs}
 use Rattle.clone_events.specs.World.{World, Stop, Progress, absent, copying, over, complete, broken, spent, garbled, refused, Clone, HasEnded, IsHonest, no_clone, opened}
 use Rattle.clone_events.proofs.RunLemmas.{Runs-Events}
@@ -20,6 +20,7 @@ change_before : (d : Donor) (clone : Clone) (change : Change) → (HasEnded clon
 change_before d clone (stops at) goes_on shows = λ position ended honest. absurd (goes_on (subst HasEnded (sym ended) tt))
 change_before d clone acknowledges goes_on shows = λ position ended honest. absurd (goes_on (subst HasEnded (sym ended) tt))
 change_before d clone disturbs goes_on shows = λ position ended honest. absurd (goes_on (subst HasEnded (sym ended) tt))
+change_before d clone crowds goes_on shows = λ position ended honest. absurd (goes_on (subst HasEnded (sym ended) tt))
 change_before d clone (ends (complete n)) goes_on shows = λ position ended honest.
     let P : ℕ → Type 0 = λ q. MatchOption clone.stop ⊥ (λ (at : Stop). q ≡ at.position) in
     subst P (same_position n position ended) (shows.1 honest).stop
@@ -36,6 +37,7 @@ change_keeps (over how) d clone (stops at) is shows kept = λ position ended hon
     absurd (subst P shows.first (kept position ended honest))
 change_keeps (over how) d clone acknowledges is shows kept = kept
 change_keeps (over how) d clone disturbs is shows kept = kept
+change_keeps (over how) d clone crowds is shows kept = kept
 change_keeps (over how) d clone (ends other) is shows kept = absurd shows
 
 changes_keep : (d : Donor) (clone : Clone) (changes : List Change) → ShowsChanges d clone changes → IsAtStop clone → IsAtStop (changed_all changes clone)
@@ -44,7 +46,7 @@ changes_keep d clone (change ∷ changes) shows kept = changes_keep d (changed_i
 
 event_keeps : (d : Donor) (tells : Bool) (old : Clone) (e : Event) → Shows d tells old e → IsAtStop old → IsAtStop (clone_after e old)
 event_keeps d tells old (looked position) shows kept = kept
-event_keeps d tells old started shows kept = λ position other honest. let no : copying ≡ over (complete position) = other in cc
+event_keeps d tells old (started alone) shows kept = λ position other honest. let no : copying ≡ over (complete position) = other in cc
 event_keeps d tells old unbegun shows kept = λ position other honest. let no : over broken ≡ over (complete position) = other in cc
 event_keeps d tells old (acts by changes answer) shows kept = changes_keep d old changes shows.0 kept
 event_keeps d tells old (showed rows) shows kept = kept

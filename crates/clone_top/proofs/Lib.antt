@@ -1,4 +1,6 @@
 pub mod EndLemmas
+pub mod FairLemmas
+pub mod FavouredLemmas
 pub mod OutcomeLemmas
 pub mod RecoveringLemmas
 pub mod RunLemmas

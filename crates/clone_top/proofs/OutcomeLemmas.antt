@@ -1,5 +1,5 @@
 -- What comes of a run of a script, by how far it came.
-use Rattle.std.proofs.Common.{◌≡◌, ◌≤◌, ℕ, List, ◌++◌, ◌&&◌, Bool, true, false, is_some, length, take, refl, sym, ap, ◌∙◌, subst, Option, None, Some, MatchOption, codes, arith, filter_map}
+use Rattle.std.proofs.Common.{◌≡◌, ◌≤◌, ℕ, List, ◌++◌, ◌&&◌, Bool, true, false, is_some, length, take, refl, sym, ap, ◌∙◌, subst, Option, None, Some, MatchOption, codes, arith, filter_map, ◌⊎◌, inl, inr}
 use Rattle.std.proofs.lemmas.List.{take_all}
 use Rattle.std.specs.Fmt.{decimal}
 use Rattle.clone_outside.specs.Causes.{Rose}
@@ -46,16 +46,19 @@ use Rattle.clone_top.specs.Looking.{IsUnread, IsUnready}
 use Rattle.clone_top.specs.Main.{IsUntouched, Outcome, OutcomeOf, RunOutcome, StepsOutcome, no_command, no_memory}
 use Rattle.clone_top.specs.Saying.{Says, SaysNoCommand, SaysNoRun, SaysUnread, SaysUnready}
 use Rattle.clone_top.specs.Status.{number_of}
+use Rattle.clone_top.specs.Completeness.{EndsWell, IsFavoured}
 use Rattle.clone_top.proofs.EndLemmas.{IsAtStop, ends_at_stop, left_at_stop}
+use Rattle.clone_top.proofs.FairLemmas.{run_fair}
+use Rattle.clone_top.proofs.FavouredLemmas.{ends_otherwise, unhindered}
 
 -- ---- no line was begun
 
 -- why is said
 hindered : (due status : Status) (text : Text) (old new : Streams) (given : Disks) (back : Ends) → Hinders due old new given back.disks text → IsAlone old new back → Says due status old.out new.out (ended text) → StepsOutcome status old new given back
-hindered due status text old new given back why alone says = record { run = None; headline = tt; causes = (said due text why says, alone) }
+hindered due status text old new given back why alone says = record { run = None; headline = tt; causes = (said due text why says, alone); well = λ f. absurd (unhindered due text old new given back.disks why f.script f.empty f.none) }
 
 unsaid : (status : Status) (old new : Streams) (given : Disks) (back : Ends) → OpensAtMost given back.disks → IsAlone old new back → status ≡ Memory → new.out.told ≡ old.out.told → StepsOutcome status old new given back
-unsaid status old new given back disks alone is same = record { run = None; headline = tt; causes = (silent is same disks, alone) }
+unsaid status old new given back disks alone is same = record { run = None; headline = tt; causes = (silent is same disks, alone); well = λ f. inr is }
 
 -- disks of which nothing was asked
 untouched : (given back : Disks) → back ≡ given → OpensAtMost given back
@@ -214,8 +217,8 @@ module _ (old new : Streams) (given : Disks) (back : Ends) (config : Config) (te
     at_stop : IsAtStop left.clone
     at_stop = left_at_stop (run_of count events final) (leaves_plain leaves) (ends_at_stop terms.tasks (tell given) (take count lines) events (plain_of final) happened)
 
-    came : (status : Status) → Writes status (run_of count events final) old new → EndsBy status (run_of count events final) old new → StepsOutcome status old new given back
-    came status writes ended = record {
+    came : (status : Status) → Writes status (run_of count events final) old new → EndsBy status (run_of count events final) old new → (IsFavoured (Some (run_of count events final)) old new given back → EndsWell status) → StepsOutcome status old new given back
+    came status writes ended well = record {
       run = Some (run_of count events final);
       headline = record {
         read = read;
@@ -249,7 +252,12 @@ module _ (old new : Streams) (given : Disks) (back : Ends) (config : Config) (te
         recipient_fault = λ is. rose_before given.recipient.failures first.donor.recipient.failures final.donor.recipient.failures began.recipient.later (laws.recipient_fault (take count lines) events final run is);
         ended = ended;
       };
+      well = well;
     }
+
+    -- where all is favourable, its clone didn't end by losses, garbled bytes or a refusal
+    fair : IsFavoured (Some (run_of count events final)) old new given back → (ending_of final.clone ≡ ending.RestartsSpent) ⊎ (ending_of final.clone ≡ ending.Garbled) ⊎ (ending_of final.clone ≡ ending.Refused) → ⊥
+    fair f = ends_otherwise final.clone f.clone (run_fair terms.tasks (tell given) (take count lines) events (plain_of final) (λ i. is_some (f.empty.donor i) && is_some (f.empty.recipient i)) happened)
 
   all_lines : take (length lines) lines ≡ lines
   all_lines = take_all (length lines) lines (omega arith)
@@ -260,26 +268,40 @@ module _ (old new : Streams) (given : Disks) (back : Ends) (config : Config) (te
   whole_run : (is : AnsweredAll lines first left old.out.told new.out.told) → Runs first (take (length lines) lines) is.events left
   whole_run is = let P : List Line → Type 0 = λ ls. Runs first ls is.events left in subst P (sym all_lines) is.run
 
+  -- the recipient's disk never failed
+  never_failed : (events : List (List Event)) → Runs first (take (length lines) lines) events left → ending_of left.clone ≡ ending.RecipientFault → IsFavoured (Some (run_of (length lines) events left)) old new given back → ⊥
+  never_failed events run is f =
+      f.none.recipient
+      (subst (λ (d : DiskState). Rose given.recipient.failures d.failures) (sym gives.recipient) (rose_before given.recipient.failures first.donor.recipient.failures left.donor.recipient.failures began.recipient.later (laws.recipient_fault (take (length lines) lines) events left run is)))
+
   -- the lines were carried out, to the end
   finished : (status : Status) → (is : Finished lines first left old.out.told new.out.told old.binlog.told new.binlog.told) → (WritesAll (run_of (length lines) is.answered.events left) old new → Writes status (run_of (length lines) is.answered.events left) old new)
-      → EndsBy status (run_of (length lines) is.answered.events left) old new → StepsOutcome status old new given back
-  finished status is so ended = came (length lines) is.answered.events left (whole_run is.answered) (behind refl) status (so (record { whole = whole is.answered.events; out = is.answered.out; binlog = is.binlog })) ended
+      → EndsBy status (run_of (length lines) is.answered.events left) old new → (IsFavoured (Some (run_of (length lines) is.answered.events left)) old new given back → EndsWell status) → StepsOutcome status old new given back
+  finished status is so ended well = came (length lines) is.answered.events left (whole_run is.answered) (behind refl) status (so (record { whole = whole is.answered.events; out = is.answered.out; binlog = is.binlog })) ended well
+
+  fair_finished : (is : Finished lines first left old.out.told new.out.told old.binlog.told new.binlog.told) → IsFavoured (Some (run_of (length lines) is.answered.events left)) old new given back → (ending_of left.clone ≡ ending.RestartsSpent) ⊎ (ending_of left.clone ≡ ending.Garbled) ⊎ (ending_of left.clone ≡ ending.Refused) → ⊥
+  fair_finished is = fair (length lines) is.answered.events left (whole_run is.answered) (behind refl)
 
   -- or up to a stop
-  stopped : (status : Status) → Stopped lines first left old.out.told new.out.told old.binlog.told new.binlog.told → ((run : Run) → WritesSome run old new → Writes status run old new) → ((run : Run) → EndsBy status run old new) → StepsOutcome status old new given back
-  stopped status (in_lines is same) so ended =
-      came is.count is.events is.final is.run is.leaves status (so _ (headline.in_lines (leaves_plain is.count is.events is.final is.run is.leaves is.leaves) is.out same)) (ended _)
-  stopped status (in_binlog is some) so ended =
-      came (length lines) is.events left (whole_run is) (behind refl) status (so _ (headline.in_binlog (whole is.events) is.out some)) (ended _)
+  stopped : (status : Status) → Stopped lines first left old.out.told new.out.told old.binlog.told new.binlog.told → ((run : Run) → WritesSome run old new → Writes status run old new) → ((run : Run) → EndsBy status run old new) → ((run : Option Run) → IsFavoured run old new given back → EndsWell status) → StepsOutcome status old new given back
+  stopped status (in_lines is same) so ended well =
+      came is.count is.events is.final is.run is.leaves status (so _ (headline.in_lines (leaves_plain is.count is.events is.final is.run is.leaves is.leaves) is.out same)) (ended _) (well _)
+  stopped status (in_binlog is some) so ended well =
+      came (length lines) is.events left (whole_run is) (behind refl) status (so _ (headline.in_binlog (whole is.events) is.out some)) (ended _) (well _)
+
+  -- no sink failed
+  sinks : (Rose old.out.faults new.out.faults) ⊎ (Rose old.binlog.faults new.binlog.faults) → (run : Option Run) → IsFavoured run old new given back → ⊥
+  sinks (inl rose) run f = f.none.out rose
+  sinks (inr rose) run f = f.none.binlog rose
 
   pub ran : (status : Status) → EndsLines lines first left old.out new.out old.binlog new.binlog status → StepsOutcome status old new given back
-  ran Done is = finished Done is.0 (λ w. w) is.1
-  ran RecipientFault is = finished RecipientFault is.0 (λ w. w) is.1
-  ran RestartsSpent is = finished RestartsSpent is.0 (λ w. w) is.1
-  ran Garbled is = finished Garbled is.0 (λ w. w) is.1
-  ran Refused is = finished Refused is.0 (λ w. w) is.1
-  ran Memory is = stopped Memory is (λ run w. w) (λ run. tt)
-  ran SinkFault is = stopped SinkFault is.1 (λ run w. w) (λ run. is.0)
+  ran Done is = finished Done is.0 (λ w. w) is.1 (λ f. inl refl)
+  ran RecipientFault is = finished RecipientFault is.0 (λ w. w) is.1 (λ f. absurd (never_failed is.0.answered.events (whole_run is.0.answered) is.1 f))
+  ran RestartsSpent is = finished RestartsSpent is.0 (λ w. w) is.1 (λ f. absurd (fair_finished is.0 f (inl is.1)))
+  ran Garbled is = finished Garbled is.0 (λ w. w) is.1 (λ f. absurd (fair_finished is.0 f (inr (inl is.1))))
+  ran Refused is = finished Refused is.0 (λ w. w) is.1 (λ f. absurd (fair_finished is.0 f (inr (inr is.1))))
+  ran Memory is = stopped Memory is (λ run w. w) (λ run. tt) (λ run f. inr refl)
+  ran SinkFault is = stopped SinkFault is.1 (λ run w. w) (λ run. is.0) (λ run f. absurd (sinks is.0 run f))
   ran Usage is = absurd is
   ran BadLine is = absurd is
   ran SourceFault is = absurd is

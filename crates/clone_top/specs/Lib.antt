@@ -3,6 +3,7 @@ pub mod Ends
 pub mod Headline
 pub mod Saying
 pub mod Causes
+pub mod Completeness
 pub mod Recovering
 pub mod Main
 pub mod Carrying

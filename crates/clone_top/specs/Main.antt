@@ -11,6 +11,7 @@ use Rattle.clone_words.specs.declared.command.Command.TheVariants as command
 use Rattle.clone_top.specs.Ends.{Streams, Disks, Ends}
 use Rattle.clone_top.specs.Headline.{Run, Headline}
 use Rattle.clone_top.specs.Causes.{HasNotBegun, IsAlone, RunsOver}
+use Rattle.clone_top.specs.Completeness.{EndsWell, IsFavoured}
 use Rattle.clone_top.specs.Recovering.{Comes, Showing}
 use Rattle.clone_top.specs.Saying.{Says}
 use Rattle.clone_top.specs.Status.{number_of}
@@ -31,6 +32,8 @@ pub record StepsOutcome (status : Status) (old new : Streams) (given : Disks) (e
   pub run : Option Run
   pub headline : MatchOption run (Unit {0}) (λ (r : Run). Headline status r old new given ends)
   pub causes : Causes status run old new given ends
+  -- the promise that it ends well
+  pub well : IsFavoured run old new given ends → EndsWell status
 
 -- The words alone were read: neither the source nor a disk was touched.
 pub record IsUntouched (old new : Streams) (given : Disks) (ends : Ends) : Type 0 where

@@ -11,7 +11,7 @@ loop-connection-init g c =
     let bytes = c.args.bytes.now in
     subst (λ (at : Connection). ServedSo (given_up (opened bytes)) self at self)
     (sym (c.unread-connection.ensures ∙ ap (λ bytes. given_up (opened bytes)) c.in_ok-sent.ensures.items))
-    (served_begins self (given_up (opened bytes)) refl refl)
+    (served_begins self (given_up (opened bytes)) refl refl tt (λ honest going. tt))
 
 pub returns-in_err-how-clause-err : goal.returns-in_err-how-clause-err
 returns-in_err-how-clause-err g c =
@@ -24,8 +24,8 @@ returns-then-not-is_open-clause-ok g c =
 
 pub loop-connection-preserved-else-not-is_open : goal.loop-connection-preserved-else-not-is_open
 loop-connection-preserved-else-not-is_open g c =
-    served_on (given_up (opened c.args.bytes.now)) c.args.self.now c.loop-connection.connection c.loop-connection.self c.loop-connection.invariant _ _ _ c.in_ok-how.ensures.ok (sym c.is_open.ensures ∙ c.if-not-is_open.false) c.stranger.ensures.left
+    served_on (given_up (opened c.args.bytes.now)) c.args.self.now c.loop-connection.connection c.loop-connection.self c.loop-connection.invariant _ _ _ c.in_ok-how.ensures.ok (sym c.is_open.ensures ∙ c.if-not-is_open.false) c.stranger.ensures.left (c.stranger.ensures.between (sym c.is_open.ensures ∙ c.if-not-is_open.false)) c.stranger.ensures.other
 
 pub loop-connection-preserved-else-not-is_open-2 : goal.loop-connection-preserved-else-not-is_open-2
 loop-connection-preserved-else-not-is_open-2 g c =
-    served_on (given_up (opened c.args.bytes.now)) c.args.self.now c.loop-connection.connection c.loop-connection.self c.loop-connection.invariant _ _ _ c.in_ok-how.ensures.ok (sym c.is_open.ensures ∙ c.if-not-is_open.false) c.stranger.ensures.left
+    served_on (given_up (opened c.args.bytes.now)) c.args.self.now c.loop-connection.connection c.loop-connection.self c.loop-connection.invariant _ _ _ c.in_ok-how.ensures.ok (sym c.is_open.ensures ∙ c.if-not-is_open.false) c.stranger.ensures.left (c.stranger.ensures.between (sym c.is_open.ensures ∙ c.if-not-is_open.false)) c.stranger.ensures.other

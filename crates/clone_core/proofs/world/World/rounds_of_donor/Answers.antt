@@ -14,7 +14,7 @@ pub returns-in-Some-clause-made : goal.returns-in-Some-clause-made
 returns-in-Some-clause-made g c = round_then c.args.self.now c.loop-round.self c.round.new.self c.loop-round.invariant.made c.in_ok-round.ensures.made
 
 pub returns-in-Some-clause-came : goal.returns-in-Some-clause-came
-returns-in-Some-clause-came g c = comes_so c.in_ok-round.round c.args.stops_when_ready c.in-Some.came c.loop-round.self c.round.new.self c.in_ok-round.ensures.idles (of_some c.comes_to.result c.in-Some.came (λ how. ComesBy c.in_ok-round.round c.args.stops_when_ready how c.round.new.self) c.in-Some.is c.comes_to.ensures.some)
+returns-in-Some-clause-came g c = comes_so c.in_ok-round.round c.args.stops_when_ready c.in-Some.came c.loop-round.self c.round.new.self c.in_ok-round.ensures.idles (of_some c.comes_to.result c.in-Some.came (λ how. ComesBy c.in_ok-round.round c.args.stops_when_ready how c.round.new.self) c.in-Some.is c.comes_to.ensures.some) c.never_sticks.ensures
 
 pub returns-in-Tasks-clause-made : goal.returns-in-Tasks-clause-made
 returns-in-Tasks-clause-made g c = round_then c.args.self.now c.loop-round.self c.round.new.self c.loop-round.invariant.made c.in_ok-round.ensures.made

@@ -4,7 +4,7 @@ use Rattle.clone_plain.specs.Answers.{rows_answer}
 use Rattle.clone_events.specs.Events.{showed, incomplete, hidden, damaged}
 use Rattle.clone_recover.specs.declared.refusal.RecoverRefusal.{RecoverRefusal}
 use Rattle.clone_recover.specs.declared.refusal.RecoverRefusal.TheVariants.{Incomplete, Damaged, DiskFault, NoMemory}
-use Rattle.clone_core.specs.System.{why_text}
+use Rattle.clone_dump.specs.Shown.{why_text}
 use Rattle.clone_core.proofs.LineLemmas.{event_answers, event_breaks, quiet_untold, said_is, untold_breaks}
 use Rattle.clone_core.proofs.RowsLemmas.{read_as}
 use Rattle.clone_core.proofs.world.World.show_rows.Goals as goal
