@@ -1,3 +1,4 @@
 pub mod Records
 pub mod Desks
 pub mod Steps
+pub mod Settling

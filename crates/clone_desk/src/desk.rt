@@ -4,7 +4,7 @@
 ghost use Rattle.std.specs.Prelude.{◌≡◌, [], IfOk, OnErr, position};
 ghost use Rattle.clone_outside.specs.Causes.{HasCause};
 ghost use Rattle.clone_desk.specs.Records.{does_wait_for};
-ghost use Rattle.clone_desk.specs.Desks.{Fits, HandsOut, Keeps, Makes, MakesNone, StayMade, StayNamed};
+ghost use Rattle.clone_desk.specs.Desks.{Fits, HandsOut, IsDesk, Keeps, Makes, MakesNone, StayMade, StayNamed};
 
 use crate::record::{DonorEnd, Record};
 use clone_outside::{Link, Net, Refusal, Side};
@@ -90,6 +90,16 @@ where
         ensures named { StayNamed N.End.Link self.old self.new }
     {
         self.records[place as usize].keep(side, end);
+    }
+
+    /// The net, and the records, each of a connection that the net made.
+    pub(crate) fn into_parts(self) -> (N, Vec<Record<N::End>>)
+        ensures net { result.0 ≡ self.net }
+        ensures records { result.1.items ≡ self.records }
+        ensures desk { IsDesk N.Net N.End.Link self.net self.records }
+    {
+        let Desk { net, records } = self;
+        (net, records)
     }
 
     // The least place at which a donor's end waits for the task.
