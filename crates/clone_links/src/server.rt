@@ -160,7 +160,7 @@ impl<D: PageDisk + Send + Drop, G: Gate, H: Wait> Server<D, G, H> {
     }
 
     /// Whether the run is to end.
-    pub(crate) fn is_halted(&mut self) -> bool
+    pub fn is_halted(&mut self) -> bool
         ensures { Works (IsOneCall job.Halted (job_answer.Halted result)) self.old self.new }
     {
         let halted = self.ask_halted();
@@ -168,8 +168,26 @@ impl<D: PageDisk + Send + Drop, G: Gate, H: Wait> Server<D, G, H> {
         halted
     }
 
+    // Asks that the run ends.
+    fn ask_halt(&mut self)
+        ensures { Works (IsOneCall job.Halt job_answer.Halt) self.old self.new }
+    {
+        match self.call(JobCall::Halt) {
+            JobAnswer::Halt => {}
+            _ => unreachable!(),
+        }
+    }
+
+    /// Lets the run end.
+    pub fn halt(&mut self)
+        ensures { Works (IsOneCall job.Halt job_answer.Halt) self.old self.new }
+    {
+        self.ask_halt();
+        self.gate.pass(Point::Serve(self.task));
+    }
+
     /// Sleeps a short time, since there is nothing to do.
-    pub(crate) fn rest(&self) {
+    pub fn rest(&self) {
         let never_changed = AtomicU64::new(0);
         never_changed.park_timeout(&self.rt, 0, Duration::from_micros(PAUSE_MICROS));
     }

@@ -1,6 +1,7 @@
 use crate::{JobAnswer, JobCall, SharedDonor};
 use clone_outside::PageDisk;
 use clone_turn::Machine;
+use clone_watch::Watched;
 use std::marker::PhantomData;
 
 /// The machine of a donor that jobs share. All calls may be made at all times.
@@ -33,4 +34,38 @@ impl<D: PageDisk + Send + Drop> Machine for DonorMachine<D> {
     ghost keeps_key = { λ s c a t follows. refl };
 
     ghost still_fits = { λ d s c a t fits follows. tt };
+}
+
+impl<D: PageDisk + Send + Drop> Watched for DonorMachine<D> {
+    ghost use Rattle.clone_machine.specs.Watching.{is_halted, position_of, tells};
+    ghost use Rattle.clone_machine.specs.declared.calls.JobCall.TheVariants as call;
+
+    ghost asks_halted = { call.Halted };
+
+    ghost is_halted = { is_halted };
+
+    ghost asks_position = { call.Look };
+
+    ghost position_of = { position_of };
+
+    fn halted_call() -> JobCall {
+        JobCall::Halted
+    }
+
+    fn halted(answer: JobAnswer) -> bool {
+        matches!(answer, JobAnswer::Halted(true))
+    }
+
+    fn position_call() -> JobCall {
+        JobCall::Look
+    }
+
+    fn position(answer: JobAnswer) -> Option<u64> {
+        match answer {
+            JobAnswer::Look(position) => Some(position),
+            _ => None,
+        }
+    }
+
+    ghost tells = { tells };
 }
