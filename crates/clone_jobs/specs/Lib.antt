@@ -1,0 +1,5 @@
+pub mod Said
+pub mod Turns
+pub mod Upkeep
+pub mod Writing
+pub mod Written
