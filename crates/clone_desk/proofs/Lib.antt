@@ -2,3 +2,4 @@ mod RecordLemmas
 mod RunLemmas
 mod CallLemmas
 pub mod SettleLemmas
+pub mod DeskThreadLemmas

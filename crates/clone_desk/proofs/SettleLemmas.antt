@@ -1,5 +1,5 @@
 -- A desk whose connections are settled, the last first.
-use Rattle.std.proofs.Common.{ℕ, ◌≡◌, ◌+◌, ◌-◌, ◌≤◌, ◌^◌, List, [], ◌∷◌, ◌++◌, length, refl, sym, ap, ◌∙◌, subst, arith}
+use Rattle.std.proofs.Common.{◌≡◌, ◌+◌, ◌-◌, ◌≤◌, List, [], ◌∷◌, ◌++◌, length, refl, ◌∙◌, arith}
 use Rattle.std.specs.List.{AllByRecursion}
 use Rattle.clone_outside.specs.declared.link.Link.{Ghosts as Link}
 use Rattle.clone_outside.specs.declared.link.Net.{Ghosts as Net}

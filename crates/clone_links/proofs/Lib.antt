@@ -3,3 +3,4 @@ pub mod CauseLemmas
 pub mod CarryLemmas
 pub mod TurnLemmas
 pub mod LoopLemmas
+pub mod ServerThreadLemmas

@@ -4,3 +4,4 @@ pub mod SendLemmas
 pub mod JoinedEndLemmas
 pub mod ConnectionLemmas
 pub mod EndThreadLemmas
+pub mod NetThreadLemmas

@@ -1,3 +1,4 @@
 pub mod DeskLemmas
 pub mod ServeLemmas
 pub mod FetchLemmas
+pub mod TaskThreadLemmas

@@ -1,4 +1,4 @@
-use Rattle.std.proofs.Common.{rules, ◌≡◌, List, [], ◌∷◌, ◌++◌, subst}
+use Rattle.std.proofs.Common.{rules, ◌≡◌, [], ◌∷◌, ◌++◌, subst}
 use Rattle.clone_desk.proofs.SettleLemmas.{Settles, settles_one}
 use Rattle.clone_desk.proofs.desk.Desk.settle.Goals as goal
 
