@@ -14,7 +14,7 @@ use Rattle.clone_network.specs.declared.donor_step.DonorStep.TheVariants as step
 use Rattle.clone_engine.specs.Donor as staged
 use Rattle.clone_told.specs.Told.{gives}
 use Rattle.clone_joined.proofs.LendingLemmas.{act_lends, end_lends}
-use Rattle.clone_events.specs.Events.{Change, Event, acts, started, unbegun, occupied, again}
+use Rattle.clone_events.specs.Events.{Change, Event, acts, started, unbegun, occupied, again, showed, opened_follower, sent, taken, lost, set_to_lose, repeated}
 use Rattle.clone_core.specs.declared.world.Course.{Course}
 use Rattle.clone_core.specs.declared.world.Course.TheVariants as course
 use Rattle.clone_core.specs.declared.world.Copying.{Copying}
@@ -29,6 +29,13 @@ IsOfClone (started alone) = Unit {0}
 IsOfClone unbegun = Unit {0}
 IsOfClone occupied = Unit {0}
 IsOfClone (again wish answer) = Unit {0}
+IsOfClone (showed rows) = Unit {0}
+IsOfClone (opened_follower rows position) = Unit {0}
+IsOfClone (sent want frame) = Unit {0}
+IsOfClone (taken frame result) = Unit {0}
+IsOfClone (lost position) = Unit {0}
+IsOfClone set_to_lose = Unit {0}
+IsOfClone (repeated number frame result) = Unit {0}
 IsOfClone event = ⊥
 
 -- ---- a step of the donor, over a connection that is there or isn't, and is open or isn't
@@ -80,4 +87,11 @@ clone_keeps (started alone) s t of is = ap donor_of is.is
 clone_keeps unbegun s t of is = ap donor_of is.is
 clone_keeps occupied s t of is = ap donor_of is.others
 clone_keeps (again wish answer) s t of is = ap donor_of is
+clone_keeps (showed rows) s t of is = ap donor_of is.is
+clone_keeps (opened_follower rows position) s t of is = ap donor_of is
+clone_keeps (sent want frame) s t of is = ap donor_of is
+clone_keeps (taken frame result) s t of is = ap donor_of is
+clone_keeps (lost position) s t of is = ap donor_of is
+clone_keeps set_to_lose s t of is = ap donor_of is
+clone_keeps (repeated number frame result) s t of is = ap donor_of is
 clone_keeps e s t of is = absurd of

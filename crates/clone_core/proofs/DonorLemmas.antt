@@ -6,6 +6,8 @@ use Rattle.std.specs.Option.{ForSome, IfSome, option_map, option_or}
 use Rattle.std.specs.FinMap as finite
 use Rattle.std.specs.Ordering.{nat_cmp}
 use Rattle.std.proofs.lemmas.Bool.{true≢false}
+use Rattle.std.specs.List.{AllByRecursion}
+use Rattle.clone_follow.specs.Binlog.{IsShort}
 use Rattle.clone_plain.specs.Donor as plain
 use Rattle.clone_session.specs.declared.info.Stop as session
 use Rattle.clone_tasks.specs.declared.end.CloneEnd as tasks
@@ -261,6 +263,7 @@ module _ (s : System) (begun : finite.FinMap nat_cmp ℕ) (disturbed doubted sho
       terms = holds.terms;
       parts = parts;
       looked = subst (λ (d : plain.Donor). s.looked ≤ length d.binlog) (sym plain_same) holds.looked;
+      short = subst (λ (d : plain.Donor). AllByRecursion IsShort d.binlog) (sym plain_same) holds.short;
       unstopped = unstopped_next;
       sizes = sizes;
       marked = marked;

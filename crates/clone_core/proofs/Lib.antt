@@ -10,6 +10,7 @@ pub mod CutLemmas
 pub mod DonorLemmas
 pub mod EndLemmas
 pub mod FaultLemmas
+pub mod FollowLemmas
 pub mod HoldsLemmas
 pub mod IdleLemmas
 pub mod KeepLemmas
@@ -22,6 +23,7 @@ pub mod OrderLemmas
 pub mod OrderedLemmas
 pub mod TalkLemmas
 pub mod PartLemmas
+pub mod ReplicaLemmas
 pub mod RestLemmas
 pub mod RestingLemmas
 pub mod RoundLemmas

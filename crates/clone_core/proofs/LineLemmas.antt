@@ -19,10 +19,10 @@ use Rattle.clone_plain.specs.Donor.{Donor}
 use Rattle.clone_plain.specs.Effects.{Undoes}
 use Rattle.clone_events.specs.World.{Clone, index_in}
 use Rattle.clone_events.specs.BreaksOff.{Becomes}
-use Rattle.clone_events.specs.Events.{to_donor, to_recipient, Event, made, looked, archived, started, acts, sticks, incomplete, ordered, event_text, counted, Clones, Happens, PlainEvent}
+use Rattle.clone_events.specs.Events.{to_donor, to_recipient, Event, made, looked, archived, started, acts, sticks, incomplete, ordered, set_to_lose, unasked, event_text, counted, Clones, Happens, PlainEvent}
 use Rattle.clone_outside.specs.declared.disk.DiskOrder.{DiskOrder}
 use Rattle.clone_outside.specs.declared.disk.DiskOrder.TheVariants as orders
-use Rattle.clone_events.specs.Runs.{Makes, MakesOne, MakesEvent, IsBy, GoesOn, Advances, Finishes, not_begun, all_clean, no_round}
+use Rattle.clone_events.specs.Runs.{Makes, MakesOne, MakesEvent, IsBy, GoesOn, Advances, Finishes, not_begun, all_clean, no_round, asks_nothing}
 use Rattle.clone_core.specs.Steps.{SystemStep}
 use Rattle.clone_core.specs.System.{donor_of}
 use Rattle.clone_core.specs.Lines.{State, Answers, BreaksOff}
@@ -111,6 +111,10 @@ breaks_at_once s t lines.Advance stays = at_once s t lines.Advance sticks [] (no
 breaks_at_once s t lines.Finish stays = at_once s t lines.Finish sticks [] (no_rounds s.tasks Finishes tt) stays
 breaks_at_once s t lines.Look stays = at_once s t lines.Look (looked 0) [] (looked 0, tt, refl) stays
 breaks_at_once s t (lines.Archive bytes) stays = at_once s t (lines.Archive bytes) (archived bytes None) [] (archived bytes None, refl, refl) stays
+breaks_at_once s t lines.Follow stays = at_once s t lines.Follow (unasked lines.Follow) [] (asks_nothing refl) stays
+breaks_at_once s t lines.Lose stays = at_once s t lines.Lose set_to_lose [] refl stays
+breaks_at_once s t (lines.Repeat number) stays = at_once s t (lines.Repeat number) (unasked (lines.Repeat number)) [] (unasked (lines.Repeat number), refl, refl) stays
+breaks_at_once s t lines.Replica stays = at_once s t lines.Replica (unasked lines.Replica) [] (unasked lines.Replica, refl, refl) stays
 breaks_at_once s t lines.Clone stays = at_once s t lines.Clone (started true) (sticks ∷ []) (started true, sticks ∷ [], tt, no_rounds s.tasks Finishes tt, refl) stays
 breaks_at_once s t lines.Rows stays = at_once s t lines.Rows incomplete [] (incomplete, tt, refl) stays
 

@@ -5,14 +5,14 @@ use Rattle.clone_outside.specs.declared.disk.DiskOrder.{DiskOrder}
 use Rattle.clone_script.specs.declared.lines.Line.{Line}
 use Rattle.clone_script.specs.declared.lines.Line.TheVariants as lines
 use Rattle.clone_plain.specs.declared.call.EngineCall.{EngineCall}
-use Rattle.clone_events.specs.Events.{Side, to_donor, to_recipient, Event, made, cleaned, looked, archived, started, unbegun, occupied, acts, readied, sticks, again, showed, incomplete, hidden, damaged, ordered, Events}
+use Rattle.clone_events.specs.Events.{Side, to_donor, to_recipient, Event, made, cleaned, looked, archived, started, unbegun, occupied, acts, readied, sticks, again, showed, incomplete, hidden, damaged, ordered, opened_follower, sent, taken, lost, set_to_lose, repeated, replicated, unasked, replica_after, Events}
 use Rattle.clone_events.specs.Headline.{donor_order, recipient_order}
-use Rattle.clone_events.specs.Runs.{Makes, MakesOne, MakesSet, not_begun, not_changed, set, MakesClean, all_clean, not_flushed, flushed, MakesEvent, IsBy, AreOfTasks, AreOfDonor, IsRound, AreRounds, no_round, next_round, GoesOn, MakesClone, Starts, Advances, Finishes, Archives, Looks, ShowsOrNot}
+use Rattle.clone_events.specs.Runs.{Makes, MakesOne, MakesSet, not_begun, not_changed, set, MakesClean, all_clean, not_flushed, flushed, MakesEvent, IsBy, AreOfTasks, AreOfDonor, IsRound, AreRounds, no_round, next_round, GoesOn, MakesClone, Starts, Advances, Finishes, Archives, Looks, ShowsOrNot, HidesRows, IsExchange, loses, comes, MakesFollow, asks_nothing, hides, again as again_exchanged, begins, Repeats, ShowsReplica}
 use Rattle.clone_engine.specs.Disks.{Visits}
 use Rattle.clone_outside.specs.DiskCalls.{DiskState}
 use Rattle.clone_engine.specs.Engine.{Engine}
 use Rattle.clone_engine.specs.Donor as staged
-use Rattle.clone_core.specs.Steps.{SystemStep}
+use Rattle.clone_core.specs.Steps.{StepsReplica, SystemStep}
 use Rattle.clone_core.specs.System.{System, VisitsRecipient, donor_of}
 use Rattle.clone_core.specs.Lines.{State, Runs}
 use Rattle.clone_core.proofs.ActingLemmas.{acts_leave, same_visits}
@@ -75,6 +75,10 @@ for_recipient_gets : (side : Side) (s t : System) (order : DiskOrder) → System
 for_recipient_gets to_donor s t order is = visits_get to_donor s t (same_visits _ _ (ap (λ (w : System). w.donor.engine.disk) is))
 for_recipient_gets to_recipient s t order is = record { later = omega (arith, ap (λ (w : System). w.recipient.failures) is); orders = ap (λ (w : System). w.recipient.orders) is }
 
+-- what follows the clone is no disk
+replica_gets : (side : Side) (s : System) (e : Event) (t : System) → StepsReplica s e t → Gets side s t None
+replica_gets side s e t is = beside_gets side s t (ap (λ (w : System). w.donor) is) (same_visits _ _ (ap (λ (w : System). w.recipient) is))
+
 pub event_gets : (side : Side) (s : System) (e : Event) (t : System) → SystemStep s e t → Gets side s t (order_in side e)
 event_gets side s (made asked answer) t is = lent_gets side s t (made_visits s.donor t.donor asked answer is.0) is.1
 event_gets side s (cleaned landed) t is = same_gets side s t is
@@ -93,6 +97,14 @@ event_gets side s hidden t is = recipient_gets side s t is.visits
 event_gets side s (damaged space page why) t is = recipient_gets side s t is.0
 event_gets side s (ordered to_donor order) t is = donor_gets side s t order is
 event_gets side s (ordered to_recipient order) t is = for_recipient_gets side s t order is
+event_gets side s (opened_follower rows position) t is = replica_gets side s (opened_follower rows position) t is
+event_gets side s (sent want frame) t is = replica_gets side s (sent want frame) t is
+event_gets side s (taken frame result) t is = replica_gets side s (taken frame result) t is
+event_gets side s (lost position) t is = replica_gets side s (lost position) t is
+event_gets side s set_to_lose t is = replica_gets side s set_to_lose t is
+event_gets side s (repeated number frame result) t is = replica_gets side s (repeated number frame result) t is
+event_gets side s (replicated rows) t is = same_gets side s t is
+event_gets side s (unasked by) t is = same_gets side s t is
 
 cons-append : {X : Type 0} (o : Option X) (xs : List X) → cons_option o xs ≡ cons_option o [] ++ xs
 cons-append None xs = refl
@@ -205,6 +217,28 @@ rows_none : (side : Side) (e : Event) → ShowsOrNot e → order_in side e ≡ N
 rows_none side (ordered to order) is = absurd is
 rows_none side e is = refl
 
+hides_none : (side : Side) (e : Event) → HidesRows e → order_in side e ≡ None
+hides_none side (ordered to order) is = absurd is
+hides_none side e is = refl
+
+exchange_none : (side : Side) (es : List Event) → IsExchange es → filter_map (order_in side) es ≡ []
+exchange_none side es (loses want frame is) = ap (filter_map (order_in side)) is
+exchange_none side es (comes want frame result is) = ap (filter_map (order_in side)) is
+
+follow_none : (side : Side) (es : List Event) → MakesFollow es → filter_map (order_in side) es ≡ []
+follow_none side es (asks_nothing is) = ap (filter_map (order_in side)) is
+follow_none side es (hides e kind is) = one_none side HidesRows es (hides_none side) (e, kind, is)
+follow_none side es (again_exchanged is) = exchange_none side es is
+follow_none side es (begins rows position rest exchange is) = ap (filter_map (order_in side)) is ∙ exchange_none side rest exchange
+
+repeats_none : (side : Side) (number : ℕ) (e : Event) → Repeats number e → order_in side e ≡ None
+repeats_none side number (ordered to order) is = absurd is
+repeats_none side number e is = refl
+
+replica_none : (side : Side) (e : Event) → ShowsReplica e → order_in side e ≡ None
+replica_none side (ordered to order) is = absurd is
+replica_none side e is = refl
+
 -- the orders of a line's events are the line's
 abbrev OfLine : Side → Line → List Event → Type 0
 OfLine side line es = filter_map (order_in side) es ≡ cons_option (order_of side line) []
@@ -252,6 +286,10 @@ line_orders side tasks next lines.Advance es is = no_order side _ es refl refl (
 line_orders side tasks next lines.Finish es is = no_order side _ es refl refl (none_in side es (goes_none side tasks Finishes es (finishes_none side) is))
 line_orders side tasks next lines.Look es is = no_order side _ es refl refl (one_none side Looks es (looks_none side) is)
 line_orders side tasks next (lines.Archive bytes) es is = no_order side _ es refl refl (one_none side (Archives bytes) es (archives_none side bytes) is)
+line_orders side tasks next lines.Follow es is = no_order side _ es refl refl (follow_none side es is)
+line_orders side tasks next lines.Lose es is = no_order side _ es refl refl (ap (filter_map (order_in side)) is)
+line_orders side tasks next (lines.Repeat number) es is = no_order side _ es refl refl (one_none side (Repeats number) es (repeats_none side number) is)
+line_orders side tasks next lines.Replica es is = no_order side _ es refl refl (one_none side ShowsReplica es (replica_none side) is)
 line_orders side tasks next lines.Clone es is = no_order side _ es refl refl (none_in side es (clone_none side tasks es is))
 line_orders side tasks next lines.Rows es is = no_order side _ es refl refl (one_none side ShowsOrNot es (rows_none side) is)
 

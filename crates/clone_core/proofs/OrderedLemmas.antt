@@ -97,6 +97,7 @@ module _ (s : System) (new : DiskState) (same : new.told ≡ s.recipient.told) w
         terms = holds.terms;
         parts = holds.parts;
         looked = holds.looked;
+        short = holds.short;
         unstopped = holds.unstopped;
         sizes = told_sizes s.course holds.sizes;
         marked = subst (SaysInProgress s.course) (sym same) holds.marked;

@@ -206,6 +206,7 @@ module _ (s : System) (begun : finite.FinMap nat_cmp ℕ) (disturbed doubted sho
     alone = s.alone;
     doubted = doubted_by came doubted;
     shown = shown_by came shown;
+    replica = s.replica;
   }
 
   abbrev KnownNow : Type 0
@@ -362,6 +363,7 @@ read_holds again_holds s begun disturbed doubted shown new w way result came is 
       terms = holds.terms;
       parts = course_on s.terms came s.course holds.parts;
       looked = holds.looked;
+      short = holds.short;
       unstopped = holds.unstopped;
       sizes = ended_sizes (record s { recipient = new; course = course_by came s.course }) (course_by came s.course) behind;
       marked = ended_marked new.told (course_by came s.course) behind;

@@ -3,6 +3,8 @@ use Rattle.std.proofs.Common.{◌≡◌, ◌∙◌, ◌≤◌, ◌<◌, ◌∷�
 use Rattle.std.specs.Prelude.{is_none, slice_get, unwrap_or}
 use Rattle.std.proofs.lemmas.Bool.{true≢false}
 use Rattle.clone_outside.specs.Disk.{ForTold}
+use Rattle.std.specs.List.{AllByRecursion}
+use Rattle.clone_follow.specs.Binlog.{IsShort}
 use Rattle.clone_plain.specs.Donor as plain
 use Rattle.clone_tasks.specs.declared.end.CloneEnd as tasks
 use Rattle.clone_tasks.specs.declared.end.CloneEnd.TheVariants as ends_as
@@ -232,6 +234,7 @@ module _ (s : System) (begun : finite.FinMap nat_cmp ℕ) (disturbed doubted sho
     terms = holds.terms;
     parts = record { count = on_next.count; limit = on_next.limit; seats = on_next.seats; ends = on_next.ends; few = on_next.few };
     looked = subst (λ (d : plain.Donor). s.looked ≤ length d.binlog) (sym lends.0.donor) holds.looked;
+    short = subst (λ (d : plain.Donor). AllByRecursion IsShort d.binlog) (sym lends.0.donor) holds.short;
     unstopped = donors.unstopped_next s begun disturbed doubted shown t w false false s.alone refl same floor lends.0 lends.1 holds goes;
     sizes = λ runs. absurd (true≢false (sym runs));
     marked = λ runs. absurd (true≢false (sym runs));

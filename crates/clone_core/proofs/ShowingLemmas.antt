@@ -106,6 +106,7 @@ module _ (s : System) (position : ℕ) where
     terms = holds.terms;
     parts = holds.parts;
     looked = omega (arith, at);
+    short = holds.short;
     unstopped = holds.unstopped;
     sizes = looked_sizes s.course holds.sizes;
     marked = holds.marked;

@@ -135,6 +135,7 @@ module _ (s : System) (counts : finite.FinMap nat_cmp ℕ) (disturbed doubted sh
       terms = held.terms;
       parts = begins_on SESSION s.terms held.terms.tasks.1;
       looked = held.looked;
+      short = held.short;
       unstopped = held.unstopped;
       sizes = λ running. sizes;
       marked = λ running. has_mark s.recipient.told new.told marks;
@@ -178,6 +179,7 @@ module _ (s : System) (counts : finite.FinMap nat_cmp ℕ) (disturbed doubted sh
       terms = held.terms;
       parts = tt;
       looked = held.looked;
+      short = held.short;
       unstopped = held.unstopped;
       sizes = tt;
       marked = tt;
@@ -222,6 +224,7 @@ module _ (s : System) (counts : finite.FinMap nat_cmp ℕ) (disturbed doubted sh
       terms = held.terms;
       parts = held.parts;
       looked = held.looked;
+      short = held.short;
       unstopped = held.unstopped;
       sizes = subst (λ (c : Course). KnowsItsSizes (record s { recipient = new; course = s.course }) c) (sym none) tt;
       marked = subst (λ (c : Course). SaysInProgress c new.told) (sym none) tt;

@@ -21,7 +21,7 @@ use Rattle.clone_plain.specs.declared.call.EngineAnswer.{EngineAnswer}
 use Rattle.clone_plain.specs.declared.call.EngineAnswer.TheVariants as answers
 use Rattle.clone_plain.specs.declared.call.EngineCall.{EngineCall}
 use Rattle.clone_plain.specs.declared.call.EngineCall.TheVariants as call
-use Rattle.clone_events.specs.Events.{to_donor, to_recipient, Event, made, cleaned, looked, archived, started, unbegun, occupied, acts, readied, sticks, again, showed, incomplete, hidden, damaged, ordered, counted, PlainEvent, Sees}
+use Rattle.clone_events.specs.Events.{to_donor, to_recipient, Event, made, cleaned, looked, archived, started, unbegun, occupied, acts, readied, sticks, again, showed, incomplete, hidden, damaged, ordered, opened_follower, sent, taken, lost, set_to_lose, repeated, replicated, unasked, counted, PlainEvent, Sees}
 use Rattle.clone_trx.proofs.WalkLemmas.{walk_missed}
 use Rattle.clone_trx.specs.Ways.{Way, reads, walks, stops, writes, freshens, lengthens, makes, drops, ends, CarriesDrop, Goes, Writes, Misses, Answers, held, page_in}
 use Rattle.clone_trx.specs.Ways as ways
@@ -338,6 +338,14 @@ refines s t hidden is = ap donor_of is.visits.others
 refines s t (damaged space page why) is = ap donor_of is.0.others
 refines s t (ordered to_donor order) is = ap donor_of is
 refines s t (ordered to_recipient order) is = ap donor_of is
+refines s t (opened_follower rows position) is = ap donor_of is
+refines s t (sent want frame) is = ap donor_of is
+refines s t (taken frame result) is = ap donor_of is
+refines s t (lost position) is = ap donor_of is
+refines s t set_to_lose is = ap donor_of is
+refines s t (repeated number frame result) is = ap donor_of is
+refines s t (replicated rows) is = same_donor s t is
+refines s t (unasked by) is = same_donor s t is
 
 -- WHAT A CALL DOES TO THE DONOR'S DISK
 

@@ -310,6 +310,7 @@ module _ (s : System) (begun : finite.FinMap nat_cmp ℕ) (disturbed doubted sho
     terms = holds.terms;
     parts = on_next;
     looked = holds.looked;
+    short = holds.short;
     unstopped = holds.unstopped;
     sizes = sizes;
     marked = marked_next memory;
@@ -417,6 +418,7 @@ module _ (s : System) (begun : finite.FinMap nat_cmp ℕ) (disturbed doubted sho
       terms = holds.terms;
       parts = record { count = on_next.count; limit = on_next.limit; seats = on_next.seats; ends = on_next.ends; few = on_next.few };
       looked = holds.looked;
+      short = holds.short;
       unstopped = holds.unstopped;
       sizes = λ runs. absurd (true≢false (sym runs));
       marked = λ runs. absurd (true≢false (sym runs));

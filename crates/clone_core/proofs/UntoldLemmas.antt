@@ -9,7 +9,7 @@ use Rattle.clone_plain.specs.Answers.{Text}
 use Rattle.clone_plain.specs.Donor.{Donor}
 use Rattle.clone_events.specs.World.{Clone, index_in}
 use Rattle.clone_events.specs.BreaksOff.{Becomes}
-use Rattle.clone_events.specs.Events.{Event, Clones, acts, started, unbegun, occupied, again, clone_after, counted, event_text}
+use Rattle.clone_events.specs.Events.{Event, Clones, acts, started, unbegun, occupied, again, showed, opened_follower, sent, taken, lost, set_to_lose, repeated, clone_after, counted, event_text}
 use Rattle.clone_events.specs.Runs as plain
 use Rattle.clone_events.proofs.RunLemmas.{Events-append}
 use Rattle.clone_core.specs.Called.{StaysUntold}
@@ -31,6 +31,13 @@ counted_kept (started alone) begun of = refl
 counted_kept unbegun begun of = refl
 counted_kept occupied begun of = refl
 counted_kept (again wish answer) begun of = refl
+counted_kept (showed rows) begun of = refl
+counted_kept (opened_follower rows position) begun of = refl
+counted_kept (sent want frame) begun of = refl
+counted_kept (taken frame result) begun of = refl
+counted_kept (lost position) begun of = refl
+counted_kept set_to_lose begun of = refl
+counted_kept (repeated number frame result) begun of = refl
 counted_kept e begun of = absurd of
 
 pub same_untold : (s : State) → StaysUntold s [] s

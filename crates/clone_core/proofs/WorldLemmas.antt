@@ -1,11 +1,14 @@
 -- A world in which nothing has happened, how far its clone has come, and the stop that is kept.
-use Rattle.std.proofs.Common.{◌≡◌, ◌∙◌, ℕ, Bool, true, false, not, refl, sym, ap, arith, Option, None, Some, is_none, nat_cmp}
+use Rattle.std.proofs.Common.{◌≡◌, ◌∙◌, ℕ, Bool, true, false, not, refl, sym, ap, subst, arith, Option, None, Some, is_none, nat_cmp}
 use Rattle.std.specs.FinMap as finite
 use Rattle.std.specs.Option.{option_or}
 use Rattle.clone_outside.specs.Disk.{ForTold, blank}
 use Rattle.clone_outside.specs.DiskCalls.{DiskState}
 use Rattle.clone_script.specs.Given.{IsTerms}
 use Rattle.clone_script.specs.declared.terms.Terms.{Terms}
+use Rattle.std.specs.List.{AllByRecursion}
+use Rattle.clone_follow.specs.Binlog.{IsShort}
+use Rattle.clone_plain.specs.Donor.{Donor, no_donor}
 use Rattle.clone_session.specs.declared.info.Stop as session
 use Rattle.clone_tasks.specs.declared.end.CloneEnd as tasks
 use Rattle.clone_engine.specs.Donor as staged
@@ -13,7 +16,7 @@ use Rattle.clone_engine.specs.Donor.{IsDonor}
 use Rattle.clone_engine.specs.Taken.{IsTaken, nothing}
 use Rattle.clone_sides.specs.Moment.{own_stop}
 use Rattle.clone_joined.proofs.RunLemmas.{run_begins}
-use Rattle.clone_events.specs.World.{HasEnded, Progress, absent, copying, over}
+use Rattle.clone_events.specs.World.{HasEnded, Progress, absent, copying, over, no_replica}
 use Rattle.clone_core.specs.declared.world.Course.TheVariants as course
 use Rattle.clone_core.specs.declared.world.Ending.{Ending}
 use Rattle.clone_core.specs.declared.world.TheConstants.{SESSION}
@@ -32,16 +35,18 @@ untouched donor recipient terms = record {
   stop = None;
   looked = 0;
   alone = true;
+  replica = no_replica;
 }
 
-pub new_holds : (donor : staged.Donor) (recipient : DiskState) (terms : Terms) (begun : finite.FinMap nat_cmp ℕ) → IsDonor donor → IsTaken donor nothing → donor.cloning.session ≡ None → donor.cloning.stop ≡ None → ForTold recipient.told (λ m. m ≡ blank) → IsTerms terms
+pub new_holds : (donor : staged.Donor) (recipient : DiskState) (terms : Terms) (begun : finite.FinMap nat_cmp ℕ) → IsDonor donor → donor.engine.donor ≡ no_donor → IsTaken donor nothing → donor.cloning.session ≡ None → donor.cloning.stop ≡ None → ForTold recipient.told (λ m. m ≡ blank) → IsTerms terms
     → Holds (world_of (untouched donor recipient terms) begun false false false)
-new_holds donor recipient terms begun is taken session stop clear ranges =
+new_holds donor recipient terms begun is fresh taken session stop clear ranges =
     let unstopped = ap (own_stop SESSION) stop in
     record {
       terms = ranges;
       parts = tt;
       looked = omega arith;
+      short = subst (λ (d : Donor). AllByRecursion IsShort d.binlog) (sym fresh) tt;
       unstopped = λ _. unstopped;
       sizes = tt;
       marked = tt;

@@ -1,10 +1,12 @@
 -- What holds of a clone while the history grows, and what its disk holds once it has ended.
 use Rattle.std.specs.Prelude.{ℕ, ◌≡◌, ◌≤◌, ◌⊎◌, Bool, true, false, length, None, Some, MatchOption}
+use Rattle.std.specs.List.{AllByRecursion}
 use Rattle.std.specs.Option.{ForSome, option_map}
 use Rattle.std.specs.declared.option.Option.{Option}
 use Rattle.std.specs.FinMap as finite
 use Rattle.std.specs.Ordering.{nat_cmp}
 use Rattle.clone_outside.specs.Disk.{DiskImage, ForTold, blank}
+use Rattle.clone_follow.specs.Binlog.{IsShort}
 use Rattle.clone_model.specs.History.{fold}
 use Rattle.clone_recover.specs.Restores.{IsRecoveredDisk}
 use Rattle.clone_script.specs.Given.{IsTerms}
@@ -58,6 +60,7 @@ world_of s begun disturbed doubted shown = record {
     alone = s.alone;
     doubted = doubted;
     shown = shown;
+    replica = s.replica;
   };
   tells = tell s;
   tasks = s.terms.tasks;
@@ -125,6 +128,7 @@ pub record Holds (s : State) : Type 0 where
   pub terms : IsTerms s.donor.terms
   pub parts : OnTerms s.donor.terms s.donor.course
   pub looked : s.donor.looked ≤ length (donor_of s.donor).binlog
+  pub short : AllByRecursion IsShort (donor_of s.donor).binlog
   pub unstopped : s.donor.stop ≡ None → own_stop SESSION s.donor.donor.cloning.stop ≡ None
   pub sizes : KnowsItsSizes s.donor s.donor.course
   pub marked : SaysInProgress s.donor.course s.donor.recipient.told

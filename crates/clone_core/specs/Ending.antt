@@ -1,5 +1,6 @@
 -- How a clone ended, as far as a run tells by its status.
-use Rattle.std.specs.Prelude.{Bool, true, false}
+use Rattle.std.specs.Prelude.{ℕ, Bool, true, false, None, Some}
+use Rattle.std.specs.declared.option.Option.{Option}
 use Rattle.clone_events.specs.World.{Clone, Progress, absent, copying, over, complete, broken, spent, garbled, refused}
 use Rattle.clone_core.specs.declared.world.Ending.{Ending}
 use Rattle.clone_core.specs.declared.world.Ending.TheVariants as ending
@@ -20,6 +21,11 @@ ending_by (over (refused words)) doubted = ending.Refused
 
 abbrev pub ending_of : Clone → Ending
 ending_of clone = ending_by clone.progress clone.doubted
+
+-- the position at which it is complete, if it is
+abbrev pub complete_in : Progress → Option ℕ
+complete_in (over (complete position)) = Some position
+complete_in other = None
 
 -- it goes on
 abbrev pub is_copying : Progress → Bool

@@ -9,6 +9,7 @@ pub mod Quiet
 pub mod Idling
 pub mod Copied
 pub mod Showing
+pub mod Following
 pub mod CloneEvents
 pub mod Left
 pub mod Ending

@@ -3,10 +3,14 @@ use Rattle.std.specs.Prelude.{◌≡◌}
 use Rattle.clone_outside.specs.Disk.{ForTold}
 use Rattle.clone_recover.specs.Restores.{IsIncomplete}
 use Rattle.clone_engine.specs.Disks.{with_order}
-use Rattle.clone_events.specs.Events.{to_donor, to_recipient, Event, made, cleaned, looked, archived, started, unbegun, occupied, acts, readied, sticks, again, showed, incomplete, hidden, damaged, ordered}
+use Rattle.clone_events.specs.Events.{to_donor, to_recipient, Event, made, cleaned, looked, archived, started, unbegun, occupied, acts, readied, sticks, again, showed, incomplete, hidden, damaged, ordered, opened_follower, sent, taken, lost, set_to_lose, repeated, replicated, unasked, replica_after}
 use Rattle.clone_core.specs.Acting.{ActsStep}
 use Rattle.clone_core.specs.Quiet.{NobodyMoves}
 use Rattle.clone_core.specs.System.{System, ArchivesTo, CallStep, FailsRecipient, FailsToStart, FindsDamage, IsReady, OnDonor, ShowsRows, Starts, VisitsRecipient}
+
+-- what follows the clone becomes another by the event, and all else stays
+abbrev pub StepsReplica : System → Event → System → Type 0
+StepsReplica s e t = t ≡ record s { replica = replica_after e s.replica }
 
 -- What is told of a clone again asks nothing; where nothing can be done for it, nobody has anything
 -- to do; rows recover the recipient's disk.
@@ -34,3 +38,13 @@ SystemStep s (ordered to_donor order) t = t ≡ record s {
 }
 SystemStep s (ordered to_recipient order) t =
     t ≡ record s { recipient = with_order order s.recipient }
+SystemStep s (opened_follower rows position) t =
+    StepsReplica s (opened_follower rows position) t
+SystemStep s (sent want frame) t = StepsReplica s (sent want frame) t
+SystemStep s (taken frame result) t = StepsReplica s (taken frame result) t
+SystemStep s (lost position) t = StepsReplica s (lost position) t
+SystemStep s set_to_lose t = StepsReplica s set_to_lose t
+SystemStep s (repeated number frame result) t =
+    StepsReplica s (repeated number frame result) t
+SystemStep s (replicated rows) t = t ≡ s
+SystemStep s (unasked by) t = t ≡ s

@@ -11,6 +11,7 @@ use Rattle.clone_recover.specs.Restores.{IsCause}
 use Rattle.clone_recover.specs.declared.refusal.Why.{Why}
 use Rattle.clone_dump.specs.Shown.{why_text}
 use Rattle.clone_recover.specs.declared.refusal.RecoverRefusal.TheVariants.{Damaged}
+use Rattle.clone_events.specs.World.{Replica}
 use Rattle.clone_plain.specs.Donor.{Donor}
 use Rattle.clone_plain.specs.Answers.{Text}
 use Rattle.clone_plain.specs.declared.call.EngineAnswer.{EngineAnswer}
@@ -34,7 +35,8 @@ use Rattle.clone_core.specs.declared.world.TheConstants.{SESSION}
 
 -- The course has what the recipient knows of the clone and the connections of its tasks; the stop
 -- is the first of its session; what was looked up is the floor of an acknowledgement. The donor is
--- alone with the clone while no stranger's session has stood at it since the clone began.
+-- alone with the clone while no stranger's session has stood at it since the clone began. Last comes
+-- what follows the clone.
 pub record System : Type 0 where
   pub donor : staged.Donor
   pub recipient : DiskState
@@ -43,6 +45,7 @@ pub record System : Type 0 where
   pub stop : Option session.Stop
   pub looked : ℕ
   pub alone : Bool
+  pub replica : Replica
 
 abbrev pub donor_of : System → Donor
 donor_of s = s.donor.engine.donor

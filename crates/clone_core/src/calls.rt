@@ -102,6 +102,7 @@ impl<D: PageDisk, R: PageDisk> World<D, R> {
         ensures { Called self.old (call.Commit trx) (λ position. answers.Commit position) result
             self.new }
     {
+        self.donor.laws();
         self.donor.commit(trx)
     }
 

@@ -5,8 +5,10 @@
 mod begun;
 mod calls;
 mod connections;
+mod following;
 mod laws;
 mod lines;
+mod replica;
 mod rounds;
 mod showing;
 mod start;
@@ -15,4 +17,5 @@ mod texts;
 mod world;
 
 pub use laws::run_laws;
+pub use replica::Replica;
 pub use world::{Copying, Course, Ending, World};

@@ -11,6 +11,7 @@ ghost use Rattle.clone_outside.specs.declared.disk.DiskOrder.TheVariants as orde
 ghost use Rattle.clone_model.specs.declared.config.Config.{Config};
 ghost use Rattle.clone_script.specs.Given.{IsTerms};
 ghost use Rattle.clone_events.specs.World.{IsWithin};
+ghost use Rattle.clone_plain.specs.Donor.{no_donor};
 ghost use Rattle.clone_engine.specs.Donor.{IsDonor};
 ghost use Rattle.clone_engine.specs.Opened.{IsOpened};
 ghost use Rattle.clone_engine.specs.Taken.{IsTaken, nothing};
@@ -21,9 +22,10 @@ ghost use Rattle.clone_sides.specs.Moment.{own_stop};
 ghost use Rattle.std.specs.Option.{option_or};
 ghost use Rattle.clone_core.specs.declared.world.TheConstants.{SESSION};
 ghost use Rattle.clone_core.specs.Copied.{KeepsClone, progress_of};
-ghost use Rattle.clone_core.specs.Ending.{ending_of, is_copying, is_over, rows_ending};
+ghost use Rattle.clone_core.specs.Ending.{complete_in, ending_of, is_copying, is_over, rows_ending};
 
 use crate::begun::Begun;
+use crate::replica::Replica;
 use clone_donor::Donor;
 use clone_joined::joined_laws;
 use clone_model::{Binlog, Drops};
@@ -81,6 +83,19 @@ impl Course {
             Course::Absent => false,
         }
     }
+
+    // The position at which a clone is complete, if it is.
+    pub(crate) fn complete_at(&self) -> Option<u64>
+        ensures { result ≡ complete_in (progress_of self.now) }
+    {
+        let Course::Begun(copying) = self else {
+            return None;
+        };
+        match copying.reception.table().ended() {
+            Some(CloneEnd::Complete { position, .. }) => Some(*position),
+            _ => None,
+        }
+    }
 }
 
 // The first stop of the clone's session: the one that was kept, or else the donor's last, if it is
@@ -109,8 +124,8 @@ pub enum Ending {
     Refused,
 }
 
-/// A donor, the disk of a recipient, how many transactions each writer has begun, and the clone
-/// that is taken of the donor, with its stop once it has come to that.
+/// A donor, the disk of a recipient, how many transactions each writer has begun, the clone that is
+/// taken of the donor, with its stop once it has come to that, and what follows it.
 pub struct World<D: PageDisk, R: PageDisk> {
     pub(crate) donor: Donor<D>,
     pub(crate) recipient: R,
@@ -123,6 +138,7 @@ pub struct World<D: PageDisk, R: PageDisk> {
     pub(crate) is_alone: bool,
     pub(crate) is_doubted: bool,
     pub(crate) is_shown: bool,
+    pub(crate) replica: Replica,
 }
 
 impl<D: PageDisk, R: PageDisk> Model for World<D, R> {
@@ -131,13 +147,15 @@ impl<D: PageDisk, R: PageDisk> Model for World<D, R> {
     ghost use Rattle.clone_engine.specs.Codes.{disk_code, engine_code};
     ghost use Rattle.clone_recipient.specs.Receptions.{sizes_code};
     ghost use Rattle.clone_core.specs.Codes.{begun_code};
+    ghost use Rattle.clone_follow.specs.Following.{following_code};
     ghost use Rattle.clone_core.specs.Lines.{State};
     ghost use Rattle.clone_core.specs.Copied.{Holds, world_of};
 
     ghost Value = { State };
 
     ghost coded = { Prim.hlevel
-        (codes, begun_code, disk_code, engine_code, tracked_pages_code, sizes_code) };
+        (codes, begun_code, disk_code, engine_code, tracked_pages_code, sizes_code,
+        following_code) };
 
     ghost view = { λ w. world_of (record {
       donor = w.donor;
@@ -147,6 +165,7 @@ impl<D: PageDisk, R: PageDisk> Model for World<D, R> {
       stop = w.stop;
       looked = w.looked;
       alone = w.is_alone;
+      replica = w.replica;
     }) w.begun w.is_disturbed w.is_doubted w.is_shown };
 
     ghost invariant = { λ w. Holds (world_of (record {
@@ -157,6 +176,7 @@ impl<D: PageDisk, R: PageDisk> Model for World<D, R> {
       stop = w.stop;
       looked = w.looked;
       alone = w.is_alone;
+      replica = w.replica;
     }) w.begun w.is_disturbed w.is_doubted w.is_shown) };
 }
 
@@ -164,6 +184,7 @@ impl<D: PageDisk, R: PageDisk> World<D, R> {
     /// A donor of which nothing was asked, and the empty disk of a recipient, with the terms on
     /// which a clone is taken.
     pub fn new(alloc: Global, donor: Donor<D>, recipient: R, terms: Terms) -> World<D, R>
+        requires fresh { donor.engine.donor ≡ no_donor }
         requires taken { IsTaken donor nothing }
         requires idle { donor.cloning.session ≡ None }
         requires stop { donor.cloning.stop ≡ None }
@@ -188,6 +209,7 @@ impl<D: PageDisk, R: PageDisk> World<D, R> {
             is_alone: true,
             is_doubted: false,
             is_shown: false,
+            replica: Replica::new(alloc),
         }
     }
 
@@ -242,6 +264,7 @@ impl<D: PageDisk, R: PageDisk> World<D, R> {
             is_alone: _,
             is_doubted: _,
             is_shown: _,
+            replica: _,
         } = self;
         let (disk, drops) = donor.into_disk();
         (disk, recipient, drops)
@@ -307,6 +330,10 @@ impl<D: PageDisk, R: PageDisk> World<D, R> {
             Line::Raw { bytes } => self.raw_line(alloc, bytes.bytes()),
             Line::Feed { connection, bytes } => self.feed_line(alloc, *connection, bytes.bytes()),
             Line::Abandon => self.abandon_line(alloc),
+            Line::Follow => self.follow_line(alloc),
+            Line::Lose => self.lose_line(alloc),
+            Line::Repeat { sent } => self.repeat_line(alloc, *sent),
+            Line::Replica => self.replica_line(alloc),
             Line::Clone => self.clone_line(alloc),
             Line::Rows => self.rows_line(alloc),
         }

@@ -1,7 +1,7 @@
 -- A line makes one event, or it is a `set`, or none of its events commits or begins, as those of
 -- `clean` and of `clone`.
 use Rattle.std.proofs.Common.{◌≡◌, ℕ, zero, suc, ◌+◌, List, [], ◌∷◌, ◌++◌, refl, sym, subst, ◌∙◌, append_assoc, None, Ok, Err, flat_map, nat_cmp}
-use Rattle.clone_events.proofs.Common.{AllByRecursion, FinMap, Line, Cause, EngineCall, Event, made, acts, ordered, counted, committed_at, Makes, MakesOne, MakesSet, MakesClean, all_clean, not_flushed, flushed, Starts, Finishes, Advances, GoesOn, IsBy, AreOfTasks, AreOfDonor, IsRound, AreRounds, no_round, next_round, MakesClone}
+use Rattle.clone_events.proofs.Common.{AllByRecursion, FinMap, Line, Cause, EngineCall, Event, made, acts, ordered, counted, committed_at, Makes, MakesOne, MakesSet, MakesClean, all_clean, not_flushed, flushed, Starts, Finishes, Advances, GoesOn, IsBy, AreOfTasks, AreOfDonor, IsRound, AreRounds, no_round, next_round, MakesClone, HidesRows, IsExchange, loses, comes, MakesFollow, asks_nothing, hides, again, begins}
 use Rattle.clone_plain.specs.declared.call.EngineCall.TheVariants as call
 use Rattle.clone_script.specs.declared.lines.Line.TheVariants as lines
 
@@ -91,6 +91,21 @@ goes_quiet tasks Kind events are is = subst (AllByRecursion IsQuiet) (sym is.is)
 clone_quiet : (tasks : ℕ) (events : List Event) → MakesClone tasks events → AllByRecursion IsQuiet events
 clone_quiet tasks events is = subst (AllByRecursion IsQuiet) (sym is.4) (starts_quiet is.0 is.2, goes_quiet tasks Finishes is.1 finishes_quiet is.3)
 
+-- nor are those of a follower
+hides_quiet : (e : Event) → HidesRows e → IsQuiet e
+hides_quiet (made asked answer) is = absurd is
+hides_quiet e is = is_quiet e refl (λ begun. refl)
+
+exchange_quiet : (events : List Event) → IsExchange events → AllByRecursion IsQuiet events
+exchange_quiet events (loses want frame is) = subst (AllByRecursion IsQuiet) (sym is) (is_quiet _ refl (λ begun. refl), (is_quiet _ refl (λ begun. refl), tt))
+exchange_quiet events (comes want frame result is) = subst (AllByRecursion IsQuiet) (sym is) (is_quiet _ refl (λ begun. refl), (is_quiet _ refl (λ begun. refl), tt))
+
+follow_quiet : (events : List Event) → MakesFollow events → AllByRecursion IsQuiet events
+follow_quiet events (asks_nothing is) = subst (AllByRecursion IsQuiet) (sym is) (is_quiet _ refl (λ begun. refl), tt)
+follow_quiet events (hides e kind is) = subst (AllByRecursion IsQuiet) (sym is) (hides_quiet e kind, tt)
+follow_quiet events (again is) = exchange_quiet events is
+follow_quiet events (begins rows position rest exchange is) = subst (AllByRecursion IsQuiet) (sym is) (is_quiet _ refl (λ begun. refl), (is_quiet _ refl (λ begun. refl), exchange_quiet rest exchange))
+
 pub shape : (tasks : ℕ) (next : ℕ → ℕ) (line : Line) (events : List Event) → Makes tasks next line events → Shape events
 shape tasks next (lines.Create table buckets) events is = call_shape _ events is
 shape tasks next (lines.Drop table) events is = call_shape _ events is
@@ -122,5 +137,9 @@ shape tasks next lines.Advance events is = quiet (goes_quiet tasks Advances even
 shape tasks next lines.Finish events is = quiet (goes_quiet tasks Finishes events finishes_quiet is)
 shape tasks next lines.Look events is = one is.0 is.2
 shape tasks next (lines.Archive bytes) events is = one is.0 is.2
+shape tasks next lines.Follow events is = quiet (follow_quiet events is)
+shape tasks next lines.Lose events is = one _ is
+shape tasks next (lines.Repeat number) events is = one is.0 is.2
+shape tasks next lines.Replica events is = one is.0 is.2
 shape tasks next lines.Clone events is = quiet (clone_quiet tasks events is)
 shape tasks next lines.Rows events is = one is.0 is.2

@@ -1,7 +1,7 @@
 -- What events show of a clone is what the history before its stop leaves, however long the history
 -- becomes.
 use Rattle.std.proofs.Common.{◌≡◌, ℕ, ◌≤◌, List, [], ◌∷◌, length, take, Bool, sym, ap, ◌∙◌, subst, arith, length-append, Option, Some, None, MatchOption}
-use Rattle.clone_events.proofs.Common.{take-append-le, Rows, Drops, fold, history_of, Commit, Donor, World, Stop, Clone, before_stop, Event, Change, Progress, absent, copying, over, acts, stops, ends, looked, showed, Shows, ShowsChange, ShowsChanges, ShowsIn, changed_by, changed_in, changed_all, clone_after, ComesToStop, PlainEvent, Happens, Events, ShowsStop}
+use Rattle.clone_events.proofs.Common.{take-append-le, Rows, Drops, fold, history_of, Commit, Donor, World, Stop, Clone, before_stop, Event, Change, Progress, absent, copying, over, acts, stops, ends, looked, showed, opened_follower, Shows, ShowsChange, ShowsChanges, ShowsIn, changed_by, changed_in, changed_all, clone_after, ComesToStop, PlainEvent, Happens, Events, ShowsStop}
 use Rattle.clone_events.proofs.BinlogLemmas.{Adds, event_adds, events_add}
 
 -- a stop lies within what there is
@@ -9,7 +9,7 @@ abbrev pub IsStop : Option Stop → Donor → Type 0
 IsStop None d = Unit {0}
 IsStop (Some at) d = (at.position ≤ length d.binlog) × (at.drops ≤ length d.drops)
 
-stop_stays : (o : Option Stop) (d e : Donor) (answered : List ℕ) → Adds d e answered → IsStop o d → IsStop o e
+pub stop_stays : (o : Option Stop) (d e : Donor) (answered : List ℕ) → Adds d e answered → IsStop o d → IsStop o e
 stop_stays None d e answered added is = tt
 stop_stays (Some at) d e answered added is = (omega (arith, is.0, ap length added.binlog, length-append d.binlog added.more), omega (arith, is.1, ap length added.drops, length-append d.drops added.gone))
 
@@ -67,10 +67,15 @@ shows_longer : (d e : Donor) (answered : List ℕ) (tells : Bool) (clone : Clone
 shows_longer d e answered tells clone (looked n) added within is = omega (arith, is, ap length added.binlog, length-append d.binlog added.more)
 shows_longer d e answered tells clone (acts by changes answer) added within is = (changes_longer d e answered clone changes added within is.0, is.1, is.2)
 shows_longer d e answered tells clone (showed rows) added within is = record { ended = is.ended; are = λ sure. shown clone.stop d e answered rows within added (is.are sure) }
+shows_longer d e answered tells clone (opened_follower rows position) added within is = record {
+  first = is.first;
+  whole = is.whole;
+  rows_are = record { ended = is.rows_are.ended; are = λ sure. shown clone.stop d e answered rows within added (is.rows_are.are sure) };
+}
 shows_longer d e answered tells clone event added within is = is
 
 -- the stop of the clone lies within what there is, behind an event too
-stop_after : (d : Donor) (tells : Bool) (clone : Clone) (event : Event) → Shows d tells clone event → IsStop clone.stop d → IsStop (clone_after event clone).stop d
+pub stop_after : (d : Donor) (tells : Bool) (clone : Clone) (event : Event) → Shows d tells clone event → IsStop clone.stop d → IsStop (clone_after event clone).stop d
 stop_after d tells clone (acts by changes answer) is within = stop_all d clone changes is.0 within
 stop_after d tells clone event is within = within
 

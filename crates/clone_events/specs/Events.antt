@@ -2,8 +2,9 @@
 -- becomes of its clone, rows that are shown, and orders to disks. The donor, with the disks behind
 -- it, is of a type D; `plain` tells the plain donor that it is, and `Step` what an event does to
 -- it.
-use Rattle.std.specs.Prelude.{ℕ, ◌≡◌, ◌≢◌, ◌≤◌, ◌+◌, ◌==◌, Bool, true, false, is_some, List, [], ◌∷◌, ◌++◌, length, None, Some, Result, Ok, MatchOption, codes}
+use Rattle.std.specs.Prelude.{ℕ, ◌≡◌, ◌≢◌, ◌≤◌, ◌+◌, ◌-◌, ◌==◌, Bool, true, false, is_none, is_some, List, [], ◌∷◌, ◌++◌, length, None, Some, Result, Ok, Err, MatchOption, codes, slice_get, ⊤}
 use Rattle.std.specs.Fmt.{decimal}
+use Rattle.std.specs.Option.{option_map}
 use Rattle.std.specs.declared.option.Option.{Option}
 use Rattle.std.specs.FinMap as finite
 use Rattle.std.specs.Ordering.{nat_cmp}
@@ -11,6 +12,15 @@ use Rattle.clone_outside.specs.declared.disk.DiskOrder.{DiskOrder}
 use Rattle.clone_model.specs.History.{Rows, fold, rows_in}
 use Rattle.clone_model.specs.Texts.{value_text}
 use Rattle.clone_script.specs.declared.lines.Line.{Line}
+use Rattle.clone_script.specs.declared.lines.Line.TheVariants as lines
+use Rattle.clone_follow.specs.Binlog.{answer}
+use Rattle.clone_follow.specs.Following.{Following, Takes, applied}
+use Rattle.clone_follow.specs.declared.follower.FollowRefusal.{FollowRefusal}
+use Rattle.clone_follow.specs.declared.follower.FollowRefusal.TheVariants as refuses
+use Rattle.clone_follow.specs.declared.follower.FollowTook.{FollowTook}
+use Rattle.clone_follow.specs.declared.follower.FollowTook.TheVariants as took
+use Rattle.clone_follow.specs.declared.frame.FollowFrame.{FollowFrame}
+use Rattle.clone_follow.specs.declared.frame.FollowFrame.TheVariants as frames
 use Rattle.clone_plain.specs.Donor.{Donor}
 use Rattle.clone_plain.specs.Effects.{Gets}
 use Rattle.clone_plain.specs.Calls.{PlainStep}
@@ -20,7 +30,7 @@ use Rattle.clone_plain.specs.declared.call.EngineCall.{EngineCall}
 use Rattle.clone_plain.specs.declared.call.EngineCall.TheVariants as call
 use Rattle.clone_plain.specs.declared.refusal.Cause.{Cause}
 use Rattle.clone_plain.specs.Answers.{Text, called_text, rows_answer}
-use Rattle.clone_events.specs.World.{World, Stop, End, complete, broken, spent, garbled, refused, Progress, absent, copying, over, Clone, IsHonest, IsUnderWay, HasEnded, IsSure, index_in, stop_now, before_stop}
+use Rattle.clone_events.specs.World.{World, Replica, Stop, End, complete, broken, spent, garbled, refused, Progress, absent, copying, over, Clone, IsHonest, IsUnderWay, HasEnded, IsSure, index_in, stop_now, before_stop}
 
 -- the two sides of a clone
 pub data Side : Type 0 where
@@ -69,7 +79,7 @@ pub data Event : Type 0 where
   sticks : Event
   -- nothing happens to the clone: how it stands is told again
   again : Wish → (answer : Text) → Event
-  -- the clone's rows are shown
+  -- the clone's rows are read, and shown where a line asks for them
   showed : (rows : Rows) → Event
   -- there is no complete clone whose rows could be shown
   incomplete : Event
@@ -79,6 +89,22 @@ pub data Event : Type 0 where
   damaged : (space page : ℕ) (why : Text) → Event
   -- a disk got an order
   ordered : Side → DiskOrder → Event
+  -- a follower begins with the clone's rows, at the position at which the clone is complete
+  opened_follower : (rows : Rows) (position : ℕ) → Event
+  -- the donor answers the follower that has the commits up to this position
+  sent : (want : ℕ) → FollowFrame → Event
+  -- the answer comes to the follower, which takes it or refuses it
+  taken : FollowFrame → Result FollowTook FollowRefusal → Event
+  -- the answer is lost, and the follower stays at its position
+  lost : (position : ℕ) → Event
+  -- the next answer is to be lost
+  set_to_lose : Event
+  -- of the commits that were ever sent, that of this number comes again, and is taken or refused
+  repeated : (number : ℕ) → FollowFrame → Result FollowTook FollowRefusal → Event
+  -- the follower's rows are shown
+  replicated : (rows : Rows) → Event
+  -- there is nothing that this line could ask of a follower
+  unasked : (by : Line) → Event
 
 abbrev pub idle : Text
 idle = codes "idle"
@@ -96,6 +122,18 @@ end_text broken = recipient_fault
 end_text (spent losses) = codes "restarts spent " ++ decimal losses
 end_text (garbled bytes) = codes "garbled " ++ value_text bytes
 end_text (refused cause) = codes "clone " ++ cause
+
+-- what a follower did with a frame, or why it refused it
+abbrev pub took_text : Result FollowTook FollowRefusal → Text
+took_text (Ok (took.Applied position)) = codes "applied " ++ decimal position
+took_text (Ok (took.Ignored position)) = codes "ignored " ++ decimal position
+took_text (Ok (took.Current position)) = codes "current " ++ decimal position
+took_text (Err (refuses.Ahead have got)) =
+    codes "refused F1 " ++ decimal have ++ codes " " ++ decimal got
+took_text (Err (refuses.Behind have got)) =
+    codes "refused F2 " ++ decimal have ++ codes " " ++ decimal got
+took_text (Err refuses.Unexpected) = codes "refused F3"
+took_text (Err refuses.NoMemory) = []
 
 -- the answer that an event gives a line, whose last it is
 abbrev pub event_text : Event → Text
@@ -117,6 +155,14 @@ event_text hidden = recipient_fault
 event_text (damaged space page why) =
     codes "damaged " ++ decimal space ++ codes " " ++ decimal page ++ codes " " ++ why
 event_text (ordered side order) = codes "noted"
+event_text (opened_follower rows position) = []
+event_text (sent want frame) = []
+event_text (taken frame result) = took_text result
+event_text (lost position) = codes "lost " ++ decimal position
+event_text set_to_lose = codes "noted"
+event_text (repeated number frame result) = took_text result
+event_text (replicated rows) = rows_answer (rows_in rows)
+event_text (unasked by) = idle
 
 -- the answer of a line is that of its last event
 abbrev pub said : List Event → Text
@@ -149,7 +195,34 @@ changed_all [] clone = clone
 changed_all (change ∷ changes) clone =
     changed_all changes (changed_in clone.progress change clone)
 
--- and by an event
+-- ---- WHAT FOLLOWS A CLONE
+
+-- the commits that were ever sent, after this frame
+abbrev pub sent_after : FollowFrame → List FollowFrame → List FollowFrame
+sent_after (frames.Commit position commit) before = before ++ frames.Commit position commit ∷ []
+sent_after other before = before
+
+-- a follower that took a frame so: a commit that it applied is in its rows
+abbrev pub follower_after : FollowFrame → Result FollowTook FollowRefusal → Following → Following
+follower_after (frames.Commit got commit) (Ok (took.Applied position)) f = applied f commit
+follower_after frame result f = f
+
+abbrev pub taken_by : FollowFrame → Result FollowTook FollowRefusal → Replica → Replica
+taken_by frame result r =
+    record r { follower = option_map (follower_after frame result) r.follower }
+
+-- what follows the clone, after an event
+abbrev pub replica_after : Event → Replica → Replica
+replica_after (opened_follower rows position) r =
+    record r { follower = Some (record { rows = rows; position = position }) }
+replica_after (sent want frame) r = record r { sent = sent_after frame r.sent }
+replica_after (taken frame result) r = taken_by frame result r
+replica_after (lost position) r = record r { losing = false }
+replica_after set_to_lose r = record r { losing = true }
+replica_after (repeated number frame result) r = taken_by frame result r
+replica_after event r = r
+
+-- what a clone becomes by an event
 abbrev pub clone_after : Event → Clone → Clone
 clone_after (looked position) clone = record clone { looked = position }
 clone_after (started alone) clone = record clone { progress = copying; alone = alone }
@@ -157,6 +230,18 @@ clone_after unbegun clone = record clone { progress = over broken }
 clone_after (acts by changes answer) clone = changed_all changes clone
 clone_after (showed rows) clone = record clone { shown = true }
 clone_after hidden clone = record clone { doubted = true }
+clone_after (opened_follower rows position) clone =
+    record clone { replica = replica_after (opened_follower rows position) clone.replica }
+clone_after (sent want frame) clone =
+    record clone { replica = replica_after (sent want frame) clone.replica }
+clone_after (taken frame result) clone =
+    record clone { replica = replica_after (taken frame result) clone.replica }
+clone_after (lost position) clone =
+    record clone { replica = replica_after (lost position) clone.replica }
+clone_after set_to_lose clone =
+    record clone { replica = replica_after set_to_lose clone.replica }
+clone_after (repeated number frame result) clone =
+    record clone { replica = replica_after (repeated number frame result) clone.replica }
 clone_after event clone = clone
 
 -- how a clone stands where it doesn't go on
@@ -239,6 +324,44 @@ abbrev pub IsComplete : Progress → Type 0
 IsComplete (over (complete position)) = Unit {0}
 IsComplete progress = ⊥
 
+-- ---- what an event shows of a follower
+
+-- the follower is there, and takes the frame so
+abbrev pub TakesSo : Replica → FollowFrame → Result FollowTook FollowRefusal → Type 0
+TakesSo r frame result = MatchOption r.follower ⊥
+    (λ f. Takes f frame result (follower_after frame result f))
+
+-- it is there, at this position
+abbrev pub IsAt : Replica → ℕ → Type 0
+IsAt r position = MatchOption r.follower ⊥ (λ f. position ≡ f.position)
+
+-- a commit is one of those that were sent
+abbrev pub IsAmong : List FollowFrame → FollowFrame → Type 0
+IsAmong all (frames.Commit position commit) =
+    (i : ℕ) × (slice_get all i ≡ Some (frames.Commit position commit))
+IsAmong all other = ⊤
+
+-- this is the commit of this number among those that were sent
+pub record IsNumbered (all : List FollowFrame) (number : ℕ) (frame : FollowFrame) : Type 0 where
+  pub from_one : 1 ≤ number
+  pub is : slice_get all (number - 1) ≡ Some frame
+
+-- Nothing can be asked of a follower: no clone is complete, or no follower is there, or it was sent no
+-- commit of this number.
+abbrev pub AsksNothing : Line → Clone → Type 0
+AsksNothing lines.Follow clone = IsComplete clone.progress → ⊥
+AsksNothing (lines.Repeat number) clone = MatchOption clone.replica.follower (Unit {0})
+    (λ f. (frame : FollowFrame) → IsNumbered clone.replica.sent number frame → ⊥)
+AsksNothing lines.Replica clone = clone.replica.follower ≡ None
+AsksNothing line clone = ⊥
+
+-- A follower begins with the clone's rows, once the clone is complete.
+pub record OpensFollower (d : Donor) (tells : Bool) (clone : Clone) (rows : Rows) (position : ℕ)
+    : Type 0 where
+  pub first : clone.replica.follower ≡ None
+  pub whole : clone.progress ≡ over (complete position)
+  pub rows_are : ShowsRows d tells clone rows
+
 -- WHAT AN EVENT SHOWS of a clone, by the history of a donor: that of the moment of the event, and
 -- each longer one. Where it is known what the clone's rows are, no damage is found on the
 -- recipient's disk, and a complete clone isn't found incomplete. Over honest connections there is
@@ -260,6 +383,18 @@ Shows d tells clone incomplete = IsSure tells clone → IsComplete clone.progres
 Shows d tells clone hidden = HasEnded clone.progress
 Shows d tells clone (damaged space page why) =
     HasEnded clone.progress × (IsSure tells clone → ⊥)
+Shows d tells clone (opened_follower rows position) = OpensFollower d tells clone rows position
+Shows d tells clone (sent want frame) = IsAt clone.replica want
+Shows d tells clone (taken frame result) =
+    (clone.replica.losing ≡ false) × IsAmong clone.replica.sent frame
+    × TakesSo clone.replica frame result
+Shows d tells clone (lost position) =
+    (clone.replica.losing ≡ true) × IsAt clone.replica position
+Shows d tells clone (repeated number frame result) =
+    IsNumbered clone.replica.sent number frame × TakesSo clone.replica frame result
+Shows d tells clone (replicated rows) =
+    MatchOption clone.replica.follower ⊥ (λ f. rows ≡ f.rows)
+Shows d tells clone (unasked by) = AsksNothing by clone
 Shows d tells clone event = Unit {0}
 
 -- a stop is the moment that stands
@@ -268,10 +403,12 @@ AreNow d [] = Unit {0}
 AreNow d (stops at ∷ changes) = (at ≡ stop_now d) × AreNow d changes
 AreNow d (change ∷ changes) = AreNow d changes
 
--- and what is looked up is how many commits there are
+-- what is looked up is how many commits there are, and the answer to a follower is that of the
+-- binlog
 abbrev pub IsNow : Donor → Event → Type 0
 IsNow d (looked position) = position ≡ length d.binlog
 IsNow d (acts by changes answer) = AreNow d changes
+IsNow d (sent want frame) = frame ≡ answer d.binlog want
 IsNow d event = Unit {0}
 
 -- what an event does to the clone of a donor

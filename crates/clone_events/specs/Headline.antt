@@ -1,8 +1,9 @@
 -- What a whole run says of its binlog and of its clone.
-use Rattle.std.specs.Prelude.{ℕ, ◌≡◌, ◌-◌, ◌⊎◌, Bool, List, [], ◌∷◌, ◌++◌, length, None, Some, Ok, Err, unwrap_or, slice_get}
+use Rattle.std.specs.Prelude.{ℕ, ◌≡◌, ◌-◌, ◌≤◌, ◌⊎◌, Bool, List, [], ◌∷◌, ◌++◌, length, take, drop, None, Some, Ok, Err, MatchOption, unwrap_or, slice_get}
 use Rattle.std.specs.declared.option.Option.{Option}
 use Rattle.std.specs.List.{filter_map, flat_map, range_with_len}
-use Rattle.clone_model.specs.History.{Drops}
+use Rattle.clone_follow.specs.Following.{Following}
+use Rattle.clone_model.specs.History.{Drops, after_commits, fold, history_of}
 use Rattle.clone_model.specs.declared.change.Commit.{Commit}
 use Rattle.clone_script.specs.declared.lines.Line.{Line}
 use Rattle.clone_script.specs.declared.lines.Line.TheVariants as lines
@@ -13,8 +14,8 @@ use Rattle.clone_plain.specs.declared.call.EngineAnswer.TheVariants as answers
 use Rattle.clone_plain.specs.declared.call.EngineCall.TheVariants as call
 use Rattle.clone_outside.specs.declared.disk.DiskOrder.{DiskOrder}
 use Rattle.clone_outside.specs.declared.disk.DiskOrder.TheVariants as order
-use Rattle.clone_events.specs.World.{Clone}
-use Rattle.clone_events.specs.Events.{Event, made, Shows, clone_after}
+use Rattle.clone_events.specs.World.{Clone, Stop, IsSure, before_stop}
+use Rattle.clone_events.specs.Events.{Event, made, replicated, Shows, clone_after}
 
 -- the events of lines, one after the other
 abbrev pub all_events : List (List Event) → List Event
@@ -72,6 +73,33 @@ abbrev pub ShowsStop : Donor → Bool → Clone → List Event → Type 0
 ShowsStop d tells clone [] = Unit {0}
 ShowsStop d tells clone (e ∷ es) =
     Shows d tells clone e × ShowsStop d tells (clone_after e clone) es
+
+-- THE ROWS OF A FOLLOWER, which is now so, of a clone that came to this stop: those that the history
+-- before the stop leaves, to which the commits from the stop on are applied in order, each once, up
+-- to the follower's position. So without drops they are what the commits up to there leave.
+pub record IsReplayed (d : Donor) (at : Stop) (now : Following) : Type 0 where
+  pub forward : at.position ≤ now.position
+  pub within : now.position ≤ length d.binlog
+  pub rows : now.rows ≡ after_commits (fold (before_stop at d))
+      (take (now.position - at.position) (drop at.position d.binlog))
+  pub folded : d.drops ≡ [] → now.rows ≡ fold (history_of (take now.position d.binlog) [])
+
+-- where the clone's rows are known, those of its follower are, if there is one
+abbrev pub FollowsStop : Donor → Bool → Clone → Type 0
+FollowsStop d tells clone = IsSure tells clone → MatchOption clone.replica.follower (Unit {0})
+    (λ now. MatchOption clone.stop ⊥ (λ at. IsReplayed d at now))
+
+-- WHAT EVENTS SHOW of a follower, by the history of the donor at the end: the rows that are shown of
+-- it, which are its own, are those.
+abbrev pub ShowsFollower : Donor → Bool → Clone → Event → Type 0
+ShowsFollower d tells clone (replicated rows) =
+    MatchOption clone.replica.follower ⊥ (λ now. rows ≡ now.rows) × FollowsStop d tells clone
+ShowsFollower d tells clone event = Unit {0}
+
+abbrev pub ShowsFollowers : Donor → Bool → Clone → List Event → Type 0
+ShowsFollowers d tells clone [] = Unit {0}
+ShowsFollowers d tells clone (e ∷ es) =
+    ShowsFollower d tells clone e × ShowsFollowers d tells (clone_after e clone) es
 
 -- the orders that lines give to the donor's disk
 abbrev pub donor_order : Line → Option DiskOrder

@@ -2,9 +2,13 @@
 use Rattle.std.specs.Prelude.{ℕ, zero, suc, ◌≡◌, ◌≤◌, ◌+◌, List, [], ◌∷◌, ◌++◌, length, None, Some, Result, Ok, Err}
 use Rattle.std.specs.List.{flat_map}
 use Rattle.clone_outside.specs.declared.disk.DiskOrder.TheVariants as order
+use Rattle.clone_model.specs.History.{Rows}
 use Rattle.clone_model.specs.Texts.{ended}
+use Rattle.clone_follow.specs.declared.follower.FollowRefusal.{FollowRefusal}
+use Rattle.clone_follow.specs.declared.follower.FollowTook.{FollowTook}
+use Rattle.clone_follow.specs.declared.frame.FollowFrame.{FollowFrame}
 use Rattle.clone_script.specs.declared.lines.Line.{Line}
-use Rattle.clone_script.specs.declared.lines.Line.TheVariants.{Create, Drop, Begin, Put, Delete, Get, Undo, Commit, Set, Flush, Half, Land, Clean, Checkpoint, Lsn, Tear, FailDonor, FailRecipient, Start, Task, Serve, Cut, Status, Raw, Feed, Abandon, Advance, Finish, Look, Archive, Clone, Rows as ShowRows}
+use Rattle.clone_script.specs.declared.lines.Line.TheVariants.{Create, Drop, Begin, Put, Delete, Get, Undo, Commit, Set, Flush, Half, Land, Clean, Checkpoint, Lsn, Tear, FailDonor, FailRecipient, Start, Task, Serve, Cut, Status, Raw, Feed, Abandon, Advance, Finish, Look, Archive, Follow, Lose, Repeat, Replica, Clone, Rows as ShowRows}
 use Rattle.clone_plain.specs.declared.refusal.Cause.{Cause}
 use Rattle.clone_plain.specs.Donor.{Donor}
 use Rattle.clone_plain.specs.declared.call.EngineAnswer.{EngineAnswer}
@@ -12,7 +16,7 @@ use Rattle.clone_plain.specs.declared.call.EngineAnswer.TheVariants as answers
 use Rattle.clone_plain.specs.declared.call.EngineCall.{EngineCall}
 use Rattle.clone_plain.specs.declared.call.EngineCall.TheVariants as call
 use Rattle.clone_events.specs.World.{World, index_in}
-use Rattle.clone_events.specs.Events.{to_donor, to_recipient, to_begin, to_go_on, Event, made, cleaned, looked, archived, started, unbegun, occupied, acts, readied, sticks, again, showed, incomplete, hidden, damaged, ordered, said, Events}
+use Rattle.clone_events.specs.Events.{to_donor, to_recipient, to_begin, to_go_on, Event, made, cleaned, looked, archived, started, unbegun, occupied, acts, readied, sticks, again, showed, incomplete, hidden, damaged, ordered, opened_follower, sent, taken, lost, set_to_lose, repeated, replicated, unasked, said, Events}
 
 -- one call is made, and answered
 abbrev pub MakesOne : EngineCall → List Event → Type 0
@@ -137,6 +141,43 @@ ShowsOrNot hidden = Unit {0}
 ShowsOrNot (damaged space page why) = Unit {0}
 ShowsOrNot event = ⊥
 
+-- ---- a follower
+
+-- AN EXCHANGE: the donor answers the follower, and the answer is lost or comes to it.
+pub data IsExchange (events : List Event) : Type 0 where
+  loses : (want : ℕ) (frame : FollowFrame) → events ≡ sent want frame ∷ lost want ∷ []
+      → IsExchange events
+  comes : (want : ℕ) (frame : FollowFrame) (result : Result FollowTook FollowRefusal)
+      → events ≡ sent want frame ∷ taken frame result ∷ [] → IsExchange events
+
+-- the clone's rows aren't read, for some reason
+abbrev pub HidesRows : Event → Type 0
+HidesRows incomplete = Unit {0}
+HidesRows hidden = Unit {0}
+HidesRows (damaged space page why) = Unit {0}
+HidesRows event = ⊥
+
+-- Nothing can be asked, or an exchange is made. A follower that isn't there yet begins with the rows
+-- of the clone, as far as they can be read.
+pub data MakesFollow (events : List Event) : Type 0 where
+  asks_nothing : events ≡ unasked Follow ∷ [] → MakesFollow events
+  hides : (e : Event) → HidesRows e → events ≡ e ∷ [] → MakesFollow events
+  again : IsExchange events → MakesFollow events
+  begins : (rows : Rows) (position : ℕ) (rest : List Event) → IsExchange rest
+      → events ≡ showed rows ∷ opened_follower rows position ∷ rest → MakesFollow events
+
+-- a commit of this number comes again, or there is none
+abbrev pub Repeats : ℕ → Event → Type 0
+Repeats number (repeated again frame result) = again ≡ number
+Repeats number (unasked by) = by ≡ Repeat number
+Repeats number event = ⊥
+
+-- the follower's rows are shown, or there is none
+abbrev pub ShowsReplica : Event → Type 0
+ShowsReplica (replicated rows) = Unit {0}
+ShowsReplica (unasked by) = by ≡ Replica
+ShowsReplica event = ⊥
+
 -- the events of a line, where so many tasks copy the clone and each writer's next transaction has
 -- this index
 abbrev pub Makes : ℕ → (ℕ → ℕ) → Line → List Event → Type 0
@@ -172,6 +213,10 @@ Makes tasks next Advance events = GoesOn tasks Advances events
 Makes tasks next Finish events = GoesOn tasks Finishes events
 Makes tasks next Look events = MakesEvent Looks events
 Makes tasks next (Archive bytes) events = MakesEvent (Archives bytes) events
+Makes tasks next Follow events = MakesFollow events
+Makes tasks next Lose events = events ≡ set_to_lose ∷ []
+Makes tasks next (Repeat number) events = MakesEvent (Repeats number) events
+Makes tasks next Replica events = MakesEvent ShowsReplica events
 Makes tasks next Clone events = MakesClone tasks events
 Makes tasks next ShowRows events = MakesEvent ShowsOrNot events
 

@@ -1,8 +1,10 @@
 -- What a script acts on: a donor, the indexes of its writers, and its clone.
-use Rattle.std.specs.Prelude.{ℕ, ◌≡◌, ◌≤◌, Bool, true, false, List, length, take, None, unwrap_or}
+use Rattle.std.specs.Prelude.{ℕ, ◌≡◌, ◌≤◌, Bool, true, false, List, [], length, take, None, unwrap_or}
 use Rattle.std.specs.declared.option.Option.{Option}
 use Rattle.std.specs.FinMap as finite
 use Rattle.std.specs.Ordering.{nat_cmp}
+use Rattle.clone_follow.specs.Following.{Following}
+use Rattle.clone_follow.specs.declared.frame.FollowFrame.{FollowFrame}
 use Rattle.clone_model.specs.History.{Entry, history_of}
 use Rattle.clone_plain.specs.Answers.{Text}
 use Rattle.clone_plain.specs.Donor.{Donor}
@@ -34,12 +36,23 @@ pub data Progress : Type 0 where
   -- it has ended
   over : End → Progress
 
+-- A follower of the clone, once there is one; the COMMIT frames that the donor ever sent it, in
+-- their order; and whether its next answer is to be lost.
+pub record Replica : Type 0 where
+  pub follower : Option Following
+  pub sent : List FollowFrame
+  pub losing : Bool
+
+abbrev pub no_replica : Replica
+no_replica = record { follower = None; sent = []; losing = false }
+
 -- A clone: how far it has come; the first stop of its session, once it has come to it; what the
 -- requester looked up last, and what it had looked up before it first acknowledged the copy of
 -- pages; whether anybody but its tasks had a hand in it before it ended: bytes came to a task that
 -- the donor didn't send, a stranger acted in its session, or the session was abandoned; whether no
 -- other session stood at the donor from its beginning to its end; whether a fault of the
--- recipient's disk came in the way of its rows since it ended; and whether its rows were shown.
+-- recipient's disk came in the way of its rows since it ended; whether its rows were shown; and what
+-- follows it.
 pub record Clone : Type 0 where
   pub progress : Progress
   pub stop : Option Stop
@@ -49,6 +62,7 @@ pub record Clone : Type 0 where
   pub alone : Bool
   pub doubted : Bool
   pub shown : Bool
+  pub replica : Replica
 
 -- none was begun yet
 abbrev pub no_clone : Clone
@@ -61,6 +75,7 @@ no_clone = record {
   alone = true;
   doubted = false;
   shown = false;
+  replica = no_replica;
 }
 
 -- it is under way

@@ -7,7 +7,7 @@ use Rattle.clone_base.specs.declared.limits.TheConstants.{MOST_TASKS}
 use Rattle.clone_model.specs.Reading.{IsValue}
 use Rattle.clone_model.specs.declared.line.TheConstants.{MOST_BUCKETS}
 use Rattle.clone_script.specs.declared.lines.Line.{Line}
-use Rattle.clone_script.specs.declared.lines.Line.TheVariants.{Create, Drop, Begin, Put, Delete, Get, Undo, Commit, Set, Flush, Half, Land, Clean, Checkpoint, Lsn, Tear, FailDonor, FailRecipient, Start, Task, Serve, Cut, Status, Raw, Feed, Abandon, Advance, Finish, Look, Archive, Clone, Rows}
+use Rattle.clone_script.specs.declared.lines.Line.TheVariants.{Create, Drop, Begin, Put, Delete, Get, Undo, Commit, Set, Flush, Half, Land, Clean, Checkpoint, Lsn, Tear, FailDonor, FailRecipient, Start, Task, Serve, Cut, Status, Raw, Feed, Abandon, Advance, Finish, Look, Archive, Follow, Lose, Repeat, Replica, Clone, Rows}
 
 abbrev pub line_text : Line → List ℕ
 line_text (Create table buckets) = codes "create " ++ decimal table ++ codes " " ++ decimal buckets
@@ -49,6 +49,10 @@ line_text Advance = codes "advance"
 line_text Finish = codes "finish"
 line_text Look = codes "look"
 line_text (Archive bytes) = codes "archive " ++ decimal bytes
+line_text Follow = codes "follow"
+line_text Lose = codes "lose"
+line_text (Repeat sent) = codes "repeat " ++ decimal sent
+line_text Replica = codes "replica"
 line_text Clone = codes "clone"
 line_text Rows = codes "rows"
 
@@ -91,5 +95,9 @@ IsInRange Advance = Unit {0}
 IsInRange Finish = Unit {0}
 IsInRange Look = Unit {0}
 IsInRange (Archive bytes) = bytes < 2 ^ 32
+IsInRange Follow = Unit {0}
+IsInRange Lose = Unit {0}
+IsInRange (Repeat sent) = sent < 2 ^ 64
+IsInRange Replica = Unit {0}
 IsInRange Clone = Unit {0}
 IsInRange Rows = Unit {0}

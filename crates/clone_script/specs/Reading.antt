@@ -2,7 +2,7 @@
 use Rattle.std.specs.Prelude.{ℕ, ◌≡◌, List, Option, Some, IfSome, Result, Ok, Err, Bool, true, false, ⊤}
 use Rattle.clone_script.specs.Lines.{line_text, IsInRange}
 use Rattle.clone_script.specs.declared.lines.Line.{Line}
-use Rattle.clone_script.specs.declared.lines.Line.TheVariants.{Create, Drop, Begin, Put, Delete, Get, Undo, Commit, Set, Clean, Checkpoint, Lsn, Start, Advance, Finish, Look, Status, Abandon, Task, Serve, Cut, Raw, Feed, Clone, Rows}
+use Rattle.clone_script.specs.declared.lines.Line.TheVariants.{Create, Drop, Begin, Put, Delete, Get, Undo, Commit, Set, Clean, Checkpoint, Lsn, Start, Advance, Finish, Look, Status, Abandon, Task, Serve, Cut, Raw, Feed, Follow, Lose, Repeat, Replica, Clone, Rows}
 use Rattle.clone_script.specs.Given.{Given}
 use Rattle.clone_script.specs.Script.{IsScript, IsFirstBad, IsHeadInRange, Gives, GivesSize}
 use Rattle.clone_script.specs.declared.head.HeadLine.{HeadLine}
@@ -56,7 +56,7 @@ IsOfClone (Pool frames) = ⊥
 IsOfClone (Ring bytes) = ⊥
 IsOfClone h = IsHeadInRange h
 
--- a line without fields
+-- one of these lines without fields
 abbrev pub IsBare : Line → Type 0
 IsBare Clean = Unit {0}
 IsBare Checkpoint = Unit {0}
@@ -71,11 +71,19 @@ IsBare Clone = Unit {0}
 IsBare Rows = Unit {0}
 IsBare l = ⊥
 
--- a line of a connection, or one without fields
+-- a line of a follower, or another one without fields
+abbrev pub IsOfFollower : Line → Type 0
+IsOfFollower (Repeat sent) = IsInRange (Repeat sent)
+IsOfFollower Follow = Unit {0}
+IsOfFollower Lose = Unit {0}
+IsOfFollower Replica = Unit {0}
+IsOfFollower l = IsBare l
+
+-- a line of a connection, or that of a follower, or one without fields
 abbrev pub IsOfConnection : Line → Type 0
 IsOfConnection (Task task) = IsInRange (Task task)
 IsOfConnection (Serve connection) = IsInRange (Serve connection)
 IsOfConnection (Cut connection to_donor to_task) = IsInRange (Cut connection to_donor to_task)
 IsOfConnection (Raw bytes) = IsInRange (Raw bytes)
 IsOfConnection (Feed connection bytes) = IsInRange (Feed connection bytes)
-IsOfConnection l = IsBare l
+IsOfConnection l = IsOfFollower l

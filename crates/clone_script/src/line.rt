@@ -1,6 +1,6 @@
 ghost use Rattle.std.specs.Prelude.{◌++◌, IfOk, codes};
 ghost use Rattle.clone_script.specs.Lines.{line_text};
-ghost use Rattle.clone_script.specs.Reading.{Parses, ParsesLine, IsOfConnection, IsOfDisk, IsBare};
+ghost use Rattle.clone_script.specs.Reading.{Parses, ParsesLine, IsOfConnection, IsOfFollower, IsOfDisk, IsBare};
 
 use crate::Line;
 use crate::fields::{
@@ -72,7 +72,7 @@ fn disk_line(text: &[u8]) -> Option<Line>
     connection_line(text)
 }
 
-/// The line of a connection that has this text, or the one without fields.
+/// The line of a connection that has this text, or that of a follower, or the one without fields.
 fn connection_line(text: &[u8]) -> Option<Line>
     ensures { Parses IsOfConnection line_text text.now result }
 {
@@ -90,6 +90,25 @@ fn connection_line(text: &[u8]) -> Option<Line>
     }
     if let Some(fields) = text.strip_prefix(b"feed ") {
         return feed(fields);
+    }
+    follower_line(text)
+}
+
+/// The line of a follower that has this text, or another one without fields.
+fn follower_line(text: &[u8]) -> Option<Line>
+    ensures { Parses IsOfFollower line_text text.now result }
+{
+    if let Some(field) = text.strip_prefix(b"repeat ") {
+        return repeat(field);
+    }
+    if text == b"follow".as_slice() {
+        return Some(Line::Follow);
+    }
+    if text == b"lose".as_slice() {
+        return Some(Line::Lose);
+    }
+    if text == b"replica".as_slice() {
+        return Some(Line::Replica);
     }
     bare_line(text)
 }
@@ -342,4 +361,12 @@ fn feed(fields: &[u8]) -> Option<Line>
         connection: as_u32(connection)?,
         bytes: some_bytes(bytes)?,
     })
+}
+
+/// The `repeat` with this field: the number of a commit that was sent.
+fn repeat(field: &[u8]) -> Option<Line>
+    ensures { ParsesLine (codes "repeat " ++ field.now) result }
+{
+    let sent = number_of(field)?;
+    Some(Line::Repeat { sent })
 }

@@ -161,6 +161,17 @@ pub enum Line {
     },
     /// `abandon`: the donor gives its session up.
     Abandon,
+    /// `follow`: the follower asks the donor for the next commit.
+    Follow,
+    /// `lose`: the next answer to the follower is lost.
+    Lose,
+    /// `repeat K`: the Kth commit that was sent is delivered again.
+    Repeat {
+        /// The number of the commit, where the first that was sent has number 1.
+        sent: u64,
+    },
+    /// `replica`: the rows of the follower are shown.
+    Replica,
     /// `clone`: a clone begins, and is brought to its end.
     Clone,
     /// `rows`: the rows of the clone are shown.

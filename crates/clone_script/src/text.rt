@@ -73,6 +73,10 @@ fn push_line(text: &mut String, line: &Line) -> Result<(), AllocError>
         Line::Finish => text.push_str("finish"),
         Line::Look => text.push_str("look"),
         Line::Archive { bytes } => write!(text, "archive {bytes}"),
+        Line::Follow => text.push_str("follow"),
+        Line::Lose => text.push_str("lose"),
+        Line::Repeat { sent } => write!(text, "repeat {sent}"),
+        Line::Replica => text.push_str("replica"),
         Line::Clone => text.push_str("clone"),
         Line::Rows => text.push_str("rows"),
     }

@@ -55,6 +55,11 @@ finish
 look
 archive 0
 archive 4294967295
+follow
+lose
+repeat 0
+repeat 18446744073709551615
+replica
 clone
 rows
 ";
@@ -77,6 +82,17 @@ start 1
 advance 1
 finish 1
 look 1
+follow 1
+lose 1
+replica 1
+follower
+repeat
+repeat\u{20}
+repeat 1 1
+repeat -1
+repeat 01
+repeat a
+repeat 18446744073709551616
 create
 create 1
 create 1 4 1

@@ -44,7 +44,7 @@ changes_keep : (d : Donor) (clone : Clone) (changes : List Change) → ShowsChan
 changes_keep d clone [] shows kept = kept
 changes_keep d clone (change ∷ changes) shows kept = changes_keep d (changed_in clone.progress change clone) changes shows.1 (change_keeps clone.progress d clone change refl shows.0 kept)
 
-event_keeps : (d : Donor) (tells : Bool) (old : Clone) (e : Event) → Shows d tells old e → IsAtStop old → IsAtStop (clone_after e old)
+pub event_keeps : (d : Donor) (tells : Bool) (old : Clone) (e : Event) → Shows d tells old e → IsAtStop old → IsAtStop (clone_after e old)
 event_keeps d tells old (looked position) shows kept = kept
 event_keeps d tells old (started alone) shows kept = λ position other honest. let no : copying ≡ over (complete position) = other in cc
 event_keeps d tells old unbegun shows kept = λ position other honest. let no : over broken ≡ over (complete position) = other in cc

@@ -3,7 +3,7 @@ use Rattle.std.proofs.Common.{◌≡◌, ℕ, List, [], ◌∷◌, refl, sym, �
 use Rattle.std.proofs.lemmas.Bool.{true≢false}
 use Rattle.clone_script.specs.declared.lines.Line.{Line}
 use Rattle.clone_plain.specs.Donor.{Donor, no_donor}
-use Rattle.clone_events.specs.Events.{Event, Shows, looked, started, unbegun, acts, showed, hidden, Change, stops, acknowledges, disturbs, crowds, ends, Clones, EndsFairly, Events, IsFairEnd, PlainEvent, changed_all, changed_by, changed_in, clone_after}
+use Rattle.clone_events.specs.Events.{Event, Shows, looked, started, unbegun, acts, showed, hidden, opened_follower, sent, taken, lost, set_to_lose, repeated, Change, stops, acknowledges, disturbs, crowds, ends, Clones, EndsFairly, Events, IsFairEnd, PlainEvent, changed_all, changed_by, changed_in, clone_after}
 use Rattle.clone_events.specs.Runs.{Runs}
 use Rattle.clone_events.specs.World.{World, End, Progress, absent, copying, over, complete, broken, spent, garbled, refused, Clone, IsHonest, no_clone, opened}
 use Rattle.clone_events.proofs.RunLemmas.{Runs-Events}
@@ -96,6 +96,12 @@ event_fair d old e new is fair = subst IsFair (sym is.is) (by e is.shows)
     by (acts line changes answer) shows = changes_fair old changes (shows.2 refl) fair
     by (showed rows) shows = same_fair old (record old { shown = true }) refl (record { honest = λ h. h; alone = λ a. a }) fair
     by hidden shows = same_fair old (record old { doubted = true }) refl (record { honest = λ h. h; alone = λ a. a }) fair
+    by (opened_follower rows position) shows = same_fair old (clone_after (opened_follower rows position) old) refl (record { honest = λ h. h; alone = λ a. a }) fair
+    by (sent want frame) shows = same_fair old (clone_after (sent want frame) old) refl (record { honest = λ h. h; alone = λ a. a }) fair
+    by (taken frame result) shows = same_fair old (clone_after (taken frame result) old) refl (record { honest = λ h. h; alone = λ a. a }) fair
+    by (lost position) shows = same_fair old (clone_after (lost position) old) refl (record { honest = λ h. h; alone = λ a. a }) fair
+    by set_to_lose shows = same_fair old (clone_after set_to_lose old) refl (record { honest = λ h. h; alone = λ a. a }) fair
+    by (repeated number frame result) shows = same_fair old (clone_after (repeated number frame result) old) refl (record { honest = λ h. h; alone = λ a. a }) fair
     by other shows = fair
 
 events_fair : (s : World Donor) (es : List Event) (t : World Donor) → s.tells ≡ true → Events (λ d. d) PlainEvent s es t → IsFair s.clone → IsFair t.clone

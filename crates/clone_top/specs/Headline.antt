@@ -13,7 +13,7 @@ use Rattle.clone_events.specs.Events.{Event, PlainEvent}
 use Rattle.clone_events.specs.Runs.{Runs, output}
 use Rattle.clone_events.specs.BreaksOff.{BreaksOff}
 use Rattle.clone_events.specs.World.{World, Clone, Stop, IsSure, complete, over, no_clone, opened, before_stop}
-use Rattle.clone_events.specs.Headline.{AreCommits, AreDrops, AreSets, ShowsStop, all_events}
+use Rattle.clone_events.specs.Headline.{AreCommits, AreDrops, AreSets, FollowsStop, ShowsFollowers, ShowsStop, all_events}
 use Rattle.clone_recover.specs.Restores.{Answers, IsRecoveredDisk}
 use Rattle.clone_recover.specs.declared.recovery.Recovered.{Recovered}
 use Rattle.clone_staged.specs.Holds.{EndsAt, IsLeftBy}
@@ -101,11 +101,13 @@ pub record HasCompleted (d : Donor) (clone : Clone) (m : DiskImage) : Type 0 whe
 -- its first acknowledgement of the copy of pages; the rows shown after it are, in ascending order,
 -- exactly those that the first n commits leave, with the tables dropped before it, and nothing of a
 -- transaction that was open then; and the recipient's disk that comes back holds a complete clone
--- at n, which recovers to these rows whenever it is recovered.
+-- at n, which recovers to these rows whenever it is recovered. A follower that was opened with these
+-- rows has them with the commits n+1 to m applied in order, each once, where m is its position; so
+-- are the rows that are shown of it.
 --
 -- Where bytes came to a task that the donor didn't send, a stranger acted in the session, or it was
--- abandoned before the clone's end, nothing is claimed of n, of rows and of the disk, and all else
--- stands.
+-- abandoned before the clone's end, nothing is claimed of n, of rows, of the disk and of a follower,
+-- and all else stands.
 pub record Headline (status : Status) (run : Run) (old new : Streams) (given : Disks) (ends : Ends)
     : Type 0 where
   pub read : IsRead old.source new.source run.config run.terms run.lines
@@ -117,6 +119,8 @@ pub record Headline (status : Status) (run : Run) (old new : Streams) (given : D
   pub sets : AreSets (carried run) run.events run.final.donor.binlog
   pub dropped : AreDrops 0 (all_events run.events) run.final.donor.drops
   pub shows : ShowsStop run.final.donor (tell given) no_clone (all_events run.events)
+  pub followers : ShowsFollowers run.final.donor (tell given) no_clone (all_events run.events)
+  pub follows : FollowsStop run.final.donor (tell given) run.final.clone
   pub drops : ends.drops ≡ run.left.donor.drops
   pub stop : ends.stop ≡ run.left.clone.stop
   pub disk : IsSure (tell given) run.left.clone

@@ -27,7 +27,7 @@ returns-in_err-text-clause-err g c = abandon_breaks c.args.self.now c.from_resid
 pub invariant_of-self : goal.invariant_of-self
 invariant_of-self g c =
     let i = c.self.inside in
-    let s : System = record { donor = i.donor; recipient = g.R.PageDisk.state i.recipient; terms = i.terms; course = i.course; stop = i.stop; looked = i.looked; alone = i.is_alone } in
+    let s : System = record { donor = i.donor; recipient = g.R.PageDisk.state i.recipient; terms = i.terms; course = i.course; stop = i.stop; looked = i.looked; alone = i.is_alone; replica = i.replica } in
     let number = c.in-Some.session in
     let (standing, is, numbered) = standing_of i.donor.cloning.session number (sym c.session.ensures ∙ c.in-Some.is) in
     let acted = subst (λ (r : Result Unit CloneCause). CloneActs (call.Abandon number) (given.Abandon r) i.donor c.abandon.new.self) c.in-Ok.is c.abandon.ensures.acts in
@@ -36,7 +36,7 @@ invariant_of-self g c =
 pub returns-clause-ok : goal.returns-clause-ok
 returns-clause-ok g c =
     let i = c.self.inside in
-    let s : System = record { donor = i.donor; recipient = g.R.PageDisk.state i.recipient; terms = i.terms; course = i.course; stop = i.stop; looked = i.looked; alone = i.is_alone } in
+    let s : System = record { donor = i.donor; recipient = g.R.PageDisk.state i.recipient; terms = i.terms; course = i.course; stop = i.stop; looked = i.looked; alone = i.is_alone; replica = i.replica } in
     let number = c.in-Some.session in
     let (standing, is, numbered) = standing_of i.donor.cloning.session number (sym c.session.ensures ∙ c.in-Some.is) in
     let acted = subst (λ (r : Result Unit CloneCause). CloneActs (call.Abandon number) (given.Abandon r) i.donor c.abandon.new.self) c.in-Ok.is c.abandon.ensures.acts in

@@ -8,13 +8,13 @@ use Rattle.clone_core.proofs.world.World.archive_line.Goals.{in-Some, in-None}
 use Rattle.clone_core.proofs.world.World.archive_line.Goals as goal
 
 pub invariant_of-self : goal.invariant_of-self
-invariant_of-self g c = act_kept _ _ _ _ _ _ _ _ tt c.in_err-lsn.ensures.acts c.self.invariant
+invariant_of-self g c = act_kept _ _ _ _ _ _ _ _ tt tt c.in_err-lsn.ensures.acts c.self.invariant
 
 pub returns-in_err-lsn-clause-err : goal.returns-in_err-lsn-clause-err
 returns-in_err-lsn-clause-err g c = stays_breaks c.args.self.now _ (lines.Archive c.args.bytes) c.from_residual.result (not_archived _ _ _ c.self.view_is refl c.in_err-lsn.ensures.acts.does)
 
 pub invariant_of-self-2 : goal.invariant_of-self-2
-invariant_of-self-2 g c = act_kept _ _ _ _ _ _ _ _ tt c.in_ok-lsn.ensures.acts c.self.invariant
+invariant_of-self-2 g c = act_kept _ _ _ _ _ _ _ _ tt tt c.in_ok-lsn.ensures.acts c.self.invariant
 
 pub returns-clause-ok : goal.returns-clause-ok
 returns-clause-ok g c =

@@ -11,7 +11,7 @@ restore-requires g c =
     ap is_some there
 
 pub invariant_of-self-then-is_err : goal.invariant_of-self-then-is_err
-invariant_of-self-then-is_err g c = act_kept _ _ _ _ _ _ _ _ tt c.begin-begun.ensures.acts c.self.invariant
+invariant_of-self-then-is_err g c = act_kept _ _ _ _ _ _ _ _ tt tt c.begin-begun.ensures.acts c.self.invariant
 
 pub invariant_of-self-else-is_err : goal.invariant_of-self-else-is_err
-invariant_of-self-else-is_err g c = act_kept _ _ _ _ _ _ _ _ tt c.begin-begun.ensures.acts c.self.invariant
+invariant_of-self-else-is_err g c = act_kept _ _ _ _ _ _ _ _ tt tt c.begin-begun.ensures.acts c.self.invariant

@@ -2,4 +2,4 @@ use Rattle.clone_core.proofs.HoldsLemmas.{act_kept}
 use Rattle.clone_core.proofs.world.World.flush_land.Goals as goal
 
 pub invariant_of-self : goal.invariant_of-self
-invariant_of-self g c = act_kept _ _ _ _ _ _ _ _ tt c.flush_land.ensures.acts c.self.invariant
+invariant_of-self g c = act_kept _ _ _ _ _ _ _ _ tt tt c.flush_land.ensures.acts c.self.invariant

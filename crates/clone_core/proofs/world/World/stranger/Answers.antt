@@ -13,7 +13,7 @@ use Rattle.clone_core.proofs.world.World.stranger.Goals as goal
 pub invariant_of-self : goal.invariant_of-self
 invariant_of-self g c =
     let i = c.self.inside in
-    let s : System = record { donor = i.donor; recipient = g.R.PageDisk.state i.recipient; terms = i.terms; course = i.course; stop = i.stop; looked = i.looked; alone = i.is_alone } in
+    let s : System = record { donor = i.donor; recipient = g.R.PageDisk.state i.recipient; terms = i.terms; course = i.course; stop = i.stop; looked = i.looked; alone = i.is_alone; replica = i.replica } in
     let steps : StepsEnd gives i.donor c.step-how.new.donor c.args.connection.now c.step-how.new.self c.step-how.result = subst (λ (b : Bool). StepsBy b gives i.donor c.step-how.new.donor c.args.connection.now c.step-how.new.self c.step-how.result) c.requires.open c.step-how.ensures in
     starved_kept s c.step-how.new.donor i.begun i.is_disturbed i.is_doubted i.is_shown c.stop.result c.first_stop-self-inside.result c.disturbed-self-inside.result c.has_acted-has_acted.result c.stop.ensures c.first_stop-self-inside.ensures c.disturbed-self-inside.ensures c.alone-self-inside.result c.alone-self-inside.ensures c.args.connection.now c.step-how.new.self c.step-how.result steps c.self.invariant
     (server_of i.donor c.laws.ensures.donor c.laws.ensures.cloning c.laws.ensures.chunks) c.requires.open c.requires.between c.args.self.now c.self.view_is c.requires.other (c.has_acted-has_acted.ensures.memory (starved_is c.step-how.result (sym c.is_starved.ensures ∙ c.if-is_starved.true)))
@@ -28,7 +28,7 @@ returns-then-is_starved-clause-less g c = λ on.
 pub returns-then-is_starved-clause-err : goal.returns-then-is_starved-clause-err
 returns-then-is_starved-clause-err g c =
     let i = c.self.inside in
-    let s : System = record { donor = i.donor; recipient = g.R.PageDisk.state i.recipient; terms = i.terms; course = i.course; stop = i.stop; looked = i.looked; alone = i.is_alone } in
+    let s : System = record { donor = i.donor; recipient = g.R.PageDisk.state i.recipient; terms = i.terms; course = i.course; stop = i.stop; looked = i.looked; alone = i.is_alone; replica = i.replica } in
     let steps : StepsEnd gives i.donor c.step-how.new.donor c.args.connection.now c.step-how.new.self c.step-how.result = subst (λ (b : Bool). StepsBy b gives i.donor c.step-how.new.donor c.args.connection.now c.step-how.new.self c.step-how.result) c.requires.open c.step-how.ensures in
     starved_made s c.step-how.new.donor i.begun i.is_disturbed i.is_doubted i.is_shown c.stop.result c.first_stop-self-inside.result c.disturbed-self-inside.result c.has_acted-has_acted.result c.stop.ensures c.first_stop-self-inside.ensures c.disturbed-self-inside.ensures c.alone-self-inside.result c.alone-self-inside.ensures c.args.connection.now c.step-how.new.self c.step-how.result steps c.self.invariant
     (server_of i.donor c.laws.ensures.donor c.laws.ensures.cloning c.laws.ensures.chunks) c.requires.open c.requires.between c.args.self.now c.self.view_is c.requires.other (c.has_acted-has_acted.ensures.memory (starved_is c.step-how.result (sym c.is_starved.ensures ∙ c.if-is_starved.true)))
@@ -36,7 +36,7 @@ returns-then-is_starved-clause-err g c =
 pub invariant_of-self-2 : goal.invariant_of-self-2
 invariant_of-self-2 g c =
     let i = c.self.inside in
-    let s : System = record { donor = i.donor; recipient = g.R.PageDisk.state i.recipient; terms = i.terms; course = i.course; stop = i.stop; looked = i.looked; alone = i.is_alone } in
+    let s : System = record { donor = i.donor; recipient = g.R.PageDisk.state i.recipient; terms = i.terms; course = i.course; stop = i.stop; looked = i.looked; alone = i.is_alone; replica = i.replica } in
     let steps : StepsEnd gives i.donor c.step-how.new.donor c.args.connection.now c.step-how.new.self c.step-how.result = subst (λ (b : Bool). StepsBy b gives i.donor c.step-how.new.donor c.args.connection.now c.step-how.new.self c.step-how.result) c.requires.open c.step-how.ensures in
     let acted = acts_by i.donor c.step-how.new.donor c.args.connection.now c.step-how.result c.has_session-stood.result c.has_session.result c.has_acted-has_acted.result c.has_session-stood.ensures c.has_session.ensures (c.has_acted-has_acted.ensures.says c.args.connection.now c.attaches-attaches.ensures (starved_not c.step-how.result (sym c.is_starved.ensures ∙ c.if-is_starved.false))) in
     step_holds s c.step-how.new.donor i.begun i.is_disturbed i.is_doubted i.is_shown c.stop.result c.first_stop-self-inside.result c.disturbed-self-inside.result c.has_acted-has_acted.result c.stop.ensures c.first_stop-self-inside.ensures c.disturbed-self-inside.ensures c.alone-self-inside.result c.alone-self-inside.ensures c.args.connection.now c.step-how.new.self c.step-how.result steps c.self.invariant
@@ -45,7 +45,7 @@ invariant_of-self-2 g c =
 pub returns-clause-ok : goal.returns-clause-ok
 returns-clause-ok g c =
     let i = c.self.inside in
-    let s : System = record { donor = i.donor; recipient = g.R.PageDisk.state i.recipient; terms = i.terms; course = i.course; stop = i.stop; looked = i.looked; alone = i.is_alone } in
+    let s : System = record { donor = i.donor; recipient = g.R.PageDisk.state i.recipient; terms = i.terms; course = i.course; stop = i.stop; looked = i.looked; alone = i.is_alone; replica = i.replica } in
     let steps : StepsEnd gives i.donor c.step-how.new.donor c.args.connection.now c.step-how.new.self c.step-how.result = subst (λ (b : Bool). StepsBy b gives i.donor c.step-how.new.donor c.args.connection.now c.step-how.new.self c.step-how.result) c.requires.open c.step-how.ensures in
     let acted = acts_by i.donor c.step-how.new.donor c.args.connection.now c.step-how.result c.has_session-stood.result c.has_session.result c.has_acted-has_acted.result c.has_session-stood.ensures c.has_session.ensures (c.has_acted-has_acted.ensures.says c.args.connection.now c.attaches-attaches.ensures (starved_not c.step-how.result (sym c.is_starved.ensures ∙ c.if-is_starved.false))) in
     step_made s c.step-how.new.donor i.begun i.is_disturbed i.is_doubted i.is_shown c.stop.result c.first_stop-self-inside.result c.disturbed-self-inside.result c.has_acted-has_acted.result c.stop.ensures c.first_stop-self-inside.ensures c.disturbed-self-inside.ensures c.alone-self-inside.result c.alone-self-inside.ensures c.args.connection.now c.step-how.new.self c.step-how.result steps c.self.invariant
@@ -61,7 +61,7 @@ returns-clause-less g c = λ on.
 pub returns-then-is_starved-clause-other : goal.returns-then-is_starved-clause-other
 returns-then-is_starved-clause-other g c =
     let i = c.self.inside in
-    let s : System = record { donor = i.donor; recipient = g.R.PageDisk.state i.recipient; terms = i.terms; course = i.course; stop = i.stop; looked = i.looked; alone = i.is_alone } in
+    let s : System = record { donor = i.donor; recipient = g.R.PageDisk.state i.recipient; terms = i.terms; course = i.course; stop = i.stop; looked = i.looked; alone = i.is_alone; replica = i.replica } in
     let steps : StepsEnd gives i.donor c.step-how.new.donor c.args.connection.now c.step-how.new.self c.step-how.result = subst (λ (b : Bool). StepsBy b gives i.donor c.step-how.new.donor c.args.connection.now c.step-how.new.self c.step-how.result) c.requires.open c.step-how.ensures in
     starved_other s c.step-how.new.donor i.begun i.is_disturbed i.is_doubted i.is_shown c.stop.result c.first_stop-self-inside.result c.disturbed-self-inside.result c.has_acted-has_acted.result c.stop.ensures c.first_stop-self-inside.ensures c.disturbed-self-inside.ensures c.alone-self-inside.result c.alone-self-inside.ensures c.args.connection.now c.step-how.new.self c.step-how.result steps c.self.invariant
     (server_of i.donor c.laws.ensures.donor c.laws.ensures.cloning c.laws.ensures.chunks) c.requires.open c.requires.between c.args.self.now c.self.view_is c.requires.other (c.has_acted-has_acted.ensures.memory (starved_is c.step-how.result (sym c.is_starved.ensures ∙ c.if-is_starved.true)))
@@ -69,7 +69,7 @@ returns-then-is_starved-clause-other g c =
 pub returns-clause-other : goal.returns-clause-other
 returns-clause-other g c =
     let i = c.self.inside in
-    let s : System = record { donor = i.donor; recipient = g.R.PageDisk.state i.recipient; terms = i.terms; course = i.course; stop = i.stop; looked = i.looked; alone = i.is_alone } in
+    let s : System = record { donor = i.donor; recipient = g.R.PageDisk.state i.recipient; terms = i.terms; course = i.course; stop = i.stop; looked = i.looked; alone = i.is_alone; replica = i.replica } in
     let steps : StepsEnd gives i.donor c.step-how.new.donor c.args.connection.now c.step-how.new.self c.step-how.result = subst (λ (b : Bool). StepsBy b gives i.donor c.step-how.new.donor c.args.connection.now c.step-how.new.self c.step-how.result) c.requires.open c.step-how.ensures in
     let acted = acts_by i.donor c.step-how.new.donor c.args.connection.now c.step-how.result c.has_session-stood.result c.has_session.result c.has_acted-has_acted.result c.has_session-stood.ensures c.has_session.ensures (c.has_acted-has_acted.ensures.says c.args.connection.now c.attaches-attaches.ensures (starved_not c.step-how.result (sym c.is_starved.ensures ∙ c.if-is_starved.false))) in
     step_other s c.step-how.new.donor i.begun i.is_disturbed i.is_doubted i.is_shown c.stop.result c.first_stop-self-inside.result c.disturbed-self-inside.result c.has_acted-has_acted.result c.stop.ensures c.first_stop-self-inside.ensures c.disturbed-self-inside.ensures c.alone-self-inside.result c.alone-self-inside.ensures c.args.connection.now c.step-how.new.self c.step-how.result steps c.self.invariant

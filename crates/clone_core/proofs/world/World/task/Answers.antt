@@ -11,7 +11,7 @@ use Rattle.clone_core.proofs.world.World.task.Goals as goal
 pub invariant_of-self : goal.invariant_of-self
 invariant_of-self g c =
     let i = c.self.inside in
-    let s : System = record { donor = i.donor; recipient = g.R.PageDisk.state i.recipient; terms = i.terms; course = i.course; stop = i.stop; looked = i.looked; alone = i.is_alone } in
+    let s : System = record { donor = i.donor; recipient = g.R.PageDisk.state i.recipient; terms = i.terms; course = i.course; stop = i.stop; looked = i.looked; alone = i.is_alone; replica = i.replica } in
     let e = c.step_task-answer in
     let disk : DiskState = g.R.PageDisk.state e.new.disk in
     subst (λ (x : Reception). Holds (world_of (with_copying x e.new.self (record s { recipient = disk })) i.begun i.is_disturbed i.is_doubted i.is_shown)) (sym c.end_running.ensures)
@@ -20,21 +20,21 @@ invariant_of-self g c =
 pub returns-in-NoMemory-clause-err : goal.returns-in-NoMemory-clause-err
 returns-in-NoMemory-clause-err g c =
     let i = c.self.inside in
-    let s : System = record { donor = i.donor; recipient = g.R.PageDisk.state i.recipient; terms = i.terms; course = i.course; stop = i.stop; looked = i.looked; alone = i.is_alone } in
+    let s : System = record { donor = i.donor; recipient = g.R.PageDisk.state i.recipient; terms = i.terms; course = i.course; stop = i.stop; looked = i.looked; alone = i.is_alone; replica = i.replica } in
     let e = c.step_task-answer in
     task_untold s i.begun i.is_disturbed i.is_doubted i.is_shown c.in-Begun.copying c.in-Begun.is c.args.task e.new.reception e.new.self (g.R.PageDisk.state e.new.disk) e.result e.ensures.steps e.ensures.works.tells c.self.invariant c.in-NoMemory.is c.args.self.now c.self.view_is c.end_running.new.reception c.end_running.ensures
 
 pub invariant_of-self-in-Begun : goal.invariant_of-self-in-Begun
 invariant_of-self-in-Begun g c =
     let i = c.self.inside in
-    let s : System = record { donor = i.donor; recipient = g.R.PageDisk.state i.recipient; terms = i.terms; course = i.course; stop = i.stop; looked = i.looked; alone = i.is_alone } in
+    let s : System = record { donor = i.donor; recipient = g.R.PageDisk.state i.recipient; terms = i.terms; course = i.course; stop = i.stop; looked = i.looked; alone = i.is_alone; replica = i.replica } in
     let e = c.step_task-answer in
     holds_next s i.begun i.is_disturbed i.is_doubted i.is_shown c.in-Begun.copying c.in-Begun.is c.args.task e.new.reception e.new.self (g.R.PageDisk.state e.new.disk) e.result e.ensures.steps e.ensures.works.tells c.self.invariant c.laws.ensures.counted c.laws-in-Begun.ensures.bounded c.laws-in-Begun.ensures.counted c.in_default-answer.not-NoMemory (e.ensures.sizes c.in_default-answer.not-NoMemory)
 
 pub returns-in-Begun : goal.returns-in-Begun
 returns-in-Begun g c =
     let i = c.self.inside in
-    let s : System = record { donor = i.donor; recipient = g.R.PageDisk.state i.recipient; terms = i.terms; course = i.course; stop = i.stop; looked = i.looked; alone = i.is_alone } in
+    let s : System = record { donor = i.donor; recipient = g.R.PageDisk.state i.recipient; terms = i.terms; course = i.course; stop = i.stop; looked = i.looked; alone = i.is_alone; replica = i.replica } in
     let e = c.step_task-answer in
     record {
       acts = task_made s i.begun i.is_disturbed i.is_doubted i.is_shown c.in-Begun.copying c.in-Begun.is c.args.task e.new.reception e.new.self (g.R.PageDisk.state e.new.disk) e.result e.ensures.steps e.ensures.works.tells c.self.invariant c.args.self.now c.self.view_is e.ensures.works;

@@ -1,0 +1,245 @@
+-- What the lines of a follower make happen.
+use Rattle.std.proofs.Common.{◌≡◌, ◌∙◌, ◌≤◌, ◌-◌, ◌⊎◌, inl, inr, ℕ, List, [], ◌∷◌, ◌++◌, Bool, true, false, arith, refl, sym, ap, subst, Option, None, Some, MatchOption, Result, Ok, Err, IfOk, OnErr, append-nil}
+use Rattle.std.specs.FinMap as finite
+use Rattle.std.specs.List.{AllByRecursion}
+use Rattle.std.specs.declared.alloc.AllocError.{AllocError}
+use Rattle.clone_follow.specs.Binlog.{answer}
+use Rattle.clone_follow.specs.Following.{Following, Takes, with_rows}
+use Rattle.clone_follow.specs.declared.frame.FollowFrame.{FollowFrame}
+use Rattle.clone_follow.specs.declared.frame.FollowFrame.TheVariants as frames
+use Rattle.clone_follow.proofs.RowLists.{opens_again}
+use Rattle.clone_model.specs.History.{Row, Rows, rows_in}
+use Rattle.clone_plain.specs.Answers.{Text, rows_answer}
+use Rattle.clone_plain.specs.Donor.{Donor}
+use Rattle.clone_recover.specs.declared.refusal.RecoverRefusal.{RecoverRefusal}
+use Rattle.clone_script.specs.declared.lines.Line.{Line}
+use Rattle.clone_script.specs.declared.lines.Line.TheVariants as lines
+use Rattle.clone_events.specs.Events.{Event, showed, opened_follower, sent, taken, lost, set_to_lose, repeated, replicated, unasked, event_text, said, took_text, idle, IsAt, IsComplete, IsNumbered, AsksNothing, OpensFollower, ShowsRows, TakesSo, follower_after, sent_after, taken_by}
+use Rattle.clone_events.specs.Runs.{IsExchange, loses, comes, asks_nothing, again, begins}
+use Rattle.clone_events.specs.World.{Clone, Progress, Replica, absent, copying, over, complete, broken, spent, garbled, refused}
+use Rattle.clone_core.specs.Called.{StaysUntold}
+use Rattle.clone_core.specs.CloneEvents.{EndsUntold, Makes}
+use Rattle.clone_core.specs.Ending.{complete_in}
+use Rattle.clone_core.specs.Following.{Exchanges, ExchangesIn, OpensIn, RepeatsSo, RowsOf, Took, TookSo, with_replica, with_sent}
+use Rattle.clone_core.specs.Lines.{State, Answers, BreaksOff, Events, Happens}
+use Rattle.clone_core.specs.Showing.{ShowsList}
+use Rattle.clone_core.specs.System.{System, donor_of}
+use Rattle.clone_core.proofs.ActsLemmas.{IsOfClone, clone_keeps}
+use Rattle.clone_core.proofs.ReplicaLemmas.{IsOne, replica_happens}
+use Rattle.clone_core.proofs.UntoldLemmas.{AreOf, OfClone, event_says, made_untold, on_err, same_untold, untold_behind, untold_breaks, untold_then, happened_untold}
+
+-- ---- whether a clone is complete
+
+pub complete_is : (p : Progress) (position : ℕ) → complete_in p ≡ Some position → p ≡ over (complete position)
+complete_is absent position is = absurd (let e : None ≡ Some position = is in cc)
+complete_is copying position is = absurd (let e : None ≡ Some position = is in cc)
+complete_is (over (complete n)) position is = let e : Some n ≡ Some position = is in cc
+complete_is (over broken) position is = absurd (let e : None ≡ Some position = is in cc)
+complete_is (over (spent losses)) position is = absurd (let e : None ≡ Some position = is in cc)
+complete_is (over (garbled bytes)) position is = absurd (let e : None ≡ Some position = is in cc)
+complete_is (over (refused words)) position is = absurd (let e : None ≡ Some position = is in cc)
+
+pub never_complete : (p : Progress) → complete_in p ≡ None → IsComplete p → ⊥
+never_complete (over (complete n)) is whole = let e : Some n ≡ None = is in cc
+never_complete p is whole = whole
+
+-- ---- an exchange
+
+abbrev pub came_event : ℕ → FollowFrame → Option Took → Event
+came_event want frame None = lost want
+came_event want frame (Some result) = taken frame result
+
+-- the answer was sent, and came or was lost
+pub record IsMade (s : State) (want : ℕ) (frame : FollowFrame) (came : Option Took) (t : State) : Type 0 where
+  pub mid : State
+  pub is_sent : Happens s (sent want frame) mid
+  pub is_come : Happens mid (came_event want frame came) t
+
+exchange_of : (want : ℕ) (frame : FollowFrame) (came : Option Took) → IsExchange (sent want frame ∷ came_event want frame came ∷ [])
+exchange_of want frame None = loses want frame refl
+exchange_of want frame (Some result) = comes want frame result refl
+
+module _ (s : State) (one : IsOne s) (want : ℕ) (at : IsAt s.clone.replica want) (frame : FollowFrame) (is_answer : frame ≡ answer (donor_of s.donor).binlog want) where
+  abbrev Mid : State
+  Mid = with_replica (with_sent frame s.clone.replica) s
+
+  sends : Happens s (sent want frame) Mid
+  sends = replica_happens s (sent want frame) (with_sent frame s.clone.replica) tt one refl is_answer at
+
+  made : (came : Option Took) (new : Replica) → Exchanges s.clone.replica frame (Ok came) new → IsMade s want frame came (with_replica new s)
+  made None new is = record { mid = Mid; is_sent = sends; is_come = replica_happens Mid (lost want) new tt refl is.1 tt (is.0, at) }
+  made (Some result) new is = record { mid = Mid; is_sent = sends; is_come = replica_happens Mid (taken frame result) new tt refl is.2.is tt (is.0, is.1, is.2.takes) }
+
+  -- memory ran out in it
+  stopped : (e : AllocError) (new : Replica) → Exchanges s.clone.replica frame (Err e) new → EndsUntold IsExchange s (with_replica new s)
+  stopped e new (inl same) =
+      ([], sent want frame ∷ lost want ∷ [], loses want frame refl, record { donor = refl; begun = refl; tells = refl; tasks = refl; clone = ap (λ (r : Replica). record s.clone { replica = r }) same })
+  stopped e new (inr is) =
+      (sent want frame ∷ [], lost want ∷ [], loses want frame refl, subst (λ (r : Replica). StaysUntold s (sent want frame ∷ []) (with_replica r s)) (sym is) (happened_untold s (sent want frame ∷ []) Mid (tt, tt) (Mid, sends, refl)))
+
+-- the events of an exchange that was made
+made_events : (s : State) (want : ℕ) (frame : FollowFrame) (came : Option Took) (t : State) → IsMade s want frame came t → Makes IsExchange s t
+made_events s want frame came t is = (sent want frame ∷ came_event want frame came ∷ [], exchange_of want frame came, (is.mid, is.is_sent, (t, is.is_come, refl)))
+
+exchange_of_clone : OfClone IsExchange
+exchange_of_clone events (loses want frame is) = subst (AllByRecursion IsOfClone) (sym is) (tt, tt, tt)
+exchange_of_clone events (comes want frame result is) = subst (AllByRecursion IsOfClone) (sym is) (tt, tt, tt)
+
+-- the same, in a world whose fields are those of another
+module _ (r s : State) (is : r ≡ s) (one : IsOne r) (want : ℕ) (at : IsAt s.clone.replica want) (frame : FollowFrame) (is_answer : frame ≡ answer (donor_of r.donor).binlog want) where
+  at_here : IsAt r.clone.replica want
+  at_here = subst (λ (w : State). IsAt w.clone.replica want) (sym is) at
+
+  made_so : (came : Option Took) (new : Replica) → Exchanges r.clone.replica frame (Ok came) new → IsMade s want frame came (with_replica new r)
+  made_so came new exchanges = subst (λ (w : State). IsMade w want frame came (with_replica new r)) is (made r one want at_here frame is_answer came new exchanges)
+
+  pub exchange_says : {A : Type 0} (bytes : A → Text) (came : Option Took) (new : Replica) (result : Result A AllocError) → Exchanges r.clone.replica frame (Ok came) new → IfOk result (λ a. bytes a ≡ event_text (came_event want frame came)) → IfOk result (λ a. ExchangesIn s (bytes a) (with_replica new r))
+  exchange_says bytes came new (Err e) exchanges says = tt
+  exchange_says bytes came new (Ok a) exchanges says =
+      let so = made_so came new exchanges in
+      record { events = sent want frame ∷ came_event want frame came ∷ []; exchange = exchange_of want frame came; happened = (so.mid, so.is_sent, (with_replica new r, so.is_come, refl)); is = says }
+
+  pub exchange_breaks : {A : Type 0} (came : Option Took) (new : Replica) (result : Result A AllocError) → Exchanges r.clone.replica frame (Ok came) new → OnErr result (EndsUntold IsExchange s (with_replica new r))
+  exchange_breaks came new result exchanges = on_err result (EndsUntold IsExchange s (with_replica new r)) (made_untold IsExchange s (with_replica new r) exchange_of_clone (made_events s want frame came (with_replica new r) (made_so came new exchanges)))
+
+  pub exchange_stops : {A : Type 0} (e : AllocError) (new : Replica) (result : Result A AllocError) → Exchanges r.clone.replica frame (Err e) new → OnErr result (EndsUntold IsExchange s (with_replica new r))
+  exchange_stops e new result exchanges =
+      on_err result (EndsUntold IsExchange s (with_replica new r)) (subst (λ (w : State). EndsUntold IsExchange w (with_replica new r)) is (stopped r one want at_here frame is_answer e new exchanges))
+
+-- there was no memory for the answer
+pub unanswered : {A : Type 0} (s : State) (want : ℕ) (result : Result A AllocError) → OnErr result (EndsUntold IsExchange s s)
+unanswered s want result = on_err result (EndsUntold IsExchange s s) ([], sent want (frames.Current want) ∷ lost want ∷ [], loses want (frames.Current want) refl, same_untold s)
+
+-- ---- a line that is one exchange
+
+exchange_follows : (s : State) (events : List Event) → IsExchange events → AreOf s lines.Follow (events ++ [])
+exchange_follows s events is = subst (AreOf s lines.Follow) (sym (append-nil events)) (again is)
+
+pub follow_answers : {A : Type 0} (bytes : A → Text) (s t : State) (result : Result A AllocError) → IfOk result (λ a. ExchangesIn s (bytes a) t) → IfOk result (λ a. Answers s lines.Follow (bytes a) t)
+follow_answers bytes s t (Err e) is = tt
+follow_answers bytes s t (Ok a) is = record { events = is.events; step = (again is.exchange, is.happened); is = is.is }
+
+pub follow_breaks : {A : Type 0} (s t : State) (result : Result A AllocError) → OnErr result (EndsUntold IsExchange s t) → OnErr result (BreaksOff s lines.Follow t)
+follow_breaks s t (Ok a) is = tt
+follow_breaks s t (Err e) is = untold_breaks IsExchange s t lines.Follow [] (unasked lines.Follow) [] (asks_nothing refl) (exchange_follows s) is
+
+-- ---- a follower begins
+
+-- the clone's rows were read, and a follower began with them
+pub record Begins (s : State) (position : ℕ) (t : State) : Type 0 where
+  pub rows : Rows
+  pub mid : State
+  pub is_read : Happens s (showed rows) mid
+  pub is_open : Happens mid (opened_follower rows position) t
+
+-- a read leaves the clone's rows what they are
+rows_stay : (d e : Donor) (a b : Bool) (old new : Clone) (rows : Rows) → e ≡ d → b ≡ a → new ≡ record old { shown = true } → ShowsRows d a old rows → ShowsRows e b new rows
+rows_stay d e a b old new rows donor tells clone is =
+    subst (λ (x : Donor). ShowsRows x b new rows) (sym donor)
+    (subst (λ (x : Bool). ShowsRows d x new rows) (sym tells)
+    (subst (λ (x : Clone). ShowsRows d a x rows) (sym clone) (record { ended = is.ended; are = λ sure. is.are (record { told = sure.told; honest = sure.honest; steady = sure.steady }) })))
+
+opens : (s u : State) (rows : Rows) (position : ℕ) → Happens s (showed rows) u → s.clone.progress ≡ over (complete position) → s.clone.replica.follower ≡ None → OpensFollower (donor_of u.donor) u.tells u.clone rows position
+opens s u rows position is whole first = record {
+  first = ap (λ (c : Clone). c.replica.follower) is.clone.is ∙ first;
+  whole = ap (λ (c : Clone). c.progress) is.clone.is ∙ whole;
+  rows_are = rows_stay (donor_of s.donor) (donor_of u.donor) s.tells u.tells s.clone u.clone rows (clone_keeps (showed rows) s.donor u.donor tt is.step) is.tells is.clone.is is.clone.shows;
+}
+
+pub begun_so : (s u t : State) (list : List Row) (position : ℕ) → ShowsList s list u → s.clone.progress ≡ over (complete position) → s.clone.replica.follower ≡ None → OpensIn u list position t → Begins s position t
+begun_so s u t list position shows whole first opened = record {
+  rows = shows.rows;
+  mid = u;
+  is_read = shows.happened;
+  is_open = opened shows.rows shows.is (opens s u shows.rows position shows.happened whole first);
+}
+
+pub begun_at : (s t : State) (position : ℕ) → Begins s position t → IsAt t.clone.replica position
+begun_at s t position is = subst (λ (c : Clone). IsAt c.replica position) (sym is.is_open.clone.is) refl
+
+-- and asks at once
+pub first_answers : {A : Type 0} (bytes : A → Text) (s u t : State) (position : ℕ) (result : Result A AllocError) → Begins s position u → IfOk result (λ a. ExchangesIn u (bytes a) t) → IfOk result (λ a. Answers s lines.Follow (bytes a) t)
+first_answers bytes s u t position (Err e) begun is = tt
+first_answers bytes s u t position (Ok a) begun is = record {
+  events = showed begun.rows ∷ opened_follower begun.rows position ∷ is.events;
+  step = (begins begun.rows position is.events is.exchange refl, (begun.mid, begun.is_read, (u, begun.is_open, is.happened)));
+  is = is.is ∙ said_behind is.events is.exchange (showed begun.rows) (opened_follower begun.rows position);
+}
+  where
+    said_behind : (events : List Event) → IsExchange events → (e f : Event) → said events ≡ said (e ∷ f ∷ events)
+    said_behind [] (loses want frame no) e f = absurd (cc)
+    said_behind [] (comes want frame result no) e f = absurd (cc)
+    said_behind (x ∷ events) exchange e f = refl
+
+-- the events of a first follow
+abbrev IsFirst : ℕ → Rows → List Event → Type 0
+IsFirst position rows events = (rest : List Event) × IsExchange rest × (events ≡ showed rows ∷ opened_follower rows position ∷ rest)
+
+abbrev IsBegun : ℕ → Rows → List Event → Type 0
+IsBegun position rows events = events ≡ showed rows ∷ opened_follower rows position ∷ []
+
+first_breaks_off : (s t : State) (position : ℕ) (rows : Rows) → EndsUntold (IsFirst position rows) s t → BreaksOff s lines.Follow t
+first_breaks_off s t position rows is =
+    untold_breaks (IsFirst position rows) s t lines.Follow [] (unasked lines.Follow) [] (asks_nothing refl)
+    (λ events first. subst (AreOf s lines.Follow) (sym (append-nil events)) (begins rows position first.0 first.1 first.2)) is
+
+pub first_breaks : {A : Type 0} (s u t : State) (position : ℕ) (result : Result A AllocError) → Begins s position u → OnErr result (EndsUntold IsExchange u t) → OnErr result (BreaksOff s lines.Follow t)
+first_breaks s u t position (Ok a) begun is = tt
+first_breaks s u t position (Err e) begun is =
+    first_breaks_off s t position begun.rows
+    (untold_behind (IsBegun position begun.rows) IsExchange (IsFirst position begun.rows) s u t
+    (λ events at. subst (AllByRecursion IsOfClone) (sym at) (tt, tt, tt))
+    (λ xs ys at exchange. (ys, exchange, ap (λ (es : List Event). es ++ ys) at))
+    (_, refl, (begun.mid, begun.is_read, (u, begun.is_open, refl))) is)
+
+-- there was no memory for its rows
+pub unopened : {A : Type 0} (s u : State) (list : List Row) (position : ℕ) (result : Result A AllocError) → ShowsList s list u → OnErr result (BreaksOff s lines.Follow u)
+unopened s u list position result shows =
+    on_err result (BreaksOff s lines.Follow u)
+    (first_breaks_off s u position shows.rows (
+      showed shows.rows ∷ [],
+      opened_follower shows.rows position ∷ sent position (frames.Current position) ∷ lost position ∷ [],
+      (sent position (frames.Current position) ∷ lost position ∷ [], loses position (frames.Current position) refl, refl),
+      happened_untold s (showed shows.rows ∷ []) u (tt, tt) (u, shows.happened, refl),
+    ))
+
+-- what opens a follower, in a world whose fields are those of another
+pub opens_in : (r s : State) (list : List Row) (position : ℕ) (new : Replica) → r ≡ s → IsOne r → new ≡ record r.clone.replica { follower = Some (record { rows = with_rows finite.empty list; position = position }) } → OpensIn s list position (with_replica new r)
+opens_in r s list position new is one opened = subst (λ (w : State). OpensIn w list position (with_replica new r)) is (λ rows listed shows.
+    replica_happens r (opened_follower rows position) new tt one
+    (opened ∙ ap (λ (x : Rows). record r.clone.replica { follower = Some (record { rows = x; position = position }) }) (ap (with_rows finite.empty) listed ∙ opens_again rows)) tt shows)
+
+-- ---- the next answer is to be lost
+
+pub set_to_lose_happens : (r s : State) (new : Replica) → r ≡ s → IsOne r → new ≡ record r.clone.replica { losing = true } → Happens s set_to_lose (with_replica new r)
+set_to_lose_happens r s new is one lost_next = subst (λ (w : State). Happens w set_to_lose (with_replica new r)) is (replica_happens r set_to_lose new tt one lost_next tt tt)
+
+-- ---- a commit comes again
+
+pub repeat_happens : (r s : State) (number : ℕ) (result : Took) (new : Replica) → r ≡ s → IsOne r → (is : RepeatsSo r.clone.replica number (Ok (Some result)) new) → Happens s (repeated number is.0 result) (with_replica new r)
+repeat_happens r s number result new is one (frame, numbered, took) = subst (λ (w : State). Happens w (repeated number frame result) (with_replica new r)) is (replica_happens r (repeated number frame result) new tt one took.is tt (numbered, took.takes))
+
+same_world : (r s : State) (new : Replica) → r ≡ s → IsOne r → new ≡ r.clone.replica → with_replica new r ≡ s
+same_world r s new is one same = ap (λ (x : Replica). with_replica x r) same ∙ ap (λ (x : Replica). record r { donor = record r.donor { replica = x } }) (sym one) ∙ is
+
+-- nothing can be asked of the follower
+pub asks_none : (s : State) (by : Line) → AsksNothing by s.clone → Happens s (unasked by) s
+asks_none s by is = record { step = refl; begun = refl; clone = record { now = tt; shows = is; is = refl }; tells = refl; tasks = refl; sees = λ told. tt }
+
+pub repeats_none : (r s : State) (number : ℕ) (new : Replica) → r ≡ s → IsOne r → RepeatsSo r.clone.replica number (Ok None) new → Happens s (unasked (lines.Repeat number)) (with_replica new r)
+repeats_none r s number new is one (same, none) =
+    subst (λ (w : State). Happens s (unasked (lines.Repeat number)) w) (sym (same_world r s new is one same))
+    (asks_none s (lines.Repeat number) (subst (λ (w : State). AsksNothing (lines.Repeat number) w.clone) is none))
+
+pub unrepeated : (r s : State) (new : Replica) → r ≡ s → IsOne r → new ≡ r.clone.replica → with_replica new r ≡ s
+unrepeated r s new is one same = same_world r s new is one same
+
+-- ---- the follower's rows
+
+-- the rows that are listed
+pub listed_rows : (o : Option Following) (list : List Row) → MatchOption o ⊥ (λ f. list ≡ rows_in f.rows) → (rows : Rows) × (list ≡ rows_in rows) × MatchOption o ⊥ (λ f. rows ≡ f.rows)
+listed_rows None list is = absurd is
+listed_rows (Some f) list is = (f.rows, is, refl)
+
+pub shows_replica : (s : State) (rows : Rows) → MatchOption s.clone.replica.follower ⊥ (λ f. rows ≡ f.rows) → Happens s (replicated rows) s
+shows_replica s rows is = record { step = refl; begun = refl; clone = record { now = tt; shows = is; is = refl }; tells = refl; tasks = refl; sees = λ told. tt }

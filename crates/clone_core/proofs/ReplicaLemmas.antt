@@ -1,0 +1,109 @@
+-- What follows a clone becomes another, and all else of the world stays.
+use Rattle.std.proofs.Common.{◌≡◌, ◌∙◌, ℕ, List, Bool, refl, sym, ap, subst, Option, None, Some, nat_cmp}
+use Rattle.std.specs.FinMap as finite
+use Rattle.clone_plain.specs.Donor.{Donor}
+use Rattle.clone_events.specs.Events.{Event, made, opened_follower, sent, taken, lost, set_to_lose, repeated, unasked, clone_after, counted, replica_after, IsNow, Sees, Shows}
+use Rattle.clone_events.specs.World.{Clone, Replica}
+use Rattle.clone_core.specs.declared.world.Course.{Course}
+use Rattle.clone_core.specs.declared.world.Course.TheVariants as course
+use Rattle.clone_core.specs.Copied.{Holds, HoldsEnded, KnowsItsSizes, GoOnTalking, GoesOn, world_of}
+use Rattle.clone_core.specs.Following.{with_replica}
+use Rattle.clone_core.specs.Lines.{State, Happens}
+use Rattle.clone_core.specs.Steps.{SystemStep}
+use Rattle.clone_core.specs.System.{System, donor_of}
+use Rattle.clone_core.proofs.KeepLemmas.{for_told}
+
+-- ---- what holds
+
+module _ (s : System) (r : Replica) where
+  abbrev Next : System
+  Next = record s { replica = r }
+
+  next_sizes : (way : Course) → KnowsItsSizes s way → KnowsItsSizes Next way
+  next_sizes course.Absent is = tt
+  next_sizes course.Unbegun is = tt
+  next_sizes (course.Begun c) is = is
+
+  next_goes : (way : Course) → GoesOn s way → GoesOn Next way
+  next_goes course.Absent is = is
+  next_goes course.Unbegun is = tt
+  next_goes (course.Begun c) is = is
+
+  next_talks : (way : Course) → GoOnTalking s way → GoOnTalking Next way
+  next_talks course.Absent is = is
+  next_talks course.Unbegun is = tt
+  next_talks (course.Begun c) is = is
+
+  pub replica_holds : (begun : finite.FinMap nat_cmp ℕ) (disturbed doubted shown : Bool) → Holds (world_of s begun disturbed doubted shown) → Holds (world_of Next begun disturbed doubted shown)
+  replica_holds begun disturbed doubted shown holds = record {
+    terms = holds.terms;
+    parts = holds.parts;
+    looked = holds.looked;
+    short = holds.short;
+    unstopped = holds.unstopped;
+    sizes = next_sizes s.course holds.sizes;
+    marked = holds.marked;
+    goes_on = λ honest. next_goes s.course (holds.goes_on honest);
+    talks = λ told honest. next_talks s.course (holds.talks told honest);
+    steady = holds.steady;
+    keeps = record {
+      blank_before = holds.keeps.blank_before;
+      commits = holds.keeps.commits;
+      drops = holds.keeps.drops;
+      holds = λ ended sure.
+          for_told s.recipient.told (HoldsEnded (donor_of s) (world_of s begun disturbed doubted shown).clone) (HoldsEnded (donor_of s) (world_of Next begun disturbed doubted shown).clone)
+          (λ m is. record { whole = is.whole; other = is.other; shown = is.shown }) (holds.keeps.holds ended (record { told = sure.told; honest = sure.honest; steady = sure.steady }));
+    };
+  }
+
+-- ---- what happens
+
+-- an event by which what follows the clone becomes another
+abbrev pub IsOfReplica : Event → Type 0
+IsOfReplica (opened_follower rows position) = Unit {0}
+IsOfReplica (sent want frame) = Unit {0}
+IsOfReplica (taken frame result) = Unit {0}
+IsOfReplica (lost position) = Unit {0}
+IsOfReplica set_to_lose = Unit {0}
+IsOfReplica (repeated number frame result) = Unit {0}
+IsOfReplica event = ⊥
+
+steps_so : (e : Event) (s : System) (r : Replica) → IsOfReplica e → r ≡ replica_after e s.replica → SystemStep s e (record s { replica = r })
+steps_so (opened_follower rows position) s r of is = ap (λ (x : Replica). record s { replica = x }) is
+steps_so (sent want frame) s r of is = ap (λ (x : Replica). record s { replica = x }) is
+steps_so (taken frame result) s r of is = ap (λ (x : Replica). record s { replica = x }) is
+steps_so (lost position) s r of is = ap (λ (x : Replica). record s { replica = x }) is
+steps_so set_to_lose s r of is = ap (λ (x : Replica). record s { replica = x }) is
+steps_so (repeated number frame result) s r of is = ap (λ (x : Replica). record s { replica = x }) is
+steps_so e s r of is = absurd of
+
+becomes_so : (e : Event) (c : Clone) (r : Replica) → IsOfReplica e → r ≡ replica_after e c.replica → record c { replica = r } ≡ clone_after e c
+becomes_so (opened_follower rows position) c r of is = ap (λ (x : Replica). record c { replica = x }) is
+becomes_so (sent want frame) c r of is = ap (λ (x : Replica). record c { replica = x }) is
+becomes_so (taken frame result) c r of is = ap (λ (x : Replica). record c { replica = x }) is
+becomes_so (lost position) c r of is = ap (λ (x : Replica). record c { replica = x }) is
+becomes_so set_to_lose c r of is = ap (λ (x : Replica). record c { replica = x }) is
+becomes_so (repeated number frame result) c r of is = ap (λ (x : Replica). record c { replica = x }) is
+becomes_so e c r of is = absurd of
+
+counts_none : (e : Event) (begun : finite.FinMap nat_cmp ℕ) → IsOfReplica e → begun ≡ counted e begun
+counts_none (made asked answer) begun of = absurd of
+counts_none e begun of = refl
+
+sees_none : (e : Event) (d : Donor) → IsOfReplica e → Sees d e
+sees_none (made asked answer) d of = absurd of
+sees_none e d of = tt
+
+-- A world's system and its clone have the same replica.
+abbrev pub IsOne : State → Type 0
+IsOne s = s.donor.replica ≡ s.clone.replica
+
+pub replica_happens : (s : State) (e : Event) (r : Replica) → IsOfReplica e → IsOne s → r ≡ replica_after e s.clone.replica → IsNow (donor_of s.donor) e → Shows (donor_of s.donor) s.tells s.clone e → Happens s e (with_replica r s)
+replica_happens s e r of one is now shows = record {
+  step = steps_so e s.donor r of (is ∙ ap (replica_after e) (sym one));
+  begun = counts_none e s.begun of;
+  clone = record { now = now; shows = shows; is = becomes_so e s.clone r of is };
+  tells = refl;
+  tasks = refl;
+  sees = λ told. sees_none e (donor_of s.donor) of;
+}
