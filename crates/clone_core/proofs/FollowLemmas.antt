@@ -15,7 +15,7 @@ use Rattle.clone_recover.specs.declared.refusal.RecoverRefusal.{RecoverRefusal}
 use Rattle.clone_script.specs.declared.lines.Line.{Line}
 use Rattle.clone_script.specs.declared.lines.Line.TheVariants as lines
 use Rattle.clone_events.specs.Events.{Event, showed, opened_follower, sent, taken, lost, set_to_lose, repeated, replicated, unasked, event_text, said, took_text, idle, IsAt, IsComplete, IsNumbered, AsksNothing, OpensFollower, ShowsRows, TakesSo, follower_after, sent_after, taken_by}
-use Rattle.clone_events.specs.Runs.{IsExchange, loses, comes, asks_nothing, again, begins}
+use Rattle.clone_events.specs.Runs.{HidesRows, IsExchange, loses, comes, asks_nothing, asks, first_asks, hides}
 use Rattle.clone_events.specs.World.{Clone, Progress, Replica, absent, copying, over, complete, broken, spent, garbled, refused}
 use Rattle.clone_core.specs.Called.{StaysUntold}
 use Rattle.clone_core.specs.CloneEvents.{EndsUntold, Makes}
@@ -25,8 +25,9 @@ use Rattle.clone_core.specs.Lines.{State, Answers, BreaksOff, Events, Happens}
 use Rattle.clone_core.specs.Showing.{ShowsList}
 use Rattle.clone_core.specs.System.{System, donor_of}
 use Rattle.clone_core.proofs.ActsLemmas.{IsOfClone, clone_keeps}
+use Rattle.clone_core.proofs.LineLemmas.{event_breaks, said_is, same_breaks}
 use Rattle.clone_core.proofs.ReplicaLemmas.{IsOne, replica_happens}
-use Rattle.clone_core.proofs.UntoldLemmas.{AreOf, OfClone, event_says, made_untold, on_err, same_untold, untold_behind, untold_breaks, untold_then, happened_untold}
+use Rattle.clone_core.proofs.UntoldLemmas.{AreOf, OfClone, event_breaks_off, event_says, made_untold, on_err, same_untold, untold_behind, untold_breaks, untold_then, happened_untold}
 
 -- ---- whether a clone is complete
 
@@ -113,11 +114,11 @@ unanswered s want result = on_err result (EndsUntold IsExchange s s) ([], sent w
 -- ---- a line that is one exchange
 
 exchange_follows : (s : State) (events : List Event) → IsExchange events → AreOf s lines.Follow (events ++ [])
-exchange_follows s events is = subst (AreOf s lines.Follow) (sym (append-nil events)) (again is)
+exchange_follows s events is = subst (AreOf s lines.Follow) (sym (append-nil events)) (asks is)
 
 pub follow_answers : {A : Type 0} (bytes : A → Text) (s t : State) (result : Result A AllocError) → IfOk result (λ a. ExchangesIn s (bytes a) t) → IfOk result (λ a. Answers s lines.Follow (bytes a) t)
 follow_answers bytes s t (Err e) is = tt
-follow_answers bytes s t (Ok a) is = record { events = is.events; step = (again is.exchange, is.happened); is = is.is }
+follow_answers bytes s t (Ok a) is = record { events = is.events; step = (asks is.exchange, is.happened); is = is.is }
 
 pub follow_breaks : {A : Type 0} (s t : State) (result : Result A AllocError) → OnErr result (EndsUntold IsExchange s t) → OnErr result (BreaksOff s lines.Follow t)
 follow_breaks s t (Ok a) is = tt
@@ -162,7 +163,7 @@ pub first_answers : {A : Type 0} (bytes : A → Text) (s u t : State) (position 
 first_answers bytes s u t position (Err e) begun is = tt
 first_answers bytes s u t position (Ok a) begun is = record {
   events = showed begun.rows ∷ opened_follower begun.rows position ∷ is.events;
-  step = (begins begun.rows position is.events is.exchange refl, (begun.mid, begun.is_read, (u, begun.is_open, is.happened)));
+  step = (first_asks begun.rows position is.events is.exchange refl, (begun.mid, begun.is_read, (u, begun.is_open, is.happened)));
   is = is.is ∙ said_behind is.events is.exchange (showed begun.rows) (opened_follower begun.rows position);
 }
   where
@@ -181,7 +182,7 @@ IsBegun position rows events = events ≡ showed rows ∷ opened_follower rows p
 first_breaks_off : (s t : State) (position : ℕ) (rows : Rows) → EndsUntold (IsFirst position rows) s t → BreaksOff s lines.Follow t
 first_breaks_off s t position rows is =
     untold_breaks (IsFirst position rows) s t lines.Follow [] (unasked lines.Follow) [] (asks_nothing refl)
-    (λ events first. subst (AreOf s lines.Follow) (sym (append-nil events)) (begins rows position first.0 first.1 first.2)) is
+    (λ events first. subst (AreOf s lines.Follow) (sym (append-nil events)) (first_asks rows position first.0 first.1 first.2)) is
 
 pub first_breaks : {A : Type 0} (s u t : State) (position : ℕ) (result : Result A AllocError) → Begins s position u → OnErr result (EndsUntold IsExchange u t) → OnErr result (BreaksOff s lines.Follow t)
 first_breaks s u t position (Ok a) begun is = tt
@@ -214,6 +215,9 @@ opens_in r s list position new is one opened = subst (λ (w : State). OpensIn w 
 pub set_to_lose_happens : (r s : State) (new : Replica) → r ≡ s → IsOne r → new ≡ record r.clone.replica { losing = true } → Happens s set_to_lose (with_replica new r)
 set_to_lose_happens r s new is one lost_next = subst (λ (w : State). Happens w set_to_lose (with_replica new r)) is (replica_happens r set_to_lose new tt one lost_next tt tt)
 
+pub lose_says : (r s : State) (new : Replica) (text : Text) → r ≡ s → IsOne r → new ≡ record r.clone.replica { losing = true } → text ≡ event_text set_to_lose → Answers s lines.Lose text (with_replica new r)
+lose_says r s new text is one lost_next says = record { events = set_to_lose ∷ []; step = (refl, (with_replica new r, set_to_lose_happens r s new is one lost_next, refl)); is = says }
+
 -- ---- a commit comes again
 
 pub repeat_happens : (r s : State) (number : ℕ) (result : Took) (new : Replica) → r ≡ s → IsOne r → (is : RepeatsSo r.clone.replica number (Ok (Some result)) new) → Happens s (repeated number is.0 result) (with_replica new r)
@@ -231,8 +235,22 @@ repeats_none r s number new is one (same, none) =
     subst (λ (w : State). Happens s (unasked (lines.Repeat number)) w) (sym (same_world r s new is one same))
     (asks_none s (lines.Repeat number) (subst (λ (w : State). AsksNothing (lines.Repeat number) w.clone) is none))
 
-pub unrepeated : (r s : State) (new : Replica) → r ≡ s → IsOne r → new ≡ r.clone.replica → with_replica new r ≡ s
-unrepeated r s new is one same = same_world r s new is one same
+-- its answer, by what came of it
+pub repeat_says : {A : Type 0} (bytes : A → Text) (r s : State) (number : ℕ) (took : Took) (new : Replica) (result : Result A AllocError) → r ≡ s → IsOne r → RepeatsSo r.clone.replica number (Ok (Some took)) new → IfOk result (λ a. bytes a ≡ took_text took) → IfOk result (λ a. Answers s (lines.Repeat number) (bytes a) (with_replica new r))
+repeat_says bytes r s number took new result is one repeats says =
+    event_says bytes s (with_replica new r) (lines.Repeat number) (repeated number repeats.0 took) result (repeated number repeats.0 took, refl, refl) (repeat_happens r s number took new is one repeats) says
+
+pub repeat_breaks : {A : Type 0} (r s : State) (number : ℕ) (took : Took) (new : Replica) (result : Result A AllocError) → r ≡ s → IsOne r → RepeatsSo r.clone.replica number (Ok (Some took)) new → OnErr result (BreaksOff s (lines.Repeat number) (with_replica new r))
+repeat_breaks r s number took new result is one repeats =
+    event_breaks_off s (with_replica new r) (lines.Repeat number) (repeated number repeats.0 took) result (repeated number repeats.0 took, refl, refl) tt (repeat_happens r s number took new is one repeats)
+
+pub repeat_idle : {A : Type 0} (bytes : A → Text) (r s : State) (number : ℕ) (new : Replica) (result : Result A AllocError) → r ≡ s → IsOne r → RepeatsSo r.clone.replica number (Ok None) new → IfOk result (λ a. bytes a ≡ idle) → IfOk result (λ a. Answers s (lines.Repeat number) (bytes a) (with_replica new r))
+repeat_idle bytes r s number new result is one repeats says =
+    event_says bytes s (with_replica new r) (lines.Repeat number) (unasked (lines.Repeat number)) result (unasked (lines.Repeat number), refl, refl) (repeats_none r s number new is one repeats) says
+
+-- nothing has changed
+pub unrepeated : {A : Type 0} (r s : State) (line : Line) (new : Replica) (result : Result A AllocError) → r ≡ s → IsOne r → new ≡ r.clone.replica → OnErr result (BreaksOff s line (with_replica new r))
+unrepeated r s line new result is one same = subst (λ (w : State). OnErr result (BreaksOff s line w)) (sym (same_world r s new is one same)) (same_breaks s line result)
 
 -- ---- the follower's rows
 
@@ -243,3 +261,21 @@ listed_rows (Some f) list is = (f.rows, is, refl)
 
 pub shows_replica : (s : State) (rows : Rows) → MatchOption s.clone.replica.follower ⊥ (λ f. rows ≡ f.rows) → Happens s (replicated rows) s
 shows_replica s rows is = record { step = refl; begun = refl; clone = record { now = tt; shows = is; is = refl }; tells = refl; tasks = refl; sees = λ told. tt }
+
+pub replica_says : {A : Type 0} (bytes : A → Text) (s : State) (list : List Row) (result : Result A AllocError) → MatchOption s.clone.replica.follower ⊥ (λ f. list ≡ rows_in f.rows) → IfOk result (λ a. bytes a ≡ rows_answer list) → IfOk result (λ a. Answers s lines.Replica (bytes a) s)
+replica_says bytes s list result is says =
+    let (rows, listed, own) = listed_rows s.clone.replica.follower list is in
+    event_says bytes s s lines.Replica (replicated rows) result (replicated rows, tt, refl) (shows_replica s rows own) (said_is bytes result (rows_answer list) (rows_answer (rows_in rows)) (ap rows_answer listed) says)
+
+pub replica_idle : {A : Type 0} (bytes : A → Text) (s : State) (result : Result A AllocError) → s.clone.replica.follower ≡ None → IfOk result (λ a. bytes a ≡ idle) → IfOk result (λ a. Answers s lines.Replica (bytes a) s)
+replica_idle bytes s result none says = event_says bytes s s lines.Replica (unasked lines.Replica) result (unasked lines.Replica, refl, refl) (asks_none s lines.Replica none) says
+
+pub follow_idle : {A : Type 0} (bytes : A → Text) (s : State) (result : Result A AllocError) → complete_in s.clone.progress ≡ None → IfOk result (λ a. bytes a ≡ idle) → IfOk result (λ a. Answers s lines.Follow (bytes a) s)
+follow_idle bytes s result none says = event_says bytes s s lines.Follow (unasked lines.Follow) result (asks_nothing refl) (asks_none s lines.Follow (never_complete s.clone.progress none)) says
+
+-- the clone's rows weren't read, and why is said
+pub hides_says : {A : Type 0} (bytes : A → Text) (s t : State) (e : Event) (result : Result A AllocError) → HidesRows e → Happens s e t → IfOk result (λ a. bytes a ≡ event_text e) → IfOk result (λ a. Answers s lines.Follow (bytes a) t)
+hides_says bytes s t e result kind is says = event_says bytes s t lines.Follow e result (hides e kind refl) is says
+
+pub hides_breaks : {A : Type 0} (s t : State) (e : Event) (result : Result A AllocError) → HidesRows e → StaysUntold s (e ∷ []) t → OnErr result (BreaksOff s lines.Follow t)
+hides_breaks s t e result kind stays = event_breaks s t lines.Follow e result (hides e kind refl) stays

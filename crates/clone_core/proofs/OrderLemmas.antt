@@ -7,7 +7,7 @@ use Rattle.clone_script.specs.declared.lines.Line.TheVariants as lines
 use Rattle.clone_plain.specs.declared.call.EngineCall.{EngineCall}
 use Rattle.clone_events.specs.Events.{Side, to_donor, to_recipient, Event, made, cleaned, looked, archived, started, unbegun, occupied, acts, readied, sticks, again, showed, incomplete, hidden, damaged, ordered, opened_follower, sent, taken, lost, set_to_lose, repeated, replicated, unasked, replica_after, Events}
 use Rattle.clone_events.specs.Headline.{donor_order, recipient_order}
-use Rattle.clone_events.specs.Runs.{Makes, MakesOne, MakesSet, not_begun, not_changed, set, MakesClean, all_clean, not_flushed, flushed, MakesEvent, IsBy, AreOfTasks, AreOfDonor, IsRound, AreRounds, no_round, next_round, GoesOn, MakesClone, Starts, Advances, Finishes, Archives, Looks, ShowsOrNot, HidesRows, IsExchange, loses, comes, MakesFollow, asks_nothing, hides, again as again_exchanged, begins, Repeats, ShowsReplica}
+use Rattle.clone_events.specs.Runs.{Makes, MakesOne, MakesSet, not_begun, not_changed, set, MakesClean, all_clean, not_flushed, flushed, MakesEvent, IsBy, AreOfTasks, AreOfDonor, IsRound, AreRounds, no_round, next_round, GoesOn, MakesClone, Starts, Advances, Finishes, Archives, Looks, ShowsOrNot, HidesRows, IsExchange, loses, comes, MakesFollow, asks_nothing, hides, asks, first_asks, Repeats, ShowsReplica}
 use Rattle.clone_engine.specs.Disks.{Visits}
 use Rattle.clone_outside.specs.DiskCalls.{DiskState}
 use Rattle.clone_engine.specs.Engine.{Engine}
@@ -228,8 +228,8 @@ exchange_none side es (comes want frame result is) = ap (filter_map (order_in si
 follow_none : (side : Side) (es : List Event) → MakesFollow es → filter_map (order_in side) es ≡ []
 follow_none side es (asks_nothing is) = ap (filter_map (order_in side)) is
 follow_none side es (hides e kind is) = one_none side HidesRows es (hides_none side) (e, kind, is)
-follow_none side es (again_exchanged is) = exchange_none side es is
-follow_none side es (begins rows position rest exchange is) = ap (filter_map (order_in side)) is ∙ exchange_none side rest exchange
+follow_none side es (asks is) = exchange_none side es is
+follow_none side es (first_asks rows position rest exchange is) = ap (filter_map (order_in side)) is ∙ exchange_none side rest exchange
 
 repeats_none : (side : Side) (number : ℕ) (e : Event) → Repeats number e → order_in side e ≡ None
 repeats_none side number (ordered to order) is = absurd is

@@ -1,13 +1,18 @@
 -- What follows a clone becomes another, and all else of the world stays.
-use Rattle.std.proofs.Common.{◌≡◌, ◌∙◌, ℕ, List, Bool, refl, sym, ap, subst, Option, None, Some, nat_cmp}
+use Rattle.std.proofs.Common.{◌≡◌, ◌∙◌, ◌-◌, ℕ, List, [], ◌∷◌, ◌++◌, length, length-append, arith, Bool, false, refl, sym, ap, subst, Option, None, Some, MatchOption, Ok, nat_cmp, slice_get}
+use Rattle.std.proofs.lemmas.Option.{same_Some}
 use Rattle.std.specs.FinMap as finite
+use Rattle.std.specs.Option.{option_map}
+use Rattle.clone_follow.specs.Following.{Following, Takes}
+use Rattle.clone_follow.specs.declared.frame.FollowFrame.{FollowFrame}
+use Rattle.clone_follow.specs.declared.frame.FollowFrame.TheVariants as frames
 use Rattle.clone_plain.specs.Donor.{Donor}
-use Rattle.clone_events.specs.Events.{Event, made, opened_follower, sent, taken, lost, set_to_lose, repeated, unasked, clone_after, counted, replica_after, IsNow, Sees, Shows}
+use Rattle.clone_events.specs.Events.{Event, made, opened_follower, sent, taken, lost, set_to_lose, repeated, clone_after, counted, follower_after, replica_after, sent_after, IsAmong, IsNow, Sees, Shows}
 use Rattle.clone_events.specs.World.{Clone, Replica}
 use Rattle.clone_core.specs.declared.world.Course.{Course}
 use Rattle.clone_core.specs.declared.world.Course.TheVariants as course
 use Rattle.clone_core.specs.Copied.{Holds, HoldsEnded, KnowsItsSizes, GoOnTalking, GoesOn, world_of}
-use Rattle.clone_core.specs.Following.{with_replica}
+use Rattle.clone_core.specs.Following.{Keeps, TakesFrame, Took, TookSo, with_replica, with_sent}
 use Rattle.clone_core.specs.Lines.{State, Happens}
 use Rattle.clone_core.specs.Steps.{SystemStep}
 use Rattle.clone_core.specs.System.{System, donor_of}
@@ -107,3 +112,45 @@ replica_happens s e r of one is now shows = record {
   tasks = refl;
   sees = λ told. sees_none e (donor_of s.donor) of;
 }
+
+-- ---- an exchange
+
+get_last : (xs : List FollowFrame) (x : FollowFrame) → slice_get (xs ++ x ∷ []) (length xs) ≡ Some x
+get_last [] x = refl
+get_last (y ∷ xs) x = get_last xs x
+
+-- what was sent is among what was sent
+pub among_sent : (frame : FollowFrame) (all : List FollowFrame) → IsAmong (sent_after frame all) frame
+among_sent (frames.Commit position commit) all = (length all, get_last all (frames.Commit position commit))
+among_sent (frames.Want position) all = tt
+among_sent (frames.Current position) all = tt
+
+-- the last of them is the frame
+pub last_of : (all more : List FollowFrame) (frame found : FollowFrame) → more ≡ all ++ frame ∷ [] → slice_get more (length more - 1) ≡ Some found → found ≡ frame
+last_of all more frame found is at =
+    let long : length more - 1 ≡ length all = omega (arith, ap length is, length-append all (frame ∷ [])) in
+    same_Some found frame (sym at ∙ ap (slice_get more) long ∙ ap (λ (xs : List FollowFrame). slice_get xs (length all)) is ∙ get_last all frame)
+
+-- what was kept, by what was given back
+pub keeps_other : (old mid : Replica) (frame found : FollowFrame) (other : Option FollowFrame) → Keeps old frame (Ok other) mid → other ≡ Some found → (mid ≡ with_sent frame old) × (found ≡ frame)
+keeps_other old mid frame found None keeps is = absurd (let e : None ≡ Some found = is in cc)
+keeps_other old mid frame found (Some x) keeps is = (keeps.1, sym (same_Some x found is) ∙ keeps.0)
+
+pub keeps_none : (old mid : Replica) (frame : FollowFrame) (other : Option FollowFrame) → Keeps old frame (Ok other) mid → other ≡ None → (mid ≡ with_sent frame old) × (mid.sent ≡ old.sent ++ frame ∷ [])
+keeps_none old mid frame None keeps is = keeps
+keeps_none old mid frame (Some x) keeps is = absurd (let e : Some x ≡ None = is in cc)
+
+-- the follower took it
+pub took_so : (old mid : Replica) (frame found : FollowFrame) (result : Took) (f g : Following) → mid ≡ with_sent frame old → found ≡ frame → mid.losing ≡ false → mid.follower ≡ Some f → TakesFrame f found (Ok result) g
+    → (old.losing ≡ false) × IsAmong (with_sent frame old).sent frame × TookSo (with_sent frame old) frame result (record mid { follower = Some g })
+took_so old mid frame found result f g is same losing follower takes =
+    let there : (with_sent frame old).follower ≡ Some f = sym (ap (λ (r : Replica). r.follower) is) ∙ follower in
+    let so : TakesFrame f frame (Ok result) g = subst (λ (x : FollowFrame). TakesFrame f x (Ok result) g) same takes in
+    let now : Option Following → Type 0 = λ o. MatchOption o ⊥ (λ h. Takes h frame result (follower_after frame result h)) in (
+      sym (ap (λ (r : Replica). r.losing) is) ∙ losing,
+      among_sent frame old.sent,
+      record {
+        takes = subst now (sym there) (subst (λ (h : Following). Takes f frame result h) so.1 so.0);
+        is = ap (λ (r : Replica). record r { follower = Some g }) is ∙ ap (λ (o : Option Following). record (with_sent frame old) { follower = o }) (ap Some so.1 ∙ sym (ap (option_map (follower_after frame result)) there));
+      },
+    )

@@ -1,5 +1,5 @@
 -- What comes of the calls by which a clone is followed.
-use Rattle.std.specs.Prelude.{ℕ, ◌≡◌, ◌⊎◌, true, false, List, None, Some, MatchOption, Vec, Result, Ok, Err}
+use Rattle.std.specs.Prelude.{ℕ, ◌≡◌, ◌⊎◌, ◌++◌, ◌∷◌, [], true, false, List, None, Some, MatchOption, Vec, Result, Ok, Err}
 use Rattle.std.specs.declared.alloc.AllocError.{AllocError}
 use Rattle.std.specs.declared.alloc.Global.{Global}
 use Rattle.std.specs.declared.option.Option.{Option}
@@ -24,11 +24,6 @@ TakesFrame old frame (Ok result) new =
     Takes old frame result new × (new ≡ follower_after frame result old)
 TakesFrame old frame (Err e) new = new ≡ old
 
--- the frame of a number among those that were sent, or none has it
-abbrev pub FrameAt : List FollowFrame → ℕ → Option FollowFrame → Type 0
-FrameAt all number (Some frame) = IsNumbered all number frame
-FrameAt all number None = (frame : FollowFrame) → IsNumbered all number frame → ⊥
-
 -- ---- what follows a clone
 
 -- a frame was sent
@@ -37,7 +32,8 @@ with_sent frame r = record r { sent = sent_after frame r.sent }
 
 -- A frame was sent, of which a COMMIT is kept, and any other given back.
 abbrev pub Keeps : Replica → FollowFrame → Result (Option FollowFrame) AllocError → Replica → Type 0
-Keeps old frame (Ok None) new = (new ≡ with_sent frame old) × IsAmong new.sent frame
+Keeps old frame (Ok None) new =
+    (new ≡ with_sent frame old) × (new.sent ≡ old.sent ++ frame ∷ [])
 Keeps old frame (Ok (Some other)) new = (other ≡ frame) × (new ≡ with_sent frame old)
 Keeps old frame (Err e) new = new ≡ old
 

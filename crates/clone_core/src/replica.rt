@@ -1,12 +1,14 @@
 //! What follows a clone: a follower, once there is one, the commits that the donor ever sent it,
 //! and whether its next answer is to be lost.
-ghost use Rattle.std.specs.Prelude.{◌≡◌, IfOk, IsSome, OnOk, OnErr, Some};
+ghost use Rattle.std.specs.Prelude.{◌≡◌, IfNone, IfOk, IfSome, IsSome, OnOk, OnErr, Some};
 ghost use Rattle.std.specs.FinMap as finite;
 ghost use Rattle.std.specs.Option.{option_map};
 ghost use Rattle.clone_follow.specs.Following.{Following, with_rows};
+ghost use Rattle.clone_follow.specs.declared.frame.FollowFrame as frames;
 ghost use Rattle.clone_events.specs.Events as events;
+ghost use Rattle.clone_events.specs.Events.{IsNumbered};
 ghost use Rattle.clone_events.specs.World.{no_replica};
-ghost use Rattle.clone_core.specs.Following.{Exchanges, FrameAt, Keeps, RepeatsSo, RowsOf, TakesFrame};
+ghost use Rattle.clone_core.specs.Following.{Exchanges, Keeps, RepeatsSo, RowsOf, TakesFrame};
 
 use clone_follow::{FollowFrame, FollowRefusal, FollowTook, Follower};
 use clone_model::Value;
@@ -98,14 +100,14 @@ impl Replica {
             self.is_losing = false;
             return Ok(None);
         }
-        let frame = match &other {
-            Some(frame) => frame,
-            None => &self.sent[self.sent.len() - 1],
-        };
         let Some(follower) = &mut self.follower else {
             unreachable!()
         };
-        Ok(Some(take(follower, frame)?))
+        let took = match &other {
+            Some(frame) => take(follower, frame)?,
+            None => take(follower, &self.sent[self.sent.len() - 1])?,
+        };
+        Ok(Some(took))
     }
 
     // Keeps a COMMIT that is sent, and gives any other frame back.
@@ -157,7 +159,9 @@ fn take(follower: &mut Follower, frame: &FollowFrame) -> Result<Took, AllocError
 
 // The frame of this number, the first of which has number 1.
 fn frame_at(sent: &[FollowFrame], number: u64) -> Option<&FollowFrame>
-    ensures { FrameAt sent.now number result }
+    ensures some { IfSome result (λ frame. IsNumbered sent.now number frame.now) }
+    ensures none { IfNone result
+        ((frame : frames.FollowFrame) → IsNumbered sent.now number frame → ⊥) }
 {
     if number == 0 || number > sent.len() as u64 {
         return None;

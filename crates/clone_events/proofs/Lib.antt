@@ -1,4 +1,6 @@
 pub mod Common
+pub mod CompleteLemmas
+pub mod FollowerLemmas
 pub mod RunLemmas
 pub mod BinlogLemmas
 pub mod StopLemmas

@@ -1,7 +1,7 @@
 -- A line makes one event, or it is a `set`, or none of its events commits or begins, as those of
 -- `clean` and of `clone`.
 use Rattle.std.proofs.Common.{◌≡◌, ℕ, zero, suc, ◌+◌, List, [], ◌∷◌, ◌++◌, refl, sym, subst, ◌∙◌, append_assoc, None, Ok, Err, flat_map, nat_cmp}
-use Rattle.clone_events.proofs.Common.{AllByRecursion, FinMap, Line, Cause, EngineCall, Event, made, acts, ordered, counted, committed_at, Makes, MakesOne, MakesSet, MakesClean, all_clean, not_flushed, flushed, Starts, Finishes, Advances, GoesOn, IsBy, AreOfTasks, AreOfDonor, IsRound, AreRounds, no_round, next_round, MakesClone, HidesRows, IsExchange, loses, comes, MakesFollow, asks_nothing, hides, again, begins}
+use Rattle.clone_events.proofs.Common.{AllByRecursion, FinMap, Line, Cause, EngineCall, Event, made, acts, ordered, counted, committed_at, Makes, MakesOne, MakesSet, MakesClean, all_clean, not_flushed, flushed, Starts, Finishes, Advances, GoesOn, IsBy, AreOfTasks, AreOfDonor, IsRound, AreRounds, no_round, next_round, MakesClone, HidesRows, IsExchange, loses, comes, MakesFollow, asks_nothing, hides, asks, first_asks}
 use Rattle.clone_plain.specs.declared.call.EngineCall.TheVariants as call
 use Rattle.clone_script.specs.declared.lines.Line.TheVariants as lines
 
@@ -103,8 +103,8 @@ exchange_quiet events (comes want frame result is) = subst (AllByRecursion IsQui
 follow_quiet : (events : List Event) → MakesFollow events → AllByRecursion IsQuiet events
 follow_quiet events (asks_nothing is) = subst (AllByRecursion IsQuiet) (sym is) (is_quiet _ refl (λ begun. refl), tt)
 follow_quiet events (hides e kind is) = subst (AllByRecursion IsQuiet) (sym is) (hides_quiet e kind, tt)
-follow_quiet events (again is) = exchange_quiet events is
-follow_quiet events (begins rows position rest exchange is) = subst (AllByRecursion IsQuiet) (sym is) (is_quiet _ refl (λ begun. refl), (is_quiet _ refl (λ begun. refl), exchange_quiet rest exchange))
+follow_quiet events (asks is) = exchange_quiet events is
+follow_quiet events (first_asks rows position rest exchange is) = subst (AllByRecursion IsQuiet) (sym is) (is_quiet _ refl (λ begun. refl), (is_quiet _ refl (λ begun. refl), exchange_quiet rest exchange))
 
 pub shape : (tasks : ℕ) (next : ℕ → ℕ) (line : Line) (events : List Event) → Makes tasks next line events → Shape events
 shape tasks next (lines.Create table buckets) events is = call_shape _ events is

@@ -162,13 +162,13 @@ HidesRows event = ⊥
 pub data MakesFollow (events : List Event) : Type 0 where
   asks_nothing : events ≡ unasked Follow ∷ [] → MakesFollow events
   hides : (e : Event) → HidesRows e → events ≡ e ∷ [] → MakesFollow events
-  again : IsExchange events → MakesFollow events
-  begins : (rows : Rows) (position : ℕ) (rest : List Event) → IsExchange rest
+  asks : IsExchange events → MakesFollow events
+  first_asks : (rows : Rows) (position : ℕ) (rest : List Event) → IsExchange rest
       → events ≡ showed rows ∷ opened_follower rows position ∷ rest → MakesFollow events
 
 -- a commit of this number comes again, or there is none
 abbrev pub Repeats : ℕ → Event → Type 0
-Repeats number (repeated again frame result) = again ≡ number
+Repeats number (repeated which frame result) = which ≡ number
 Repeats number (unasked by) = by ≡ Repeat number
 Repeats number event = ⊥
 

@@ -1,7 +1,6 @@
 pub mod EndLemmas
 pub mod FairLemmas
 pub mod FavouredLemmas
-pub mod FollowerLemmas
 pub mod OutcomeLemmas
 pub mod RecoveringLemmas
 pub mod RunLemmas

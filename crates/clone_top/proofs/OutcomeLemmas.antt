@@ -14,10 +14,10 @@ use Rattle.clone_plain.specs.Answers.{Text}
 use Rattle.clone_plain.specs.Donor.{Donor, no_donor}
 use Rattle.clone_events.specs.BreaksOff as plain_off
 use Rattle.clone_events.specs.Events.{Event, IsComplete, PlainEvent, recipient_fault}
-use Rattle.clone_events.specs.Headline.{AreCommits, AreDrops, AreSets, FollowsStop, ShowsStop, all_events, donor_order, recipient_order}
+use Rattle.clone_events.specs.Headline.{AreCommits, AreDrops, AreSets, FollowsStop, ShowsFollowers, ShowsStop, all_events, donor_order, recipient_order}
 use Rattle.clone_events.specs.Runs as plain_runs
 use Rattle.clone_events.specs.World.{World, Stop, Progress, absent, copying, over, Clone, HasEnded, IsSure, before_stop, no_clone, opened}
-use Rattle.clone_events.proofs.RunLemmas.{Events-tells, Runs-Events}
+use Rattle.clone_events.proofs.RunLemmas.{Events-tells}
 use Rattle.clone_engine.proofs.ToldLemmas.{for_told}
 use Rattle.clone_engine.specs.Disks.{Visits}
 use Rattle.clone_core.specs.Steps.{SystemStep}
@@ -49,7 +49,6 @@ use Rattle.clone_top.specs.Status.{number_of}
 use Rattle.clone_top.specs.Completeness.{EndsWell, IsFavoured}
 use Rattle.clone_top.proofs.EndLemmas.{IsAtStop, ends_at_stop, left_at_stop}
 use Rattle.clone_top.proofs.FairLemmas.{run_fair}
-use Rattle.clone_top.proofs.FollowerLemmas.{followers_show, follows_stop, none_follows}
 use Rattle.clone_top.proofs.FavouredLemmas.{ends_otherwise, unhindered}
 
 -- ---- no line was begun
@@ -179,6 +178,8 @@ pub record PlainLaws : Type 0 where
   pub drops : (lines : List Line) (events : List (List Event)) (t : World Donor) (tasks : ℕ) (tells : Bool) → PlainRuns (opened no_donor tasks tells) lines events t → AreDrops 0 (all_events events) t.donor.drops
   pub sets : (lines : List Line) (events : List (List Event)) (t : World Donor) (tasks : ℕ) (tells : Bool) → PlainRuns (opened no_donor tasks tells) lines events t → AreSets lines events t.donor.binlog
   pub stop : (lines : List Line) (events : List (List Event)) (t : World Donor) (tasks : ℕ) (tells : Bool) → PlainRuns (opened no_donor tasks tells) lines events t → ShowsStop t.donor tells no_clone (all_events events)
+  pub followers : (lines : List Line) (events : List (List Event)) (t : World Donor) (tasks : ℕ) (tells : Bool) → PlainRuns (opened no_donor tasks tells) lines events t → ShowsFollowers t.donor tells no_clone (all_events events)
+  pub follows : (lines : List Line) (events : List (List Event)) (t : World Donor) (tasks : ℕ) (tells : Bool) → PlainRuns (opened no_donor tasks tells) lines events t → FollowsStop t.donor tells t.clone
 
 -- a count that rose since a disk was asked rose since before
 rose_before : (old asked final : ℕ) → old ≤ asked → Rose asked final → Rose old final
@@ -230,9 +231,8 @@ module _ (old new : Streams) (given : Disks) (back : Ends) (config : Config) (te
         sets = plains.sets (take count lines) events (plain_of final) terms.tasks (tell given) happened;
         dropped = plains.drops (take count lines) events (plain_of final) terms.tasks (tell given) happened;
         shows = plains.stop (take count lines) events (plain_of final) terms.tasks (tell given) happened;
-        followers = (followers_show (opened no_donor terms.tasks (tell given)) (all_events events) (plain_of final) (none_follows no_donor terms.tasks (tell given)) (Runs-Events (λ d. d) PlainEvent (opened no_donor terms.tasks (tell given)) (take count lines) events (plain_of final) happened)).0;
-        follows = subst (λ (b : Bool). FollowsStop (donor_of final.donor) b final.clone) (Events-tells (λ d. d) PlainEvent (opened no_donor terms.tasks (tell given)) (all_events events) (plain_of final) (Runs-Events (λ d. d) PlainEvent (opened no_donor terms.tasks (tell given)) (take count lines) events (plain_of final) happened))
-            (follows_stop (plain_of final) (followers_show (opened no_donor terms.tasks (tell given)) (all_events events) (plain_of final) (none_follows no_donor terms.tasks (tell given)) (Runs-Events (λ d. d) PlainEvent (opened no_donor terms.tasks (tell given)) (take count lines) events (plain_of final) happened)).1);
+        followers = plains.followers (take count lines) events (plain_of final) terms.tasks (tell given) happened;
+        follows = plains.follows (take count lines) events (plain_of final) terms.tasks (tell given) happened;
         drops = gives.drops;
         stop = gives.stop;
         disk = keeps_completed (donor_of left.donor) (tell given) left.clone back.disks.recipient.told keeps at_stop;

@@ -21,7 +21,7 @@ returns g c = λ number before after read.
       recipient_fault = λ lines events t run met. law.recipient_fault _ _ first lines events t c.in-Ok.ensures.new run met;
     } in
     let plain = c.run_laws-2.ensures in
-    let plains : PlainLaws = record { commits = plain.commits; drops = plain.drops; sets = plain.sets; stop = plain.stop } in
+    let plains : PlainLaws = record { commits = plain.commits; drops = plain.drops; sets = plain.sets; stop = plain.stop; followers = plain.followers; follows = plain.follows } in
     let gave = c.into_disks-donor.ensures in
     let gives : GivesBack _ c.run_lines-status.new.world = record { donor = gave.donor; recipient = gave.recipient; drops = gave.drops; stop = c.stop-stop.ensures; clone = c.laws.ensures } in
     ran _ _ _ _ _ _ _ first _ read record { new = c.in-Ok.ensures.new; empty = c.in-Ok.ensures.empty; donor = c.in-Ok.ensures.donor; recipient = c.in-Ok.ensures.recipient } laws plains gives _

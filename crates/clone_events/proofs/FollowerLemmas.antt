@@ -16,13 +16,14 @@ use Rattle.clone_follow.specs.declared.frame.FollowFrame.TheVariants as frames
 use Rattle.clone_follow.proofs.ReplayLemmas.{each_once, folded}
 use Rattle.clone_model.specs.History.{Drops, Entry, Rows, Committed, after_commit, after_commits, after_entries, fold, history_of}
 use Rattle.clone_model.specs.declared.change.Commit.{Commit}
-use Rattle.clone_plain.specs.Donor.{Donor}
+use Rattle.clone_plain.specs.Donor.{Donor, no_donor}
 use Rattle.clone_events.specs.Events.{Event, looked, started, unbegun, acts, showed, hidden, opened_follower, sent, taken, lost, set_to_lose, repeated, replicated, Change, stops, acknowledges, disturbs, crowds, ends, Events, Happens, IsAmong, IsNow, IsNumbered, PlainEvent, Shows, ShowsChanges, ShowsIn, changed_all, changed_by, changed_in, clone_after, follower_after, sent_after}
 use Rattle.clone_events.specs.Headline.{FollowsStop, IsReplayed, ShowsFollower, ShowsFollowers}
-use Rattle.clone_events.specs.World.{World, End, Stop, Progress, absent, copying, over, complete, Clone, IsSure, Replica, before_stop, no_clone}
+use Rattle.clone_events.specs.World.{World, End, Stop, Progress, absent, copying, over, complete, Clone, IsSure, Replica, before_stop, no_clone, opened}
 use Rattle.clone_events.proofs.BinlogLemmas.{Adds, event_adds, events_add}
+use Rattle.clone_events.proofs.RunLemmas.{Events-tells}
 use Rattle.clone_events.proofs.StopLemmas.{IsStop, before_stop-longer, stop_after, stop_stays}
-use Rattle.clone_top.proofs.EndLemmas.{IsAtStop, event_keeps}
+use Rattle.clone_events.proofs.CompleteLemmas.{IsAtStop, event_keeps}
 
 -- ---- what was sent
 
@@ -266,8 +267,8 @@ keeps_longer d e answered tells clone added keeps = record {
   followed = followed_longer d e answered tells clone clone.replica.follower added keeps.stop keeps.followed;
 }
 
-pub none_follows : (d : Donor) (tasks : ℕ) (tells : Bool) → Keeps d tells no_clone
-none_follows d tasks tells = record { all = tt; stop = tt; ends = λ position is honest. let no : absent ≡ over (complete position) = is in cc; followed = tt }
+none_follows : (d : Donor) (tells : Bool) → Keeps d tells no_clone
+none_follows d tells = record { all = tt; stop = tt; ends = λ position is honest. let no : absent ≡ over (complete position) = is in cc; followed = tt }
 
 -- ---- the rows
 
@@ -299,7 +300,7 @@ follows_by d tells clone (Some now) within is sure =
     let long : is.first.position ≤ length d.binlog = omega (arith, position, here.0) in
     subst (λ (x : Option Stop). MatchOption x ⊥ (λ (s : Stop). IsReplayed d s now)) (sym stop) (replayed d at is.first now (each_once d.binlog is.first now is.events long is.are is.run) position rows)
 
-pub follows_stop : (t : World Donor) → Keeps t.donor t.tells t.clone → FollowsStop t.donor t.tells t.clone
+follows_stop : (t : World Donor) → Keeps t.donor t.tells t.clone → FollowsStop t.donor t.tells t.clone
 follows_stop t keeps = λ sure. follows_by t.donor t.tells t.clone t.clone.replica.follower keeps.stop keeps.followed sure
 
 shows_one : (d : Donor) (tells : Bool) (clone : Clone) (e : Event) (earlier : Donor) → Shows earlier tells clone e → Keeps d tells clone → ShowsFollower d tells clone e
@@ -307,7 +308,7 @@ shows_one d tells clone (replicated rows) earlier shows keeps = (shows, λ sure.
 shows_one d tells clone e earlier shows keeps = tt
 
 -- ALL OF THEM
-pub followers_show : (s : World Donor) (es : List Event) (t : World Donor) → Keeps s.donor s.tells s.clone → Events (λ d. d) PlainEvent s es t → ShowsFollowers t.donor s.tells s.clone es × Keeps t.donor t.tells t.clone
+followers_show : (s : World Donor) (es : List Event) (t : World Donor) → Keeps s.donor s.tells s.clone → Events (λ d. d) PlainEvent s es t → ShowsFollowers t.donor s.tells s.clone es × Keeps t.donor t.tells t.clone
 followers_show s [] t keeps is = (tt, subst (λ (w : World Donor). Keeps w.donor w.tells w.clone) is keeps)
 followers_show s (e ∷ es) t keeps is =
     let happens : Happens (λ d. d) PlainEvent s e is.0 = is.1 in
@@ -317,3 +318,9 @@ followers_show s (e ∷ es) t keeps is =
     let rest = followers_show is.0 es t next is.2 in
     let here = shows_one t.donor s.tells s.clone e s.donor happens.clone.shows (keeps_longer s.donor t.donor _ s.tells s.clone (events_add (λ d. d) PlainEvent (λ d e event step. step) s (e ∷ es) t is) keeps) in
     ((here, subst (λ (c : Clone). ShowsFollowers t.donor s.tells c es) happens.clone.is (subst (λ (b : Bool). ShowsFollowers t.donor b is.0.clone es) happens.tells rest.0)), rest.1)
+
+-- of a run from the beginning
+pub followed_run : (tasks : ℕ) (tells : Bool) (es : List Event) (t : World Donor) → Events (λ d. d) PlainEvent (opened no_donor tasks tells) es t → ShowsFollowers t.donor tells no_clone es × FollowsStop t.donor tells t.clone
+followed_run tasks tells es t is =
+    let all = followers_show (opened no_donor tasks tells) es t (none_follows no_donor tells) is in
+    (all.0, subst (λ (b : Bool). FollowsStop t.donor b t.clone) (Events-tells (λ d. d) PlainEvent (opened no_donor tasks tells) es t is) (follows_stop t all.1))
