@@ -1,5 +1,8 @@
 -- What the lines of a follower make happen.
-use Rattle.std.proofs.Common.{◌≡◌, ◌∙◌, ◌≤◌, ◌-◌, ◌⊎◌, inl, inr, ℕ, List, [], ◌∷◌, ◌++◌, Bool, true, false, arith, refl, sym, ap, subst, Option, None, Some, MatchOption, Result, Ok, Err, IfOk, OnErr, append-nil}
+use Rattle.std.proofs.Common.{◌≡◌, ◌∙◌, ◌≤◌, ◌-◌, ◌⊎◌, inl, inr, ℕ, List, [], ◌∷◌, ◌++◌, Bool, true, false, arith, refl, sym, ap, subst, Option, None, Some, MatchOption, Result, Ok, Err, IfOk, OnErr, OnOk, IsSome, Vec, append-nil}
+use Rattle.std.proofs.lemmas.Option.{same_Some}
+use Rattle.std.specs.Option.{option_map}
+use Rattle.std.specs.declared.alloc.Global.{Global}
 use Rattle.std.specs.FinMap as finite
 use Rattle.std.specs.List.{AllByRecursion}
 use Rattle.std.specs.declared.alloc.AllocError.{AllocError}
@@ -83,8 +86,8 @@ made_events : (s : State) (want : ℕ) (frame : FollowFrame) (came : Option Took
 made_events s want frame came t is = (sent want frame ∷ came_event want frame came ∷ [], exchange_of want frame came, (is.mid, is.is_sent, (t, is.is_come, refl)))
 
 exchange_of_clone : OfClone IsExchange
-exchange_of_clone events (loses want frame is) = subst (AllByRecursion IsOfClone) (sym is) (tt, tt, tt)
-exchange_of_clone events (comes want frame result is) = subst (AllByRecursion IsOfClone) (sym is) (tt, tt, tt)
+exchange_of_clone events (loses want frame is) = subst (AllByRecursion IsOfClone) (sym is) (tt, (tt, tt))
+exchange_of_clone events (comes want frame result is) = subst (AllByRecursion IsOfClone) (sym is) (tt, (tt, tt))
 
 -- the same, in a world whose fields are those of another
 module _ (r s : State) (is : r ≡ s) (one : IsOne r) (want : ℕ) (at : IsAt s.clone.replica want) (frame : FollowFrame) (is_answer : frame ≡ answer (donor_of r.donor).binlog want) where
@@ -106,6 +109,35 @@ module _ (r s : State) (is : r ≡ s) (one : IsOne r) (want : ℕ) (at : IsAt s.
   pub exchange_stops : {A : Type 0} (e : AllocError) (new : Replica) (result : Result A AllocError) → Exchanges r.clone.replica frame (Err e) new → OnErr result (EndsUntold IsExchange s (with_replica new r))
   exchange_stops e new result exchanges =
       on_err result (EndsUntold IsExchange s (with_replica new r)) (subst (λ (w : State). EndsUntold IsExchange w (with_replica new r)) is (stopped r one want at_here frame is_answer e new exchanges))
+
+-- its answer, by what came of it
+pub exchange_said : {A : Type 0} (bytes : A → Text) (want : ℕ) (frame : FollowFrame) (came these : Option Took) (result said : Result A AllocError) → came ≡ these → result ≡ said → IfOk said (λ a. bytes a ≡ event_text (came_event want frame these)) → IfOk result (λ a. bytes a ≡ event_text (came_event want frame came))
+exchange_said {A} bytes want frame came these result said is same says =
+    subst (λ (o : Option Took). IfOk result (λ a. bytes a ≡ event_text (came_event want frame o))) (sym is)
+    (subst (λ (r : Result A AllocError). IfOk r (λ a. bytes a ≡ event_text (came_event want frame these))) (sym same) says)
+
+some_at : (o : Option Following) (want : ℕ) → MatchOption o ⊥ (λ f. want ≡ f.position) → IsSome o
+some_at None want at = absurd at
+some_at (Some f) want at = tt
+
+-- the follower is there
+pub follower_there : (r s : State) (want : ℕ) → r ≡ s → IsAt s.clone.replica want → IsSome r.clone.replica.follower
+follower_there r s want is at = some_at r.clone.replica.follower want (subst (λ (w : State). IsAt w.clone.replica want) (sym is) at)
+
+position_at : (o : Option Following) (want : ℕ) → option_map (λ (f : Following). f.position) o ≡ Some want → MatchOption o ⊥ (λ f. want ≡ f.position)
+position_at None want is = absurd (let e : None ≡ Some want = is in cc)
+position_at (Some f) want is = sym (same_Some f.position want is)
+
+position_none : (o : Option Following) → option_map (λ (f : Following). f.position) o ≡ None → o ≡ None
+position_none None is = refl
+position_none (Some f) is = absurd (let e : Some f.position ≡ None = is in cc)
+
+-- its position is this, or there is none
+pub at_position : (r s : State) (result : Option ℕ) (want : ℕ) → r ≡ s → result ≡ option_map (λ (f : Following). f.position) r.clone.replica.follower → result ≡ Some want → IsAt s.clone.replica want
+at_position r s result want is position some = subst (λ (w : State). IsAt w.clone.replica want) is (position_at r.clone.replica.follower want (sym position ∙ some))
+
+pub no_follower : (r s : State) (result : Option ℕ) → r ≡ s → result ≡ option_map (λ (f : Following). f.position) r.clone.replica.follower → result ≡ None → s.clone.replica.follower ≡ None
+no_follower r s result is position none = ap (λ (w : State). w.clone.replica.follower) (sym is) ∙ position_none r.clone.replica.follower (sym position ∙ none)
 
 -- there was no memory for the answer
 pub unanswered : {A : Type 0} (s : State) (want : ℕ) (result : Result A AllocError) → OnErr result (EndsUntold IsExchange s s)
@@ -168,8 +200,8 @@ first_answers bytes s u t position (Ok a) begun is = record {
 }
   where
     said_behind : (events : List Event) → IsExchange events → (e f : Event) → said events ≡ said (e ∷ f ∷ events)
-    said_behind [] (loses want frame no) e f = absurd (cc)
-    said_behind [] (comes want frame result no) e f = absurd (cc)
+    said_behind [] (loses want frame none) e f = absurd (cc)
+    said_behind [] (comes want frame result none) e f = absurd (cc)
     said_behind (x ∷ events) exchange e f = refl
 
 -- the events of a first follow
@@ -189,7 +221,7 @@ first_breaks s u t position (Ok a) begun is = tt
 first_breaks s u t position (Err e) begun is =
     first_breaks_off s t position begun.rows
     (untold_behind (IsBegun position begun.rows) IsExchange (IsFirst position begun.rows) s u t
-    (λ events at. subst (AllByRecursion IsOfClone) (sym at) (tt, tt, tt))
+    (λ events at. subst (AllByRecursion IsOfClone) (sym at) (tt, (tt, tt)))
     (λ xs ys at exchange. (ys, exchange, ap (λ (es : List Event). es ++ ys) at))
     (_, refl, (begun.mid, begun.is_read, (u, begun.is_open, refl))) is)
 
@@ -210,6 +242,17 @@ opens_in r s list position new is one opened = subst (λ (w : State). OpensIn w 
     replica_happens r (opened_follower rows position) new tt one
     (opened ∙ ap (λ (x : Rows). record r.clone.replica { follower = Some (record { rows = x; position = position }) }) (ap (with_rows finite.empty) listed ∙ opens_again rows)) tt shows)
 
+same_world : (r s : State) (new : Replica) → r ≡ s → IsOne r → new ≡ r.clone.replica → with_replica new r ≡ s
+same_world r s new is one same = ap (λ (x : Replica). with_replica x r) same ∙ ap (λ (x : Replica). record r { donor = record r.donor { replica = x } }) (sym one) ∙ is
+
+pub opens_ok : {A : Type 0} (r s : State) (list : List Row) (position : ℕ) (new : Replica) (result : Result A AllocError) → r ≡ s → IsOne r → OnOk result (new ≡ record r.clone.replica { follower = Some (record { rows = with_rows finite.empty list; position = position }) }) → OnOk result (OpensIn s list position (with_replica new r))
+opens_ok r s list position new (Ok a) is one opened = opens_in r s list position new is one opened
+opens_ok r s list position new (Err e) is one opened = tt
+
+pub opens_err : {A : Type 0} (r s : State) (new : Replica) (result : Result A AllocError) → r ≡ s → IsOne r → OnErr result (new ≡ r.clone.replica) → OnErr result (with_replica new r ≡ s)
+opens_err r s new (Ok a) is one same = tt
+opens_err r s new (Err e) is one same = same_world r s new is one same
+
 -- ---- the next answer is to be lost
 
 pub set_to_lose_happens : (r s : State) (new : Replica) → r ≡ s → IsOne r → new ≡ record r.clone.replica { losing = true } → Happens s set_to_lose (with_replica new r)
@@ -222,9 +265,6 @@ lose_says r s new text is one lost_next says = record { events = set_to_lose ∷
 
 pub repeat_happens : (r s : State) (number : ℕ) (result : Took) (new : Replica) → r ≡ s → IsOne r → (is : RepeatsSo r.clone.replica number (Ok (Some result)) new) → Happens s (repeated number is.0 result) (with_replica new r)
 repeat_happens r s number result new is one (frame, numbered, took) = subst (λ (w : State). Happens w (repeated number frame result) (with_replica new r)) is (replica_happens r (repeated number frame result) new tt one took.is tt (numbered, took.takes))
-
-same_world : (r s : State) (new : Replica) → r ≡ s → IsOne r → new ≡ r.clone.replica → with_replica new r ≡ s
-same_world r s new is one same = ap (λ (x : Replica). with_replica x r) same ∙ ap (λ (x : Replica). record r { donor = record r.donor { replica = x } }) (sym one) ∙ is
 
 -- nothing can be asked of the follower
 pub asks_none : (s : State) (by : Line) → AsksNothing by s.clone → Happens s (unasked by) s
@@ -248,6 +288,19 @@ pub repeat_idle : {A : Type 0} (bytes : A → Text) (r s : State) (number : ℕ)
 repeat_idle bytes r s number new result is one repeats says =
     event_says bytes s (with_replica new r) (lines.Repeat number) (unasked (lines.Repeat number)) result (unasked (lines.Repeat number), refl, refl) (repeats_none r s number new is one repeats) says
 
+-- what a line says of it
+abbrev pub RepeatSays : {A : Type 0} → (A → Text) → Option Took → Result A AllocError → Type 0
+RepeatSays bytes (Some took) said = IfOk said (λ a. bytes a ≡ took_text took)
+RepeatSays bytes None said = IfOk said (λ a. bytes a ≡ idle)
+
+repeat_by : {A : Type 0} (bytes : A → Text) (r s : State) (number : ℕ) (came : Option Took) (new : Replica) (result : Result A AllocError) → r ≡ s → IsOne r → RepeatsSo r.clone.replica number (Ok came) new → RepeatSays bytes came result → IfOk result (λ a. Answers s (lines.Repeat number) (bytes a) (with_replica new r))
+repeat_by bytes r s number (Some took) new result is one repeats says = repeat_says bytes r s number took new result is one repeats says
+repeat_by bytes r s number None new result is one repeats says = repeat_idle bytes r s number new result is one repeats says
+
+pub repeat_answers : {A : Type 0} (bytes : A → Text) (r s : State) (number : ℕ) (came these : Option Took) (new : Replica) (result said : Result A AllocError) → r ≡ s → IsOne r → RepeatsSo r.clone.replica number (Ok came) new → came ≡ these → result ≡ said → RepeatSays bytes these said → IfOk result (λ a. Answers s (lines.Repeat number) (bytes a) (with_replica new r))
+repeat_answers {A} bytes r s number came these new result said is one repeats so same says =
+    repeat_by bytes r s number came new result is one repeats (subst (λ (o : Option Took). RepeatSays bytes o result) (sym so) (subst (λ (x : Result A AllocError). RepeatSays bytes these x) (sym same) says))
+
 -- nothing has changed
 pub unrepeated : {A : Type 0} (r s : State) (line : Line) (new : Replica) (result : Result A AllocError) → r ≡ s → IsOne r → new ≡ r.clone.replica → OnErr result (BreaksOff s line (with_replica new r))
 unrepeated r s line new result is one same = subst (λ (w : State). OnErr result (BreaksOff s line w)) (sym (same_world r s new is one same)) (same_breaks s line result)
@@ -262,6 +315,11 @@ listed_rows (Some f) list is = (f.rows, is, refl)
 pub shows_replica : (s : State) (rows : Rows) → MatchOption s.clone.replica.follower ⊥ (λ f. rows ≡ f.rows) → Happens s (replicated rows) s
 shows_replica s rows is = record { step = refl; begun = refl; clone = record { now = tt; shows = is; is = refl }; tells = refl; tasks = refl; sees = λ told. tt }
 
+-- memory ran out after it
+pub repeat_fails : {A : Type 0} (r s : State) (number : ℕ) (came : Option Took) (new : Replica) (result : Result A AllocError) → r ≡ s → IsOne r → RepeatsSo r.clone.replica number (Ok came) new → OnErr result (BreaksOff s (lines.Repeat number) (with_replica new r))
+repeat_fails r s number (Some took) new result is one repeats = repeat_breaks r s number took new result is one repeats
+repeat_fails r s number None new result is one (same, none) = unrepeated r s (lines.Repeat number) new result is one same
+
 pub replica_says : {A : Type 0} (bytes : A → Text) (s : State) (list : List Row) (result : Result A AllocError) → MatchOption s.clone.replica.follower ⊥ (λ f. list ≡ rows_in f.rows) → IfOk result (λ a. bytes a ≡ rows_answer list) → IfOk result (λ a. Answers s lines.Replica (bytes a) s)
 replica_says bytes s list result is says =
     let (rows, listed, own) = listed_rows s.clone.replica.follower list is in
@@ -269,6 +327,18 @@ replica_says bytes s list result is says =
 
 pub replica_idle : {A : Type 0} (bytes : A → Text) (s : State) (result : Result A AllocError) → s.clone.replica.follower ≡ None → IfOk result (λ a. bytes a ≡ idle) → IfOk result (λ a. Answers s lines.Replica (bytes a) s)
 replica_idle bytes s result none says = event_says bytes s s lines.Replica (unasked lines.Replica) result (unasked lines.Replica, refl, refl) (asks_none s lines.Replica none) says
+
+abbrev pub ReplicaSays : {A : Type 0} → (A → Text) → Option (Vec Row Global) → Result A AllocError → Type 0
+ReplicaSays bytes (Some rows) said = IfOk said (λ a. bytes a ≡ rows_answer rows.items)
+ReplicaSays bytes None said = IfOk said (λ a. bytes a ≡ idle)
+
+replica_by : {A : Type 0} (bytes : A → Text) (s : State) (o : Option (Vec Row Global)) (result : Result A AllocError) → RowsOf s.clone.replica o → ReplicaSays bytes o result → IfOk result (λ a. Answers s lines.Replica (bytes a) s)
+replica_by bytes s (Some rows) result are says = replica_says bytes s rows.items result are says
+replica_by bytes s None result none says = replica_idle bytes s result none says
+
+pub replica_answers : {A : Type 0} (bytes : A → Text) (r s : State) (o these : Option (Vec Row Global)) (result said : Result A AllocError) → r ≡ s → RowsOf r.clone.replica o → o ≡ these → result ≡ said → ReplicaSays bytes these said → IfOk result (λ a. Answers s lines.Replica (bytes a) s)
+replica_answers {A} bytes r s o these result said is are so same says =
+    replica_by bytes s o result (subst (λ (w : State). RowsOf w.clone.replica o) is are) (subst (λ (x : Option (Vec Row Global)). ReplicaSays bytes x result) (sym so) (subst (λ (x : Result A AllocError). ReplicaSays bytes these x) (sym same) says))
 
 pub follow_idle : {A : Type 0} (bytes : A → Text) (s : State) (result : Result A AllocError) → complete_in s.clone.progress ≡ None → IfOk result (λ a. bytes a ≡ idle) → IfOk result (λ a. Answers s lines.Follow (bytes a) s)
 follow_idle bytes s result none says = event_says bytes s s lines.Follow (unasked lines.Follow) result (asks_nothing refl) (asks_none s lines.Follow (never_complete s.clone.progress none)) says

@@ -1,6 +1,6 @@
 -- What follows a clone becomes another, and all else of the world stays.
-use Rattle.std.proofs.Common.{◌≡◌, ◌∙◌, ◌-◌, ℕ, List, [], ◌∷◌, ◌++◌, length, length-append, arith, Bool, false, refl, sym, ap, subst, Option, None, Some, MatchOption, Ok, nat_cmp, slice_get}
-use Rattle.std.proofs.lemmas.Option.{same_Some}
+use Rattle.std.proofs.Common.{◌≡◌, ◌∙◌, ◌-◌, ◌<◌, ℕ, List, [], ◌∷◌, ◌++◌, length, length-append, arith, Bool, false, refl, sym, ap, subst, Option, None, Some, MatchOption, Ok, nat_cmp, slice_get, get_or}
+use Rattle.std.proofs.lemmas.Option.{same_Some, slice_get-get_or}
 use Rattle.std.specs.FinMap as finite
 use Rattle.std.specs.Option.{option_map}
 use Rattle.clone_follow.specs.Following.{Following, Takes}
@@ -126,10 +126,11 @@ among_sent (frames.Want position) all = tt
 among_sent (frames.Current position) all = tt
 
 -- the last of them is the frame
-pub last_of : (all more : List FollowFrame) (frame found : FollowFrame) → more ≡ all ++ frame ∷ [] → slice_get more (length more - 1) ≡ Some found → found ≡ frame
-last_of all more frame found is at =
-    let long : length more - 1 ≡ length all = omega (arith, ap length is, length-append all (frame ∷ [])) in
-    same_Some found frame (sym at ∙ ap (slice_get more) long ∙ ap (λ (xs : List FollowFrame). slice_get xs (length all)) is ∙ get_last all frame)
+pub last_of : (all more : List FollowFrame) (frame found : FollowFrame) (count : ℕ) → more ≡ all ++ frame ∷ [] → count ≡ length more → found ≡ get_or more (count - 1) found → found ≡ frame
+last_of all more frame found count is long at =
+    let last : count - 1 ≡ length all = omega (arith, long, ap length is, length-append all (frame ∷ [])) in
+    let within : count - 1 < length more = omega (arith, long, ap length is, length-append all (frame ∷ [])) in
+    same_Some found frame (ap Some at ∙ sym (slice_get-get_or more (count - 1) found within) ∙ ap (slice_get more) last ∙ ap (λ (xs : List FollowFrame). slice_get xs (length all)) is ∙ get_last all frame)
 
 -- what was kept, by what was given back
 pub keeps_other : (old mid : Replica) (frame found : FollowFrame) (other : Option FollowFrame) → Keeps old frame (Ok other) mid → other ≡ Some found → (mid ≡ with_sent frame old) × (found ≡ frame)
