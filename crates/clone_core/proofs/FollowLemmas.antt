@@ -118,7 +118,7 @@ exchange_said {A} bytes want frame came these result said is same says =
 
 some_at : (o : Option Following) (want : ℕ) → MatchOption o ⊥ (λ f. want ≡ f.position) → IsSome o
 some_at None want at = absurd at
-some_at (Some f) want at = tt
+some_at (Some f) want at = refl
 
 -- the follower is there
 pub follower_there : (r s : State) (want : ℕ) → r ≡ s → IsAt s.clone.replica want → IsSome r.clone.replica.follower

@@ -136,7 +136,8 @@ answered_short asked d t (Err NoMemory) is few short = subst AreShort (sym (answ
 
 acts_short : (a : Act) (d t : staged.Donor) → IsAside a → Does a d t → CommitsShort a d.engine.donor → AreShort d.engine.donor → AreShort t.engine.donor
 acts_short (act.Calls (ask.Engine asked) (gives.Engine given)) d t aside does few short = answered_short asked d t given does few short
-acts_short (act.Calls (ask.Archive limit) (gives.Archive result)) d t aside does few short = subst AreShort (sym (ap (λ (e : Engine). e.donor) does.1)) short
+acts_short (act.Calls (ask.Archive limit) (gives.Archive (Ok reached))) d t aside does few short = subst AreShort (sym (ap (λ (e : Engine). e.donor) does.1)) short
+acts_short (act.Calls (ask.Archive limit) (gives.Archive (Err why))) d t aside does few short = subst AreShort (sym (ap (λ (e : Engine). e.donor) does.1)) short
 acts_short (act.Calls (ask.Engine asked) given) d t aside does few short = absurd does
 acts_short (act.Calls (ask.Archive limit) given) d t aside does few short = absurd does
 acts_short (act.Calls asked given) d t aside does few short = absurd aside

@@ -1,7 +1,8 @@
 //! What the lines of a follower do, which takes the commits that the donor makes after a clone.
-ghost use Rattle.std.specs.Prelude.{◌≡◌, IfOk, None, OnOk, OnErr};
+ghost use Rattle.std.specs.Prelude.{◌≡◌, Err, IfOk, None, OnOk, OnErr};
 ghost use Rattle.std.specs.String.{string_bytes};
 ghost use Rattle.clone_script.specs.declared.lines.Line.TheVariants as lines;
+ghost use Rattle.clone_follow.specs.declared.follower.FollowRefusal.TheVariants as refuses;
 ghost use Rattle.clone_events.specs.Events.{IsAt, took_text};
 ghost use Rattle.clone_events.specs.Runs.{IsExchange};
 ghost use Rattle.clone_events.specs.World.{complete, over};
@@ -131,9 +132,23 @@ fn took_text(alloc: Global, took: Took) -> Result<String, AllocError>
         Ok(FollowTook::Applied { position }) => format!(in alloc; "applied {position}"),
         Ok(FollowTook::Ignored { position }) => format!(in alloc; "ignored {position}"),
         Ok(FollowTook::Current { position }) => format!(in alloc; "current {position}"),
-        Err(FollowRefusal::Ahead { have, got }) => format!(in alloc; "refused F1 {have} {got}"),
-        Err(FollowRefusal::Behind { have, got }) => format!(in alloc; "refused F2 {have} {got}"),
+        Err(FollowRefusal::Ahead { have, got }) => ahead_text(alloc, have, got),
+        Err(FollowRefusal::Behind { have, got }) => behind_text(alloc, have, got),
         Err(FollowRefusal::Unexpected) => String::from_str(alloc, "refused F3"),
         Err(FollowRefusal::NoMemory) => Ok(String::new(alloc)),
     }
+}
+
+// The commit, or the donor's last one, is more than one ahead.
+fn ahead_text(alloc: Global, have: u64, got: u64) -> Result<String, AllocError>
+    ensures { IfOk result (λ text. string_bytes text ≡ took_text (Err (refuses.Ahead have got))) }
+{
+    format!(in alloc; "refused F1 {have} {got}")
+}
+
+// The donor has fewer commits than the follower.
+fn behind_text(alloc: Global, have: u64, got: u64) -> Result<String, AllocError>
+    ensures { IfOk result (λ text. string_bytes text ≡ took_text (Err (refuses.Behind have got))) }
+{
+    format!(in alloc; "refused F2 {have} {got}")
 }

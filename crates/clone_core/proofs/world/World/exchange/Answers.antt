@@ -23,7 +23,7 @@ invariant_of-self g c = replica_holds _ c.exchange.new.self _ _ _ _ c.self.invar
 pub returns-in_err-took-clause-err : goal.returns-in_err-took-clause-err
 returns-in_err-took-clause-err g c =
     let is = c.in_ok-frame.ensures ∙ ap (λ (b : List Commit). answer b c.args.want) (c.as_slice.ensures ∙ c.binlog.ensures) in
-    exchange_stops _ c.args.self.now c.self.view_is refl c.args.want c.requires.at c.in_ok-frame.frame is c.in_err-took.field-0 c.exchange.new.self c.from_residual-in_err-took.result c.in_err-took.ensures
+    exchange_stops _ c.args.self.now c.self.view_is refl c.args.want c.requires.at c.in_ok-frame.frame is c.in_err-took.field-0.0 c.exchange.new.self c.from_residual-in_err-took.result c.in_err-took.ensures
 
 pub invariant_of-self-2 : goal.invariant_of-self-2
 invariant_of-self-2 g c = replica_holds _ c.exchange.new.self _ _ _ _ c.self.invariant

@@ -20,25 +20,25 @@ pub returns-in_err-open_follower-in-Ok-clause-err : goal.returns-in_err-open_fol
 returns-in_err-open_follower-in-Ok-clause-err g c =
     let at = c.in-Ok.ensures in
     let shows : ShowsList c.args.self.now c.deref.result.now c.read_rows.new.self = record { rows = at.rows; is = c.deref.ensures.value ∙ at.is; happened = at.happened } in
-    subst (λ (w : State). OnErr c.from_residual.result (BreaksOff c.args.self.now lines.Follow w)) (sym c.in_err-open_follower.ensures.err) (unopened c.args.self.now c.read_rows.new.self c.deref.result.now c.args.position c.from_residual.result shows)
+    subst (λ (w : State). OnErr c.from_residual.result (BreaksOff c.args.self.now lines.Follow w)) (sym c.in_err-open_follower-in-Ok.ensures.err) (unopened c.args.self.now c.read_rows.new.self c.deref.result.now c.args.position c.from_residual.result shows)
 
 pub exchange-requires : goal.exchange-requires
 exchange-requires g c =
     let at = c.in-Ok.ensures in
     let shows : ShowsList c.args.self.now c.deref.result.now c.read_rows.new.self = record { rows = at.rows; is = c.deref.ensures.value ∙ at.is; happened = at.happened } in
-    record { at = begun_at c.args.self.now c.open_follower.new.self c.args.position (begun_so c.args.self.now c.read_rows.new.self c.open_follower.new.self c.deref.result.now c.args.position shows c.requires.complete c.requires.first c.in_ok-open_follower.ensures.ok) }
+    record { at = begun_at c.args.self.now c.open_follower.new.self c.args.position (begun_so c.args.self.now c.read_rows.new.self c.open_follower.new.self c.deref.result.now c.args.position shows c.requires.complete c.requires.first c.in_ok-open_follower-in-Ok.ensures.ok) }
 
 pub returns-in_ok-open_follower-in-Ok-clause-ok : goal.returns-in_ok-open_follower-in-Ok-clause-ok
 returns-in_ok-open_follower-in-Ok-clause-ok g c =
     let at = c.in-Ok.ensures in
     let shows : ShowsList c.args.self.now c.deref.result.now c.read_rows.new.self = record { rows = at.rows; is = c.deref.ensures.value ∙ at.is; happened = at.happened } in
-    first_answers string_bytes c.args.self.now c.open_follower.new.self _ c.args.position c.exchange.result (begun_so c.args.self.now c.read_rows.new.self c.open_follower.new.self c.deref.result.now c.args.position shows c.requires.complete c.requires.first c.in_ok-open_follower.ensures.ok) c.exchange.ensures.ok
+    first_answers string_bytes c.args.self.now c.open_follower.new.self _ c.args.position c.exchange.result (begun_so c.args.self.now c.read_rows.new.self c.open_follower.new.self c.deref.result.now c.args.position shows c.requires.complete c.requires.first c.in_ok-open_follower-in-Ok.ensures.ok) c.exchange.ensures.ok
 
 pub returns-in_ok-open_follower-in-Ok-clause-err : goal.returns-in_ok-open_follower-in-Ok-clause-err
 returns-in_ok-open_follower-in-Ok-clause-err g c =
     let at = c.in-Ok.ensures in
     let shows : ShowsList c.args.self.now c.deref.result.now c.read_rows.new.self = record { rows = at.rows; is = c.deref.ensures.value ∙ at.is; happened = at.happened } in
-    first_breaks c.args.self.now c.open_follower.new.self _ c.args.position c.exchange.result (begun_so c.args.self.now c.read_rows.new.self c.open_follower.new.self c.deref.result.now c.args.position shows c.requires.complete c.requires.first c.in_ok-open_follower.ensures.ok) c.exchange.ensures.err
+    first_breaks c.args.self.now c.open_follower.new.self _ c.args.position c.exchange.result (begun_so c.args.self.now c.read_rows.new.self c.open_follower.new.self c.deref.result.now c.args.position shows c.requires.complete c.requires.first c.in_ok-open_follower-in-Ok.ensures.ok) c.exchange.ensures.err
 
 pub returns-in-Err-Incomplete-clause-ok : goal.returns-in-Err-Incomplete-clause-ok
 returns-in-Err-Incomplete-clause-ok g c = hides_says string_bytes c.args.self.now _ incomplete c.from_str.result tt (read_as _ _ c.read_rows.result Incomplete (c.in-Err-Incomplete.is ∙ ap (λ (r : RecoverRefusal). Err r) c.in-Err-Incomplete.field-0-is) c.read_rows.ensures) c.from_str.ensures.ok
