@@ -1,5 +1,5 @@
 -- What the lines of a follower make happen.
-use Rattle.std.proofs.Common.{◌≡◌, ◌∙◌, ◌≤◌, ◌-◌, ◌⊎◌, inl, inr, ℕ, List, [], ◌∷◌, ◌++◌, Bool, true, false, arith, refl, sym, ap, subst, Option, None, Some, MatchOption, Result, Ok, Err, IfOk, OnErr, OnOk, IsSome, Vec, append-nil}
+use Rattle.std.proofs.Common.{◌≡◌, ◌∙◌, inl, inr, ℕ, List, [], ◌∷◌, ◌++◌, Bool, true, refl, sym, ap, subst, Option, None, Some, MatchOption, Result, Ok, Err, IfOk, OnErr, OnOk, IsSome, Vec, append-nil}
 use Rattle.std.proofs.lemmas.Option.{same_Some}
 use Rattle.std.specs.Option.{option_map}
 use Rattle.std.specs.declared.alloc.Global.{Global}
@@ -7,30 +7,29 @@ use Rattle.std.specs.FinMap as finite
 use Rattle.std.specs.List.{AllByRecursion}
 use Rattle.std.specs.declared.alloc.AllocError.{AllocError}
 use Rattle.clone_follow.specs.Binlog.{answer}
-use Rattle.clone_follow.specs.Following.{Following, Takes, with_rows}
+use Rattle.clone_follow.specs.Following.{Following, with_rows}
 use Rattle.clone_follow.specs.declared.frame.FollowFrame.{FollowFrame}
 use Rattle.clone_follow.specs.declared.frame.FollowFrame.TheVariants as frames
 use Rattle.clone_follow.proofs.RowLists.{opens_again}
 use Rattle.clone_model.specs.History.{Row, Rows, rows_in}
 use Rattle.clone_plain.specs.Answers.{Text, rows_answer}
 use Rattle.clone_plain.specs.Donor.{Donor}
-use Rattle.clone_recover.specs.declared.refusal.RecoverRefusal.{RecoverRefusal}
 use Rattle.clone_script.specs.declared.lines.Line.{Line}
 use Rattle.clone_script.specs.declared.lines.Line.TheVariants as lines
-use Rattle.clone_events.specs.Events.{Event, showed, opened_follower, sent, taken, lost, set_to_lose, repeated, replicated, unasked, event_text, said, took_text, idle, IsAt, IsComplete, IsNumbered, AsksNothing, OpensFollower, ShowsRows, TakesSo, follower_after, sent_after, taken_by}
+use Rattle.clone_events.specs.Events.{Event, showed, opened_follower, sent, taken, lost, set_to_lose, repeated, replicated, unasked, event_text, said, took_text, idle, IsAt, IsComplete, AsksNothing, OpensFollower, ShowsRows}
 use Rattle.clone_events.specs.Runs.{HidesRows, IsExchange, loses, comes, asks_nothing, asks, first_asks, hides}
 use Rattle.clone_events.specs.World.{Clone, Progress, Replica, absent, copying, over, complete, broken, spent, garbled, refused}
 use Rattle.clone_core.specs.Called.{StaysUntold}
 use Rattle.clone_core.specs.CloneEvents.{EndsUntold, Makes}
 use Rattle.clone_core.specs.Ending.{complete_in}
-use Rattle.clone_core.specs.Following.{Exchanges, ExchangesIn, OpensIn, RepeatsSo, RowsOf, Took, TookSo, with_replica, with_sent}
-use Rattle.clone_core.specs.Lines.{State, Answers, BreaksOff, Events, Happens}
+use Rattle.clone_core.specs.Following.{Exchanges, ExchangesIn, OpensIn, RepeatsSo, RowsOf, Took, with_replica, with_sent}
+use Rattle.clone_core.specs.Lines.{State, Answers, BreaksOff, Happens}
 use Rattle.clone_core.specs.Showing.{ShowsList}
-use Rattle.clone_core.specs.System.{System, donor_of}
+use Rattle.clone_core.specs.System.{donor_of}
 use Rattle.clone_core.proofs.ActsLemmas.{IsOfClone, clone_keeps}
 use Rattle.clone_core.proofs.LineLemmas.{event_breaks, said_is, same_breaks}
 use Rattle.clone_core.proofs.ReplicaLemmas.{IsOne, replica_happens}
-use Rattle.clone_core.proofs.UntoldLemmas.{AreOf, OfClone, event_breaks_off, event_says, made_untold, on_err, same_untold, untold_behind, untold_breaks, untold_then, happened_untold}
+use Rattle.clone_core.proofs.UntoldLemmas.{AreOf, OfClone, event_breaks_off, event_says, made_untold, on_err, same_untold, untold_behind, untold_breaks, happened_untold}
 
 -- ---- whether a clone is complete
 

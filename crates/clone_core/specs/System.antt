@@ -35,8 +35,8 @@ use Rattle.clone_core.specs.declared.world.TheConstants.{SESSION}
 
 -- The course has what the recipient knows of the clone and the connections of its tasks; the stop
 -- is the first of its session; what was looked up is the floor of an acknowledgement. The donor is
--- alone with the clone while no stranger's session has stood at it since the clone began. Last comes
--- what follows the clone.
+-- alone with the clone while no stranger's session has stood at it since the clone began. Last
+-- comes what follows the clone.
 pub record System : Type 0 where
   pub donor : staged.Donor
   pub recipient : DiskState

@@ -72,7 +72,10 @@ impl<D: PageDisk, R: PageDisk> World<D, R> {
     }
 
     // Recovers the recipient's disk and reads its rows, and notes what came of it.
-    pub(crate) fn read_rows(&mut self, alloc: Global) -> Result<Vec<(u32, u64, Value)>, RecoverRefusal>
+    pub(crate) fn read_rows(
+        &mut self,
+        alloc: Global,
+    ) -> Result<Vec<(u32, u64, Value)>, RecoverRefusal>
         requires ended { HasEnded self.old.clone.progress }
         ensures { Reads self.old result self.new }
     {

@@ -14,7 +14,7 @@ use Rattle.clone_follow.specs.declared.follower.FollowTook.{FollowTook}
 use Rattle.clone_follow.specs.declared.frame.FollowFrame.{FollowFrame}
 use Rattle.clone_follow.specs.declared.frame.FollowFrame.TheVariants as frames
 use Rattle.clone_follow.proofs.ReplayLemmas.{each_once, folded}
-use Rattle.clone_model.specs.History.{Drops, Entry, Rows, Committed, after_commit, after_commits, after_entries, fold, history_of}
+use Rattle.clone_model.specs.History.{Drops, Rows, Committed, after_commit, after_commits, after_entries, fold, history_of}
 use Rattle.clone_model.specs.declared.change.Commit.{Commit}
 use Rattle.clone_plain.specs.Donor.{Donor, no_donor}
 use Rattle.clone_events.specs.Events.{Event, looked, started, unbegun, acts, showed, hidden, opened_follower, sent, taken, lost, set_to_lose, repeated, replicated, Change, stops, acknowledges, disturbs, crowds, ends, Events, Happens, IsAmong, IsNow, IsNumbered, PlainEvent, Shows, ShowsChanges, ShowsIn, changed_all, changed_by, changed_in, clone_after, follower_after, sent_after}

@@ -2,7 +2,7 @@
 -- becomes of its clone, rows that are shown, and orders to disks. The donor, with the disks behind
 -- it, is of a type D; `plain` tells the plain donor that it is, and `Step` what an event does to
 -- it.
-use Rattle.std.specs.Prelude.{ℕ, ◌≡◌, ◌≢◌, ◌≤◌, ◌+◌, ◌-◌, ◌==◌, Bool, true, false, is_none, is_some, List, [], ◌∷◌, ◌++◌, length, None, Some, Result, Ok, Err, MatchOption, codes, slice_get, ⊤}
+use Rattle.std.specs.Prelude.{ℕ, ◌≡◌, ◌≢◌, ◌≤◌, ◌+◌, ◌-◌, ◌==◌, Bool, true, false, is_some, List, [], ◌∷◌, ◌++◌, length, None, Some, Result, Ok, Err, MatchOption, codes, slice_get, ⊤}
 use Rattle.std.specs.Fmt.{decimal}
 use Rattle.std.specs.Option.{option_map}
 use Rattle.std.specs.declared.option.Option.{Option}
@@ -346,8 +346,8 @@ pub record IsNumbered (all : List FollowFrame) (number : ℕ) (frame : FollowFra
   pub from_one : 1 ≤ number
   pub is : slice_get all (number - 1) ≡ Some frame
 
--- Nothing can be asked of a follower: no clone is complete, or no follower is there, or it was sent no
--- commit of this number.
+-- Nothing can be asked of a follower: no clone is complete, or no follower is there, or it was sent
+-- no commit of this number.
 abbrev pub AsksNothing : Line → Clone → Type 0
 AsksNothing lines.Follow clone = IsComplete clone.progress → ⊥
 AsksNothing (lines.Repeat number) clone = MatchOption clone.replica.follower (Unit {0})

@@ -74,9 +74,10 @@ ShowsStop d tells clone [] = Unit {0}
 ShowsStop d tells clone (e ∷ es) =
     Shows d tells clone e × ShowsStop d tells (clone_after e clone) es
 
--- THE ROWS OF A FOLLOWER, which is now so, of a clone that came to this stop: those that the history
--- before the stop leaves, to which the commits from the stop on are applied in order, each once, up
--- to the follower's position. So without drops they are what the commits up to there leave.
+-- THE ROWS OF A FOLLOWER, which is now so, of a clone that came to this stop: those that the
+-- history before the stop leaves, to which the commits from the stop on are applied in order, each
+-- once, up to the follower's position. So without drops they are what the commits up to there
+-- leave.
 pub record IsReplayed (d : Donor) (at : Stop) (now : Following) : Type 0 where
   pub forward : at.position ≤ now.position
   pub within : now.position ≤ length d.binlog
@@ -89,8 +90,8 @@ abbrev pub FollowsStop : Donor → Bool → Clone → Type 0
 FollowsStop d tells clone = IsSure tells clone → MatchOption clone.replica.follower (Unit {0})
     (λ now. MatchOption clone.stop ⊥ (λ at. IsReplayed d at now))
 
--- WHAT EVENTS SHOW of a follower, by the history of the donor at the end: the rows that are shown of
--- it, which are its own, are those.
+-- WHAT EVENTS SHOW of a follower, by the history of the donor at the end: the rows that are shown
+-- of it, which are its own, are those.
 abbrev pub ShowsFollower : Donor → Bool → Clone → Event → Type 0
 ShowsFollower d tells clone (replicated rows) =
     MatchOption clone.replica.follower ⊥ (λ now. rows ≡ now.rows) × FollowsStop d tells clone

@@ -157,8 +157,8 @@ HidesRows hidden = Unit {0}
 HidesRows (damaged space page why) = Unit {0}
 HidesRows event = ⊥
 
--- Nothing can be asked, or an exchange is made. A follower that isn't there yet begins with the rows
--- of the clone, as far as they can be read.
+-- Nothing can be asked, or an exchange is made. A follower that isn't there yet begins with the
+-- rows of the clone, as far as they can be read.
 pub data MakesFollow (events : List Event) : Type 0 where
   asks_nothing : events ≡ unasked Follow ∷ [] → MakesFollow events
   hides : (e : Event) → HidesRows e → events ≡ e ∷ [] → MakesFollow events

@@ -51,8 +51,8 @@ no_replica = record { follower = None; sent = []; losing = false }
 -- pages; whether anybody but its tasks had a hand in it before it ended: bytes came to a task that
 -- the donor didn't send, a stranger acted in its session, or the session was abandoned; whether no
 -- other session stood at the donor from its beginning to its end; whether a fault of the
--- recipient's disk came in the way of its rows since it ended; whether its rows were shown; and what
--- follows it.
+-- recipient's disk came in the way of its rows since it ended; whether its rows were shown; and
+-- what follows it.
 pub record Clone : Type 0 where
   pub progress : Progress
   pub stop : Option Stop

@@ -96,18 +96,18 @@ pub record HasCompleted (d : Donor) (clone : Clone) (m : DiskImage) : Type 0 whe
 -- The source gave a script, and both disks were empty. Its lines, as far as they were carried out,
 -- are a run of the plain donor, and what was written is their answers, and the commits of that run:
 -- one for each position that was answered, in order, that of a `set` with its one change. The drops
--- are those that were answered, each after the commits before it, and maybe those in which the
--- disk failed. Where a clone is complete at position n, that is at least what was looked up before
--- its first acknowledgement of the copy of pages; the rows shown after it are, in ascending order,
+-- are those that were answered, each after the commits before it, and maybe those in which the disk
+-- failed. Where a clone is complete at position n, that is at least what was looked up before its
+-- first acknowledgement of the copy of pages; the rows shown after it are, in ascending order,
 -- exactly those that the first n commits leave, with the tables dropped before it, and nothing of a
 -- transaction that was open then; and the recipient's disk that comes back holds a complete clone
--- at n, which recovers to these rows whenever it is recovered. A follower that was opened with these
--- rows has them with the commits n+1 to m applied in order, each once, where m is its position; so
--- are the rows that are shown of it.
+-- at n, which recovers to these rows whenever it is recovered. A follower that was opened with
+-- these rows has them with the commits n+1 to m applied in order, each once, where m is its
+-- position; so are the rows that are shown of it.
 --
 -- Where bytes came to a task that the donor didn't send, a stranger acted in the session, or it was
--- abandoned before the clone's end, nothing is claimed of n, of rows, of the disk and of a follower,
--- and all else stands.
+-- abandoned before the clone's end, nothing is claimed of n, of rows, of the disk and of a
+-- follower, and all else stands.
 pub record Headline (status : Status) (run : Run) (old new : Streams) (given : Disks) (ends : Ends)
     : Type 0 where
   pub read : IsRead old.source new.source run.config run.terms run.lines

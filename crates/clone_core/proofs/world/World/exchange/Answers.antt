@@ -1,4 +1,4 @@
-use Rattle.std.proofs.Common.{◌≡◌, ◌∙◌, List, Option, Some, None, IfOk, refl, sym, ap, subst, string_bytes}
+use Rattle.std.proofs.Common.{◌≡◌, ◌∙◌, List, Some, None, IfOk, refl, sym, ap, subst, string_bytes}
 use Rattle.std.specs.List.{AllByRecursion}
 use Rattle.clone_follow.specs.Binlog.{answer, IsShort}
 use Rattle.clone_model.specs.declared.change.Commit.{Commit}
