@@ -72,10 +72,12 @@ impl Replica {
         rows: &[(u32, u64, Value)],
         position: u64,
     ) -> Result<(), AllocError>
-        ensures ok { OnOk result (self.new ≡ record self.old { follower = Some (record {
-          rows = with_rows finite.empty rows.now;
-          position = position;
-        }) }) }
+        ensures ok { OnOk result (self.new ≡ record self.old {
+          follower = Some (record {
+            rows = with_rows finite.empty rows.now;
+            position = position;
+          });
+        }) }
         ensures err { OnErr result (self.new ≡ self.old) }
     {
         self.follower = Some(Follower::open(alloc, rows, position)?);
@@ -134,10 +136,7 @@ impl Replica {
     }
 
     /// The rows of the follower, if there is one, in ascending order.
-    pub(crate) fn rows(
-        &self,
-        alloc: Global,
-    ) -> Result<Option<Vec<(u32, u64, Value)>>, AllocError>
+    pub(crate) fn rows(&self, alloc: Global) -> Result<Option<Vec<(u32, u64, Value)>>, AllocError>
         ensures { IfOk result (λ rows. RowsOf self.now rows) }
     {
         match &self.follower {

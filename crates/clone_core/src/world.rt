@@ -153,9 +153,15 @@ impl<D: PageDisk, R: PageDisk> Model for World<D, R> {
 
     ghost Value = { State };
 
-    ghost coded = { Prim.hlevel
-        (codes, begun_code, disk_code, engine_code, tracked_pages_code, sizes_code,
-        following_code) };
+    ghost coded = { Prim.hlevel (
+      codes,
+      begun_code,
+      disk_code,
+      engine_code,
+      tracked_pages_code,
+      sizes_code,
+      following_code,
+    ) };
 
     ghost view = { λ w. world_of (record {
       donor = w.donor;
