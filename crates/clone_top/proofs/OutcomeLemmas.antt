@@ -47,7 +47,8 @@ use Rattle.clone_top.specs.Main.{IsUntouched, Outcome, OutcomeOf, RunOutcome, St
 use Rattle.clone_top.specs.Saying.{Says, SaysNoCommand, SaysNoRun, SaysUnread, SaysUnready}
 use Rattle.clone_top.specs.Status.{number_of}
 use Rattle.clone_top.specs.Completeness.{EndsWell, IsFavoured}
-use Rattle.clone_top.proofs.EndLemmas.{IsAtStop, ends_at_stop, left_at_stop}
+use Rattle.clone_events.proofs.CompleteLemmas.{IsAtStop}
+use Rattle.clone_top.proofs.EndLemmas.{ends_at_stop, left_at_stop}
 use Rattle.clone_top.proofs.FairLemmas.{run_fair}
 use Rattle.clone_top.proofs.FavouredLemmas.{ends_otherwise, unhindered}
 
