@@ -1,0 +1,4 @@
+pub mod TeamLemmas
+mod RunLemmas
+mod TableLemmas
+mod JobLemmas
