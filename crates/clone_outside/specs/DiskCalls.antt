@@ -1,12 +1,13 @@
 -- What a disk tells, and what its calls do to that.
-use Rattle.std.specs.Prelude.{ℕ, ◌≡◌, ◌≤◌, ◌++◌, ◌∷◌, List, [], Result, Ok, Err, OnOk, IsErrOf, is_some}
+use Rattle.std.specs.Prelude.{ℕ, ◌≡◌, ◌⊎◌, ◌≤◌, ◌++◌, ◌∷◌, List, [], Result, Ok, Err, OnOk, IsErrOf, is_some}
 use Rattle.std.specs.declared.option.Option.{Option}
 use Rattle.clone_outside.specs.Causes.{Rose}
 use Rattle.clone_outside.specs.Disk.{DiskImage, Steps, IsBeforeOrAfter, Opens, with_page}
-use Rattle.clone_outside.specs.Stops.{DiskChange, Moments, Notes, Settles}
+use Rattle.clone_outside.specs.Stops.{DiskChange, Moments, GoesOn, IsHeld, Notes, Settles}
 use Rattle.clone_outside.specs.declared.Refusal.{Refusal}
 use Rattle.clone_outside.specs.declared.Refusal.TheVariants.{Fault, NoMemory}
 use Rattle.clone_outside.specs.declared.disk.DiskOrder.{DiskOrder}
+use Rattle.clone_outside.specs.declared.disk.DiskOrder.TheVariants.{FailAt, Tear, Stop, Again}
 use Rattle.clone_outside.specs.declared.disk.Held.{Held}
 
 -- What a disk tells: what it holds and what a stop may leave at each moment so far, each of them
@@ -45,7 +46,7 @@ abbrev pub Works : {T : Type 0} → DiskState → DiskState → Result T Refusal
 Works old new result = Alters (IsErrOf result Fault) old new
 
 -- A CALL THAT CHANGES what the disk holds, by this step where it is answered Ok. A stop may leave
--- the change half done.
+-- the change half done. What is told after the call is one of the images that a stop may leave.
 pub record Changes {T : Type 0} (change : DiskChange) (step : DiskImage → DiskImage)
     (Faults : Option DiskImage → Option DiskImage → Type 0) (old new : DiskState)
     (result : Result T Refusal) : Type 0 where
@@ -53,6 +54,7 @@ pub record Changes {T : Type 0} (change : DiskChange) (step : DiskImage → Disk
   pub failed : IsErrOf result Fault → Faults old.told new.told
   pub memory : IsErrOf result NoMemory → new.told ≡ old.told
   pub stops : Notes old.stops new.stops change
+  pub held : IsHeld new.told new.stops
   pub orders : new.orders ≡ old.orders
   pub later : old.failures ≤ new.failures
   pub fault : IsErrOf result Fault → Rose old.failures new.failures
@@ -82,6 +84,23 @@ pub record Syncs {T : Type 0} (old new : DiskState) (result : Result T Refusal) 
   pub fault : IsErrOf result Fault → Rose old.failures new.failures
 
 -- AN ORDER was given, or there was no memory for it
+abbrev pub with_order : DiskOrder → DiskState → DiskState
+with_order order disk = record disk { orders = disk.orders ++ order ∷ [] }
+
 abbrev pub Orders : {X E : Type 0} → DiskOrder → DiskState → DiskState → Result X E → Type 0
-Orders order old new (Ok x) = new ≡ record old { orders = old.orders ++ order ∷ [] }
+Orders order old new (Ok x) = new ≡ with_order order old
 Orders order old new (Err e) = new ≡ old
+
+-- a disk that goes on after a stop
+pub record Restarts (old new : DiskState) : Type 0 where
+  pub goes_on : GoesOn old.stops new.told new.stops
+  pub failures : new.failures ≡ old.failures
+  pub orders : new.orders ≡ old.orders ++ Again ∷ []
+
+-- An order that was given changes nothing but the orders; but after a stop a disk may go on with
+-- what the stop left.
+abbrev pub IsGiven : DiskOrder → DiskState → DiskState → Type 0
+IsGiven (FailAt call) old new = new ≡ with_order (FailAt call) old
+IsGiven (Tear byte) old new = new ≡ with_order (Tear byte) old
+IsGiven (Stop calls choice) old new = new ≡ with_order (Stop calls choice) old
+IsGiven Again old new = (new ≡ with_order Again old) ⊎ Restarts old new

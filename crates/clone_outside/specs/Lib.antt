@@ -8,3 +8,4 @@ pub mod Link
 pub mod Memory
 pub mod Stops
 pub mod DiskCalls
+pub mod Scopes

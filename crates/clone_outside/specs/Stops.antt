@@ -1,5 +1,6 @@
 -- What a stop of a disk may leave.
 use Rattle.std.specs.Prelude.{◌≡◌, ◌⊎◌, ℕ, ◌-◌, ◌≤◌, min, max, false, map, List, [], ◌∷◌, ◌++◌, length, take, drop, ⊤, None, Some, get_or, option_map, unwrap_or}
+use Rattle.std.specs.List.{AllByRecursion}
 use Rattle.std.specs.declared.option.Option.{Option}
 use Rattle.std.specs.FinMap as finite
 use Rattle.clone_outside.specs.declared.disk.TheConstants.{HALF_PAGE}
@@ -90,6 +91,9 @@ pub record Moments : Type 0 where
   pub now : Moment
   pub before : List Moment
 
+abbrev pub all_moments : Moments → List Moment
+all_moments ms = ms.now ∷ ms.before
+
 abbrev pub then_at : Moment → Moments → Moments
 then_at next ms = record { now = next; before = ms.now ∷ ms.before }
 
@@ -106,6 +110,23 @@ abbrev pub ForMoments : Option Moments → (Moments → Type 0) → Type 0
 ForMoments None P = ⊤
 ForMoments (Some ms) P = P ms
 
+-- a stop at the new moment leaves what is R of something that one at the old moment might leave
+abbrev pub Leaves : (DiskImage → DiskImage → Type 0) → Moment → Moment → Type 0
+Leaves R old new = (c : DiskImage) → MayLeave new c → (d : DiskImage) × MayLeave old d × R d c
+
+-- A stop at any moment since the old one, within a call too, leaves what is R of something that a
+-- stop at the old moment might have left.
+pub record LeavesSince (R : DiskImage → DiskImage → Type 0) (old new : Moments) : Type 0 where
+  pub since : List Moment
+  pub are : all_moments new ≡ since ++ all_moments old
+  pub each : AllByRecursion (Leaves R old.now) since
+  pub now : Leaves R old.now new.now
+
+-- the same, where the moments are told
+abbrev pub Keeps : (DiskImage → DiskImage → Type 0) → Option Moments → Option Moments → Type 0
+Keeps R None new = new ≡ None
+Keeps R (Some old) new = (ms : Moments) × (new ≡ Some ms) × LeavesSince R old ms
+
 -- the change was made, or none
 abbrev pub Notes : Option Moments → Option Moments → DiskChange → Type 0
 Notes old new x = (new ≡ old) ⊎ (new ≡ option_map (noted x) old)
@@ -121,3 +142,20 @@ Settles told (Some ms) new =
 abbrev pub IsHeld : Option DiskImage → Option Moments → Type 0
 IsHeld told stops = ForMoments stops (λ ms. (m : DiskImage) × (told ≡ Some m)
     × ((image : DiskImage) × IsClosed m image × MayLeave ms.now image))
+
+-- no write of the disk is open
+abbrev pub HasNoOpen : DiskImage → Type 0
+HasNoOpen image = IsClosed image image
+
+-- The disk goes on with an image that a stop may leave. All of it stays, and no write is open.
+abbrev pub GoesOn : Option Moments → Option DiskImage → Option Moments → Type 0
+GoesOn None told stops = ⊥
+GoesOn (Some ms) told stops =
+    (image : DiskImage) × MayLeave ms.now image × HasNoOpen image
+    × (told ≡ Some image) × (stops ≡ Some (then_at (settled image) ms))
+
+-- nothing of what is told is still to be brought to where it stays
+abbrev pub Stays : Option DiskImage → Option Moments → Type 0
+Stays told stops =
+    ForMoments stops (λ ms. (m : DiskImage) × (told ≡ Some m)
+    × ((image : DiskImage) × IsClosed m image × (ms.now ≡ settled image)))

@@ -1,4 +1,4 @@
-ghost use Rattle.std.specs.Prelude.{◌≡◌, ◌≢◌, Err, IfOk, IsErr, OnOk};
+ghost use Rattle.std.specs.Prelude.{◌≡◌, ◌≢◌, Err, IfOk, IsErr, OnErr, OnOk};
 ghost use Rattle.std.specs.List.Sorted.{IsStrictlyIncreasing};
 
 use crate::Refusal;
@@ -27,6 +27,13 @@ pub enum DiskOrder {
     FailAt { call: u64 },
     /// From now on a read of an open page gives nothing but this byte.
     Tear { byte: u8 },
+    /// After so many calls the disk stops: each later call is a fault. What it keeps of what was
+    /// written since the last sync is by the choice: nothing (0), all (1), the first halves of
+    /// pages alone (2), or the byte 255 in each half that was written (3). Of the spaces and of the
+    /// mark it keeps all, except by choice 0.
+    Stop { calls: u64, choice: u8 },
+    /// A disk that stopped, or that is to stop, goes on with what the stop leaves.
+    Again,
 }
 
 /// A disk that holds pages of 4,096 bytes by space and number, and a mark of 64 bytes or none.
@@ -36,10 +43,12 @@ pub enum DiskOrder {
 ///
 /// `Fault` comes only where the count of faults rose, and `NoMemory` where there was no memory.
 /// After `NoMemory` the disk is as before.
+///
+/// A disk may tell what a stop at any moment leaves. What it holds itself, with no write open, is
+/// always one of the images that a stop may leave; each call that changes the disk says so.
 pub trait PageDisk {
     ghost use Rattle.clone_outside.specs.Disk.{ForTold, GivesQuiet, space_numbers, page_count, half_written, rest_written, with_extended, with_created, with_removed, with_mark};
-    ghost use Rattle.clone_outside.specs.DiskCalls.{Asks, DiskState, Orders, Reads, Syncs, Takes, Writes};
-    ghost use Rattle.clone_outside.specs.Stops.{IsHeld};
+    ghost use Rattle.clone_outside.specs.DiskCalls.{Asks, DiskState, IsGiven, Reads, Syncs, Takes, Writes};
     ghost use Rattle.clone_outside.specs.Stops as change;
 
     /// What it holds and what a stop may leave, each of them none where that is not told, its count
@@ -126,8 +135,6 @@ pub trait PageDisk {
     /// Tells a disk in memory what to do. A real disk does nothing, and answers Ok. The error is
     /// that memory ran out, and the disk is as before.
     fn order(&mut self, order: DiskOrder) -> Result<(), AllocError>
-        ensures given { Orders order (state self.old) (state self.new) result };
-
-    /// What is told, with no write open, is one of the images that a stop may leave.
-    ghost held: { (disk : Self) → IsHeld (state disk).told (state disk).stops };
+        ensures given { OnOk result (IsGiven order (state self.old) (state self.new)) }
+        ensures refused { OnErr result (state self.new ≡ state self.old) };
 }

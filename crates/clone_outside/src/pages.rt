@@ -2,6 +2,8 @@
 ghost use Rattle.std.specs.Prelude.{OnOk, OnErr};
 ghost use Rattle.clone_outside.specs.Disk.{ChangesOnly, Steps, whole, with_page};
 ghost use Rattle.clone_outside.specs.DiskCalls.{Works};
+ghost use Rattle.clone_outside.specs.Scopes.{OnlyPage};
+ghost use Rattle.clone_outside.specs.Stops.{Keeps};
 
 use crate::{PageDisk, Refusal};
 use clone_base::PAGE_SIZE;
@@ -19,6 +21,8 @@ pub fn write_page<D: PageDisk>(
     ensures partial { OnErr result
         (ChangesOnly space (D.state disk.old).told (D.state disk.new).told) }
     ensures works { Works (D.state disk.old) (D.state disk.new) result }
+    ensures stops { Keeps (OnlyPage space number)
+        (D.state disk.old).stops (D.state disk.new).stops }
 {
     disk.write_half(space, number, page)?;
     disk.write_rest(space, number, page)

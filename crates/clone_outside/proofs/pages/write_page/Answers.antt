@@ -4,6 +4,8 @@ use Rattle.clone_outside.specs.Disk.{edited, half_written, with_page}
 use Rattle.clone_outside.proofs.FaultLemmas.{changes_by, changes_then, half_changes, on_err_known, pages_change}
 use Rattle.clone_outside.proofs.DiskCallLemmas.{steps_tell, writes_work}
 use Rattle.clone_outside.proofs.HalfLemmas.{whole_by_halves}
+use Rattle.clone_outside.proofs.ScopeLemmas.{half_page, only_page_order, rest_page}
+use Rattle.clone_outside.proofs.StopLemmas.{keeps_change, keeps_then}
 use Rattle.clone_outside.proofs.pages.write_page.Goals as goal
 
 pub returns-in_err-write_half-clause-partial : goal.returns-in_err-write_half-clause-partial
@@ -42,3 +44,12 @@ returns-clause-works g c = record {
   later = search rules;
   fault = search rules;
 }
+
+pub returns-in_err-write_half-clause-stops : goal.returns-in_err-write_half-clause-stops
+returns-in_err-write_half-clause-stops g c = keeps_change _ (only_page_order c.args.space c.args.number) _ _ _ c.write_half.ensures.writes.stops (half_page c.args.space c.args.number)
+
+pub returns-clause-stops : goal.returns-clause-stops
+returns-clause-stops g c =
+    let order = only_page_order c.args.space c.args.number in
+    keeps_then _ order _ _ _ (keeps_change _ order _ _ _ c.write_half.ensures.writes.stops (half_page c.args.space c.args.number))
+    (keeps_change _ order _ _ _ c.write_rest.ensures.writes.stops (rest_page c.args.space c.args.number))
