@@ -1,6 +1,4 @@
 -- Of which kind a disk, a net or an end is, and what is said of the one that is there.
-use Rattle.clone_outside.specs.DiskCalls.{DiskState}
-use Rattle.clone_outside.specs.Stops.{IsHeld}
 use Rattle.clone_real.specs.declared.any_disk.AnyDisk.{AnyDisk}
 use Rattle.clone_real.specs.declared.any_disk.AnyDisk.TheVariants as disk
 use Rattle.clone_real.specs.declared.any_net.AnyEnd.{AnyEnd}
@@ -14,14 +12,6 @@ use Rattle.clone_real.specs.declared.any_net.AnyNet.TheVariants as net
 abbrev pub of_disk : {M F T : Type 0} → (M → T) → (F → T) → AnyDisk M F → T
 of_disk memory real (disk.Memory d) = memory d
 of_disk memory real (disk.Real d) = real d
-
--- what it tells is one of the images that a stop may leave
-abbrev pub held_of : {M F : Type 0} (memory : M → DiskState) (real : F → DiskState)
-    → ((d : M) → IsHeld (memory d).told (memory d).stops)
-    → ((d : F) → IsHeld (real d).told (real d).stops)
-    → (d : AnyDisk M F) → IsHeld (of_disk memory real d).told (of_disk memory real d).stops
-held_of memory real of_memory of_real (disk.Memory d) = of_memory d
-held_of memory real of_memory of_real (disk.Real d) = of_real d
 
 abbrev pub of_end : {M S T : Type 0} → (M → T) → (S → T) → AnyEnd M S → T
 of_end memory real (end.Memory e) = memory e

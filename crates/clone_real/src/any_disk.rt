@@ -15,11 +15,9 @@ pub enum AnyDisk<M, F> {
 }
 
 impl<M: PageDisk, F: PageDisk> PageDisk for AnyDisk<M, F> {
-    ghost use Rattle.clone_real.specs.Kinds.{of_disk, held_of};
+    ghost use Rattle.clone_real.specs.Kinds.{of_disk};
 
     ghost state = { of_disk M.state F.state };
-
-    ghost held = { held_of M.state F.state M.held F.held };
 
     fn faults(&self) -> u64 {
         match self {

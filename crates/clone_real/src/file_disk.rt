@@ -1,7 +1,7 @@
-ghost use Rattle.std.specs.Prelude.{◌≡◌, ◌≢◌, Err, IfOk, IsErr};
+ghost use Rattle.std.specs.Prelude.{◌≡◌, ◌≢◌, Err, IfOk, IsErr, OnErr, OnOk};
 ghost use Rattle.std.specs.List.Sorted.{IsStrictlyIncreasing};
 ghost use Rattle.clone_outside.specs.Disk.{half_written, rest_written, with_extended, with_created, with_removed, with_mark};
-ghost use Rattle.clone_outside.specs.DiskCalls.{Asks, Reads, Syncs, Takes, Writes};
+ghost use Rattle.clone_outside.specs.DiskCalls.{Asks, IsGiven, Reads, Syncs, Takes, Writes};
 ghost use Rattle.clone_outside.specs.Stops as change;
 ghost use Rattle.clone_real.specs.Real.{after, calm, state_of};
 
@@ -54,8 +54,6 @@ impl<R: Files<File = File> + AllocGlobal + Clone + Drop> PageDisk for FileDisk<R
     ghost use Rattle.clone_real.specs.Real.{state_of};
 
     ghost state = { state_of };
-
-    ghost held = { λ _. tt };
 
     fn faults(&self) -> u64 {
         self.faults.get()
@@ -176,7 +174,10 @@ impl<R: Files<File = File> + AllocGlobal + Clone + Drop> PageDisk for FileDisk<R
     }
 
     /// Keeps the order for contracts, and does nothing on it.
-    fn order(&mut self, order: DiskOrder) -> Result<(), AllocError> {
+    fn order(&mut self, order: DiskOrder) -> Result<(), AllocError>
+        ensures given { OnOk result (IsGiven order (state_of self.old) (state_of self.new)) }
+        ensures refused { OnErr result (state_of self.new ≡ state_of self.old) }
+    {
         self.orders.push(order)?;
         Ok(())
     }
