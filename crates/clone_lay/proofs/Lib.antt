@@ -6,3 +6,4 @@ pub mod RedoLemmas
 pub mod PageLemmas
 pub mod BlockLemmas
 pub mod RoomLemmas
+pub mod CopyLemmas

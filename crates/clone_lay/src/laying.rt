@@ -4,8 +4,9 @@
 ghost use Rattle.std.specs.Prelude.{◌≡◌, ◌<◌, ◌≤◌, ◌+◌, ◌-◌, ◌*◌, ◌%◌, ◌^◌, OnOk, OnErr, length};
 ghost use Rattle.std.specs.FinMap as finite;
 ghost use Rattle.clone_base.specs.declared.limits.TheConstants.{LSN_LIMIT, PAGE_SIZE, REDO_SPACE};
-ghost use Rattle.clone_outside.specs.Disk.{ForTold, IsBeforeOrAfter, Steps, with_page, whole, ChangesOnly};
+ghost use Rattle.clone_outside.specs.Disk.{ForTold, IsBeforeOrAfter, Steps, with_page, whole, ChangesOnly, IsSameBut};
 ghost use Rattle.clone_outside.specs.DiskCalls.{Works};
+ghost use Rattle.clone_outside.specs.Stops.{Keeps};
 ghost use Rattle.clone_lay.specs.Laid.{with_room, laid_page};
 ghost use Rattle.clone_lay.specs.Redo.{filled, redo_page, laid_redo};
 ghost use Rattle.clone_lay.specs.Sized.{AreSizes};
@@ -33,6 +34,7 @@ pub fn make_room<R: PageDisk>(
     ensures partial { OnErr result
         (IsBeforeOrAfter (R.state disk.old).told (R.state disk.new).told (with_room space pages)) }
     ensures works { Works (R.state disk.old) (R.state disk.new) result }
+    ensures stops { Keeps (IsSameBut space) (R.state disk.old).stops (R.state disk.new).stops }
 {
     if sizes.reaches(space, pages) {
         return Ok(());
@@ -50,6 +52,7 @@ fn grow<R: PageDisk>(disk: &mut R, sizes: &Counts, space: u32, pages: u32) -> Re
     ensures partial { OnErr result
         (IsBeforeOrAfter (R.state disk.old).told (R.state disk.new).told (with_room space pages)) }
     ensures works { Works (R.state disk.old) (R.state disk.new) result }
+    ensures stops { Keeps (IsSameBut space) (R.state disk.old).stops (R.state disk.new).stops }
 {
     match sizes.get(space) {
         Some(_) => disk.extend(space, pages),
@@ -74,6 +77,7 @@ pub fn lay_page<R: PageDisk>(
     ensures partial { OnErr result
         (ChangesOnly space (R.state disk.old).told (R.state disk.new).told) }
     ensures works { Works (R.state disk.old) (R.state disk.new) result }
+    ensures stops { Keeps (IsSameBut space) (R.state disk.old).stops (R.state disk.new).stops }
 {
     make_room(disk, sizes, space, number + 1)?;
     write_page(disk, space, number, page)
@@ -99,6 +103,7 @@ pub fn lay_redo<R: PageDisk>(
     ensures partial { OnErr result
         (ChangesOnly REDO_SPACE (R.state disk.old).told (R.state disk.new).told) }
     ensures works { Works (R.state disk.old) (R.state disk.new) result }
+    ensures stops { Keeps (IsSameBut REDO_SPACE) (R.state disk.old).stops (R.state disk.new).stops }
 {
     let first = ((from - checkpoint) / PAGE_SIZE as u64) as u32;
     let count = bytes.len().div_ceil(PAGE_SIZE) as u32;
@@ -123,6 +128,7 @@ fn write_redo_page<R: PageDisk>(
     ensures partial { OnErr result
         (ChangesOnly REDO_SPACE (R.state disk.old).told (R.state disk.new).told) }
     ensures works { Works (R.state disk.old) (R.state disk.new) result }
+    ensures stops { Keeps (IsSameBut REDO_SPACE) (R.state disk.old).stops (R.state disk.new).stops }
 {
     let rest = &bytes[PAGE_SIZE * number as usize..];
     match rest.first_chunk() {

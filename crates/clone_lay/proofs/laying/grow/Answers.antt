@@ -2,6 +2,8 @@ use Rattle.std.proofs.Common.{◌∙◌, inl, sym}
 use Rattle.std.proofs.lemmas.Result.{on_ok_weaker}
 use Rattle.clone_outside.proofs.FaultLemmas.{failed}
 use Rattle.clone_lay.proofs.SizeLemmas.{either_created, either_extended, roomy_created, roomy_extended}
+use Rattle.clone_outside.proofs.ScopeLemmas.{create_only, extend_only, same_but_order}
+use Rattle.clone_outside.proofs.StopLemmas.{keeps_change}
 use Rattle.clone_lay.proofs.laying.grow.Goals as goal
 
 pub returns-in-Some-clause-ok : goal.returns-in-Some-clause-ok
@@ -27,3 +29,9 @@ returns-in-None-clause-partial g c =
     failed c.create.result
     (λ is. either_created c.args.sizes.now c.args.space c.args.pages (g.R.PageDisk.state c.args.disk.now).told (g.R.PageDisk.state c.create.new.self).told c.requires (sym c.get.ensures ∙ c.in-None.is) (c.create.ensures.takes.failed is))
     (λ is. inl (c.create.ensures.takes.memory is))
+
+pub returns-in-Some-clause-stops : goal.returns-in-Some-clause-stops
+returns-in-Some-clause-stops g c = keeps_change _ (same_but_order c.args.space) _ _ _ c.extend.ensures.takes.stops (extend_only c.args.space c.args.pages)
+
+pub returns-in-None-clause-stops : goal.returns-in-None-clause-stops
+returns-in-None-clause-stops g c = keeps_change _ (same_but_order c.args.space) _ _ _ c.create.ensures.takes.stops (create_only c.args.space c.args.pages)

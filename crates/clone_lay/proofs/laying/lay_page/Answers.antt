@@ -4,6 +4,10 @@ use Rattle.clone_outside.specs.Disk.{whole}
 use Rattle.clone_outside.proofs.FaultLemmas.{changes_then, on_err_known}
 use Rattle.clone_lay.proofs.LayingLemmas.{page_laid, either_changes, room_changes}
 use Rattle.clone_lay.proofs.SizeLemmas.{sizes_kept}
+use Rattle.clone_outside.specs.Disk.{IsSameBut}
+use Rattle.clone_outside.specs.Scopes.{OnlyPage}
+use Rattle.clone_outside.proofs.ScopeLemmas.{same_but_order}
+use Rattle.clone_outside.proofs.StopLemmas.{keeps_then, keeps_weaker}
 use Rattle.clone_lay.proofs.laying.lay_page.Goals as goal
 
 pub returns-clause-ok : goal.returns-clause-ok
@@ -29,3 +33,8 @@ returns-clause-partial g c =
 pub returns-in_err-make_room-clause-partial : goal.returns-in_err-make_room-clause-partial
 returns-in_err-make_room-clause-partial g c =
     on_err_known c.from_residual.result (either_changes c.args.space _ _ _ c.in_err-make_room.ensures.partial)
+
+pub returns-clause-stops : goal.returns-clause-stops
+returns-clause-stops g c =
+    keeps_then _ (same_but_order c.args.space) _ _ _ c.make_room.ensures.stops
+    (keeps_weaker (OnlyPage c.args.space c.args.number) (IsSameBut c.args.space) _ _ c.write_page.ensures.stops (λ d m only. only.within))

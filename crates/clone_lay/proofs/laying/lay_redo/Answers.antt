@@ -6,6 +6,8 @@ use Rattle.clone_outside.proofs.FaultLemmas.{changes_then, on_err_known}
 use Rattle.clone_lay.proofs.LayingLemmas.{laid_changes, either_changes}
 use Rattle.clone_lay.proofs.RedoLemmas.{pages_end, pages_go_on}
 use Rattle.clone_lay.proofs.SizeLemmas.{sizes_kept}
+use Rattle.clone_outside.proofs.ScopeLemmas.{same_but_order}
+use Rattle.clone_outside.proofs.StopLemmas.{keeps_then}
 use Rattle.clone_lay.proofs.laying.lay_redo.Goals as goal
 
 pub returns-in_err-write_redo_page-clause-partial : goal.returns-in_err-write_redo_page-clause-partial
@@ -29,6 +31,7 @@ loop-number-preserved g c =
       later = omega (arith, c.loop-number.invariant.later, c.in_ok-write_redo_page.ensures.works.later);
       tells = c.in_ok-write_redo_page.ensures.works.tells ∙ c.loop-number.invariant.tells;
       orders = c.in_ok-write_redo_page.ensures.works.orders ∙ c.loop-number.invariant.orders;
+      stops = keeps_then _ (same_but_order REDO_SPACE) _ _ _ c.loop-number.invariant.stops c.write_redo_page.ensures.stops;
     }
 
 pub returns-clause-ok : goal.returns-clause-ok
@@ -39,3 +42,6 @@ returns-clause-ok g c =
 pub returns-in_err-make_room-clause-partial : goal.returns-in_err-make_room-clause-partial
 returns-in_err-make_room-clause-partial g c =
     on_err_known c.from_residual.result (either_changes REDO_SPACE _ _ _ c.in_err-make_room.ensures.partial)
+
+pub returns-in_err-write_redo_page-clause-stops : goal.returns-in_err-write_redo_page-clause-stops
+returns-in_err-write_redo_page-clause-stops g c = keeps_then _ (same_but_order REDO_SPACE) _ _ _ c.loop-number.invariant.stops c.write_redo_page.ensures.stops
