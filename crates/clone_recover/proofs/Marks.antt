@@ -1,5 +1,5 @@
 -- What recovery answers, by the mark that a disk has.
-use Rattle.std.proofs.Common.{◌≡◌, ◌≢◌, ◌⊎◌, ℕ, List, refl, sym, ap, subst, ◌∙◌, Some, None, inl, inr}
+use Rattle.std.proofs.Common.{◌≡◌, ◌≢◌, ℕ, List, refl, sym, ap, subst, ◌∙◌, Some, None}
 use Rattle.std.specs.Prelude.{IfSome, IsNone}
 use Rattle.std.specs.declared.option.Option.{Option}
 use Rattle.clone_outside.specs.Disk.{DiskImage, ForTold, Steps}
@@ -7,7 +7,7 @@ use Rattle.clone_outside.specs.Mark.{mark_bytes, IsEnd, IsMark}
 use Rattle.clone_outside.specs.declared.mark.CloneEnd.{CloneEnd}
 use Rattle.clone_outside.specs.declared.mark.Mark.{Mark}
 use Rattle.clone_outside.specs.declared.mark.Mark.TheVariants as mark
-use Rattle.clone_recover.specs.Restores.{HasMark, HasRecovered, IsMarkOf, Answers, again, anew, ForStep, RestoresOn, numbers_of, unmarked, under_way, IsCause, DamagedOn}
+use Rattle.clone_recover.specs.Restores.{HasMark, HasRecovered, IsMarkOf, Answers, again, anew, ForStep, RestoresOn, numbers_of, IsIncomplete, unmarked, under_way, numbered, unplaced, IsCause, DamagedOn}
 use Rattle.clone_recover.specs.declared.recovery.Recovered.{Recovered}
 use Rattle.clone_recover.specs.declared.refusal.RecoverRefusal.{RecoverRefusal}
 use Rattle.clone_recover.specs.declared.refusal.RecoverRefusal.TheVariants.{Incomplete, Damaged, DiskFault, NoMemory}
@@ -57,11 +57,23 @@ marked_step (Some m) new step bytes marks is = subst (λ (t : Option DiskImage).
 
 -- What stands behind a refusal.
 
-pub incomplete_cause : (told : Option DiskImage) (r : Option Mark) (e : RecoverRefusal) → e ≡ Incomplete → ((session : ℕ) × (r ≡ Some (mark.InProgress session))) ⊎ (r ≡ None) → ForTold told (λ m. IsMarkOf m r)
+pub incomplete_cause : (told : Option DiskImage) (r : Option Mark) (e : RecoverRefusal) → e ≡ Incomplete → ((m : DiskImage) → IsMarkOf m r → IsIncomplete m) → ForTold told (λ m. IsMarkOf m r)
     → ForTold told (λ m. IsCause m e)
 incomplete_cause None r e is which has = tt
-incomplete_cause (Some m) r e is which has =
-    subst (IsCause m) (sym is) (elim which [ inl w ↦ under_way w.0 (subst (IsMarkOf m) w.1 has) | inr none ↦ unmarked (subst (IsMarkOf m) none has) ])
+incomplete_cause (Some m) r e is which has = subst (IsCause m) (sym is) (which m has)
+
+-- by the mark that was read
+pub by_none : (r : Option Mark) → r ≡ None → (m : DiskImage) → IsMarkOf m r → IsIncomplete m
+by_none r is m has = unmarked (subst (IsMarkOf m) is has)
+
+pub by_progress : (r : Option Mark) (session : ℕ) → r ≡ Some (mark.InProgress session) → (m : DiskImage) → IsMarkOf m r → IsIncomplete m
+by_progress r session is m has = under_way session (subst (IsMarkOf m) is has)
+
+pub by_ending : (r : Option Mark) (end : CloneEnd) → r ≡ Some (mark.Ending end) → (m : DiskImage) → IsMarkOf m r → IsIncomplete m
+by_ending r end is m has = numbered end (subst (IsMarkOf m) is has)
+
+pub by_staged : (r : Option Mark) (end : CloneEnd) → r ≡ Some (mark.Staged end) → (m : DiskImage) → IsMarkOf m r → IsIncomplete m
+by_staged r end is m has = unplaced end (subst (IsMarkOf m) is has)
 
 damage_is_cause : (e : RecoverRefusal) (m : DiskImage) (end : CloneEnd) → IsMarkOf m (Some (mark.Complete end)) → DamagedOn (Some m) end e → (e ≡ Incomplete → ⊥) → IsCause m e
 damage_is_cause Incomplete m end has damage known = absurd (known refl)

@@ -23,7 +23,7 @@ use Rattle.clone_outside.specs.declared.mark.CloneEnd.{CloneEnd}
 use Rattle.clone_outside.specs.declared.mark.Mark.{Mark}
 use Rattle.clone_outside.specs.declared.mark.Mark.TheVariants as mark
 use Rattle.clone_recover.specs.Listing.{AddsTable, AddsListed, InListed, ListsRowsOn}
-use Rattle.clone_recover.specs.Restores.{IsMarkOf, IsRowsCause, incomplete, complete, unmarked, under_way}
+use Rattle.clone_recover.specs.Restores.{IsMarkOf, IsRowsCause, incomplete, complete, unmarked, under_way, numbered, unplaced}
 use Rattle.clone_recover.specs.declared.refusal.RecoverRefusal.TheVariants.{Incomplete}
 
 -- The pages of a space.
@@ -175,5 +175,7 @@ pub unrecovered : (told : Option DiskImage) (o : Option Mark) → ((end : CloneE
 unrecovered None o not is = tt
 unrecovered (Some m) None not is = incomplete (unmarked is)
 unrecovered (Some m) (Some (mark.InProgress session)) not is = incomplete (under_way session is)
+unrecovered (Some m) (Some (mark.Ending end)) not is = incomplete (numbered end is)
+unrecovered (Some m) (Some (mark.Staged end)) not is = incomplete (unplaced end is)
 unrecovered (Some m) (Some (mark.Complete end)) not is = complete end is
 unrecovered (Some m) (Some (mark.Recovered end)) not is = absurd (not end refl)

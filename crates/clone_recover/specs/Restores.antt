@@ -127,6 +127,8 @@ DamagedOn told end refusal = ForTold told (λ m. IsQuiet m → IsDamaged m end r
 pub data IsIncomplete (m : DiskImage) : Type 0 where
   unmarked : IsMarkOf m None → IsIncomplete m
   under_way : (session : ℕ) → HasMark m (mark.InProgress session) → IsIncomplete m
+  numbered : (end : CloneEnd) → HasMark m (mark.Ending end) → IsIncomplete m
+  unplaced : (end : CloneEnd) → HasMark m (mark.Staged end) → IsIncomplete m
 
 -- why nothing was recovered
 abbrev pub IsCause : DiskImage → RecoverRefusal → Type 0

@@ -52,6 +52,8 @@ pub fn recover<R: PageDisk>(alloc: Global, disk: &mut R) -> Result<Recovered, Re
             Ok(numbers_of(end))
         }
         Some(Mark::InProgress { .. }) => Err(RecoverRefusal::Incomplete),
+        Some(Mark::Ending(_)) => Err(RecoverRefusal::Incomplete),
+        Some(Mark::Staged(_)) => Err(RecoverRefusal::Incomplete),
         None => Err(RecoverRefusal::Incomplete),
     }
 }

@@ -33,6 +33,18 @@ not_under_way m a session complete begun = let e : 2 ≡ 1 = ap (λ bytes. get_o
 pub recovered_not_under_way : (m : DiskImage) (a : CloneEnd) (session : ℕ) → HasMark m (mark.Recovered a) → HasMark m (mark.InProgress session) → ⊥
 recovered_not_under_way m a session recovered begun = let e : 3 ≡ 1 = ap (λ bytes. get_or bytes 8 0) (one_mark m (mark.Recovered a) (mark.InProgress session) recovered begun) in omega (arith, e)
 
+pub not_numbered : (m : DiskImage) (a b : CloneEnd) → HasMark m (mark.Complete a) → HasMark m (mark.Ending b) → ⊥
+not_numbered m a b complete begun = let e : 2 ≡ 1 = ap (λ bytes. get_or bytes 8 0) (one_mark m (mark.Complete a) (mark.Ending b) complete begun) in omega (arith, e)
+
+pub recovered_not_numbered : (m : DiskImage) (a b : CloneEnd) → HasMark m (mark.Recovered a) → HasMark m (mark.Ending b) → ⊥
+recovered_not_numbered m a b recovered begun = let e : 3 ≡ 1 = ap (λ bytes. get_or bytes 8 0) (one_mark m (mark.Recovered a) (mark.Ending b) recovered begun) in omega (arith, e)
+
+pub not_staged : (m : DiskImage) (a b : CloneEnd) → HasMark m (mark.Complete a) → HasMark m (mark.Staged b) → ⊥
+not_staged m a b complete is = let e : 2 ≡ 4 = ap (λ bytes. get_or bytes 8 0) (one_mark m (mark.Complete a) (mark.Staged b) complete is) in omega (arith, e)
+
+pub recovered_not_staged : (m : DiskImage) (a b : CloneEnd) → HasMark m (mark.Recovered a) → HasMark m (mark.Staged b) → ⊥
+recovered_not_staged m a b recovered is = let e : 3 ≡ 4 = ap (λ bytes. get_or bytes 8 0) (one_mark m (mark.Recovered a) (mark.Staged b) recovered is) in omega (arith, e)
+
 -- two ends that one mark has: they begin and end alike, and a session and a position are told by 64 bits
 pub record OneEnd (a b : CloneEnd) : Type 0 where
   pub session : to_be_bytes w64 a.session ≡ to_be_bytes w64 b.session

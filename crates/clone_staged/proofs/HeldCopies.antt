@@ -17,7 +17,7 @@ use Rattle.clone_overlay.specs.Shown.{IsMisplaced}
 use Rattle.clone_overlay.proofs.OverlayImageLemmas.{page_stands}
 use Rattle.clone_plain.specs.Donor.{Donor, history}
 use Rattle.clone_recover.specs.Listing.{ListsRows}
-use Rattle.clone_recover.specs.Restores.{IsLeft, Answers, again, anew, HasMark, IsDamage, by_redo, by_header, by_dictionary, by_undo, by_chain, IsIncomplete, unmarked, under_way, numbers_of}
+use Rattle.clone_recover.specs.Restores.{IsLeft, Answers, again, anew, HasMark, IsDamage, by_redo, by_header, by_dictionary, by_undo, by_chain, IsIncomplete, unmarked, under_way, numbered, unplaced, numbers_of}
 use Rattle.clone_recover.specs.declared.recovery.Recovered.{Recovered}
 use Rattle.clone_recover.specs.declared.refusal.Why.{Why}
 use Rattle.clone_trx.specs.Sound.{IsKept}
@@ -25,7 +25,7 @@ use Rattle.clone_trx.proofs.RecoveredRowLemmas.{recovered_rows, can_take_back}
 use Rattle.clone_staged.specs.Holds.{IsLeftBy, HoldsCopy}
 use Rattle.clone_staged.specs.Staged.{IsLogTo, IsStaged, completed}
 use Rattle.clone_staged.proofs.AlikeImages.{missing_alike, broken_alike}
-use Rattle.clone_staged.proofs.EndMarks.{OneEnd, not_both, not_under_way, recovered_not_under_way, one_complete, one_recovered, one_position, same_recovered}
+use Rattle.clone_staged.proofs.EndMarks.{OneEnd, not_both, not_numbered, not_staged, not_under_way, recovered_not_numbered, recovered_not_staged, recovered_not_under_way, one_complete, one_recovered, one_position, same_recovered}
 use Rattle.clone_staged.proofs.KeptImages.{none_missing, none_broken}
 use Rattle.clone_staged.proofs.PlacedPages.{page_placed}
 use Rattle.clone_staged.proofs.StagedImages.{is_redo, pages, left_alike, left_rows}
@@ -80,6 +80,8 @@ module _ (d : Donor) (log : List (List Record)) (end : CloneEnd) (m : DiskImage)
   never_incomplete : IsIncomplete n → ⊥
   never_incomplete (unmarked none) = none (mark.Complete end) ranges complete
   never_incomplete (under_way session begun) = not_under_way n end session complete begun
+  never_incomplete (numbered other begun) = not_numbered n end other complete begun
+  never_incomplete (unplaced other is) = not_staged n end other complete is
 
   pub staged_holds : HoldsCopy n rows end.position
   staged_holds = record {
@@ -112,6 +114,8 @@ module _ (n : DiskImage) (numbers : Recovered) (rows : Rows) (position : ℕ) (r
   not_incomplete : IsIncomplete n → ⊥
   not_incomplete (unmarked none) = none (mark.Recovered r.end) r.ranges r.mark
   not_incomplete (under_way session begun) = recovered_not_under_way n r.end session r.mark begun
+  not_incomplete (numbered other begun) = recovered_not_numbered n r.end other r.mark begun
+  not_incomplete (unplaced other is) = recovered_not_staged n r.end other r.mark is
 
   left_holds : HoldsCopy n rows position
   left_holds = record {

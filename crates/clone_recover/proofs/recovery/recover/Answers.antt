@@ -1,7 +1,7 @@
-use Rattle.std.proofs.Common.{◌∙◌, ap, refl, inl, inr, Some, Err}
+use Rattle.std.proofs.Common.{◌∙◌, ap, refl, Some, Err}
 use Rattle.std.proofs.lemmas.Result.{err_from_is_err_and}
 use Rattle.clone_recover.proofs.Faults.{disk_cause}
-use Rattle.clone_recover.proofs.Marks.{answers_again, answers_anew, marked_again, marked_anew, incomplete_cause, damage_cause}
+use Rattle.clone_recover.proofs.Marks.{answers_again, answers_anew, marked_again, marked_anew, by_ending, by_none, by_progress, by_staged, incomplete_cause, damage_cause}
 use Rattle.clone_recover.proofs.recovery.recover.Goals as goal
 
 pub returns-in-Some-Recovered-clause-ok : goal.returns-in-Some-Recovered-clause-ok
@@ -16,10 +16,18 @@ returns-in_ok-recover_from-in-Some-Complete-clause-ok g c =
 
 pub returns-in-Some-InProgress-clause-cause : goal.returns-in-Some-InProgress-clause-cause
 returns-in-Some-InProgress-clause-cause g c =
-    incomplete_cause (g.R.PageDisk.state c.args.disk.now).told c.in_ok-end.field-0 _ refl (inl (_, c.in-Some-InProgress.is ∙ ap (λ mark. Some mark) c.in-Some-InProgress.field-0-is)) c.in_ok-end.ensures.mark
+    incomplete_cause (g.R.PageDisk.state c.args.disk.now).told c.in_ok-end.field-0 _ refl (by_progress _ _ (c.in-Some-InProgress.is ∙ ap (λ mark. Some mark) c.in-Some-InProgress.field-0-is)) c.in_ok-end.ensures.mark
+
+pub returns-in-Some-Ending-clause-cause : goal.returns-in-Some-Ending-clause-cause
+returns-in-Some-Ending-clause-cause g c =
+    incomplete_cause (g.R.PageDisk.state c.args.disk.now).told c.in_ok-end.field-0 _ refl (by_ending _ _ (c.in-Some-Ending.is ∙ ap (λ mark. Some mark) c.in-Some-Ending.field-0-is)) c.in_ok-end.ensures.mark
+
+pub returns-in-Some-Staged-clause-cause : goal.returns-in-Some-Staged-clause-cause
+returns-in-Some-Staged-clause-cause g c =
+    incomplete_cause (g.R.PageDisk.state c.args.disk.now).told c.in_ok-end.field-0 _ refl (by_staged _ _ (c.in-Some-Staged.is ∙ ap (λ mark. Some mark) c.in-Some-Staged.field-0-is)) c.in_ok-end.ensures.mark
 
 pub returns-in-None-clause-cause : goal.returns-in-None-clause-cause
-returns-in-None-clause-cause g c = incomplete_cause (g.R.PageDisk.state c.args.disk.now).told c.in_ok-end.field-0 _ refl (inr c.in-None.is) c.in_ok-end.ensures.mark
+returns-in-None-clause-cause g c = incomplete_cause (g.R.PageDisk.state c.args.disk.now).told c.in_ok-end.field-0 _ refl (by_none _ c.in-None.is) c.in_ok-end.ensures.mark
 
 pub returns-in_err-end-clause-cause : goal.returns-in_err-end-clause-cause
 returns-in_err-end-clause-cause g c =
