@@ -18,7 +18,7 @@ use Rattle.clone_recover.specs.declared.refusal.Why.{Why}
 use Rattle.clone_recover.specs.declared.refusal.RecoverRefusal.{RecoverRefusal}
 use Rattle.clone_recover.specs.declared.refusal.RecoverRefusal.TheVariants.{Incomplete, Damaged, DiskFault, NoMemory}
 use Rattle.clone_staged.specs.Holds.{HoldsCopy}
-use Rattle.clone_staged.proofs.EndMarks.{not_under_way, recovered_not_under_way}
+use Rattle.clone_staged.proofs.EndMarks.{not_numbered, not_under_way, recovered_not_numbered, recovered_not_under_way}
 use Rattle.clone_tasks.specs.declared.end.CloneEnd as tasks
 use Rattle.clone_engine.specs.Disks.{Visits}
 use Rattle.clone_events.specs.World.{Stop, Progress, absent, Clone, HasEnded, IsSure, before_stop}
@@ -110,11 +110,13 @@ no_mark bytes m has none = let e : Some bytes ≡ None = sym has ∙ none in cc
 
 complete_marked : (m : DiskImage) (end : CloneEnd) → HasMark m (mark.Complete end) → IsIncomplete m → ⊥
 complete_marked m end has (inl none) = no_mark _ m has none
-complete_marked m end has (inr begun) = not_under_way m end SESSION has begun
+complete_marked m end has (inr (inl begun)) = not_under_way m end SESSION has begun
+complete_marked m end has (inr (inr numbered)) = not_numbered m end numbered.0 has numbered.2
 
 answers_marked : (m n : DiskImage) (numbers : Recovered) → Answers m n numbers → IsIncomplete m → ⊥
 answers_marked m n numbers (again end has told same) (inl none) = no_mark _ m has none
-answers_marked m n numbers (again end has told same) (inr begun) = recovered_not_under_way m end SESSION has begun
+answers_marked m n numbers (again end has told same) (inr (inl begun)) = recovered_not_under_way m end SESSION has begun
+answers_marked m n numbers (again end has told same) (inr (inr numbered)) = recovered_not_numbered m end numbered.0 has numbered.2
 answers_marked m n numbers (anew end has told restores) is = complete_marked m end has is
 
 step_at : (old new : Option DiskImage) (P : DiskImage → DiskImage → Type 0) (m : DiskImage) → old ≡ Some m → ForStep old new P → (n : DiskImage) × (new ≡ Some n) × P m n

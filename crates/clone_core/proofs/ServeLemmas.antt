@@ -226,7 +226,7 @@ module _ (s : System) (begun : finite.FinMap nat_cmp ℕ) (disturbed doubted sho
   starved_ended (Some how) is sure = (subst (λ (x : State). IsSure x.tells x.clone → ForTold s.recipient.told (HoldsEnded (donor_of failed) x.clone)) (sym (ended_same how is)) (keeps.holds (subst HasEnded (sym (ap progress_by is)) tt))) sure
   starved_ended None is sure =
       for_told s.recipient.told (IsInProgress SESSION) (HoldsEnded (donor_of failed) starved.clone)
-      (λ m marked. record { whole = λ whole. absurd (subst IsComplete (ap (λ (x : Clone). x.progress) (starved_clone is)) whole); other = inl (inr marked); shown = λ was_shown. absurd (true≢false (sym was_shown ∙ (holds.steady (λ ended. subst HasEnded (ap progress_of at ∙ ap progress_by is) ended)).1)) })
+      (λ m marked. record { whole = λ whole. absurd (subst IsComplete (ap (λ (x : Clone). x.progress) (starved_clone is)) whole); other = inl (inr (inl marked)); shown = λ was_shown. absurd (true≢false (sym was_shown ∙ (holds.steady (λ ended. subst HasEnded (ap progress_of at ∙ ap progress_by is) ended)).1)) })
       (subst (λ (x : Course). SaysInProgress x s.recipient.told) at holds.marked (ap is_none is))
 
   holds_starved : Holds starved

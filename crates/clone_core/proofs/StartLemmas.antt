@@ -162,7 +162,7 @@ module _ (s : System) (counts : finite.FinMap nat_cmp ℕ) (disturbed doubted sh
       whole = λ complete. absurd complete;
       other = inl (elim is [
         | inl same ↦ inl (ap (λ (x : DiskImage). x.mark) (same ∙ empty))
-        | inr begins ↦ inr (ap (λ (x : DiskImage). x.mark) begins)
+        | inr begins ↦ inr (inl (ap (λ (x : DiskImage). x.mark) begins))
       ]);
       shown = λ is_shown. absurd (not_both (held.steady unended).1 is_shown);
     }

@@ -30,7 +30,7 @@ use Rattle.clone_engine.specs.Donor as staged
 use Rattle.clone_engine.specs.Engine.{Engine}
 use Rattle.clone_answers.specs.StepTexts as texts
 use Rattle.clone_sides.specs.Moment.{HasGoneOn}
-use Rattle.clone_joined.specs.Joined.{HoldsAt, IsCloned, IsInProgress, IsJoined, IsLeft}
+use Rattle.clone_joined.specs.Joined.{HoldsAt, IsCloned, IsInProgress, IsJoined, IsLeft, IsUnfinished}
 use Rattle.clone_joined.proofs.ClonedLemmas.{joined_completes}
 use Rattle.clone_joined.proofs.JoinedLemmas.{joined_task}
 use Rattle.clone_joined.proofs.LeftLemmas.{joined_ends}
@@ -124,7 +124,7 @@ cloned_holds stop d floor told position tells is =
     (λ m holds. subst (λ (o : Option session.Stop). HoldsIts d o m) (sym is.is)
     (holds_stop is.first d is.at m is.gone_on (subst (λ (p : ℕ). HoldsCopy m (fold (history is.at.donor)) p) is.position_is holds))) (is.holds tells)
 
-left_in : (stop : Option session.Stop) (d : staged.Donor) (m : DiskImage) → IsInProgress SESSION m ⊎ MatchOption stop ⊥ (λ first. HoldsAt first d m) → IsIncomplete m ⊎ HoldsIts d stop m
+left_in : (stop : Option session.Stop) (d : staged.Donor) (m : DiskImage) → IsUnfinished SESSION m ⊎ MatchOption stop ⊥ (λ first. HoldsAt first d m) → IsIncomplete m ⊎ HoldsIts d stop m
 left_in stop d m (inl marked) = inl (inr marked)
 left_in None d m (inr held) = absurd held
 left_in (Some first) d m (inr held) = inr (holds_stop first d held.at m held.gone_on held.holds)

@@ -16,7 +16,7 @@ use Rattle.clone_tasks.specs.Tables.{is_running}
 use Rattle.clone_tasks.specs.declared.end.CloneEnd as tasks
 use Rattle.clone_fetch.specs.Fetching.{KnowsSizes}
 use Rattle.clone_sides.specs.Moment.{own_stop}
-use Rattle.clone_joined.specs.Joined.{IsInProgress, IsJoined}
+use Rattle.clone_joined.specs.Joined.{IsInProgress, IsJoined, IsUnfinished}
 use Rattle.clone_joined.specs.Runs.{HasCome}
 use Rattle.clone_events.specs.World.{Stop, broken, Progress, absent, copying, over, Clone, HasEnded, IsHonest, IsSure, before_stop}
 use Rattle.clone_events.specs.Events.{IsComplete}
@@ -72,9 +72,9 @@ world_of s begun disturbed doubted shown = record {
 abbrev pub HoldsStop : Donor → Stop → DiskImage → Type 0
 HoldsStop d stop m = HoldsCopy m (fold (before_stop stop d)) stop.position
 
--- the disk has no mark, or that of the copy in progress
+-- the disk has no mark, or that of an unfinished copy
 abbrev pub IsIncomplete : DiskImage → Type 0
-IsIncomplete m = (m.mark ≡ None) ⊎ IsInProgress SESSION m
+IsIncomplete m = (m.mark ≡ None) ⊎ IsUnfinished SESSION m
 
 -- What a recipient's disk holds of a clone that has ended, where that is known: all of it where it
 -- is complete, and recovered where its rows were shown. Where it ended otherwise, it may be

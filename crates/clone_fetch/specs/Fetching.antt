@@ -3,10 +3,11 @@
 use Rattle.std.specs.Prelude.{ℕ, ◌≡◌, Bool, true, false, List, ◌++◌, None, Some}
 use Rattle.std.specs.Prelude.{if◌then◌else◌}
 use Rattle.std.specs.declared.option.Option.{Option}
-use Rattle.clone_outside.specs.Disk.{DiskImage, ForTold, IsBeforeOrAfter, Steps}
+use Rattle.clone_outside.specs.Disk.{DiskImage, ForTold, Steps}
 use Rattle.clone_outside.specs.DiskCalls.{DiskState}
 use Rattle.clone_outside.specs.declared.mark.CloneEnd as mark
 use Rattle.clone_outside.specs.declared.mark.Mark.TheVariants.{Complete}
+use Rattle.clone_lay.specs.Copying.{IsCompleting}
 use Rattle.clone_lay.specs.Marked.{marked}
 use Rattle.clone_lay.specs.Sized.{AreSizes}
 use Rattle.clone_chunk.specs.declared.cause.CloneCause.{CloneCause}
@@ -136,12 +137,12 @@ pub data Completes (old new : Reception) (told now : Option DiskImage) (sent put
       → answer ≡ says.Ended (end.Complete old.lsn old.position)
       → Completes old new told now sent put answer
   not_completed : (last : mark.CloneEnd) → IsEndOf old last
-      → IsBeforeOrAfter told now (marked (Complete last)) → new ≡ ended_as end.DiskFault old
+      → IsCompleting last told now → new ≡ ended_as end.DiskFault old
       → put ≡ sent → answer ≡ says.Ended end.DiskFault
       → Completes old new told now sent put answer
   -- there was no memory for the mark, or none for the bytes of EXIT
   not_marked : (last : mark.CloneEnd) → IsEndOf old last
-      → IsBeforeOrAfter told now (marked (Complete last)) → new ≡ old → put ≡ sent
+      → IsCompleting last told now → new ≡ old → put ≡ sent
       → answer ≡ says.NoMemory → Completes old new told now sent put answer
   not_left : (last : mark.CloneEnd) → IsEndOf old last
       → Steps told now (marked (Complete last)) → new ≡ record old { synced = true }

@@ -1,12 +1,14 @@
 -- However a step of a task ends the clone: the recipient's disk is in progress still, or complete.
-use Rattle.std.proofs.Common.{ℕ, ◌≡◌, ◌<◌, ◌^◌, ◌⊎◌, [], List, true, Option, None, Some, MatchOption, refl, sym, ap, subst, inl, inr}
+use Rattle.std.proofs.Common.{ℕ, ◌≡◌, ◌<◌, ◌^◌, ◌⊎◌, [], List, true, Option, None, Some, MatchOption, refl, sym, ap, subst, ◌∙◌, inl, inr}
 use Rattle.std.specs.Prelude.{not}
-use Rattle.clone_outside.specs.Disk.{DiskImage, ForTold, IsBeforeOrAfter, Steps}
+use Rattle.clone_outside.specs.Disk.{DiskImage, ForTold, Steps}
 use Rattle.clone_outside.specs.DiskCalls.{DiskState}
 use Rattle.clone_outside.specs.declared.mark.CloneEnd as mark
 use Rattle.clone_outside.specs.declared.mark.Mark.TheVariants as marks
 use Rattle.clone_model.specs.History.{fold}
 use Rattle.clone_plain.specs.Donor.{history}
+use Rattle.clone_lay.specs.Copying as copy
+use Rattle.clone_lay.specs.Copying.{IsCompleting}
 use Rattle.clone_lay.specs.Marked.{marked}
 use Rattle.clone_staged.specs.Holds.{HoldsCopy}
 use Rattle.clone_session.specs.declared.info.Stop.{Stop}
@@ -24,7 +26,7 @@ use Rattle.clone_network.specs.Connections.{link_over, sent_behind}
 use Rattle.clone_network.specs.Networks as network
 use Rattle.clone_network.specs.Networks.{Network, StepsTask}
 use Rattle.clone_engine.specs.Donor.{Donor}
-use Rattle.clone_joined.specs.Joined.{HoldsAt, IsCloned, IsInProgress, IsJoined, IsLeft}
+use Rattle.clone_joined.specs.Joined.{HoldsAt, IsCloned, IsInProgress, IsJoined, IsLeft, IsUnfinished}
 use Rattle.clone_joined.proofs.ClonedLemmas.{cloned}
 use Rattle.clone_joined.proofs.EndingLemmas.{done_of}
 use Rattle.clone_joined.proofs.MarkLemmas.{Leaves, completing, joined_marked, marked_still, staying, step_leaves}
@@ -33,15 +35,15 @@ use Rattle.clone_joined.proofs.MarkLemmas.{Leaves, completing, joined_marked, ma
 still_left : (number : ℕ) (stop : Option Stop) (d : Donor) (now : Option DiskImage) → ForTold now (IsInProgress number) → IsLeft number stop d now
 still_left number stop d now is = λ some. by now is
   where
-    by : (o : Option DiskImage) → ForTold o (IsInProgress number) → ForTold o (λ m. IsInProgress number m ⊎ MatchOption stop ⊥ (λ first. HoldsAt first d m))
+    by : (o : Option DiskImage) → ForTold o (IsInProgress number) → ForTold o (λ m. IsUnfinished number m ⊎ MatchOption stop ⊥ (λ first. HoldsAt first d m))
     by None is = tt
-    by (Some m) is = inl is
+    by (Some m) is = inl (inl is)
 
 -- it is complete
 cloned_left : (number : ℕ) (stop : Option Stop) (d : Donor) (floor : Option ℕ) (now : Option DiskImage) (position : ℕ) → IsCloned number stop d floor now position → IsLeft number stop d now
 cloned_left number stop d floor now position c = λ some. by now (c.holds some)
   where
-    by : (o : Option DiskImage) → ForTold o (λ m. HoldsCopy m (fold (history c.at.donor)) position) → ForTold o (λ m. IsInProgress number m ⊎ MatchOption stop ⊥ (λ first. HoldsAt first d m))
+    by : (o : Option DiskImage) → ForTold o (λ m. HoldsCopy m (fold (history c.at.donor)) position) → ForTold o (λ m. IsUnfinished number m ⊎ MatchOption stop ⊥ (λ first. HoldsAt first d m))
     by None holds = tt
     by (Some m) holds =
         let at : HoldsAt c.first d m = record { at = c.at; gone_on = c.gone_on; holds = subst (λ (p : ℕ). HoldsCopy m (fold (history c.at.donor)) p) c.position_is holds } in
@@ -52,13 +54,19 @@ module _ (number : ℕ) (stop : Option Stop) (d : Donor) (r : Reception) (told :
   left_same now same = still_left number stop d now (subst (λ (o : Option DiskImage). ForTold o (IsInProgress number)) (sym same) (joined_marked number stop d r told n j))
 
   -- all was copied
-  module _ (done : is_done r.table.phase ≡ true) where
+  module _ (copied : is_done r.table.phase ≡ true) where
     by_marking : (last : mark.CloneEnd) → IsEndOf r last → (now : Option DiskImage) → Steps told now (marked (marks.Complete last)) → IsLeft number stop d now
-    by_marking last is now steps = cloned_left number stop d r.table.floor now r.position (cloned number stop d r told n bounded j last is done r.table.floor now r.position refl refl steps)
+    by_marking last is now steps = cloned_left number stop d r.table.floor now r.position (cloned number stop d r told n bounded j last is copied r.table.floor now r.position refl refl steps)
 
-    by_either : (last : mark.CloneEnd) → IsEndOf r last → (now : Option DiskImage) → IsBeforeOrAfter told now (marked (marks.Complete last)) → IsLeft number stop d now
-    by_either last is now (inl same) = left_same now same
-    by_either last is now (inr steps) = by_marking last is now steps
+    -- the numbers of the end are there
+    numbered_left : (last : mark.CloneEnd) → IsEndOf r last → (was now : Option DiskImage) → Steps was now (marked (marks.Ending last)) → IsLeft number stop d now
+    numbered_left last is None now steps = λ some. subst (λ (o : Option DiskImage). ForTold o (λ m. IsUnfinished number m ⊎ MatchOption stop ⊥ (λ first. HoldsAt first d m))) (sym steps) tt
+    numbered_left last is (Some m) now steps = λ some. subst (λ (o : Option DiskImage). ForTold o (λ m. IsUnfinished number m ⊎ MatchOption stop ⊥ (λ first. HoldsAt first d m))) (sym steps) (inl (inr (last, is.session ∙ j.session, refl)))
+
+    by_either : (last : mark.CloneEnd) → IsEndOf r last → (now : Option DiskImage) → IsCompleting last told now → IsLeft number stop d now
+    by_either last is now (copy.before same) = left_same now same
+    by_either last is now (copy.numbered steps) = numbered_left last is told now steps
+    by_either last is now (copy.done steps) = by_marking last is now steps
 
     by_completing : (s : Reception) (now : Option DiskImage) (sent put : List ℕ) (answer : TaskAnswer) → Completes r s told now sent put answer → IsLeft number stop d now
     by_completing s now sent put answer (fetch.completes last is steps ended bytes heard) = by_marking last is now steps

@@ -5,7 +5,8 @@ use Rattle.std.specs.List.{AllByRecursion}
 use Rattle.std.specs.declared.option.Option.{Option}
 use Rattle.clone_outside.specs.Disk.{DiskImage, ForTold}
 use Rattle.clone_outside.specs.Mark.{mark_bytes}
-use Rattle.clone_outside.specs.declared.mark.Mark.TheVariants.{InProgress}
+use Rattle.clone_outside.specs.declared.mark.CloneEnd.{CloneEnd}
+use Rattle.clone_outside.specs.declared.mark.Mark.TheVariants.{InProgress, Ending}
 use Rattle.clone_model.specs.History.{fold}
 use Rattle.clone_plain.specs.Donor.{history}
 use Rattle.clone_session.specs.declared.info.Stop.{Stop}
@@ -25,6 +26,12 @@ use Rattle.clone_joined.specs.Runs.{HasFloor, HasRun}
 -- the mark says that the copy of this session is in progress
 abbrev pub IsInProgress : ℕ → DiskImage → Type 0
 IsInProgress number m = m.mark ≡ Some (mark_bytes (InProgress number))
+
+-- it says so still, or has the numbers of the end too
+abbrev pub IsUnfinished : ℕ → DiskImage → Type 0
+IsUnfinished number m =
+    IsInProgress number m
+    ⊎ ((end : CloneEnd) × (end.session ≡ number) × (m.mark ≡ Some (mark_bytes (Ending end))))
 
 -- WHILE THE CLONE GOES ON: the donor has come by a run to where it is, the recipient accepted what
 -- was answered in that run, over a disk without spaces whose copy is in progress, and each
@@ -68,8 +75,8 @@ pub record HoldsAt (stop : Stop) (d : Donor) (m : DiskImage) : Type 0 where
   pub gone_on : HasGoneOn stop at.donor d.engine.donor
   pub holds : HoldsCopy m (fold (history at.donor)) stop.position
 
--- HOWEVER THE CLONE ENDS, where both disks tell what they hold: the copy is in progress still, or
--- it was completed all the same.
+-- HOWEVER THE CLONE ENDS, where both disks tell what they hold: the copy is unfinished, or it was
+-- completed all the same.
 abbrev pub IsLeft : ℕ → Option Stop → Donor → Option DiskImage → Type 0
 IsLeft number stop d told = IsSome d.engine.disk.told → ForTold told
-    (λ m. IsInProgress number m ⊎ MatchOption stop ⊥ (λ first. HoldsAt first d m))
+    (λ m. IsUnfinished number m ⊎ MatchOption stop ⊥ (λ first. HoldsAt first d m))

@@ -1,8 +1,9 @@
 ghost use Rattle.std.specs.Prelude.{◌≡◌, true, IfOk, OnErr, OnOk, IsTrue};
-ghost use Rattle.clone_outside.specs.Disk.{IsBeforeOrAfter, Steps};
+ghost use Rattle.clone_outside.specs.Disk.{Steps};
 ghost use Rattle.clone_outside.specs.DiskCalls.{Works};
 ghost use Rattle.clone_outside.specs.declared.mark.CloneEnd.{CloneEnd};
 ghost use Rattle.clone_outside.specs.declared.mark.Mark.TheVariants.{Complete};
+ghost use Rattle.clone_lay.specs.Copying.{IsCompleting};
 ghost use Rattle.clone_lay.specs.Marked.{marked};
 ghost use Rattle.clone_tasks.specs.Tables.{is_done};
 ghost use Rattle.clone_recipient.specs.Showing.{IsEndOf};
@@ -21,8 +22,7 @@ impl Reception {
         ensures mark { OnOk result ((end : CloneEnd) × IsEndOf self.old end
             × Steps (R.state disk.old).told (R.state disk.new).told (marked (Complete end))) }
         ensures partial { OnErr result ((end : CloneEnd) × IsEndOf self.old end
-            × IsBeforeOrAfter (R.state disk.old).told (R.state disk.new).told
-            (marked (Complete end))) }
+            × IsCompleting end (R.state disk.old).told (R.state disk.new).told) }
         ensures synced { OnOk result (self.new ≡ record self.old { synced = true }) }
         ensures kept { OnErr result (self.new ≡ self.old) }
         ensures works { Works (R.state disk.old) (R.state disk.new) result }
