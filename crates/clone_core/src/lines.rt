@@ -1,6 +1,7 @@
-ghost use Rattle.std.specs.Prelude.{◌≡◌, ◌^◌, ◌-◌, IfOk, OnErr};
+ghost use Rattle.std.specs.Prelude.{◌≡◌, ◌≢◌, ◌^◌, ◌-◌, IfOk, OnErr};
 ghost use Rattle.std.specs.String.{string_bytes};
 ghost use Rattle.clone_outside.specs.declared.disk.DiskOrder.{DiskOrder};
+ghost use Rattle.clone_outside.specs.declared.disk.DiskOrder.TheVariants.{Again};
 ghost use Rattle.clone_script.specs.declared.lines.Line.TheVariants as lines;
 ghost use Rattle.clone_events.specs.Events.{ordered, to_donor, to_recipient};
 ghost use Rattle.clone_events.specs.World.{IsWithin};
@@ -13,7 +14,7 @@ use crate::texts::{
     answered, begun_text, committed_text, drop_refused, refused, undone_text, value_shown,
 };
 use clone_model::{BucketCount, TableNumber};
-use clone_outside::{DiskOrder, PageDisk};
+use clone_outside::{DiskOrder, PageDisk, give_order};
 use clone_plain::{Cause, EngineRefusal};
 use std::alloc::{AllocError, Global};
 
@@ -281,6 +282,7 @@ impl<D: PageDisk, R: PageDisk> World<D, R> {
         alloc: Global,
         order: DiskOrder,
     ) -> Result<String, AllocError>
+        requires { order ≢ Again }
         ensures ok { IfOk result (λ text. Notes self.old (ordered to_donor order)
             (string_bytes text) self.new) }
         ensures err { OnErr result (self.new ≡ self.old) }
@@ -296,12 +298,13 @@ impl<D: PageDisk, R: PageDisk> World<D, R> {
         alloc: Global,
         order: DiskOrder,
     ) -> Result<String, AllocError>
+        requires { order ≢ Again }
         ensures ok { IfOk result (λ text. Notes self.old (ordered to_recipient order)
             (string_bytes text) self.new) }
         ensures err { OnErr result (self.new ≡ self.old) }
     {
         let text = String::from_str(alloc, "noted")?;
-        self.recipient.order(order)?;
+        give_order(&mut self.recipient, order)?;
         Ok(text)
     }
 }

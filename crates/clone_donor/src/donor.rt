@@ -1,5 +1,5 @@
 //! The state of a donor: an engine over the disk that it holds, with what holds of every donor.
-ghost use Rattle.std.specs.Prelude.{◌≡◌, ◌≤◌, ◌<◌, ◌^◌, IfErr, IfOk, None, is_some, length, option_copied, option_map};
+ghost use Rattle.std.specs.Prelude.{◌≡◌, ◌≢◌, ◌≤◌, ◌<◌, ◌^◌, IfErr, IfOk, None, is_some, length, option_copied, option_map};
 ghost use Rattle.std.specs.FinMap as finite;
 ghost use Rattle.std.specs.Option.{ForSome};
 ghost use Rattle.clone_outside.specs.Disk.{ForTold, blank};
@@ -13,6 +13,7 @@ ghost use Rattle.clone_trx.specs.Kept.{IsSafe};
 ghost use Rattle.clone_session.specs.Cloning.{IsCloning, Session};
 ghost use Rattle.clone_engine.specs.Disks.{Visits};
 ghost use Rattle.clone_outside.specs.DiskCalls.{Alters, Orders};
+ghost use Rattle.clone_outside.specs.declared.disk.DiskOrder.TheVariants.{Again};
 ghost use Rattle.clone_engine.specs.Engine.{IsEngine};
 ghost use Rattle.clone_engine.specs.Opened.{IsNotEmpty, IsOpened};
 ghost use Rattle.clone_engine.specs.declared.opening.OpenCause.TheVariants as causes;
@@ -136,6 +137,7 @@ impl<D: PageDisk> Donor<D> {
 
     /// Hands an order to the disk. The error is that memory ran out.
     pub fn order(&mut self, order: DiskOrder) -> Result<(), AllocError>
+        requires { order ≢ Again }
         ensures disk { Orders order self.old.engine.disk self.new.engine.disk result }
         ensures acts { Acts act.Orders self.old self.new }
     {

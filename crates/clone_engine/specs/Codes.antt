@@ -6,7 +6,8 @@ use Rattle.std.specs.Coded.{Coded, code_by, coded×, coded⊎, coded_ℕ, coded_
 use Rattle.clone_outside.specs.Disk.{DiskImage}
 use Rattle.clone_outside.specs.Stops.{DiskChange, WriteHalf, WriteRest, Extend, Create, Remove, WriteMark, Moment, Moments}
 use Rattle.clone_outside.specs.declared.disk.DiskOrder.{DiskOrder}
-use Rattle.clone_memdisk.specs.Stored.{image_code, order_code}
+use Rattle.clone_memdisk.specs.Codes.{image_code}
+use Rattle.clone_memdisk.specs.StoredCodes.{order_code}
 use Rattle.clone_mtr.specs.declared.record.Record.{Record}
 use Rattle.clone_ring.specs.Window.{Window, window_code}
 use Rattle.clone_pool.specs.declared.frame.Content.{Content}

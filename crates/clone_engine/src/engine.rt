@@ -1,10 +1,11 @@
 //! The state of an engine. Between calls no frame is pinned; and over a disk that tells what it
 //! holds the pages stand over that. The ring has what comes next for the archive, the archived bytes
 //! are the log's, and what a session copies is the engine's.
-ghost use Rattle.std.specs.Prelude.{◌≡◌, ◌<◌, ◌^◌, length, option_copied, option_map};
+ghost use Rattle.std.specs.Prelude.{◌≡◌, ◌≢◌, ◌<◌, ◌^◌, length, option_copied, option_map};
 ghost use Rattle.std.specs.FinMap as finite;
 ghost use Rattle.std.specs.Option.{ForSome};
 ghost use Rattle.clone_outside.specs.DiskCalls.{Orders};
+ghost use Rattle.clone_outside.specs.declared.disk.DiskOrder.TheVariants.{Again};
 ghost use Rattle.clone_archive.specs.Archived.{IsArchived};
 ghost use Rattle.clone_ring.specs.Window.{end_of};
 ghost use Rattle.clone_snapshot.specs.Snaps.{IsSnap};
@@ -19,7 +20,7 @@ ghost use Rattle.clone_engine.specs.Over.{over};
 use clone_buffer::Buffer;
 use clone_flush::Flusher;
 use clone_model::{Binlog, Commit, Drops};
-use clone_outside::{DiskOrder, PageDisk};
+use clone_outside::{DiskOrder, PageDisk, give_order};
 use clone_session::{Cloning, Stop};
 use clone_trx::Transactions;
 use std::alloc::AllocError;
@@ -99,13 +100,14 @@ impl Engine {
 
     /// Hands an order to the disk. The error is that memory ran out.
     pub fn order<D: PageDisk>(&self, order: DiskOrder, disk: &mut D) -> Result<(), AllocError>
+        requires leaves { order ≢ Again }
         requires donor { IsDonor (over self.now (D.state disk.old)) }
         ensures disk { Orders order (D.state disk.old) (D.state disk.new) result }
         ensures acts { Acts act.Orders (over self.now (D.state disk.old))
             (over self.now (D.state disk.new)) }
     {
         let _ = &self.buffer;
-        disk.order(order)
+        give_order(disk, order)
     }
 
     /// Gives the drops back.

@@ -5,5 +5,5 @@ use Rattle.clone_engine.proofs.engine.Engine.order.Goals as goal
 pub returns-clause-acts : goal.returns-clause-acts
 returns-clause-acts g c =
     let k = g.D.PageDisk.state c.args.disk.now in
-    let l = g.D.PageDisk.state c.order.new.self in
-    orders (over c.args.self.now k) l (order_told c.args.order k l c.order.result c.order.ensures.given) c.requires.donor
+    let l = g.D.PageDisk.state c.give_order.new.disk in
+    orders (over c.args.self.now k) l (order_told c.args.order k l c.give_order.result c.give_order.ensures) c.requires.donor
