@@ -17,7 +17,7 @@ fn ends_of(disk: &mut MemDisk, space: u32, number: u32) -> Result<(u8, u8), Refu
 // Pages in any order. The first is laid past the end of a space that isn't there, the second past
 // the end of one that is.
 fn lay_pages(alloc: Global, disk: &mut MemDisk) -> Result<(), Refusal>
-    requires { disk.old.image.spaces ≡ finite.empty }
+    requires { disk.old.contents.image.spaces ≡ finite.empty }
 {
     let mut sizes = Counts::new(alloc);
     size_laws();
@@ -39,7 +39,7 @@ fn pages_past_the_end(rt: HostRuntime) -> Result<(), Refusal> {
 
 // Redo of five pages, the last of which has five bytes. Its blocks come in any order.
 fn lay_blocks(alloc: Global, disk: &mut MemDisk) -> Result<(), Refusal>
-    requires { disk.old.image.spaces ≡ finite.empty }
+    requires { disk.old.contents.image.spaces ≡ finite.empty }
 {
     let mut sizes = Counts::new(alloc);
     size_laws();
@@ -69,10 +69,10 @@ fn copied(alloc: Global, call: u64) -> Result<(Result<(), Refusal>, Option<Mark>
     }
 }
 
-// Thirteen calls: two of them for the mark, one for room, two for each page, three for the redo, and
-// three at the end.
+// Fifteen calls: two of them for the mark, one for room, two for each page, three for the redo, and
+// five at the end.
 fn copy_to(alloc: Global, disk: &mut MemDisk) -> Result<(), Refusal>
-    requires { disk.old.image.spaces ≡ finite.empty }
+    requires { disk.old.contents.image.spaces ≡ finite.empty }
 {
     let mut sizes = Counts::new(alloc);
     size_laws();
@@ -96,15 +96,41 @@ fn an_end() -> CloneEnd {
 #[test]
 fn each_call_fails(rt: HostRuntime) -> Result<(), Refusal> {
     let begun = Some(Mark::InProgress { session: 3 });
+    let numbered = Some(Mark::Ending(an_end()));
     let ended = Some(Mark::Complete(an_end()));
-    for call in 1..14 {
+    for call in 1..16 {
         let mark = match call {
             1 => None,
-            13 => ended,
+            13 | 14 => numbered,
+            15 => ended,
             _ => begun,
         };
-        assert!(rt; copied(rt.alloc(), call)? == (Err(Refusal::Fault), mark));
+        assert!(rt; copied(rt.alloc(), call)? == (Err(Refusal::Fault), mark), "call {call}");
     }
-    assert!(rt; copied(rt.alloc(), 15)? == (Ok(()), ended));
+    assert!(rt; copied(rt.alloc(), 17)? == (Ok(()), ended));
+    Ok(())
+}
+
+// A clone on a disk that stops after so many calls, and the mark that is left.
+fn stopped(alloc: Global, calls: u64, choice: u8) -> Result<Option<[u8; 64]>, Refusal> {
+    let mut disk = MemDisk::recording(alloc);
+    disk.order(DiskOrder::Stop { calls, choice })?;
+    let _ = copy_to(alloc, &mut disk);
+    disk.order(DiskOrder::Again)?;
+    disk.read_mark()
+}
+
+// The complete mark is left where it was written before the stop, and where its sync came before
+// the stop it is always.
+#[test]
+fn each_call_may_be_the_last(rt: HostRuntime) -> Result<(), Refusal> {
+    let ended = Mark::Complete(an_end()).to_bytes();
+    for calls in 0..16 {
+        for choice in 0..4 {
+            let written = calls >= 15 || (calls == 14 && choice != 0);
+            let is_left = stopped(rt.alloc(), calls, choice)? == Some(ended);
+            assert!(rt; is_left == written, "{calls} {choice}");
+        }
+    }
     Ok(())
 }

@@ -60,3 +60,67 @@ fn spaces_come_and_go(rt: HostRuntime) -> Result<(), Refusal> {
     assert!(rt; disk.pages(2) == Ok(Some(5)));
     Ok(())
 }
+
+// A disk that records, with a synced space of two pages of 1, of which page 1 is then written with
+// 2, and a space that came since. It stops at once, with this choice, and goes on.
+fn stopped(alloc: Global, choice: u8) -> Result<MemDisk, Refusal> {
+    let mut disk = MemDisk::recording(alloc);
+    disk.create(7, 2)?;
+    for number in 0..2 {
+        disk.write_half(7, number, &[1; 4096])?;
+        disk.write_rest(7, number, &[1; 4096])?;
+    }
+    disk.sync()?;
+    disk.write_half(7, 1, &[2; 4096])?;
+    disk.write_rest(7, 1, &[2; 4096])?;
+    disk.create(9, 1)?;
+    disk.write_mark(&[5; 64])?;
+    disk.order(DiskOrder::Stop { calls: 0, choice })?;
+    Ok(disk)
+}
+
+#[test]
+fn a_stop_keeps_what_its_choice_says(rt: HostRuntime) -> Result<(), Refusal> {
+    let kept = [[1, 1, 1, 1], [2, 2, 2, 2], [2, 2, 1, 1], [255; 4]];
+    for (choice, page) in (0..4).zip(kept) {
+        let mut disk = stopped(rt.alloc(), choice)?;
+        assert!(rt; disk.sync() == Err(Refusal::Fault));
+        assert!(rt; disk.write_half(7, 0, &[3; 4096]) == Err(Refusal::Fault));
+        disk.order(DiskOrder::Again)?;
+        assert!(rt; halves(&mut disk, 7, 0) == Ok([1; 4]));
+        assert!(rt; halves(&mut disk, 7, 1) == Ok(page), "choice {choice}");
+        let there = choice != 0;
+        assert!(rt; disk.pages(9) == Ok(if there { Some(1) } else { None }));
+        assert!(rt; disk.read_mark()?.is_some() == there);
+    }
+    Ok(())
+}
+
+// The second stop waits for the first, and counts its calls from there. What the first left stays.
+#[test]
+fn stops_come_one_after_the_other(rt: HostRuntime) -> Result<(), Refusal> {
+    let mut disk = stopped(rt.alloc(), 2)?;
+    disk.order(DiskOrder::Stop { calls: 1, choice: 0 })?;
+    assert!(rt; disk.remove(9) == Err(Refusal::Fault));
+    disk.order(DiskOrder::Again)?;
+    assert!(rt; disk.remove(9) == Ok(()));
+    assert!(rt; disk.sync() == Err(Refusal::Fault));
+    disk.order(DiskOrder::Again)?;
+    assert!(rt; disk.pages(9) == Ok(Some(1)));
+    assert!(rt; halves(&mut disk, 7, 1) == Ok([2, 2, 1, 1]));
+    disk.order(DiskOrder::Again)?;
+    assert!(rt; disk.sync() == Ok(()));
+    Ok(())
+}
+
+// A disk that doesn't record does nothing on these orders.
+#[test]
+fn other_disks_never_stop(rt: HostRuntime) -> Result<(), Refusal> {
+    let mut disk = MemDisk::new(rt.alloc());
+    disk.create(7, 2)?;
+    disk.order(DiskOrder::Stop { calls: 0, choice: 0 })?;
+    assert!(rt; disk.sync() == Ok(()));
+    disk.order(DiskOrder::Again)?;
+    assert!(rt; disk.pages(7) == Ok(Some(2)));
+    Ok(())
+}

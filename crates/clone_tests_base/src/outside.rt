@@ -75,15 +75,14 @@ fn a_complete_mark_has_these_bytes(rt: HostRuntime) {
     assert!(rt; Mark::from_bytes(&COMPLETE) == Some(mark));
 }
 
-// A letter, no kind, a mark in progress with numbers, another kind, a zero in front, a checkpoint
-// above the LSN, an LSN of 2^39, and the last zero.
+// A letter, no kind, another kind, a zero in front, a checkpoint above the LSN, an LSN of 2^39, and
+// the last zero.
 #[test]
 fn other_bytes_are_no_mark(rt: HostRuntime) {
     let others = [
         (0, b'c'),
         (8, 0),
-        (8, 1),
-        (8, 4),
+        (8, 5),
         (9, 1),
         (30, 0x21),
         (35, 128),
@@ -93,5 +92,23 @@ fn other_bytes_are_no_mark(rt: HostRuntime) {
         let mut bytes = COMPLETE;
         bytes[at] = byte;
         assert!(rt; Mark::from_bytes(&bytes).is_none(), "at {at}");
+    }
+}
+
+// The kinds of marks that have an end.
+#[test]
+fn a_mark_of_each_kind(rt: HostRuntime) {
+    for kind in 1..5 {
+        let mut bytes = COMPLETE;
+        bytes[8] = kind;
+        let mark = Mark::from_bytes(&bytes);
+        let is_right = match (kind, mark) {
+            (1, Some(Mark::Ending(_))) => true,
+            (2, Some(Mark::Complete(_))) => true,
+            (3, Some(Mark::Recovered(_))) => true,
+            (4, Some(Mark::Staged(_))) => true,
+            _ => false,
+        };
+        assert!(rt; is_right, "kind {kind}");
     }
 }
