@@ -28,7 +28,8 @@ pub fn merge_laws()
         → AreSame (applied copy both) (applied (applied copy first) second) }
 {}
 
-/// A call that only reads changes nothing, and nor does a sync or an order.
+/// A call that only reads changes nothing, and nor does a sync, or an order that isn't the one to go
+/// on after a stop.
 pub fn still_laws()
     ensures read { (old new : DiskState) → Reads ⊥ old new
         → ForBothTold (IsNoted no_changes) old.told new.told }

@@ -36,7 +36,8 @@ fn the_named_calls_fail(rt: HostRuntime) -> Result<(), Refusal> {
     Ok(())
 }
 
-// Makes the spaces 9 and 2. An extension leaves a space as it is that has more pages or isn't there.
+// Makes the spaces 9 and 2. An extension leaves a space as it is that has more pages, or that isn't
+// there.
 fn make_spaces(disk: &mut MemDisk) -> Result<(), Refusal> {
     disk.create(9, 1)?;
     disk.create(4, 1)?;
