@@ -13,9 +13,9 @@ use clone_lay::complete;
 use clone_outside::{CloneEnd, PageDisk, Refusal};
 
 impl Reception {
-    /// Ends the copy: all that was laid is brought to where it stays, then the complete mark is
-    /// written with the numbers that were told of the copy of redo, and brought there too. The
-    /// answer is the LSN and the number of commits. EXIT is sent after it.
+    /// Ends the copy: all that was laid is brought to where it stays, then the numbers that were
+    /// told of the copy of redo are written in the mark, and then the complete mark is, each brought
+    /// there too. The answer is the LSN and the number of commits. EXIT is sent after it.
     pub fn complete<R: PageDisk>(&mut self, disk: &mut R) -> Result<(u64, u64), Refusal>
         requires { IsTrue (is_done self.old.table.phase) }
         ensures numbers { IfOk result (λ n. n ≡ (self.old.lsn, self.old.position)) }

@@ -123,7 +123,8 @@ IsRedoCause told end overlay refusal =
 abbrev pub DamagedOn : Option DiskImage → CloneEnd → RecoverRefusal → Type 0
 DamagedOn told end refusal = ForTold told (λ m. IsQuiet m → IsDamaged m end refusal)
 
--- no mark stands, or that of a clone under way
+-- no mark stands, or that of a clone under way, with the numbers of its end or without, or of a
+-- recovery that is staged
 pub data IsIncomplete (m : DiskImage) : Type 0 where
   unmarked : IsMarkOf m None → IsIncomplete m
   under_way : (session : ℕ) → HasMark m (mark.InProgress session) → IsIncomplete m

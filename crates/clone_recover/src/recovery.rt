@@ -31,7 +31,7 @@ pub struct Recovered {
 /// Recovers a clone on a disk: its redo is carried out over the pages that are there, the changes
 /// of each transaction that was open are taken back, the chains of all tables are tested, and the
 /// disk gets the recovered mark. On a recovered disk nothing is written. `Incomplete` comes exactly
-/// where no mark or the in-progress mark stands.
+/// where no mark stands, or the in-progress mark or a staged one.
 pub fn recover<R: PageDisk>(alloc: Global, disk: &mut R) -> Result<Recovered, RecoverRefusal>
     ensures ok { IfOk result (λ numbers. ForStep (R.state disk.old).told (R.state disk.new).told
         (λ m n. Answers m n numbers)) }
