@@ -105,7 +105,10 @@ fn each_call_fails(rt: HostRuntime) -> Result<(), Refusal> {
             15 => ended,
             _ => begun,
         };
-        assert!(rt; copied(rt.alloc(), call)? == (Err(Refusal::Fault), mark), "call {call}");
+        assert!(rt;
+            copied(rt.alloc(), call)? == (Err(Refusal::Fault), mark),
+            "call {call}"
+        );
     }
     assert!(rt; copied(rt.alloc(), 17)? == (Ok(()), ended));
     Ok(())

@@ -101,7 +101,10 @@ fn a_stop_keeps_what_its_choice_says(rt: HostRuntime) -> Result<(), Refusal> {
 #[test]
 fn stops_come_one_after_the_other(rt: HostRuntime) -> Result<(), Refusal> {
     let mut disk = stopped(rt.alloc(), 2)?;
-    disk.order(DiskOrder::Stop { calls: 1, choice: 0 })?;
+    disk.order(DiskOrder::Stop {
+        calls: 1,
+        choice: 0,
+    })?;
     assert!(rt; disk.remove(9) == Err(Refusal::Fault));
     disk.order(DiskOrder::Again)?;
     assert!(rt; disk.remove(9) == Ok(()));
@@ -119,7 +122,10 @@ fn stops_come_one_after_the_other(rt: HostRuntime) -> Result<(), Refusal> {
 fn other_disks_never_stop(rt: HostRuntime) -> Result<(), Refusal> {
     let mut disk = MemDisk::new(rt.alloc());
     disk.create(7, 2)?;
-    disk.order(DiskOrder::Stop { calls: 0, choice: 0 })?;
+    disk.order(DiskOrder::Stop {
+        calls: 0,
+        choice: 0,
+    })?;
     assert!(rt; disk.sync() == Ok(()));
     disk.order(DiskOrder::Again)?;
     assert!(rt; disk.pages(7) == Ok(Some(2)));
