@@ -14,7 +14,7 @@ use std::io::ErrorKind;
 use std::process::ExitCode;
 
 /// A disk of the program: in memory, or in a directory.
-type Disk = AnyDisk<MemDisk, FileDisk<HostRuntime>>;
+type Disk = AnyDisk<MemDisk, FileDisk>;
 
 fn main(rt: HostRuntime) -> ExitCode {
     let status = match run_program(rt) {

@@ -23,8 +23,8 @@ const NAME_ROOM: usize = 32;
 
 /// The directory, with the files of the spaces that were used so far. They stay open.
 #[derive(Drop)]
-pub(crate) struct Directory<R> {
-    rt: R,
+pub(crate) struct Directory {
+    rt: HostRuntime,
     alloc: Global,
     directory: String,
     // room for the path of a file
@@ -34,9 +34,9 @@ pub(crate) struct Directory<R> {
     unsynced: usize,
 }
 
-impl<R: Files<File = File> + AllocGlobal + Clone + Drop> Directory<R> {
+impl Directory {
     /// The directory at this path, of which nothing is touched yet.
-    pub(crate) fn new(rt: R, directory: &str) -> Result<Directory<R>, AllocError> {
+    pub(crate) fn new(rt: HostRuntime, directory: &str) -> Result<Directory, AllocError> {
         let alloc = rt.alloc();
         let room = directory.len().saturating_add(NAME_ROOM);
         Ok(Directory {

@@ -10,9 +10,7 @@ use crate::fault_count::FaultCount;
 use clone_base::PAGE_SIZE;
 use clone_outside::{DiskOrder, MARK_SIZE, PageDisk, Refusal};
 use std::alloc::{AllocError, Global};
-use std::fs::File;
 use std::marker::Model;
-use std::rt::Files;
 
 /// A page disk in a directory: the file `mark` holds the mark, and `space_N.pages` the pages of
 /// space N. It touches nothing before its first call, and the files of spaces that were used stay
@@ -22,13 +20,13 @@ use std::rt::Files;
 /// writes. A path that is no directory, a file that isn't whole pages, a page that isn't there, and
 /// each error of the system is a fault, which is counted. Contracts know nothing of what it holds.
 #[derive(Drop)]
-pub struct FileDisk<R> {
-    directory: Directory<R>,
+pub struct FileDisk {
+    directory: Directory,
     faults: FaultCount,
     orders: Vec<DiskOrder>,
 }
 
-impl<R> Model for FileDisk<R> {
+impl Model for FileDisk {
     ghost use Rattle.clone_real.specs.Real.{FileDiskModel};
 
     ghost Value = { FileDiskModel };
@@ -36,9 +34,9 @@ impl<R> Model for FileDisk<R> {
     ghost view = { λ d. record { faults = d.faults; orders = d.orders.items } };
 }
 
-impl<R: Files<File = File> + AllocGlobal + Clone + Drop> FileDisk<R> {
+impl FileDisk {
     /// The disk in the directory at this path. The error is that there is no memory for the path.
-    pub fn new(rt: R, directory: &str) -> Result<FileDisk<R>, AllocError>
+    pub fn new(rt: HostRuntime, directory: &str) -> Result<FileDisk, AllocError>
         ensures { IfOk result (λ disk. disk ≡ calm) }
     {
         let alloc = rt.alloc();
@@ -50,7 +48,7 @@ impl<R: Files<File = File> + AllocGlobal + Clone + Drop> FileDisk<R> {
     }
 }
 
-impl<R: Files<File = File> + AllocGlobal + Clone + Drop> PageDisk for FileDisk<R> {
+impl PageDisk for FileDisk {
     ghost use Rattle.clone_real.specs.Real.{state_of};
 
     ghost state = { state_of };

@@ -6,7 +6,7 @@ use std::fs::OpenOptions;
 use std::test::Fail;
 use std::{fs, process};
 
-type Disk = FileDisk<HostRuntime>;
+type Disk = FileDisk;
 
 // The path of a directory that no other run uses.
 fn place(rt: &HostRuntime, name: &str) -> Result<String, AllocError> {
