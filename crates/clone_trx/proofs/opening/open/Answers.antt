@@ -1,3 +1,5 @@
+use Rattle.std.proofs.Common.{rules}
+use Rattle.clone_outside.proofs.DiskCallLemmas.{takes_work}
 use Rattle.clone_ring.specs.Window.{end_of}
 use Rattle.clone_buffer.proofs.SpaceLemmas.{create_calm}
 use Rattle.clone_trx.proofs.Common.{◌≡◌, ◌+◌, ℕ, List, [], ◌∷◌, Option, slice_get, option_and_then, sym, ap, subst, ◌∙◌, length, nat_cmp, IsTrue, ForTold, Steps, with_created, System, Init, replayed, Buffered, image_of, at_rest, no_copies, Creates, HasMade, Stands, Copies, with_made, system_page, get-empty, Record, page_of, spelling, opening_records, system_size, Donor, no_donor, IsKept, AreLoose}
@@ -56,3 +58,8 @@ returns-clause-pool g c =
     let w : Buffered = c.write_space_held.new.buffer in
     ap (λ (b : Buffered). length b.pool.frames) c.unpin.ensures.unpinned
     ∙ opened_frames c.args.frames c.in-Ok-fresh.at (end_of v.ring) (end_of v.ring + length (spelling c.opening.result)) (system_page 0) c.opening.result c.in_ok-buffer.buffer.pool v.pool w.pool (ap (λ p. p.frames) c.in_ok-buffer.ensures.pool) c.in-Ok-fresh.ensures.answer (ap (λ (b : Buffered). b.pool) c.write_space_held.ensures.written)
+
+pub returns-clause-works : goal.returns-clause-works
+returns-clause-works g c =
+    let works = takes_work _ c.in-Ok.ensures.takes in
+    record { tells = works.tells; orders = works.orders; later = works.later; fault = search rules }
