@@ -18,7 +18,7 @@ pub struct Requester {
     pub reception: Reception,
     /// The disk.
     pub disk: MemDisk,
-    ghost sized: { is_running reception.table ≡ true → AreSizes reception.sizes disk.image },
+    ghost sized: { is_running reception.table ≡ true → AreSizes reception.sizes disk.contents.image },
 }
 
 impl Requester {
