@@ -3,3 +3,4 @@ mod RunLemmas
 mod OutcomeLemmas
 mod TableLemmas
 mod JobLemmas
+mod KindLemmas

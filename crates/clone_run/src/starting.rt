@@ -1,6 +1,9 @@
 //! The jobs of tasks are started, each in a thread of its own.
 ghost use Rattle.std.specs.Prelude.{◌≡◌, IfOk};
 ghost use Rattle.clone_outside.specs.Causes.{HasCause};
+ghost use Rattle.clone_task_jobs.specs.Fetching.{FetchesTask};
+ghost use Rattle.clone_task_jobs.specs.Serving.{ServesTask};
+ghost use Rattle.clone_run.specs.Kinds.{run_link};
 
 use crate::kinds::{RunFetch, RunFetchEnd, RunServe, RunServeEnd};
 use clone_outside::{Crew, Gate, Refusal, Ticket};
@@ -19,7 +22,13 @@ pub(crate) fn start_serve<
     ensures cause { HasCause crew.old crew.new result }
 {
     let about = Snapshot::of(&job);
-    crew.start(about, move || -> RunServeEnd<H> { job.run() })
+    crew.start(
+        about,
+        move || -> RunServeEnd<H>
+            ensures { ServesTask run_link job.task result.ending
+                job.server.seat result.seat job.desk result.desk }
+        { job.run() },
+    )
 }
 
 /// Starts a job that fetches. The error is that no thread could be started; the job is dropped then.
@@ -32,5 +41,11 @@ pub(crate) fn start_fetch<
     ensures cause { HasCause crew.old crew.new result }
 {
     let about = Snapshot::of(&job);
-    crew.start(about, move || -> RunFetchEnd<H> { job.run() })
+    crew.start(
+        about,
+        move || -> RunFetchEnd<H>
+            ensures { FetchesTask run_link job.fetcher result.seat job.desk result.desk
+                job.watch result.watch result.end }
+        { job.run() },
+    )
 }

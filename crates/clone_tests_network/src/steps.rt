@@ -211,7 +211,7 @@ struct Copying {
     disk: MemDisk,
     network: Network,
     floor: u64,
-    ghost sized: { is_running reception.table ≡ true → AreSizes reception.sizes disk.image },
+    ghost sized: { is_running reception.table ≡ true → AreSizes reception.sizes disk.contents.image },
 }
 
 impl Copying {

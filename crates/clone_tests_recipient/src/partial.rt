@@ -77,7 +77,7 @@ fn page(number: u32) -> PageAt {
 struct Copied {
     reception: Reception,
     disk: MemDisk,
-    ghost sized: { AreSizes reception.sizes disk.image },
+    ghost sized: { AreSizes reception.sizes disk.contents.image },
 }
 
 impl Copied {

@@ -235,7 +235,7 @@ fn page(number: u32, byte: u8) -> PageAt {
 struct Laid {
     reception: Reception,
     disk: MemDisk,
-    ghost sized: { AreSizes reception.sizes disk.image },
+    ghost sized: { AreSizes reception.sizes disk.contents.image },
 }
 
 impl Laid {

@@ -18,7 +18,7 @@ use std::test::Fail;
 pub struct Requester {
     disk: MemDisk,
     sizes: Counts,
-    ghost sized: { AreSizes sizes disk.image },
+    ghost sized: { AreSizes sizes disk.contents.image },
 }
 
 impl Requester {
