@@ -5,7 +5,7 @@ use Rattle.std.proofs.lemmas.List.{append-nil}
 use Rattle.clone_jobs.specs.declared.upkeep.Upkeep.{Upkeep}
 use Rattle.clone_jobs.specs.declared.upkeep.Upkeep.TheVariants as upkeep
 use Rattle.clone_run.specs.declared.load.Load.{Load}
-use Rattle.clone_run.specs.declared.team.TheConstants.{UPKEEP}
+use Rattle.clone_run.specs.declared.running.TheConstants.{UPKEEP}
 use Rattle.clone_run.specs.Done.{Job, Serves, Keeps, Writes', fetched_from, kept_up_from, last_first, served_from, upkeep_from, written_from}
 
 next_of : (m n : ℕ) → m < n → n - m ≡ suc (n - (m + 1))

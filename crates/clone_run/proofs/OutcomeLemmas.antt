@@ -1,7 +1,8 @@
 -- Which failure counts, and what a run without one says.
-use Rattle.std.proofs.Common.{inl, inr, ◌≡◌, ◌⊎◌, Bool, true, false, nat_lt, if◌then◌else◌, None, Some, IsSome, refl, ap, sym, subst, ◌∙◌}
+use Rattle.std.proofs.Common.{ℕ, ◌≤◌, arith, inl, inr, ◌≡◌, ◌⊎◌, Bool, true, false, nat_lt, if◌then◌else◌, None, Some, IsSome, refl, ap, sym, subst, ◌∙◌}
 use Rattle.std.specs.Prelude.{⊤}
 use Rattle.std.specs.declared.option.Option.{Option}
+use Rattle.clone_outside.specs.Causes.{Rose}
 use Rattle.clone_copying.specs.declared.fetch_end.FetchEnd.{FetchEnd}
 use Rattle.clone_copying.specs.declared.fetch_end.FetchEnd.TheVariants as fetch
 use Rattle.clone_fetching.specs.declared.clone_ended.CloneEnded.TheVariants as ended
@@ -10,15 +11,15 @@ use Rattle.clone_jobs.specs.declared.ending.Ending.TheVariants as ending
 use Rattle.clone_run.specs.declared.failure.Failure.{Failure}
 use Rattle.clone_run.specs.declared.failure.Failure.TheVariants as failure
 use Rattle.clone_run.specs.declared.outcome.Outcome.{Outcome}
-use Rattle.clone_run.specs.Outcomes.{IsUnstarted, completed, first_of, of_ending, of_fetch, of_writing, rank, with_job, with_task}
+use Rattle.clone_run.specs.Outcomes.{IsGivenUp, IsUnbegun, IsUnstarted, completed, first_of, of_ending, of_fetch, of_unstarted, of_writing, rank, with_job, with_task}
 
 -- no thread could be started
-IsThread : Option Failure → Type 0
+abbrev IsThread : Option Failure → Type 0
 IsThread (Some failure.Thread) = ⊤
 IsThread other = ⊥
 
 -- there is no failure
-IsNone' : Option Failure → Type 0
+abbrev IsNone' : Option Failure → Type 0
 IsNone' None = ⊤
 IsNone' (Some x) = ⊥
 
@@ -129,7 +130,7 @@ fetch_not fetch.NoMemory is = is
 
 -- a task that ended without a failure found the clone complete
 completed_some : (e : FetchEnd) → IsNone' (of_fetch e) → IsSome (completed e)
-completed_some (fetch.Ended (ended.Complete lsn position floor)) is = tt
+completed_some (fetch.Ended (ended.Complete lsn position floor)) is = refl
 completed_some (fetch.Ended (ended.Spent losses)) is = absurd is
 completed_some (fetch.Ended (ended.Garbled kept)) is = absurd is
 completed_some (fetch.Ended (ended.Refused cause)) is = absurd is
@@ -185,3 +186,17 @@ module _ (o r : Outcome) (e : FetchEnd) (is : r ≡ with_task o e) where
         | inl q ↦ thread_is o.failure q
         | inr q ↦ absurd (fetch_not e q)
       ]
+
+-- a count that rose since then rose since before
+pub rose_from : (a b c : ℕ) → a ≤ b → Rose b c → Rose a c
+rose_from a b c le rose = omega (arith, le, rose)
+
+abbrev Holds : Bool → Type 0
+Holds true = ⊤
+Holds false = ⊥
+
+pub never : (b : Bool) → b ≡ false → b ≡ true → ⊥
+never b part whole = subst Holds part (subst Holds (sym whole) tt)
+
+pub given_up_as : (o : Outcome) (why : Failure) → o ≡ of_unstarted why → IsUnbegun (Some why) → IsGivenUp o
+given_up_as o why is begins = subst IsGivenUp (sym is) (record { part = refl; why = begins })

@@ -1,6 +1,7 @@
 //! The tables of a workload, which are made before anything is written.
-ghost use Rattle.std.specs.Prelude.{◌≤◌};
+ghost use Rattle.std.specs.Prelude.{◌≤◌, Some, IfErr, IfSome};
 ghost use Rattle.clone_base.specs.declared.limits.TheConstants.{TABLE_LIMIT};
+ghost use Rattle.clone_run.specs.Outcomes.{IsUnbegun};
 ghost use Rattle.clone_run.specs.Tables.{SetsUp};
 
 use crate::failure::Failure;
@@ -18,7 +19,8 @@ pub(crate) fn make_tables<D: PageDisk, H: Wait>(
     buckets: BucketCount,
 ) -> Result<(), Failure>
     requires { tables ≤ TABLE_LIMIT }
-    ensures { SetsUp donor.old donor.new }
+    ensures sets_up { SetsUp donor.old donor.new }
+    ensures why { IfErr result (λ failure. IsUnbegun (Some failure)) }
 {
     for number in 1..=tables {
         let Some(table) = TableNumber::new(number) else {
@@ -36,7 +38,8 @@ fn make_table<D: PageDisk, H: Wait>(
     table: TableNumber,
     buckets: BucketCount,
 ) -> Result<(), Failure>
-    ensures { SetsUp donor.old donor.new }
+    ensures sets_up { SetsUp donor.old donor.new }
+    ensures why { IfErr result (λ failure. IsUnbegun (Some failure)) }
 {
     for _ in rt.forever() {
         if let Some(made) = try_table(donor, table, buckets) {
@@ -52,7 +55,8 @@ fn try_table<D: PageDisk>(
     table: TableNumber,
     buckets: BucketCount,
 ) -> Option<Result<(), Failure>>
-    ensures { SetsUp donor.old donor.new }
+    ensures sets_up { SetsUp donor.old donor.new }
+    ensures why { IfSome result (λ made. IfErr made (λ failure. IsUnbegun (Some failure))) }
 {
     match donor.create(table, buckets) {
         Ok(()) | Err(EngineRefusal::Because(Cause::TableExists)) => Some(Ok(())),
@@ -65,7 +69,8 @@ fn try_table<D: PageDisk>(
 
 /// Flushes the page that has waited the longest, and takes a checkpoint.
 fn make_room<D: PageDisk>(donor: &mut Donor<D>, refusal: EngineRefusal) -> Result<(), Failure>
-    ensures { SetsUp donor.old donor.new }
+    ensures sets_up { SetsUp donor.old donor.new }
+    ensures why { IfErr result (λ failure. IsUnbegun (Some failure)) }
 {
     if let Some(failure) = failure_of(refusal) {
         return Err(failure);
@@ -81,7 +86,8 @@ fn make_room<D: PageDisk>(donor: &mut Donor<D>, refusal: EngineRefusal) -> Resul
 
 /// Flushes a page, as far as that isn't refused. The answer is a failure.
 fn flush_page<D: PageDisk>(donor: &mut Donor<D>, space: u32, page: u32) -> Option<Failure>
-    ensures { SetsUp donor.old donor.new }
+    ensures sets_up { SetsUp donor.old donor.new }
+    ensures why { IfSome result (λ failure. IsUnbegun (Some failure)) }
 {
     match flush(donor, space, page) {
         Ok(()) => None,
@@ -97,7 +103,9 @@ fn flush<D: PageDisk>(donor: &mut Donor<D>, space: u32, page: u32) -> Result<(),
     donor.flush_land(space, page)
 }
 
-fn failure_of(refusal: EngineRefusal) -> Option<Failure> {
+fn failure_of(refusal: EngineRefusal) -> Option<Failure>
+    ensures { IfSome result (λ failure. IsUnbegun (Some failure)) }
+{
     match refusal {
         EngineRefusal::Because(Cause::DiskFault) => Some(Failure::DonorDisk),
         EngineRefusal::Because(_) => None,

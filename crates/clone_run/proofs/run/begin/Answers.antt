@@ -5,6 +5,7 @@ use Rattle.clone_outside.specs.Disk.{Steps as Follows}
 use Rattle.clone_outside.specs.declared.mark.Mark.TheVariants.{InProgress}
 use Rattle.clone_lay.specs.Marked.{marked}
 use Rattle.clone_run.proofs.RunLemmas.{begun_as}
+use Rattle.clone_run.proofs.OutcomeLemmas.{given_up_as}
 use Rattle.clone_run.proofs.run.begin.Goals as goal
 
 -- src/run.rt:87:1
@@ -13,7 +14,7 @@ returns-clause-begun g c =
     begun_as _ c.args.load c.assemble.result
     (record { donor = record { donor = c.make_tables.new.donor; halted = false }; recipient = c.new-recipient.result; desk = record { net = c.plan_cuts.new.self; records = [] } })
     (record {
-      tables = c.make_tables.ensures;
+      tables = c.make_tables.ensures.sets_up;
       goes_on = refl;
       empty = c.in-Ok.ensures.empty;
       begun = c.new-recipient.ensures.reception ∙ c.in-Ok.ensures.begun;
@@ -22,3 +23,6 @@ returns-clause-begun g c =
       none = refl;
     })
     c.assemble.ensures.assembled
+
+pub returns-in-Err-clause-unbegun : goal.returns-in-Err-clause-unbegun
+returns-in-Err-clause-unbegun g c = given_up_as _ _ c.given_up.ensures c.in-Err.ensures.why
