@@ -12,15 +12,15 @@ use Rattle.clone_real.specs.contracts.socket_end.SocketEnd.TheInside as EndInsid
 use Rattle.clone_real.specs.contracts.socket_net.SocketNet as Net
 use Rattle.clone_real.specs.contracts.socket_net.SocketNet.TheInside as NetInside
 
-module _ (R : RattleType) (r : IsSend R) where
-  net_inside_send : IsSend (NetInside.the_row R)
-  net_inside_send =
-      let short : IsSend u32 = search sendable in
-      let long : IsSend u64 = search sendable in
-      recorded_send (NetInside.the_field R).row _ _ (NetInside.the_type R).to_one (struct_send (shape (NetInside.the_type R)) (r, (long, (long, (short, (long, tt))))))
+net_inside_send : IsSend NetInside.the_row
+net_inside_send =
+    let host : IsSend Host.the_row = search sendable in
+    let short : IsSend u32 = search sendable in
+    let long : IsSend u64 = search sendable in
+    recorded_send NetInside.the_field.row _ _ NetInside.the_type.to_one (struct_send (shape NetInside.the_type) (host, (long, (long, (short, (long, tt))))))
 
-  pub socket_net_send : IsSend (Net.the_row R)
-  socket_net_send = view_send _ _ _ _ _ net_inside_send
+pub socket_net_send : IsSend Net.the_row
+socket_net_send = view_send _ _ _ _ _ net_inside_send
 
 end_inside_send : IsSend EndInside.the_row
 end_inside_send =

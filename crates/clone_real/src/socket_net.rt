@@ -24,15 +24,15 @@ const MOST_STRANGERS: usize = 1_024;
 /// What makes connections over TCP. The two ends of each are connected on the loopback address, by
 /// a listener that is closed once they are connected; whoever else connects to it is refused.
 #[derive(Drop)]
-pub struct SocketNet<R> {
-    rt: R,
+pub struct SocketNet {
+    rt: HostRuntime,
     made: u64,
     settled: u64,
     planned: u32,
     faults: u64,
 }
 
-impl<R> Model for SocketNet<R> {
+impl Model for SocketNet {
     ghost use Rattle.std.specs.Prelude.{◌-◌, ◌≤◌};
     ghost use Rattle.clone_real.specs.Sockets.{SocketNetModel};
 
@@ -48,9 +48,9 @@ impl<R> Model for SocketNet<R> {
     ghost invariant = { λ n. n.settled ≤ n.made };
 }
 
-impl<R> SocketNet<R> {
+impl SocketNet {
     /// A net that made no connection, with no faults.
-    pub fn new(rt: R) -> SocketNet<R>
+    pub fn new(rt: HostRuntime) -> SocketNet
         ensures { result ≡ fresh_net }
     {
         SocketNet {
@@ -63,7 +63,7 @@ impl<R> SocketNet<R> {
     }
 }
 
-impl<R: net::Net<Stream = TcpStream, Listener = TcpListener> + Drop> Net for SocketNet<R> {
+impl Net for SocketNet {
     ghost use Rattle.std.specs.Prelude.{◌<◌};
 
     type End = SocketEnd;

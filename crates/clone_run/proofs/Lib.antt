@@ -1,4 +1,5 @@
 pub mod TeamLemmas
 mod RunLemmas
+mod OutcomeLemmas
 mod TableLemmas
 mod JobLemmas

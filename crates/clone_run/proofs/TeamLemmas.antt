@@ -30,7 +30,7 @@ use Rattle.clone_hub.specs.Gathering.{Gathers, IsLent, IsTaken}
 use Rattle.clone_hub.proofs.GatherLemmas.{gathers_more, gathers_none, gathers_one, gathers_own}
 use Rattle.clone_run.specs.declared.load.Load.{Load}
 use Rattle.clone_run.specs.declared.outcome.Outcome.{Outcome}
-use Rattle.clone_run.specs.Outcomes.{of_ending, of_none, with_job, with_task}
+use Rattle.clone_run.specs.Outcomes.{of_ending, of_none, of_writing, with_job, with_task}
 use Rattle.clone_run.specs.Teams.{DeskHub, DonorHub, Gathered, Parts, RecipientHub, Team, no_parts, with_donor, with_fetched, with_served}
 use Rattle.clone_run.specs.Lending.{DonorIsLent, FetchIsLent, IsSame, ServeIsLent}
 use Rattle.clone_run.specs.Done.{AreDone, DoneBy, Job, Serves, Keeps, Writes', Fetches, nothing, halts, serves, keeps, writes, fetches}
@@ -174,7 +174,7 @@ module _ {N L X R : Type 0} (link : Link L X) where
 
   pub done_written : (jobs : List Job) (o : Outcome) (s t k : Team N L R) (cell : CellModel SharedDonor) (r e : JobSeat) (d : DonorHub) (number : ℕ) (end : Ending) → DonorIsLent s cell r t → DoneBy link jobs o t k
       → Worked (λ made. (w : Writer) × Writes end (starting s.load.seed number s.load.tables s.load.transactions) (said_in made) w) r e → IsTaken k.donor e d
-      → DoneBy link (jobs ++ Writes' number ∷ []) (with_job o (of_ending end)) s (record k { donor = d })
+      → DoneBy link (jobs ++ Writes' number ∷ []) (with_job o (of_writing end)) s (record k { donor = d })
   done_written jobs o s t k cell r e d number end lent done did taken = (
     with_donor done.0 did.0,
     writes jobs done.0 o number end did.0 did.2.0 (same_load jobs done.0 o s.load t.load (ap (λ (x : Team N L R). x.load) lent.rest) done.1) did.2.1,
@@ -245,10 +245,10 @@ module _ {N L X R : Type 0} (link : Link L X) where
 
   pub write_done : (jobs : Load → List Job) (s t k v : Team N L R) (o r : Outcome) (cell : CellModel SharedDonor) (seat e : JobSeat) (d : DonorHub) (number : ℕ) (end : Ending)
       → DonorIsLent s cell seat t → DoneBy link (jobs t.load) o t k → v ≡ k
-      → Worked (λ made. (w : Writer) × Writes end (starting s.load.seed number s.load.tables s.load.transactions) (said_in made) w) seat e → IsTaken v.donor e d → r ≡ with_job o (of_ending end)
+      → Worked (λ made. (w : Writer) × Writes end (starting s.load.seed number s.load.tables s.load.transactions) (said_in made) w) seat e → IsTaken v.donor e d → r ≡ with_job o (of_writing end)
       → (js : List Job) → js ≡ jobs s.load ++ Writes' number ∷ [] → DoneBy link js r s (record v { donor = d })
   write_done jobs s t k v o r cell seat e d number end lent others is did taken result js same =
-      done_as js (jobs s.load ++ Writes' number ∷ []) (with_job o (of_ending end)) r s (record v { donor = d }) same result
+      done_as js (jobs s.load ++ Writes' number ∷ []) (with_job o (of_writing end)) r s (record v { donor = d }) same result
       (done_written (jobs s.load) o s t v cell seat e d number end lent (others_as jobs o s t k v (load_of s t t.donor lent.rest) is others) did taken)
 
   pub serve_done : (jobs : Load → List Job) (s t k v : Team N L R) (o r : Outcome) (server : Server) (desk desk_end : DeskSeat N L) (e : JobSeat) (d : DonorHub) (q : DeskHub N L) (task : ℕ) (end : Ending)

@@ -21,7 +21,7 @@ use Rattle.clone_task_jobs.specs.Serving.{IsServing, Service}
 use Rattle.clone_task_jobs.specs.Fetching.{FetchesTask}
 use Rattle.clone_run.specs.declared.load.Load.{Load}
 use Rattle.clone_run.specs.declared.outcome.Outcome.{Outcome}
-use Rattle.clone_run.specs.Outcomes.{of_ending, of_none, with_job, with_task}
+use Rattle.clone_run.specs.Outcomes.{of_ending, of_none, of_writing, with_job, with_task}
 use Rattle.clone_run.specs.Teams.{Gathered, Parts, Team, no_parts, with_donor, with_fetched, with_served}
 
 -- a job, by what it is to do
@@ -66,7 +66,7 @@ module _ {N L X R : Type 0} (link : Link L X) where
         (made : List JobEntry) (w : Writer) → AreDone load jobs p o
         → Writes end (starting load.seed number load.tables load.transactions) (said_in made) w
         → AreDone load (jobs ++ Writes' number ∷ []) (with_donor p made)
-        (with_job o (of_ending end))
+        (with_job o (of_writing end))
     fetches : (jobs : List Job) (p : Parts N L R) (o : Outcome) (task : ℕ) (end : FetchEnd)
         (stepped : List (RecipientEntry R)) (asked : List (DeskEntry N L))
         (watched : List JobEntry) → AreDone load jobs p o

@@ -1,5 +1,5 @@
 -- What comes of the jobs of a run: how the clone was completed, and the failure that counts.
-use Rattle.std.specs.Prelude.{ℕ, true, false, nat_lt, if◌then◌else◌, None, Some}
+use Rattle.std.specs.Prelude.{ℕ, ◌≡◌, true, false, nat_lt, if◌then◌else◌, None, Some, ⊤}
 use Rattle.std.specs.declared.option.Option.{Option}
 use Rattle.clone_outside.specs.declared.Refusal.{Refusal}
 use Rattle.clone_outside.specs.declared.Refusal.TheVariants as refused
@@ -24,6 +24,8 @@ rank failure.RecipientDisk = 3
 rank (failure.Garbled kept) = 4
 rank (failure.Refused cause) = 5
 rank (failure.Spent losses) = 6
+rank failure.NotEmpty = 7
+rank failure.Halted = 8
 
 -- the one that counts of two
 abbrev pub first_of : Option Failure → Option Failure → Option Failure
@@ -36,14 +38,21 @@ abbrev pub of_start : Refusal → Failure
 of_start refused.Fault = failure.Thread
 of_start refused.NoMemory = failure.Memory
 
--- that with which a job at the donor's side ended, if it ended with one
+-- that with which a job ended that goes on until the run is halted, if it ended with one
 abbrev pub of_ending : Ending → Option Failure
 of_ending ending.Done = None
 of_ending ending.Halted = None
 of_ending ending.DiskFault = Some failure.DonorDisk
 of_ending ending.NoMemory = Some failure.Memory
 
--- that with which a clone ended, if it ended with one
+-- that with which a writer ended before its last commit, if it did
+abbrev pub of_writing : Ending → Option Failure
+of_writing ending.Done = None
+of_writing ending.Halted = Some failure.Halted
+of_writing ending.DiskFault = Some failure.DonorDisk
+of_writing ending.NoMemory = Some failure.Memory
+
+-- that with which a clone ended before it was complete, if it did
 abbrev pub of_clone : CloneEnded → Option Failure
 of_clone (ended.Complete lsn position floor) = None
 of_clone (ended.Spent losses) = Some (failure.Spent losses)
@@ -54,7 +63,7 @@ of_clone ended.DiskFault = Some failure.RecipientDisk
 abbrev pub of_fetch : FetchEnd → Option Failure
 of_fetch (fetch.Ended how) = of_clone how
 of_fetch fetch.NetFault = Some failure.Connection
-of_fetch fetch.Halted = None
+of_fetch fetch.Halted = Some failure.Halted
 of_fetch fetch.NoMemory = Some failure.Memory
 
 -- how the clone was completed, if a task ended with that
@@ -72,6 +81,12 @@ of_none = record { cloned = None; failure = None; whole = true }
 abbrev pub of_unstarted : Failure → Outcome
 of_unstarted why = record { cloned = None; failure = Some why; whole = false }
 
+-- there was no memory for a job, or no thread
+abbrev pub IsUnstarted : Option Failure → Type 0
+IsUnstarted (Some failure.Memory) = ⊤
+IsUnstarted (Some failure.Thread) = ⊤
+IsUnstarted other = ⊥
+
 -- with what came of one job more
 abbrev pub with_job : Outcome → Option Failure → Outcome
 with_job o failure = record o { failure = first_of o.failure failure }
@@ -79,3 +94,16 @@ with_job o failure = record o { failure = first_of o.failure failure }
 abbrev pub with_task : Outcome → FetchEnd → Outcome
 with_task o end =
     record o { cloned = completed end; failure = first_of o.failure (of_fetch end) }
+
+-- a disk failed, the recipient's was not empty, or there was no memory
+abbrev pub IsUnbegun : Option Failure → Type 0
+IsUnbegun (Some failure.Memory) = ⊤
+IsUnbegun (Some failure.DonorDisk) = ⊤
+IsUnbegun (Some failure.RecipientDisk) = ⊤
+IsUnbegun (Some failure.NotEmpty) = ⊤
+IsUnbegun other = ⊥
+
+-- no job was started
+pub record IsGivenUp (o : Outcome) : Type 0 where
+  pub part : o.whole ≡ false
+  pub why : IsUnbegun o.failure

@@ -1,5 +1,5 @@
 ghost use Rattle.std.specs.Prelude.{◌≡◌};
-ghost use Rattle.clone_run.specs.Outcomes.{first_of, of_clone, of_ending, of_fetch, of_start, rank};
+ghost use Rattle.clone_run.specs.Outcomes.{first_of, of_clone, of_ending, of_fetch, of_start, of_writing, rank};
 
 use clone_chunk::CloneCause;
 use clone_copying::FetchEnd;
@@ -35,6 +35,11 @@ pub enum Failure {
         /// How many.
         losses: u32,
     },
+    /// The recipient's disk holds a space or a mark.
+    NotEmpty,
+    /// A writer or a task ended since the run was halted. Whoever halts a run before it is done has
+    /// met another cause, which goes before this one.
+    Halted,
 }
 
 impl Failure {
@@ -50,6 +55,8 @@ impl Failure {
             Failure::Garbled { .. } => 4,
             Failure::Refused { .. } => 5,
             Failure::Spent { .. } => 6,
+            Failure::NotEmpty => 7,
+            Failure::Halted => 8,
         }
     }
 
@@ -63,7 +70,7 @@ impl Failure {
         }
     }
 
-    /// That with which a job at the donor's side ended, if it ended with one.
+    /// That with which a job ended that goes on until the run is halted, if it ended with one.
     pub(crate) fn of_ending(ending: Ending) -> Option<Failure>
         ensures { result ≡ of_ending ending }
     {
@@ -74,14 +81,26 @@ impl Failure {
         }
     }
 
-    /// That with which a task ended, if it ended with one.
+    /// That with which a writer ended before its last commit, if it did.
+    pub(crate) fn of_writing(ending: Ending) -> Option<Failure>
+        ensures { result ≡ of_writing ending }
+    {
+        match ending {
+            Ending::Done => None,
+            Ending::Halted => Some(Failure::Halted),
+            Ending::DiskFault => Some(Failure::DonorDisk),
+            Ending::NoMemory => Some(Failure::Memory),
+        }
+    }
+
+    /// That with which a task ended before the clone was complete, if it did.
     pub(crate) fn of_fetch(end: FetchEnd) -> Option<Failure>
         ensures { result ≡ of_fetch end }
     {
         match end {
             FetchEnd::Ended(how) => Failure::of_clone(how),
             FetchEnd::NetFault => Some(Failure::Connection),
-            FetchEnd::Halted => None,
+            FetchEnd::Halted => Some(Failure::Halted),
             FetchEnd::NoMemory => Some(Failure::Memory),
         }
     }

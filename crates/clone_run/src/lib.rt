@@ -3,15 +3,17 @@
 #![tactic(auto)]
 
 mod failure;
+mod kinds;
 mod load;
 mod outcome;
 mod run;
-mod starts;
+mod running;
+mod starting;
 mod tables;
 mod team;
 
 pub use failure::Failure;
+pub use kinds::{RunDisk, RunLink, RunNet};
 pub use load::Load;
 pub use outcome::{Cloned, Outcome};
 pub use run::{RunEnd, SESSION, VERSION, clone_under_load};
-pub use starts::{Job, Starts, Threading};

@@ -9,7 +9,7 @@ pub struct Load {
     pub writers: u32,
     /// How many transactions each writer commits.
     pub transactions: u64,
-    /// How many tables there are.
+    /// How many tables there are, from 1 on.
     pub tables: u32,
     /// How many buckets each table has.
     pub buckets: BucketCount,

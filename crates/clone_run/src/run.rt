@@ -1,27 +1,30 @@
 //! The run: what it begins with, and what comes back of it.
-ghost use Rattle.std.specs.Prelude.{◌≡◌, [], true, false, IfErr, IfOk};
+ghost use Rattle.std.specs.Prelude.{◌≡◌, ◌≤◌, ◌⊎◌, [], true, false, None, Some, IfErr, IfOk, IsSome};
+ghost use Rattle.clone_outside.specs.Causes.{Rose};
 ghost use Rattle.clone_run.specs.Loads.{IsLoad};
 ghost use Rattle.clone_run.specs.Ran.{Begin, GivenUp, HaveRun, Leave, Shared};
 ghost use Rattle.clone_run.specs.Closing.{Closes, IsAssembled};
+ghost use Rattle.clone_run.specs.Outcomes.{IsGivenUp, IsUnbegun, IsUnstarted, of_unstarted};
+ghost use Rattle.clone_run.specs.declared.failure.Failure.TheVariants as failure;
 ghost use Rattle.clone_run.specs.declared.run.TheConstants.{SESSION, VERSION};
 
 use crate::failure::Failure;
+use crate::kinds::{RunDisk, RunLink, RunNet};
 use crate::load::Load;
 use crate::outcome::Outcome;
-use crate::starts::Starts;
+use crate::running::serve_from;
 use crate::tables::make_tables;
 use crate::team::Team;
 use clone_desk::{Desk, DeskMachine};
 use clone_donor::Donor;
 use clone_fetching::{Recipient, RecipientMachine};
 use clone_hub::Hub;
-use clone_jobs::{UpkeepJob, WriterJob};
 use clone_machine::{DonorMachine, SharedDonor};
-use clone_outside::{Gate, Net, PageDisk};
+use clone_outside::{Crew, Gate, Link, Net, PageDisk};
 use clone_recipient::{BeginCause, Reception};
-use clone_task_jobs::{FetchJob, ServeJob};
 use std::alloc::Global;
 use std::sync::{Arc, Wait};
+use std::thread::Threads;
 use std::time::Clock;
 
 /// The number of the clone's session.
@@ -30,12 +33,11 @@ pub const SESSION: u64 = 1;
 /// The version of its frames.
 pub const VERSION: u16 = 2;
 
-/// How a run ended, and what comes back of it. Without a failure the clone is complete, and each
-/// writer has made its last commit.
+/// How a run ended, and what comes back of it.
 pub struct RunEnd<D: PageDisk, R: PageDisk, N> {
     /// What came of the jobs.
     pub outcome: Outcome,
-    /// The donor, without a session.
+    /// The donor, which was asked to give up a session that was still there.
     pub donor: Donor<D>,
     /// The recipient's disk.
     pub recipient: R,
@@ -43,40 +45,42 @@ pub struct RunEnd<D: PageDisk, R: PageDisk, N> {
     pub net: N,
 }
 
-/// Clones the donor to the disk of a recipient while writers write to it.
+/// Clones the donor to the disk of a recipient while writers write to it, each job in a thread of
+/// its own.
+///
+/// Where each job was started, contracts say what they did by their calls. Where one wasn't, there
+/// was no memory or no thread, or the donor's tables or the recipient's copy were not begun.
 pub fn clone_under_load<
-    D: PageDisk + Send + Drop,
-    R: PageDisk + Send + Drop,
-    N: Net + Send + Drop,
-    G: Gate + Drop,
-    H: Wait + Clock + Copy + Drop,
-    P,
+    T: Threads,
+    G: Gate + Send + Sync + Drop + 'static,
+    H: Wait + Clock + Copy + Send + Sync + Drop + 'static,
 >(
     rt: H,
     alloc: Global,
-    crew: &mut P,
+    crew: &mut Crew<T>,
     gate: Arc<G>,
     load: Load,
-    donor: Donor<D>,
-    recipient: R,
-    net: N,
-) -> RunEnd<D, R, N>
-where
-    N::End: Send + Drop,
-    P: Starts<WriterJob<D, G, H>>
-        + Starts<UpkeepJob<D, G, H>>
-        + Starts<ServeJob<D, N, G, H>>
-        + Starts<FetchJob<D, R, N, G, H>>,
+    donor: Donor<RunDisk>,
+    recipient: RunDisk,
+    net: RunNet<H>,
+) -> RunEnd<RunDisk, RunDisk, RunNet<H>>
     requires { IsLoad load }
-    ensures ran { result.outcome.whole ≡ true → (s : Shared N N.End R) × (t : Shared N N.End R)
-        × Begin N.Net N.End.Link R.state SESSION VERSION load donor
-        (R.state recipient) s
-        × HaveRun N.Net N.End.Link R.state load result.outcome s t
-        × Leave N.Net N.End.Link R.state t result.donor result.recipient result.net }
+    ensures ran { result.outcome.whole ≡ true → (s : Shared _ _ _) × (t : Shared _ _ _)
+        × Begin ⟦<RunNet<H> as Net>⟧ ⟦<RunLink<H> as Link>⟧ ⟦<RunDisk as PageDisk>⟧.state
+        SESSION VERSION load donor (⟦<RunDisk as PageDisk>⟧.state recipient) s
+        × HaveRun ⟦<RunNet<H> as Net>⟧ ⟦<RunLink<H> as Link>⟧ ⟦<RunDisk as PageDisk>⟧.state
+        load result.outcome s t
+        × Leave ⟦<RunNet<H> as Net>⟧ ⟦<RunLink<H> as Link>⟧ ⟦<RunDisk as PageDisk>⟧.state
+        t result.donor result.recipient result.net }
+    ensures unstarted { result.outcome.whole ≡ false
+        → IsUnstarted result.outcome.failure ⊎ IsUnbegun result.outcome.failure }
+    ensures cloned { result.outcome.failure ≡ None → IsSome result.outcome.cloned }
+    ensures thread { result.outcome.failure ≡ Some failure.Thread → Rose crew.old crew.new }
+    ensures count { crew.old ≤ crew.new }
 {
     match begin(rt, alloc, gate, load, donor, recipient, net) {
         Ok(mut team) => {
-            let outcome = team.serve_from(crew, 0);
+            let outcome = serve_from(&mut team, crew, 0);
             take_apart(team, outcome)
         }
         Err(end) => end,
@@ -106,7 +110,7 @@ where
         × Begin N.Net N.End.Link R.state SESSION VERSION load donor
         (R.state recipient) s
         × IsAssembled load s team) }
-    ensures unbegun { IfErr result (λ end. end.outcome.whole ≡ false) }
+    ensures unbegun { IfErr result (λ end. IsGivenUp end.outcome) }
 {
     let mut donor = donor;
     let mut recipient = recipient;
@@ -131,9 +135,12 @@ where
     assemble(rt, alloc, gate, load, donor, recipient, net)
 }
 
-fn unbegun(cause: BeginCause) -> Failure {
+fn unbegun(cause: BeginCause) -> Failure
+    ensures { IsUnbegun (Some result) }
+{
     match cause {
-        BeginCause::NotEmpty | BeginCause::DiskFault => Failure::RecipientDisk,
+        BeginCause::NotEmpty => Failure::NotEmpty,
+        BeginCause::DiskFault => Failure::RecipientDisk,
         BeginCause::NoMemory => Failure::Memory,
     }
 }
@@ -162,7 +169,7 @@ where
           recipient = recipient;
           desk = record { net = net; records = [] };
         }) team) }
-    ensures unbegun { IfErr result (λ end. end.outcome.whole ≡ false) }
+    ensures unbegun { IfErr result (λ end. IsGivenUp end.outcome) }
 {
     let donor = match Hub::<DonorMachine<D>>::new(&rt, alloc, SharedDonor::new(alloc, donor)) {
         Ok(donor) => donor,
@@ -249,7 +256,7 @@ fn given_up<D: PageDisk, R: PageDisk, N>(
     recipient: R,
     net: N,
 ) -> RunEnd<D, R, N>
-    ensures { result.outcome.whole ≡ false }
+    ensures { result.outcome ≡ of_unstarted failure }
 {
     RunEnd {
         outcome: Outcome::of_unstarted(failure),

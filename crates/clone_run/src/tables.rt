@@ -1,4 +1,6 @@
 //! The tables of a workload, which are made before anything is written.
+ghost use Rattle.std.specs.Prelude.{◌≤◌};
+ghost use Rattle.clone_base.specs.declared.limits.TheConstants.{TABLE_LIMIT};
 ghost use Rattle.clone_run.specs.Tables.{SetsUp};
 
 use crate::failure::Failure;
@@ -15,12 +17,14 @@ pub(crate) fn make_tables<D: PageDisk, H: Wait>(
     tables: u32,
     buckets: BucketCount,
 ) -> Result<(), Failure>
+    requires { tables ≤ TABLE_LIMIT }
     ensures { SetsUp donor.old donor.new }
 {
     for number in 1..=tables {
-        if let Some(table) = TableNumber::new(number) {
-            make_table(rt, donor, table, buckets)?;
-        }
+        let Some(table) = TableNumber::new(number) else {
+            unreachable!();
+        };
+        make_table(rt, donor, table, buckets)?;
     }
     Ok(())
 }
@@ -42,7 +46,7 @@ fn make_table<D: PageDisk, H: Wait>(
     unreachable!()
 }
 
-/// Makes a table, or some room for it, which is answered by none.
+/// Makes a table that isn't there, or some room for it, which is answered by none.
 fn try_table<D: PageDisk>(
     donor: &mut Donor<D>,
     table: TableNumber,
@@ -51,7 +55,7 @@ fn try_table<D: PageDisk>(
     ensures { SetsUp donor.old donor.new }
 {
     match donor.create(table, buckets) {
-        Ok(()) => Some(Ok(())),
+        Ok(()) | Err(EngineRefusal::Because(Cause::TableExists)) => Some(Ok(())),
         Err(refusal) => match make_room(donor, refusal) {
             Ok(()) => None,
             Err(failure) => Some(Err(failure)),

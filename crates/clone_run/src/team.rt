@@ -1,7 +1,5 @@
-//! The jobs of a run. Each is started, then those after it, and once these have come to their end
-//! it is waited for. So the tasks end first, then the writers, then those that keep the donor going,
-//! and last those that serve.
-ghost use Rattle.std.specs.Prelude.{◌≡◌, true, IfOk, List};
+//! What the jobs of a run share, and the jobs that are made of it.
+ghost use Rattle.std.specs.Prelude.{◌≡◌, IfOk, List};
 ghost use Rattle.std.specs.Arc.{arc_value};
 ghost use Rattle.clone_turn.specs.Seats.{IsOf};
 ghost use Rattle.clone_machine.specs.Running.{JobEntry};
@@ -10,30 +8,24 @@ ghost use Rattle.clone_machine.specs.declared.calls.JobCall.TheVariants as job;
 ghost use Rattle.clone_links.specs.Calling.{IsOneCall};
 ghost use Rattle.clone_run.specs.Outcomes.{of_unstarted};
 ghost use Rattle.clone_run.specs.Teams.{Gathered, no_parts, with_donor};
-ghost use Rattle.clone_run.specs.Done.{DoneBy, fetched_from, kept_up_from, served_from, written_from};
-ghost use Rattle.clone_run.specs.Loads.{IsLoad};
 ghost use Rattle.clone_run.specs.Lending.{DonorIsLent, FetchIsLent, IsSame, ServeIsLent};
 
 use crate::failure::Failure;
 use crate::load::Load;
 use crate::outcome::Outcome;
-use crate::starts::Starts;
 use clone_copying::{Caller, Fetcher};
 use clone_desk::DeskMachine;
 use clone_fetching::RecipientMachine;
 use clone_hub::Hub;
-use clone_jobs::{JobEnd, Upkeep, UpkeepJob, WriterJob};
+use clone_jobs::{Upkeep, UpkeepJob, WriterJob};
 use clone_links::Server;
 use clone_machine::{DonorMachine, JobAnswer, JobCall};
 use clone_outside::{Gate, Net, PageDisk};
-use clone_task_jobs::{FetchJob, FetchJobEnd, ServeJob, ServeJobEnd};
+use clone_task_jobs::{FetchJob, ServeJob};
 use std::alloc::{AllocError, Global};
 use std::marker::Model;
 use std::sync::{Arc, Wait};
 use std::time::Clock;
-
-/// What jobs keep up while the others work, in the order in which they are started.
-const UPKEEP: [Upkeep; 3] = [Upkeep::Flusher, Upkeep::Checkpointer, Upkeep::Archiver];
 
 /// What the jobs of a run share.
 #[derive(Drop)]
@@ -94,131 +86,8 @@ impl<
 where
     N::End: Send + Drop,
 {
-    /// Serves the tasks from this one on, while all other jobs work.
-    pub(crate) fn serve_from<P>(&mut self, crew: &mut P, task: u8) -> Outcome
-    where
-        P: Starts<WriterJob<D, G, H>>
-            + Starts<UpkeepJob<D, G, H>>
-            + Starts<ServeJob<D, N, G, H>>
-            + Starts<FetchJob<D, R, N, G, H>>,
-        requires load { IsLoad self.old.load }
-        ensures done { result.whole ≡ true
-            → DoneBy N.End.Link (served_from self.old.load task) result self.old self.new }
-        ensures same { IsSame self.old self.new }
-    {
-        if task >= self.load.tasks {
-            return self.keep_up_from(crew, 0);
-        }
-        let Ok(job) = self.serve_job(task) else {
-            return self.fail(Failure::Memory);
-        };
-        match crew.start(job) {
-            Ok(ticket) => {
-                let others = self.serve_from(crew, task + 1);
-                let ServeJobEnd { seat, desk, ending } = crew.finish(ticket);
-                self.donor.take_back(seat);
-                self.desk.take_back(desk);
-                others.with(Failure::of_ending(ending))
-            }
-            Err(refusal) => self.fail(Failure::of_start(refusal)),
-        }
-    }
-
-    // Keeps the donor going by the jobs from this one on, while writers write and tasks fetch. Once
-    // these are done, the run is to end.
-    fn keep_up_from<P>(&mut self, crew: &mut P, number: usize) -> Outcome
-    where
-        P: Starts<WriterJob<D, G, H>>
-            + Starts<UpkeepJob<D, G, H>>
-            + Starts<FetchJob<D, R, N, G, H>>,
-        requires load { IsLoad self.old.load }
-        ensures done { result.whole ≡ true
-            → DoneBy N.End.Link (kept_up_from self.old.load number) result self.old self.new }
-        ensures same { IsSame self.old self.new }
-    {
-        let Some(upkeep) = UPKEEP.get(number) else {
-            let outcome = self.write_from(crew, 0);
-            self.halt();
-            return outcome;
-        };
-        let Ok(job) = self.upkeep_job(*upkeep) else {
-            return self.fail(Failure::Memory);
-        };
-        match crew.start(job) {
-            Ok(ticket) => {
-                let others = self.keep_up_from(crew, number + 1);
-                let JobEnd { seat, ending } = crew.finish(ticket);
-                self.donor.take_back(seat);
-                others.with(Failure::of_ending(ending))
-            }
-            Err(refusal) => self.fail(Failure::of_start(refusal)),
-        }
-    }
-
-    // Writes by the writers from this one on, while tasks fetch. Unless the clone is completed, the
-    // run is to end.
-    fn write_from<P>(&mut self, crew: &mut P, number: u32) -> Outcome
-    where
-        P: Starts<WriterJob<D, G, H>> + Starts<FetchJob<D, R, N, G, H>>,
-        requires load { IsLoad self.old.load }
-        ensures done { result.whole ≡ true
-            → DoneBy N.End.Link (written_from self.old.load number) result self.old self.new }
-        ensures same { IsSame self.old self.new }
-    {
-        if number >= self.load.writers {
-            let outcome = self.fetch_from(crew, 0);
-            if outcome.cloned.is_none() {
-                self.halt();
-            }
-            return outcome;
-        }
-        let Ok(job) = self.writer_job(number) else {
-            return self.fail(Failure::Memory);
-        };
-        match crew.start(job) {
-            Ok(ticket) => {
-                let others = self.write_from(crew, number + 1);
-                let JobEnd { seat, ending } = crew.finish(ticket);
-                self.donor.take_back(seat);
-                others.with(Failure::of_ending(ending))
-            }
-            Err(refusal) => self.fail(Failure::of_start(refusal)),
-        }
-    }
-
-    // Fetches by the tasks from this one on.
-    fn fetch_from<P>(&mut self, crew: &mut P, task: u8) -> Outcome
-    where
-        P: Starts<FetchJob<D, R, N, G, H>>,
-        ensures done { result.whole ≡ true
-            → DoneBy N.End.Link (fetched_from self.old.load task) result self.old self.new }
-        ensures same { IsSame self.old self.new }
-    {
-        if task >= self.load.tasks {
-            return Outcome::of_none();
-        }
-        let Ok(job) = self.fetch_job(task) else {
-            return self.fail(Failure::Memory);
-        };
-        match crew.start(job) {
-            Ok(ticket) => {
-                let others = self.fetch_from(crew, task + 1);
-                let FetchJobEnd {
-                    seat,
-                    desk,
-                    watch,
-                    end,
-                } = crew.finish(ticket);
-                self.recipient.take_back(seat);
-                self.desk.take_back(desk);
-                self.donor.take_back(watch);
-                others.with_task(end)
-            }
-            Err(refusal) => self.fail(Failure::of_start(refusal)),
-        }
-    }
-
-    fn serve_job(&mut self, task: u8) -> Result<ServeJob<D, N, G, H>, AllocError>
+    /// The job that serves a task.
+    pub(crate) fn serve_job(&mut self, task: u8) -> Result<ServeJob<D, N, G, H>, AllocError>
         ensures lent { IfOk result (λ job. ServeIsLent self.old job.server job.desk self.new) }
         ensures task { IfOk result (λ job. job.task ≡ task) }
         ensures same { IsSame self.old self.new }
@@ -235,7 +104,8 @@ where
         })
     }
 
-    fn upkeep_job(&mut self, upkeep: Upkeep) -> Result<UpkeepJob<D, G, H>, AllocError>
+    /// The job that keeps this up.
+    pub(crate) fn upkeep_job(&mut self, upkeep: Upkeep) -> Result<UpkeepJob<D, G, H>, AllocError>
         ensures lent { IfOk result
             (λ job. DonorIsLent self.old (arc_value job.cell) job.seat self.new) }
         ensures of { IfOk result (λ job. IsOf (arc_value job.cell) job.seat) }
@@ -253,7 +123,8 @@ where
         })
     }
 
-    fn writer_job(&mut self, number: u32) -> Result<WriterJob<D, G, H>, AllocError>
+    /// The job of a writer.
+    pub(crate) fn writer_job(&mut self, number: u32) -> Result<WriterJob<D, G, H>, AllocError>
         ensures lent { IfOk result
             (λ job. DonorIsLent self.old (arc_value job.cell) job.seat self.new) }
         ensures of { IfOk result (λ job. IsOf (arc_value job.cell) job.seat) }
@@ -277,7 +148,8 @@ where
         })
     }
 
-    fn fetch_job(&mut self, task: u8) -> Result<FetchJob<D, R, N, G, H>, AllocError>
+    /// The job that fetches for a task.
+    pub(crate) fn fetch_job(&mut self, task: u8) -> Result<FetchJob<D, R, N, G, H>, AllocError>
         ensures lent { IfOk result
             (λ job. FetchIsLent self.old task job.fetcher job.desk job.watch self.new) }
         ensures same { IsSame self.old self.new }
@@ -301,8 +173,8 @@ where
         }
     }
 
-    // A job isn't started. The run is to end.
-    fn fail(&mut self, failure: Failure) -> Outcome
+    /// A job isn't started. The run is to end.
+    pub(crate) fn fail(&mut self, failure: Failure) -> Outcome
         ensures outcome { result ≡ of_unstarted failure }
         ensures same { IsSame self.old self.new }
     {
@@ -310,8 +182,8 @@ where
         Outcome::of_unstarted(failure)
     }
 
-    // The run is to end.
-    fn halt(&mut self)
+    /// The run is to end.
+    pub(crate) fn halt(&mut self)
         ensures halts { (made : List JobEntry) × IsOneCall job.Halt job_answer.Halt made
             × Gathered (with_donor no_parts made) self.old self.new }
         ensures same { IsSame self.old self.new }

@@ -1,5 +1,0 @@
-use Rattle.std.proofs.Common.{◌-◌}
-use Rattle.clone_run.proofs.team.Team.+fetch_from.Given as goal
-
-abbrev pub decreases-fetch_from : goal.decreases-fetch_from
-decreases-fetch_from g l = l.self.now.load.tasks - l.task

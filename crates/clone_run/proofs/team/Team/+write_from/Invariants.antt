@@ -1,5 +1,0 @@
-use Rattle.std.proofs.Common.{◌-◌}
-use Rattle.clone_run.proofs.team.Team.+write_from.Given as goal
-
-abbrev pub decreases-write_from : goal.decreases-write_from
-decreases-write_from g l = l.self.now.load.writers - l.number
