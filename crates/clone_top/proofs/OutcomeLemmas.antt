@@ -31,7 +31,7 @@ use Rattle.clone_top.specs.declared.reading.Unread.TheVariants as unread
 use Rattle.clone_top.specs.declared.run.Unready.{Unready}
 use Rattle.clone_top.specs.declared.run.Unready.TheVariants as unready
 use Rattle.clone_top.specs.declared.status.Status.{Status}
-use Rattle.clone_top.specs.declared.status.Status.TheVariants.{Done, Memory, Usage, BadLine, SourceFault, SinkFault, DonorFault, RecipientFault, RestartsSpent, Garbled, Refused, NotEmpty, Incomplete, Damaged, CompressionRefused, TooLong}
+use Rattle.clone_top.specs.declared.status.Status.TheVariants.{Done, Memory, Usage, BadLine, SourceFault, SinkFault, DonorFault, RecipientFault, RestartsSpent, Garbled, Refused, NotEmpty, CrewFault, Incomplete, Damaged, CompressionRefused, TooLong}
 use Rattle.clone_words.specs.Commands.{IsCommandLine}
 use Rattle.clone_words.specs.declared.command.Command.{Command}
 use Rattle.clone_words.specs.declared.reading.WordsRefusal.{WordsRefusal}
@@ -316,6 +316,7 @@ module _ (old new : Streams) (given : Disks) (back : Ends) (config : Config) (te
   ran Damaged is = absurd is
   ran CompressionRefused is = absurd is
   ran TooLong is = absurd is
+  ran CrewFault is = absurd is
 
 -- the lines were carried out as they were lent
 pub lent : (lines passed : List Line) (first left : State) (out out_new binlog binlog_new : End) (status : Status) → passed ≡ lines → EndsLines passed first left out out_new binlog binlog_new status → EndsLines lines first left out out_new binlog binlog_new status
