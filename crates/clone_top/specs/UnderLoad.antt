@@ -1,5 +1,6 @@
 -- A CLONE UNDER LOAD: what `run` does with its disks, its net and its crew, and what it says of that.
-use Rattle.std.specs.Prelude.{ℕ, ◌≡◌, ◌⊎◌, ◌++◌, Bool, true, false, List, [], None, Some, codes}
+use Rattle.std.specs.Prelude.{ℕ, ◌≡◌, ◌⊎◌, ◌++◌, Bool, true, false, List, [], None, Some, Vec, codes}
+use Rattle.std.specs.declared.alloc.Global.{Global}
 use Rattle.std.specs.declared.option.Option.{Option}
 use Rattle.clone_outside.specs.Bytes.{appended, TakesSome}
 use Rattle.clone_outside.specs.Causes.{Rose}
@@ -15,6 +16,7 @@ use Rattle.clone_recover.specs.Restores.{Answers, ForStep}
 use Rattle.clone_recover.specs.declared.recovery.Recovered.{Recovered}
 use Rattle.clone_dump.specs.Shown.{ShowsRecovered}
 use Rattle.clone_summary.specs.Summary.{report_text, summary_text}
+use Rattle.clone_chunk.specs.declared.cause.CloneCause.{CloneCause}
 use Rattle.clone_tasks.specs.declared.end.CloneEnd.TheVariants as end
 use Rattle.clone_answers.specs.StepTexts.{end_text, garbled_text}
 use Rattle.clone_events.specs.Events.{recipient_fault}
@@ -65,8 +67,8 @@ FailsBy CrewFault why text =
 FailsBy DonorFault why text = (why ≡ failure.DonorDisk) × (text ≡ codes "donor disk fault")
 FailsBy RecipientFault why text = (why ≡ failure.RecipientDisk) × (text ≡ recipient_fault)
 FailsBy Garbled why text =
-    (kept : Text) × (why ≡ failure.Garbled kept) × (text ≡ garbled_text kept)
-FailsBy Refused why text = (cause : _) × (why ≡ failure.Refused cause)
+    (kept : Vec ℕ Global) × (why ≡ failure.Garbled kept) × (text ≡ garbled_text kept.items)
+FailsBy Refused why text = (cause : CloneCause) × (why ≡ failure.Refused cause)
     × (text ≡ end_text (end.Refused cause))
 FailsBy RestartsSpent why text = (losses : ℕ) × (why ≡ failure.Spent losses)
     × (text ≡ end_text (end.Spent losses))

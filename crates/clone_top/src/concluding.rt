@@ -10,8 +10,8 @@ ghost use Rattle.clone_model.specs.Texts as texts;
 ghost use Rattle.clone_recover.specs.Restores.{IsCause};
 ghost use Rattle.clone_recover.specs.declared.refusal.RecoverRefusal.TheVariants.{Damaged};
 ghost use Rattle.clone_recover.specs.declared.refusal.Why.{Why};
-ghost use Rattle.clone_run.specs.declared.failure.Failure.TheVariants as failure;
 ghost use Rattle.clone_answers.specs.StepTexts as steps;
+ghost use Rattle.clone_words.specs.Commands.{IsInRange};
 ghost use Rattle.clone_top.specs.Ends.{End, end_of, streams};
 ghost use Rattle.clone_top.specs.Saying.{Says};
 ghost use Rattle.clone_top.specs.UnderLoad.{Concludes, Reports, SaysComplete, SaysFailure, WritesBoth, WritesFront};
@@ -40,6 +40,7 @@ pub fn conclude<K: Sink, B: Sink, R: PageDisk>(
     commits: &Binlog,
     recipient: &mut R,
 ) -> Status
+    requires in_range { IsInRange run }
     requires cloned { outcome.failure ≡ None → IsSome outcome.cloned }
     ensures { (source : End) → Concludes run.entry outcome commits.now.commits result
         (streams source (end_of (K.taken out.old) (K.failures out.old))
@@ -48,11 +49,15 @@ pub fn conclude<K: Sink, B: Sink, R: PageDisk>(
         (end_of (B.taken binlog.new) (B.failures binlog.new)))
         (R.state recipient.old) (R.state recipient.new) }
 {
-    if let Some(failure) = outcome.failure {
-        return say_failure(alloc, out, failure);
-    }
-    let Some(cloned) = outcome.cloned else {
-        unreachable!()
+    let Outcome {
+        cloned,
+        failure,
+        whole: _,
+    } = outcome;
+    let cloned = match (failure, cloned) {
+        (Some(failure), _) => return say_failure(alloc, out, failure),
+        (None, Some(cloned)) => cloned,
+        (None, None) => unreachable!(),
     };
     match output(alloc, run, commits, cloned, recipient) {
         Ok(text) => write_texts(alloc, out, binlog, text.as_str(), commits),
@@ -138,6 +143,7 @@ fn output<R: PageDisk>(
     cloned: Cloned,
     disk: &mut R,
 ) -> Result<String, RecoverRefusal>
+    requires in_range { IsInRange run }
     ensures says { IfOk result (λ text. SaysComplete run.entry cloned commits.now.commits
         (R.state disk.old).told (R.state disk.new).told (string_bytes text)) }
     ensures cause { IfErr result
