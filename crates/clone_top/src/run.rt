@@ -18,6 +18,7 @@ ghost use Rattle.clone_top.specs.Ended.{EndsLines};
 ghost use Rattle.clone_top.specs.Ends.{AreEmpty, End, IsRead, disks, end_of, ends, means, streams};
 ghost use Rattle.clone_top.specs.Looking.{IsNewDonor, IsUnready};
 ghost use Rattle.clone_top.specs.Main.{DiskOutcome, Outcome, OutcomeOf, StepsOutcome};
+ghost use Rattle.clone_top.specs.Status.{number_of};
 ghost use Rattle.clone_top.specs.Stops.{StopsAtFailure};
 
 use crate::load::run_or_refuse;
@@ -98,15 +99,31 @@ pub fn clone_main<
         (means net crew.old) (means result.net crew.new) }
     ensures source { StopsAtFailure S.left S.failures source.old source.new }
 {
-    let (left, net) = match parse(alloc, words) {
-        Ok(command) => obey(
-            rt, alloc, command, source, out, binlog, donor, recipient, net, crew, gate,
-        ),
-        Err(refusal) => (
-            leave(alloc, say_no_command(out, refusal), donor, recipient),
-            net,
-        ),
-    };
+    match parse(alloc, words) {
+        Ok(command) => {
+            let (left, net) = obey(
+                rt, alloc, command, source, out, binlog, donor, recipient, net, crew, gate,
+            );
+            hand_back(left, net)
+        }
+        Err(refusal) => {
+            let status = say_no_command(out, refusal);
+            hand_back(leave(alloc, status, donor, recipient), net)
+        }
+    }
+}
+
+/// Hands back what a run leaves.
+fn hand_back<H: Wait + Copy>(left: Left<RunDisk, RunDisk>, net: RunNet<H>) -> Ended<H>
+    ensures { result ≡ record {
+      status = number_of left.status;
+      donor = left.donor;
+      recipient = left.recipient;
+      net = net;
+      drops = left.drops;
+      stop = left.stop;
+    } }
+{
     let Left {
         status,
         donor,

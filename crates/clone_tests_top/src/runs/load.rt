@@ -98,8 +98,7 @@ fn disks_that_fail_or_are_not_empty(rt: HostRuntime) -> Result<(), Fail> {
     Ok(())
 }
 
-// In version 2 a cut brings at least a block, so that a clone by one task with more cuts than losses
-// that are let off may yet complete; without any loss let off it can't.
+// The one connection is cut before the files are copied, and no loss is let off.
 #[test]
 fn a_loss_above_the_limit(rt: HostRuntime) -> Result<(), Fail> {
     let alloc = rt.alloc();
