@@ -33,7 +33,7 @@ use Rattle.clone_top.specs.Looking.{IsNewDonor, IsUnready}
 use Rattle.clone_top.specs.Main.{Refuses, RunOutcome}
 use Rattle.clone_top.specs.Saying.{SaysNoClone, SaysUnready}
 use Rattle.clone_top.specs.UnderLoad.{Concludes, LoadOutcome, RanJobs, Reports, completed, config_of, load_of, prevented, silent}
-use Rattle.clone_top.specs.UnderLoad as load
+use Rattle.clone_top.specs.UnderLoad as run_under
 use Rattle.clone_top.specs.declared.run.Unready.{Unready}
 use Rattle.clone_top.specs.declared.run.Unready.TheVariants as unready
 use Rattle.clone_top.specs.declared.status.Status.{Status}
@@ -66,7 +66,7 @@ module _ {N L X R : Type 0} (net : Net N L X) (link : Link L X) (state : R → D
   unopened_for unready.DonorFault alone same is says = prevented DonorFault (codes "donor disk fault") (is, refl) says alone same
   unopened_for unready.RecipientFault alone same is says = prevented RecipientFault recipient_fault (is.0, is.1, refl) says alone same
   unopened_for unready.NotEmpty alone same is says = prevented NotEmpty (codes "not empty") (is.0, is.1, refl) says alone same
-  unopened_for unready.Memory alone same is says = load.silent says.0 says.1 is alone same
+  unopened_for unready.Memory alone same is says = run_under.silent says.0 says.1 is alone same
 
   -- no donor was opened
   pub unopened : (why : Unready) (due : Status) (between : Disks) → status ≡ due → back.disks ≡ between → IsAlone old new back → left ≡ means → IsUnready given between why → SaysUnready why due old.out new.out → LoadOutcome net link state run status old new given back means left
@@ -86,7 +86,7 @@ module _ {N L X R : Type 0} (net : Net N L X) (link : Link L X) (state : R → D
       let P : List Commit → Type 0 = λ l. Concludes run o l due old new (state disk_left) after in
       let Q : Status → Type 0 = λ s. Concludes run o donor_left.engine.donor.binlog s old new (state disk_left) after in
       let V : DiskState → Type 0 = λ d. Concludes run o donor_left.engine.donor.binlog status old new (state disk_left) d in
-      load.cloned (record {
+      run_under.cloned (record {
         empty = empty;
         opened = opened;
         new_donor = subst (λ (c : Config). IsNewDonor c opened) sizes fresh;

@@ -41,7 +41,7 @@ pub fn run_or_refuse<
     gate: Arc<G>,
 ) -> (Left<RunDisk, RunDisk>, RunNet<H>)
     requires { IsInRange run }
-    ensures outcome { (number : ℕ) (source : End) → RunOutcome ⟦<RunNet<H> as Net>⟧
+    ensures { (number : ℕ) (source : End) → RunOutcome ⟦<RunNet<H> as Net>⟧
         ⟦<RunLink<H> as Link>⟧ ⟦<RunDisk as PageDisk>⟧.state
         run.entry run.entry.compress result.0.status
         (streams source (end_of (K.taken out.old) (K.failures out.old))
@@ -82,7 +82,7 @@ fn run_load<
     gate: Arc<G>,
 ) -> (Left<RunDisk, RunDisk>, RunNet<H>)
     requires { IsInRange run }
-    ensures outcome { (number : ℕ) (source : End) → LoadOutcome ⟦<RunNet<H> as Net>⟧
+    ensures { (number : ℕ) (source : End) → LoadOutcome ⟦<RunNet<H> as Net>⟧
         ⟦<RunLink<H> as Link>⟧ ⟦<RunDisk as PageDisk>⟧.state run.entry result.0.status
         (streams source (end_of (K.taken out.old) (K.failures out.old))
         (end_of (B.taken binlog.old) (B.failures binlog.old)))
