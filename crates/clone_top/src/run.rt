@@ -44,7 +44,7 @@ use std::time::Clock;
 /// How a run ended, the disks and the net that it was given, and what the donor of a script told of
 /// drops and of a stop.
 #[derive(Drop)]
-pub struct Ended<H: Wait + Copy> {
+pub struct Ended<H> {
     /// The status.
     pub status: u8,
     /// The donor's disk.
@@ -114,7 +114,7 @@ pub fn clone_main<
 }
 
 /// Hands back what a run leaves.
-fn hand_back<H: Wait + Copy>(left: Left<RunDisk, RunDisk>, net: RunNet<H>) -> Ended<H>
+fn hand_back<H>(left: Left<RunDisk, RunDisk>, net: RunNet<H>) -> Ended<H>
     ensures { result ≡ record {
       status = number_of left.status;
       donor = left.donor;
