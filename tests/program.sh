@@ -11,6 +11,8 @@
 #   streams  lines `source`, `output` or `binlog`, each with `closed`, `full` or `folder`: the stream is
 #            closed, takes nothing, or is a folder, which can't be read
 #   stdout   the output that is due, and stderr the binlog; without the file, nothing
+#   commits  in the place of stderr, where the order of commits differs between runs: how many there are
+#   head     in the place of stdout, where what follows differs between runs: the lines that come first
 #   status   the status that is due
 #   left     how many bytes of the source the program is to leave unread
 
@@ -74,6 +76,24 @@ is_same() {
     if [ -f "$case/$2" ]; then cmp -s "$1" "$case/$2"; else [ ! -s "$1" ]; fi
 }
 
+# Whether the output is the case's, or begins with its head.
+is_output() {
+    if [ -f "$case/head" ]; then
+        head -n "$(wc -l <"$case/head")" "$work/stdout" | cmp -s - "$case/head"
+    else
+        is_same "$work/stdout" stdout
+    fi
+}
+
+# Whether the binlog is the case's, or has as many commits.
+is_binlog() {
+    if [ -f "$case/commits" ]; then
+        [ "$(grep -c '^commit ' "$work/stderr")" -eq "$(cat "$case/commits")" ]
+    else
+        is_same "$work/stderr" stderr
+    fi
+}
+
 # Runs a case. The source is open here, so what the program leaves of it can be counted.
 is_right() {
     make_source
@@ -82,7 +102,7 @@ is_right() {
         echo $? >"$work/status"
         wc -c >"$work/left"
     } <"$work/source"
-    is_same "$work/stdout" stdout && is_same "$work/stderr" stderr && is_same "$work/status" status &&
+    is_output && is_binlog && is_same "$work/status" status &&
         { [ ! -f "$case/left" ] || [ "$(cat "$work/left")" -eq "$(cat "$case/left")" ]; }
 }
 

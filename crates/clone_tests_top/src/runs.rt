@@ -1,11 +1,17 @@
 use clone_memdisk::MemDisk;
+use clone_memlink::MemNet;
 use clone_model::rows_text;
-use clone_outside::{MemSink, MemSource, Refusal, Sink};
+use clone_outside::{Crew, MemSink, MemSource, NoGate, Refusal, Sink};
+use clone_real::{AnyDisk, AnyNet};
 use clone_recover::{RecoverRefusal, open_rows, recover};
+use clone_run::RunDisk;
 use clone_top::clone_main;
 use std::alloc::{AllocError, Global};
 use std::process::Abort;
+use std::sync::{Arc, Wait};
 use std::test::Fail;
+use std::thread::Threads;
+use std::time::Clock;
 
 const PLAINEST: &str = "create 1 4\nset 0 1 7 6869\nclone\nrows\n";
 
@@ -19,8 +25,8 @@ struct Ran {
     status: u8,
     out: MemSink,
     binlog: MemSink,
-    donor: MemDisk,
-    recipient: MemDisk,
+    donor: RunDisk,
+    recipient: RunDisk,
 }
 
 impl Ran {
@@ -31,16 +37,24 @@ impl Ran {
     }
 }
 
-// A run of the words over these disks.
-fn run_over(
+// A disk in memory that holds nothing.
+fn empty(alloc: Global) -> RunDisk {
+    AnyDisk::Memory(MemDisk::new(alloc))
+}
+
+// A run of the words over these disks, with connections in memory.
+fn run_over<H: Threads + Wait + Clock + Copy + Send + Sync + Drop + 'static>(
+    host: H,
     alloc: Global,
     words: &[&str],
     source: &mut MemSource,
     (mut out, mut binlog): (MemSink, MemSink),
-    (donor, recipient): (MemDisk, MemDisk),
+    (donor, recipient): (RunDisk, RunDisk),
 ) -> Result<Ran, AllocError> {
     let words = words_of(alloc, words)?;
+    let gate = Arc::new(alloc, NoGate)?;
     let ended = clone_main(
+        host,
         alloc,
         &words,
         source,
@@ -48,6 +62,9 @@ fn run_over(
         &mut binlog,
         donor,
         recipient,
+        AnyNet::Memory(MemNet::new(host, alloc)),
+        &mut Crew::new(host),
+        gate,
     );
     Ok(Ran {
         status: ended.status,
@@ -59,15 +76,23 @@ fn run_over(
 }
 
 // A run of the script over these disks.
-fn run_on(
+fn run_on<H: Threads + Wait + Clock + Copy + Send + Sync + Drop + 'static>(
+    host: H,
     alloc: Global,
     script: &str,
-    donor: MemDisk,
-    recipient: MemDisk,
+    donor: RunDisk,
+    recipient: RunDisk,
 ) -> Result<Ran, AllocError> {
     let mut source = source_of(alloc, script.as_bytes())?;
     let sinks = (MemSink::new(alloc), MemSink::new(alloc));
-    run_over(alloc, &["steps"], &mut source, sinks, (donor, recipient))
+    run_over(
+        host,
+        alloc,
+        &["steps"],
+        &mut source,
+        sinks,
+        (donor, recipient),
+    )
 }
 
 // The recipient's disk recovers to these rows, or has no clone.
@@ -116,8 +141,9 @@ enum Failing {
 
 // The run of a word over a script ends with this status, this output and this binlog where that call
 // fails.
-fn ends_where_it_fails(
-    rt: &impl Abort,
+fn ends_where_it_fails<H: Threads + Wait + Clock + Copy + Send + Sync + Drop + 'static, A: Abort>(
+    host: H,
+    rt: &A,
     alloc: Global,
     (word, script): (&str, &[u8]),
     (failing, call): (Failing, u64),
@@ -131,8 +157,8 @@ fn ends_where_it_fails(
         Failing::Out => out.fail_at(call)?,
         Failing::Binlog => binlog.fail_at(call)?,
     }
-    let disks = (MemDisk::new(alloc), MemDisk::new(alloc));
-    let ran = run_over(alloc, &[word], &mut source, (out, binlog), disks)?;
+    let disks = (empty(alloc), empty(alloc));
+    let ran = run_over(host, alloc, &[word], &mut source, (out, binlog), disks)?;
     ran.expect(rt, status, taken, commits);
     Ok(())
 }
@@ -143,7 +169,7 @@ fn ends_where_the_source_fails(rt: HostRuntime) -> Result<(), Fail> {
     let script = vec![in rt.alloc(); b'#'; 5_000]?;
     for call in 1..=3 {
         let (run, fault) = (("steps", &script[..]), (Failing::Source, call));
-        ends_where_it_fails(&rt, rt.alloc(), run, fault, (4, "source fault\n", ""))?;
+        ends_where_it_fails(rt, &rt, rt.alloc(), run, fault, (4, "source fault\n", ""))?;
     }
     Ok(())
 }
@@ -173,10 +199,10 @@ fn ends_where_a_call_fails(rt: HostRuntime) -> Result<(), Fail> {
     let script = PLAINEST.as_bytes();
     for (fault, status, taken, commits) in FAULTS {
         let ends = (status, taken, commits);
-        ends_where_it_fails(&rt, rt.alloc(), ("steps", script), fault, ends)?;
+        ends_where_it_fails(rt, &rt, rt.alloc(), ("steps", script), fault, ends)?;
     }
     let fault = (Failing::Out, 1);
-    ends_where_it_fails(&rt, rt.alloc(), ("stop", script), fault, (5, "", ""))
+    ends_where_it_fails(rt, &rt, rt.alloc(), ("stop", script), fault, (5, "", ""))
 }
 
 // Takes one byte a call.
@@ -212,14 +238,19 @@ fn writes_the_same_byte_by_byte(rt: HostRuntime) -> Result<(), Fail> {
     let mut binlog = ByteByByte {
         sink: MemSink::new(alloc),
     };
+    let gate = Arc::new(alloc, NoGate)?;
     let ended = clone_main(
+        rt,
         alloc,
         &words,
         &mut source,
         &mut out,
         &mut binlog,
-        MemDisk::new(alloc),
-        MemDisk::new(alloc),
+        empty(alloc),
+        empty(alloc),
+        AnyNet::Memory(MemNet::new(rt, alloc)),
+        &mut Crew::new(rt),
+        gate,
     );
     let ran = Ran {
         status: ended.status,
@@ -235,3 +266,4 @@ fn writes_the_same_byte_by_byte(rt: HostRuntime) -> Result<(), Fail> {
 mod commands;
 mod connections;
 mod disks;
+mod load;

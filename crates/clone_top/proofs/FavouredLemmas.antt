@@ -17,7 +17,7 @@ use Rattle.clone_top.specs.Causes.{FailsDonor, Hinders, at_look, at_opening}
 use Rattle.clone_top.specs.Completeness.{GoesUndisturbed, HasGoodScript, HoldNothing, NoneRose}
 use Rattle.clone_top.specs.Ends.{Disks, GaveAll, GaveTooMuch, Streams}
 use Rattle.clone_top.specs.declared.status.Status.{Status}
-use Rattle.clone_top.specs.declared.status.Status.TheVariants.{Done, Memory, Usage, BadLine, SourceFault, SinkFault, DonorFault, RecipientFault, RestartsSpent, Garbled, Refused, NotEmpty, Incomplete, Damaged, CompressionRefused, TooLong}
+use Rattle.clone_top.specs.declared.status.Status.TheVariants.{Done, Memory, Usage, BadLine, SourceFault, SinkFault, DonorFault, RecipientFault, RestartsSpent, Garbled, Refused, NotEmpty, CrewFault, Incomplete, Damaged, CompressionRefused, TooLong}
 use Rattle.clone_top.proofs.FairLemmas.{IsFair, IsFairBy}
 
 -- ---- no line is hindered
@@ -69,6 +69,7 @@ unhindered Garbled text old new given back why good empty none = why
 unhindered Refused text old new given back why good empty none = why
 unhindered Incomplete text old new given back why good empty none = why
 unhindered Damaged text old new given back why good empty none = why
+unhindered CrewFault text old new given back why good empty none = why
 unhindered CompressionRefused text old new given back why good empty none = why
 
 -- ---- how the clone ended

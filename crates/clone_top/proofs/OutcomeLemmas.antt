@@ -5,6 +5,8 @@ use Rattle.std.specs.Fmt.{decimal}
 use Rattle.clone_outside.specs.Causes.{Rose}
 use Rattle.clone_outside.specs.Disk.{DiskImage, ForTold}
 use Rattle.clone_outside.specs.DiskCalls.{DiskState}
+use Rattle.clone_outside.specs.declared.link.Link.{Ghosts as Link}
+use Rattle.clone_outside.specs.declared.link.Net.{Ghosts as Net}
 use Rattle.clone_model.specs.History.{fold}
 use Rattle.clone_model.specs.Texts.{ended}
 use Rattle.clone_model.specs.declared.config.Config.{Config}
@@ -31,7 +33,7 @@ use Rattle.clone_top.specs.declared.reading.Unread.TheVariants as unread
 use Rattle.clone_top.specs.declared.run.Unready.{Unready}
 use Rattle.clone_top.specs.declared.run.Unready.TheVariants as unready
 use Rattle.clone_top.specs.declared.status.Status.{Status}
-use Rattle.clone_top.specs.declared.status.Status.TheVariants.{Done, Memory, Usage, BadLine, SourceFault, SinkFault, DonorFault, RecipientFault, RestartsSpent, Garbled, Refused, NotEmpty, Incomplete, Damaged, CompressionRefused, TooLong}
+use Rattle.clone_top.specs.declared.status.Status.TheVariants.{Done, Memory, Usage, BadLine, SourceFault, SinkFault, DonorFault, RecipientFault, RestartsSpent, Garbled, Refused, NotEmpty, CrewFault, Incomplete, Damaged, CompressionRefused, TooLong}
 use Rattle.clone_words.specs.Commands.{IsCommandLine}
 use Rattle.clone_words.specs.declared.command.Command.{Command}
 use Rattle.clone_words.specs.declared.reading.WordsRefusal.{WordsRefusal}
@@ -39,12 +41,12 @@ use Rattle.clone_words.specs.declared.reading.WordsRefusal.TheVariants as words
 use Rattle.clone_top.specs.Carrying.{AnsweredAll, Finished, Leaves, behind, within, Stopped, in_lines, in_binlog}
 use Rattle.clone_top.specs.Causes.{EndsBy, Hinders, IsAlone, OpensAtMost, said, silent}
 use Rattle.clone_top.specs.Ended.{EndsLines}
-use Rattle.clone_top.specs.Ends.{AreEmpty, Disks, End, Ends, IsRead, Streams, disks, tell}
+use Rattle.clone_top.specs.Ends.{AreEmpty, Disks, End, Ends, IsRead, Means, Streams, disks, tell}
 use Rattle.clone_top.specs.Headline.{HasClone, HasCompleted, HasCloneAt, Headline, IsWhole, LeavesPlain, Run, Writes, WritesAll, WritesSome}
 use Rattle.clone_top.specs.Headline as headline
 use Rattle.clone_top.specs.Looking.{IsUnread, IsUnready}
-use Rattle.clone_top.specs.Main.{IsUntouched, Outcome, OutcomeOf, RunOutcome, StepsOutcome, no_command, no_memory}
-use Rattle.clone_top.specs.Saying.{Says, SaysNoCommand, SaysNoRun, SaysUnread, SaysUnready}
+use Rattle.clone_top.specs.Main.{IsUntouched, Outcome, OutcomeOf, StepsOutcome, no_command, no_memory}
+use Rattle.clone_top.specs.Saying.{Says, SaysNoCommand, SaysUnread, SaysUnready}
 use Rattle.clone_top.specs.Status.{number_of}
 use Rattle.clone_top.specs.Completeness.{EndsWell, IsFavoured}
 use Rattle.clone_events.proofs.CompleteLemmas.{IsAtStop}
@@ -73,14 +75,10 @@ pub same_disks : (donor donor_back recipient recipient_back : DiskState) → don
 same_disks donor donor_back recipient recipient_back same_donor same_recipient = ap (λ (d : DiskState). disks d recipient_back) same_donor ∙ ap (λ (d : DiskState). disks donor d) same_recipient
 
 -- no command was read
-pub no_command_read : (spoken : List Text) (old new : Streams) (given : Disks) (back : Ends) (refusal : WordsRefusal) (status : Status) → back.status ≡ number_of status → (refusal ≡ words.Usage → IsCommandLine spoken → ⊥) → IsUntouched old new given back → SaysNoCommand refusal status old.out new.out → Outcome spoken old new given back
-no_command_read spoken old new given back words.Usage status number none left says = no_command (none refl) status number (record { untouched = left; says = says })
-no_command_read spoken old new given back words.NoMemory status number none left says = no_memory (number ∙ ap number_of says.0) left says.1
-
--- there is no run
-pub no_run : (compress : Bool) (due status : Status) (old new : Streams) (given : Disks) (back : Ends) → status ≡ due → IsUntouched old new given back → SaysNoRun compress due old.out new.out → RunOutcome compress status old new given back
-no_run true due status old new given back is left says = record { untouched = left; says = subst (λ (s : Status). Says CompressionRefused s old.out new.out (ended (codes "compression refused"))) (sym is) says }
-no_run false due status old new given back is left says = record { untouched = left; says = subst (λ (s : Status). Says Usage s old.out new.out (ended (codes "usage"))) (sym is) says }
+pub no_command_read : {N L X R : Type 0} (net : Net N L X) (link : Link L X) (state : R → DiskState) (means left : Means N) (spoken : List Text) (old new : Streams) (given : Disks) (back : Ends) (refusal : WordsRefusal) (status : Status)
+    → left ≡ means → back.status ≡ number_of status → (refusal ≡ words.Usage → IsCommandLine spoken → ⊥) → IsUntouched old new given back → SaysNoCommand refusal status old.out new.out → Outcome net link state spoken old new given back means left
+no_command_read net link state means left spoken old new given back words.Usage status same number none untouched says = no_command (none refl) status number (record { untouched = untouched; says = says }) same
+no_command_read net link state means left spoken old new given back words.NoMemory status same number none untouched says = no_memory (number ∙ ap number_of says.0) untouched says.1 same
 
 -- no script was read
 not_read : (old new : Streams) (given : Disks) (back : Ends) (why : Unread) (status : Status) → IsUnread old.source new.source why → back.disks ≡ given → IsAlone old new back → SaysUnread why status old.out new.out → StepsOutcome status old new given back
@@ -109,8 +107,9 @@ left_unbegun config terms lines old new given between back why due status is sam
     subst Q (sym is) (not_begun config terms lines old new given back why due read (subst P (sym same) unready) alone says)
 
 -- what comes of the command that was asked for
-pub of_command : (asked known : Command) (status : Status) (old new : Streams) (given : Disks) (back : Ends) → asked ≡ known → OutcomeOf known status old new given back → OutcomeOf asked status old new given back
-of_command asked known status old new given back is = subst (λ (x : Command). OutcomeOf x status old new given back) (sym is)
+pub of_command : {N L X R : Type 0} (net : Net N L X) (link : Link L X) (state : R → DiskState) (means left : Means N) (asked known : Command) (status : Status) (old new : Streams) (given : Disks) (back : Ends)
+    → asked ≡ known → OutcomeOf net link state known status old new given back means left → OutcomeOf net link state asked status old new given back means left
+of_command net link state means left asked known status old new given back is = subst (λ (x : Command). OutcomeOf net link state x status old new given back means left) (sym is)
 
 -- ---- the recipient's disk
 
@@ -316,6 +315,7 @@ module _ (old new : Streams) (given : Disks) (back : Ends) (config : Config) (te
   ran Damaged is = absurd is
   ran CompressionRefused is = absurd is
   ran TooLong is = absurd is
+  ran CrewFault is = absurd is
 
 -- the lines were carried out as they were lent
 pub lent : (lines passed : List Line) (first left : State) (out out_new binlog binlog_new : End) (status : Status) → passed ≡ lines → EndsLines passed first left out out_new binlog binlog_new status → EndsLines lines first left out out_new binlog binlog_new status

@@ -57,6 +57,14 @@ abbrev pub ends : ℕ → Disks → Drops → Option Stop → Ends
 ends status back drops stop =
     record { status = status; disks = back; drops = drops; stop = stop }
 
+-- the net that makes connections, and how often the crew could not start a thread
+pub record Means (N : Type 0) : Type 0 where
+  pub net : N
+  pub crew : ℕ
+
+abbrev pub means : {N : Type 0} → N → ℕ → Means N
+means net crew = record { net = net; crew = crew }
+
 -- the source was read to its end without a failure, and gave no more than a script may have
 pub record GaveAll (before after : End) (script : List ℕ) : Type 0 where
   pub given : before.told ≡ prepended script after.told

@@ -5,6 +5,7 @@ pub mod Saying
 pub mod Causes
 pub mod Completeness
 pub mod Recovering
+pub mod UnderLoad
 pub mod Main
 pub mod Carrying
 pub mod Stops

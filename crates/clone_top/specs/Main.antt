@@ -1,6 +1,9 @@
 -- What a run of the program is: by the command, then by the status.
 use Rattle.std.specs.Prelude.{◌≡◌, List, Bool, true, false, codes, MatchOption}
 use Rattle.std.specs.declared.option.Option.{Option}
+use Rattle.clone_outside.specs.DiskCalls.{DiskState}
+use Rattle.clone_outside.specs.declared.link.Link.{Ghosts as Link}
+use Rattle.clone_outside.specs.declared.link.Net.{Ghosts as Net}
 use Rattle.clone_model.specs.Texts.{ended}
 use Rattle.clone_plain.specs.Answers.{Text}
 use Rattle.clone_dump.specs.Shown.{SaysRecovered, SaysRows}
@@ -8,13 +11,15 @@ use Rattle.clone_engine.specs.Disks.{Visits}
 use Rattle.clone_words.specs.Commands.{IsAskedBy, IsCommandLine}
 use Rattle.clone_words.specs.declared.command.Command.{Command}
 use Rattle.clone_words.specs.declared.command.Command.TheVariants as command
-use Rattle.clone_top.specs.Ends.{Streams, Disks, Ends}
+use Rattle.clone_words.specs.declared.command.Run.{Run as Options}
+use Rattle.clone_top.specs.Ends.{Streams, Disks, Ends, Means}
 use Rattle.clone_top.specs.Headline.{Run, Headline}
 use Rattle.clone_top.specs.Causes.{HasNotBegun, IsAlone, RunsOver}
 use Rattle.clone_top.specs.Completeness.{EndsWell, IsFavoured}
 use Rattle.clone_top.specs.Recovering.{Comes, Showing}
 use Rattle.clone_top.specs.Saying.{Says}
 use Rattle.clone_top.specs.Status.{number_of}
+use Rattle.clone_top.specs.UnderLoad.{LoadOutcome}
 use Rattle.clone_top.specs.declared.status.Status.{Status}
 use Rattle.clone_top.specs.declared.status.Status.TheVariants.{CompressionRefused, Memory, Usage}
 
@@ -47,13 +52,6 @@ pub record Refuses (due : Status) (text : Text) (status : Status) (old new : Str
   pub untouched : IsUntouched old new given ends
   pub says : Says due status old.out new.out (ended text)
 
--- A RUN OF `run`: with `--compress` it is refused; without it, no run is there yet.
-abbrev pub RunOutcome : Bool → Status → Streams → Streams → Disks → Ends → Type 0
-RunOutcome true status old new given ends =
-    Refuses CompressionRefused (codes "compression refused") status old new given ends
-RunOutcome false status old new given ends =
-    Refuses Usage (codes "usage") status old new given ends
-
 -- A RUN OVER THE RECIPIENT'S DISK: it is recovered, which a text shows, and nothing else is touched.
 pub record DiskOutcome (Shows : Showing) (status : Status) (old new : Streams) (given : Disks)
     (ends : Ends) : Type 0 where
@@ -63,24 +61,40 @@ pub record DiskOutcome (Shows : Showing) (status : Status) (old new : Streams) (
   pub comes : Comes Shows status given.recipient ends.disks.recipient old.out new.out
   pub alone : IsAlone old new ends
 
-abbrev pub OutcomeOf : Command → Status → Streams → Streams → Disks → Ends → Type 0
-OutcomeOf command.Steps status old new given ends = StepsOutcome status old new given ends
-OutcomeOf (command.Run run) status old new given ends =
-    RunOutcome run.compress status old new given ends
-OutcomeOf (command.Recover recover) status old new given ends =
-    DiskOutcome SaysRecovered status old new given ends
-OutcomeOf (command.Dump dump) status old new given ends =
-    DiskOutcome SaysRows status old new given ends
+module _ {N L X R : Type 0} (net : Net N L X) (link : Link L X) (state : R → DiskState) where
+  -- A RUN OF `run`: with `--compress` it is refused; without it a donor is cloned under load.
+  abbrev pub RunOutcome : Options → Bool → Status → Streams → Streams → Disks → Ends
+      → (means left : Means N) → Type 0
+  RunOutcome run true status old new given ends means left =
+      Refuses CompressionRefused (codes "compression refused") status old new given ends
+      × (left ≡ means)
+  RunOutcome run false status old new given ends means left = (new.source ≡ old.source)
+      × LoadOutcome net link state run status old new given ends means left
 
--- WHAT COMES OF A RUN, by its command and then by its status. The words are no command line, or
--- there was no memory to read them, or they ask for a command.
-pub data Outcome (words : List Text) (old new : Streams) (given : Disks) (ends : Ends)
-    : Type 0 where
-  no_command : (IsCommandLine words → ⊥)
-      → (status : Status) → ends.status ≡ number_of status
-      → Refuses Usage (codes "usage") status old new given ends → Outcome words old new given ends
-  no_memory : ends.status ≡ number_of Memory → IsUntouched old new given ends
-      → new.out.told ≡ old.out.told → Outcome words old new given ends
-  commanded : IsCommandLine words → (command : Command) → IsAskedBy words command
-      → (status : Status) → ends.status ≡ number_of status
-      → OutcomeOf command status old new given ends → Outcome words old new given ends
+  -- what comes of a command; only `run` uses the net and the crew
+  abbrev pub OutcomeOf : Command → Status → Streams → Streams → Disks → Ends
+      → (means left : Means N) → Type 0
+  OutcomeOf command.Steps status old new given ends means left =
+      StepsOutcome status old new given ends × (left ≡ means)
+  OutcomeOf (command.Run run) status old new given ends means left =
+      RunOutcome run run.compress status old new given ends means left
+  OutcomeOf (command.Recover recover) status old new given ends means left =
+      DiskOutcome SaysRecovered status old new given ends × (left ≡ means)
+  OutcomeOf (command.Dump dump) status old new given ends means left =
+      DiskOutcome SaysRows status old new given ends × (left ≡ means)
+
+  -- WHAT COMES OF A RUN, by its command and then by its status. The words are no command line, or
+  -- there was no memory to read them, or they ask for a command.
+  pub data Outcome (words : List Text) (old new : Streams) (given : Disks) (ends : Ends)
+      (means left : Means N) : Type 0 where
+    no_command : (IsCommandLine words → ⊥)
+        → (status : Status) → ends.status ≡ number_of status
+        → Refuses Usage (codes "usage") status old new given ends → left ≡ means
+        → Outcome words old new given ends means left
+    no_memory : ends.status ≡ number_of Memory → IsUntouched old new given ends
+        → new.out.told ≡ old.out.told → left ≡ means
+        → Outcome words old new given ends means left
+    commanded : IsCommandLine words → (command : Command) → IsAskedBy words command
+        → (status : Status) → ends.status ≡ number_of status
+        → OutcomeOf command status old new given ends means left
+        → Outcome words old new given ends means left

@@ -1,5 +1,5 @@
 -- What a run does that ends with one text.
-use Rattle.std.specs.Prelude.{ℕ, ◌≡◌, ◌⊎◌, ◌++◌, List, Bool, true, false, codes}
+use Rattle.std.specs.Prelude.{ℕ, ◌≡◌, ◌⊎◌, ◌++◌, List, codes}
 use Rattle.std.specs.Fmt.{decimal}
 use Rattle.clone_outside.specs.Causes.{Rose}
 use Rattle.clone_outside.specs.Bytes.{appended, TakesSome}
@@ -10,7 +10,7 @@ use Rattle.clone_dump.specs.Shown.{damage_text}
 use Rattle.clone_events.specs.Events.{recipient_fault}
 use Rattle.clone_top.specs.Ends.{End}
 use Rattle.clone_top.specs.declared.status.Status.{Status}
-use Rattle.clone_top.specs.declared.status.Status.TheVariants.{Memory, Usage, BadLine, SourceFault, SinkFault, DonorFault, RecipientFault, NotEmpty, Incomplete, Damaged, CompressionRefused, TooLong}
+use Rattle.clone_top.specs.declared.status.Status.TheVariants.{Memory, Usage, BadLine, SourceFault, SinkFault, DonorFault, RecipientFault, NotEmpty, Incomplete, Damaged, TooLong}
 use Rattle.clone_words.specs.declared.reading.WordsRefusal.{WordsRefusal}
 use Rattle.clone_words.specs.declared.reading.WordsRefusal.TheVariants as words
 use Rattle.clone_top.specs.declared.reading.Unread.{Unread}
@@ -31,13 +31,6 @@ abbrev pub SaysNoCommand : WordsRefusal → Status → End → End → Type 0
 SaysNoCommand words.Usage got old new = Says Usage got old new (ended (codes "usage"))
 SaysNoCommand words.NoMemory got old new = (got ≡ Memory) × (new.told ≡ old.told)
 
--- Why there is no run is said: its pages were to be compressed, or, without that, no run is
--- there yet.
-abbrev pub SaysNoRun : Bool → Status → End → End → Type 0
-SaysNoRun true got old new =
-    Says CompressionRefused got old new (ended (codes "compression refused"))
-SaysNoRun false got old new = Says Usage got old new (ended (codes "usage"))
-
 -- why no script was read is said, or there was no memory
 abbrev pub SaysUnread : Unread → Status → End → End → Type 0
 SaysUnread unread.SourceFault got old new =
@@ -57,7 +50,7 @@ SaysNoClone refused.DiskFault got old new =
     Says RecipientFault got old new (ended recipient_fault)
 SaysNoClone refused.NoMemory got old new = (got ≡ Memory) × (new.told ≡ old.told)
 
--- the same of why the lines aren't begun
+-- the same of why nothing is begun over two disks
 abbrev pub SaysUnready : Unready → Status → End → End → Type 0
 SaysUnready unready.DonorFault got old new =
     Says DonorFault got old new (ended (codes "donor disk fault"))

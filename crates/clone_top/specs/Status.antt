@@ -5,7 +5,7 @@ use Rattle.clone_outside.specs.declared.Refusal.TheVariants.{Fault, NoMemory}
 use Rattle.clone_core.specs.declared.world.Ending.{Ending}
 use Rattle.clone_core.specs.declared.world.Ending.TheVariants as ending
 use Rattle.clone_top.specs.declared.status.Status.{Status}
-use Rattle.clone_top.specs.declared.status.Status.TheVariants.{Done, Memory, Usage, BadLine, SourceFault, SinkFault, DonorFault, RecipientFault, RestartsSpent, Garbled, Refused, NotEmpty, Incomplete, Damaged, CompressionRefused, TooLong}
+use Rattle.clone_top.specs.declared.status.Status.TheVariants.{Done, Memory, Usage, BadLine, SourceFault, SinkFault, DonorFault, RecipientFault, RestartsSpent, Garbled, Refused, NotEmpty, CrewFault, Incomplete, Damaged, CompressionRefused, TooLong}
 
 abbrev pub number_of : Status → ℕ
 number_of Done = 0
@@ -19,6 +19,7 @@ number_of RecipientFault = 7
 number_of RestartsSpent = 8
 number_of NotEmpty = 9
 number_of Garbled = 10
+number_of CrewFault = 11
 number_of Incomplete = 12
 number_of Damaged = 13
 number_of CompressionRefused = 14

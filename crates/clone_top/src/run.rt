@@ -11,82 +11,118 @@ ghost use Rattle.clone_events.specs.World.{IsWithin};
 ghost use Rattle.clone_core.specs.Acting.{stop_of};
 ghost use Rattle.clone_core.specs.System.{donor_of};
 ghost use Rattle.clone_core.specs.Lines.{IsNew};
-ghost use Rattle.clone_words.specs.Commands.{texts};
+ghost use Rattle.clone_words.specs.Commands.{IsRunInRange, texts};
 ghost use Rattle.clone_top.specs.Carrying.{Answered, AnsweredAll, AnsweredSome, Finished, Stopped, StoppedAtLine};
-ghost use Rattle.clone_top.specs.Causes.{WereNotEmpty};
+ghost use Rattle.clone_top.specs.Causes.{Looks, WereNotEmpty};
 ghost use Rattle.clone_top.specs.Ended.{EndsLines};
-ghost use Rattle.clone_top.specs.Ends.{AreEmpty, End, IsRead, disks, end_of, ends, streams};
-ghost use Rattle.clone_top.specs.Looking.{IsUnready};
+ghost use Rattle.clone_top.specs.Ends.{AreEmpty, End, IsRead, disks, end_of, ends, means, streams};
+ghost use Rattle.clone_top.specs.Looking.{IsNewDonor, IsUnready};
 ghost use Rattle.clone_top.specs.Main.{DiskOutcome, Outcome, OutcomeOf, StepsOutcome};
+ghost use Rattle.clone_top.specs.Status.{number_of};
 ghost use Rattle.clone_top.specs.Stops.{StopsAtFailure};
 
+use crate::load::run_or_refuse;
 use crate::reading::read_source;
 use crate::recovering::{say_recovered, say_rows};
-use crate::saying::{say_no_command, say_no_run, say_unread, say_unready};
+use crate::saying::{say_no_command, say_unread, say_unready};
 use crate::status::Status;
 use clone_core::{World, run_laws};
 use clone_donor::Donor;
 use clone_engine::{OpenCause, OpenRefusal, is_empty};
 use clone_events::run_laws as plain_laws;
-use clone_model::{Drops, binlog_text};
-use clone_outside::{PageDisk, Refusal, Sink, Source, write_all};
+use clone_model::{Config, Drops, binlog_text};
+use clone_outside::{Crew, Gate, Link, Net, PageDisk, Refusal, Sink, Source, write_all};
+use clone_run::{RunDisk, RunLink, RunNet};
 use clone_script::{Line, Script};
 use clone_session::Stop;
 use clone_words::{Command, parse};
 use std::alloc::Global;
-use std::marker::Model;
+use std::sync::{Arc, Wait};
+use std::thread::Threads;
+use std::time::Clock;
 
-/// How a run ended, the disks that it was given, and what its donor told of drops and of a stop.
+/// How a run ended, the disks and the net that it was given, and what the donor of a script told of
+/// drops and of a stop.
 #[derive(Drop)]
-pub struct Ended<D: PageDisk, R: PageDisk> {
+pub struct Ended<H> {
     /// The status.
     pub status: u8,
     /// The donor's disk.
-    pub donor: D,
+    pub donor: RunDisk,
     /// The recipient's disk.
-    pub recipient: R,
-    /// The drops of tables: none where no donor was opened.
+    pub recipient: RunDisk,
+    /// The net.
+    pub net: RunNet<H>,
+    /// The drops of tables: none where no script was carried out.
     pub drops: Drops,
-    /// The stop of the clone, if it came to that.
+    /// The stop of the script's clone, if it came to that.
     pub stop: Option<Stop>,
-}
-
-impl<D: PageDisk, R: PageDisk> Model for Ended<D, R> {
-    ghost use Rattle.std.specs.Coded.{codes};
-    ghost use Rattle.std.specs.Prelude.{option_map};
-    ghost use Rattle.clone_engine.specs.Codes.{disk_code};
-    ghost use Rattle.clone_core.specs.Acting.{stop_of};
-    ghost use Rattle.clone_top.specs.Ends.{Ends, disks, ends};
-
-    ghost Value = { Ends };
-
-    ghost coded = { Prim.hlevel (codes, disk_code) };
-
-    ghost view = { λ e. ends e.status (disks (D.state e.donor) (R.state e.recipient)) e.drops.list
-        (option_map stop_of e.stop) };
 }
 
 /// Runs the program by its words. `steps` reads a script from the source, carries out its lines
 /// over a donor on the one disk and a clone on the other, writes their answers to `out` and at the
-/// end the commits to `binlog`. `recover` and `dump` recover the recipient's disk.
-pub fn clone_main<S: Source, K: Sink, B: Sink, D: PageDisk, R: PageDisk>(
+/// end the commits to `binlog`. `run` clones a donor under load, over connections that the net
+/// makes, each job in a thread that the crew starts, and writes a summary and the commits.
+/// `recover` and `dump` recover the recipient's disk.
+pub fn clone_main<
+    S: Source,
+    K: Sink,
+    B: Sink,
+    T: Threads,
+    G: Gate + Send + Sync + Drop + 'static,
+    H: Wait + Clock + Copy + Send + Sync + Drop + 'static,
+>(
+    rt: H,
     alloc: Global,
     words: &[String],
     source: &mut S,
     out: &mut K,
     binlog: &mut B,
-    donor: D,
-    recipient: R,
-) -> Ended<D, R>
-    ensures outcome { Outcome (texts words.now)
+    donor: RunDisk,
+    recipient: RunDisk,
+    net: RunNet<H>,
+    crew: &mut Crew<T>,
+    gate: Arc<G>,
+) -> Ended<H>
+    ensures outcome { Outcome ⟦<RunNet<H> as Net>⟧ ⟦<RunLink<H> as Link>⟧
+        ⟦<RunDisk as PageDisk>⟧.state (texts words.now)
         (streams (end_of (S.left source.old) (S.failures source.old))
         (end_of (K.taken out.old) (K.failures out.old))
         (end_of (B.taken binlog.old) (B.failures binlog.old)))
         (streams (end_of (S.left source.new) (S.failures source.new))
         (end_of (K.taken out.new) (K.failures out.new))
         (end_of (B.taken binlog.new) (B.failures binlog.new)))
-        (disks (D.state donor) (R.state recipient)) result }
+        (disks (⟦<RunDisk as PageDisk>⟧.state donor) (⟦<RunDisk as PageDisk>⟧.state recipient))
+        (ends result.status (disks (⟦<RunDisk as PageDisk>⟧.state result.donor)
+        (⟦<RunDisk as PageDisk>⟧.state result.recipient)) result.drops.list
+        (option_map stop_of result.stop))
+        (means net crew.old) (means result.net crew.new) }
     ensures source { StopsAtFailure S.left S.failures source.old source.new }
+{
+    match parse(alloc, words) {
+        Ok(command) => {
+            let (left, net) = obey(
+                rt, alloc, command, source, out, binlog, donor, recipient, net, crew, gate,
+            );
+            hand_back(left, net)
+        }
+        Err(refusal) => {
+            let status = say_no_command(out, refusal);
+            hand_back(leave(alloc, status, donor, recipient), net)
+        }
+    }
+}
+
+/// Hands back what a run leaves.
+fn hand_back<H>(left: Left<RunDisk, RunDisk>, net: RunNet<H>) -> Ended<H>
+    ensures { result ≡ record {
+      status = number_of left.status;
+      donor = left.donor;
+      recipient = left.recipient;
+      net = net;
+      drops = left.drops;
+      stop = left.stop;
+    } }
 {
     let Left {
         status,
@@ -94,30 +130,33 @@ pub fn clone_main<S: Source, K: Sink, B: Sink, D: PageDisk, R: PageDisk>(
         recipient,
         drops,
         stop,
-    } = match parse(alloc, words) {
-        Ok(command) => obey(alloc, command, source, out, binlog, donor, recipient),
-        Err(refusal) => leave(alloc, say_no_command(out, refusal), donor, recipient),
-    };
+    } = left;
     Ended {
         status: status.number(),
         donor,
         recipient,
+        net,
         drops,
         stop,
     }
 }
 
 /// What a run leaves, with its status as it is.
-struct Left<D, R> {
-    status: Status,
-    donor: D,
-    recipient: R,
-    drops: Drops,
-    stop: Option<Stop>,
+pub struct Left<D, R> {
+    /// The status.
+    pub status: Status,
+    /// The donor's disk.
+    pub donor: D,
+    /// The recipient's disk.
+    pub recipient: R,
+    /// The drops of tables.
+    pub drops: Drops,
+    /// The stop of the clone, if it came to that.
+    pub stop: Option<Stop>,
 }
 
-/// What a run leaves that opened no donor.
-fn leave<D: PageDisk, R: PageDisk>(
+/// What a run leaves that carried out no script.
+pub fn leave<D: PageDisk, R: PageDisk>(
     alloc: Global,
     status: Status,
     donor: D,
@@ -139,32 +178,51 @@ fn leave<D: PageDisk, R: PageDisk>(
 }
 
 /// Does what a command line asks for.
-fn obey<S: Source, K: Sink, B: Sink, D: PageDisk, R: PageDisk>(
+fn obey<
+    S: Source,
+    K: Sink,
+    B: Sink,
+    T: Threads,
+    G: Gate + Send + Sync + Drop + 'static,
+    H: Wait + Clock + Copy + Send + Sync + Drop + 'static,
+>(
+    rt: H,
     alloc: Global,
     command: Command<'_>,
     source: &mut S,
     out: &mut K,
     binlog: &mut B,
-    donor: D,
-    recipient: R,
-) -> Left<D, R>
-    ensures outcome { (number : ℕ) → OutcomeOf command.entry result.status
+    donor: RunDisk,
+    recipient: RunDisk,
+    net: RunNet<H>,
+    crew: &mut Crew<T>,
+    gate: Arc<G>,
+) -> (Left<RunDisk, RunDisk>, RunNet<H>)
+    requires { IsRunInRange command }
+    ensures outcome { (number : ℕ) → OutcomeOf ⟦<RunNet<H> as Net>⟧ ⟦<RunLink<H> as Link>⟧
+        ⟦<RunDisk as PageDisk>⟧.state command.entry result.0.status
         (streams (end_of (S.left source.old) (S.failures source.old))
         (end_of (K.taken out.old) (K.failures out.old))
         (end_of (B.taken binlog.old) (B.failures binlog.old)))
         (streams (end_of (S.left source.new) (S.failures source.new))
         (end_of (K.taken out.new) (K.failures out.new))
         (end_of (B.taken binlog.new) (B.failures binlog.new)))
-        (disks (D.state donor) (R.state recipient))
-        (ends number (disks (D.state result.donor) (R.state result.recipient)) result.drops.list
-        (option_map stop_of result.stop)) }
+        (disks (⟦<RunDisk as PageDisk>⟧.state donor) (⟦<RunDisk as PageDisk>⟧.state recipient))
+        (ends number (disks (⟦<RunDisk as PageDisk>⟧.state result.0.donor)
+        (⟦<RunDisk as PageDisk>⟧.state result.0.recipient)) result.0.drops.list
+        (option_map stop_of result.0.stop))
+        (means net crew.old) (means result.1 crew.new) }
     ensures source { StopsAtFailure S.left S.failures source.old source.new }
 {
     match command {
-        Command::Steps => run_steps(alloc, source, out, binlog, donor, recipient),
-        Command::Run(run) => leave(alloc, say_no_run(out, run), donor, recipient),
-        Command::Recover(_) => run_recover(alloc, out, donor, recipient),
-        Command::Dump(_) => run_dump(alloc, out, donor, recipient),
+        Command::Steps => (run_steps(alloc, source, out, binlog, donor, recipient), net),
+        Command::Run(run) => {
+            run_or_refuse(
+                rt, alloc, run, out, binlog, donor, recipient, net, crew, gate,
+            )
+        }
+        Command::Recover(_) => (run_recover(alloc, out, donor, recipient), net),
+        Command::Dump(_) => (run_dump(alloc, out, donor, recipient), net),
     }
 }
 
@@ -233,7 +291,7 @@ fn run_dump<K: Sink, D: PageDisk, R: PageDisk>(
     leave(alloc, status, donor, recipient)
 }
 
-/// Why the lines of a script aren't begun.
+/// Why nothing is begun over two disks.
 #[derive(Clone, Copy, Debug, PartialEq, Eq)]
 pub enum Unready {
     /// The donor's disk failed.
@@ -246,11 +304,22 @@ pub enum Unready {
     Memory,
 }
 
-/// The lines of a script aren't begun, and the disks are given back.
-struct Unbegun<D, R> {
-    why: Unready,
-    donor: D,
-    recipient: R,
+/// Nothing is begun, and the disks are given back.
+pub struct Unbegun<D, R> {
+    /// Why.
+    pub why: Unready,
+    /// The donor's disk.
+    pub donor: D,
+    /// The recipient's disk.
+    pub recipient: R,
+}
+
+/// A donor that was opened, and the disk of a recipient.
+pub struct Begun<D: PageDisk, R> {
+    /// The donor, of which nothing was asked.
+    pub donor: Donor<D>,
+    /// The recipient's disk, which is empty.
+    pub recipient: R,
 }
 
 /// Carries out a script over two disks, and says how the run ended.
@@ -302,7 +371,7 @@ fn run_script<K: Sink, B: Sink, D: PageDisk, R: PageDisk>(
     }
 }
 
-/// Looks whether both disks are empty, and opens a donor over the one.
+/// Looks whether both disks are empty, and begins a world over them.
 fn begin<D: PageDisk, R: PageDisk>(
     alloc: Global,
     script: &Script,
@@ -320,6 +389,26 @@ fn begin<D: PageDisk, R: PageDisk>(
     ensures why { IfErr result (λ unbegun. IsUnready (disks (D.state donor) (R.state recipient))
         (disks (D.state unbegun.donor) (R.state unbegun.recipient)) unbegun.why) }
 {
+    let Begun { donor, recipient } = open_donor(alloc, script.config, donor, recipient)?;
+    Ok(World::new(alloc, donor, recipient, script.terms))
+}
+
+/// Looks whether both disks are empty, and opens a donor over the one.
+pub fn open_donor<D: PageDisk, R: PageDisk>(
+    alloc: Global,
+    config: Config,
+    donor: D,
+    recipient: R,
+) -> Result<Begun<D, R>, Unbegun<D, R>>
+    requires config { IsConfig config }
+    ensures new { IfOk result (λ begun. IsNewDonor config begun.donor) }
+    ensures empty { OnOk result (AreEmpty (disks (D.state donor) (R.state recipient))) }
+    ensures donor { IfOk result (λ begun. Visits (D.state donor) begun.donor.engine.disk) }
+    ensures recipient { IfOk result
+        (λ begun. Looks (R.state recipient) (R.state begun.recipient)) }
+    ensures why { IfErr result (λ unbegun. IsUnready (disks (D.state donor) (R.state recipient))
+        (disks (D.state unbegun.donor) (R.state unbegun.recipient)) unbegun.why) }
+{
     let mut donor = donor;
     let mut recipient = recipient;
     if let Err(why) = look(alloc, &mut donor, &mut recipient) {
@@ -329,8 +418,8 @@ fn begin<D: PageDisk, R: PageDisk>(
             recipient,
         });
     }
-    match Donor::open(alloc, donor, script.config) {
-        Ok(donor) => Ok(World::new(alloc, donor, recipient, script.terms)),
+    match Donor::open(alloc, donor, config) {
+        Ok(donor) => Ok(Begun { donor, recipient }),
         Err(OpenRefusal { cause, disk }) => Err(Unbegun {
             why: Unready::from(cause),
             donor: disk,

@@ -4,7 +4,7 @@ ghost use Rattle.std.specs.Fmt.{decimal};
 ghost use Rattle.clone_model.specs.Texts.{ended};
 ghost use Rattle.clone_dump.specs.Shown.{damage_text};
 ghost use Rattle.clone_top.specs.Ends.{end_of};
-ghost use Rattle.clone_top.specs.Saying.{Says, SaysNoClone, SaysNoCommand, SaysNoRun, SaysUnread, SaysUnready};
+ghost use Rattle.clone_top.specs.Saying.{Says, SaysNoClone, SaysNoCommand, SaysUnread, SaysUnready};
 
 use crate::reading::Unread;
 use crate::run::Unready;
@@ -12,7 +12,7 @@ use crate::status::Status;
 use clone_dump::damage_line;
 use clone_outside::{Sink, write_all};
 use clone_recover::{RecoverRefusal, Why};
-use clone_words::{Run, WordsRefusal};
+use clone_words::WordsRefusal;
 use std::alloc::Global;
 
 /// Writes a text, and says that the run ended so, or why it was not written.
@@ -45,17 +45,13 @@ pub fn say_no_command<K: Sink>(out: &mut K, refusal: WordsRefusal) -> Status
     }
 }
 
-/// Says why there is no run.
-pub fn say_no_run<K: Sink>(out: &mut K, run: Run<'_>) -> Status
-    ensures { SaysNoRun run.entry.compress result
+/// Says that pages can't be compressed.
+pub fn say_no_compression<K: Sink>(out: &mut K) -> Status
+    ensures { Says Status.CompressionRefused result
         (end_of (K.taken out.old) (K.failures out.old))
-        (end_of (K.taken out.new) (K.failures out.new)) }
+        (end_of (K.taken out.new) (K.failures out.new)) (ended (codes "compression refused")) }
 {
-    if run.compress {
-        say(out, "compression refused\n", Status::CompressionRefused)
-    } else {
-        say_usage(out)
-    }
+    say(out, "compression refused\n", Status::CompressionRefused)
 }
 
 /// Says why no script was read.
@@ -71,7 +67,7 @@ pub fn say_unread<K: Sink>(alloc: Global, out: &mut K, unread: Unread) -> Status
     }
 }
 
-/// Says why the lines aren't begun.
+/// Says why nothing is begun over two disks.
 pub fn say_unready<K: Sink>(out: &mut K, unready: Unready) -> Status
     ensures { SaysUnready unready result (end_of (K.taken out.old) (K.failures out.old))
         (end_of (K.taken out.new) (K.failures out.new)) }

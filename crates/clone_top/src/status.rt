@@ -7,7 +7,7 @@ use clone_outside::Refusal;
 /// How a run ended.
 #[derive(Clone, Copy, Debug, PartialEq, Eq)]
 pub enum Status {
-    /// Every line was carried out.
+    /// All was done that was asked for.
     Done,
     /// There was no memory.
     Memory,
@@ -32,6 +32,8 @@ pub enum Status {
     Refused,
     /// A disk held a space or a mark before the first line.
     NotEmpty,
+    /// No thread could be started, or no connection was made.
+    CrewFault,
     /// The recipient's disk has no mark, or that of a clone under way.
     Incomplete,
     /// A page of the recipient's disk, or its redo, is against the format.
@@ -59,6 +61,7 @@ impl Status {
             Status::RestartsSpent => 8,
             Status::NotEmpty => 9,
             Status::Garbled => 10,
+            Status::CrewFault => 11,
             Status::Incomplete => 12,
             Status::Damaged => 13,
             Status::CompressionRefused => 14,

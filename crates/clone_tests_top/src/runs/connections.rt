@@ -1,8 +1,7 @@
 //! Runs of a clone whose connections are cut, whose tasks get bytes that the donor didn't send, or
 //! whose session is abandoned.
 
-use super::{expect_rows, run_on};
-use clone_memdisk::MemDisk;
+use super::{empty, expect_rows, run_on};
 use std::alloc::{AllocError, Global};
 use std::process::Abort;
 use std::test::Fail;
@@ -221,8 +220,8 @@ fn carries_out_lines_of_connections(rt: HostRuntime) -> Result<(), Fail> {
     let alloc = rt.alloc();
     for (text, status, binlog, rows) in SCRIPTS {
         let (lines, answers) = split(alloc, text)?;
-        let (donor, recipient) = (MemDisk::new(alloc), MemDisk::new(alloc));
-        let ran = run_on(alloc, lines.as_str(), donor, recipient)?;
+        let (donor, recipient) = (empty(alloc), empty(alloc));
+        let ran = run_on(rt, alloc, lines.as_str(), donor, recipient)?;
         ran.expect(&rt, status, answers.as_str(), binlog);
         expect_rows(&rt, alloc, ran, rows)?;
     }

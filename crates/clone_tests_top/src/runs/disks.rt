@@ -1,8 +1,8 @@
 //! Runs over disks that aren't empty or that fail, and the lines that write pages.
 
-use super::{PLAINEST, expect_rows, run_on};
-use clone_memdisk::MemDisk;
+use super::{PLAINEST, empty, expect_rows, run_on};
 use clone_outside::{DiskOrder, MARK_SIZE, PageDisk};
+use clone_run::RunDisk;
 use std::alloc::{AllocError, Global};
 use std::process::Abort;
 use std::test::Fail;
@@ -16,8 +16,8 @@ enum Bad {
     Fails { call: u64 },
 }
 
-fn disk_with(rt: &impl Abort, alloc: Global, bad: Bad) -> Result<MemDisk, AllocError> {
-    let mut disk = MemDisk::new(alloc);
+fn disk_with(rt: &impl Abort, alloc: Global, bad: Bad) -> Result<RunDisk, AllocError> {
+    let mut disk = empty(alloc);
     let laid = match bad {
         Bad::Nothing => Ok(()),
         Bad::Space => disk.create(7, 1),
@@ -103,7 +103,7 @@ fn ends_at_disks_that_fail_or_are_not_empty(rt: HostRuntime) -> Result<(), Fail>
     for (donor, recipient, status, out) in BAD_DISKS {
         let donor = disk_with(&rt, rt.alloc(), donor)?;
         let recipient = disk_with(&rt, rt.alloc(), recipient)?;
-        run_on(rt.alloc(), PLAINEST, donor, recipient)?.expect(&rt, status, out, "");
+        run_on(rt, rt.alloc(), PLAINEST, donor, recipient)?.expect(&rt, status, out, "");
     }
     Ok(())
 }
@@ -132,8 +132,8 @@ const DISK_SCRIPTS: [(&str, u8, &str, &str, Option<&str>); 2] = [
 #[test]
 fn carries_out_lines_of_disks(rt: HostRuntime) -> Result<(), Fail> {
     for (script, status, out, binlog, rows) in DISK_SCRIPTS {
-        let (donor, recipient) = (MemDisk::new(rt.alloc()), MemDisk::new(rt.alloc()));
-        let ran = run_on(rt.alloc(), script, donor, recipient)?;
+        let (donor, recipient) = (empty(rt.alloc()), empty(rt.alloc()));
+        let ran = run_on(rt, rt.alloc(), script, donor, recipient)?;
         ran.expect(&rt, status, out, binlog);
         expect_rows(&rt, rt.alloc(), ran, rows)?;
     }
