@@ -33,7 +33,7 @@ counted_own writers commits counts i c n lt at own is are = record {
       new ∙ ap (λ k. k + 1) old ∙ sym (count_by_more_yes (λ (x : Commit). x.writer == w) commits i c lt (ap (λ (x : Commit). x.writer == w) (sym at) ∙ same.0))
   each w within (inr other) =
       get_or-set_other counts c.writer w (n + 1) 0 (λ e. other.1 (sym e)) ∙ are.each w within
-          ∙ sym (count_by_more_no (λ (x : Commit). x.writer == w) commits i c lt (ap (λ (x : Commit). x.writer == w) (sym at) ∙ other.0))
+      ∙ sym (count_by_more_no (λ (x : Commit). x.writer == w) commits i c lt (ap (λ (x : Commit). x.writer == w) (sym at) ∙ other.0))
 
 -- one of another
 pub counted_other : (writers : ℕ) (commits : List Commit) (counts : List ℕ) (i : ℕ) (c : Commit) → i < length commits → c ≡ get_or commits i c → writers ≤ c.writer
@@ -41,8 +41,8 @@ pub counted_other : (writers : ℕ) (commits : List Commit) (counts : List ℕ) 
 counted_other writers commits counts i c lt at other are = record {
   size = are.size;
   each = λ w within.
-    let apart : c.writer ≡ w → ⊥ = λ e. omega (arith, e, other, within) in
-    are.each w within ∙ sym (count_by_more_no (λ (x : Commit). x.writer == w) commits i c lt (ap (λ (x : Commit). x.writer == w) (sym at) ∙ ne_eqb c.writer w apart));
+      let apart : c.writer ≡ w → ⊥ = λ e. omega (arith, e, other, within) in
+      are.each w within ∙ sym (count_by_more_no (λ (x : Commit). x.writer == w) commits i c lt (ap (λ (x : Commit). x.writer == w) (sym at) ∙ ne_eqb c.writer w apart));
 }
 
 -- a count is no higher than the number of commits

@@ -14,5 +14,5 @@ returns g c = λ number source.
     let left = c.leave-2.ensures in
     let jobs = c.clone_under_load-outcome in
     loaded _ _ _ _ _ _ _ _ _ _ _ c.in-Ok.begun.donor _ jobs.result.outcome jobs.result.donor jobs.result.recipient c.load_of-load.result c.config_of.result _ c.conclude-status.result _
-        c.in-Ok.ensures.empty c.in-Ok.ensures.new c.config_of.ensures.config c.in-Ok.ensures.donor c.in-Ok.ensures.recipient c.load_of-load.ensures.load jobs.ensures.ran jobs.ensures.unstarted jobs.ensures.thread
-        (c.conclude-status.ensures source) c.binlog.ensures left.status left.recipient (left.donor ∙ c.into_disk-donor.ensures.disk) left.drops (ap (option_map stop_of) left.stop)
+    c.in-Ok.ensures.empty c.in-Ok.ensures.new c.config_of.ensures.config c.in-Ok.ensures.donor c.in-Ok.ensures.recipient c.load_of-load.ensures.load jobs.ensures.ran jobs.ensures.unstarted jobs.ensures.thread
+    (c.conclude-status.ensures source) c.binlog.ensures left.status left.recipient (left.donor ∙ c.into_disk-donor.ensures.disk) left.drops (ap (option_map stop_of) left.stop)
