@@ -1,5 +1,0 @@
-//! The tests of a clone under load, over disks and connections in memory and threads.
-#![tactic(auto)]
-
-#[cfg(test)]
-mod cloning;
