@@ -13,8 +13,8 @@ use std::hint;
 use std::snapshot::Snapshot;
 use std::sync::Wait;
 
-/// How often a call looks for its turn before it sleeps between two looks.
-pub const LOOKS: u64 = 64;
+/// How often a call looks for a free turn before it sleeps.
+pub const LOOKS: u64 = 4_096;
 
 type Board<M> = Table<HeldOf<M>, ViewOf<M>, Snapshot<<M as Machine>::State>, Turns<M>, Global>;
 
@@ -59,7 +59,7 @@ impl<M: Machine> RawCell<M> {
         }
     }
 
-    // Tries to draw a ticket. There is none where another drew it first, or where all are drawn.
+    // Tries to draw the ticket that is served. There is none where it was drawn, or where all are.
     fn try_draw(&self, seat: &mut RawSeat<M>) -> Option<u64>
         requires seat { seat.old.seat.table_id ≡ self.now.table.shared.table_id }
         requires down { seat.old.seat.me.0.lifted ≡ false }
@@ -69,7 +69,7 @@ impl<M: Machine> RawCell<M> {
             seat.new.seat.me ≡ (with_ticket seat.old.seat.me.0 t, seat.old.seat.me.1)) }
         ensures none { IfNone result (seat.new.seat.me ≡ seat.old.seat.me) }
     {
-        let next = self.table.shared.peek(0);
+        let next = self.table.shared.peek(1);
         if next == u64::MAX {
             return None;
         }
@@ -80,6 +80,38 @@ impl<M: Machine> RawCell<M> {
         if found == next { Some(next) } else { None }
     }
 
+    // Draws a ticket while no other is out, and looks some times for one. There is none where others
+    // had the turn at each look.
+    fn draw_free(&self, seat: &mut RawSeat<M>) -> Option<u64>
+        requires seat { seat.old.seat.table_id ≡ self.now.table.shared.table_id }
+        requires down { seat.old.seat.me.0.lifted ≡ false }
+        ensures seat { seat.new.seat.table_id ≡ seat.old.seat.table_id }
+        ensures room { IfSome result (λ t. t < 18446744073709551615) }
+        ensures some { IfSome result (λ t.
+            seat.new.seat.me ≡ (with_ticket seat.old.seat.me.0 t, seat.old.seat.me.1)) }
+        ensures none { IfNone result (seat.new.seat.me ≡ seat.old.seat.me) }
+    {
+        for _ in 0..LOOKS {
+            if self.table.shared.peek(0) == self.table.shared.peek(1) {
+                if let Some(ticket) = self.try_draw(seat) {
+                    return Some(ticket);
+                }
+            }
+            hint::spin_loop();
+        }
+        None
+    }
+
+    // Sleeps until a turn ends, if one is out.
+    fn sleep<R: Wait>(&self, rt: &R) {
+        let served = self.table.shared.peek(1);
+        if self.table.shared.peek(0) != served {
+            self.table.shared.park(rt, 1, (served & 0xffff_ffff) as u32);
+        }
+    }
+
+    // Draws a ticket, whose turn is there at once. So nobody who sleeps has one, and whoever runs while
+    // a turn ends may have the next: no turn waits for a thread to wake.
     fn draw<R: Wait>(&self, rt: &R, seat: &mut RawSeat<M>) -> u64
         requires seat { seat.old.seat.table_id ≡ self.now.table.shared.table_id }
         requires down { seat.old.seat.me.0.lifted ≡ false }
@@ -89,9 +121,10 @@ impl<M: Machine> RawCell<M> {
             ≡ (with_ticket seat.old.seat.me.0 result, seat.old.seat.me.1) }
     {
         for _ in rt.forever() {
-            if let Some(ticket) = self.try_draw(seat) {
+            if let Some(ticket) = self.draw_free(seat) {
                 return ticket;
             }
+            self.sleep(rt);
         }
         unreachable!()
     }
@@ -109,26 +142,8 @@ impl<M: Machine> RawCell<M> {
         self.table.shared.load::<Look<M>>(&mut seat.seat, 1)
     }
 
-    // Looks some times without sleep. Answers whether the turn came.
-    fn look_often(&self, seat: &mut RawSeat<M>, ticket: u64) -> bool
-        requires seat { seat.old.seat.table_id ≡ self.now.table.shared.table_id }
-        requires ticket { seat.old.seat.me.0.ticket ≡ Some ticket }
-        requires down { seat.old.seat.me.0.lifted ≡ false }
-        ensures seat { seat.new.seat.table_id ≡ seat.old.seat.table_id }
-        ensures lifts { MatchBool result
-            (Lifts M.steps seat.old.seat.me seat.new.seat.me)
-            (seat.new.seat.me ≡ seat.old.seat.me) }
-    {
-        for _ in 0..LOOKS {
-            if self.look(seat, ticket) == ticket {
-                return true;
-            }
-            hint::spin_loop();
-        }
-        false
-    }
-
-    // Waits for the turn of the ticket, and sleeps between later looks.
+    // Waits for the turn of the ticket, which is there at the first look, since it was drawn while no
+    // other was out. The rule would hold without that.
     fn wait<R: Wait>(&self, rt: &R, seat: &mut RawSeat<M>, ticket: u64)
         requires seat { seat.old.seat.table_id ≡ self.now.table.shared.table_id }
         requires ticket { seat.old.seat.me.0.ticket ≡ Some ticket }
@@ -136,9 +151,6 @@ impl<M: Machine> RawCell<M> {
         ensures seat { seat.new.seat.table_id ≡ seat.old.seat.table_id }
         ensures lifts { Lifts M.steps seat.old.seat.me seat.new.seat.me }
     {
-        if self.look_often(seat, ticket) {
-            return;
-        }
         for _ in rt.forever() {
             let found = self.look(seat, ticket);
             if found == ticket {
@@ -194,17 +206,7 @@ impl<M: Machine> RawCell<M> {
         self.table
             .shared
             .store::<Release<M>>(&mut seat.seat, 1, ticket + 1);
-        self.wake_next(ticket);
-    }
-
-    // Wakes who sleeps, after the turn of the ticket. Nobody does where no later ticket was drawn:
-    // one that is drawn after this look finds the turn that came.
-    fn wake_next(&self, ticket: u64)
-        requires { ticket < 18446744073709551615 }
-    {
-        if self.table.shared.peek(0) != ticket + 1 {
-            self.table.shared.wake_all(1);
-        }
+        self.table.shared.wake_one(1);
     }
 
     pub fn call<R: Wait>(&self, rt: &R, seat: &mut RawSeat<M>, call: M::Call) -> M::Answer
