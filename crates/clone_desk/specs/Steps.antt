@@ -40,9 +40,10 @@ module _ {N L X : Type 0} (net : Net N L X) (link : Link L X) where
   Answers s (call.GiveBack place side end) (answer.HandedOut result) t = ⊥
   Answers s (call.GiveBack place side end) answer.Kept t = Keeps s place side end t
 
-  -- A STEP: the call is answered, and no record is removed or gets another name
+  -- A STEP: the call, which fits, is answered, and no record is removed or gets another name
   pub record DeskSteps (s : DeskModel N L) (c : DeskCall L) (a : DeskAnswer L)
       (t : DeskModel N L) : Type 0 where
+    pub fits : CallFits link c s
     pub does : Answers s c a t
     pub stay : StayNamed link s t
 

@@ -1,10 +1,10 @@
 -- What a hub gathers of the calls that are made by seats that were split off its own.
-use Rattle.std.specs.Prelude.{◌≡◌, List, ◌∷◌, ◌++◌, IsPermutation}
+use Rattle.std.specs.Prelude.{◌≡◌, List, ◌∷◌}
 use Rattle.clone_turn.specs.declared.view.Entry.{Entry}
-use Rattle.clone_turn.specs.Parts.{IsMadeOf, IsSublist}
-use Rattle.clone_turn.specs.Runs.{calls}
+use Rattle.clone_turn.specs.Runs.{Agree, calls}
 use Rattle.clone_turn.specs.Seats.{CellModel, SeatModel, joined_seat, left_seat, right_seat}
 use Rattle.clone_turn.specs.Shares.{ShareAll}
+use Rattle.clone_runs.specs.Shuffles.{IsShuffled}
 
 -- a cell, and a seat there
 pub record HubModel (S C A : Type 0) : Type 0 where
@@ -24,14 +24,12 @@ module _ {S C A : Type 0} where
   pub record IsTaken (h : HubModel S C A) (seat : SeatModel S C A) (g : HubModel S C A)
       : Type 0 where
     pub same : g.cell ≡ h.cell
+    pub agree : Agree h.seat.seen seat.seen
     pub joined : g.seat ≡ joined_seat h.seat seat
-    pub calls_of : IsPermutation (calls h.seat.seen ++ calls seat.seen) (calls g.seat.seen)
-    pub own : IsSublist (calls h.seat.seen) (calls g.seat.seen)
-    pub other : IsSublist (calls seat.seen) (calls g.seat.seen)
 
-  -- THE HUB GATHERS what others did meanwhile: its share is what it was, and these calls have come
-  -- to its own, those of each part in their order
+  -- THE HUB GATHERS what others did meanwhile: its share is what it was, and its calls are shuffled
+  -- from those that it had and these
   pub record Gathers (parts : List (List (Entry S C A))) (h g : HubModel S C A) : Type 0 where
     pub same : g.cell ≡ h.cell
     pub shares : (vs : List (SeatModel S C A)) → ShareAll (h.seat ∷ vs) → ShareAll (g.seat ∷ vs)
-    pub made : IsMadeOf (calls h.seat.seen ∷ parts) (calls g.seat.seen)
+    pub made : IsShuffled (calls h.seat.seen ∷ parts) (calls g.seat.seen)

@@ -5,13 +5,15 @@ ghost use Rattle.clone_turn.specs.Parts.{IsMadeOf};
 ghost use Rattle.clone_turn.specs.Runs.{IsLegalRun, calls, end_of};
 ghost use Rattle.clone_turn.specs.Seats.{CellModel, ClosesAt, SeatModel, first_seat};
 ghost use Rattle.clone_turn.specs.Worked.{Makes};
+ghost use Rattle.clone_runs.specs.Shuffles.{IsShuffled};
 ghost use Rattle.clone_hub.specs.Gathering.{Gathers, HubModel, IsLent, IsTaken};
 
+use clone_runs::shuffled_laws;
 use clone_turn::Machine;
 
 /// A hub gathers nothing while nothing is done; its own calls; what a seat did that was lent and
 /// comes back, and what was gathered meanwhile; and what it gathers first and then. Where it had the
-/// whole share at first, and closes the cell, the run is made of all that it has gathered.
+/// whole share at first, and closes the cell, the run is shuffled from all that it has gathered.
 pub fn gather_laws<M: Machine>()
     ensures none { (h : HubModel M.State M.Call M.Answer) → Gathers [] h h }
     ensures own { (h g : HubModel M.State M.Call M.Answer)
@@ -31,5 +33,13 @@ pub fn gather_laws<M: Machine>()
         → ClosesAt M.steps h.cell.first g.seat state
         → IsLegalRun M.steps h.cell.first (calls g.seat.seen)
         × (state ≡ end_of h.cell.first (calls g.seat.seen))
-        × IsMadeOf parts (calls g.seat.seen) }
+        × IsShuffled parts (calls g.seat.seen) }
+{
+    shuffled_laws::<M>();
+}
+
+/// A list that is shuffled from parts is made of them.
+pub fn made_laws<X>()
+    ensures { (parts : List (List X)) (run : List X) → IsShuffled parts run
+        → IsMadeOf parts run }
 {}

@@ -6,4 +6,4 @@ mod hub;
 mod laws;
 
 pub use hub::Hub;
-pub use laws::gather_laws;
+pub use laws::{gather_laws, made_laws};

@@ -11,7 +11,7 @@ use Rattle.clone_jobs.specs.declared.ending.Ending.TheVariants as ending
 use Rattle.clone_run.specs.declared.failure.Failure.{Failure}
 use Rattle.clone_run.specs.declared.failure.Failure.TheVariants as failure
 use Rattle.clone_run.specs.declared.outcome.Outcome.{Outcome}
-use Rattle.clone_run.specs.Outcomes.{IsGivenUp, IsUnbegun, IsUnstarted, completed, first_of, of_ending, of_fetch, of_unstarted, of_writing, rank, with_job, with_task}
+use Rattle.clone_run.specs.Outcomes.{IsUnstarted, completed, first_of, of_ending, of_fetch, of_unstarted, of_writing, rank, with_job, with_task}
 
 -- no thread could be started
 abbrev IsThread : Option Failure → Type 0
@@ -197,6 +197,3 @@ Holds false = ⊥
 
 pub never : (b : Bool) → b ≡ false → b ≡ true → ⊥
 never b part whole = subst Holds part (subst Holds (sym whole) tt)
-
-pub given_up_as : (o : Outcome) (why : Failure) → o ≡ of_unstarted why → IsUnbegun (Some why) → IsGivenUp o
-given_up_as o why is begins = subst IsGivenUp (sym is) (record { part = refl; why = begins })

@@ -5,7 +5,7 @@ use Rattle.clone_outside.specs.declared.link.Link.{Ghosts as Link}
 use Rattle.clone_turn.specs.declared.view.Entry.{Entry}
 use Rattle.clone_turn.specs.Seats.{CellModel, IsOf, MakesCall, SeatModel}
 use Rattle.clone_turn.specs.Worked.{Makes, Worked}
-use Rattle.clone_turn.proofs.WorkedLemmas.{makes_more, makes_of, makes_one}
+use Rattle.clone_turn.proofs.WorkedLemmas.{makes_more, makes_of, makes_one, right_none}
 use Rattle.clone_machine.specs.Running.{JobEntry}
 use Rattle.clone_machine.specs.Sharing.{SharedDonor, Steps}
 use Rattle.clone_machine.specs.declared.calls.JobAnswer.{JobAnswer}
@@ -204,6 +204,7 @@ module _ {N L X R : Type 0} (link : Link L X) where
           seat = seat;
           desk_old = desk;
           desk_new = desk_end;
+          fresh = right_none s.desk.seat desk lent.desk.seat_is;
           watch_old = watch;
           watch_new = watch_end;
           does = did;

@@ -1,6 +1,7 @@
 -- What the jobs of a run have done, job by job.
 use Rattle.std.specs.Prelude.{ℕ, zero, suc, ◌≡◌, ◌+◌, ◌-◌, List, [], ◌∷◌, ◌++◌, None}
 use Rattle.clone_outside.specs.declared.link.Link.{Ghosts as Link}
+use Rattle.clone_turn.specs.Runs.{calls}
 use Rattle.clone_turn.specs.Worked.{Makes}
 use Rattle.clone_machine.specs.Running.{JobEntry}
 use Rattle.clone_machine.specs.declared.calls.JobAnswer.TheVariants as job_answer
@@ -40,6 +41,8 @@ module _ {N L X R : Type 0} (link : Link L X) where
     pub seat : RecipientSeat R
     pub desk_old : DeskSeat N L
     pub desk_new : DeskSeat N L
+    -- it had made no call there before
+    pub fresh : calls desk_old.seen ≡ []
     pub watch_old : JobSeat
     pub watch_new : JobSeat
     pub does : FetchesTask link fetcher seat desk_old desk_new watch_old watch_new end

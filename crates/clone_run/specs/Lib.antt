@@ -5,5 +5,6 @@ pub mod Teams
 pub mod Lending
 pub mod Done
 pub mod Tables
+pub mod Beginning
 pub mod Ran
 pub mod Closing

@@ -94,16 +94,3 @@ with_job o failure = record o { failure = first_of o.failure failure }
 abbrev pub with_task : Outcome → FetchEnd → Outcome
 with_task o end =
     record o { cloned = completed end; failure = first_of o.failure (of_fetch end) }
-
--- a disk failed, the recipient's was not empty, or there was no memory
-abbrev pub IsUnbegun : Option Failure → Type 0
-IsUnbegun (Some failure.Memory) = ⊤
-IsUnbegun (Some failure.DonorDisk) = ⊤
-IsUnbegun (Some failure.RecipientDisk) = ⊤
-IsUnbegun (Some failure.NotEmpty) = ⊤
-IsUnbegun other = ⊥
-
--- no job was started
-pub record IsGivenUp (o : Outcome) : Type 0 where
-  pub part : o.whole ≡ false
-  pub why : IsUnbegun o.failure

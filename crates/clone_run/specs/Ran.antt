@@ -9,8 +9,8 @@ use Rattle.clone_outside.specs.declared.link.Link.{Ghosts as Link}
 use Rattle.clone_outside.specs.declared.link.Net.{Ghosts as Net}
 use Rattle.clone_outside.specs.declared.mark.Mark.TheVariants.{InProgress}
 use Rattle.clone_turn.specs.declared.view.Entry.{Entry}
-use Rattle.clone_turn.specs.Parts.{IsMadeOf}
 use Rattle.clone_turn.specs.Runs.{IsLegalRun, end_of}
+use Rattle.clone_runs.specs.Shuffles.{IsShuffled}
 use Rattle.clone_lay.specs.Marked.{marked}
 use Rattle.clone_recipient.specs.Receptions.{begun}
 use Rattle.clone_calls.specs.declared.answer.DonorAnswer.{DonorAnswer}
@@ -29,13 +29,13 @@ use Rattle.clone_run.specs.Done.{AreDone, served_from}
 use Rattle.clone_run.specs.Tables.{SetsUp}
 use Rattle.clone_run.specs.Teams.{Parts}
 
--- ONE LEGAL RUN, from the first state to the last, made of these parts
+-- ONE LEGAL RUN, from the first state to the last, shuffled from these parts
 pub record IsRun {S C A : Type 0} (steps : S → C → A → S → Type 0) (first : S)
     (parts : List (List (Entry S C A))) (last : S) : Type 0 where
   pub run : List (Entry S C A)
   pub legal : IsLegalRun steps first run
   pub end : last ≡ end_of first run
-  pub made : IsMadeOf parts run
+  pub made : IsShuffled parts run
 
 -- a donor, a recipient and a desk
 pub record Shared (N L R : Type 0) : Type 0 where
@@ -59,9 +59,15 @@ module _ {N L X R : Type 0} (net : Net N L X) (link : Link L X) (state : R → D
     pub recipient : IsRun (RecipientSteps state) s.recipient parts.recipient t.recipient
     pub desk : IsRun (DeskSteps net link) s.desk parts.desk t.desk
 
+  -- the net is the given one, and cuts as many connections as it is asked to
+  pub record Plans (cuts : ℕ) (given n : N) : Type 0 where
+    pub planned : net.planned n ≡ cuts
+    pub unsettled : net.unsettled n ≡ net.unsettled given
+    pub failures : net.failures n ≡ net.failures given
+
   -- THEY BEGAN with a donor that has its tables, a recipient whose copy is in progress on a disk
-  -- that was empty, and a desk without connections.
-  pub record Begin (session version : ℕ) (load : Load) (d : Donor) (disk : DiskState)
+  -- that was empty, and a desk without connections over the net.
+  pub record Begin (session version : ℕ) (load : Load) (d : Donor) (disk : DiskState) (given : N)
       (s : Shared N L R) : Type 0 where
     pub tables : SetsUp d s.donor.donor
     pub goes_on : s.donor.halted ≡ false
@@ -69,8 +75,10 @@ module _ {N L X R : Type 0} (net : Net N L X) (link : Link L X) (state : R → D
     pub begun : s.recipient.reception ≡ begun session load.tasks load.limit version
     pub in_progress : Follows disk.told (state s.recipient.disk).told
         (marked (InProgress session))
+    pub later : disk.failures ≤ (state s.recipient.disk).failures
     pub stands : s.recipient.given_up ≡ false
     pub none : s.desk.records ≡ []
+    pub plans : Plans load.cuts given s.desk.net
 
   -- WHAT IS LEFT: the donor, whose session was given up if one stood, the recipient's disk, and the
   -- net, in which the connections were settled.

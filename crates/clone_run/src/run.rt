@@ -4,7 +4,8 @@ ghost use Rattle.clone_outside.specs.Causes.{Rose};
 ghost use Rattle.clone_run.specs.Loads.{IsLoad};
 ghost use Rattle.clone_run.specs.Ran.{Begin, GivenUp, HaveRun, Leave, Shared};
 ghost use Rattle.clone_run.specs.Closing.{Closes, IsAssembled};
-ghost use Rattle.clone_run.specs.Outcomes.{IsGivenUp, IsUnbegun, IsUnstarted, of_unstarted};
+ghost use Rattle.clone_run.specs.Beginning.{IsGivenUp, Unbegun, of_cause};
+ghost use Rattle.clone_run.specs.Outcomes.{IsUnstarted, of_unstarted};
 ghost use Rattle.clone_run.specs.declared.failure.Failure.TheVariants as failure;
 ghost use Rattle.clone_run.specs.declared.run.TheConstants.{SESSION, VERSION};
 
@@ -67,13 +68,15 @@ pub fn clone_under_load<
     requires { IsLoad load }
     ensures ran { result.outcome.whole ≡ true → (s : Shared _ _ _) × (t : Shared _ _ _)
         × Begin ⟦<RunNet<H> as Net>⟧ ⟦<RunLink<H> as Link>⟧ ⟦<RunDisk as PageDisk>⟧.state
-        SESSION VERSION load donor (⟦<RunDisk as PageDisk>⟧.state recipient) s
+        SESSION VERSION load donor (⟦<RunDisk as PageDisk>⟧.state recipient) net s
         × HaveRun ⟦<RunNet<H> as Net>⟧ ⟦<RunLink<H> as Link>⟧ ⟦<RunDisk as PageDisk>⟧.state
         load result.outcome s t
         × Leave ⟦<RunNet<H> as Net>⟧ ⟦<RunLink<H> as Link>⟧ ⟦<RunDisk as PageDisk>⟧.state
         t result.donor result.recipient result.net }
     ensures unstarted { result.outcome.whole ≡ false
-        → IsUnstarted result.outcome.failure ⊎ IsUnbegun result.outcome.failure }
+        → IsUnstarted result.outcome.failure
+        ⊎ Unbegun result.outcome.failure donor result.donor
+        (⟦<RunDisk as PageDisk>⟧.state recipient) (⟦<RunDisk as PageDisk>⟧.state result.recipient) }
     ensures cloned { result.outcome.failure ≡ None → IsSome result.outcome.cloned }
     ensures thread { result.outcome.failure ≡ Some failure.Thread → Rose crew.old crew.new }
     ensures count { crew.old ≤ crew.new }
@@ -108,9 +111,10 @@ where
     requires { IsLoad load }
     ensures begun { IfOk result (λ team. (s : Shared N N.End R)
         × Begin N.Net N.End.Link R.state SESSION VERSION load donor
-        (R.state recipient) s
+        (R.state recipient) net s
         × IsAssembled load s team) }
-    ensures unbegun { IfErr result (λ end. IsGivenUp end.outcome) }
+    ensures unbegun { IfErr result (λ end. IsGivenUp end.outcome donor end.donor
+        (R.state recipient) (R.state end.recipient)) }
 {
     let mut donor = donor;
     let mut recipient = recipient;
@@ -136,7 +140,7 @@ where
 }
 
 fn unbegun(cause: BeginCause) -> Failure
-    ensures { IsUnbegun (Some result) }
+    ensures { result ≡ of_cause cause }
 {
     match cause {
         BeginCause::NotEmpty => Failure::NotEmpty,
@@ -169,7 +173,7 @@ where
           recipient = recipient;
           desk = record { net = net; records = [] };
         }) team) }
-    ensures unbegun { IfErr result (λ end. IsGivenUp end.outcome) }
+    ensures unbegun { IfErr result (λ end. end.outcome ≡ of_unstarted failure.Memory) }
 {
     let donor = match Hub::<DonorMachine<D>>::new(&rt, alloc, SharedDonor::new(alloc, donor)) {
         Ok(donor) => donor,
@@ -256,7 +260,9 @@ fn given_up<D: PageDisk, R: PageDisk, N>(
     recipient: R,
     net: N,
 ) -> RunEnd<D, R, N>
-    ensures { result.outcome ≡ of_unstarted failure }
+    ensures outcome { result.outcome ≡ of_unstarted failure }
+    ensures donor { result.donor ≡ donor }
+    ensures recipient { result.recipient ≡ recipient }
 {
     RunEnd {
         outcome: Outcome::of_unstarted(failure),

@@ -1,7 +1,7 @@
 //! The tables of a workload, which are made before anything is written.
-ghost use Rattle.std.specs.Prelude.{◌≤◌, Some, IfErr, IfSome};
+ghost use Rattle.std.specs.Prelude.{◌≡◌, ◌≤◌, ◌⊎◌, Some, IfErr, IfSome};
 ghost use Rattle.clone_base.specs.declared.limits.TheConstants.{TABLE_LIMIT};
-ghost use Rattle.clone_run.specs.Outcomes.{IsUnbegun};
+ghost use Rattle.clone_run.specs.Beginning.{IsRefused, StopsSetup, of_refusal};
 ghost use Rattle.clone_run.specs.Tables.{SetsUp};
 
 use crate::failure::Failure;
@@ -20,7 +20,7 @@ pub(crate) fn make_tables<D: PageDisk, H: Wait>(
 ) -> Result<(), Failure>
     requires { tables ≤ TABLE_LIMIT }
     ensures sets_up { SetsUp donor.old donor.new }
-    ensures why { IfErr result (λ failure. IsUnbegun (Some failure)) }
+    ensures why { IfErr result (λ failure. StopsSetup failure donor.old donor.new) }
 {
     for number in 1..=tables {
         let Some(table) = TableNumber::new(number) else {
@@ -39,7 +39,7 @@ fn make_table<D: PageDisk, H: Wait>(
     buckets: BucketCount,
 ) -> Result<(), Failure>
     ensures sets_up { SetsUp donor.old donor.new }
-    ensures why { IfErr result (λ failure. IsUnbegun (Some failure)) }
+    ensures why { IfErr result (λ failure. StopsSetup failure donor.old donor.new) }
 {
     for _ in rt.forever() {
         if let Some(made) = try_table(donor, table, buckets) {
@@ -56,21 +56,37 @@ fn try_table<D: PageDisk>(
     buckets: BucketCount,
 ) -> Option<Result<(), Failure>>
     ensures sets_up { SetsUp donor.old donor.new }
-    ensures why { IfSome result (λ made. IfErr made (λ failure. IsUnbegun (Some failure))) }
+    ensures why { IfSome result (λ made. IfErr made (λ failure.
+        StopsSetup failure donor.old donor.new)) }
 {
     match donor.create(table, buckets) {
-        Ok(()) | Err(EngineRefusal::Because(Cause::TableExists)) => Some(Ok(())),
-        Err(refusal) => match make_room(donor, refusal) {
-            Ok(()) => None,
-            Err(failure) => Some(Err(failure)),
-        },
+        Ok(()) => Some(Ok(())),
+        Err(refusal) => {
+            if is_there(&refusal) {
+                return Some(Ok(()));
+            }
+            match make_room(donor, refusal) {
+                Ok(()) => None,
+                Err(failure) => Some(Err(failure)),
+            }
+        }
     }
 }
 
-/// Flushes the page that has waited the longest, and takes a checkpoint.
+/// Whether a table isn't made since it is there.
+fn is_there(refusal: &EngineRefusal) -> bool {
+    match refusal {
+        EngineRefusal::Because(Cause::TableExists) => true,
+        _ => false,
+    }
+}
+
+/// Flushes the page that has waited the longest, and takes a checkpoint. The error is the failure
+/// that the refusal was, or that of a call.
 fn make_room<D: PageDisk>(donor: &mut Donor<D>, refusal: EngineRefusal) -> Result<(), Failure>
     ensures sets_up { SetsUp donor.old donor.new }
-    ensures why { IfErr result (λ failure. IsUnbegun (Some failure)) }
+    ensures why { IfErr result (λ failure. StopsSetup failure donor.old donor.new
+        ⊎ ((of_refusal refusal ≡ Some failure) × (donor.new ≡ donor.old))) }
 {
     if let Some(failure) = failure_of(refusal) {
         return Err(failure);
@@ -87,7 +103,7 @@ fn make_room<D: PageDisk>(donor: &mut Donor<D>, refusal: EngineRefusal) -> Resul
 /// Flushes a page, as far as that isn't refused. The answer is a failure.
 fn flush_page<D: PageDisk>(donor: &mut Donor<D>, space: u32, page: u32) -> Option<Failure>
     ensures sets_up { SetsUp donor.old donor.new }
-    ensures why { IfSome result (λ failure. IsUnbegun (Some failure)) }
+    ensures why { IfSome result (λ failure. StopsSetup failure donor.old donor.new) }
 {
     match flush(donor, space, page) {
         Ok(()) => None,
@@ -96,7 +112,8 @@ fn flush_page<D: PageDisk>(donor: &mut Donor<D>, space: u32, page: u32) -> Optio
 }
 
 fn flush<D: PageDisk>(donor: &mut Donor<D>, space: u32, page: u32) -> Result<(), EngineRefusal>
-    ensures { SetsUp donor.old donor.new }
+    ensures sets_up { SetsUp donor.old donor.new }
+    ensures refused { IfErr result (λ why. IsRefused why donor.old donor.new) }
 {
     donor.flush_begin(space, page)?;
     donor.flush_half(space, page)?;
@@ -104,7 +121,7 @@ fn flush<D: PageDisk>(donor: &mut Donor<D>, space: u32, page: u32) -> Result<(),
 }
 
 fn failure_of(refusal: EngineRefusal) -> Option<Failure>
-    ensures { IfSome result (λ failure. IsUnbegun (Some failure)) }
+    ensures { result ≡ of_refusal refusal }
 {
     match refusal {
         EngineRefusal::Because(Cause::DiskFault) => Some(Failure::DonorDisk),

@@ -1,4 +1,4 @@
-use Rattle.std.proofs.Common.{◌≡◌, subst}
+use Rattle.std.proofs.Common.{subst}
 use Rattle.std.specs.Arc.{arc_value}
 use Rattle.clone_turn.specs.Seats.{CellModel, MakesCall}
 use Rattle.clone_hub.specs.Gathering.{HubModel}
