@@ -1,0 +1,6 @@
+mod MarkLemmas
+mod EventLemmas
+mod PassedLemmas
+mod LentLemmas
+mod AsideLemmas
+mod TaskLemmas

@@ -1,0 +1,5 @@
+pub mod HeardLemmas
+pub mod TakenLemmas
+pub mod CourseLemmas
+pub mod RunLemmas
+pub mod HeldLemmas

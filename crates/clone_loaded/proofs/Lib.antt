@@ -1,0 +1,12 @@
+mod StepLemmas
+mod PartLemmas
+mod NumberLemmas
+mod HeardLemmas
+mod CollectLemmas
+mod TaskLemmas
+mod PhaseLemmas
+mod TraceLemmas
+mod ComposedLemmas
+mod DeskLemmas
+mod LeftLemmas
+mod KeptLemmas

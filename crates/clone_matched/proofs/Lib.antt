@@ -1,0 +1,10 @@
+mod TotalLemmas
+mod HasLemmas
+mod PlaceLemmas
+mod ChangeLemmas
+mod StepLemmas
+mod OnceLemmas
+mod LentLemmas
+mod PartLemmas
+mod MateLemmas
+mod MatchedLemmas

@@ -1,0 +1,10 @@
+mod FrameLemmas
+mod PieceLemmas
+mod RuleLemmas
+mod StepLemmas
+mod FloorStepLemmas
+mod CallLemmas
+mod KeepingLemmas
+mod OtherLemmas
+mod FloorLemmas
+mod TakingLemmas

@@ -1,0 +1,9 @@
+pub mod MoveLemmas
+pub mod SetUpLemmas
+pub mod ServedLemmas
+pub mod AsideLemmas
+pub mod NumberLemmas
+pub mod ProgressLemmas
+pub mod PartLemmas
+pub mod CommitLemmas
+pub mod FrontLemmas
