@@ -1,5 +1,5 @@
 -- What comes of a clone under load, by what its jobs and recovery answered.
-use Rattle.std.proofs.Common.{◌≡◌, ◌⊎◌, ℕ, List, [], Bool, true, false, refl, sym, ap, ◌∙◌, subst, Option, Some, None, IsSome, String, string_bytes, Result, Ok, Err, codes}
+use Rattle.std.proofs.Common.{◌≡◌, ◌⊎◌, ℕ, List, [], Bool, true, false, refl, sym, ap, ◌∙◌, subst, Option, Some, None, String, string_bytes, Result, Ok, Err, codes}
 use Rattle.std.specs.declared.alloc.Global.{Global}
 use Rattle.clone_outside.specs.Causes.{Rose}
 use Rattle.clone_outside.specs.Disk.{DiskImage}
@@ -27,8 +27,6 @@ use Rattle.clone_run.specs.declared.load.Load.{Load}
 use Rattle.clone_run.specs.declared.run.TheConstants.{SESSION, VERSION}
 use Rattle.clone_run.specs.declared.outcome.Cloned.{Cloned}
 use Rattle.clone_run.specs.declared.outcome.Outcome.{Outcome}
-use Rattle.clone_written.specs.Commits.{HasAllCommits, HasCommits}
-use Rattle.clone_loaded.specs.Loaded.{AreCounted, IsMoment, TellsAll}
 use Rattle.clone_words.specs.declared.command.Run.{Run}
 use Rattle.clone_top.specs.Causes.{IsAlone, Looks}
 use Rattle.clone_top.specs.Ends.{AreEmpty, Disks, Ends, Means, Streams}
@@ -78,23 +76,14 @@ module _ {N L X R : Type 0} (net : Net N L X) (link : Link L X) (state : R → D
       let Q : Status → Type 0 = λ s. SaysUnready why s old.out new.out in
       unopened_for why alone same_means (subst P (sym same) unready) (subst Q (sym is) says)
 
-  -- what is known of a run by what it began with, what its jobs did and what it left
-  abbrev Known : Load → Outcome → Donor → DiskState → Donor → R → Type 0
-  Known load o opened looked donor_left disk_left =
-      (s t : Shared N L R) → Begin net link state SESSION VERSION load opened looked means.net s → HaveRun net link state load o s t → Leave net link state t donor_left disk_left left.net
-      → HasCommits load donor_left.engine.donor × (o.failure ≡ None → HasAllCommits load donor_left.engine.donor)
-      × (TellsAll net link state t → IsSome opened.engine.disk.told → (cl : Cloned) → o.cloned ≡ Some cl → IsMoment SESSION cl donor_left (state disk_left).told)
-      × AreCounted net link state o opened donor_left looked (state disk_left) means.net left.net
-
   -- a donor was opened, and cloned under load
   pub loaded : (opened : Donor) (looked : DiskState) (o : Outcome) (donor_left : Donor) (disk_left : R) (load : Load) (config : Config) (commits : List Commit) (due : Status) (after : DiskState)
       → AreEmpty given → IsNewDonor config opened → config ≡ config_of run → Visits given.donor opened.engine.disk → Looks given.recipient looked
       → load ≡ load_of run → (o.whole ≡ true → (s : Shared N L R) × (t : Shared N L R) × Begin net link state SESSION VERSION load opened looked means.net s × HaveRun net link state load o s t × Leave net link state t donor_left disk_left left.net)
-      → Known load o opened looked donor_left disk_left
       → (o.whole ≡ false → IsUnstarted o.failure ⊎ Unbegun o.failure opened donor_left looked (state disk_left)) → (o.failure ≡ Some failure.Thread → Rose means.crew left.crew)
       → Concludes run o commits due old new (state disk_left) after → commits ≡ donor_left.engine.donor.binlog → status ≡ due → back.disks.recipient ≡ after
       → back.disks.donor ≡ donor_left.engine.disk → back.drops ≡ [] → back.stop ≡ None → LoadOutcome net link state run status old new given back means left
-  loaded opened looked o donor_left disk_left load config commits due after empty fresh sizes donor looks asked ran known unstarted crew concludes log is back_recipient back_donor drops stop =
+  loaded opened looked o donor_left disk_left load config commits due after empty fresh sizes donor looks asked ran unstarted crew concludes log is back_recipient back_donor drops stop =
       let P : List Commit → Type 0 = λ l. Concludes run o l due old new (state disk_left) after in
       let Q : Status → Type 0 = λ s. Concludes run o donor_left.engine.donor.binlog s old new (state disk_left) after in
       let V : DiskState → Type 0 = λ d. Concludes run o donor_left.engine.donor.binlog status old new (state disk_left) d in
@@ -110,17 +99,12 @@ module _ {N L X R : Type 0} (net : Net N L X) (link : Link L X) (state : R → D
         disk_left = disk_left;
         ran = λ whole. subst (λ (l : Load). RanJobs net link state l o opened looked means.net donor_left disk_left left.net) asked
             (let jobs = ran whole in
-            let more = known jobs.0 jobs.1 jobs.2 jobs.3 jobs.4 in
             record {
               first = jobs.0;
               last = jobs.1;
               begun = jobs.2;
               ran = jobs.3;
               leaves = jobs.4;
-              commits = more.0;
-              all = more.1;
-              moment = more.2;
-              counted = more.3;
             });
         unstarted = unstarted;
         crew = crew;
