@@ -3,6 +3,8 @@ use Rattle.std.proofs.Common.{ℕ, ◌≤◌, arith, inl, inr, ◌≡◌, ◌⊎
 use Rattle.std.specs.Prelude.{⊤}
 use Rattle.std.specs.declared.option.Option.{Option}
 use Rattle.clone_outside.specs.Causes.{Rose}
+use Rattle.clone_outside.specs.DiskCalls.{DiskState}
+use Rattle.clone_engine.specs.Donor.{Donor}
 use Rattle.clone_copying.specs.declared.fetch_end.FetchEnd.{FetchEnd}
 use Rattle.clone_copying.specs.declared.fetch_end.FetchEnd.TheVariants as fetch
 use Rattle.clone_fetching.specs.declared.clone_ended.CloneEnded.TheVariants as ended
@@ -11,6 +13,7 @@ use Rattle.clone_jobs.specs.declared.ending.Ending.TheVariants as ending
 use Rattle.clone_run.specs.declared.failure.Failure.{Failure}
 use Rattle.clone_run.specs.declared.failure.Failure.TheVariants as failure
 use Rattle.clone_run.specs.declared.outcome.Outcome.{Outcome}
+use Rattle.clone_run.specs.Beginning.{Unbegun}
 use Rattle.clone_run.specs.Outcomes.{IsUnstarted, completed, first_of, of_ending, of_fetch, of_unstarted, of_writing, rank, with_job, with_task}
 
 -- no thread could be started
@@ -197,3 +200,10 @@ Holds false = ⊥
 
 pub never : (b : Bool) → b ≡ false → b ≡ true → ⊥
 never b part whole = subst Holds part (subst Holds (sym whole) tt)
+
+-- what isn't begun fails, and for no want of a thread
+pub not_without : (f : Option Failure) (d t : Donor) (old new : DiskState) → Unbegun f d t old new → f ≡ None → ⊥
+not_without f d t old new why none = subst (λ x. Unbegun x d t old new) none why
+
+pub not_thread : (f : Option Failure) (d t : Donor) (old new : DiskState) → Unbegun f d t old new → f ≡ Some failure.Thread → ⊥
+not_thread f d t old new why thread = subst (λ x. Unbegun x d t old new) thread why

@@ -2,10 +2,9 @@ use denote.Exit as Exit
 use denote.Param.Send.{arg_send, copied_send, param_send}
 use Rattle.std.proofs.Common.{◌∙◌, IsSome, ap, arith, inl, inr, subst, sym}
 use Rattle.clone_run.specs.declared.outcome.Outcome.{Outcome}
-use Rattle.clone_run.specs.Beginning.{Unbegun}
 use Rattle.clone_run.specs.Outcomes.{IsUnstarted}
 use Rattle.clone_run.proofs.KindLemmas.{link_goes, net_goes}
-use Rattle.clone_run.proofs.OutcomeLemmas.{never}
+use Rattle.clone_run.proofs.OutcomeLemmas.{never, not_thread, not_without}
 use Rattle.clone_run.proofs.RunLemmas.{ran_all}
 use Rattle.clone_run.proofs.run.clone_under_load.Goals as goal
 
@@ -27,8 +26,8 @@ returns-in-Err g c =
     record {
       ran = λ whole. absurd (never _ given.part whole);
       unstarted = λ part. inr given.why;
-      cloned = λ none. absurd (subst (λ f. Unbegun f _ _ _ _) none given.why);
-      thread = λ thread. absurd (subst (λ f. Unbegun f _ _ _ _) thread given.why);
+      cloned = λ none. absurd (not_without _ _ _ _ _ given.why none);
+      thread = λ thread. absurd (not_thread _ _ _ _ _ given.why thread);
       count = omega arith;
     }
 
