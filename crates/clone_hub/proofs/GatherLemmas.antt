@@ -10,8 +10,7 @@ use Rattle.clone_turn.proofs.JoinedSeatLemmas.{joined_run}
 use Rattle.clone_turn.proofs.SeatShareLemmas.{first_shares, joined_shares, split_shares, worked_shares}
 use Rattle.clone_turn.proofs.WorkedLemmas.{first_none, left_calls, makes_calls, makes_none, new_calls, right_none}
 use Rattle.clone_runs.specs.Shuffles.{IsShuffled}
-use Rattle.clone_turn.specs.Joined.{Joins, parts_of}
-use Rattle.clone_hub.proofs.ShuffleLemmas.{in_order, spliced, whole, without_none}
+use Rattle.clone_hub.proofs.ShuffleLemmas.{in_order, joined_shuffled, spliced, whole, without_none}
 use Rattle.clone_hub.specs.Gathering.{Gathers, HubModel, IsLent, IsTaken}
 
 module _ {S C A : Type 0} where
@@ -37,8 +36,8 @@ module _ {S C A : Type 0} where
   }
 
   pub gathers_one : (h g k t : HubModel S C A) (c : CellModel S) (r e : SeatModel S C A) (parts : List (List (Entry S C A))) (made : List (Entry S C A)) → IsLent h c r g → Gathers parts g k → Makes r made e
-      → IsTaken k e t → (Joins k.seat (e ∷ []) t.seat → IsShuffled (parts_of (k.seat ∷ e ∷ [])) (calls t.seat.seen)) → Gathers (parts ++ made ∷ []) h t
-  gathers_one h g k t c r e parts made lent meanwhile makes taken joined =
+      → IsTaken k e t → Gathers (parts ++ made ∷ []) h t
+  gathers_one h g k t c r e parts made lent meanwhile makes taken =
       let own : calls g.seat.seen ≡ calls h.seat.seen = left_calls h.seat g.seat lent.left in
       let other : calls e.seen ≡ made = new_calls r e made (right_none h.seat r lent.seat_is) makes in
       record {
@@ -50,7 +49,7 @@ module _ {S C A : Type 0} where
         made = spliced (calls h.seat.seen ∷ parts) (made ∷ []) (calls k.seat.seen) (calls t.seat.seen)
             (subst (λ es. IsShuffled (es ∷ parts) (calls k.seat.seen)) own meanwhile.made)
             (subst (λ es. IsShuffled (calls k.seat.seen ∷ es ∷ []) (calls t.seat.seen)) other
-            (joined (t.seat, taken.agree, taken.joined, refl)));
+            (joined_shuffled k.seat e t.seat taken.agree taken.joined));
       }
 
   pub gathered_run : (steps : S → C → A → S → Type 0) (h g : HubModel S C A) (parts : List (List (Entry S C A))) (state : S) → h.seat ≡ first_seat h.cell → Gathers parts h g

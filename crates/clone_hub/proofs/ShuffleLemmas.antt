@@ -1,9 +1,12 @@
 -- Lists that are shuffled from parts.
-use Rattle.std.proofs.Common.{set, ◌≡◌, zero, suc, ℕ, List, [], ◌∷◌, ◌++◌, Some, refl, sym, ap, ◌∙◌, subst, inl}
+use Rattle.std.proofs.Common.{set, ◌≡◌, zero, suc, ℕ, List, [], ◌∷◌, ◌++◌, Some, refl, sym, ap, ◌∙◌, subst, inl, ◌⊎◌, ◌<◌, ◌+◌, ◌||◌, Bool, true, false, cond, inr, arith}
 use Rattle.std.specs.List.{AllByRecursion, slice_get}
 use Rattle.std.specs.List.Sorted.{IsPermutation}
 use Rattle.std.proofs.lemmas.List.Sorted.{IsPermutation-refl, IsPermutation-trans, IsPermutation-append_right, IsPermutation-cons, IsPermutation-middle}
 use Rattle.std.proofs.lemmas.Option.{same_Some}
+use Rattle.clone_turn.specs.declared.view.Entry.{Entry}
+use Rattle.clone_turn.specs.Runs.{Agree, calls, meld}
+use Rattle.clone_turn.specs.Seats.{SeatModel, joined_seat}
 use Rattle.clone_turn.specs.Parts.{IsMadeOf, IsSublist, all_of}
 use Rattle.clone_turn.proofs.SublistLemmas.{sublist_more}
 use Rattle.clone_runs.specs.Shuffles.{IsShuffled}
@@ -111,3 +114,39 @@ module _ {X : Type 0} where
 
   pub made_of : (parts : List (List X)) (run : List X) → IsShuffled parts run → IsMadeOf parts run
   made_of parts run shuffled = record { once = once_in parts run shuffled; order = order_in parts run shuffled }
+
+-- ---- two seats that are joined
+
+-- shuffled from two lists
+abbrev Two : {X : Type 0} → List X → List X → List X → Type 0
+Two xs ys [] = (xs ≡ []) × (ys ≡ [])
+Two xs ys (z ∷ zs) = ((rest : List _) × (xs ≡ z ∷ rest) × Two rest ys zs) ⊎ ((rest : List _) × (ys ≡ z ∷ rest) × Two xs rest zs)
+
+module _ {X : Type 0} where
+  of_left : (xs : List X) → Two xs [] xs
+  of_left [] = (refl, refl)
+  of_left (x ∷ xs) = inl (xs, refl, of_left xs)
+
+  of_right : (ys : List X) → Two [] ys ys
+  of_right [] = (refl, refl)
+  of_right (y ∷ ys) = inr (ys, refl, of_right ys)
+
+  two_shuffled : (xs ys zs : List X) → Two xs ys zs → IsShuffled (xs ∷ ys ∷ []) zs
+  two_shuffled xs ys [] two = (two.0, (two.1, tt))
+  two_shuffled xs ys (z ∷ zs) (inl two) = (0, two.0, ap Some two.1, two_shuffled two.0 ys zs two.2)
+  two_shuffled xs ys (z ∷ zs) (inr two) = (1, two.0, ap Some two.1, two_shuffled xs two.0 zs two.2)
+
+module _ {S C A : Type 0} where
+  melded : (xs ys : List (Entry S C A × Bool)) → Agree xs ys → Two (calls xs) (calls ys) (calls (meld xs ys))
+  melded [] ys agree = of_right (calls ys)
+  melded (x ∷ xs) [] agree = of_left (calls (x ∷ xs))
+  melded (x ∷ xs) (y ∷ ys) agree = by x.1 y.1 agree.1 (melded xs ys agree.2)
+    where
+      by : (b c : Bool) → cond b 1 0 + cond c 1 0 < 2 → Two (calls xs) (calls ys) (calls (meld xs ys)) → Two (cond b (x.0 ∷ calls xs) (calls xs)) (cond c (y.0 ∷ calls ys) (calls ys)) (cond (b || c) (x.0 ∷ calls (meld xs ys)) (calls (meld xs ys)))
+      by false false few two = two
+      by true false few two = inl (calls xs, refl, two)
+      by false true few two = inr (calls ys, ap (λ e. e ∷ calls ys) (sym agree.0), two)
+      by true true few two = absurd (omega (arith, few))
+
+  pub joined_shuffled : (v w u : SeatModel S C A) → Agree v.seen w.seen → u ≡ joined_seat v w → IsShuffled (calls v.seen ∷ calls w.seen ∷ []) (calls u.seen)
+  joined_shuffled v w u agree is = subst (λ (x : SeatModel S C A). IsShuffled (calls v.seen ∷ calls w.seen ∷ []) (calls x.seen)) (sym is) (two_shuffled (calls v.seen) (calls w.seen) (calls (meld v.seen w.seen)) (melded v.seen w.seen agree))

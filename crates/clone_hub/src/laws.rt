@@ -8,7 +8,6 @@ ghost use Rattle.clone_turn.specs.Worked.{Makes};
 ghost use Rattle.clone_runs.specs.Shuffles.{IsShuffled};
 ghost use Rattle.clone_hub.specs.Gathering.{Gathers, HubModel, IsLent, IsTaken};
 
-use clone_runs::shuffled_laws;
 use clone_turn::Machine;
 
 /// A hub gathers nothing while nothing is done; its own calls; what a seat did that was lent and
@@ -34,9 +33,7 @@ pub fn gather_laws<M: Machine>()
         → IsLegalRun M.steps h.cell.first (calls g.seat.seen)
         × (state ≡ end_of h.cell.first (calls g.seat.seen))
         × IsShuffled parts (calls g.seat.seen) }
-{
-    shuffled_laws::<M>();
-}
+{}
 
 /// A list that is shuffled from parts is made of them.
 pub fn made_laws<X>()

@@ -1,4 +1,3 @@
-use Rattle.std.proofs.Common.{[], ◌∷◌}
 use Rattle.clone_hub.proofs.GatherLemmas.{gathered_run, gathers_more, gathers_none, gathers_one, gathers_own}
 use Rattle.clone_hub.proofs.laws.gather_laws.Goals as goal
 
@@ -9,7 +8,7 @@ pub returns-clause-own : goal.returns-clause-own
 returns-clause-own g c = λ h k made same makes. gathers_own h k made same makes
 
 pub returns-clause-one : goal.returns-clause-one
-returns-clause-one g c = λ h j k t cell r e parts made lent meanwhile makes taken. gathers_one h j k t cell r e parts made lent meanwhile makes taken (λ joins. c.shuffled_laws.ensures k.seat t.seat (e ∷ []) joins)
+returns-clause-one g c = λ h j k t cell r e parts made lent meanwhile makes taken. gathers_one h j k t cell r e parts made lent meanwhile makes taken
 
 pub returns-clause-more : goal.returns-clause-more
 returns-clause-more g c = λ h j k xs ys a b. gathers_more h j k xs ys a b
