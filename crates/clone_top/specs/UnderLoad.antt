@@ -1,17 +1,19 @@
 -- A CLONE UNDER LOAD: what `run` does with its disks, its net and its crew, and what it says of that.
-use Rattle.std.specs.Prelude.{ℕ, ◌≡◌, ◌⊎◌, ◌++◌, Bool, true, false, List, [], None, Some, Vec, codes}
+use Rattle.std.specs.Prelude.{ℕ, ◌≡◌, ◌⊎◌, ◌++◌, Bool, true, false, List, [], None, Some, IsSome, Vec, codes, take}
 use Rattle.std.specs.declared.alloc.Global.{Global}
 use Rattle.std.specs.declared.option.Option.{Option}
 use Rattle.clone_outside.specs.Bytes.{appended, TakesSome}
 use Rattle.clone_outside.specs.Causes.{Rose}
+use Rattle.clone_outside.specs.Disk.{DiskImage}
 use Rattle.clone_outside.specs.DiskCalls.{DiskState}
 use Rattle.clone_outside.specs.declared.link.Link.{Ghosts as Link}
 use Rattle.clone_outside.specs.declared.link.Net.{Ghosts as Net}
-use Rattle.clone_model.specs.History.{Rows, rows_in}
+use Rattle.clone_model.specs.History.{Row, Rows, fold, history_of, rows_in}
 use Rattle.clone_model.specs.Texts.{binlog_text, ended}
 use Rattle.clone_model.specs.declared.change.Commit.{Commit}
 use Rattle.clone_model.specs.declared.config.Config.{Config}
 use Rattle.clone_plain.specs.Answers.{Text}
+use Rattle.clone_plain.specs.Donor as plain
 use Rattle.clone_recover.specs.Restores.{Answers, ForStep}
 use Rattle.clone_recover.specs.declared.recovery.Recovered.{Recovered}
 use Rattle.clone_dump.specs.Shown.{ShowsRecovered}
@@ -31,6 +33,8 @@ use Rattle.clone_run.specs.declared.load.Load.{Load}
 use Rattle.clone_run.specs.declared.outcome.Cloned.{Cloned}
 use Rattle.clone_run.specs.declared.outcome.Outcome.{Outcome}
 use Rattle.clone_run.specs.declared.run.TheConstants.{SESSION, VERSION}
+use Rattle.clone_written.specs.Commits.{HasAllCommits, HasCommits}
+use Rattle.clone_loaded.specs.Loaded.{AreCounted, IsMoment, TellsAll}
 use Rattle.clone_words.specs.declared.command.Run.{Run}
 use Rattle.clone_top.specs.Causes.{FailsDonor, IsAlone, Looks, LooksAtBoth, OpensAtMost, WereNotEmpty}
 use Rattle.clone_top.specs.Ends.{AreEmpty, Disks, End, Ends, Means, Streams}
@@ -142,6 +146,17 @@ pub data Concludes (run : Run) (o : Outcome) (commits : List Commit) (status : S
       → new.binlog.told ≡ old.binlog.told → Visits before after
       → Concludes run o commits status old new before after
 
+-- THE ROWS THAT THE FIRST COMMITS of a donor leave, so many, with the tables dropped among them
+pub record AreOfFirst (d : plain.Donor) (position : ℕ) (list : List Row) : Type 0 where
+  pub drops : ℕ
+  pub is : list ≡ rows_in (fold (history_of (take position d.binlog) (take drops d.drops)))
+
+-- WHATEVER IS SHOWN of the clone's disk, once it is recovered, are the rows of the first commits of
+-- the donor, as many as the clone says.
+abbrev pub ShowsFirst : Cloned → Donor → Option DiskImage → Type 0
+ShowsFirst c d told = (m n : DiskImage) (list : List Row) → told ≡ Some m
+    → ShowsRecovered m n list → AreOfFirst d.engine.donor c.position list
+
 -- ---- what it does
 
 -- Why nothing is begun over two disks, by the status that is for it, and the text that says so.
@@ -157,7 +172,13 @@ Prevents status given back text = ⊥
 
 module _ {N L X R : Type 0} (net : Net N L X) (link : Link L X) (state : R → DiskState) where
   -- THE JOBS RAN: they began with this donor, this disk and this net, by their calls the three that
-  -- they share came from the one to the other, and these are left of them.
+  -- they share came from the one to the other, and these are left of them. The donor's commits are
+  -- those of the load's writers and nobody else's, each writer's the first of its stream, in their
+  -- order, and all of it where nothing failed. Where the donor's disk and the ends of the
+  -- connections show what they hold, a clone that is complete at position n holds the first n of
+  -- these commits and nothing after them, each whole, and n is at least what was looked up before
+  -- the first acknowledgement of the copy of pages; and the rows that are shown of its disk, once it
+  -- is recovered, are those that these n commits leave.
   pub record RanJobs (load : Load) (o : Outcome) (d : Donor) (disk : DiskState) (given : N)
       (left : Donor) (disk_left : R) (net_left : N) : Type 0 where
     pub first : Shared N L R
@@ -165,6 +186,12 @@ module _ {N L X R : Type 0} (net : Net N L X) (link : Link L X) (state : R → D
     pub begun : Begin net link state SESSION VERSION load d disk given first
     pub ran : HaveRun net link state load o first last
     pub leaves : Leave net link state last left disk_left net_left
+    pub commits : HasCommits load left.engine.donor
+    pub all : o.failure ≡ None → HasAllCommits load left.engine.donor
+    pub moment : TellsAll net link state last → IsSome d.engine.disk.told → (c : Cloned)
+        → o.cloned ≡ Some c → IsMoment SESSION c left (state disk_left).told
+        × ShowsFirst c left (state disk_left).told
+    pub counted : AreCounted net link state o d left disk (state disk_left) given net_left
 
   -- A DONOR WAS OPENED over its disk, with the sizes of the options, and cloned under load to the
   -- recipient's disk, which was looked at; and these two disks come back, the recipient's once the

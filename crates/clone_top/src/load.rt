@@ -12,9 +12,11 @@ ghost use Rattle.clone_top.specs.UnderLoad.{LoadOutcome, config_of, load_of};
 use crate::concluding::conclude;
 use crate::run::{Begun, Left, Unbegun, leave, open_donor};
 use crate::saying::{say_no_compression, say_unready};
+use clone_loaded::{failure_laws, moment_laws};
 use clone_model::{BucketCount, Config};
 use clone_outside::{Crew, Gate, Link, Net, PageDisk, Sink};
 use clone_run::{Load, RunDisk, RunEnd, RunLink, RunNet, clone_under_load};
+use clone_staged::holds_laws;
 use clone_words::Run;
 use std::alloc::Global;
 use std::sync::{Arc, Wait};
@@ -104,6 +106,7 @@ fn run_load<
             },
         ) => return (leave(alloc, say_unready(out, why), donor, recipient), net),
     };
+    donor.laws();
     let load = load_of(run);
     let RunEnd {
         outcome,
@@ -111,6 +114,9 @@ fn run_load<
         mut recipient,
         net,
     } = clone_under_load(rt, alloc, crew, gate, load, donor, recipient, net);
+    moment_laws::<RunDisk, RunDisk, RunNet<H>>();
+    failure_laws::<RunDisk, RunNet<H>>();
+    holds_laws();
     let status = conclude(
         alloc,
         run,
