@@ -21,8 +21,8 @@ PROGRAM = TOP / "crates" / "clone_prog" / "out" / "clone_prog"
 LONGEST = 300
 
 
-def program(words):
-    ended = subprocess.run([PROGRAM, *map(str, words)], capture_output=True, text=True, timeout=LONGEST)
+def program(words, env=None):
+    ended = subprocess.run([PROGRAM, *map(str, words)], capture_output=True, text=True, timeout=LONGEST, env=env)
     return ended.returncode, ended.stdout.splitlines(), ended.stderr.splitlines()
 
 
@@ -91,7 +91,12 @@ def check_binlog(given, commits):
 
 def check_run(drawn, directory):
     given, words = options(drawn, directory)
-    status, out, errors = program(words)
+    return check_ended(given, program(words), directory)
+
+
+def check_ended(given, ended, directory):
+    """A run with these options ended so, and what it wrote is right; so is its directory, if it has one."""
+    status, out, errors = ended
     assert status == 0, f"status {status}: {out[:3]}"
     commits = commits_in(errors)
     check_binlog(given, commits)
