@@ -27,8 +27,8 @@ returns g c = λ number source.
       commits.0,
       commits.1,
       (λ tells telling cl is.
-      let moment = c.moment_laws.ensures.moment SESSION VERSION load o c.in-Ok.begun.donor jobs.result.donor _ jobs.result.recipient _ jobs.result.net s t cl (omega arith) c.load_of-load.ensures.within fresh telling begin ran leaves tells is in
-      (moment, shows_first cl jobs.result.donor _ c.holds_laws.ensures.listed moment)),
+          let moment = c.moment_laws.ensures.moment SESSION VERSION load o c.in-Ok.begun.donor jobs.result.donor _ jobs.result.recipient _ jobs.result.net s t cl (omega arith) c.load_of-load.ensures.within fresh telling begin ran leaves tells is in
+          (moment, shows_first cl jobs.result.donor _ c.holds_laws.ensures.listed moment)),
       c.failure_laws.ensures SESSION VERSION load o c.in-Ok.begun.donor jobs.result.donor _ jobs.result.recipient _ jobs.result.net s t begin ran leaves,
     ))
     jobs.ensures.unstarted jobs.ensures.thread
